@@ -20,7 +20,8 @@ use Rattle.elf_record.specs.declared.ehdr.Ehdr.{Ehdr}
 use Rattle.elf_headers.specs.Load.{Belongs, load_cost}
 use Rattle.elf_headers.specs.Store.{row}
 use Rattle.elf_apply.specs.Applied.{StandsFor, passes_cost}
-use Rattle.elf_apply.specs.Walk.{entry_count_in, entries_from, sections_of, walk_all, beside_entry_cost}
+use Rattle.elf_apply.specs.Entries.{beside_entry_cost}
+use Rattle.elf_apply.specs.Walk.{entry_count_in, entries_from, sections_of, walk_all}
 use Rattle.elf_apply.specs.Windows.{windows}
 use Rattle.elf_apply.specs.declared.entry.Target.{Target}
 use Rattle.elf_headers.proofs.LoadLaws.{early_is}

@@ -17,7 +17,7 @@ use Rattle.elf_headers.specs.declared.fault.Fault.{Fault}
 use Rattle.elf_headers.specs.declared.fault.Fault.TheVariants.{Refused as Refuses, Source as Unread}
 use Rattle.elf_apply.specs.InOrder.{Holding, Midway, OffsetsRise, UnderWay}
 use Rattle.elf_apply.specs.Walk.{FindsEntry, changes_left}
-use Rattle.elf_apply.specs.Windows.{WritesBytes, IsUnread}
+use Rattle.elf_apply.specs.Windows.{WritesBytes, UnreadSays}
 use Rattle.elf_headers.specs.Stops.{stop_of}
 use Rattle.elf_apply.specs.declared.entry.Target.{Target as TargetCode}
 use Rattle.elf_apply.specs.declared.walk.Entries.{Entries}
@@ -135,8 +135,8 @@ pub front_more : (a b : Written) (text xs ys : List ℕ) → text ≡ xs ++ ys �
 front_more a b text xs ys e h = rw e (TakesFront-more xs ys h)
 
 -- all of it was written, and then a read failed
-pub unread_after : (X : Type 0) (a b : Written) (fault : Fault) (result : Result X Stop) (text : List ℕ) → result ≡ Err (stop_of fault) → IsUnread fault → Takes a b text → WritesBytes a b result text
-unread_after X a b fault result text is un h = grind (arith, TakesFront-all {a = a} {b = b} text [], append-nil text)
+pub unread_after : (X : Type 0) (a b : Written) (c d : Counting) (fault : Fault) (result : Result X Stop) (text : List ℕ) → result ≡ Err (stop_of fault) → UnreadSays c d fault → Takes a b text → WritesBytes a b result text
+unread_after X a b c d fault result text is un h = grind (arith, TakesFront-all {a = a} {b = b} text [], append-nil text)
 
 -- patches that never fall
 rises_less : (low high : ℕ) (patches : List StoredBytes) → low ≤ high → OffsetsRise high patches → OffsetsRise low patches

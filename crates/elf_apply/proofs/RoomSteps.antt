@@ -12,7 +12,7 @@ use Rattle.elf_headers.specs.Load.{IsOpen, Opened}
 use Rattle.elf_headers.specs.Store.{Stored}
 use Rattle.elf_apply.specs.Applied.{ApplySays, OverBudget, RoomFor, ReadsWithin, WritesOrWants, write_passes}
 use Rattle.elf_apply.specs.Walk.{entries_from, walk_all}
-use Rattle.elf_apply.specs.Windows.{ApplyFaultSays, WritesBytes, windows}
+use Rattle.elf_apply.specs.Windows.{ApplyFaultSays, NotForBudget, WritesBytes, windows}
 use Rattle.elf_apply.specs.declared.entry.Target.{Target}
 use Rattle.elf_headers.specs.declared.stop.Stop.{Stop}
 
@@ -84,7 +84,7 @@ module _ (a b : Counting) (bytes : Option ℕ) (limits : SetsLimit a b bytes) wh
       (d : Counting) (m n : ℕ) → Reads b d m → d.asked ≤ b.asked + n → ((most : ℕ) → a.most ≡ Some most → a.asked + n ≤ most) → ReadsWithin a d n
   spends_free d m n reads asked room = grind arith
 
-  pub says_free : {X : Type 0} (d : Counting) (out : Written) (n : ℕ) (result : Result X Stop) → IfErr result (ApplyFaultSays b d out) → IfErr result (ApplySays a d out n)
+  pub says_free : {X : Type 0} (d : Counting) (out : Written) (n : ℕ) (result : Result X Stop) → IfErr result (ApplyFaultSays NotForBudget b d out) → IfErr result (ApplySays a d out n)
   says_free d out n result says = grind arith
 
 -- the same where it is taken away last

@@ -17,8 +17,8 @@ use Rattle.elf_source.proofs.ReadsLaws.{Reads-none, Reads-then, Reads-to}
 use Rattle.elf_headers.specs.Load.{section_place}
 use Rattle.elf_headers.specs.declared.fault.Fault.{Fault}
 use Rattle.elf_headers.specs.declared.fault.Fault.TheVariants.{Refused, Source}
-use Rattle.elf_apply.specs.Entries.{target_as, patch_as, Changes, Refers}
-use Rattle.elf_apply.specs.Walk.{AsksOf, Goes, changes_from, rows_changes, changes_left, changes_all, beside_entry_cost, entry_count_in, entries_from, sections_of, steps_left, walk_left, walk_all, StepsWalk, FindsEntry, ReadsEntries}
+use Rattle.elf_apply.specs.Entries.{target_as, patch_as, beside_entry_cost, Changes, Refers}
+use Rattle.elf_apply.specs.Walk.{AsksOf, Goes, changes_from, rows_changes, changes_left, changes_all, entry_count_in, entries_from, sections_of, steps_left, walk_left, walk_all, StepsWalk, FindsEntry, ReadsEntries}
 use Rattle.elf_apply.specs.declared.entry.Placed.{Placed}
 use Rattle.elf_apply.specs.declared.entry.Target.{Target as TargetCode}
 use Rattle.elf_apply.specs.declared.walk.Entries.{Entries}

@@ -11,14 +11,15 @@ use Rattle.elf_model.specs.declared.causes.Refusal.{Refusal}
 use Rattle.elf_model.proofs.PatchLaws.{window_patched, length_kept}
 use Rattle.elf_source.specs.Output.{Written, Takes, TakesFront}
 use Rattle.elf_source.proofs.PutsLaws.{Takes-nothing, Takes-then, TakesFront-then, TakesFront-more}
-use Rattle.elf_source.specs.Source.{Counting}
+use Rattle.elf_source.specs.Source.{Counting, Reads}
 use Rattle.elf_source.proofs.ReadsLaws.{Faults-then}
 use Rattle.elf_headers.specs.declared.fault.Fault.{Fault}
 use Rattle.elf_apply.specs.Passes.{folded, storing, Folds}
-use Rattle.elf_apply.specs.Windows.{WritesBytes, ApplyFaultSays, windows}
+use Rattle.elf_apply.specs.Windows.{WritesBytes, ApplyFaultSays, NotForBudget, windows}
 use Rattle.elf_headers.specs.Stops.{stop_of}
 use Rattle.elf_headers.specs.Faults.{ReadSays}
 use Rattle.elf_headers.specs.declared.stop.Stop.{Stop}
+use Rattle.elf_headers.specs.declared.stop.Stop.TheVariants.{Refused, Source, Out}
 use Rattle.elf_model.proofs.Slices.{slice-size, slice-slice}
 
 -- a pass in a window is the patches' parts, stored one after another
@@ -59,8 +60,14 @@ pub pass_failed : (X : Type 0) (b c : Counting) (a : Written) (fault : Fault) (r
 pass_failed X b c a fault result text value answer is ok other folds = grind (arith, front_none)
 
 -- a fault of a read is one of a call that writes
-pub fault_says : (a b : Counting) (out : Written) (fault : Fault) → ReadSays a b fault → ApplyFaultSays a b out (stop_of fault)
+pub fault_says : (a b : Counting) (out : Written) (fault : Fault) → ReadSays a b fault → ApplyFaultSays NotForBudget a b out (stop_of fault)
 fault_says a b out fault says = grind arith
+
+-- a fault behind other reads
+pub says_behind : (Says : Refusal → Type 0) (a b c : Counting) (n : ℕ) (out : Written) (stop : Stop) → Reads a b n → ApplyFaultSays Says b c out stop → ApplyFaultSays Says a c out stop
+says_behind Says a b c n out (Refused refusal) reads says = says
+says_behind Says a b c n out (Source fault at) reads says = (Faults-then a.seen b.seen c.seen fault reads.keeps says.0, says.1)
+says_behind Says a b c n out (Out fault) reads says = says
 
 -- a front is no longer than all
 pub front_written : (a b : Written) (text : List ℕ) → TakesFront a b text → b.written ≤ a.written + length text

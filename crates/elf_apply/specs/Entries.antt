@@ -2,6 +2,7 @@
 use Rattle.std.specs.Prelude.{ℕ, ◌≡◌, ◌+◌, ◌≤◌, IfSome, true, false, List, [], ◌∷◌, length, Option, None, Some, Result, Ok, Err}
 use Rattle.elf_model.specs.Budget.{IsBudget}
 use Rattle.elf_model.specs.Apply.{Target, StoredBytes, Change, Put, Fails, named_value, symbol_checks}
+use Rattle.elf_model.specs.ApplyCost.{layout_names_cost}
 use Rattle.elf_model.specs.Checks.{first_refusal}
 use Rattle.elf_model.specs.Placing.{place_value}
 use Rattle.elf_model.specs.Records.{r_sym}
@@ -11,6 +12,8 @@ use Rattle.elf_model.specs.declared.causes.Refusal.{Refusal}
 use Rattle.elf_model.specs.declared.relocation_types.Base.{Base}
 use Rattle.elf_model.specs.declared.relocation_types.Formula.{Formula}
 use Rattle.elf_reloc.specs.Types.{patched_bytes}
+use Rattle.elf_source.specs.Source.{Counting}
+use Rattle.elf_headers.specs.Ledger.{Charges}
 use Rattle.elf_headers.specs.declared.fault.Fault.{Fault}
 use Rattle.elf_headers.specs.declared.fault.Fault.TheVariants.{Refused, Source}
 use Rattle.elf_table.specs.Relocations.{RefersTo}
@@ -74,3 +77,15 @@ IsSymbolTaken file target header taken =
 pub record Refers (file : List ℕ) (target : TargetCode) (header : ℕ) (symbols : EntrySymbols) : Type 0 where
   pub linked : RefersTo file header symbols.linked
   pub last : IfSome symbols.last (IsSymbolTaken file target header)
+
+-- what an entry asks for beside its own bytes: a symbol and names
+abbrev pub beside_entry_cost : TargetCode → ℕ
+beside_entry_cost target = 24 + layout_names_cost target.layout.now
+
+-- what a call did for an entry of a section: what it costs, that the symbols stay those that the section's entries refer to,
+-- and what it tells of the entry, which is read from the file
+pub record DidFor (before after : Counting) (target : TargetCode) (old new : EntrySymbols) (stop : Option Fault) (reads : List ℕ → Type 0) (tells : List ℕ → ℕ → Type 0) : Type 0 where
+  pub costs : Charges before after stop (beside_entry_cost target)
+  pub same : new.linked ≡ old.linked
+  pub refers : (file : List ℕ) (header : ℕ) → before.seen.file ≡ Some file → Refers file target header old → reads file → Refers file target header new
+  pub known : (file : List ℕ) (header : ℕ) → before.seen.file ≡ Some file → Refers file target header old → reads file → tells file header

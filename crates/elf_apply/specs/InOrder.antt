@@ -1,12 +1,10 @@
 -- One pass over entries whose offsets never fall: what is held, and how far the section has come.
-use Rattle.std.specs.Prelude.{ℕ, ◌≡◌, ◌+◌, ◌^◌, ◌<◌, ◌≤◌, List, [], ◌∷◌, length, take, drop, None, Ok}
+use Rattle.std.specs.Prelude.{ℕ, ◌≡◌, ◌+◌, ◌^◌, ◌<◌, ◌≤◌, List, [], ◌∷◌, length, take, drop, None, Some, Ok}
 use Rattle.elf_model.specs.Apply.{StoredBytes, Change, patches_of, patched}
 use Rattle.elf_model.specs.ApplyLaws.{AllInside}
 use Rattle.elf_model.specs.Bytes.{slice}
 use Rattle.elf_source.specs.Output.{Written, Takes}
 use Rattle.elf_source.specs.Source.{Counting}
-use Rattle.elf_headers.specs.declared.stop.Stop.{Stop}
-use Rattle.elf_headers.specs.declared.stop.Stop.TheVariants.{Refused, Source, Out}
 
 -- bytes of the section from an offset on, which were read and are not written yet
 pub record Holding : Type 0 where
@@ -46,11 +44,16 @@ pub record UnderWay (base text : List ℕ) (h : Holding) (left : List Change) (o
   pub ends : patched patches now ≡ text
   pub takes : Takes old new (take h.low now)
 
--- a fault that refuses nothing
-abbrev pub IsNoRefusal : Stop → Type 0
-IsNoRefusal (Refused refusal) = ⊥
-IsNoRefusal (Source fault at) = Unit {0}
-IsNoRefusal (Out fault) = Unit {0}
+-- where what is held is a part of a section of so many bytes at an offset, this holds of the section's bytes in the file
+-- and of those that it has now
+abbrev pub OfHeld : Counting → ℕ → ℕ → Holding → (List ℕ → List ℕ → Type 0) → Type 0
+OfHeld src at size h Text =
+    (file : List ℕ) → src.seen.file ≡ Some file → (now : List ℕ) → at + size ≤ length file → Midway (slice file at size) now h → Text (slice file at size) now
+
+-- what was read further is held: it ends within so many bytes, and no more was asked for
+pub record HoldsOn (before after : Counting) (old new : Holding) (size : ℕ) : Type 0 where
+  pub within : end_of new ≤ size
+  pub asked : after.asked + end_of old ≤ before.asked + end_of new
 
 -- so many bytes at an offset may be read: no limit is set, and they lie within the source, whose offsets fit
 pub record MayRead (src : Counting) (at n : ℕ) : Type 0 where

@@ -1,7 +1,6 @@
 -- The walk over the relocation entries for a section: what is left of it, and what a step of it does.
-use Rattle.std.specs.Prelude.{ℕ, ◌≡◌, ◌+◌, ◌-◌, ◌*◌, ◌^◌, ◌<◌, ◌≤◌, true, false, List, [], ◌∷◌, ◌++◌, flat_map, Option, None, Some, Result, Ok, Err, IfSome}
+use Rattle.std.specs.Prelude.{ℕ, ◌≡◌, ◌+◌, ◌-◌, ◌*◌, ◌^◌, ◌<◌, ◌≤◌, true, false, List, [], ◌∷◌, ◌++◌, flat_map, Option, None, Some, Result, Ok, Err, IfOk, IfErr, IfSome}
 use Rattle.elf_model.specs.Apply.{Change, Put, Fails, applies_to, entry_changes, places_from, section_changes}
-use Rattle.elf_model.specs.ApplyCost.{layout_names_cost}
 use Rattle.elf_model.specs.Budget.{IsBudget}
 use Rattle.elf_model.specs.Checks.{first_refusal, table_checks_of}
 use Rattle.elf_model.specs.Cost.{sum_over}
@@ -9,12 +8,13 @@ use Rattle.elf_model.specs.Records.{sh_offset, section_at}
 use Rattle.elf_model.specs.Tables.{RELA_SIZE, entry_at, entry_count}
 use Rattle.elf_source.specs.Source.{Counting, Reads}
 use Rattle.elf_table.specs.Cursors.{HoldsRows, unread_bytes, unless_failed}
+use Rattle.elf_headers.specs.Faults.{Says}
 use Rattle.elf_headers.specs.Load.{IsOpen, section_place}
 use Rattle.elf_headers.specs.Store.{row}
 use Rattle.elf_table.specs.Tables.{RowsWithin, SymbolsWithin}
 use Rattle.elf_headers.specs.declared.fault.Fault.{Fault}
 use Rattle.elf_headers.specs.declared.fault.Fault.TheVariants.{Refused, Source}
-use Rattle.elf_apply.specs.Entries.{target_as, patch_as, IsPlacedInside, Refers}
+use Rattle.elf_apply.specs.Entries.{target_as, patch_as, beside_entry_cost, IsPlacedInside, Refers}
 use Rattle.elf_apply.specs.declared.entry.Placed.{Placed}
 use Rattle.elf_apply.specs.declared.entry.Target.{Target as TargetCode}
 use Rattle.elf_apply.specs.declared.walk.Entries.{Entries}
@@ -60,10 +60,6 @@ entry_count_in target i =
 -- how many the sections from one on have
 unfoldable pub entries_from : TargetCode → ℕ → ℕ
 entries_from target i = sum_over (entry_count_in target) i (sections_of target - i)
-
--- what an entry asks for beside its own bytes: a symbol and names
-abbrev pub beside_entry_cost : TargetCode → ℕ
-beside_entry_cost target = 24 + layout_names_cost target.layout.now
 
 -- what the walk may still ask for
 unfoldable pub walk_left : TargetCode → Entries → ℕ
@@ -118,24 +114,30 @@ FindsEntry file target old new (Ok None) = changes_left file target old ≡ []
 FindsEntry file target old new (Err (Refused refusal)) = (IsBudget refusal → ⊥) → (rest : List Change) × (changes_left file target old ≡ Fails refusal ∷ rest)
 FindsEntry file target old new (Err (Source fault at)) = Unit {0}
 
-abbrev pub StepInside : ℕ → WalkStep → Type 0
-StepInside size (Stores placed) = IsPlacedInside size placed
-StepInside size Nothing = Unit {0}
-StepInside size End = Unit {0}
+-- a step gives bytes inside the section, and fewer steps are left; or none, and the sections are counted
+abbrev pub StepGives : TargetCode → Entries → Entries → WalkStep → Type 0
+StepGives target old new (Stores placed) = (steps_left target new < steps_left target old) × IsPlacedInside target.size placed
+StepGives target old new Nothing = steps_left target new < steps_left target old
+StepGives target old new End = entries_from target new.next ≡ 0
 
-abbrev pub FoundInside : ℕ → Option Placed → Type 0
-FoundInside size (Some placed) = IsPlacedInside size placed
-FoundInside size None = Unit {0}
+-- the same of the next entry that stores bytes
+abbrev pub FoundGives : TargetCode → Entries → Entries → Option Placed → Type 0
+FoundGives target old new (Some placed) = (steps_left target new < steps_left target old) × IsPlacedInside target.size placed
+FoundGives target old new None = entries_from target new.next ≡ 0
 
--- fewer steps are left, or none and the sections are counted
-abbrev pub StepFewer : TargetCode → Entries → Entries → WalkStep → Type 0
-StepFewer target old new (Stores placed) = steps_left target new < steps_left target old
-StepFewer target old new Nothing = steps_left target new < steps_left target old
-StepFewer target old new End = entries_from target new.next ≡ 0
+-- the walk went on: it may go on from there, the sections that were opened are counted, and this is what it gives
+pub record WentOn {X : Type 0} (size : ℕ) (target : TargetCode) (old new : Entries) (Gives : X → Type 0) (found : X) : Type 0 where
+  pub goes : Goes size target new
+  pub counts : CountsEntries target old new
+  pub gives : Gives found
 
-abbrev pub FoundFewer : TargetCode → Entries → Entries → Option Placed → Type 0
-FoundFewer target old new (Some placed) = steps_left target new < steps_left target old
-FoundFewer target old new None = entries_from target new.next ≡ 0
+-- WHAT A CALL OF THE WALK DID: it asked for no more than was left to the walk, and went on; and where the file is known
+-- what it tells
+pub record WalksOn {X : Type 0} (before after : Counting) (target : TargetCode) (old new : Entries) (result : Result X Fault) (Gives : X → Type 0) (Tells : List ℕ → Type 0) : Type 0 where
+  pub asks : AsksOf before after target old new
+  pub says : IfErr result (Says before after (walk_left target old))
+  pub went : IfOk result (WentOn before.seen.size target old new Gives)
+  pub known : (file : List ℕ) → before.seen.file ≡ Some file → ReadsEntries file target old → Tells file
 
 -- a walk over the entries may go on: the target's file is that of the source
 pub record MayWalk (src : Counting) (target : TargetCode) (e : Entries) : Type 0 where

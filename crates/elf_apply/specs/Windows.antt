@@ -1,10 +1,12 @@
 -- What a call that writes a section with its relocations applied did.
-use Rattle.std.specs.Prelude.{ℕ, ◌≡◌, ◌+◌, ◌-◌, ◌^◌, ◌/◌, ◌<◌, ◌≤◌, min, List, None, Result, Ok, Err}
+use Rattle.std.specs.Prelude.{ℕ, ◌≡◌, ◌+◌, ◌-◌, ◌^◌, ◌/◌, ◌<◌, ◌≤◌, min, List, None, Result, Ok, Err, IfErr}
 use Rattle.elf_model.specs.Apply.{StoredBytes, patches_of, patched}
 use Rattle.elf_model.specs.ApplyLaws.{AllInside}
 use Rattle.elf_model.specs.Budget.{IsBudget}
 use Rattle.elf_model.specs.Bytes.{slice}
-use Rattle.elf_source.specs.Source.{Counting, Faults}
+use Rattle.elf_model.specs.declared.causes.Refusal.{Refusal}
+use Rattle.elf_source.specs.Growth.{Grows}
+use Rattle.elf_source.specs.Source.{Counting, Faults, Reads}
 use Rattle.elf_source.specs.Output.{Written, Takes, TakesFront, OutFails}
 use Rattle.elf_headers.specs.Load.{IsOpen}
 use Rattle.elf_headers.specs.declared.fault.Fault.{Fault}
@@ -18,12 +20,20 @@ use Rattle.elf_headers.specs.declared.stop.Stop.TheVariants.{Refused, Source, Ou
 abbrev pub windows : ℕ → ℕ
 windows size = (size + 63) / 64
 
--- what a fault says of the source and the output: a refusal is not for want of budget, a fault of the source names the read
--- that stopped, and at a fault of the output the sink has failed
-abbrev pub ApplyFaultSays : Counting → Counting → Written → Stop → Type 0
-ApplyFaultSays old new out (Refused refusal) = IsBudget refusal → ⊥
-ApplyFaultSays old new out (Source fault at) = Faults old.seen new.seen fault × (at ≡ new.stopped)
-ApplyFaultSays old new out (Out fault) = OutFails out fault
+-- what a fault says of the source and the output: this of a refusal, a fault of the source names the read that stopped, and
+-- at a fault of the output the sink has failed
+abbrev pub ApplyFaultSays : (Refusal → Type 0) → Counting → Counting → Written → Stop → Type 0
+ApplyFaultSays Says old new out (Refused refusal) = Says refusal
+ApplyFaultSays Says old new out (Source fault at) = Faults old.seen new.seen fault × (at ≡ new.stopped)
+ApplyFaultSays Says old new out (Out fault) = OutFails out fault
+
+-- a refusal that is not for want of budget
+abbrev pub NotForBudget : Refusal → Type 0
+NotForBudget refusal = IsBudget refusal → ⊥
+
+-- no refusal
+abbrev pub NoRefusal : Refusal → Type 0
+NoRefusal refusal = ⊥
 
 -- how many bytes were written: so many, or no more at a fault
 abbrev pub WroteBytes : {X : Type 0} → Written → Written → Result X Stop → ℕ → Type 0
@@ -37,10 +47,18 @@ WritesBytes old new (Err (Refused refusal)) text = ⊥
 WritesBytes old new (Err (Source fault at)) text = TakesFront old new text
 WritesBytes old new (Err (Out fault)) text = TakesFront old new text
 
--- the fault of a read, and no refusal
-abbrev pub IsUnread : Fault → Type 0
-IsUnread (Refuses refusal) = ⊥
-IsUnread (Unread fault at) = Unit {0}
+-- WHAT A CALL DID that reads at most n bytes and writes k, for every source: a fault says what is so, and fewer bytes were
+-- written at one
+pub record Copies {X : Type 0} (before after : Counting) (old new : Written) (result : Result X Stop) (Says : Refusal → Type 0) (n k : ℕ) : Type 0 where
+  pub says : IfErr result (ApplyFaultSays Says before after new)
+  pub reads : Reads before after n
+  pub grows : Grows old new
+  pub wrote : WroteBytes old new result k
+
+-- what the fault of a read says, which is no refusal
+abbrev pub UnreadSays : Counting → Counting → Fault → Type 0
+UnreadSays old new (Refuses refusal) = ⊥
+UnreadSays old new (Unread fault at) = Faults old.seen new.seen fault × (at ≡ new.stopped)
 
 -- a section whose bytes stand at an offset may be written: no limit is set, the target's file is that of the source, the
 -- bytes lie within the source, and offsets up to a bound fit

@@ -5,7 +5,6 @@ ghost use Rattle.elf_model.specs.Apply.{applied, has_no_bytes, is_compressed};
 ghost use Rattle.elf_model.specs.ApplyCost.{apply_cost_by_order, entries_for};
 ghost use Rattle.elf_record.specs.Shdr.{IsShdr};
 ghost use Rattle.elf_source.specs.Growth.{Grows};
-ghost use Rattle.elf_source.specs.Source.{Reads};
 ghost use Rattle.elf_headers.specs.Faults.{IsOfCheck};
 ghost use Rattle.elf_headers.specs.Load.{Belongs};
 ghost use Rattle.elf_apply.specs.Applied.{Applies, AppliesFile, AppliesLoaded, AppliesTarget};
@@ -14,8 +13,8 @@ ghost use Rattle.elf_apply.specs.Applied.{ReadsWithin, WantsBudget, WritesWithin
 ghost use Rattle.elf_apply.specs.Applied.{apply_ceiling, passes_cost, write_passes};
 ghost use Rattle.elf_apply.specs.InOrder.{OffsetsRise};
 ghost use Rattle.elf_apply.specs.Walk.{entries_from, walk_all};
-ghost use Rattle.elf_apply.specs.Windows.{ApplyFaultSays, MayWrite, OfPatches, WritesBytes};
-ghost use Rattle.elf_apply.specs.Windows.{WroteBytes, windows};
+ghost use Rattle.elf_apply.specs.Windows.{Copies, MayWrite, NotForBudget, OfPatches, WritesBytes};
+ghost use Rattle.elf_apply.specs.Windows.{windows};
 
 use crate::entry::Target;
 use crate::in_order::write_in_order;
@@ -106,11 +105,8 @@ fn write_section<S: Source, W: Sink>(
     requires { MayWrite src.old target.now at src.old.seen.size }
     ensures once { rises ≡ true →
         src.new.asked ≤ src.old.asked + (walk_all target.now + target.now.size) }
-    ensures says { IfErr result (ApplyFaultSays src.old src.new out.new) }
-    ensures reads { Reads src.old src.new
-        (windows target.now.size * walk_all target.now + target.now.size) }
-    ensures grows { Grows out.old out.new }
-    ensures wrote { WroteBytes out.old out.new result target.now.size }
+    ensures did { Copies src.old src.new out.old out.new result NotForBudget
+        (windows target.now.size * walk_all target.now + target.now.size) target.now.size }
     ensures text { (file : List ℕ) → src.old.seen.file ≡ Some file → OfPatches target.now at
         (λ patches text. (rises ≡ true → OffsetsRise 0 patches) →
         WritesBytes out.old out.new result text) file }

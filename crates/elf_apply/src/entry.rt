@@ -1,20 +1,20 @@
 //! What a relocation entry stores.
 ghost use Rattle.std.specs.Prelude.{◌≡◌, ◌+◌, ℕ, List, Some, IfErr, IfOk, IfSome, nat_lt};
 ghost use Rattle.elf_model.specs.Apply.{change_of, entry_changes, where_based};
-ghost use Rattle.elf_model.specs.ApplyCost.{layout_names_cost};
 ghost use Rattle.elf_model.specs.Placing.{unnamed_value};
 ghost use Rattle.elf_model.specs.Records.{r_offset, r_sym};
 ghost use Rattle.elf_model.specs.Values.{kind_of};
 ghost use Rattle.elf_model.specs.declared.causes.Cause.TheVariants.{Unplaced};
 ghost use Rattle.elf_reloc.specs.Types.{IsSized, IsWidth};
 ghost use Rattle.elf_record.specs.Rela.{IsRela};
-ghost use Rattle.elf_source.specs.Source.{Reads};
-ghost use Rattle.elf_headers.specs.Faults.{IsOfCheck, Says};
+ghost use Rattle.elf_headers.specs.Faults.{IsOfCheck};
+ghost use Rattle.elf_headers.specs.Ledger.{Did, why_stopped};
 ghost use Rattle.elf_table.specs.Relocations.{RefersTo};
 ghost use Rattle.elf_table.specs.Tables.{SymbolsWithin};
 ghost use Rattle.elf_apply.specs.Costs.{ValueOrRefusal};
-ghost use Rattle.elf_apply.specs.Entries.{Changes, Does, IsPlacedInside, Refers, target_as};
-ghost use Rattle.elf_apply.specs.Entries.{taken_place, term_of, value_or};
+ghost use Rattle.elf_apply.specs.Entries.{Changes, DidFor, Does, IsPlacedInside};
+ghost use Rattle.elf_apply.specs.Entries.{beside_entry_cost, taken_place, target_as, term_of};
+ghost use Rattle.elf_apply.specs.Entries.{value_or};
 
 use crate::lookup::{SymbolAt, base_value};
 use elf_headers::{Fault, refused};
@@ -74,17 +74,10 @@ pub(crate) fn entry_change<S: Source>(
     symbols: &mut EntrySymbols,
 ) -> Result<Option<Placed>, Fault>
     requires within { IfSome symbols.old.linked (SymbolsWithin src.old.seen.size) }
-    ensures same { symbols.new.linked ≡ symbols.old.linked }
-    ensures reads { Reads src.old src.new (24 + layout_names_cost target.now.layout.now) }
-    ensures says { IfErr result
-        (Says src.old src.new (24 + layout_names_cost target.now.layout.now)) }
     ensures inside { IfOk result (λ found. IfSome found (IsPlacedInside target.now.size)) }
-    ensures change { (file : List ℕ) (header : ℕ) → src.old.seen.file ≡ Some file →
-        Refers file target.now header symbols.old → IsRela file at entry.now →
-        Changes result (entry_changes (target_as file target.now) header at) }
-    ensures refers { (file : List ℕ) (header : ℕ) → src.old.seen.file ≡ Some file →
-        Refers file target.now header symbols.old → IsRela file at entry.now →
-        Refers file target.now header symbols.new }
+    ensures did { DidFor src.old src.new target.now symbols.old symbols.new (why_stopped result)
+        (λ file. IsRela file at entry.now)
+        (λ file header. Changes result (entry_changes (target_as file target.now) header at)) }
 {
     let kind = entry.kind();
     if kind == R_X86_64_NONE {
@@ -126,17 +119,10 @@ fn stored<S: Source>(
     requires within { IfSome symbols.old.linked (SymbolsWithin src.old.seen.size) }
     requires width { IsWidth found.width }
     requires sized { IsSized found.range found.width }
-    ensures same { symbols.new.linked ≡ symbols.old.linked }
-    ensures reads { Reads src.old src.new (24 + layout_names_cost target.now.layout.now) }
-    ensures says { IfErr result
-        (Says src.old src.new (24 + layout_names_cost target.now.layout.now)) }
     ensures inside { IfOk result (IsPlacedInside target.now.size) }
-    ensures change { (file : List ℕ) (header : ℕ) → src.old.seen.file ≡ Some file →
-        Refers file target.now header symbols.old → IsRela file at entry.now → Does result
-        (change_of (target_as file target.now) header at (Some found)) }
-    ensures refers { (file : List ℕ) (header : ℕ) → src.old.seen.file ≡ Some file →
-        Refers file target.now header symbols.old → IsRela file at entry.now →
-        Refers file target.now header symbols.new }
+    ensures did { DidFor src.old src.new target.now symbols.old symbols.new (why_stopped result)
+        (λ file. IsRela file at entry.now) (λ file header.
+        Does result (change_of (target_as file target.now) header at (Some found))) }
 {
     let offset = entry.r_offset;
     if ends_past(offset, found.width, target.size) {
@@ -173,17 +159,9 @@ fn taken_value<S: Source>(
     base: Base,
 ) -> Result<u64, Fault>
     requires within { IfSome symbols.old.linked (SymbolsWithin src.old.seen.size) }
-    ensures same { symbols.new.linked ≡ symbols.old.linked }
-    ensures reads { Reads src.old src.new (24 + layout_names_cost target.now.layout.now) }
-    ensures says { IfErr result
-        (Says src.old src.new (24 + layout_names_cost target.now.layout.now)) }
-    ensures value { (file : List ℕ) (header : ℕ) → src.old.seen.file ≡ Some file →
-        Refers file target.now header symbols.old → symbol ≡ r_sym file at →
-        ValueOrRefusal result
-        (term_of base (target_as file target.now) header at) }
-    ensures refers { (file : List ℕ) (header : ℕ) → src.old.seen.file ≡ Some file →
-        Refers file target.now header symbols.old → symbol ≡ r_sym file at →
-        Refers file target.now header symbols.new }
+    ensures { DidFor src.old src.new target.now symbols.old symbols.new (why_stopped result)
+        (λ file. symbol ≡ r_sym file at) (λ file header.
+        ValueOrRefusal result (term_of base (target_as file target.now) header at)) }
 {
     if let Some(last) = symbols.last {
         if last.symbol == symbol && last.base == base {
@@ -226,13 +204,10 @@ fn named_value<S: Source>(
     base: Base,
 ) -> Result<u64, Fault>
     requires within { IfSome linked (SymbolsWithin src.old.seen.size) }
-    ensures reads { Reads src.old src.new (24 + layout_names_cost target.now.layout.now) }
-    ensures says { IfErr result
-        (Says src.old src.new (24 + layout_names_cost target.now.layout.now)) }
     ensures unnamed { symbol ≡ 0 → src.new ≡ src.old }
-    ensures value { (file : List ℕ) (header : ℕ) → src.old.seen.file ≡ Some file →
-        RefersTo file header linked → symbol ≡ r_sym file at → ValueOrRefusal result
-        (term_of base (target_as file target.now) header at) }
+    ensures did { Did src.old src.new (why_stopped result) (beside_entry_cost target.now)
+        (λ file. (header : ℕ) → RefersTo file header linked → symbol ≡ r_sym file at →
+        ValueOrRefusal result (term_of base (target_as file target.now) header at)) }
 {
     if symbol == 0 {
         return unnamed_value(base, at);

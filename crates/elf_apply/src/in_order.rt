@@ -1,21 +1,18 @@
 //! The section with its relocations applied, in one pass over entries whose offsets never fall.
 ghost use Rattle.std.specs.Prelude.{◌≡◌, ◌+◌, ◌-◌, ◌^◌, ◌<◌, ◌≤◌, ℕ, List, None, Some, []};
-ghost use Rattle.std.specs.Prelude.{Err, IfErr, OnOk, length, take, drop};
+ghost use Rattle.std.specs.Prelude.{IfErr, OnOk, length, take, drop};
 ghost use Rattle.elf_model.specs.Apply.{put};
 ghost use Rattle.elf_model.specs.ApplyLaws.{clipped};
 ghost use Rattle.elf_model.specs.Bytes.{slice};
-ghost use Rattle.elf_model.specs.declared.causes.Cause.TheVariants.{PlaceOutside};
 ghost use Rattle.elf_reloc.specs.Types.{patched_bytes};
-ghost use Rattle.elf_source.specs.Growth.{Grows};
 ghost use Rattle.elf_source.specs.Output.{Puts};
 ghost use Rattle.elf_source.specs.Source.{Reads};
-ghost use Rattle.elf_headers.specs.Faults.{ReadSays};
 ghost use Rattle.elf_apply.specs.Entries.{patch_as};
-ghost use Rattle.elf_apply.specs.InOrder.{IsHeldFrom, IsNoRefusal, MayRead, Midway, OffsetsRise};
-ghost use Rattle.elf_apply.specs.InOrder.{end_of};
+ghost use Rattle.elf_apply.specs.InOrder.{HoldsOn, IsHeldFrom, MayRead, Midway, OfHeld};
+ghost use Rattle.elf_apply.specs.InOrder.{OffsetsRise, end_of};
 ghost use Rattle.elf_apply.specs.Walk.{walk_all};
-ghost use Rattle.elf_apply.specs.Windows.{ApplyFaultSays, IsUnread, MayWrite, OfPatches};
-ghost use Rattle.elf_apply.specs.Windows.{WritesBytes, WroteBytes};
+ghost use Rattle.elf_apply.specs.Windows.{Copies, MayWrite, NoRefusal, NotForBudget, OfPatches};
+ghost use Rattle.elf_apply.specs.Windows.{UnreadSays, WritesBytes};
 
 use crate::entry::{Placed, Target};
 use crate::passes::put_in;
@@ -124,17 +121,13 @@ impl Held {
         requires few { width ≤ 8 }
         requires inside { self.old.low + width ≤ size }
         requires held { end_of self.old ≤ size }
-        ensures says { IfErr result (ReadSays src.old src.new) }
-        ensures unread { IfErr result IsUnread }
+        ensures says { IfErr result (UnreadSays src.old src.new) }
         ensures reads { Reads src.old src.new (size - end_of self.old) }
-        ensures asked_on { OnOk result
-            (src.new.asked + end_of self.old ≤ src.old.asked + end_of self.new) }
         ensures low { self.new.low ≡ self.old.low }
         ensures long { OnOk result (width ≤ length self.new.bytes) }
-        ensures held { OnOk result (end_of self.new ≤ size) }
-        ensures bytes { (file : List ℕ) → src.old.seen.file ≡ Some file → (now : List ℕ) →
-            at + size ≤ length file → Midway (slice file at size) now self.old →
-            OnOk result (Midway (slice file at size) now self.new) }
+        ensures on { OnOk result (HoldsOn src.old src.new self.old self.new size) }
+        ensures bytes { OfHeld src.old at size self.old
+            (λ base now. OnOk result (Midway base now self.new)) }
     {
         let count = self.count;
         if count >= width {
@@ -178,21 +171,13 @@ impl Held {
         requires may { MayRead src.old at end }
         requires low { self.old.low ≤ end }
         requires held { at + end_of self.old ≤ src.old.seen.size }
-        ensures says { IfErr result (ApplyFaultSays src.old src.new out.new) }
+        ensures did { Copies src.old src.new out.old out.new result NoRefusal
+            (end - end_of self.old) (end - self.old.low) }
         ensures low { OnOk result (self.new.low ≡ end) }
         ensures long { OnOk result (length self.new.bytes ≡ end_of self.old - end) }
-        ensures kept { IfErr result IsNoRefusal }
-        ensures reads { Reads src.old src.new (end - end_of self.old) }
-        ensures grows { Grows out.old out.new }
-        ensures wrote { WroteBytes out.old out.new result (end - self.old.low) }
-        ensures text { (file : List ℕ) → src.old.seen.file ≡ Some file → (size : ℕ) →
-            (now : List ℕ) → at + size ≤ length file → end ≤ size →
-            Midway (slice file at size) now self.old →
-            WritesBytes out.old out.new result (slice now self.old.low (end - self.old.low)) }
-        ensures still { (file : List ℕ) → src.old.seen.file ≡ Some file → (size : ℕ) →
-            (now : List ℕ) → at + size ≤ length file → end ≤ size →
-            Midway (slice file at size) now self.old →
-            OnOk result (Midway (slice file at size) now self.new) }
+        ensures text { (size : ℕ) → end ≤ size → OfHeld src.old at size self.old (λ base now.
+            WritesBytes out.old out.new result (slice now self.old.low (end - self.old.low))
+            × OnOk result (Midway base now self.new)) }
     {
         let ready = (end - self.low()).min(self.len() as u64);
         self.release(ready as usize, out)?;
@@ -217,33 +202,16 @@ impl Held {
         requires may { MayRead src.old at size }
         requires inside { placed.now.offset + length (patch_as placed.now).bytes ≤ size }
         requires held { end_of self.old ≤ size }
-        ensures says { IfErr result (ApplyFaultSays src.old src.new out.new) }
+        requires low { self.old.low ≤ placed.now.offset }
+        ensures did { Copies src.old src.new out.old out.new result NoRefusal
+            (size - end_of self.old) (placed.now.offset - self.old.low) }
         ensures low { OnOk result (self.new.low ≡ placed.now.offset) }
-        ensures never { OnOk result (self.old.low ≤ placed.now.offset) }
-        ensures fallen { placed.now.offset < self.old.low →
-            (result ≡ Err (Stop.Refused (record { at = placed.now.at; cause = PlaceOutside })))
-            × (src.new ≡ src.old) × (out.new ≡ out.old) }
-        ensures kept { self.old.low ≤ placed.now.offset → IfErr result IsNoRefusal }
-        ensures held { OnOk result (end_of self.new ≤ size) }
-        ensures reads { Reads src.old src.new (size - end_of self.old) }
-        ensures asked_on { OnOk result
-            (src.new.asked + end_of self.old ≤ src.old.asked + end_of self.new) }
-        ensures grows { Grows out.old out.new }
-        ensures wrote { WroteBytes out.old out.new result (placed.now.offset - self.old.low) }
-        ensures text { (file : List ℕ) → src.old.seen.file ≡ Some file → (now : List ℕ) →
-            at + size ≤ length file → self.old.low ≤ placed.now.offset →
-            Midway (slice file at size) now self.old → WritesBytes out.old out.new result
-            (slice now self.old.low (placed.now.offset - self.old.low)) }
-        ensures still { (file : List ℕ) → src.old.seen.file ≡ Some file → (now : List ℕ) →
-            at + size ≤ length file → Midway (slice file at size) now self.old → OnOk result
-            (Midway (slice file at size) (put (patch_as placed.now) now) self.new) }
+        ensures on { OnOk result (HoldsOn src.old src.new self.old self.new size) }
+        ensures text { OfHeld src.old at size self.old (λ base now.
+            WritesBytes out.old out.new result
+            (slice now self.old.low (placed.now.offset - self.old.low))
+            × OnOk result (Midway base (put (patch_as placed.now) now) self.new)) }
     {
-        if placed.offset < self.low() {
-            return Err(Stop::Refused(Refusal {
-                at: placed.at,
-                cause: Cause::PlaceOutside,
-            }));
-        }
         self.advance(src, at, placed.offset, out)?;
         self.read_on(src, at, size, width_of(placed.patch))?;
         self.patch(placed);
@@ -286,11 +254,7 @@ fn copy<S: Source, W: Sink>(
     out: &mut Out<W>,
 ) -> Result<(), Stop>
     requires { MayRead src.old at size }
-    ensures says { IfErr result (ApplyFaultSays src.old src.new out.new) }
-    ensures kept { IfErr result IsNoRefusal }
-    ensures reads { Reads src.old src.new size }
-    ensures grows { Grows out.old out.new }
-    ensures wrote { WroteBytes out.old out.new result size }
+    ensures did { Copies src.old src.new out.old out.new result NoRefusal size size }
     ensures text { (file : List ℕ) → src.old.seen.file ≡ Some file →
         at + size ≤ length file → WritesBytes out.old out.new result (slice file at size) }
 {
@@ -315,11 +279,8 @@ fn copy_page<S: Source, W: Sink>(
     requires free { src.old.most ≡ None }
     requires few { length page.old ≤ 4096 }
     requires within { at + length page.old ≤ src.old.seen.size }
-    ensures says { IfErr result (ApplyFaultSays src.old src.new out.new) }
-    ensures kept { IfErr result IsNoRefusal }
-    ensures reads { Reads src.old src.new (length page.old) }
-    ensures grows { Grows out.old out.new }
-    ensures wrote { WroteBytes out.old out.new result (length page.old) }
+    ensures did { Copies src.old src.new out.old out.new result NoRefusal
+        (length page.old) (length page.old) }
     ensures text { (file : List ℕ) → src.old.seen.file ≡ Some file →
         WritesBytes out.old out.new result (slice file at (length page.old)) }
 {
@@ -336,10 +297,8 @@ pub(crate) fn write_in_order<S: Source, W: Sink>(
     out: &mut Out<W>,
 ) -> Result<(), Stop>
     requires { MayWrite src.old target.now at src.old.seen.size }
-    ensures says { IfErr result (ApplyFaultSays src.old src.new out.new) }
-    ensures reads { Reads src.old src.new (walk_all target.now + target.now.size) }
-    ensures grows { Grows out.old out.new }
-    ensures wrote { WroteBytes out.old out.new result target.now.size }
+    ensures did { Copies src.old src.new out.old out.new result NotForBudget
+        (walk_all target.now + target.now.size) target.now.size }
     ensures text { (file : List ℕ) → src.old.seen.file ≡ Some file → OfPatches target.now at
         (λ patches text. OffsetsRise 0 patches → WritesBytes out.old out.new result text) file }
 {
@@ -348,7 +307,15 @@ pub(crate) fn write_in_order<S: Source, W: Sink>(
     let mut held = Held::new();
     'entries: loop {
         match entries.next(src, target)? {
-            Some(placed) => held.store(src, at, size, &placed, out)?,
+            Some(placed) => {
+                if placed.offset < held.low() {
+                    return Err(Stop::Refused(Refusal {
+                        at: placed.at,
+                        cause: Cause::PlaceOutside,
+                    }));
+                }
+                held.store(src, at, size, &placed, out)?;
+            }
             None => return held.advance(src, at, size, out),
         }
     }

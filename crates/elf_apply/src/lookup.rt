@@ -1,6 +1,6 @@
 //! The address of a symbol in a layout.
 ghost use Rattle.std.specs.Prelude.{◌≡◌, ◌+◌, ◌-◌, ◌<◌, ◌≤◌, min, ℕ, List, length};
-ghost use Rattle.std.specs.Prelude.{Some, Err, IfErr};
+ghost use Rattle.std.specs.Prelude.{IfErr};
 ghost use Rattle.elf_model.specs.ApplyCost.{layout_names_cost, longest, lookup_cost};
 ghost use Rattle.elf_model.specs.Placing.{Searched, address_named, base_value, entry_value};
 ghost use Rattle.elf_model.specs.Placing.{is_system_specific, linkage_value, located_value};
@@ -8,11 +8,10 @@ ghost use Rattle.elf_model.specs.Placing.{named_or, placed_at, symbol_value, sys
 ghost use Rattle.elf_model.specs.Placing.{undefined_value};
 ghost use Rattle.elf_model.specs.Records.{st_name};
 ghost use Rattle.elf_record.specs.Sym.{IsSym};
-ghost use Rattle.elf_source.specs.Source.{Reads};
-ghost use Rattle.elf_headers.specs.Faults.{IsOfCheck, Says};
-ghost use Rattle.elf_table.specs.Tables.{StringsWithin, strings_in};
+ghost use Rattle.elf_headers.specs.Faults.{IsOfCheck};
+ghost use Rattle.elf_table.specs.Tables.{StringsWithin};
 ghost use Rattle.elf_layout.specs.Layouts.{items_cost, names_for};
-ghost use Rattle.elf_apply.specs.Costs.{ValueOrCause, ValueOrRefusal};
+ghost use Rattle.elf_apply.specs.Costs.{FindsAddress, GivesValue, ValueOrRefusal};
 
 use elf_headers::{Fault, fill, refused};
 use elf_layout::{Addresses, Among, NamedAddress, SortedNames};
@@ -43,11 +42,7 @@ fn compared<S: Source>(
     items: &[NamedAddress],
 ) -> Result<Option<u64>, Fault>
     requires within { StringsWithin src.old.seen.size symbol.now.names }
-    ensures reads { Reads src.old src.new (items_cost items.now) }
-    ensures says { IfErr result (Says src.old src.new (items_cost items.now)) }
-    ensures told { (file : List ℕ) → src.old.seen.file ≡ Some file →
-        ValueOrCause symbol.now.at result (address_named
-        (strings_in file symbol.now.names) symbol.now.fields.st_name items.now) }
+    ensures { FindsAddress src.old src.new symbol.now result (items_cost items.now) items.now }
 {
     let off = u64::from(symbol.fields.st_name);
     let mut i = 0;
@@ -71,11 +66,8 @@ fn searched<S: Source>(
     names: &SortedNames<'_>,
 ) -> Result<Option<u64>, Fault>
     requires within { StringsWithin src.old.seen.size symbol.now.names }
-    ensures reads { Reads src.old src.new (lookup_cost Searched names.now) }
-    ensures says { IfErr result (Says src.old src.new (lookup_cost Searched names.now)) }
-    ensures told { (file : List ℕ) → src.old.seen.file ≡ Some file →
-        ValueOrCause symbol.now.at result (address_named
-        (strings_in file symbol.now.names) symbol.now.fields.st_name names.now) }
+    ensures { FindsAddress src.old src.new symbol.now result (lookup_cost Searched names.now)
+        names.now }
 {
     let off = u64::from(symbol.fields.st_name);
     let size = symbol.names.size();
@@ -105,11 +97,7 @@ fn read_name<S: Source>(
     requires count { length front.old
         ≡ min (symbol.now.names.size - symbol.now.fields.st_name) (longest names.now + 1) }
     requires few { length front.old ≤ 256 }
-    ensures reads { Reads src.old src.new (longest names.now + 1) }
-    ensures says { IfErr result (Says src.old src.new (longest names.now + 1)) }
-    ensures told { (file : List ℕ) → src.old.seen.file ≡ Some file →
-        ValueOrCause symbol.now.at result (address_named
-        (strings_in file symbol.now.names) symbol.now.fields.st_name names.now) }
+    ensures { FindsAddress src.old src.new symbol.now result (longest names.now + 1) names.now }
 {
     let at = symbol.names.at() + u64::from(symbol.fields.st_name);
     match fill(src, at, front) {
@@ -132,13 +120,8 @@ fn address_named<S: Source>(
     base: Base,
 ) -> Result<Option<u64>, Fault>
     requires within { StringsWithin src.old.seen.size symbol.now.names }
-    ensures reads { Reads src.old src.new
-        (lookup_cost layout.now.lookup (names_for layout.now base)) }
-    ensures says { IfErr result (Says src.old src.new
-        (lookup_cost layout.now.lookup (names_for layout.now base))) }
-    ensures told { (file : List ℕ) → src.old.seen.file ≡ Some file →
-        ValueOrCause symbol.now.at result (address_named
-        (strings_in file symbol.now.names) symbol.now.fields.st_name (names_for layout.now base)) }
+    ensures { FindsAddress src.old src.new symbol.now result
+        (lookup_cost layout.now.lookup (names_for layout.now base)) (names_for layout.now base) }
 {
     match layout.names(base) {
         Among::Compared(items) => compared(src, symbol, items),
@@ -181,13 +164,10 @@ fn defined_value<S: Source>(
     entry: u64,
 ) -> Result<u64, Fault>
     requires within { StringsWithin src.old.seen.size symbol.now.names }
-    ensures reads { Reads src.old src.new (lookup_cost layout.now.lookup layout.now.definitions) }
-    ensures says { IfErr result
-        (Says src.old src.new (lookup_cost layout.now.lookup layout.now.definitions)) }
-    ensures told { (file : List ℕ) → src.old.seen.file ≡ Some file →
-        IsSym file symbol.now.at symbol.now.fields → ValueOrRefusal result
-        (named_or symbol.now.at (address_named (strings_in file symbol.now.names)
-        (st_name file symbol.now.at) layout.now.definitions)
+    ensures { GivesValue src.old src.new symbol.now result
+        (lookup_cost layout.now.lookup layout.now.definitions)
+        (λ file strings. named_or symbol.now.at
+        (address_named strings (st_name file symbol.now.at) layout.now.definitions)
         (undefined_value file entry symbol.now.at)) }
 {
     match address_named(src, symbol, layout, Base::Symbol) {
@@ -219,12 +199,9 @@ fn system_value<S: Source>(
     entry: u64,
 ) -> Result<u64, Fault>
     requires within { StringsWithin src.old.seen.size symbol.now.names }
-    ensures reads { Reads src.old src.new (lookup_cost layout.now.lookup layout.now.linkage) }
-    ensures says { IfErr result
-        (Says src.old src.new (lookup_cost layout.now.lookup layout.now.linkage)) }
-    ensures told { (file : List ℕ) → src.old.seen.file ≡ Some file →
-        IsSym file symbol.now.at symbol.now.fields → ValueOrRefusal result
-        (system_value file (strings_in file symbol.now.names) layout.now entry symbol.now.at) }
+    ensures { GivesValue src.old src.new symbol.now result
+        (lookup_cost layout.now.lookup layout.now.linkage)
+        (λ file strings. system_value file strings layout.now entry symbol.now.at) }
 {
     if symbol.fields.kind() == STT_GNU_IFUNC {
         return entry_value(src, layout, symbol, entry, Base::Linkage);
@@ -242,12 +219,9 @@ fn located_value<S: Source>(
     entry: u64,
 ) -> Result<u64, Fault>
     requires within { StringsWithin src.old.seen.size symbol.now.names }
-    ensures reads { Reads src.old src.new (lookup_cost layout.now.lookup layout.now.definitions) }
-    ensures says { IfErr result
-        (Says src.old src.new (lookup_cost layout.now.lookup layout.now.definitions)) }
-    ensures told { (file : List ℕ) → src.old.seen.file ≡ Some file →
-        IsSym file symbol.now.at symbol.now.fields → ValueOrRefusal result
-        (located_value file (strings_in file symbol.now.names) layout.now entry symbol.now.at) }
+    ensures { GivesValue src.old src.new symbol.now result
+        (lookup_cost layout.now.lookup layout.now.definitions)
+        (λ file strings. located_value file strings layout.now entry symbol.now.at) }
 {
     match symbol.fields.place() {
         Place::Absolute => Ok(symbol.fields.st_value),
@@ -271,11 +245,8 @@ fn symbol_value<S: Source>(
     entry: u64,
 ) -> Result<u64, Fault>
     requires within { StringsWithin src.old.seen.size symbol.now.names }
-    ensures reads { Reads src.old src.new (layout_names_cost layout.now) }
-    ensures says { IfErr result (Says src.old src.new (layout_names_cost layout.now)) }
-    ensures told { (file : List ℕ) → src.old.seen.file ≡ Some file →
-        IsSym file symbol.now.at symbol.now.fields → ValueOrRefusal result
-        (symbol_value file (strings_in file symbol.now.names) layout.now entry symbol.now.at) }
+    ensures { GivesValue src.old src.new symbol.now result (layout_names_cost layout.now)
+        (λ file strings. symbol_value file strings layout.now entry symbol.now.at) }
 {
     if is_system_specific(&symbol.fields) {
         return system_value(src, layout, symbol, entry);
@@ -293,11 +264,8 @@ fn linkage_value<S: Source>(
     entry: u64,
 ) -> Result<u64, Fault>
     requires within { StringsWithin src.old.seen.size symbol.now.names }
-    ensures reads { Reads src.old src.new (layout_names_cost layout.now) }
-    ensures says { IfErr result (Says src.old src.new (layout_names_cost layout.now)) }
-    ensures told { (file : List ℕ) → src.old.seen.file ≡ Some file →
-        IsSym file symbol.now.at symbol.now.fields → ValueOrRefusal result
-        (linkage_value file (strings_in file symbol.now.names) layout.now entry symbol.now.at) }
+    ensures { GivesValue src.old src.new symbol.now result (layout_names_cost layout.now)
+        (λ file strings. linkage_value file strings layout.now entry symbol.now.at) }
 {
     match address_named(src, symbol, layout, Base::Linkage) {
         Ok(Some(address)) => Ok(address),
@@ -318,13 +286,9 @@ fn entry_value<S: Source>(
     base: Base,
 ) -> Result<u64, Fault>
     requires within { StringsWithin src.old.seen.size symbol.now.names }
-    ensures reads { Reads src.old src.new
-        (lookup_cost layout.now.lookup (names_for layout.now base)) }
-    ensures says { IfErr result (Says src.old src.new
-        (lookup_cost layout.now.lookup (names_for layout.now base))) }
-    ensures told { (file : List ℕ) → src.old.seen.file ≡ Some file →
-        IsSym file symbol.now.at symbol.now.fields → ValueOrRefusal result (entry_value
-        (names_for layout.now base) file (strings_in file symbol.now.names) entry symbol.now.at) }
+    ensures { GivesValue src.old src.new symbol.now result
+        (lookup_cost layout.now.lookup (names_for layout.now base)) (λ file strings.
+        entry_value (names_for layout.now base) file strings entry symbol.now.at) }
 {
     match address_named(src, symbol, layout, base) {
         Ok(Some(address)) => Ok(address),
@@ -344,11 +308,8 @@ pub(crate) fn base_value<S: Source>(
     base: Base,
 ) -> Result<u64, Fault>
     requires within { StringsWithin src.old.seen.size symbol.now.names }
-    ensures reads { Reads src.old src.new (layout_names_cost layout.now) }
-    ensures says { IfErr result (Says src.old src.new (layout_names_cost layout.now)) }
-    ensures told { (file : List ℕ) → src.old.seen.file ≡ Some file →
-        IsSym file symbol.now.at symbol.now.fields → ValueOrRefusal result
-        (base_value base file (strings_in file symbol.now.names) layout.now entry symbol.now.at) }
+    ensures { GivesValue src.old src.new symbol.now result (layout_names_cost layout.now)
+        (λ file strings. base_value base file strings layout.now entry symbol.now.at) }
 {
     match base {
         Base::Symbol => symbol_value(src, layout, symbol, entry),

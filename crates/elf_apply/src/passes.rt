@@ -1,10 +1,9 @@
 //! The passes over the relocation entries for a section.
-ghost use Rattle.std.specs.Prelude.{◌≡◌, ◌+◌, ◌<◌, ◌^◌, ◌&&◌, nat_le, ℕ, List, Some, IfErr, IfOk};
+ghost use Rattle.std.specs.Prelude.{◌≡◌, ◌+◌, ◌<◌, ◌^◌, ◌&&◌, nat_le, ℕ, List, IfOk};
 ghost use Rattle.std.specs.Prelude.{length, true};
 ghost use Rattle.elf_model.specs.Apply.{put};
 ghost use Rattle.elf_model.specs.ApplyLaws.{clipped};
-ghost use Rattle.elf_source.specs.Source.{Reads};
-ghost use Rattle.elf_headers.specs.Faults.{Says};
+ghost use Rattle.elf_headers.specs.Ledger.{Did, why_stopped};
 ghost use Rattle.elf_headers.specs.Load.{IsOpen};
 ghost use Rattle.elf_apply.specs.Entries.{patch_as};
 ghost use Rattle.elf_apply.specs.Passes.{ChecksEntries, Folds, MayPatch, folded, rising, storing};
@@ -32,11 +31,9 @@ pub(crate) struct Checked {
 /// The first refusal, or a fault of the source.
 pub(crate) fn check<S: Source>(src: &mut Counted<S>, target: &Target<'_>) -> Result<Checked, Fault>
     requires opened { IsOpen src.old target.now.file.loaded target.now.file.store.now }
-    ensures reads { Reads src.old src.new (walk_all target.now) }
-    ensures says { IfErr result (Says src.old src.new (walk_all target.now)) }
     ensures counted { IfOk result (λ found. found.entries ≡ entries_from target.now 0) }
-    ensures checked { (file : List ℕ) → src.old.seen.file ≡ Some file →
-        ChecksEntries result (folded rising (true, 0) (changes_all file target.now)) }
+    ensures did { Did src.old src.new (why_stopped result) (walk_all target.now)
+        (λ file. ChecksEntries result (folded rising (true, 0) (changes_all file target.now))) }
 {
     let mut entries = Entries::new();
     let mut rises = true;
@@ -77,10 +74,9 @@ pub(crate) fn patch_window<S: Source>(
     window: &mut [u8],
 ) -> Result<(), Fault>
     requires { MayPatch src.old target.now low (length window.old) }
-    ensures reads { Reads src.old src.new (walk_all target.now) }
-    ensures says { IfErr result (Says src.old src.new (walk_all target.now)) }
-    ensures told { (file : List ℕ) → src.old.seen.file ≡ Some file → Folds result window.new
-        (folded (storing low (length window.old)) window.old (changes_all file target.now)) }
+    ensures { Did src.old src.new (why_stopped result) (walk_all target.now)
+        (λ file. Folds result window.new
+        (folded (storing low (length window.old)) window.old (changes_all file target.now))) }
 {
     let mut entries = Entries::new();
     'entries: loop {

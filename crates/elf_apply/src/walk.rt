@@ -1,12 +1,12 @@
 //! The walk over the relocation entries for a section.
-ghost use Rattle.std.specs.Prelude.{◌≡◌, ◌≤◌, ℕ, List, length, Some, IfErr, IfOk};
+ghost use Rattle.std.specs.Prelude.{◌≡◌, ◌≤◌, ℕ, List, length, IfErr, IfOk};
 ghost use Rattle.elf_model.specs.Apply.{applies_to};
 ghost use Rattle.elf_record.specs.Shdr.{IsShdr};
-ghost use Rattle.elf_headers.specs.Faults.{IsOfCheck, Says};
+ghost use Rattle.elf_headers.specs.Faults.{IsOfCheck};
 ghost use Rattle.elf_headers.specs.Load.{Belongs};
-ghost use Rattle.elf_apply.specs.Walk.{AsksOf, BeginsWalk, CountsEntries, FindsEntry, FoundFewer};
-ghost use Rattle.elf_apply.specs.Walk.{FoundInside, Goes, MayWalk, ReadsEntries, StepFewer};
-ghost use Rattle.elf_apply.specs.Walk.{StepInside, StepsWalk, walk_left};
+ghost use Rattle.elf_apply.specs.Walk.{BeginsWalk, FindsEntry, FoundGives, Goes, MayWalk};
+ghost use Rattle.elf_apply.specs.Walk.{ReadsEntries, StepGives, StepsWalk, WalksOn, WentOn};
+ghost use Rattle.elf_apply.specs.Walk.{walk_left};
 
 use crate::entry::{EntrySymbols, Placed, Target, entry_change};
 use elf_headers::Fault;
@@ -70,15 +70,9 @@ impl Entries {
         target: &Target<'_>,
     ) -> Result<Option<Placed>, Fault>
         requires { MayWalk src.old target.now self.old }
-        ensures asks { AsksOf src.old src.new target.now self.old self.new }
-        ensures says { IfErr result (Says src.old src.new (walk_left target.now self.old)) }
-        ensures goes { IfOk result (λ found. Goes src.old.seen.size target.now self.new) }
-        ensures fewer { IfOk result (FoundFewer target.now self.old self.new) }
-        ensures counts { IfOk result (λ found. CountsEntries target.now self.old self.new) }
-        ensures inside { IfOk result (FoundInside target.now.size) }
-        ensures finds { (file : List ℕ) → src.old.seen.file ≡ Some file →
-            ReadsEntries file target.now self.old →
-            FindsEntry file target.now self.old self.new result }
+        ensures { WalksOn src.old src.new target.now self.old self.new result
+            (FoundGives target.now self.old self.new)
+            (λ file. FindsEntry file target.now self.old self.new result) }
     {
         'steps: loop {
             match self.step(src, target) {
@@ -97,15 +91,9 @@ impl Entries {
         target: &Target<'_>,
     ) -> Result<WalkStep, Fault>
         requires { MayWalk src.old target.now self.old }
-        ensures asks { AsksOf src.old src.new target.now self.old self.new }
-        ensures says { IfErr result (Says src.old src.new (walk_left target.now self.old)) }
-        ensures goes { IfOk result (λ step. Goes src.old.seen.size target.now self.new) }
-        ensures fewer { IfOk result (StepFewer target.now self.old self.new) }
-        ensures counts { IfOk result (λ step. CountsEntries target.now self.old self.new) }
-        ensures inside { IfOk result (StepInside target.now.size) }
-        ensures walked { (file : List ℕ) → src.old.seen.file ≡ Some file →
-            ReadsEntries file target.now self.old →
-            StepsWalk file target.now self.old self.new result }
+        ensures { WalksOn src.old src.new target.now self.old self.new result
+            (StepGives target.now self.old self.new)
+            (λ file. StepsWalk file target.now self.old self.new result) }
     {
         match self.cursor.advance(src) {
             Ok(true) => {
@@ -127,12 +115,9 @@ impl Entries {
     fn open(&mut self, target: &Target<'_>) -> Result<WalkStep, Fault>
         requires goes { Goes target.now.file.loaded.size target.now self.old }
         requires none { self.old.cursor.left ≡ 0 }
-        ensures goes { IfOk result
-            (λ step. Goes target.now.file.loaded.size target.now self.new) }
+        ensures went { IfOk result (WentOn target.now.file.loaded.size target.now self.old
+            self.new (StepGives target.now self.old self.new)) }
         ensures refusal { IfErr result IsOfCheck }
-        ensures fewer { IfOk result (StepFewer target.now self.old self.new) }
-        ensures counts { IfOk result (λ step. CountsEntries target.now self.old self.new) }
-        ensures inside { IfOk result (StepInside target.now.size) }
         ensures left { walk_left target.now self.new ≤ walk_left target.now self.old }
         ensures walked { (file : List ℕ) →
             Belongs file target.now.file.loaded target.now.file.store.now →

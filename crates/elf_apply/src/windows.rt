@@ -1,11 +1,9 @@
 //! The section with its relocations applied, window by window.
-ghost use Rattle.std.specs.Prelude.{◌≡◌, ◌+◌, ◌*◌, ◌≤◌, ℕ, List, Some, IfErr, length};
+ghost use Rattle.std.specs.Prelude.{◌≡◌, ◌+◌, ◌*◌, ◌≤◌, ℕ, List, Some, length};
 ghost use Rattle.elf_model.specs.Bytes.{slice};
-ghost use Rattle.elf_source.specs.Growth.{Grows};
-ghost use Rattle.elf_source.specs.Source.{Reads};
 ghost use Rattle.elf_apply.specs.Walk.{walk_all};
-ghost use Rattle.elf_apply.specs.Windows.{ApplyFaultSays, MayWrite, OfPatches, WritesBytes};
-ghost use Rattle.elf_apply.specs.Windows.{WroteBytes, windows};
+ghost use Rattle.elf_apply.specs.Windows.{Copies, MayWrite, NotForBudget, OfPatches, WritesBytes};
+ghost use Rattle.elf_apply.specs.Windows.{windows};
 
 use crate::entry::Target;
 use crate::passes::patch_window;
@@ -27,11 +25,8 @@ pub(crate) fn write_windows<S: Source, W: Sink>(
     out: &mut Out<W>,
 ) -> Result<(), Stop>
     requires { MayWrite src.old target.now at (at + target.now.size) }
-    ensures says { IfErr result (ApplyFaultSays src.old src.new out.new) }
-    ensures reads { Reads src.old src.new
-        (windows target.now.size * walk_all target.now + target.now.size) }
-    ensures grows { Grows out.old out.new }
-    ensures wrote { WroteBytes out.old out.new result target.now.size }
+    ensures did { Copies src.old src.new out.old out.new result NotForBudget
+        (windows target.now.size * walk_all target.now + target.now.size) target.now.size }
     ensures text { (file : List ℕ) → src.old.seen.file ≡ Some file → OfPatches target.now at
         (λ patches text. WritesBytes out.old out.new result text) file }
 {
@@ -60,10 +55,8 @@ fn write_window<S: Source, W: Sink>(
     requires may { MayWrite src.old target.now at (at + target.now.size) }
     requires few { length window.old ≤ 64 }
     requires part { low + length window.old ≤ target.now.size }
-    ensures says { IfErr result (ApplyFaultSays src.old src.new out.new) }
-    ensures reads { Reads src.old src.new (walk_all target.now + length window.old) }
-    ensures grows { Grows out.old out.new }
-    ensures wrote { WroteBytes out.old out.new result (length window.old) }
+    ensures did { Copies src.old src.new out.old out.new result NotForBudget
+        (walk_all target.now + length window.old) (length window.old) }
     ensures text { (file : List ℕ) → src.old.seen.file ≡ Some file → OfPatches target.now at
         (λ patches text. WritesBytes out.old out.new result
         (slice text low (length window.old))) file }

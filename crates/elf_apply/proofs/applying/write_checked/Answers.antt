@@ -29,10 +29,10 @@ returns-then-not-has_room g c = record {
 
 pub returns : goal.returns
 returns g c = record {
-  says = says_free c.args.src.now c.limit.new.self _ c.limit.ensures c.write_section.new.src c.write_section.new.out _ c.write_section.result c.write_section.ensures.says;
+  says = says_free c.args.src.now c.limit.new.self _ c.limit.ensures c.write_section.new.src c.write_section.new.out _ c.write_section.result c.write_section.ensures.did.says;
   reads =
-      let asked = write_asks c.args.checked.now.rises c.args.target.now.size (walk_all c.args.target.now) c.limit.new.self.asked c.write_section.new.src.asked c.write_section.ensures.once c.write_section.ensures.reads.at_most in
-      spends_free c.args.src.now c.limit.new.self _ c.limit.ensures c.write_section.new.src _ _ c.write_section.ensures.reads asked c.if-not-has_room.ensures;
+      let asked = write_asks c.args.checked.now.rises c.args.target.now.size (walk_all c.args.target.now) c.limit.new.self.asked c.write_section.new.src.asked c.write_section.ensures.once c.write_section.ensures.did.reads.at_most in
+      spends_free c.args.src.now c.limit.new.self _ c.limit.ensures c.write_section.new.src _ _ c.write_section.ensures.did.reads asked c.if-not-has_room.ensures;
   grows = search rules;
   wrote = search rules;
   text = λ file held patches are inside rises.

@@ -1,12 +1,17 @@
-use Rattle.std.proofs.Common.{sym, ◌∙◌}
+use Rattle.std.proofs.Common.{rules, sym, ◌∙◌}
 use Rattle.elf_apply.specs.Entries.{target_as}
 use Rattle.elf_apply.proofs.EntrySteps.{term_again}
 use Rattle.elf_apply.proofs.entry.taken_value.Goals as goal
 
-pub returns-in-Ok-clause-refers : goal.returns-in-Ok-clause-refers
-returns-in-Ok-clause-refers g c = λ file header held refers named. record {
-  linked = refers.linked;
-  last = λ rela same.
-      term_again c.args.at rela _ (target_as file c.args.target.now) header c.args.base (sym named ∙ same)
-      (c.in-Ok.ensures.value file header held refers.linked named);
+pub returns-in-Ok : goal.returns-in-Ok
+returns-in-Ok g c = record {
+  costs = c.in-Ok.ensures.did.costs;
+  same = search rules;
+  refers = λ file header held refers named. record {
+    linked = refers.linked;
+    last = λ rela same.
+        term_again c.args.at rela _ (target_as file c.args.target.now) header c.args.base (sym named ∙ same)
+        (c.in-Ok.ensures.did.known file held header refers.linked named);
+  };
+  known = λ file header held refers named. c.in-Ok.ensures.did.known file held header refers.linked named;
 }

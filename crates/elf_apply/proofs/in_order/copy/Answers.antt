@@ -3,7 +3,8 @@ use Rattle.std.proofs.lemmas.List.{take_all}
 use Rattle.std.proofs.lemmas.Result.{err_from_is_err_and}
 use Rattle.elf_source.proofs.ReadsLaws.{Reads-none, Reads-then, Reads-to}
 use Rattle.elf_model.specs.Bytes.{slice}
-use Rattle.elf_apply.proofs.WindowSteps.{window_more, window_stopped, short_take, takes_start, takes_as}
+use Rattle.elf_apply.specs.Windows.{NoRefusal}
+use Rattle.elf_apply.proofs.WindowSteps.{window_more, window_stopped, says_behind, short_take, takes_start, takes_as}
 use Rattle.elf_apply.proofs.InOrderSteps.{writes_as}
 use Rattle.elf_source.proofs.GrowthLaws.{grows_not, grows_then}
 use Rattle.elf_model.proofs.Slices.{slice-size, slice-slice}
@@ -32,29 +33,19 @@ copy_page-requires-clause-within g c =
     let few = short_take c.min-count.result 4096 (omega (arith, count)) in
     omega (arith, few, count, c.pages-test.true, c.requires.within, known.reads.keeps.same_size)
 
-pub returns-in_err-copy_page-clause-reads : goal.returns-in_err-copy_page-clause-reads
-returns-in_err-copy_page-clause-reads g c =
-    let known = c.pages.invariant in
-    let count = c.min-count.ensures in
-    let few = short_take c.min-count.result 4096 (omega (arith, count)) in
-    Reads-to (Reads-then known.reads c.copy_page.ensures.reads) (omega (arith, known.asked, c.copy_page.ensures.reads.at_most, few, c.pages-test.true, count))
-
-pub returns-in_err-copy_page-clause-wrote : goal.returns-in_err-copy_page-clause-wrote
-returns-in_err-copy_page-clause-wrote g c =
+pub returns-in_err-copy_page-clause-did : goal.returns-in_err-copy_page-clause-did
+returns-in_err-copy_page-clause-did g c =
     let p = err_from_is_err_and c.from_residual.result c.from_residual.ensures.1 in
     let known = c.pages.invariant in
+    let did = c.in_err-copy_page.ensures.did in
     let count = c.min-count.ensures in
     let few = short_take c.min-count.result 4096 (omega (arith, count)) in
-    rw p.1 (omega (arith, known.wrote, c.in_err-copy_page.ensures.wrote, few, c.pages-test.true, count))
-
-pub returns-clause-reads : goal.returns-clause-reads
-returns-clause-reads g c = c.pages.invariant.reads
-
-pub returns-clause-wrote : goal.returns-clause-wrote
-returns-clause-wrote g c = omega (arith, c.pages.invariant.wrote, c.pages.invariant.within, c.pages-test.false)
-
-pub returns-in_err-copy_page-clause-grows : goal.returns-in_err-copy_page-clause-grows
-returns-in_err-copy_page-clause-grows g c = grows_then c.pages.invariant.grows c.copy_page.ensures.grows
+    record {
+      says = rw (p.1, p.2) (says_behind NoRefusal c.args.src.now c.pages.src c.copy_page.new.src _ c.copy_page.new.out c.in_err-copy_page.field-0.0 known.reads did.says);
+      reads = Reads-to (Reads-then known.reads did.reads) (omega (arith, known.asked, did.reads.at_most, few, c.pages-test.true, count));
+      grows = grows_then known.grows did.grows;
+      wrote = rw p.1 (omega (arith, known.wrote, did.wrote, few, c.pages-test.true, count));
+    }
 
 pub returns-in_err-copy_page-clause-text : goal.returns-in_err-copy_page-clause-text
 returns-in_err-copy_page-clause-text g c = λ file held long.
@@ -69,22 +60,25 @@ returns-in_err-copy_page-clause-text g c = λ file held long.
 pub pages-preserved : goal.pages-preserved
 pages-preserved g c =
     let known = c.pages.invariant in
+    let did = c.in_ok-copy_page.ensures.did in
     let count = c.min-count.ensures in
     let few = short_take c.min-count.result 4096 (omega (arith, count)) in
     record {
       within = omega (arith, c.pages-test.true, count);
-      reads = Reads-to (Reads-then known.reads c.copy_page.ensures.reads) (omega (arith, known.asked, c.copy_page.ensures.reads.at_most, few, c.pages-test.true, count));
-      asked = omega (arith, known.asked, c.copy_page.ensures.reads.at_most, few);
-      grows = grows_then known.grows c.copy_page.ensures.grows;
-      wrote = omega (arith, known.wrote, c.in_ok-copy_page.ensures.wrote, few);
+      reads = Reads-to (Reads-then known.reads did.reads) (omega (arith, known.asked, did.reads.at_most, few, c.pages-test.true, count));
+      asked = omega (arith, known.asked, did.reads.at_most, few);
+      grows = grows_then known.grows did.grows;
+      wrote = omega (arith, known.wrote, did.wrote, few);
       text = λ file held long.
           window_more _ _ _ (slice file c.args.at c.args.size) c.pages.done c.min-count.result _ refl (known.text file held long)
           (takes_as _ _ _ _ (ap (slice file (c.args.at + c.pages.done)) few ∙ sym (slice-slice file c.args.at c.args.size c.pages.done c.min-count.result (omega (arith, c.pages-test.true, count))))
           (c.in_ok-copy_page.ensures.text file (known.reads.keeps.same_file ∙ held)));
     }
 
-pub returns-clause-grows : goal.returns-clause-grows
-returns-clause-grows g c = c.pages.invariant.grows
+pub returns-clause-did : goal.returns-clause-did
+returns-clause-did g c =
+    let known = c.pages.invariant in
+    record { says = tt; reads = known.reads; grows = known.grows; wrote = omega (arith, known.wrote, known.within, c.pages-test.false) }
 
 pub returns-clause-text : goal.returns-clause-text
 returns-clause-text g c = λ file held long.

@@ -1,5 +1,5 @@
 -- What was read is what stands at the name's index.
-use Rattle.std.proofs.Common.{◌≡◌, ℕ, ◌+◌, ◌<◌, List, length, refl, sym, ap, ◌∙◌, arith}
+use Rattle.std.proofs.Common.{rules, ◌≡◌, ℕ, ◌+◌, ◌<◌, List, length, refl, sym, ap, ◌∙◌, arith}
 use Rattle.elf_model.specs.ApplyCost.{longest}
 use Rattle.elf_model.specs.Bytes.{slice}
 use Rattle.elf_model.proofs.Slices.{slice-size}
@@ -7,33 +7,30 @@ use Rattle.elf_table.specs.Tables.{strings_in}
 use Rattle.elf_apply.proofs.NameSteps.{front_is, Reads-more}
 use Rattle.elf_apply.proofs.lookup.read_name.Goals as goal
 
-pub returns-in-Ok-find-clause-told : goal.returns-in-Ok-find-clause-told
-returns-in-Ok-find-clause-told g c = λ file h.
-    let names = c.args.symbol.now.names in
-    let index = c.args.symbol.now.fields.st_name in
-    let sized = c.args.src.now.seen.sized file h in
-    let long = slice-size file names.at names.size (omega (arith, sized, c.requires.within (omega (arith, c.requires.inside)))) in
-    let count = length c.args.front.now in
-    let read = c.in-Ok.ensures.read file h in
-    let is = read ∙ (ap (λ n. slice file n count) (omega (arith, c.at.ensures.value, c.from.ensures)) ∙ front_is file names.at names.size index (longest c.args.names.now) count c.requires.inside c.requires.count) in
-    sym (c.in-Ok-find.ensures.found (strings_in file names) index (omega (arith, long, c.requires.inside)) is)
+pub returns-in-Ok-find : goal.returns-in-Ok-find
+returns-in-Ok-find g c = record {
+  costs = record { reads = Reads-more c.args.src.now c.fill.new.src (length c.args.front.now) (longest c.args.names.now + 1) (omega (arith, c.requires.count)) c.fill.ensures.reads; says = tt };
+  known = λ file h.
+      let names = c.args.symbol.now.names in
+      let index = c.args.symbol.now.fields.st_name in
+      let sized = c.args.src.now.seen.sized file h in
+      let long = slice-size file names.at names.size (omega (arith, sized, c.requires.within (omega (arith, c.requires.inside)))) in
+      let count = length c.args.front.now in
+      let read = c.in-Ok.ensures.read file h in
+      let is = read ∙ (ap (λ n. slice file n count) (omega (arith, c.at.ensures.value, c.from.ensures)) ∙ front_is file names.at names.size index (longest c.args.names.now) count c.requires.inside c.requires.count) in
+      sym (c.in-Ok-find.ensures.found (strings_in file names) index (omega (arith, long, c.requires.inside)) is);
+}
 
-pub returns-in-Err-find-clause-told : goal.returns-in-Err-find-clause-told
-returns-in-Err-find-clause-told g c = λ file h.
-    let names = c.args.symbol.now.names in
-    let index = c.args.symbol.now.fields.st_name in
-    let sized = c.args.src.now.seen.sized file h in
-    let long = slice-size file names.at names.size (omega (arith, sized, c.requires.within (omega (arith, c.requires.inside)))) in
-    let count = length c.args.front.now in
-    let read = c.in-Ok.ensures.read file h in
-    let is = read ∙ (ap (λ n. slice file n count) (omega (arith, c.at.ensures.value, c.from.ensures)) ∙ front_is file names.at names.size index (longest c.args.names.now) count c.requires.inside c.requires.count) in
-    rw c.refused.ensures (λ _. (refl, sym (c.in-Err-find.ensures.found (strings_in file names) index (omega (arith, long, c.requires.inside)) is)))
-
-pub returns-in-Ok-find-clause-reads : goal.returns-in-Ok-find-clause-reads
-returns-in-Ok-find-clause-reads g c = Reads-more c.args.src.now c.fill.new.src (length c.args.front.now) (longest c.args.names.now + 1) (omega (arith, c.requires.count)) c.fill.ensures.reads
-
-pub returns-in-Err-find-clause-reads : goal.returns-in-Err-find-clause-reads
-returns-in-Err-find-clause-reads g c = Reads-more c.args.src.now c.fill.new.src (length c.args.front.now) (longest c.args.names.now + 1) (omega (arith, c.requires.count)) c.fill.ensures.reads
-
-pub returns-in-Err-clause-reads : goal.returns-in-Err-clause-reads
-returns-in-Err-clause-reads g c = Reads-more c.args.src.now c.fill.new.src (length c.args.front.now) (longest c.args.names.now + 1) (omega (arith, c.requires.count)) c.fill.ensures.reads
+pub returns-in-Err-find : goal.returns-in-Err-find
+returns-in-Err-find g c = record {
+  costs = record { reads = Reads-more c.args.src.now c.fill.new.src (length c.args.front.now) (longest c.args.names.now + 1) (omega (arith, c.requires.count)) c.fill.ensures.reads; says = search rules };
+  known = λ file h.
+      let names = c.args.symbol.now.names in
+      let index = c.args.symbol.now.fields.st_name in
+      let sized = c.args.src.now.seen.sized file h in
+      let long = slice-size file names.at names.size (omega (arith, sized, c.requires.within (omega (arith, c.requires.inside)))) in
+      let count = length c.args.front.now in
+      let read = c.in-Ok.ensures.read file h in
+      let is = read ∙ (ap (λ n. slice file n count) (omega (arith, c.at.ensures.value, c.from.ensures)) ∙ front_is file names.at names.size index (longest c.args.names.now) count c.requires.inside c.requires.count) in
+      rw c.refused.ensures (λ _. (refl, sym (c.in-Err-find.ensures.found (strings_in file names) index (omega (arith, long, c.requires.inside)) is)));
+}

@@ -21,33 +21,41 @@ entries-init g c = record {
 pub entries-preserved : goal.entries-preserved
 entries-preserved g c =
     let known = c.entries.invariant in
-    let now = c.in-Ok-Some.ensures.goes in
+    let now = c.in-Ok-Some.ensures.went.goes in
     record {
       most = reads-left _ (walk_left c.args.target.now c.next.new.self) (Reads-then known.most c.next.ensures.asks.reads) (omega (arith, known.asked, c.next.ensures.asks.account));
       asked = omega (arith, known.asked, c.next.ensures.asks.account);
       still = rw known.most.keeps.same_size at now;
       reads = λ file held.
-          let finds = rw c.in-Ok-Some.field-0-is at c.in-Ok-Some.ensures.finds file (known.most.keeps.same_file ∙ held) (known.reads file held) in finds.1;
+          let finds = rw c.in-Ok-Some.field-0-is at c.in-Ok-Some.ensures.known file (known.most.keeps.same_file ∙ held) (known.reads file held) in finds.1;
       left = λ file held.
-          let finds = rw c.in-Ok-Some.field-0-is at c.in-Ok-Some.ensures.finds file (known.most.keeps.same_file ∙ held) (known.reads file held) in
+          let finds = rw c.in-Ok-Some.field-0-is at c.in-Ok-Some.ensures.known file (known.most.keeps.same_file ∙ held) (known.reads file held) in
           ap (λ w. folded (storing c.args.low (length c.args.window.now)) w (changes_left file c.args.target.now c.next.new.self)) (c.put_in.ensures ∙ ap (λ n. storing c.args.low n c.entries.window (patch_as c.in-Ok-Some.placed)) c.entries.auto.window)
           ∙ folded-some (storing c.args.low (length c.args.window.now)) c.entries.window _ _ (patch_as c.in-Ok-Some.placed) _ finds.0 (known.left file held);
     }
 
-pub returns-in-Ok-None-clause-told : goal.returns-in-Ok-None-clause-told
-returns-in-Ok-None-clause-told g c = λ file held.
+pub returns-in-Ok-None : goal.returns-in-Ok-None
+returns-in-Ok-None g c =
     let known = c.entries.invariant in
-    let finds = rw c.in-Ok-None.field-0-is at c.in-Ok-None.ensures.finds file (known.most.keeps.same_file ∙ held) (known.reads file held) in
-    folded-none (storing c.args.low (length c.args.window.now)) c.entries.window _ _ finds (known.left file held)
+    record {
+      costs = record { reads = reads-left _ (walk_left c.args.target.now c.next.new.self) (Reads-then known.most c.next.ensures.asks.reads) (omega (arith, known.asked, c.next.ensures.asks.account)); says = tt };
+      known = λ file held.
+          let finds = rw c.in-Ok-None.field-0-is at c.in-Ok-None.ensures.known file (known.most.keeps.same_file ∙ held) (known.reads file held) in
+          folded-none (storing c.args.low (length c.args.window.now)) c.entries.window _ _ finds (known.left file held);
+    }
 
-pub returns-in-Err-clause-says : goal.returns-in-Err-clause-says
-returns-in-Err-clause-says g c = Says-then c.args.src.now c.entries.src c.next.new.src _ _ _ c.in-Err.fault c.entries.invariant.most (omega (arith, c.entries.invariant.asked)) c.in-Err.ensures.says
-
-pub returns-in-Err-clause-told : goal.returns-in-Err-clause-told
-returns-in-Err-clause-told g c = λ file held.
+pub returns-in-Err : goal.returns-in-Err
+returns-in-Err g c =
     let known = c.entries.invariant in
-    folds-fault (Unit {0}) c.in-Err.fault _ _ (folded-fault (storing c.args.low (length c.args.window.now)) c.entries.window file c.args.target.now c.entries.entries c.next.new.self c.in-Err.fault _
-    (c.in-Err.ensures.finds file (known.most.keeps.same_file ∙ held) (known.reads file held)) (known.left file held))
+    record {
+      costs = record {
+        reads = reads-left _ (walk_left c.args.target.now c.next.new.self) (Reads-then known.most c.next.ensures.asks.reads) (omega (arith, known.asked, c.next.ensures.asks.account));
+        says = Says-then c.args.src.now c.entries.src c.next.new.src _ _ _ c.in-Err.fault known.most (omega (arith, known.asked)) c.in-Err.ensures.says;
+      };
+      known = λ file held.
+          folds-fault (Unit {0}) c.in-Err.fault _ _ (folded-fault (storing c.args.low (length c.args.window.now)) c.entries.window file c.args.target.now c.entries.entries c.next.new.self c.in-Err.fault _
+          (c.in-Err.ensures.known file (known.most.keeps.same_file ∙ held) (known.reads file held)) (known.left file held));
+    }
 
 pub next-requires : goal.next-requires
 next-requires g c = record {

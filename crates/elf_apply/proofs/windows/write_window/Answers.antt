@@ -1,38 +1,51 @@
 use Rattle.std.proofs.Common.{rules, ap, ◌∙◌, ◌+◌, ◌≤◌, arith, length, Err}
 use Rattle.std.proofs.lemmas.Result.{err_from_is_err_and}
-use Rattle.elf_source.proofs.GrowthLaws.{grows_put}
+use Rattle.elf_source.proofs.GrowthLaws.{grows_not, grows_put}
 use Rattle.elf_source.proofs.ReadsLaws.{Reads-then, Reads-to}
 use Rattle.elf_headers.proofs.OpenLaws.{still_open}
 use Rattle.elf_apply.specs.Walk.{changes_all}
 use Rattle.elf_apply.proofs.ReadLaws.{not_over}
-use Rattle.elf_apply.proofs.WindowSteps.{front_written, window_done, folds_ok, pass_failed, takes_as, front_as}
+use Rattle.elf_apply.proofs.WindowSteps.{front_written, stopping, window_done, folds_ok, pass_failed, takes_as, front_as}
 use Rattle.elf_apply.proofs.windows.write_window.Goals as goal
 
-pub returns-clause-reads : goal.returns-clause-reads
-returns-clause-reads g c = Reads-to (Reads-then c.fill.ensures.reads c.patch_window.ensures.reads) (omega (arith, c.fill.ensures.reads.at_most, c.patch_window.ensures.reads.at_most))
+pub returns-in_err-fill-clause-did : goal.returns-in_err-fill-clause-did
+returns-in_err-fill-clause-did g c = record {
+  says = search (rules, stopping);
+  reads = Reads-to c.fill.ensures.reads (omega (arith, c.fill.ensures.reads.at_most));
+  grows = grows_not _;
+  wrote = search (rules, stopping);
+}
 
-pub returns-in_err-put-clause-reads : goal.returns-in_err-put-clause-reads
-returns-in_err-put-clause-reads g c = Reads-to (Reads-then c.fill.ensures.reads c.patch_window.ensures.reads) (omega (arith, c.fill.ensures.reads.at_most, c.patch_window.ensures.reads.at_most))
+pub returns-in_err-patch_window-clause-did : goal.returns-in_err-patch_window-clause-did
+returns-in_err-patch_window-clause-did g c =
+    let pass = c.patch_window.ensures.costs.reads in
+    record {
+      says = search (rules, stopping);
+      reads = Reads-to (Reads-then c.fill.ensures.reads pass) (omega (arith, c.fill.ensures.reads.at_most, pass.at_most));
+      grows = grows_not _;
+      wrote = search (rules, stopping);
+    }
 
-pub returns-in_err-patch_window-clause-reads : goal.returns-in_err-patch_window-clause-reads
-returns-in_err-patch_window-clause-reads g c = Reads-to (Reads-then c.fill.ensures.reads c.patch_window.ensures.reads) (omega (arith, c.fill.ensures.reads.at_most, c.patch_window.ensures.reads.at_most))
-
-pub returns-in_err-fill-clause-reads : goal.returns-in_err-fill-clause-reads
-returns-in_err-fill-clause-reads g c = Reads-to c.fill.ensures.reads (omega (arith, c.fill.ensures.reads.at_most))
-
-pub returns-clause-grows : goal.returns-clause-grows
-returns-clause-grows g c = grows_put _ _ c.put.ensures.puts
-
-pub returns-in_err-put-clause-grows : goal.returns-in_err-put-clause-grows
-returns-in_err-put-clause-grows g c = grows_put _ _ c.put.ensures.puts
-
-pub returns-clause-wrote : goal.returns-clause-wrote
-returns-clause-wrote g c = omega (arith, c.in_ok-put.ensures.puts.0.counts)
-
-pub returns-in_err-put-clause-wrote : goal.returns-in_err-put-clause-wrote
-returns-in_err-put-clause-wrote g c =
+pub returns-in_err-put-clause-did : goal.returns-in_err-put-clause-did
+returns-in_err-put-clause-did g c =
     let p = err_from_is_err_and c.from_residual-in_err-put.result c.from_residual-in_err-put.ensures.1 in
-    rw p.1 (omega (arith, front_written _ _ _ c.in_err-put.ensures.puts.0))
+    let pass = c.patch_window.ensures.costs.reads in
+    record {
+      says = rw (p.1, p.2) c.in_err-put.ensures.puts.1;
+      reads = Reads-to (Reads-then c.fill.ensures.reads pass) (omega (arith, c.fill.ensures.reads.at_most, pass.at_most));
+      grows = grows_put _ _ c.put.ensures.puts;
+      wrote = rw p.1 (omega (arith, front_written _ _ _ c.in_err-put.ensures.puts.0));
+    }
+
+pub returns-clause-did : goal.returns-clause-did
+returns-clause-did g c =
+    let pass = c.patch_window.ensures.costs.reads in
+    record {
+      says = tt;
+      reads = Reads-to (Reads-then c.fill.ensures.reads pass) (omega (arith, c.fill.ensures.reads.at_most, pass.at_most));
+      grows = grows_put _ _ c.put.ensures.puts;
+      wrote = omega (arith, c.in_ok-put.ensures.puts.0.counts);
+    }
 
 pub overflow_add-at : goal.overflow_add-at
 overflow_add-at g c = omega (arith, c.requires.part, c.requires.may.fits)
@@ -42,7 +55,7 @@ returns-clause-text g c = λ file held patches are inside.
     let belongs = c.requires.may.opened.belongs file held in
     let long : c.args.at + c.args.target.now.size ≤ length file = omega (arith, belongs.size, c.requires.may.opened.size, c.requires.may.within) in
     let done = window_done file c.args.at c.args.target.now.size c.args.low (length c.args.window.now) (length c.fill.new.out) (changes_all file c.args.target.now) patches c.fill.new.out long c.requires.part (c.in_ok-fill.ensures.read file held) c.fill.auto.out are inside in
-    let same = folds_ok c.patch_window.new.window _ _ (c.in_ok-patch_window.ensures.told file (c.fill.ensures.reads.keeps.same_file ∙ held)) done in
+    let same = folds_ok c.patch_window.new.window _ _ (c.in_ok-patch_window.ensures.known file (c.fill.ensures.reads.keeps.same_file ∙ held)) done in
     takes_as _ _ _ _ same c.in_ok-put.ensures.puts.0
 
 pub returns-in_err-put-clause-text : goal.returns-in_err-put-clause-text
@@ -51,7 +64,7 @@ returns-in_err-put-clause-text g c = λ file held patches are inside.
     let belongs = c.requires.may.opened.belongs file held in
     let long : c.args.at + c.args.target.now.size ≤ length file = omega (arith, belongs.size, c.requires.may.opened.size, c.requires.may.within) in
     let done = window_done file c.args.at c.args.target.now.size c.args.low (length c.args.window.now) (length c.fill.new.out) (changes_all file c.args.target.now) patches c.fill.new.out long c.requires.part (c.in_ok-fill.ensures.read file held) c.fill.auto.out are inside in
-    let same = folds_ok c.patch_window.new.window _ _ (c.in_ok-patch_window.ensures.told file (c.fill.ensures.reads.keeps.same_file ∙ held)) done in
+    let same = folds_ok c.patch_window.new.window _ _ (c.in_ok-patch_window.ensures.known file (c.fill.ensures.reads.keeps.same_file ∙ held)) done in
     rw (p.1, p.2) (front_as _ _ _ _ same c.in_err-put.ensures.puts.0)
 
 pub returns-in_err-patch_window-clause-text : goal.returns-in_err-patch_window-clause-text
@@ -61,8 +74,8 @@ returns-in_err-patch_window-clause-text g c = λ file held patches are inside.
     let long : c.args.at + c.args.target.now.size ≤ length file = omega (arith, belongs.size, c.requires.may.opened.size, c.requires.may.within) in
     let done = window_done file c.args.at c.args.target.now.size c.args.low (length c.args.window.now) (length c.fill.new.out) (changes_all file c.args.target.now) patches c.fill.new.out long c.requires.part (c.in_ok-fill.ensures.read file held) c.fill.auto.out are inside in
     pass_failed (Unit {0}) c.fill.new.src c.patch_window.new.src c.args.out.now c.in_err-patch_window.field-0.0 _ _ c.patch_window.new.window _ (p.1 ∙ ap Err p.2) done
-    (not_over c.fill.new.src c.patch_window.new.src _ c.in_err-patch_window.field-0.0 (c.fill.ensures.reads.same_limit ∙ c.requires.may.free) c.in_err-patch_window.ensures.says)
-    (c.in_err-patch_window.ensures.told file (c.fill.ensures.reads.keeps.same_file ∙ held))
+    (not_over c.fill.new.src c.patch_window.new.src _ c.in_err-patch_window.field-0.0 (c.fill.ensures.reads.same_limit ∙ c.requires.may.free) c.in_err-patch_window.ensures.costs.says)
+    (c.in_err-patch_window.ensures.known file (c.fill.ensures.reads.keeps.same_file ∙ held))
 
 pub patch_window-requires : goal.patch_window-requires
 patch_window-requires g c = record {

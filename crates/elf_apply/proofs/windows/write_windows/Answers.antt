@@ -5,7 +5,7 @@ use Rattle.elf_headers.proofs.OpenLaws.{still_open}
 use Rattle.elf_model.specs.Apply.{patched}
 use Rattle.elf_model.specs.Bytes.{slice}
 use Rattle.elf_apply.specs.Walk.{walk_all}
-use Rattle.elf_apply.proofs.WindowSteps.{window_more, window_stopped, windows_end, windows_account, takes_start, short_take}
+use Rattle.elf_apply.proofs.WindowSteps.{window_more, window_stopped, windows_end, windows_account, takes_start, short_take, stopping}
 use Rattle.elf_source.proofs.GrowthLaws.{grows_not, grows_then}
 use Rattle.elf_model.proofs.Slices.{slice-size}
 use Rattle.elf_apply.proofs.windows.write_windows.Goals as goal
@@ -23,17 +23,20 @@ windows-init g c = record {
   text = λ file held patches are inside. takes_start _ (patched patches (slice file c.args.at c.args.target.now.size));
 }
 
-pub returns-in_err-write_window-clause-reads : goal.returns-in_err-write_window-clause-reads
-returns-in_err-write_window-clause-reads g c =
+pub returns-in_err-write_window-clause-did : goal.returns-in_err-write_window-clause-did
+returns-in_err-write_window-clause-did g c =
     let known = c.windows.invariant in
+    let did = c.in_err-write_window.ensures.did in
     let count = c.min-count.ensures in
     let few = short_take c.min-count.result 64 (omega (arith, count)) in
     let asked = windows_account c.args.target.now.size c.windows.done c.min-count.result _ (walk_all c.args.target.now) c.windows.src.asked c.write_window.new.src.asked 0 _ c.windows-test.true count refl
-    (omega (arith, c.write_window.ensures.reads.at_most, few)) known.asked in
-    Reads-to (Reads-then known.reads c.write_window.ensures.reads) (omega (arith, asked))
-
-pub returns-in_err-write_window-clause-grows : goal.returns-in_err-write_window-clause-grows
-returns-in_err-write_window-clause-grows g c = grows_then c.windows.invariant.grows c.write_window.ensures.grows
+    (omega (arith, did.reads.at_most, few)) known.asked in
+    record {
+      says = search (rules, stopping);
+      reads = Reads-to (Reads-then known.reads did.reads) (omega (arith, asked));
+      grows = grows_then known.grows did.grows;
+      wrote = search (rules, stopping);
+    }
 
 pub returns-in_err-write_window-clause-text : goal.returns-in_err-write_window-clause-text
 returns-in_err-write_window-clause-text g c = λ file held patches are inside.
@@ -47,15 +50,16 @@ windows-preserved g c =
     let known = c.windows.invariant in
     let count = c.min-count.ensures in
     let few = short_take c.min-count.result 64 (omega (arith, count)) in
+    let did = c.in_ok-write_window.ensures.did in
     let asked = windows_account c.args.target.now.size c.windows.done c.min-count.result _ (walk_all c.args.target.now) c.windows.src.asked _ 0 _ c.windows-test.true count refl
-    (omega (arith, c.write_window.ensures.reads.at_most, few)) known.asked in
+    (omega (arith, did.reads.at_most, few)) known.asked in
     record {
       sized = known.sized;
       within = omega (arith, c.windows-test.true, count);
-      reads = Reads-to (Reads-then known.reads c.write_window.ensures.reads) (omega (arith, asked));
+      reads = Reads-to (Reads-then known.reads did.reads) (omega (arith, asked));
       asked = asked;
-      grows = grows_then known.grows c.write_window.ensures.grows;
-      wrote = omega (arith, known.wrote, c.in_ok-write_window.ensures.wrote, few);
+      grows = grows_then known.grows did.grows;
+      wrote = omega (arith, known.wrote, did.wrote, few);
       text = λ file held patches are inside.
           window_more _ _ _ (patched patches (slice file c.args.at c.args.target.now.size)) c.windows.done _ _ (ap (λ n. c.windows.done + n) (sym few)) (known.text file held patches are inside)
           (c.in_ok-write_window.ensures.text file (known.reads.keeps.same_file ∙ held) patches are inside);
@@ -69,8 +73,10 @@ write_window-requires-clause-may g c = record {
   fits = search rules;
 }
 
-pub returns-clause-grows : goal.returns-clause-grows
-returns-clause-grows g c = c.windows.invariant.grows
+pub returns-clause-did : goal.returns-clause-did
+returns-clause-did g c =
+    let known = c.windows.invariant in
+    record { says = tt; reads = known.reads; grows = known.grows; wrote = omega (arith, known.wrote, known.within, c.windows-test.false) }
 
 pub returns-clause-text : goal.returns-clause-text
 returns-clause-text g c = λ file held patches are inside.

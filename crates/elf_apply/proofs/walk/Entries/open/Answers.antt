@@ -1,4 +1,4 @@
-use Rattle.std.proofs.Common.{◌≡◌, ◌<◌, ◌+◌, ◌*◌, refl, sym, ap, ◌∙◌, arith}
+use Rattle.std.proofs.Common.{rules, ◌≡◌, ◌<◌, ◌+◌, ◌*◌, refl, sym, ap, ◌∙◌, arith}
 use Rattle.elf_model.specs.Records.{section_at}
 use Rattle.elf_table.specs.Tables.{Rows}
 use Rattle.elf_apply.specs.Entries.{target_as}
@@ -9,44 +9,36 @@ use Rattle.elf_apply.proofs.walk.Entries.open.Goals as goal
 pub overflow_add-self-in-Ok : goal.overflow_add-self-in-Ok
 overflow_add-self-in-Ok c = omega arith
 
-pub returns-then-not-applies-clause-goes : goal.returns-then-not-applies-clause-goes
-returns-then-not-applies-clause-goes c = record {
-  not_failed = c.requires.goes.not_failed;
-  entry = c.requires.goes.entry;
-  within = c.requires.goes.within;
-  linked = c.requires.goes.linked;
-  next = omega (arith, c.if-section-sections.false, c.sections.ensures);
-  few = omega (arith, c.requires.goes.few);
+pub returns-then-section-sections-clause-went : goal.returns-then-section-sections-clause-went
+returns-then-section-sections-clause-went c = record {
+  goes = c.requires.goes;
+  counts = refl;
+  gives = entries-end c.args.target.now c.args.self.now.next (omega (arith, c.if-section-sections.true, c.sections.ensures));
 }
-
-pub returns-in-Ok-clause-goes : goal.returns-in-Ok-clause-goes
-returns-in-Ok-clause-goes c = record {
-  not_failed = c.new-self.ensures.failed;
-  entry = ap (λ (t : Rows). t.entry) c.new-self.ensures.table ∙ c.in-Ok.ensures.entry;
-  within = rw c.new-self.ensures.table c.in-Ok.ensures.within;
-  linked = c.in-Ok.ensures.linked;
-  next = omega (arith, c.if-section-sections.false, c.sections.ensures);
-  few = omega arith;
-}
-
-pub returns-then-section-sections-clause-fewer : goal.returns-then-section-sections-clause-fewer
-returns-then-section-sections-clause-fewer c = entries-end c.args.target.now c.args.self.now.next (omega (arith, c.if-section-sections.true, c.sections.ensures))
 
 pub returns-then-section-sections-clause-walked : goal.returns-then-section-sections-clause-walked
 returns-then-section-sections-clause-walked c = λ file belongs reads.
     left-end file c.args.target.now c.args.self.now c.requires.none (omega (arith, c.if-section-sections.true, c.sections.ensures))
 
-pub returns-then-not-applies-clause-fewer : goal.returns-then-not-applies-clause-fewer
-returns-then-not-applies-clause-fewer c = steps-passed c.args.target.now c.args.self.now _ refl (omega (arith, c.if-section-sections.false, c.sections.ensures)) (omega (arith, c.requires.none))
-
-pub returns-then-not-applies-clause-counts : goal.returns-then-not-applies-clause-counts
-returns-then-not-applies-clause-counts c =
+pub returns-then-not-applies-clause-went : goal.returns-then-not-applies-clause-went
+returns-then-not-applies-clause-went c =
     let below : c.args.self.now.next < sections_of c.args.target.now = omega (arith, c.if-section-sections.false, c.sections.ensures) in
-    omega (
-      arith,
-      entries-next c.args.target.now c.args.self.now.next below,
-      entries-other c.args.target.now c.args.self.now.next (sym (c.applies.ensures _ 0 c.section-header.ensures.fields) ∙ c.if-not-applies.true),
-    )
+    record {
+      goes = record {
+        not_failed = c.requires.goes.not_failed;
+        entry = c.requires.goes.entry;
+        within = c.requires.goes.within;
+        linked = c.requires.goes.linked;
+        next = omega (arith, below);
+        few = omega (arith, c.requires.goes.few);
+      };
+      counts = omega (
+        arith,
+        entries-next c.args.target.now c.args.self.now.next below,
+        entries-other c.args.target.now c.args.self.now.next (sym (c.applies.ensures _ 0 c.section-header.ensures.fields) ∙ c.if-not-applies.true),
+      );
+      gives = steps-passed c.args.target.now c.args.self.now _ refl below (omega (arith, c.requires.none));
+    }
 
 pub returns-then-not-applies-clause-left : goal.returns-then-not-applies-clause-left
 returns-then-not-applies-clause-left c = cost-passed c.args.target.now c.args.self.now _ refl refl (omega (arith, c.if-section-sections.false, c.sections.ensures))
@@ -59,20 +51,28 @@ returns-then-not-applies-clause-walked c = λ file belongs reads.
       record { agrees = reads.agrees; links = reads.links; placed = reads.placed },
     )
 
-pub returns-in-Ok-clause-fewer : goal.returns-in-Ok-clause-fewer
-returns-in-Ok-clause-fewer c = steps-passed c.args.target.now c.args.self.now _ refl (omega (arith, c.if-section-sections.false, c.sections.ensures))
-    (omega (arith, c.new-self.ensures.left, rows-few c.args.target.now.file.loaded.size c.in-Ok.found.0 c.in-Ok.ensures.entry c.in-Ok.ensures.within))
-
-pub returns-in-Ok-clause-counts : goal.returns-in-Ok-clause-counts
-returns-in-Ok-clause-counts c =
+pub returns-in-Ok-clause-went : goal.returns-in-Ok-clause-went
+returns-in-Ok-clause-went c =
     let below : c.args.self.now.next < sections_of c.args.target.now = omega (arith, c.if-section-sections.false, c.sections.ensures) in
-    omega (
-      arith,
-      entries-next c.args.target.now c.args.self.now.next below,
-      entries-table c.args.target.now c.args.self.now.next c.in-Ok.found.0 (sym (c.applies.ensures _ 0 c.section-header.ensures.fields) ∙ c.if-not-applies.false) c.in-Ok.ensures.table,
-      c.len.ensures,
-      c.from.ensures,
-    )
+    record {
+      goes = record {
+        not_failed = c.new-self.ensures.failed;
+        entry = ap (λ (t : Rows). t.entry) c.new-self.ensures.table ∙ c.in-Ok.ensures.entry;
+        within = rw c.new-self.ensures.table c.in-Ok.ensures.within;
+        linked = c.in-Ok.ensures.linked;
+        next = omega (arith, below);
+        few = omega arith;
+      };
+      counts = omega (
+        arith,
+        entries-next c.args.target.now c.args.self.now.next below,
+        entries-table c.args.target.now c.args.self.now.next c.in-Ok.found.0 (sym (c.applies.ensures _ 0 c.section-header.ensures.fields) ∙ c.if-not-applies.false) c.in-Ok.ensures.table,
+        c.len.ensures,
+        c.from.ensures,
+      );
+      gives = steps-passed c.args.target.now c.args.self.now _ refl below
+          (omega (arith, c.new-self.ensures.left, rows-few c.args.target.now.file.loaded.size c.in-Ok.found.0 c.in-Ok.ensures.entry c.in-Ok.ensures.within));
+    }
 
 pub returns-in-Ok-clause-left : goal.returns-in-Ok-clause-left
 returns-in-Ok-clause-left c =
