@@ -4,7 +4,7 @@ use Rattle.std.proofs.lemmas.Bool.{cases_lt}
 use Rattle.std.proofs.lemmas.Grind.{flat_map-append}
 use Rattle.std.proofs.lemmas.List.{take_all, drop_all, drop-drop}
 use Rattle.std.specs.List.{flat_map}
-use Rattle.elf_many.specs.Entries.{all_entries, whole_entries, last_entry, rest_from}
+use Rattle.elf_many.specs.Entries.{list_entries, whole_entries, last_entry, rest_from}
 use Rattle.elf_many.specs.Gathered.{AreNamesOf, GathersNames, PutsNames, saturated, unnamed_count}
 use Rattle.elf_many.specs.Kept.{IsNameable, Kept, KeepsFirst, is_dots}
 use Rattle.elf_many.specs.declared.batch.Put.{Put}
@@ -82,12 +82,12 @@ put_one {E} entry put old new result is dots unnamed placed named keeps =
     ] in
     by (is_dots entry) refl
 
-none_of_none : all_entries [] ≡ []
+none_of_none : list_entries [] ≡ []
 unfolding whole_entries rest_from
 none_of_none = refl
 
 -- bytes without NUL
-last_one : (a : List ℕ) (end : ℕ) → 0 < length a → end ≡ length a → ((k : ℕ) → k < end → get_or a k 0 ≢ 0) → all_entries a ≡ take end a ∷ all_entries (drop (suc end) a)
+last_one : (a : List ℕ) (end : ℕ) → 0 < length a → end ≡ length a → ((k : ℕ) → k < end → get_or a k 0 ≢ 0) → list_entries a ≡ take end a ∷ list_entries (drop (suc end) a)
 last_one [] end some is none = absurd (omega arith)
 last_one (x ∷ a) end some is none =
     let bytes = x ∷ a in
@@ -96,11 +96,11 @@ last_one (x ∷ a) end some is none =
     let entry : take end bytes ≡ bytes = take_all end bytes (omega (arith, is)) in
     let behind : drop (suc end) bytes ≡ [] = drop_all (suc end) bytes (omega (arith, is)) in
     ap (λ es. es ++ last_entry (rest_from [] bytes)) open_end ∙ ap last_entry left ∙ ap (λ e. e ∷ []) (sym entry)
-    ∙ ap (λ d. take end bytes ∷ d) (sym (ap all_entries behind ∙ none_of_none))
+    ∙ ap (λ d. take end bytes ∷ d) (sym (ap list_entries behind ∙ none_of_none))
 
 -- the first entry of some bytes, and those behind it
 pub first_entry : (a : List ℕ) (end : ℕ) → 0 < length a → end ≤ length a → (end < length a → get_or a end 0 ≡ 0) → ((k : ℕ) → k < end → get_or a k 0 ≢ 0)
-    → all_entries a ≡ take end a ∷ all_entries (drop (suc end) a)
+    → list_entries a ≡ take end a ∷ list_entries (drop (suc end) a)
 first_entry a end some within nul none = elim (cases_lt end (length a)) [
   | inl low ↦
       let found = first_ends [] a end low (nul low) none in
@@ -113,7 +113,7 @@ pub record PutSoFar (bytes : List ℕ) (at unnamed : ℕ) (old new : Kept) : Typ
   pub done : List (List ℕ)
   pub names : List (List ℕ)
   pub others : ℕ
-  pub entries : all_entries bytes ≡ done ++ all_entries (drop at bytes)
+  pub entries : list_entries bytes ≡ done ++ list_entries (drop at bytes)
   pub sorted : AreNamesOf done names others
   pub counts : unnamed ≡ saturated others
   pub keeps : (before : List (List ℕ)) → KeepsFirst before old → KeepsFirst (before ++ names) new
@@ -131,7 +131,7 @@ put_none bytes old = record {
 
 -- one entry more
 pub put_more : (bytes : List ℕ) (at end next unnamed count : ℕ) (names : List (List ℕ)) (n : ℕ) (old mid new : Kept) → PutSoFar bytes at unnamed old mid
-    → all_entries (drop at bytes) ≡ take end (drop at bytes) ∷ all_entries (drop (suc end) (drop at bytes)) → next ≡ suc (at + end)
+    → list_entries (drop at bytes) ≡ take end (drop at bytes) ∷ list_entries (drop (suc end) (drop at bytes)) → next ≡ suc (at + end)
     → AreNamesOf (take end (drop at bytes) ∷ []) names n → count ≡ min (unnamed + n) (2 ^ 64 - 1)
     → ((before : List (List ℕ)) → KeepsFirst before mid → KeepsFirst (before ++ names) new) → PutSoFar bytes next count old new
 put_more bytes at end next unnamed count names n old mid new so first is sorted counts keeps =
@@ -141,7 +141,7 @@ put_more bytes at end next unnamed count names n old mid new so first is sorted 
       done = so.done ++ entry ∷ [];
       names = so.names ++ names;
       others = so.others + n;
-      entries = so.entries ∙ ap (λ es. so.done ++ es) (first ∙ ap (λ d. entry ∷ all_entries d) behind) ∙ sym (append_assoc so.done (entry ∷ []) (all_entries (drop next bytes)));
+      entries = so.entries ∙ ap (λ es. so.done ++ es) (first ∙ ap (λ d. entry ∷ list_entries d) behind) ∙ sym (append_assoc so.done (entry ∷ []) (list_entries (drop next bytes)));
       sorted = sorted_join so.done (entry ∷ []) so.names names so.others n so.sorted sorted;
       counts = omega (arith, counts, so.counts);
       keeps = λ before h. subst (λ ns. KeepsFirst ns new) (append_assoc before so.names names) (keeps (before ++ so.names) (so.keeps before h));
@@ -169,8 +169,8 @@ put_step bytes at end next unnamed count put old mid new so some within nul firs
 pub put_whole : (bytes : List ℕ) (at unnamed : ℕ) (old new : Kept) → PutSoFar bytes at unnamed old new → length bytes ≤ at → PutsNames bytes unnamed old new
 put_whole bytes at unnamed old new so all =
     let behind : drop at bytes ≡ [] = drop_all at bytes all in
-    let entries : all_entries bytes ≡ so.done =
-    so.entries ∙ ap (λ d. so.done ++ all_entries d) behind ∙ ap (λ es. so.done ++ es) none_of_none ∙ append-nil so.done in
+    let entries : list_entries bytes ≡ so.done =
+    so.entries ∙ ap (λ d. so.done ++ list_entries d) behind ∙ ap (λ es. so.done ++ es) none_of_none ∙ append-nil so.done in
     record { names = so.names; others = so.others; sorted = subst (λ es. AreNamesOf es so.names so.others) (sym entries) so.sorted; counts = so.counts; keeps = so.keeps }
 
 -- what was gathered at some reads
@@ -178,7 +178,7 @@ pub record GatheredSoFar (unnamed : ℕ) (old new : Kept) : Type 0 where
   pub reads : List (List ℕ)
   pub names : List (List ℕ)
   pub others : ℕ
-  pub sorted : AreNamesOf (flat_map all_entries reads) names others
+  pub sorted : AreNamesOf (flat_map list_entries reads) names others
   pub counts : unnamed ≡ saturated others
   pub keeps : KeepsFirst names new
   pub after : new.after ≡ old.after
@@ -193,9 +193,9 @@ gathered_more bytes unnamed more count old mid new so puts after counts = record
   names = so.names ++ puts.names;
   others = so.others + puts.others;
   sorted =
-      let one : AreNamesOf (all_entries bytes ++ []) puts.names puts.others = subst (λ es. AreNamesOf es puts.names puts.others) (sym (append-nil (all_entries bytes))) puts.sorted in
-      subst (λ es. AreNamesOf es (so.names ++ puts.names) (so.others + puts.others)) (sym (flat_map-append all_entries so.reads (bytes ∷ [])))
-      (sorted_join (flat_map all_entries so.reads) (all_entries bytes ++ []) so.names puts.names so.others puts.others so.sorted one);
+      let one : AreNamesOf (list_entries bytes ++ []) puts.names puts.others = subst (λ es. AreNamesOf es puts.names puts.others) (sym (append-nil (list_entries bytes))) puts.sorted in
+      subst (λ es. AreNamesOf es (so.names ++ puts.names) (so.others + puts.others)) (sym (flat_map-append list_entries so.reads (bytes ∷ [])))
+      (sorted_join (flat_map list_entries so.reads) (list_entries bytes ++ []) so.names puts.names so.others puts.others so.sorted one);
   counts = omega (arith, counts, so.counts, puts.counts);
   keeps = puts.keeps so.names so.keeps;
   after = after ∙ so.after;

@@ -19,14 +19,14 @@ last_entry [] = []
 last_entry (b ∷ rest) = (b ∷ rest) ∷ []
 
 -- ALL ENTRIES of some bytes
-abbrev pub all_entries : List ℕ → List (List ℕ)
-all_entries bytes = whole_entries [] bytes ++ last_entry (rest_from [] bytes)
+abbrev pub list_entries : List ℕ → List (List ℕ)
+list_entries bytes = whole_entries [] bytes ++ last_entry (rest_from [] bytes)
 
 -- an entry that ends in NUL is an entry, whatever entries are behind it
 abbrev pub EntryIsFound : Type 0
 EntryIsFound =
-    (entry rest : List ℕ) → All (λ b. b ≢ 0) entry → all_entries (entry ++ 0 ∷ rest) ≡ entry ∷ all_entries rest
+    (entry rest : List ℕ) → All (λ b. b ≢ 0) entry → list_entries (entry ++ 0 ∷ rest) ≡ entry ∷ list_entries rest
 
 -- bytes without NUL are one entry, if there are any
 abbrev pub LastIsFound : Type 0
-LastIsFound = (entry : List ℕ) → All (λ b. b ≢ 0) entry → all_entries entry ≡ last_entry entry
+LastIsFound = (entry : List ℕ) → All (λ b. b ≢ 0) entry → list_entries entry ≡ last_entry entry

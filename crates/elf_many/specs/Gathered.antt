@@ -1,7 +1,7 @@
 -- The names of a folder, as they come.
 use Rattle.std.specs.Prelude.{ℕ, suc, ◌≡◌, ◌-◌, ◌^◌, ◌⊎◌, true, false, List, [], ◌∷◌, ◌++◌, min}
 use Rattle.std.specs.List.{flat_map}
-use Rattle.elf_many.specs.Entries.{all_entries}
+use Rattle.elf_many.specs.Entries.{list_entries}
 use Rattle.elf_many.specs.declared.batch.Put.{Put}
 use Rattle.elf_many.specs.declared.batch.Put.TheVariants.{Placed, Unnamed}
 use Rattle.elf_many.specs.Kept.{IsNameable, Kept, KeepsFirst, is_dots}
@@ -28,7 +28,7 @@ unnamed_count Unnamed = 1
 pub record PutsNames (bytes : List ℕ) (unnamed : ℕ) (old new : Kept) : Type 0 where
   pub names : List (List ℕ)
   pub others : ℕ
-  pub sorted : AreNamesOf (all_entries bytes) names others
+  pub sorted : AreNamesOf (list_entries bytes) names others
   pub counts : unnamed ≡ saturated others
   pub keeps : (before : List (List ℕ)) → KeepsFirst before old → KeepsFirst (before ++ names) new
 
@@ -37,7 +37,7 @@ pub record GathersNames (unnamed : ℕ) (old new : Kept) : Type 0 where
   pub reads : List (List ℕ)
   pub names : List (List ℕ)
   pub others : ℕ
-  pub sorted : AreNamesOf (flat_map all_entries reads) names others
+  pub sorted : AreNamesOf (flat_map list_entries reads) names others
   pub counts : unnamed ≡ saturated others
   pub keeps : KeepsFirst names new
   pub order : new.held ≡ new.names

@@ -103,10 +103,7 @@ impl HeldFile<'_> {
     ///
     /// # Errors
     /// The first check that fails, of the table and then of the symbols.
-    pub(crate) fn relocations(
-        &self,
-        section: u16,
-    ) -> Result<(Table, Option<(Table, Names)>), Fault>
+    pub(crate) fn relocations(&self, section: u16) -> Result<(Table, Option<(Table, Names)>), Fault>
         requires { section < self.now.header.e_shnum }
         ensures value { let file = self.now.bytes.now in
             Relocates file (section_at file section) result }

@@ -8,7 +8,7 @@ use Rattle.elf_headers.specs.declared.fault.Fault.TheVariants.{Refused, Source}
 use Rattle.elf_table.specs.Tables.{Rows}
 use Rattle.elf_model.specs.LoaderScope.{dynamic_segment_index}
 use Rattle.elf_model.specs.Records.{p_offset, p_filesz, segment_at}
-use Rattle.elf_traits.specs.Entries.{AreListedValues, TellsEntries}
+use Rattle.elf_traits.specs.Entries.{AreListedValues, TellsTraitEntries}
 use Rattle.elf_traits.specs.declared.entries.TraitEntries.{TraitEntries}
 use Rattle.elf_model.specs.GnuHash.{gnu_nbucket}
 use Rattle.elf_model.specs.LoaderScope.{GnuTable, SysvTable, HashKind, Scope as IsScopeOf, least_size}
@@ -41,7 +41,7 @@ listed_did table (Ok found) reads says fault are = record { costs = record { rea
 listed_did table (Err stop) reads says fault are = record { costs = record { reads = reads; says = says }; known = λ file held. fault }
 
 pub listed_finds : (file : List ℕ) (i : ℕ) → dynamic_segment_index file ≡ Some i → (table : Rows) → table.at ≡ p_offset file (segment_at file i)
-    → table.count ≡ p_filesz file (segment_at file i) / 16 → (result : Result TraitEntries Fault) → TellsListed file table result → TellsEntries file result
+    → table.count ≡ p_filesz file (segment_at file i) / 16 → (result : Result TraitEntries Fault) → TellsListed file table result → TellsTraitEntries file result
 listed_finds file i e table place count (Ok found) are = values_are file i e table place count found are
 listed_finds file i e table place count (Err fault) read = read_entries file fault read
 
@@ -61,7 +61,7 @@ module _ (file : List ℕ) where
 
   module _ (scope : Option IsScopeOf) (known : known_symbols file ≡ Ok scope) where
     -- then the dynamic entries are not refused
-    pub entries_stop : (fault : Fault) → TellsEntries file (Err fault) → TellsValue {X = Traits} (loaded_traits file) (Err fault)
+    pub entries_stop : (fault : Fault) → TellsTraitEntries file (Err fault) → TellsValue {X = Traits} (loaded_traits file) (Err fault)
     entries_stop (Refused refusal) tells = λ other. let e = tells other in absurd (entries_pass file scope known e.index e.first refusal e.fails)
     entries_stop (Source fault at) tells = tt
 

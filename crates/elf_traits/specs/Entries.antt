@@ -58,12 +58,12 @@ pub record EntriesRefused (file : List ℕ) (refusal : Refusal) : Type 0 where
   pub fails : first_refusal (segment_dynamic_checks file (segment_at file index)) ≡ Some refusal
 
 -- the values are those of a file, or its entries are refused, unless that is for want of budget
-abbrev pub TellsEntries : List ℕ → Result TraitEntries Fault → Type 0
-TellsEntries file (Ok found) = AreTraitEntries file found
-TellsEntries file (Err (Refused refusal)) = (IsBudget refusal → ⊥) → EntriesRefused file refusal
-TellsEntries file (Err (Source fault at)) = Unit {0}
+abbrev pub TellsTraitEntries : List ℕ → Result TraitEntries Fault → Type 0
+TellsTraitEntries file (Ok found) = AreTraitEntries file found
+TellsTraitEntries file (Err (Refused refusal)) = (IsBudget refusal → ⊥) → EntriesRefused file refusal
+TellsTraitEntries file (Err (Source fault at)) = Unit {0}
 
 -- WHAT THE DYNAMIC ENTRIES of a known file tell
-pub record FindsEntries (file : List ℕ) (old new : Counting) (result : Result TraitEntries Fault) : Type 0 where
+pub record FindsTraitEntries (file : List ℕ) (old new : Counting) (result : Result TraitEntries Fault) : Type 0 where
   pub costs : Charges old new (why_stopped result) (trait_entries_asked file)
-  pub finds : TellsEntries file result
+  pub finds : TellsTraitEntries file result

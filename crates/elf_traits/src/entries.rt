@@ -6,7 +6,7 @@ ghost use Rattle.elf_headers.specs.Faults.{IsOfRead, Says};
 ghost use Rattle.elf_headers.specs.Ledger.{Did, why_stopped};
 ghost use Rattle.elf_headers.specs.Load.{Views};
 ghost use Rattle.elf_table.specs.Tables.{RowsWithin, size_of};
-ghost use Rattle.elf_traits.specs.Entries.{AreListedValues, FindsEntries, TakesValues, no_values};
+ghost use Rattle.elf_traits.specs.Entries.{AreListedValues, FindsTraitEntries, TakesValues, no_values};
 
 use elf_headers::Fault;
 use elf_note::{dynamic_rows, entry_in, first_of};
@@ -53,7 +53,7 @@ pub(crate) fn trait_entries<S: Source>(
     requires { view.now.loaded.size ≡ src.old.seen.size }
     ensures { Did src.old src.new (why_stopped result) src.old.seen.size
         (λ file. Views file view.now.loaded view.now.store.now →
-        FindsEntries file src.old src.new result) }
+        FindsTraitEntries file src.old src.new result) }
 {
     let Some(segment) = view.first_segment(PT_DYNAMIC) else {
         return Ok(nothing());

@@ -21,8 +21,8 @@ lack_in file (Place section addresses explain) refusal = explained file section 
 lack_in file _ refusal = None
 
 -- what is left of a budget for a whole account
-abbrev pub budget_left : Option ℕ → ℕ → Option ℕ
-budget_left budget asked = option_map (λ bytes. bytes - asked) budget
+abbrev pub budget_rest : Option ℕ → ℕ → Option ℕ
+budget_rest budget asked = option_map (λ bytes. bytes - asked) budget
 
 -- WHAT IS ASKED FOR beside what was asked before: no more than n bytes, and within what is left of the budget for all of it
 pub record AsksRest (budget : Option ℕ) (old new : Counting) (n : ℕ) : Type 0 where

@@ -6,7 +6,7 @@ ghost use Rattle.elf_source.specs.Source.{Reads, SetsLimit};
 ghost use Rattle.elf_listing.specs.Reports.{Leaves};
 ghost use Rattle.elf_listing.specs.Shows.{StopSays};
 ghost use Rattle.elf_explain.specs.Explained.{explain_bytes, may_lack};
-ghost use Rattle.elfsee.specs.Explaining.{AsksRest, WroteUpTo, asks_why, lack_in, budget_left};
+ghost use Rattle.elfsee.specs.Explaining.{AsksRest, WroteUpTo, asks_why, lack_in, budget_rest};
 
 use elf_explain::explain;
 use elf_headers::{HeaderStore, Stop};
@@ -88,7 +88,7 @@ fn tell_rest<S: Source, W: Sink>(
 
 /// Sets what is left of a budget for the whole account as the limit.
 fn limit_rest<S: Source>(src: &mut Counted<S>, budget: Option<u64>)
-    ensures { SetsLimit src.old src.new (budget_left budget src.old.asked) }
+    ensures { SetsLimit src.old src.new (budget_rest budget src.old.asked) }
 {
     match budget {
         None => src.limit(None),

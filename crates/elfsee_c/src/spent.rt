@@ -52,10 +52,14 @@ pub(crate) fn count_entries(
 {
     let looked = match opened {
         Some(Ok(Some(rows))) => rows.count,
-        Some(Err(Refusal {
-            cause: Cause::Budget,
-            ..
-        })) => most,
+        Some(
+            Err(
+                Refusal {
+                    cause: Cause::Budget,
+                    ..
+                },
+            ),
+        ) => most,
         _ => 0,
     };
     count_bytes(16 * u128::from(looked), asked);
