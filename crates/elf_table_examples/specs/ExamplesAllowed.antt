@@ -1,5 +1,5 @@
 -- What a budget allows of an answer, of a file's state, and of what a search for a NUL keeps.
-use Rattle.std.specs.Prelude.{◌≡◌, ◌<◌, ℕ, true, false, List, [], ◌∷◌, None, Some}
+use Rattle.std.specs.Prelude.{◌≡◌, ◌<◌, ℕ, true, false, List, [], ◌∷◌, Option, None, Some}
 use Rattle.elf_model.specs.declared.formats.Format.TheVariants.{Columns}
 use Rattle.elf_model.specs.Answer.{Answer}
 use Rattle.elf_model.specs.Bytes.{IsBytes}
@@ -36,6 +36,12 @@ abbrev pub StatesOfReports : Type 0
 StatesOfReports =
     (file : List ℕ) (headers : ℕ) (style : Style) (parts : ℕ) (found : FileState)
     → IsStateOf None file headers style parts found → found ≡ state_of None file (fault_of (listing file headers style parts))
+
+-- within a budget it is that of the listing's fault, by as many of the file's bytes as the budget lets be looked at
+abbrev pub StatesWithinBudgets : Type 0
+StatesWithinBudgets =
+    (budget : Option ℕ) (file : List ℕ) (headers : ℕ) (style : Style) (parts : ℕ) (found : FileState)
+    → (its : IsStateOf budget file headers style parts found) → found ≡ state_of budget file its.fault
 
 -- of bytes with a NUL those before it are kept, as far as the cap; of others all, as far as the cap
 abbrev pub BytesBeforeANul : Type 0

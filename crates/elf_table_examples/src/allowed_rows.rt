@@ -1,5 +1,6 @@
 //! What a budget allows of an answer, of a file's state, and of what a search for a NUL keeps.
-ghost use Rattle.elf_table_examples.specs.ExamplesAllowed.{TheCostSuffices, LessMayEndAnAnswer, StatesOfReports, BytesBeforeANul, BytesAreSmall};
+ghost use Rattle.elf_table_examples.specs.ExamplesAllowed.{TheCostSuffices, LessMayEndAnAnswer, StatesOfReports, StatesWithinBudgets};
+ghost use Rattle.elf_table_examples.specs.ExamplesAllowed.{BytesBeforeANul, BytesAreSmall};
 
 /// No budget, and one of the cost.
 pub fn the_cost_suffices()
@@ -14,6 +15,11 @@ pub fn less_may_end_an_answer()
 /// A state without a budget.
 pub fn states_of_reports()
     ensures { StatesOfReports }
+{}
+
+/// A state within a budget.
+pub fn states_within_budgets()
+    ensures { StatesWithinBudgets }
 {}
 
 /// A NUL among some bytes, and none.
