@@ -38,8 +38,8 @@ StatesOfReports =
     → IsStateOf None file headers style parts found → found ≡ state_of None file (fault_of (listing file headers style parts))
 
 -- within a budget it is that of the listing's fault, by as many of the file's bytes as the budget lets be looked at
-abbrev pub StatesWithinBudgets : Type 0
-StatesWithinBudgets =
+abbrev pub StatesWithinABudget : Type 0
+StatesWithinABudget =
     (budget : Option ℕ) (file : List ℕ) (headers : ℕ) (style : Style) (parts : ℕ) (found : FileState)
     → (its : IsStateOf budget file headers style parts found) → found ≡ state_of budget file its.fault
 

@@ -1,5 +1,5 @@
 //! What a budget allows of an answer, of a file's state, and of what a search for a NUL keeps.
-ghost use Rattle.elf_table_examples.specs.ExamplesAllowed.{TheCostSuffices, LessMayEndAnAnswer, StatesOfReports, StatesWithinBudgets};
+ghost use Rattle.elf_table_examples.specs.ExamplesAllowed.{TheCostSuffices, LessMayEndAnAnswer, StatesOfReports, StatesWithinABudget};
 ghost use Rattle.elf_table_examples.specs.ExamplesAllowed.{BytesBeforeANul, BytesAreSmall};
 
 /// No budget, and one of the cost.
@@ -18,8 +18,8 @@ pub fn states_of_reports()
 {}
 
 /// A state within a budget.
-pub fn states_within_budgets()
-    ensures { StatesWithinBudgets }
+pub fn states_within_a_budget()
+    ensures { StatesWithinABudget }
 {}
 
 /// A NUL among some bytes, and none.
