@@ -48,7 +48,8 @@ pub fn show_named<W: Sink>(
 #[tactic(auto, unfolding(crate::specs::Pieces::name_start))]
 pub(crate) fn begin_name<W: Sink>(front: &mut LineFront, out: &mut Out<W>) -> Result<(), OutFault>
     requires { length front.old.key.now ≤ 16 }
-    ensures puts { let text = front.old.line.items ++ name_start front.old.format front.old.key.now in
+    ensures puts { let text = front.old.line.items
+        ++ name_start front.old.format front.old.key.now in
         PutsBefore out.old out.new result text front.new.line.items }
 {
     match front.format {

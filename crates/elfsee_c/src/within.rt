@@ -39,9 +39,11 @@ pub extern "C" fn elfsee_dynamic_within(
     rows: &mut RowsLeft,
     end: &mut End,
 ) -> u32
-    ensures tells { TellsEntries (OpensRows DynamicRows file.now limits.now (length room.now) section)
+    ensures tells { TellsEntries
+        (OpensRows DynamicRows file.now limits.now (length room.now) section)
         limits.now asked.old asked.new result rows.old rows.new end.new }
-    ensures budget { IfSome (budget_of limits.now) (λ bytes. asked.old ≤ bytes → asked.new ≤ bytes) }
+    ensures budget { IfSome (budget_of limits.now)
+        (λ bytes. asked.old ≤ bytes → asked.new ≤ bytes) }
 {
     let most = entries_left(limits, *asked);
     let opened = open_within(file, limits, section, room.len(), most);
@@ -63,7 +65,8 @@ pub extern "C" fn elfsee_segment_dynamic_within(
 ) -> u32
     ensures tells { TellsEntries (OpensAlways (ReadsSegmentDynamic file.now segment))
         limits.now asked.old asked.new result rows.old rows.new end.new }
-    ensures budget { IfSome (budget_of limits.now) (λ bytes. asked.old ≤ bytes → asked.new ≤ bytes) }
+    ensures budget { IfSome (budget_of limits.now)
+        (λ bytes. asked.old ≤ bytes → asked.new ≤ bytes) }
 {
     let most = entries_left(limits, *asked);
     let opened = open_segment_within(file, segment, most);
@@ -85,7 +88,8 @@ pub extern "C" fn elfsee_next_symbols_within(
 ) -> usize
     ensures steps { StepsBudgeted (length file.now) 24 limits.now asked.old asked.new
         rows.old rows.new (length out.old) result end.new }
-    ensures budget { IfSome (budget_of limits.now) (λ bytes. asked.old ≤ bytes → asked.new ≤ bytes) }
+    ensures budget { IfSome (budget_of limits.now)
+        (λ bytes. asked.old ≤ bytes → asked.new ≤ bytes) }
     ensures read { (k : ℕ) (none : OneSymbol) → k < result →
         IsSymbol file.now (next_at rows.old 24 k) (slice_index_or out.new k none) }
 {
@@ -108,7 +112,8 @@ pub extern "C" fn elfsee_next_relocations_within(
 ) -> usize
     ensures steps { StepsBudgeted (length file.now) 24 limits.now asked.old asked.new
         rows.old rows.new (length out.old) result end.new }
-    ensures budget { IfSome (budget_of limits.now) (λ bytes. asked.old ≤ bytes → asked.new ≤ bytes) }
+    ensures budget { IfSome (budget_of limits.now)
+        (λ bytes. asked.old ≤ bytes → asked.new ≤ bytes) }
     ensures read { (k : ℕ) (none : OneRelocation) → k < result →
         IsRelocation file.now (next_at rows.old 24 k) (slice_index_or out.new k none) }
 {
@@ -131,7 +136,8 @@ pub extern "C" fn elfsee_next_dynamic_within(
 ) -> usize
     ensures steps { StepsBudgeted (length file.now) 16 limits.now asked.old asked.new
         rows.old rows.new (length out.old) result end.new }
-    ensures budget { IfSome (budget_of limits.now) (λ bytes. asked.old ≤ bytes → asked.new ≤ bytes) }
+    ensures budget { IfSome (budget_of limits.now)
+        (λ bytes. asked.old ≤ bytes → asked.new ≤ bytes) }
     ensures read { (k : ℕ) (none : OneDynamic) → k < result →
         IsDynamic file.now (next_at rows.old 16 k) (slice_index_or out.new k none) }
 {
