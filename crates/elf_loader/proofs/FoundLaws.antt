@@ -22,7 +22,6 @@ use Rattle.elf_scope.specs.Symbols.{AreWords, IsWords}
 use Rattle.elf_scope.specs.declared.symbols.VersionWords.{VersionWords as Words}
 use Rattle.elf_table.specs.Cursors.{row_at}
 use Rattle.elf_loader.specs.Finding.{FindsVersion, IsVersionFound, LookupSpends}
-use Rattle.elf_loader.specs.Lookups.{FindsWith, FoundWith}
 use Rattle.elf_loader.specs.Telling.{TellsVersionName, told_bytes}
 use Rattle.elf_loader.specs.declared.found.FoundVersion.{FoundVersion}
 use Rattle.elf_loader.specs.declared.telling.ToldName.{ToldName}
@@ -72,7 +71,7 @@ told-spends file scope words y walked naming = go naming.found refl naming.refus
 pub finds-wanted :
     (file : List ℕ) (scope : Scope) (asked : Asked) (words : VersionWords) (y word : ℕ) (version told : List ℕ) (c : Counting) (code : Words)
     → asked_name asked ≡ Some version → IsWords words code → word ≡ versym file (version_word_at words y) → Charges c c None 0
-    → FindsVersion file scope asked words y c c told (Ok (record { index = code.index; word = word; name = Wanted; name_at = 0 }))
+    → FindsVersion Some file scope asked (Some words) y c c told (Ok (record { index = code.index; word = word; name = Wanted; name_at = 0 }))
 finds-wanted file scope asked words y word version told c code n is here none = record {
   records = 0;
   is_named = false;
@@ -91,7 +90,7 @@ finds-wanted file scope asked words y word version told c code n is here none = 
 pub finds-unnamed :
     (file : List ℕ) (scope : Scope) (asked : Asked) (words : VersionWords) (y word : ℕ) (told : List ℕ) (c : Counting) (code : Words)
     → asked_name asked ≡ None → IsWords words code → word ≡ versym file (version_word_at words y) → number_in word < 2 → Charges c c None 0
-    → FindsVersion file scope asked words y c c told (Ok (record { index = code.index; word = word; name = Unnamed; name_at = 0 }))
+    → FindsVersion Some file scope asked (Some words) y c c told (Ok (record { index = code.index; word = word; name = Unnamed; name_at = 0 }))
 finds-unnamed file scope asked words y word told c code n is here low none =
     let small : nat_lt (number_in (versym file (version_word_at words y))) 2 ≡ true = subst (λ (w : ℕ). nat_lt (number_in w) 2 ≡ true) here (below (number_in word) low) in
     record {
@@ -119,7 +118,7 @@ pub finds-told :
     (file : List ℕ) (scope : Scope) (asked : Asked) (words : VersionWords) (y word : ℕ) (told : List ℕ) (a b : Counting) (code : Words) (name : ToldName)
     → asked_name asked ≡ None → IsWords words code → word ≡ versym file (version_word_at words y) → 2 ≤ number_in word
     → TellsVersionName file scope words y (naming_of file (number_in word) (readings file scope.symbols.records)) a b told (Ok name)
-    → FindsVersion file scope asked words y a b told (Ok (record { index = code.index; word = word; name = Told name.end; name_at = name.at }))
+    → FindsVersion Some file scope asked (Some words) y a b told (Ok (record { index = code.index; word = word; name = Told name.end; name_at = name.at }))
 finds-told file scope asked words y word told a b code name n is here high tells =
     let naming = naming_of file (number_in word) (readings file scope.symbols.records) in
     let large : nat_lt (number_in (versym file (version_word_at words y))) 2 ≡ false = subst (λ (w : ℕ). nat_lt (number_in w) 2 ≡ false) here (above (number_in word) high) in
@@ -145,7 +144,7 @@ pub finds-fault :
     (file : List ℕ) (scope : Scope) (asked : Asked) (words : VersionWords) (y word : ℕ) (told : List ℕ) (a b : Counting) (fault : Fault)
     → asked_name asked ≡ None → word ≡ versym file (version_word_at words y) → 2 ≤ number_in word
     → TellsVersionName file scope words y (naming_of file (number_in word) (readings file scope.symbols.records)) a b told (Err fault)
-    → FindsVersion file scope asked words y a b told (Err fault)
+    → FindsVersion Some file scope asked (Some words) y a b told (Err fault)
 finds-fault file scope asked words y word told a b fault n here high tells =
     let naming = naming_of file (number_in word) (readings file scope.symbols.records) in
     let large : nat_lt (number_in (versym file (version_word_at words y))) 2 ≡ false = subst (λ (w : ℕ). nat_lt (number_in w) 2 ≡ false) here (above (number_in word) high) in
@@ -172,7 +171,7 @@ finds-fault file scope asked words y word told a b fault n here high tells =
     paid (Source fault at) t = t
 
     refused : (fault : Fault) → TellsVersionName file scope words y naming a b told (Err fault) → (walked : Walked) (lookup : LoaderLookup) → lookup ≡ told_by file scope words y walked naming
-        → IsVersionFound scope asked y told walked lookup (Err fault)
+        → IsVersionFound Some scope asked y told walked lookup (Err fault)
     refused (Refused refusal) t walked lookup e = λ other. let told_so = e ∙ t.1 other walked in rw told_so refl
     refused (Source fault at) t walked lookup e = tt
 
@@ -185,11 +184,11 @@ pub word-is : (file : List ℕ) (told : VersionWords) (code : Words) (y word : �
 word-is file told code y word is entry stands = stands ∙ ap (λ (at : ℕ). field file at 2) (word-at told code y is entry)
 
 -- the same where there may be no versions
-pub finds-none : (file : List ℕ) (scope : Scope) (asked : Asked) (y : ℕ) (told : List ℕ) (c : Counting) → AreWords scope.symbols.words None → FindsWith file scope asked y told c c (Ok None)
+pub finds-none : (file : List ℕ) (scope : Scope) (asked : Asked) (y : ℕ) (told : List ℕ) (c : Counting) → AreWords scope.symbols.words None → FindsVersion (λ (version : Option FoundVersion). version) file scope asked scope.symbols.words y c c told (Ok None)
 unfolding found_in
 finds-none file scope asked y told c are = go scope.symbols.words refl are
   where
-    go : (words : Option VersionWords) → scope.symbols.words ≡ words → AreWords words None → FindsWith file scope asked y told c c (Ok None)
+    go : (words : Option VersionWords) → scope.symbols.words ≡ words → AreWords words None → FindsVersion (λ (version : Option FoundVersion). version) file scope asked scope.symbols.words y c c told (Ok None)
     go None e none = record {
       records = 0;
       is_named = false;
@@ -205,11 +204,11 @@ with-words : (file : List ℕ) (scope : Scope) (asked : Asked) (y : ℕ) {words 
 with-words file scope asked y e before walked = ap (found_in file scope asked before y walked) e
 
 module _ {a b : Counting} (file : List ℕ) (scope : Scope) (asked : Asked) (y : ℕ) (told : List ℕ) (code : Words) (are : AreWords scope.symbols.words (Some code)) where
-  pub finds-some : (version : FoundVersion) → ((words : VersionWords) → IsWords words code → FindsVersion file scope asked words y a b told (Ok version))
-      → FindsWith file scope asked y told a b (Ok (Some version))
+  pub finds-some : (version : FoundVersion) → ((words : VersionWords) → IsWords words code → FindsVersion Some file scope asked (Some words) y a b told (Ok version))
+      → FindsVersion (λ (version : Option FoundVersion). version) file scope asked scope.symbols.words y a b told (Ok (Some version))
   finds-some version finds = go scope.symbols.words refl are
     where
-      go : (words : Option VersionWords) → scope.symbols.words ≡ words → AreWords words (Some code) → FindsWith file scope asked y told a b (Ok (Some version))
+      go : (words : Option VersionWords) → scope.symbols.words ≡ words → AreWords words (Some code) → FindsVersion (λ (version : Option FoundVersion). version) file scope asked scope.symbols.words y a b told (Ok (Some version))
       go None e is = absurd is
       go (Some words) e is =
           let f = finds words is in
@@ -222,15 +221,15 @@ module _ {a b : Counting} (file : List ℕ) (scope : Scope) (asked : Asked) (y :
             stands = f.stands;
           }
 
-  pub finds-failed : (fault : Fault) → ((words : VersionWords) → IsWords words code → FindsVersion file scope asked words y a b told (Err fault))
-      → FindsWith file scope asked y told a b (Err fault)
+  pub finds-failed : (fault : Fault) → ((words : VersionWords) → IsWords words code → FindsVersion Some file scope asked (Some words) y a b told (Err fault))
+      → FindsVersion (λ (version : Option FoundVersion). version) file scope asked scope.symbols.words y a b told (Err fault)
   finds-failed fault finds = go scope.symbols.words refl are
     where
-      fails : (fault : Fault) (walked : Walked) (looked there : LoaderLookup) → looked ≡ there → IsVersionFound scope asked y told walked there (Err fault) → FoundWith scope asked y told walked looked (Err fault)
+      fails : (fault : Fault) (walked : Walked) (looked there : LoaderLookup) → looked ≡ there → IsVersionFound Some scope asked y told walked there (Err fault) → IsVersionFound (λ (version : Option FoundVersion). version) scope asked y told walked looked (Err fault)
       fails (Refused refusal) walked looked there e found = λ other. ap (λ (l : LoaderLookup). l.lookup.answer) e ∙ found other
       fails (Source fault at) walked looked there e found = tt
 
-      go : (words : Option VersionWords) → scope.symbols.words ≡ words → AreWords words (Some code) → FindsWith file scope asked y told a b (Err fault)
+      go : (words : Option VersionWords) → scope.symbols.words ≡ words → AreWords words (Some code) → FindsVersion (λ (version : Option FoundVersion). version) file scope asked scope.symbols.words y a b told (Err fault)
       go None e is = absurd is
       go (Some words) e is =
           let f = finds words is in

@@ -30,7 +30,8 @@ use Rattle.elf_scope.specs.Scopes.{IsScopeFound, IsScope}
 use Rattle.elf_scope.specs.declared.scope.Scope.{Scope}
 use Rattle.elf_loader.specs.Answering.{StandsAs}
 use Rattle.elf_loader.specs.Comparing.{Collects}
-use Rattle.elf_loader.specs.Lookups.{FindsWith, FoundWith, LooksBehind, LooksUp, TellsLookup, looked_with, trial_bytes}
+use Rattle.elf_loader.specs.Finding.{FindsVersion, IsVersionFound}
+use Rattle.elf_loader.specs.Lookups.{LooksBehind, LooksUp, TellsLookup, looked_with, trial_bytes}
 use Rattle.elf_loader.specs.NumberSets.{has_number}
 use Rattle.elf_loader.specs.Telling.{told_bytes}
 use Rattle.elf_loader.specs.declared.found.FoundVersion.{FoundVersion}
@@ -93,7 +94,7 @@ module _ (file : List ℕ) (told : IsScopeOf) (wanted : Wanted) (before : ℕ) (
     is_found = by_found file told wanted.asked before walk y e
 
     pub looks_found : {a b : Counting} (name : List ℕ) (scope : Scope) (answer : TrialAnswer) (version : Option FoundVersion) (tried : ℕ)
-        → IsScope file told scope → StandsAs file scope.symbols y answer → tried ≡ walk.tried → FindsWith file told wanted.asked y name a b (Ok version)
+        → IsScope file told scope → StandsAs file scope.symbols y answer → tried ≡ walk.tried → FindsVersion (λ (version : Option FoundVersion). version) file told wanted.asked told.symbols.words y a b name (Ok version)
         → LooksBehind file wanted 0 asked_before looked name a b
         (Ok (IsFoundSymbol (record { section = scope.symbols.index; machine = scope.machine; index = y; symbol = answer.symbol; version = version; tried = tried })))
     looks_found name scope answer version tried is stands same finds =
@@ -118,7 +119,7 @@ module _ (file : List ℕ) (told : IsScopeOf) (wanted : Wanted) (before : ℕ) (
           );
         }
 
-    pub looks_untold : {a b : Counting} (name : List ℕ) (fault : Fault) → FindsWith file told wanted.asked y name a b (Err fault)
+    pub looks_untold : {a b : Counting} (name : List ℕ) (fault : Fault) → FindsVersion (λ (version : Option FoundVersion). version) file told wanted.asked told.symbols.words y a b name (Err fault)
         → LooksBehind file wanted 0 asked_before looked name a b (Err fault)
     looks_untold name fault finds =
         let spends = rw (← is_found) at (finds.spends walk before first) in
@@ -130,7 +131,7 @@ module _ (file : List ℕ) (told : IsScopeOf) (wanted : Wanted) (before : ℕ) (
           tells = tells fault (finds.finds walk before first);
         }
       where
-        tells : (fault : Fault) → FoundWith told wanted.asked y name walk (found_in file told wanted.asked before y walk told.symbols.words) (Err fault)
+        tells : (fault : Fault) → IsVersionFound (λ (version : Option FoundVersion). version) told wanted.asked y name walk (found_in file told wanted.asked before y walk told.symbols.words) (Err fault)
             → TellsLookup file wanted.asked name looked (Err fault)
         tells (Refused refusal) found = λ other. ap (λ (l : LoaderLookup). l.lookup.answer) is_found ∙ found other
         tells (Source fault at) found = tt

@@ -14,7 +14,7 @@ use Rattle.elf_scope.specs.Symbols.{IsRecordTable}
 use Rattle.elf_scope.specs.declared.symbols.RecordTable.{RecordTable as Given}
 use Rattle.elf_versions.specs.Reading.{GivesVersion, LeadsOn, SpendsRecord, StartsVersions, TellsVersion, Walking, versions_left}
 use Rattle.elf_versions.specs.declared.record.VersionRecord.{VersionRecord}
-use Rattle.elf_loader.specs.Naming.{NamedAs, FindsRecordInTable, NamesBefore, FindsRecordInTables}
+use Rattle.elf_loader.specs.Naming.{NamedAs, NamesBefore}
 use Rattle.elf_loader.specs.declared.naming.NamedBy.{NamedBy}
 use Rattle.elf_loader.proofs.TablesLaws.{more-pays}
 use Rattle.elf_loader.proofs.LeftReadings.{ended-left, left_of, read-left, refused-left, start-left, step-left}
@@ -129,58 +129,51 @@ ended-as file strings number others old new records all ends before =
 
 -- a fault once some records are read, and m more
 pub fault-names :
-    {before after : Counting} {n : ℕ} (file strings : List ℕ) (records m : ℕ) (all left others : Naming) (fault : Fault)
+    {before after : Counting} {n : ℕ} (file : List ℕ) (records m : ℕ) (all left others : Naming) (fault : Fault)
     → NamedAs records all left → Charges before after (Some fault) n → n ≤ (records + m) * 28 → m ≤ left.read → FaultNames left fault
-    → FindsRecordInTable file strings before after all others (Err fault)
-fault-names file strings records m all left others (Refused refusal) named charges few read is = (
+    → NamesBefore file before after all others (Err fault)
+fault-names file records m all left others (Refused refusal) named charges few read is = (
   Charges-more (all.read * 28) (omega (arith, few, named.read, read)) charges,
   λ other. let r = is other in (named.found ∙ r.0, named.refused ∙ r.1),
 )
-fault-names file strings records m all left others (Source fault at) named charges few read is =
+fault-names file records m all left others (Source fault at) named charges few read is =
     Charges-more (all.read * 28) (omega (arith, few, named.read, read)) charges
 
 -- no table
 pub names-none : (file : List ℕ) (c : Counting) (all : Naming) → Charges c c None 0 → NamesBefore file c c all all (Ok None)
 names-none file c all none = (0, Charges-more (0 * 28) (omega arith) none, record { found = refl; refused = refl; read = omega arith })
 
--- a fault says the same of a table and of all
-pub names-fault :
-    (file strings : List ℕ) (a b : Counting) (all left : Naming) (fault : Fault) → FindsRecordInTable file strings a b all left (Err fault)
-    → NamesBefore file a b all left (Err fault)
-names-fault file strings a b all left (Refused refusal) p = p
-names-fault file strings a b all left (Source fault at) p = p
-
+-- a fault of the definitions is one of all
 pub fault-of :
-    (file : List ℕ) (a b : Counting) (naming all left : Naming) (fault : Fault) → naming ≡ all → NamesBefore file a b all left (Err fault)
-    → FindsRecordInTables file a b naming (Err fault)
-fault-of file a b naming all left (Refused refusal) e p = rw e p
-fault-of file a b naming all left (Source fault at) e p = rw e p
+    (file : List ℕ) (a b : Counting) (naming all mid left : Naming) (fault : Fault) → naming ≡ all → NamesBefore file a b all mid (Err fault)
+    → NamesBefore file a b naming left (Err fault)
+fault-of file a b naming all mid left (Refused refusal) e p = rw e p
+fault-of file a b naming all mid left (Source fault at) e p = rw e p
 
+-- and a record of theirs
 pub some-of :
-    (file : List ℕ) (a b : Counting) (naming all left : Naming) (by : NamedBy) → naming ≡ all → NamesBefore file a b all left (Ok (Some by))
-    → FindsRecordInTables file a b naming (Ok (Some by))
-some-of file a b naming all left by e p = rw e p
+    (file : List ℕ) (a b : Counting) (naming all mid left : Naming) (by : NamedBy) → naming ≡ all → NamesBefore file a b all mid (Ok (Some by))
+    → NamesBefore file a b naming left (Ok (Some by))
+some-of file a b naming all mid left by e p = rw e p
 
 -- the needs behind the definitions, none of which has the number
 pub names-then :
     (file : List ℕ) (a b c : Counting) (naming all mid left : Naming) (result : Result (Option NamedBy) Fault) → naming ≡ all
-    → left ≡ record { found = None; refused = None; read = 0 }
-    → NamesBefore file a b all mid (Ok None) → NamesBefore file b c mid left result → FindsRecordInTables file a c naming result
-names-then file a b c naming all mid left (Ok (Some by)) e none p q =
+    → NamesBefore file a b all mid (Ok None) → NamesBefore file b c mid left result → NamesBefore file a c naming left result
+names-then file a b c naming all mid left (Ok (Some by)) e p q =
     rw e (q.0, p.2.found ∙ q.1, q.2, Charges-then _ (more-pays p.0 28 all.read mid.read p.2.read) p.1 q.3)
-names-then file a b c naming all mid left (Ok None) e none p q =
-    let n = rw none at q.2 in
+names-then file a b c naming all mid left (Ok None) e p q =
     rw e (
-      Charges-then _ (omega (arith, p.2.read, n.read)) p.1 q.1,
-      p.2.found ∙ n.found,
-      p.2.refused ∙ n.refused,
+      p.0 + q.0,
+      Charges-then _ (omega arith) p.1 q.1,
+      record { found = p.2.found ∙ q.2.found; refused = p.2.refused ∙ q.2.refused; read = omega (arith, p.2.read, q.2.read) },
     )
-names-then file a b c naming all mid left (Err (Refused refusal)) e none p q =
+names-then file a b c naming all mid left (Err (Refused refusal)) e p q =
     rw e (
       Charges-then _ (more-pays p.0 28 all.read mid.read p.2.read) p.1 q.0,
       λ other. let r = q.1 other in (p.2.found ∙ r.0, p.2.refused ∙ r.1),
     )
-names-then file a b c naming all mid left (Err (Source fault at)) e none p q =
+names-then file a b c naming all mid left (Err (Source fault at)) e p q =
     rw e (Charges-then _ (more-pays p.0 28 all.read mid.read p.2.read) p.1 q)
 
 -- no record has the number where there is none

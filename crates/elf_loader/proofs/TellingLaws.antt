@@ -17,7 +17,7 @@ use Rattle.elf_model.proofs.NameLemmas.{View, is_cut, is_empty, is_outside, is_u
 use Rattle.elf_model.proofs.Nuls.{some-free}
 use Rattle.elf_model.proofs.Slices.{slice-size, slice-slice}
 use Rattle.elf_source.specs.Source.{Counting}
-use Rattle.elf_headers.specs.Ledger.{Charges, why_stopped}
+use Rattle.elf_headers.specs.Ledger.{Charges}
 use Rattle.elf_headers.specs.declared.fault.Fault.{Fault}
 use Rattle.elf_headers.specs.declared.fault.Fault.TheVariants.{Refused, Source}
 use Rattle.elf_headers.proofs.LedgerLaws.{Charges-more, Charges-then}
@@ -25,7 +25,7 @@ use Rattle.elf_table.specs.NamesRead.{NameRead}
 use Rattle.elf_table.specs.Tables.{Strings, strings_in}
 use Rattle.elf_table.specs.declared.names.NameEnd.{NameEnd}
 use Rattle.elf_table.specs.declared.names.NameEnd.TheVariants.{Whole, Cut}
-use Rattle.elf_loader.specs.Naming.{FindsRecordInTables}
+use Rattle.elf_loader.specs.Naming.{NamesBefore}
 use Rattle.elf_loader.specs.Telling.{TellsVersionName, told_bytes}
 use Rattle.elf_loader.specs.declared.naming.NamedBy.{NamedBy}
 
@@ -61,26 +61,27 @@ told-refused file scope words y walked naming refusal found none = rw (found, no
 
 -- a fault before the record
 pub fault-tells :
-    (file : List ℕ) (scope : Scope) (words : VersionWords) (y : ℕ) (naming : Naming) (a b : Counting) (name : List ℕ) (fault : Fault)
-    → FindsRecordInTables file a b naming (Err fault) → TellsVersionName file scope words y naming a b name (Err fault)
-fault-tells file scope words y naming a b name (Refused refusal) p = (
+    (file : List ℕ) (scope : Scope) (words : VersionWords) (y : ℕ) (naming left : Naming) (a b : Counting) (name : List ℕ) (fault : Fault)
+    → NamesBefore file a b naming left (Err fault) → TellsVersionName file scope words y naming a b name (Err fault)
+fault-tells file scope words y naming left a b name (Refused refusal) p = (
   Charges-more _ (omega arith) p.0,
   λ other walked. let r = p.1 other in let none : is_some naming.found ≡ false = ap is_some r.0 in rw none (told-refused file scope words y walked naming refusal r.0 r.1),
 )
-fault-tells file scope words y naming a b name (Source fault at) p = Charges-more _ (omega arith) p
+fault-tells file scope words y naming left a b name (Source fault at) p = Charges-more _ (omega arith) p
 
 stopped : (a b : Counting) (n at : ℕ) → Charges a b None n → Charges a b (Some (Refused (record { at = at; cause = VersionIndex }))) n
 stopped a b n at p = record { reads = p.reads; says = λ budget. absurd (cc) }
 
 -- no record
 pub none-tells :
-    (file : List ℕ) (scope : Scope) (words : VersionWords) (y at : ℕ) (naming : Naming) (a b : Counting) (name : List ℕ)
-    → at ≡ version_word_at words y → FindsRecordInTables file a b naming (Ok None)
+    (file : List ℕ) (scope : Scope) (words : VersionWords) (y at : ℕ) (naming left : Naming) (a b : Counting) (name : List ℕ)
+    → at ≡ version_word_at words y → left ≡ record { found = None; refused = None; read = 0 } → NamesBefore file a b naming left (Ok None)
     → TellsVersionName file scope words y naming a b name (Err (Refused (record { at = at; cause = VersionIndex })))
-none-tells file scope words y at naming a b name here p = (
-  Charges-more _ (omega arith) (stopped a b (naming.read * 28) at p.0),
-  λ other walked. let none : is_some naming.found ≡ false = ap is_some p.1 in rw (none, here) (told-none file scope words y walked naming p.1 p.2),
-)
+none-tells file scope words y at naming left a b name here nothing p =
+    let n = rw nothing at p.2 in (
+      Charges-more _ (omega (arith, n.read)) (stopped a b (p.0 * 28) at p.1),
+      λ other walked. let none : is_some naming.found ≡ false = ap is_some n.found in rw (none, here) (told-none file scope words y walked naming n.found n.refused),
+    )
 
 -- the bytes that are shown of a name stand in the file, where its strings do
 abbrev shown_bytes : Result Shown Cause → List ℕ
@@ -136,17 +137,17 @@ stands-there file strings off cap at name told ends is =
 
 -- its name is read, and stands there
 pub name-tells :
-    (file : List ℕ) (scope : Scope) (words : VersionWords) (y at : ℕ) (naming : Naming) (a b c : Counting) (name : List ℕ) (by : NamedBy) (end : NameEnd)
-    → FindsRecordInTables file a b naming (Ok (Some by)) → Charges b c None told_bytes
+    (file : List ℕ) (scope : Scope) (words : VersionWords) (y at : ℕ) (naming left : Naming) (a b c : Counting) (name : List ℕ) (by : NamedBy) (end : NameEnd)
+    → NamesBefore file a b naming left (Ok (Some by)) → Charges b c None told_bytes
     → NameRead by.«record».named_at (Ok end) name (shown (strings_in file by.names) by.«record».name TOLD_BYTES)
     → by.names.at + by.names.size < 2 ^ 64 → at ≡ min (by.names.at + by.«record».name) (2 ^ 64 - 1)
     → TellsVersionName file scope words y naming a c name (Ok (record { end = end; at = at }))
-name-tells file scope words y at naming a b c name by Whole p pays reads ends is = (
+name-tells file scope words y at naming left a b c name by Whole p pays reads ends is = (
   Charges-then _ (omega arith) p.3 pays,
   λ walked. told-shown file scope words y walked naming (strings_in file by.names) p.0 (ShownWhole name) p.1 (let e = p.2.name in rw e at reads),
   stands-there file by.names by.«record».name TOLD_BYTES at (ShownWhole name) reads ends is,
 )
-name-tells file scope words y at naming a b c name by Cut p pays reads ends is = (
+name-tells file scope words y at naming left a b c name by Cut p pays reads ends is = (
   Charges-then _ (omega arith) p.3 pays,
   λ walked. told-shown file scope words y walked naming (strings_in file by.names) p.0 (ShownCut name) p.1 (let e = p.2.name in rw e at reads),
   stands-there file by.names by.«record».name TOLD_BYTES at (ShownCut name) reads ends is,
@@ -154,11 +155,11 @@ name-tells file scope words y at naming a b c name by Cut p pays reads ends is =
 
 -- or it is not
 pub name-fails :
-    (file : List ℕ) (scope : Scope) (words : VersionWords) (y : ℕ) (naming : Naming) (a b c : Counting) (name : List ℕ) (by : NamedBy) (fault : Fault)
-    → FindsRecordInTables file a b naming (Ok (Some by)) → Charges b c (Some fault) told_bytes
+    (file : List ℕ) (scope : Scope) (words : VersionWords) (y : ℕ) (naming left : Naming) (a b c : Counting) (name : List ℕ) (by : NamedBy) (fault : Fault)
+    → NamesBefore file a b naming left (Ok (Some by)) → Charges b c (Some fault) told_bytes
     → NameRead by.«record».named_at (Err fault) name (shown (strings_in file by.names) by.«record».name TOLD_BYTES)
     → TellsVersionName file scope words y naming a c name (Err fault)
-name-fails file scope words y naming a b c name by (Refused refusal) p pays reads =
+name-fails file scope words y naming left a b c name by (Refused refusal) p pays reads =
     let some : is_some naming.found ≡ true = ap is_some p.1 in
     rw some (
       Charges-then _ (omega arith) p.3 pays,
@@ -169,5 +170,5 @@ name-fails file scope words y naming a b c name by (Refused refusal) p pays read
           let t = told-fault file scope words y walked naming (strings_in file by.names) p.0 refusal.cause p.1 (rw e at r.1) in
           rw at at t,
     )
-name-fails file scope words y naming a b c name by (Source fault at) p pays reads =
+name-fails file scope words y naming left a b c name by (Source fault at) p pays reads =
     let some : is_some naming.found ≡ true = ap is_some p.1 in rw some (Charges-then _ (omega arith) p.3 pays)

@@ -1,10 +1,10 @@
 -- What comparing the records of versions with a wanted one gives.
 use Rattle.std.specs.Prelude.{ℕ, ◌≡◌, ◌+◌, ◌*◌, ◌≤◌, ◌||◌, List, length, None, Some, Result, Ok, Err}
 use Rattle.elf_model.specs.Budget.{IsBudget}
-use Rattle.elf_model.specs.Loader.{Asked, Compared, asked_name, is_among}
+use Rattle.elf_model.specs.Loader.{Asked, Compared, RecordReading, asked_name, compared_with, is_among}
 use Rattle.elf_model.specs.Names.{pad64}
 use Rattle.elf_source.specs.Source.{Counting}
-use Rattle.elf_headers.specs.Ledger.{Charges}
+use Rattle.elf_headers.specs.Ledger.{Charges, Did, why_stopped}
 use Rattle.elf_headers.specs.declared.fault.Fault.{Fault}
 use Rattle.elf_headers.specs.declared.fault.Fault.TheVariants.{Refused, Source}
 use Rattle.elf_loader.specs.NumberSets.{has_number}
@@ -27,6 +27,13 @@ Compares before after each old new all left (Ok x) =
 Compares before after each old new all left (Err (Refused refusal)) =
     Charges before after (Some (Refused refusal)) (all.read * each) × ((IsBudget refusal → ⊥) → all.refused ≡ Some refusal)
 Compares before after each old new all left (Err (Source fault at)) = Charges before after (Some (Source fault at)) (all.read * each)
+
+-- what a call did that compares records, at most so many, with a version: it asks for their heads and as many names, and of
+-- those that are read of tables and those that are left this is so
+abbrev pub ComparesRecords : Counting → Counting → List ℕ → List ℕ → List ℕ → Result (Unit {0}) Fault → ℕ → (List ℕ → (List RecordReading → List RecordReading → Type 0) → Type 0) → Type 0
+ComparesRecords before after version old new result most Of =
+    Did before after (why_stopped result) (most * (28 + pad64 (length version + 1)))
+    (λ file. Of file (λ all left. Compares before after (28 + pad64 (length version + 1)) old new (compared_with file version all) (compared_with file version left) result))
 
 -- comparing one record, whose refusal is at that
 abbrev pub ComparesOne : List ℕ → List ℕ → Compared → Compared → Result (Unit {0}) Fault → Type 0

@@ -1,5 +1,5 @@
 -- What the version of a symbol that is found is, as it is told.
-use Rattle.std.specs.Prelude.{ℕ, ◌≡◌, ◌+◌, ◌*◌, Bool, List, [], Option, None, Some, Result, Ok, Err, IfOk}
+use Rattle.std.specs.Prelude.{ℕ, ◌≡◌, ◌+◌, ◌*◌, Bool, List, [], Option, None, Some, option_map, Result, Ok, Err, IfOk, IfSome}
 use Rattle.elf_model.specs.Budget.{IsBudget}
 use Rattle.elf_model.specs.Chains.{Walked}
 use Rattle.elf_model.specs.Cost.{cost_where}
@@ -43,19 +43,19 @@ pub record LookupSpends (lookup : LoaderLookup) (walked : Walked) (read : ℕ) (
   pub records : lookup.records ≡ read
   pub is_named : lookup.is_named ≡ named
 
--- its answer is this version, of the symbol of an index; or the refusal, unless a read failed
-abbrev pub IsVersionFound : Scope → IsAsked → ℕ → List ℕ → Walked → LoaderLookup → Result FoundVersion Fault → Type 0
-IsVersionFound scope asked y told walked lookup (Ok version) =
-    lookup ≡ found_lookup scope y walked lookup.records lookup.is_named (Some (version_found asked told version))
-IsVersionFound scope asked y told walked lookup (Err (Refused refusal)) = (IsBudget refusal → ⊥) → lookup.lookup.answer ≡ IsRefused refusal
-IsVersionFound scope asked y told walked lookup (Err (Source fault at)) = Unit {0}
+-- its answer is this version, of the symbol of an index, or none; or the refusal, unless a read failed
+abbrev pub IsVersionFound : {X : Type 0} → (X → Option FoundVersion) → Scope → IsAsked → ℕ → List ℕ → Walked → LoaderLookup → Result X Fault → Type 0
+IsVersionFound version scope asked y told walked lookup (Ok found) =
+    lookup ≡ found_lookup scope y walked lookup.records lookup.is_named (option_map (version_found asked told) (version found))
+IsVersionFound version scope asked y told walked lookup (Err (Refused refusal)) = (IsBudget refusal → ⊥) → lookup.lookup.answer ≡ IsRefused refusal
+IsVersionFound version scope asked y told walked lookup (Err (Source fault at)) = Unit {0}
 
--- THE VERSION OF A SYMBOL THAT A WALK FINDS IS TOLD: so many records are read, and a name or none, beside those that were read
--- before to tell the numbers of a wanted version
-pub record FindsVersion (file : List ℕ) (scope : Scope) (asked : IsAsked) (words : AreWordsOf) (y : ℕ) (old new : Counting) (told : List ℕ) (result : Result FoundVersion Fault) : Type 0 where
+-- THE VERSION OF A SYMBOL THAT A WALK FINDS IS TOLD, where there are such words: so many records are read, and a name or none,
+-- beside those that were read before to tell the numbers of a wanted version
+pub record FindsVersion {X : Type 0} (version : X → Option FoundVersion) (file : List ℕ) (scope : Scope) (asked : IsAsked) (words : Option AreWordsOf) (y : ℕ) (old new : Counting) (told : List ℕ) (result : Result X Fault) : Type 0 where
   pub records : ℕ
   pub is_named : Bool
   pub costs : Charges old new (why_stopped result) (records * 28 + cost_where is_named told_bytes)
-  pub spends : (walked : Walked) (before : ℕ) → (asked_name asked ≡ None → before ≡ 0) → LookupSpends (found_in file scope asked before y walked (Some words)) walked (before + records) is_named
-  pub finds : (walked : Walked) (before : ℕ) → (asked_name asked ≡ None → before ≡ 0) → IsVersionFound scope asked y told walked (found_in file scope asked before y walked (Some words)) result
-  pub stands : IfOk result (λ version. StandsTold file told version.name_at version.name)
+  pub spends : (walked : Walked) (before : ℕ) → (asked_name asked ≡ None → before ≡ 0) → LookupSpends (found_in file scope asked before y walked words) walked (before + records) is_named
+  pub finds : (walked : Walked) (before : ℕ) → (asked_name asked ≡ None → before ≡ 0) → IsVersionFound version scope asked y told walked (found_in file scope asked before y walked words) result
+  pub stands : IfOk result (λ found. IfSome (version found) (λ is. StandsTold file told is.name_at is.name))

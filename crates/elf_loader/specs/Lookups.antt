@@ -1,28 +1,32 @@
 -- What a lookup answers, and what it asks for.
-use Rattle.std.specs.Prelude.{ℕ, ◌≡◌, ◌+◌, ◌*◌, ◌/◌, ◌≤◌, Bool, false, List, length, Option, None, Some, option_map, Result, Ok, Err, IfOk, IfSome}
+use Rattle.std.specs.Prelude.{ℕ, ◌≡◌, ◌+◌, ◌*◌, ◌/◌, ◌≤◌, false, List, length, None, Some, option_map, Result, Ok, Err, IfSome}
 use Rattle.elf_model.specs.Budget.{IsBudget}
-use Rattle.elf_model.specs.Chains.{Walked}
-use Rattle.elf_model.specs.Cost.{cost_where}
 use Rattle.elf_model.specs.Hash.{Found as IsFound, Absent as IsAbsent, Refused as IsRefused}
 use Rattle.elf_model.specs.Loader.{Asked, Compared, Wanted, asked_name, is_among}
-use Rattle.elf_model.specs.LoaderFind.{LoaderLookup, found_in, found_lookup, loader_cost, loader_looked, looked_by, lookup_asks, record_cost, refused_lookup, walk_in}
+use Rattle.elf_model.specs.LoaderFind.{LoaderLookup, loader_ceiling, loader_cost, loader_looked, looked_by, lookup_asks, record_cost, refused_lookup, walk_in}
 use Rattle.elf_model.specs.LoaderScope.{Scope}
 use Rattle.elf_model.specs.Names.{pad64}
 use Rattle.elf_model.specs.Records.{e_machine}
 use Rattle.elf_record.specs.Sym.{IsSym}
 use Rattle.elf_source.specs.Source.{Counting}
-use Rattle.elf_headers.specs.Ledger.{Charges, why_stopped}
+use Rattle.elf_headers.specs.Ledger.{Charges, Did, why_stopped}
 use Rattle.elf_headers.specs.declared.fault.Fault.{Fault}
 use Rattle.elf_headers.specs.declared.fault.Fault.TheVariants.{Refused, Source}
-use Rattle.elf_loader.specs.Finding.{LookupSpends, StandsTold, version_found}
+use Rattle.elf_scope.specs.Scopes.{IsScope, ScopeLies}
+use Rattle.elf_scope.specs.declared.scope.Scope.{Scope as ScopeCode}
+use Rattle.elf_loader.specs.Finding.{StandsTold, version_found}
 use Rattle.elf_loader.specs.Telling.{told_bytes}
-use Rattle.elf_loader.specs.declared.found.FoundVersion.{FoundVersion}
 use Rattle.elf_loader.specs.declared.lookup.SymbolLookup.{SymbolLookup}
 use Rattle.elf_loader.specs.declared.lookup.SymbolLookup.TheVariants.{Found, Absent}
 
 -- neither the name nor a version that is asked for has more than 4,096 bytes
 abbrev pub AreShort : Wanted → Type 0
 AreShort wanted = (length wanted.name ≤ 4096) × IfSome (asked_name wanted.asked) (λ version. length version ≤ 4096)
+
+-- a lookup may be made: so short is what is wanted, and what it is made in lies within the source
+pub record MayLookOn (src : Counting) (scope : ScopeCode) (wanted : Wanted) : Type 0 where
+  pub short : AreShort wanted
+  pub lies : ScopeLies src.seen.size scope
 
 -- how many bytes a symbol asks for that is tried
 abbrev pub trial_bytes : Wanted → ℕ
@@ -59,10 +63,23 @@ pub record LooksBehind (file : List ℕ) (wanted : Wanted) (few before : ℕ) (l
   pub within : before + spent ≤ few + lookup_asks wanted looked
   pub tells : TellsLookup file wanted.asked told looked result
 
+-- what a call did that goes on with a lookup: it asked for at most n bytes, and where the file is known, and what the lookup is
+-- made in, it does what is left of it
+abbrev pub LooksOn : Counting → Counting → ScopeCode → Wanted → List ℕ → Result SymbolLookup Fault → (few n : ℕ) → (List ℕ → Scope → (ℕ → LoaderLookup → Type 0) → Type 0) → Type 0
+LooksOn old new scope wanted told result few n Leaves =
+    Did old new (why_stopped result) n
+    (λ file. (is : Scope) → IsScope file is scope → Leaves file is (λ before looked. LooksBehind file wanted few before looked told old new result))
+
 -- WHAT A LOADER'S LOOKUP DOES in a known file: it costs no more than the definition's, and tells what that gives
 pub record LooksUp (file : List ℕ) (headers : ℕ) (wanted : Wanted) (told : List ℕ) (old new : Counting) (result : Result SymbolLookup Fault) : Type 0 where
   pub costs : Charges old new (why_stopped result) (loader_cost file headers wanted)
   pub tells : TellsLookup file wanted.asked told (loader_looked file headers wanted) result
+
+-- WHAT A CALL DID that looks up as a loader does: it asked for no more than its ceiling, and in the file that is looked at it
+-- does so
+abbrev pub LooksThrough : Counting → Counting → (List ℕ → List ℕ) → ℕ → Wanted → List ℕ → Result SymbolLookup Fault → Type 0
+LooksThrough old new looked_at headers wanted told result =
+    Did old new (why_stopped result) (loader_ceiling old.seen.size headers wanted) (λ file. LooksUp (looked_at file) headers wanted told old new result)
 
 -- a lookup once the numbers of the version are told, or why they are not
 abbrev pub looked_with : List ℕ → Scope → Wanted → Compared → LoaderLookup
@@ -70,19 +87,3 @@ looked_with file scope wanted compared = elim compared.refused [
   | Some refusal ↦ refused_lookup 0 0 compared.read false refusal
   | None ↦ looked_by file scope wanted.asked compared.read (walk_in file scope wanted (λ number. is_among number compared.numbers))
 ]
-
--- its answer is this version, of the symbol of an index, or none; or the refusal, unless a read failed
-abbrev pub FoundWith : Scope → Asked → ℕ → List ℕ → Walked → LoaderLookup → Result (Option FoundVersion) Fault → Type 0
-FoundWith scope asked y told walked looked (Ok version) =
-    looked ≡ found_lookup scope y walked looked.records looked.is_named (option_map (version_found asked told) version)
-FoundWith scope asked y told walked looked (Err (Refused refusal)) = (IsBudget refusal → ⊥) → looked.lookup.answer ≡ IsRefused refusal
-FoundWith scope asked y told walked looked (Err (Source fault at)) = Unit {0}
-
--- THE VERSION OF A SYMBOL THAT A WALK FINDS IS TOLD, where there are versions, as FindsVersion has it
-pub record FindsWith (file : List ℕ) (scope : Scope) (asked : Asked) (y : ℕ) (told : List ℕ) (old new : Counting) (result : Result (Option FoundVersion) Fault) : Type 0 where
-  pub records : ℕ
-  pub is_named : Bool
-  pub costs : Charges old new (why_stopped result) (records * 28 + cost_where is_named told_bytes)
-  pub spends : (walked : Walked) (before : ℕ) → (asked_name asked ≡ None → before ≡ 0) → LookupSpends (found_in file scope asked before y walked scope.symbols.words) walked (before + records) is_named
-  pub finds : (walked : Walked) (before : ℕ) → (asked_name asked ≡ None → before ≡ 0) → FoundWith scope asked y told walked (found_in file scope asked before y walked scope.symbols.words) result
-  pub stands : IfOk result (λ found. IfSome found (λ version. StandsTold file told version.name_at version.name))

@@ -1,14 +1,13 @@
 //! The numbers of the version that is asked for, of all records of versions.
-ghost use Rattle.std.specs.Prelude.{◌≡◌, ℕ, ◌+◌, ◌*◌, ◌≤◌, [], ◌++◌, List, length, IfSome};
+ghost use Rattle.std.specs.Prelude.{◌≤◌, length, IfSome};
 ghost use Rattle.elf_headers.specs.Ledger.{Did, why_stopped};
-ghost use Rattle.elf_loader.specs.Comparing.{Collects, Compares, comparing_bytes};
-ghost use Rattle.elf_loader.specs.Tables.{most_of, most_versions, readings_before};
+ghost use Rattle.elf_loader.specs.Comparing.{Collects, ComparesRecords, comparing_bytes};
+ghost use Rattle.elf_loader.specs.Tables.{OfAnyTable, OfTables, most_of, most_versions};
 ghost use Rattle.elf_wanted.specs.Wants.{asked_of};
-ghost use Rattle.elf_model.specs.Loader.{RecordReading, RecordTable as IsTableOf, asked_name, compared_with, readings};
+ghost use Rattle.elf_model.specs.Loader.{asked_name};
 ghost use Rattle.elf_model.specs.LoaderFind.{record_cost, wanted_numbers};
 ghost use Rattle.elf_model.specs.LoaderScope.{Scope as IsScopeOf};
-ghost use Rattle.elf_model.specs.Names.{pad64};
-ghost use Rattle.elf_scope.specs.Symbols.{AreRecordTables, IsSymbols, RecordsWithin, SymbolsLie, table_if_any};
+ghost use Rattle.elf_scope.specs.Symbols.{IsSymbols, RecordsWithin, SymbolsLie};
 
 use crate::comparing::compare_table;
 use crate::number_set::NumberSet;
@@ -26,13 +25,8 @@ fn compare_any<S: Source>(
 ) -> Result<(), Fault>
     requires most { length version.now ≤ 4096 }
     requires within { IfSome records.now (RecordsWithin src.old.seen.size) }
-    ensures { Did src.old src.new (why_stopped result)
-        (most_of records.now * (28 + pad64 (length version.now + 1)))
-        (λ file. (told : List IsTableOf) (others : List RecordReading) →
-        AreRecordTables file told (table_if_any records.now) →
-        Compares src.old src.new (28 + pad64 (length version.now + 1)) numbers.old numbers.new
-        (compared_with file version.now (readings_before file told others))
-        (compared_with file version.now others) result) }
+    ensures { ComparesRecords src.old src.new version.now numbers.old numbers.new result
+        (most_of records.now) (OfAnyTable records.now) }
 {
     match records {
         None => Ok(()),
@@ -49,14 +43,8 @@ fn compare_all<S: Source>(
 ) -> Result<(), Fault>
     requires most { length version.now ≤ 4096 }
     requires lies { SymbolsLie src.old.seen.size symbols.now }
-    ensures { Did src.old src.new (why_stopped result)
-        (most_versions symbols.now * (28 + pad64 (length version.now + 1)))
-        (λ file. (told : List IsTableOf) →
-        AreRecordTables file told
-        (table_if_any symbols.now.definitions ++ table_if_any symbols.now.needs) →
-        Compares src.old src.new (28 + pad64 (length version.now + 1)) numbers.old numbers.new
-        (compared_with file version.now (readings file told))
-        (compared_with file version.now []) result) }
+    ensures { ComparesRecords src.old src.new version.now numbers.old numbers.new result
+        (most_versions symbols.now) (OfTables symbols.now) }
 {
     compare_any(src, &symbols.definitions, version, numbers)?;
     compare_any(src, &symbols.needs, version, numbers)

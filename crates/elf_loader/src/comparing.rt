@@ -1,11 +1,12 @@
 //! The numbers of the version that is asked for by its name.
-ghost use Rattle.std.specs.Prelude.{◌≡◌, ℕ, ◌+◌, ◌*◌, ◌<◌, ◌≤◌, ◌∷◌, List, length};
+ghost use Rattle.std.specs.Prelude.{ℕ, ◌+◌, ◌<◌, ◌≤◌, ◌∷◌, List, length};
 ghost use Rattle.elf_headers.specs.Ledger.{Did, why_stopped};
-ghost use Rattle.elf_loader.specs.Comparing.{Compares, ComparesOne};
-ghost use Rattle.elf_model.specs.Loader.{RecordReading, Meets, RecordTable as IsTableOf, compared_with, readings_of};
+ghost use Rattle.elf_loader.specs.Comparing.{ComparesOne, ComparesRecords};
+ghost use Rattle.elf_loader.specs.Tables.{OfTable};
+ghost use Rattle.elf_model.specs.Loader.{RecordReading, Meets, compared_with};
 ghost use Rattle.elf_model.specs.Names.{pad64};
 ghost use Rattle.elf_model.specs.Versions.{Met, VERSION_NUMBERS, most_records, number_in};
-ghost use Rattle.elf_scope.specs.Symbols.{IsRecordTable, RecordsWithin};
+ghost use Rattle.elf_scope.specs.Symbols.{RecordsWithin};
 ghost use Rattle.elf_table.specs.Tables.{StringsWithin, strings_in};
 ghost use Rattle.elf_versions.specs.Reading.{IsVersion};
 
@@ -29,14 +30,8 @@ pub(crate) fn compare_table<S: Source>(
 ) -> Result<(), Fault>
     requires most { length version.now ≤ 4096 }
     requires within { RecordsWithin src.old.seen.size records.now }
-    ensures { Did src.old src.new (why_stopped result)
-        (most_records records.now.kind records.now.table.count
-        * (28 + pad64 (length version.now + 1)))
-        (λ file. (told : IsTableOf) (others : List RecordReading) →
-        IsRecordTable file told records.now →
-        Compares src.old src.new (28 + pad64 (length version.now + 1)) numbers.old numbers.new
-        (compared_with file version.now (readings_of file told others))
-        (compared_with file version.now others) result) }
+    ensures { ComparesRecords src.old src.new version.now numbers.old numbers.new result
+        (most_records records.now.kind records.now.table.count) (OfTable records.now) }
 {
     let mut cursor = VersionCursor::one_by_one(records.kind, records.head, records.table);
     'records: while let Some(given) = cursor.advance(src)? {

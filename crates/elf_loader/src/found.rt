@@ -1,9 +1,8 @@
 //! The version of a symbol that is found.
-ghost use Rattle.std.specs.Prelude.{◌≡◌, ℕ, ◌+◌, ◌*◌, ◌<◌};
+ghost use Rattle.std.specs.Prelude.{◌≡◌, ℕ, ◌+◌, ◌*◌, ◌<◌, Some};
 ghost use Rattle.elf_headers.specs.Ledger.{Did, why_stopped};
 ghost use Rattle.elf_loader.specs.Answering.{IsWord};
 ghost use Rattle.elf_loader.specs.Finding.{FindsVersion};
-ghost use Rattle.elf_loader.specs.Lookups.{FindsWith};
 ghost use Rattle.elf_loader.specs.Tables.{most_versions};
 ghost use Rattle.elf_loader.specs.Telling.{telling_bytes};
 ghost use Rattle.elf_wanted.specs.Wants.{asked_of};
@@ -62,7 +61,8 @@ pub(crate) fn version_of<S: Source>(
         (telling_bytes (asked_of asked.now) (most_versions symbols.now))
         (λ file. (scope : IsScopeOf) → IsSymbols file scope.symbols symbols.now →
         IsWord file symbols.now.words found.now.index found.now.answer.version →
-        FindsWith file scope (asked_of asked.now) found.now.index name.new src.old src.new result) }
+        FindsVersion (λ version. version) file scope (asked_of asked.now) scope.symbols.words
+        found.now.index src.old src.new name.new result) }
 {
     let Some(words) = &symbols.words else {
         return Ok(None);
@@ -94,10 +94,10 @@ fn found_version<S: Source>(
     requires below { found.0 < words.now.words.count }
     ensures { Did src.old src.new (why_stopped result)
         (telling_bytes (asked_of asked.now) (most_versions symbols.now))
-        (λ file. (scope : IsScopeOf) (told : AreWordsOf) →
-        IsSymbols file scope.symbols symbols.now →
-        IsWords told words.now → found.1 ≡ versym file (version_word_at told found.0) →
-        FindsVersion file scope (asked_of asked.now) told found.0 src.old src.new name.new result) }
+        (λ file. (scope : IsScopeOf) (is : AreWordsOf) → IsSymbols file scope.symbols symbols.now →
+        IsWords is words.now → found.1 ≡ versym file (version_word_at is found.0) →
+        FindsVersion Some file scope (asked_of asked.now) (Some is) found.0 src.old src.new
+        name.new result) }
 {
     let (index, word) = found;
     if let Some(_version) = asked.name() {

@@ -1,19 +1,19 @@
 //! The call that looks a name up as a loader does.
 ghost use Rattle.std.specs.Prelude.{◌≡◌, ℕ, ◌+◌, ◌*◌, ◌/◌, None, Ok};
-ghost use Rattle.elf_headers.specs.Ledger.{Did, why_stopped};
 ghost use Rattle.elf_hash.specs.Scopes.{IsTable, place_of_table};
 ghost use Rattle.elf_hash.specs.Walks.{GivesWalked, walk_bytes};
 ghost use Rattle.elf_loader.specs.Answering.{StandsAs};
-ghost use Rattle.elf_loader.specs.Lookups.{AreShort, LooksBehind, LooksUp, lookup_bytes, looked_with, trial_bytes};
+ghost use Rattle.elf_loader.specs.Lookups.{AreShort, LooksOn, LooksThrough, MayLookOn, lookup_bytes};
+ghost use Rattle.elf_loader.specs.Lookups.{looked_with, trial_bytes};
 ghost use Rattle.elf_loader.specs.NumberSets.{has_number};
 ghost use Rattle.elf_loader.specs.Tables.{most_versions};
 ghost use Rattle.elf_loader.specs.Telling.{telling_bytes};
 ghost use Rattle.elf_model.specs.Chains.{Walked as Walk};
 ghost use Rattle.elf_model.specs.Loader.{asked_name};
-ghost use Rattle.elf_model.specs.LoaderFind.{loaded_in, loader_ceiling, looked_by, record_cost, walk_in, wanted_numbers};
-ghost use Rattle.elf_model.specs.LoaderScope.{Scope as IsScopeOf};
+ghost use Rattle.elf_model.specs.LoaderFind.{loaded_in, looked_by, record_cost, walk_in};
+ghost use Rattle.elf_model.specs.LoaderFind.{wanted_numbers};
 ghost use Rattle.elf_model.specs.Style.{looked_at};
-ghost use Rattle.elf_scope.specs.Scopes.{IsScope, ScopeLies};
+ghost use Rattle.elf_scope.specs.Scopes.{ScopeLies};
 ghost use Rattle.elf_wanted.specs.Wants.{asked_of, the_wanted};
 
 use crate::answering::WantedTrial;
@@ -60,10 +60,8 @@ pub fn look_up<S: Source>(
     name: &mut NameBuf,
 ) -> Result<SymbolLookup, Fault>
     requires { AreShort (the_wanted wanted.now) }
-    ensures did { Did src.old src.new (why_stopped result)
-        (loader_ceiling src.old.seen.size store.old.slots (the_wanted wanted.now))
-        (λ file. LooksUp (looked_at by_segments file) store.old.slots (the_wanted wanted.now)
-        name.new src.old src.new result) }
+    ensures did { LooksThrough src.old src.new (looked_at by_segments) store.old.slots
+        (the_wanted wanted.now) name.new result }
     ensures slots { store.new.slots ≡ store.old.slots }
 {
     if !by_segments {
@@ -87,10 +85,8 @@ fn look_up_shown<S: Source>(
     name: &mut NameBuf,
 ) -> Result<SymbolLookup, Fault>
     requires { AreShort (the_wanted wanted.now) }
-    ensures did { Did src.old src.new (why_stopped result)
-        (loader_ceiling src.old.seen.size store.old.slots (the_wanted wanted.now))
-        (λ file. LooksUp file store.old.slots (the_wanted wanted.now) name.new
-        src.old src.new result) }
+    ensures did { LooksThrough src.old src.new (λ file. file) store.old.slots
+        (the_wanted wanted.now) name.new result }
     ensures slots { store.new.slots ≡ store.old.slots }
 {
     let scope = find_scope(src, store)?;
@@ -107,13 +103,10 @@ fn look_in<S: Source>(
     wanted: &Wanted<'_>,
     name: &mut NameBuf,
 ) -> Result<SymbolLookup, Fault>
-    requires short { AreShort (the_wanted wanted.now) }
-    requires lies { ScopeLies src.old.seen.size scope.now }
-    ensures { Did src.old src.new (why_stopped result)
+    requires { MayLookOn src.old scope.now (the_wanted wanted.now) }
+    ensures { LooksOn src.old src.new scope.now (the_wanted wanted.now) name.new result 28
         (lookup_bytes 28 src.old.seen.size (the_wanted wanted.now))
-        (λ file. (told : IsScopeOf) → IsScope file told scope.now →
-        LooksBehind file (the_wanted wanted.now) 28 0 (loaded_in file told (the_wanted wanted.now))
-        name.new src.old src.new result) }
+        (λ file told leaves. leaves 0 (loaded_in file told (the_wanted wanted.now))) }
 {
     let table = counts(src, &scope.hash)?;
     look_in_table(src, scope, &table, wanted, name)
@@ -131,14 +124,12 @@ fn look_in_table<S: Source>(
     wanted: &Wanted<'_>,
     name: &mut NameBuf,
 ) -> Result<SymbolLookup, Fault>
-    requires short { AreShort (the_wanted wanted.now) }
-    requires lies { ScopeLies src.old.seen.size scope.now }
+    requires may { MayLookOn src.old scope.now (the_wanted wanted.now) }
     requires place { place_of_table table.now ≡ scope.now.hash }
-    ensures { Did src.old src.new (why_stopped result)
-        (lookup_bytes 12 src.old.seen.size (the_wanted wanted.now))
-        (λ file. (told : IsScopeOf) → IsScope file told scope.now → IsTable file told table.now →
-        LooksBehind file (the_wanted wanted.now) 12 0 (looked_with file told (the_wanted wanted.now)
-        (wanted_numbers file told (the_wanted wanted.now).asked)) name.new src.old src.new result) }
+    ensures { LooksOn src.old src.new scope.now (the_wanted wanted.now) name.new result 12
+        (lookup_bytes 12 src.old.seen.size (the_wanted wanted.now)) (λ file told leaves.
+        IsTable file told table.now → leaves 0 (looked_with file told (the_wanted wanted.now)
+        (wanted_numbers file told (the_wanted wanted.now).asked))) }
 {
     let numbers = wanted_numbers(src, &scope.symbols, &wanted.asked)?;
     look_along(src, scope, table, wanted, &numbers, name)
@@ -156,20 +147,17 @@ fn look_along<S: Source>(
     numbers: &NumberSet,
     name: &mut NameBuf,
 ) -> Result<SymbolLookup, Fault>
-    requires short { AreShort (the_wanted wanted.now) }
-    requires lies { ScopeLies src.old.seen.size scope.now }
+    requires may { MayLookOn src.old scope.now (the_wanted wanted.now) }
     requires place { place_of_table table.now ≡ scope.now.hash }
-    ensures { Did src.old src.new (why_stopped result)
+    ensures { LooksOn src.old src.new scope.now (the_wanted wanted.now) name.new result 12
         (walk_bytes 12 (scope.now.hash.size / 4) (scope.now.hash.size / 4)
         (trial_bytes (the_wanted wanted.now))
         + telling_bytes (asked_of wanted.now.asked) (most_versions scope.now.symbols))
-        (λ file. (told : IsScopeOf) (before : ℕ) → IsScope file told scope.now →
-        IsTable file told table.now → (asked_name (asked_of wanted.now.asked) ≡ None → before ≡ 0) →
-        LooksBehind file (the_wanted wanted.now) 12
-        (before * record_cost (asked_of wanted.now.asked))
+        (λ file told leaves. (before : ℕ) → IsTable file told table.now →
+        (asked_name (asked_of wanted.now.asked) ≡ None → before ≡ 0) →
+        leaves (before * record_cost (asked_of wanted.now.asked))
         (looked_by file told (asked_of wanted.now.asked) before
-        (walk_in file told (the_wanted wanted.now) (has_number numbers.now))) name.new src.old
-        src.new result) }
+        (walk_in file told (the_wanted wanted.now) (has_number numbers.now)))) }
 {
     let trial = WantedTrial {
         symbols: &scope.symbols,
@@ -192,16 +180,14 @@ fn answer_of<S: Source>(
     name: &mut NameBuf,
 ) -> Result<SymbolLookup, Fault>
     requires { ScopeLies src.old.seen.size scope.now }
-    ensures { Did src.old src.new (why_stopped result)
+    ensures { LooksOn src.old src.new scope.now (the_wanted wanted.now) name.new result 0
         (telling_bytes (asked_of wanted.now.asked) (most_versions scope.now.symbols))
-        (λ file. (told : IsScopeOf) (walk : Walk) (before : ℕ) → IsScope file told scope.now →
+        (λ file told leaves. (walk : Walk) (before : ℕ) →
         GivesWalked (StandsAs file scope.now.symbols) walk (Ok walked.now) →
         (asked_name (asked_of wanted.now.asked) ≡ None → before ≡ 0) →
-        LooksBehind file (the_wanted wanted.now) 0
-        (walk_bytes (before * record_cost (asked_of wanted.now.asked)) walk.read walk.tried
+        leaves (walk_bytes (before * record_cost (asked_of wanted.now.asked)) walk.read walk.tried
         (trial_bytes (the_wanted wanted.now)))
-        (looked_by file told (asked_of wanted.now.asked) before walk)
-        name.new src.old src.new result) }
+        (looked_by file told (asked_of wanted.now.asked) before walk)) }
 {
     let Some(found) = walked.found else {
         return Ok(SymbolLookup::Absent {

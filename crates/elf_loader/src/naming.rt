@@ -1,12 +1,9 @@
 //! The record that names the version of a number.
-ghost use Rattle.std.specs.Prelude.{◌≡◌, ℕ, ◌*◌, ◌++◌, List, IfOk, IfSome};
-ghost use Rattle.elf_headers.specs.Ledger.{Did, why_stopped};
-ghost use Rattle.elf_loader.specs.Naming.{FindsRecordInTable as NamesOne, NamesBefore, FindsRecordInTables};
-ghost use Rattle.elf_loader.specs.Tables.{most_of, most_versions, readings_before};
-ghost use Rattle.elf_model.specs.Loader.{RecordReading, RecordTable as IsTableOf, naming_of, readings, readings_of};
+ghost use Rattle.std.specs.Prelude.{◌≡◌, ℕ, List, IfOk, IfSome};
+ghost use Rattle.elf_loader.specs.Naming.{NamedLies, NamesRecord};
+ghost use Rattle.elf_loader.specs.Tables.{OfAnyTable, OfTable, OfTables, most_of, most_versions};
 ghost use Rattle.elf_model.specs.Versions.{Met, most_records, names_number};
-ghost use Rattle.elf_scope.specs.Symbols.{AreRecordTables, IsRecordTable, RecordsWithin, SymbolsLie, table_if_any};
-ghost use Rattle.elf_table.specs.Tables.{StringsWithin, strings_in};
+ghost use Rattle.elf_scope.specs.Symbols.{RecordsWithin, SymbolsLie};
 ghost use Rattle.elf_versions.specs.Reading.{IsVersion};
 
 use elf_headers::Fault;
@@ -24,8 +21,8 @@ pub(crate) struct NamedBy {
     pub(crate) names: Names,
 }
 
-/// The first record of a table that names the version of a number, if one does. No record behind it
-/// is read.
+/// The first record of a table that names the version of a number, if one does, with the strings of
+/// its name. No record behind it is read.
 ///
 /// # Errors
 /// As for [`VersionCursor::advance`], of what comes before.
@@ -33,20 +30,19 @@ pub(crate) fn name_in_table<S: Source>(
     src: &mut Counted<S>,
     records: &RecordTable,
     number: u16,
-) -> Result<Option<VersionRecord>, Fault>
+) -> Result<Option<NamedBy>, Fault>
     requires within { RecordsWithin src.old.seen.size records.now }
-    ensures { Did src.old src.new (why_stopped result)
-        (most_records records.now.kind records.now.table.count * 28)
-        (λ file. (told : IsTableOf) (others : List RecordReading) →
-        IsRecordTable file told records.now →
-        NamesOne file (strings_in file records.now.names) src.old src.new
-        (naming_of file number (readings_of file told others))
-        (naming_of file number others) result) }
+    ensures did { NamesRecord src.old src.new number result
+        (most_records records.now.kind records.now.table.count) (OfTable records.now) }
+    ensures lies { IfOk result (NamedLies src.old.seen.size) }
 {
     let mut cursor = VersionCursor::one_by_one(records.kind, records.head, records.table);
     'records: while let Some(given) = cursor.advance(src)? {
         if names_number(&given, number) {
-            return Ok(Some(given));
+            return Ok(Some(NamedBy {
+                record: given,
+                names: records.names,
+            }));
         }
     }
     Ok(None)
@@ -63,14 +59,9 @@ pub(crate) fn name_of<S: Source>(
     number: u16,
 ) -> Result<Option<NamedBy>, Fault>
     requires lies { SymbolsLie src.old.seen.size symbols.now }
-    ensures did { Did src.old src.new (why_stopped result) (most_versions symbols.now * 28)
-        (λ file. (told : List IsTableOf) →
-        AreRecordTables file told
-        (table_if_any symbols.now.definitions ++ table_if_any symbols.now.needs) →
-        FindsRecordInTables file src.old src.new
-        (naming_of file number (readings file told)) result) }
-    ensures lies { IfOk result (λ named. IfSome named (λ by.
-        StringsWithin src.old.seen.size by.names)) }
+    ensures did { NamesRecord src.old src.new number result (most_versions symbols.now)
+        (OfTables symbols.now) }
+    ensures lies { IfOk result (NamedLies src.old.seen.size) }
 {
     if let Some(named) = name_in_any(src, &symbols.definitions, number)? {
         return Ok(Some(named));
@@ -85,24 +76,14 @@ fn name_in_any<S: Source>(
     number: u16,
 ) -> Result<Option<NamedBy>, Fault>
     requires within { IfSome records.now (RecordsWithin src.old.seen.size) }
-    ensures did { Did src.old src.new (why_stopped result) (most_of records.now * 28)
-        (λ file. (told : List IsTableOf) (others : List RecordReading) →
-        AreRecordTables file told (table_if_any records.now) →
-        NamesBefore file src.old src.new (naming_of file number (readings_before file told others))
-        (naming_of file number others) result) }
-    ensures lies { IfOk result (λ named. IfSome named (λ by.
-        StringsWithin src.old.seen.size by.names)) }
+    ensures did { NamesRecord src.old src.new number result (most_of records.now)
+        (OfAnyTable records.now) }
+    ensures lies { IfOk result (NamedLies src.old.seen.size) }
 {
-    let Some(records) = records else {
-        return Ok(None);
-    };
-    let Some(record) = name_in_table(src, records, number)? else {
-        return Ok(None);
-    };
-    Ok(Some(NamedBy {
-        record,
-        names: records.names,
-    }))
+    match records {
+        None => Ok(None),
+        Some(records) => name_in_table(src, records, number),
+    }
 }
 
 // Whether a record names the version of a number.

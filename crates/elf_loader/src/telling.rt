@@ -42,12 +42,10 @@ pub(crate) fn told_name<S: Source>(
     name: &mut NameBuf,
 ) -> Result<ToldName, Fault>
     requires lies { SymbolsLie src.old.seen.size symbols.now }
-    ensures { Did src.old src.new (why_stopped result)
-        (most_versions symbols.now * 28 + told_bytes)
-        (λ file. (scope : IsScopeOf) (words : AreWordsOf) (y : ℕ) →
-        IsSymbols file scope.symbols symbols.now → at ≡ version_word_at words y →
-        TellsVersionName file scope words y
-        (naming_of file number (readings file scope.symbols.records))
+    ensures { Did src.old src.new (why_stopped result) (most_versions symbols.now * 28 + told_bytes)
+        (λ file. (told : IsScopeOf) (is : AreWordsOf) (y : ℕ) →
+        IsSymbols file told.symbols symbols.now → at ≡ version_word_at is y →
+        TellsVersionName file told is y (naming_of file number (readings file told.symbols.records))
         src.old src.new name.new result) }
 {
     let Some(named) = name_of(src, symbols, number)? else {

@@ -19,7 +19,7 @@ use Rattle.elf_table.specs.Views.{rest_mapped, strings_mapped}
 use Rattle.elf_scope.specs.Entries.{AreTaggedEntries, dynamic_entry_at}
 use Rattle.elf_hash.specs.Kinds.{hash_kind_of}
 use Rattle.elf_scope.specs.Scopes.{IsScopeFound, IsScope}
-use Rattle.elf_scope.specs.Segments.{AreRowsSymbols, IsRest, TellSymbols, rows_records, scope_by_entries, version_rows}
+use Rattle.elf_scope.specs.Segments.{AreRowsSymbols, TellSymbols, rows_records, scope_by_entries, version_rows}
 use Rattle.elf_scope.specs.Versions.{AreVersions}
 use Rattle.elf_scope.specs.declared.entry.TaggedEntries.{TaggedEntries}
 use Rattle.elf_scope.specs.declared.entry.Entry.{Entry}
@@ -27,7 +27,7 @@ use Rattle.elf_scope.specs.declared.scope.Scope.{Scope}
 use Rattle.elf_scope.specs.declared.symbols.Symbols.{Symbols}
 use Rattle.elf_scope.specs.declared.versions.VersionTables.{VersionTables}
 use Rattle.elf_scope.proofs.SettleLaws.{checked_fails, checked_passes, passed_both, refused_back, refused_front}
-use Rattle.elf_scope.proofs.SegmentLaws.{entry_passes, entry_refused, row_some}
+use Rattle.elf_scope.proofs.SegmentLaws.{IsRest, entry_passes, entry_refused, row_some}
 
 -- whether an entry is there
 module _ (file : List ℕ) where

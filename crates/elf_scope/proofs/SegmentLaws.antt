@@ -18,7 +18,7 @@ use Rattle.elf_table.specs.Sections.{rows}
 use Rattle.elf_table.specs.Tables.{Rows, strings_in}
 use Rattle.elf_table.specs.Views.{rest_mapped, rest_of}
 use Rattle.elf_scope.specs.Entries.{AreTaggedEntries, dynamic_entry_at}
-use Rattle.elf_scope.specs.Segments.{IsRest, TellsHash, rows_records, version_rows}
+use Rattle.elf_scope.specs.Segments.{TellsHash, rows_records, version_rows}
 use Rattle.elf_scope.specs.Symbols.{AreWords, IsRecordTable, IsWords}
 use Rattle.elf_scope.specs.Versions.{AreInFront, AreVersions}
 use Rattle.elf_scope.specs.declared.entry.TaggedEntries.{TaggedEntries}
@@ -29,6 +29,11 @@ use Rattle.elf_scope.specs.declared.symbols.VersionWords.{VersionWords}
 use Rattle.elf_scope.specs.declared.versions.VersionTables.{VersionTables}
 use Rattle.elf_scope.proofs.SettleLaws.{checked_fails, checked_passes, passed_both, refused_back, refused_front}
 use Rattle.elf_scope.proofs.VersionLaws.{both_in_front, records_kept}
+
+-- bytes are the rest of the address of an entry
+pub record IsRest (file : List ℕ) (row : ℕ) (table : Rows) : Type 0 where
+  pub place : table.at ≡ rest_place file row
+  pub size : table.count ≡ rest_size file row
 
 -- an entry that is told of, and its row
 module _ (file : List ℕ) where

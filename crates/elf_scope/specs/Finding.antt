@@ -17,11 +17,6 @@ use Rattle.elf_scope.specs.declared.scope.Scope.{Scope}
 abbrev pub scope_loaded : List ℕ → Result IsScopeOf Refusal
 scope_loaded file = elim (e_shnum file == 0) [ true ↦ scope_by_segments file | false ↦ scope_by_sections file ]
 
--- WHAT A LOADED FILE TELLS, where it is known, within what tells of its tables where it has no sections
-pub record FindsLoaded (file : List ℕ) (old new : Counting) (result : Result Scope Fault) : Type 0 where
-  pub costs : Charges old new (why_stopped result) (segments_asked file)
-  pub finds : IsScopeFound file (scope_loaded file) result
-
 -- how many bytes it may ask for, with so many headers permitted: the file header, and where the early checks pass the headers
 abbrev pub scope_cost : List ℕ → ℕ → ℕ
 scope_cost file headers = elim (first_refusal (before_headers file headers)) [

@@ -1,5 +1,6 @@
 pub mod Entries
 pub mod Finding
+pub mod Headers
 pub mod Kinds
 pub mod Scopes
 pub mod Segments

@@ -1,9 +1,9 @@
 -- What a lookup is made in by the dynamic entries of a segment, stage by stage.
-use Rattle.std.specs.Prelude.{ℕ, ◌≡◌, ◌||◌, true, is_none, List, [], ◌++◌, Option, None, Some, Result, Ok, Err}
+use Rattle.std.specs.Prelude.{ℕ, ◌≡◌, ◌||◌, true, is_none, List, [], ◌++◌, Option, None, Some, Result, Ok, Err, IfOk}
 use Rattle.elf_model.specs.Checks.{Check, first_refusal, pass}
 use Rattle.elf_model.specs.Cost.{cost_where}
-use Rattle.elf_model.specs.Loader.{RecordTable as IsTableOf, Symbols as AreSymbolsOf}
-use Rattle.elf_model.specs.LoaderScope.{Scope as IsScopeOf, tagged_row, rest_checks, rest_place, rest_size, checks_of_row, hash_row, segment_checks, segment_scope, segment_strings, segment_symbols, segment_words, records_of_tag, records_with, dynamic_segment_index, words_row}
+use Rattle.elf_model.specs.Loader.{RecordTable as IsTableOf}
+use Rattle.elf_model.specs.LoaderScope.{Scope as IsScopeOf, tagged_row, rest_checks, checks_of_row, hash_row, segment_checks, segment_scope, segment_strings, segment_symbols, segment_words, records_of_tag, records_with, dynamic_segment_index, words_row}
 use Rattle.elf_model.specs.Numbers.{DT_VERDEF, DT_VERNEED}
 use Rattle.elf_model.specs.Records.{d_un, p_filesz, segment_at}
 use Rattle.elf_model.specs.Tables.{segment_dynamic_checks}
@@ -11,22 +11,18 @@ use Rattle.elf_model.specs.declared.causes.Cause.TheVariants.{NoHash}
 use Rattle.elf_model.specs.declared.causes.Refusal.{Refusal}
 use Rattle.elf_model.specs.declared.versions.VersionKind.TheVariants.{Definition, File}
 use Rattle.elf_source.specs.Source.{Counting}
-use Rattle.elf_headers.specs.Ledger.{Charges, why_stopped}
+use Rattle.elf_headers.specs.Ledger.{Charges, Did, why_stopped}
+use Rattle.elf_headers.specs.Load.{Views}
 use Rattle.elf_headers.specs.declared.fault.Fault.{Fault}
-use Rattle.elf_table.specs.Tables.{Rows}
+use Rattle.elf_table.specs.declared.segment_view.SegmentView.{SegmentView}
 use Rattle.elf_hash.specs.Kinds.{hash_kind_of}
-use Rattle.elf_scope.specs.Scopes.{IsScopeFound}
+use Rattle.elf_scope.specs.Scopes.{IsScopeFound, ScopeLies}
 use Rattle.elf_scope.specs.Symbols.{IsSymbols}
 use Rattle.elf_scope.specs.declared.entry.TaggedEntries.{TaggedEntries}
 use Rattle.elf_scope.specs.declared.entry.Entry.{Entry}
 use Rattle.elf_hash.specs.declared.kind.HashKind.{HashKind}
 use Rattle.elf_scope.specs.declared.scope.Scope.{Scope}
 use Rattle.elf_scope.specs.declared.symbols.Symbols.{Symbols}
-
--- bytes are the rest of the address of an entry
-pub record IsRest (file : List ℕ) (row : ℕ) (table : Rows) : Type 0 where
-  pub place : table.at ≡ rest_place file row
-  pub size : table.count ≡ rest_size file row
 
 -- the entry that tells of the hash table, and the kind of that
 abbrev pub TellsHash : List ℕ → ℕ → Option (HashKind × Entry) → Type 0
@@ -50,20 +46,16 @@ version_rows file at =
 abbrev pub rows_records : List ℕ → ℕ → List IsTableOf
 rows_records file at = records_of_tag file at DT_VERDEF Definition (records_of_tag file at DT_VERNEED File [])
 
--- the symbols at the entries
-abbrev pub rows_symbols : List ℕ → (index at : ℕ) → AreSymbolsOf
-rows_symbols file index at = record {
-  index = index;
-  place = (segment_symbols file at).0;
-  strings = segment_strings file at;
-  words = segment_words file index at;
-  records = records_with (segment_words file index at) (rows_records file at);
-}
-
 -- symbols are those at the entries
 pub record AreRowsSymbols (file : List ℕ) (index at : ℕ) (found : Symbols) : Type 0 where
   pub count : found.table.count ≡ (segment_symbols file at).1
-  pub symbols : IsSymbols file (rows_symbols file index at) found
+  pub symbols : IsSymbols file (record {
+    index = index;
+    place = (segment_symbols file at).0;
+    strings = segment_strings file at;
+    words = segment_words file index at;
+    records = records_with (segment_words file index at) (rows_records file at);
+  }) found
 
 -- what a lookup is made in by the entries of a segment
 abbrev pub scope_by_entries : List ℕ → (index at : ℕ) → Result IsScopeOf Refusal
@@ -84,7 +76,9 @@ entries_asked file = elim (dynamic_segment_index file) [
       cost_where (pass (segment_dynamic_checks file at)) (p_filesz file at)
 ]
 
--- WHAT THE PROGRAM HEADERS TELL of a known file: within the bytes of the dynamic entries, what a lookup is made in
-pub record FindsSegments (file : List ℕ) (told : Result IsScopeOf Refusal) (old new : Counting) (result : Result Scope Fault) : Type 0 where
-  pub costs : Charges old new (why_stopped result) (entries_asked file)
-  pub finds : IsScopeFound file told result
+-- WHAT THE PROGRAM HEADERS TELL: what a lookup is made in, which lies within the file, by no more bytes than the file has;
+-- where the file is known within the bytes of the dynamic entries, and as the definitions find it
+pub record FindsSegments (view : SegmentView) (told : List ℕ → Result IsScopeOf Refusal) (old new : Counting) (result : Result Scope Fault) : Type 0 where
+  pub did : Did old new (why_stopped result) old.seen.size (λ bytes.
+      Views bytes view.loaded view.store.now → Charges old new (why_stopped result) (entries_asked bytes) × IsScopeFound bytes (told bytes) result)
+  pub within : IfOk result (ScopeLies view.loaded.size)

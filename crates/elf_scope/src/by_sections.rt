@@ -1,12 +1,12 @@
 //! What a lookup is made in, by the section headers.
-ghost use Rattle.std.specs.Prelude.{◌≡◌, ◌<◌, ◌^◌, ℕ, List, IfOk, IfErr, IfSome};
+ghost use Rattle.std.specs.Prelude.{◌≡◌, ◌<◌, ◌^◌, ℕ, List, IfSome};
 ghost use Rattle.std.specs.Option.{option_map};
 ghost use Rattle.elf_model.specs.LoaderScope.{hash_section, scope_by_sections, section_checks, section_scope};
 ghost use Rattle.elf_model.specs.Records.{section_at};
-ghost use Rattle.elf_headers.specs.Faults.{IsOfCheck};
 ghost use Rattle.elf_headers.specs.Load.{Belongs};
 ghost use Rattle.elf_table.specs.HashSections.{Settles};
 ghost use Rattle.elf_hash.specs.Kinds.{hash_kind_of};
+ghost use Rattle.elf_scope.specs.Headers.{FindsIn, HasHeader};
 ghost use Rattle.elf_scope.specs.Kinds.{found_at};
 ghost use Rattle.elf_scope.specs.Scopes.{IsScopeFound, IsScope, ScopeLies};
 
@@ -28,10 +28,8 @@ use elf_table::File;
 /// tables of versions.
 pub(crate) fn by_sections(file: &File<'_>) -> Result<Scope, Fault>
     requires small { file.now.loaded.size < 2 ^ 63 }
-    ensures held { (bytes : List ℕ) → Belongs bytes file.now.loaded file.now.store.now →
-        IsScopeFound bytes (scope_by_sections bytes) result }
-    ensures within { IfOk result (ScopeLies file.now.loaded.size) }
-    ensures refusal { IfErr result IsOfCheck }
+    ensures { FindsIn Belongs file.now.loaded file.now.store.now result ScopeLies
+        (λ bytes. IsScopeFound bytes (scope_by_sections bytes) result) }
 {
     let Some((kind, section)) = hash_section(file) else {
         return refused(0x28, Cause::NoHash);
@@ -59,14 +57,11 @@ fn hash_section(file: &File<'_>) -> Option<(HashKind, u16)>
 /// # Errors
 /// The first check that fails: those of [`File::hashed`], then of the tables of versions.
 fn section_scope(file: &File<'_>, kind: HashKind, section: u16) -> Result<Scope, Fault>
-    requires below { section < file.now.store.now.loaded }
-    requires small { file.now.loaded.size < 2 ^ 63 }
-    ensures held { (bytes : List ℕ) → Belongs bytes file.now.loaded file.now.store.now →
+    requires { HasHeader section file.now.store.now.loaded file.now.loaded.size }
+    ensures { FindsIn Belongs file.now.loaded file.now.store.now result ScopeLies (λ bytes.
         Settles (section_checks bytes (hash_kind_of kind) (section_at bytes section))
         (IsScope bytes (section_scope bytes (hash_kind_of kind) (section_at bytes section)))
-        result }
-    ensures within { IfOk result (ScopeLies file.now.loaded.size) }
-    ensures refusal { IfErr result IsOfCheck }
+        result) }
 {
     let (index, (table, names)) = file.hashed(section, kind.least_bytes())?;
     let header = file.section(section);

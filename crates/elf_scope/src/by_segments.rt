@@ -1,13 +1,12 @@
 //! What a lookup is made in, by the program headers.
-ghost use Rattle.std.specs.Prelude.{◌≡◌, ◌<◌, ◌^◌, ℕ, List, IfOk, IfErr};
+ghost use Rattle.std.specs.Prelude.{◌≡◌, ◌<◌, ◌^◌, ℕ, List};
 ghost use Rattle.elf_model.specs.LoaderScope.{scope_by_segments, scope_in_segments, has_wide_kind, segment_checks, segment_scope};
 ghost use Rattle.elf_model.specs.Records.{d_un, segment_at};
-ghost use Rattle.elf_headers.specs.Faults.{IsOfCheck};
-ghost use Rattle.elf_headers.specs.Ledger.{Did, why_stopped};
 ghost use Rattle.elf_headers.specs.Load.{Views};
 ghost use Rattle.elf_table.specs.HashSections.{Settles};
 ghost use Rattle.elf_scope.specs.Entries.{AreTaggedEntries};
 ghost use Rattle.elf_hash.specs.Kinds.{hash_kind_of};
+ghost use Rattle.elf_scope.specs.Headers.{FindsIn, HasHeader, IsOfSource};
 ghost use Rattle.elf_scope.specs.Scopes.{IsScopeFound, IsScope, ScopeLies};
 ghost use Rattle.elf_scope.specs.Segments.{FindsSegments, TellsHash, scope_by_entries};
 
@@ -34,12 +33,8 @@ pub fn find_in_segments<S: Source>(
     src: &mut Counted<S>,
     view: &SegmentView<'_>,
 ) -> Result<Scope, Fault>
-    requires size { view.now.loaded.size ≡ src.old.seen.size }
-    requires small { view.now.loaded.size < 2 ^ 63 }
-    ensures did { Did src.old src.new (why_stopped result) src.old.seen.size
-        (λ bytes. Views bytes view.now.loaded view.now.store.now →
-        FindsSegments bytes (scope_by_segments bytes) src.old src.new result) }
-    ensures within { IfOk result (ScopeLies view.now.loaded.size) }
+    requires { IsOfSource src.old view.now.loaded }
+    ensures { FindsSegments view.now scope_by_segments src.old src.new result }
 {
     view.check_overlaps()?;
     in_segments(src, view)
@@ -47,12 +42,8 @@ pub fn find_in_segments<S: Source>(
 
 /// The same behind the check that no LOAD segment lies over another.
 fn in_segments<S: Source>(src: &mut Counted<S>, view: &SegmentView<'_>) -> Result<Scope, Fault>
-    requires size { view.now.loaded.size ≡ src.old.seen.size }
-    requires small { view.now.loaded.size < 2 ^ 63 }
-    ensures did { Did src.old src.new (why_stopped result) src.old.seen.size
-        (λ bytes. Views bytes view.now.loaded view.now.store.now →
-        FindsSegments bytes (scope_in_segments bytes) src.old src.new result) }
-    ensures within { IfOk result (ScopeLies view.now.loaded.size) }
+    requires { IsOfSource src.old view.now.loaded }
+    ensures { FindsSegments view.now scope_in_segments src.old src.new result }
 {
     let Some(segment) = view.first_segment(PT_DYNAMIC) else {
         return refused(0x20, Cause::NoHash);
@@ -64,13 +55,10 @@ fn in_segments<S: Source>(src: &mut Counted<S>, view: &SegmentView<'_>) -> Resul
 
 /// What a lookup is made in by the entries of a segment.
 fn by_entries(view: &SegmentView<'_>, segment: u16, found: &TaggedEntries) -> Result<Scope, Fault>
-    requires below { segment < view.now.store.now.segments }
-    requires small { view.now.loaded.size < 2 ^ 63 }
-    ensures held { (bytes : List ℕ) → Views bytes view.now.loaded view.now.store.now →
+    requires { HasHeader segment view.now.store.now.segments view.now.loaded.size }
+    ensures { FindsIn Views view.now.loaded view.now.store.now result ScopeLies (λ bytes.
         AreTaggedEntries bytes (segment_at bytes segment) found.now →
-        IsScopeFound bytes (scope_by_entries bytes segment (segment_at bytes segment)) result }
-    ensures within { IfOk result (ScopeLies view.now.loaded.size) }
-    ensures refusal { IfErr result IsOfCheck }
+        IsScopeFound bytes (scope_by_entries bytes segment (segment_at bytes segment)) result) }
 {
     let Some((kind, row)) = hash_entry(found) else {
         return refused(0x20, Cause::NoHash);
@@ -104,17 +92,14 @@ fn segment_scope(
     kind: HashKind,
     row: &Entry,
 ) -> Result<Scope, Fault>
-    requires below { segment < view.now.store.now.segments }
-    requires small { view.now.loaded.size < 2 ^ 63 }
-    ensures held { (bytes : List ℕ) → Views bytes view.now.loaded view.now.store.now →
+    requires { HasHeader segment view.now.store.now.segments view.now.loaded.size }
+    ensures { FindsIn Views view.now.loaded view.now.store.now result ScopeLies (λ bytes.
         AreTaggedEntries bytes (segment_at bytes segment) found.now →
         d_un bytes row.now.at ≡ row.now.value →
         Settles (segment_checks bytes (hash_kind_of kind) (segment_at bytes segment) row.now.at)
         (IsScope bytes
         (segment_scope bytes (hash_kind_of kind) segment (segment_at bytes segment) row.now.at))
-        result }
-    ensures within { IfOk result (ScopeLies view.now.loaded.size) }
-    ensures refusal { IfErr result IsOfCheck }
+        result) }
 {
     let hash = view.rest(row.value, row.at)?;
     let wide = has_wide_words(view, kind);

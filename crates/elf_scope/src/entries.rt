@@ -1,8 +1,8 @@
 //! The dynamic entries that tell of a lookup's tables.
-ghost use Rattle.std.specs.Prelude.{◌≡◌, ℕ, List, Some, IfErr, IfOk};
+ghost use Rattle.std.specs.Prelude.{◌≡◌, ℕ, List, IfErr, IfOk};
 ghost use Rattle.elf_record.specs.Dyn.{IsDyn};
-ghost use Rattle.elf_source.specs.Source.{Reads};
-ghost use Rattle.elf_headers.specs.Faults.{IsOfRead, Says};
+ghost use Rattle.elf_headers.specs.Faults.{IsOfRead};
+ghost use Rattle.elf_headers.specs.Ledger.{Did, why_stopped};
 ghost use Rattle.elf_table.specs.Tables.{RowsWithin, size_of};
 ghost use Rattle.elf_scope.specs.Entries.{AreListed, TakesEntry, entry_here, first_entry, no_entries};
 
@@ -27,11 +27,9 @@ pub(crate) fn first_entries<S: Source>(
 ) -> Result<TaggedEntries, Fault>
     requires rows { table.entry ≡ 16 }
     requires within { RowsWithin src.old.seen.size table }
-    ensures reads { Reads src.old src.new (size_of table) }
-    ensures says { IfErr result (Says src.old src.new (size_of table)) }
+    ensures did { Did src.old src.new (why_stopped result) (size_of table)
+        (λ file. IfOk result (AreListed file table)) }
     ensures fault { IfErr result IsOfRead }
-    ensures found { (file : List ℕ) → src.old.seen.file ≡ Some file →
-        IfOk result (AreListed file table) }
 {
     let mut found = nothing();
     let mut cursor = dynamic_rows(table);

@@ -1,9 +1,11 @@
 //! What a lookup is made in.
 ghost use Rattle.std.specs.Prelude.{◌≡◌, ◌+◌, ◌*◌, ◌<◌, ◌≤◌, ◌^◌, ℕ, List, IfOk};
-ghost use Rattle.elf_headers.specs.Ledger.{Did, why_stopped};
+ghost use Rattle.elf_model.specs.LoaderFind.{segments_asked};
+ghost use Rattle.elf_headers.specs.Ledger.{Charges, Did, why_stopped};
 ghost use Rattle.elf_headers.specs.Load.{Belongs, SegmentsWithin};
-ghost use Rattle.elf_scope.specs.Finding.{FindsLoaded, FindsScope, segments_bytes};
-ghost use Rattle.elf_scope.specs.Scopes.{ScopeLies};
+ghost use Rattle.elf_scope.specs.Finding.{FindsScope, scope_loaded, segments_bytes};
+ghost use Rattle.elf_scope.specs.Headers.{IsOfSource};
+ghost use Rattle.elf_scope.specs.Scopes.{IsScopeFound, ScopeLies};
 
 use crate::by_sections::by_sections;
 use crate::by_segments::find_in_segments;
@@ -47,13 +49,14 @@ fn loaded_scope<S: Source>(
     store: &mut HeaderStore,
     loaded: Loaded,
 ) -> Result<Scope, Fault>
-    requires size { loaded.size ≡ src.old.seen.size }
-    requires small { loaded.size < 2 ^ 63 }
+    requires sized { IsOfSource src.old loaded }
     requires whole { store.old.loaded ≡ loaded.header.e_shnum }
     requires few { loaded.header.e_phnum ≤ store.old.slots }
     ensures did { Did src.old src.new (why_stopped result)
         (segments_bytes loaded.header src.old.seen.size)
-        (λ file. Belongs file loaded store.old → FindsLoaded file src.old src.new result) }
+        (λ file. Belongs file loaded store.old →
+        Charges src.old src.new (why_stopped result) (segments_asked file)
+        × IsScopeFound file (scope_loaded file) result) }
     ensures slots { store.new.slots ≡ store.old.slots }
     ensures within { IfOk result (ScopeLies src.old.seen.size) }
 {

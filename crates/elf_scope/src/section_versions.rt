@@ -1,16 +1,16 @@
 //! The tables of versions by the section headers.
-ghost use Rattle.std.specs.Prelude.{◌≡◌, ◌<◌, ◌^◌, ℕ, List, [], IfOk, IfErr, IfSome};
+ghost use Rattle.std.specs.Prelude.{◌≡◌, ◌<◌, ◌^◌, ℕ, List, [], IfErr, IfSome};
 ghost use Rattle.elf_model.specs.LoaderScope.{checks_of_type, has_bytes, records_of_type, section_words, version_checks, words_section};
 ghost use Rattle.elf_model.specs.Numbers.{SHT_GNU_VERDEF, SHT_GNU_VERNEED};
 ghost use Rattle.elf_model.specs.Records.{section_at, sh_link};
 ghost use Rattle.elf_model.specs.Tables.{all_checks};
 ghost use Rattle.elf_model.specs.VersionRows.{version_table};
 ghost use Rattle.elf_model.specs.declared.versions.VersionKind.TheVariants.{Definition, File as NeededFile, Need};
-ghost use Rattle.elf_headers.specs.Faults.{IsOfCheck};
 ghost use Rattle.elf_headers.specs.Load.{Belongs};
 ghost use Rattle.elf_table.specs.HashSections.{Settles};
 ghost use Rattle.elf_table.specs.Sections.{string_table_at};
 ghost use Rattle.elf_table.specs.Tables.{RowsWithin, StringsWithin};
+ghost use Rattle.elf_scope.specs.Headers.{FindsIn, HasHeader};
 ghost use Rattle.elf_scope.specs.Symbols.{AreWords, IsRecordTable, RecordsWithin};
 ghost use Rattle.elf_scope.specs.Versions.{AreInFront, AreVersions, VersionsLie, records_at, words_checks};
 
@@ -30,14 +30,11 @@ use elf_table::{File, Names, Table};
 /// The first check that fails: those of the words, of the definitions, of the needs.
 pub(crate) fn section_versions(file: &File<'_>, link: u32) -> Result<VersionTables, Fault>
     requires small { file.now.loaded.size < 2 ^ 63 }
-    ensures held { (bytes : List ℕ) (at : ℕ) → Belongs bytes file.now.loaded file.now.store.now →
-        sh_link bytes at ≡ link → Settles (version_checks bytes at)
+    ensures { FindsIn Belongs file.now.loaded file.now.store.now result VersionsLie (λ bytes.
+        (at : ℕ) → sh_link bytes at ≡ link → Settles (version_checks bytes at)
         (AreVersions bytes (section_words bytes)
         (records_of_type bytes SHT_GNU_VERDEF Definition
-        (records_of_type bytes SHT_GNU_VERNEED NeededFile [])))
-        result }
-    ensures within { IfOk result (VersionsLie file.now.loaded.size) }
-    ensures refusal { IfErr result IsOfCheck }
+        (records_of_type bytes SHT_GNU_VERNEED NeededFile []))) result) }
 {
     let Some(words) = section_words(file, link)? else {
         return Ok(VersionTables {
@@ -61,12 +58,10 @@ pub(crate) fn section_versions(file: &File<'_>, link: u32) -> Result<VersionTabl
 /// # Errors
 /// At its header: those of [`File::table`]; `BadLink` where its link is another than `link`.
 fn section_words(file: &File<'_>, link: u32) -> Result<Option<VersionWords>, Fault>
-    ensures held { (bytes : List ℕ) (at : ℕ) → Belongs bytes file.now.loaded file.now.store.now →
-        sh_link bytes at ≡ link →
-        Settles (words_checks bytes at) (AreWords (section_words bytes)) result }
-    ensures within { IfOk result (λ found.
-        IfSome found (λ words. RowsWithin file.now.loaded.size words.words)) }
-    ensures refusal { IfErr result IsOfCheck }
+    ensures { FindsIn Belongs file.now.loaded file.now.store.now result
+        (λ size found. IfSome found (λ words. RowsWithin size words.words))
+        (λ bytes. (at : ℕ) → sh_link bytes at ≡ link →
+        Settles (words_checks bytes at) (AreWords (section_words bytes)) result) }
 {
     let Some(section) = words_section(file) else {
         return Ok(None);
@@ -118,11 +113,10 @@ fn first_records(
 ) -> Result<Option<RecordTable>, Fault>
     requires kind { kind ≡ Need → ⊥ }
     requires small { file.now.loaded.size < 2 ^ 63 }
-    ensures held { (bytes : List ℕ) → Belongs bytes file.now.loaded file.now.store.now →
+    ensures { FindsIn Belongs file.now.loaded file.now.store.now result
+        (λ size found. IfSome found (RecordsWithin size)) (λ bytes.
         Settles (checks_of_type bytes sh_type (all_checks version_table bytes))
-        (AreInFront bytes (records_of_type bytes sh_type kind)) result }
-    ensures within { IfOk result (λ found. IfSome found (RecordsWithin file.now.loaded.size)) }
-    ensures refusal { IfErr result IsOfCheck }
+        (AreInFront bytes (records_of_type bytes sh_type kind)) result) }
 {
     let Some(section) = file.first_section(sh_type) else {
         return Ok(None);
@@ -136,14 +130,11 @@ fn first_records(
 /// # Errors
 /// `TableOutside` at its header where it ends past the end of the file; those of [`File::strings`].
 fn section_records(file: &File<'_>, section: u16, kind: VersionKind) -> Result<RecordTable, Fault>
-    requires below { section < file.now.store.now.loaded }
+    requires header { HasHeader section file.now.store.now.loaded file.now.loaded.size }
     requires kind { kind ≡ Need → ⊥ }
-    requires small { file.now.loaded.size < 2 ^ 63 }
-    ensures held { (bytes : List ℕ) → Belongs bytes file.now.loaded file.now.store.now →
+    ensures { FindsIn Belongs file.now.loaded file.now.store.now result RecordsWithin (λ bytes.
         Settles (all_checks version_table bytes (section_at bytes section))
-        (IsRecordTable bytes (records_at bytes kind (section_at bytes section))) result }
-    ensures within { IfOk result (RecordsWithin file.now.loaded.size) }
-    ensures refusal { IfErr result IsOfCheck }
+        (IsRecordTable bytes (records_at bytes kind (section_at bytes section))) result) }
 {
     let header = file.section(section);
     let head = file.place(section);
@@ -163,11 +154,10 @@ fn section_records(file: &File<'_>, section: u16, kind: VersionKind) -> Result<R
 /// Those of [`File::strings`].
 fn record_names(file: &File<'_>, section: u16, table: Table) -> Result<Names, Fault>
     requires below { section < file.now.store.now.loaded }
-    ensures held { (bytes : List ℕ) → Belongs bytes file.now.loaded file.now.store.now →
-        0 < table.count → result ≡ string_table_at bytes (section_at bytes section) }
     ensures some { IfErr result (λ fault. 0 < table.count) }
-    ensures within { IfOk result (StringsWithin file.now.loaded.size) }
-    ensures refusal { IfErr result IsOfCheck }
+    ensures finds { FindsIn Belongs file.now.loaded file.now.store.now result StringsWithin
+        (λ bytes. 0 < table.count →
+        result ≡ string_table_at bytes (section_at bytes section)) }
 {
     if table.is_empty() {
         return Ok(Names::new(table.at(), 0));

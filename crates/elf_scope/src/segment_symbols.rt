@@ -1,13 +1,13 @@
 //! The symbols and the tables of versions by the program headers.
-ghost use Rattle.std.specs.Prelude.{◌≡◌, ◌/◌, ◌<◌, ◌≤◌, ◌^◌, ℕ, List, IfOk, IfErr, IfSome, option_map};
+ghost use Rattle.std.specs.Prelude.{◌≡◌, ◌/◌, ◌<◌, ◌≤◌, ◌^◌, ℕ, List, IfSome, option_map};
 ghost use Rattle.elf_model.specs.LoaderScope.{checks_of_row, records_of_tag, rest_checks, rows_checks, segment_strings, segment_words, tagged_row, words_row};
 ghost use Rattle.elf_model.specs.Records.{segment_at};
 ghost use Rattle.elf_model.specs.declared.versions.VersionKind.TheVariants.{Need};
-ghost use Rattle.elf_headers.specs.Faults.{IsOfCheck};
 ghost use Rattle.elf_headers.specs.Load.{Views};
 ghost use Rattle.elf_table.specs.HashSections.{Settles};
 ghost use Rattle.elf_table.specs.Tables.{StringsWithin, strings_in};
 ghost use Rattle.elf_scope.specs.Entries.{AreTaggedEntries, dynamic_entry_at};
+ghost use Rattle.elf_scope.specs.Headers.{FindsIn};
 ghost use Rattle.elf_scope.specs.Segments.{AreRowsSymbols, TellSymbols, rows_records, version_rows};
 ghost use Rattle.elf_scope.specs.Symbols.{RecordsWithin, SymbolsLie};
 ghost use Rattle.elf_scope.specs.Versions.{AreInFront, AreVersions, VersionsLie};
@@ -34,11 +34,9 @@ pub(crate) fn segment_symbols(
     row: u64,
 ) -> Result<Symbols, Fault>
     requires small { view.now.loaded.size < 2 ^ 63 }
-    ensures held { (bytes : List ℕ) (at : ℕ) → Views bytes view.now.loaded view.now.store.now →
-        AreTaggedEntries bytes at found.now →
-        Settles (rows_checks bytes at row) (AreRowsSymbols bytes segment at) result }
-    ensures within { IfOk result (SymbolsLie view.now.loaded.size) }
-    ensures refusal { IfErr result IsOfCheck }
+    ensures { FindsIn Views view.now.loaded view.now.store.now result SymbolsLie (λ bytes.
+        (at : ℕ) → AreTaggedEntries bytes at found.now →
+        Settles (rows_checks bytes at row) (AreRowsSymbols bytes segment at) result) }
 {
     let Some((symtab, strtab, strsz)) = symbol_entries(found) else {
         return refused(row, Cause::Unmapped);
@@ -95,12 +93,10 @@ fn segment_versions(
 ) -> Result<VersionTables, Fault>
     requires small { view.now.loaded.size < 2 ^ 63 }
     requires names { StringsWithin view.now.loaded.size names }
-    ensures held { (bytes : List ℕ) (at : ℕ) → Views bytes view.now.loaded view.now.store.now →
-        AreTaggedEntries bytes at found.now → strings_in bytes names ≡ segment_strings bytes at →
-        Settles (version_rows bytes at)
-        (AreVersions bytes (segment_words bytes segment at) (rows_records bytes at)) result }
-    ensures within { IfOk result (VersionsLie view.now.loaded.size) }
-    ensures refusal { IfErr result IsOfCheck }
+    ensures { FindsIn Views view.now.loaded view.now.store.now result VersionsLie (λ bytes.
+        (at : ℕ) → AreTaggedEntries bytes at found.now →
+        strings_in bytes names ≡ segment_strings bytes at → Settles (version_rows bytes at)
+        (AreVersions bytes (segment_words bytes segment at) (rows_records bytes at)) result) }
 {
     let Some(entry) = words_entry(found) else {
         return Ok(VersionTables {
@@ -149,14 +145,12 @@ fn segment_records(
     requires kind { kind ≡ Need → ⊥ }
     requires small { view.now.loaded.size < 2 ^ 63 }
     requires names { StringsWithin view.now.loaded.size names }
-    ensures held { (bytes : List ℕ) (at tag : ℕ) →
-        Views bytes view.now.loaded view.now.store.now →
+    ensures { FindsIn Views view.now.loaded view.now.store.now result
+        (λ size found. IfSome found (RecordsWithin size)) (λ bytes. (at tag : ℕ) →
         entry ≡ option_map (dynamic_entry_at bytes) (tagged_row bytes at tag) →
         strings_in bytes names ≡ segment_strings bytes at →
         Settles (checks_of_row (tagged_row bytes at tag) (rest_checks bytes))
-        (AreInFront bytes (records_of_tag bytes at tag kind)) result }
-    ensures within { IfOk result (λ found. IfSome found (RecordsWithin view.now.loaded.size)) }
-    ensures refusal { IfErr result IsOfCheck }
+        (AreInFront bytes (records_of_tag bytes at tag kind)) result) }
 {
     let Some(entry) = entry else {
         return Ok(None);

@@ -19,7 +19,7 @@ returns-in_err-walked g c =
     let same = ap (λ (p : HashPlace). walk_bytes 12 (p.size / 4) (p.size / 4) (trial_bytes wanted)) c.requires.place in
     rw (p.1, p.2)
     (Did-as _ (omega (arith, same)) c.in_err-walked.ensures
-    (λ file walks costs told before is table first.
+    (λ file walks costs told is before table first.
     let walked = walks told (answers file told.symbols wanted (has_number c.args.numbers.now)) table (record { told = told.symbols; are = is.symbols; says_so = refl }) in
     looks_unwalked file told wanted before (walk_in file told wanted (has_number c.args.numbers.now)) first c.args.name.now _ (walks_as file told wanted (has_number c.args.numbers.now) _ _ walked)))
 
@@ -28,8 +28,8 @@ returns g c =
     let wanted = the_wanted c.args.wanted.now in
     let same = ap (λ (p : HashPlace). walk_bytes 12 (p.size / 4) (p.size / 4) (trial_bytes wanted)) c.requires.place in
     Did-as _ (omega (arith, same)) (Did-then c.in_ok-walked.ensures c.answer_of.ensures)
-    (λ file read costs told before is table first.
+    (λ file read costs told is before table first.
     let walked = read.0 told (answers file told.symbols wanted (has_number c.args.numbers.now)) table (record { told = told.symbols; are = is.symbols; says_so = refl }) in
     let walks = walks_as file told wanted (has_number c.args.numbers.now) _ _ walked in
     let walk = walk_in file told wanted (has_number c.args.numbers.now) in
-    looks_walked file told wanted before walk first c.answer_of.new.name c.in_ok-walked.walked _ walks (read.1 told walk before is walks.gives first))
+    looks_walked file told wanted before walk first c.answer_of.new.name c.in_ok-walked.walked _ walks (read.1 told is walk before walks.gives first))

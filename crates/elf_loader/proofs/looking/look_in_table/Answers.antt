@@ -11,7 +11,7 @@ use Rattle.elf_loader.proofs.looking.look_in_table.Goals as goal
 pub returns-in_err-numbers : goal.returns-in_err-numbers
 returns-in_err-numbers g c =
     let p = err_from_is_err_and c.from_residual.result c.from_residual.ensures.1 in
-    let lies = c.requires.lies in
+    let lies = c.requires.may.lies in
     let within = behind_within (the_wanted c.args.wanted.now) c.args.scope.now.symbols c.args.scope.now.hash.at c.args.scope.now.hash.size c.args.src.now.seen.size lies.symbols lies.table in
     rw (p.1, p.2)
     (Did-as _ (omega (arith, within)) c.in_err-numbers.ensures
@@ -19,11 +19,11 @@ returns-in_err-numbers g c =
 
 pub returns : goal.returns
 returns g c =
-    let lies = c.requires.lies in
+    let lies = c.requires.may.lies in
     let within = behind_within (the_wanted c.args.wanted.now) c.args.scope.now.symbols c.args.scope.now.hash.at c.args.scope.now.hash.size c.args.src.now.seen.size lies.symbols lies.table in
     Did-as _ (omega (arith, within)) (Did-then c.in_ok-numbers.ensures c.look_along.ensures)
     (λ file read costs told is table.
     let wanted = the_wanted c.args.wanted.now in
     let collects = read.0 told is.symbols in
     looks_numbered file told wanted c.look_along.new.name c.in_ok-numbers.numbers _ collects
-    (read.1 told (wanted_numbers file told wanted.asked).read is table (none_read file told wanted)))
+    (read.1 told is (wanted_numbers file told wanted.asked).read table (none_read file told wanted)))

@@ -4,7 +4,6 @@ use Rattle.std.proofs.lemmas.Result.{err_from_is_err_and}
 use Rattle.elf_headers.proofs.LedgerLaws.{Did-as, Did-none, Did-then}
 use Rattle.elf_model.specs.Loader.{naming_of}
 use Rattle.elf_model.specs.Versions.{most_records}
-use Rattle.elf_table.specs.Tables.{strings_in}
 use Rattle.elf_versions.specs.Reading.{unread}
 use Rattle.elf_versions.proofs.TakenLaws.{going-did}
 use Rattle.elf_versions.proofs.WordLaws.{none-of}
@@ -28,8 +27,8 @@ records-init g c =
           ));
     }
 
-pub returns-in_err-given : goal.returns-in_err-given
-returns-in_err-given g c =
+pub returns-in_err-given-clause-did : goal.returns-in_err-given-clause-did
+returns-in_err-given-clause-did g c =
     let l = c.records in
     let i = l.invariant in
     let a = c.in_err-given.ensures in
@@ -47,11 +46,11 @@ returns-in_err-given g c =
     (λ file told costs t others is.
     let before = told.0 in
     let step = told.1 before.0 in
-    fault-names file (strings_in file c.args.records.now.names) (most - l.cursor.left) (l.cursor.left - new.left) _ _ (naming_of file c.args.number others) _ (before.1 t others is)
+    fault-names file (most - l.cursor.left) (l.cursor.left - new.left) _ _ (naming_of file c.args.number others) _ (before.1 t others is)
     (costs _ (omega arith)) pays (spent-read file t.strings c.args.number others l.cursor new a.leaves.1) (fault-left file t.strings c.args.number others l.cursor new _ (step.tells i.going))))
 
-pub returns-then-names_number : goal.returns-then-names_number
-returns-then-names_number g c =
+pub returns-then-names_number-clause-did : goal.returns-then-names_number-clause-did
+returns-then-names_number-clause-did g c =
     let l = c.records in
     let i = l.invariant in
     let a = c.in_ok-given.ensures in
@@ -110,8 +109,8 @@ records-preserved g c =
           ));
     }
 
-pub returns : goal.returns
-returns g c =
+pub returns-clause-did : goal.returns-clause-did
+returns-clause-did g c =
     let l = c.records in
     let i = l.invariant in
     let a = c.in_ok-given.ensures in

@@ -6,7 +6,7 @@ use Rattle.elf_model.specs.Loader.{naming_of}
 use Rattle.elf_scope.specs.Symbols.{table_if_any}
 use Rattle.elf_versions.proofs.WordLaws.{none-of}
 use Rattle.elf_loader.specs.Tables.{most_of, readings_before}
-use Rattle.elf_loader.proofs.NamingLaws.{fault-of, names-then, naming-nothing, some-of}
+use Rattle.elf_loader.proofs.NamingLaws.{fault-of, names-then, some-of}
 use Rattle.elf_loader.proofs.TablesLaws.{part, read-parted, sum-pays}
 use Rattle.elf_loader.proofs.naming.name_of.Goals as goal
 
@@ -19,7 +19,7 @@ returns-in_err-named-clause-did g c =
     (λ file read costs told are.
     let parts = part file told (table_if_any c.args.symbols.now.definitions) (table_if_any c.args.symbols.now.needs) are in
     let e = read-parted file told (table_if_any c.args.symbols.now.definitions) (table_if_any c.args.symbols.now.needs) parts in
-    fault-of file c.args.src.now c.name_in_any.new.src _ _ (naming_of file c.args.number (readings_before file parts.back [])) _
+    fault-of file c.args.src.now c.name_in_any.new.src _ _ (naming_of file c.args.number (readings_before file parts.back [])) (naming_of file c.args.number []) _
     (ap (naming_of file c.args.number) e) (read parts.front (readings_before file parts.back []) parts.are_front)))
 
 pub returns-in-Some-clause-did : goal.returns-in-Some-clause-did
@@ -29,7 +29,7 @@ returns-in-Some-clause-did g c =
     (λ file read costs told are.
     let parts = part file told (table_if_any c.args.symbols.now.definitions) (table_if_any c.args.symbols.now.needs) are in
     let e = read-parted file told (table_if_any c.args.symbols.now.definitions) (table_if_any c.args.symbols.now.needs) parts in
-    some-of file c.args.src.now c.name_in_any.new.src _ _ (naming_of file c.args.number (readings_before file parts.back [])) c.in-Some.named
+    some-of file c.args.src.now c.name_in_any.new.src _ _ (naming_of file c.args.number (readings_before file parts.back [])) (naming_of file c.args.number []) c.in-Some.named
     (ap (naming_of file c.args.number) e) (read parts.front (readings_before file parts.back []) parts.are_front))
 
 pub returns-clause-did : goal.returns-clause-did
@@ -41,4 +41,4 @@ returns-clause-did g c =
     let parts = part file told (table_if_any c.args.symbols.now.definitions) (table_if_any c.args.symbols.now.needs) are in
     let e = read-parted file told (table_if_any c.args.symbols.now.definitions) (table_if_any c.args.symbols.now.needs) parts in
     names-then file c.args.src.now c.name_in_any.new.src c.name_in_any-2.new.src _ _ (naming_of file c.args.number (readings_before file parts.back [])) (naming_of file c.args.number []) c.name_in_any-2.result
-    (ap (naming_of file c.args.number) e) (naming-nothing file c.args.number) (read.0 parts.front (readings_before file parts.back []) parts.are_front) (read.1 parts.back [] parts.are_back))
+    (ap (naming_of file c.args.number) e) (read.0 parts.front (readings_before file parts.back []) parts.are_front) (read.1 parts.back [] parts.are_back))

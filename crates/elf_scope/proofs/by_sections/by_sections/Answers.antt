@@ -3,14 +3,20 @@ use Rattle.std.proofs.Common.{ap, ◌∙◌}
 use Rattle.std.specs.Prelude.{option_map}
 use Rattle.elf_scope.specs.Kinds.{found_at}
 use Rattle.elf_scope.proofs.SectionLaws.{not_some, sections_find, sections_none}
+use Rattle.elf_scope.proofs.SettleLaws.{refuses}
 use Rattle.elf_scope.proofs.by_sections.by_sections.Goals as goal
 
-pub returns-in_default-clause-held : goal.returns-in_default-clause-held
-returns-in_default-clause-held c = λ bytes belongs.
+pub returns-in_default : goal.returns-in_default
+returns-in_default c =
     rw c.refused.ensures
-    (λ other. sections_none bytes (c.hash_section.ensures.held bytes belongs ∙ ap (option_map (found_at bytes)) (not_some c.hash_section.result c.in_default.not-Some)))
+    (refuses _ (λ budget. cc) (λ bytes belongs other.
+    sections_none bytes (c.hash_section.ensures.held bytes belongs ∙ ap (option_map (found_at bytes)) (not_some c.hash_section.result c.in_default.not-Some))))
 
-pub returns-clause-held : goal.returns-clause-held
-returns-clause-held c = λ bytes belongs.
-    sections_find bytes (found_at bytes (c.in-Some.kind, c.in-Some.section)) (c.hash_section.ensures.held bytes belongs ∙ ap (option_map (found_at bytes)) c.in-Some.is) _
-    (c.section_scope.ensures.held bytes belongs)
+pub returns : goal.returns
+returns c = record {
+  held = λ bytes belongs.
+      sections_find bytes (found_at bytes (c.in-Some.kind, c.in-Some.section)) (c.hash_section.ensures.held bytes belongs ∙ ap (option_map (found_at bytes)) c.in-Some.is) _
+      (c.section_scope.ensures.held bytes belongs);
+  within = c.section_scope.ensures.within;
+  refusal = c.section_scope.ensures.refusal;
+}

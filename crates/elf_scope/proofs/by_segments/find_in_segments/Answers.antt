@@ -5,17 +5,22 @@ use Rattle.elf_headers.proofs.LedgerLaws.{Did-as, Did-none, Did-stop}
 use Rattle.elf_scope.proofs.FoundLaws.{apart_finds, overlap_refused}
 use Rattle.elf_scope.proofs.by_segments.find_in_segments.Goals as goal
 
-pub returns-in_err-check_overlaps-clause-did : goal.returns-in_err-check_overlaps-clause-did
-returns-in_err-check_overlaps-clause-did g c =
+pub returns-in_err-check_overlaps : goal.returns-in_err-check_overlaps
+returns-in_err-check_overlaps g c =
     let p = err_from_is_err_and c.from_residual.result c.from_residual.ensures.1 in
-    rw (p.1, p.2)
-    (Did-as _ (omega arith) (Did-stop _ c.in_err-check_overlaps.ensures.refusal (Did-none c.args.src.now))
-    (λ file told costs views.
-    record { costs = costs _ (omega arith); finds = overlap_refused file _ (c.in_err-check_overlaps.ensures.held file views) }))
+    record {
+      did =
+          rw (p.1, p.2)
+          (Did-as _ (omega arith) (Did-stop _ c.in_err-check_overlaps.ensures.refusal (Did-none c.args.src.now))
+          (λ file told costs views. (costs _ (omega arith), overlap_refused file _ (c.in_err-check_overlaps.ensures.held file views))));
+      within = rw p.1 tt;
+    }
 
-pub returns-clause-did : goal.returns-clause-did
-returns-clause-did g c =
-    Did-as _ (omega arith) c.in_segments.ensures.did
-    (λ file told costs views.
-    let found = told views in
-    record { costs = found.costs; finds = apart_finds file (c.in_ok-check_overlaps.ensures.held file views) _ found.finds })
+pub returns : goal.returns
+returns g c = record {
+  did =
+      Did-as _ (omega arith) c.in_segments.ensures.did
+      (λ file told costs views.
+      let found = told views in (found.0, apart_finds file (c.in_ok-check_overlaps.ensures.held file views) _ found.1));
+  within = c.in_segments.ensures.within;
+}

@@ -36,9 +36,14 @@ entries-preserved g c =
           (takes_at file at c.row-row.result.at c.entry_in.result l.found _ offset (c.with_entry-found.ensures file) (stands file h)) (i.found file h);
     }
 
-pub returns-clause-found : goal.returns-clause-found
-returns-clause-found g c = λ file h.
+pub returns-clause-did : goal.returns-clause-did
+returns-clause-did g c =
     let l = c.entries in
     let i = l.invariant in
-    let none = (ended l.src.seen.file l.cursor c.advance.new.self c.in_ok-advance.field-0 c.if-branch.false c.in_ok-advance.ensures.steps).none_left file in
-    each_end file c.args.table _ _ l.found none (i.found file h)
+    let a = c.in_ok-advance.ensures in
+    record {
+      costs = record { reads = Reads-to (Reads-then i.reads a.asks.reads) (let x = a.keeps.account in let y = i.account in omega arith); says = tt };
+      known = λ file h.
+          let none = (ended l.src.seen.file l.cursor c.advance.new.self c.in_ok-advance.field-0 c.if-branch.false a.steps).none_left file in
+          each_end file c.args.table _ _ l.found none (i.found file h);
+    }

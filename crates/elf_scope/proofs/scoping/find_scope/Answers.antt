@@ -52,6 +52,6 @@ returns-clause-did g c =
     let cost = cost_loaded file c.args.store.now.slots told.0.0.0 early in
     let behind = told.1 belongs in
     record {
-      costs = Charges-then _ (omega (arith, most, headers, cost, told.0.0.1.e_shnum)) loaded.costs behind.costs;
-      finds = tells_loaded file c.args.store.now.slots _ told.0.0.0 load behind.finds;
+      costs = Charges-then _ (omega (arith, most, headers, cost, told.0.0.1.e_shnum)) loaded.costs behind.0;
+      finds = tells_loaded file c.args.store.now.slots _ told.0.0.0 load behind.1;
     })

@@ -12,7 +12,7 @@ returns-then-header-ne0-clause-did g c =
     Did-as _ (omega arith) (did_check c.by_sections.result c.by_sections.ensures.refusal (Did-none c.args.src.now))
     (λ file told costs belongs.
     let count = ap (λ (h : Ehdr). h.e_shnum) c.header.ensures.value ∙ belongs.header.e_shnum in
-    record { costs = costs _ (omega arith); finds = loaded_sections file _ (λ none. c.if-header-ne0.true (count ∙ none)) (c.by_sections.ensures.held file belongs) })
+    (costs _ (omega arith), loaded_sections file _ (λ none. c.if-header-ne0.true (count ∙ none)) (c.by_sections.ensures.held file belongs)))
 
 pub returns-in_err-load_segments-clause-did : goal.returns-in_err-load_segments-clause-did
 returns-in_err-load_segments-clause-did g c =
@@ -24,7 +24,7 @@ returns-in_err-load_segments-clause-did g c =
     (λ file told costs belongs.
     let none = sym (shnum ∙ belongs.header.e_shnum) ∙ c.if-header-ne0.false in
     let cost = segments_cost file none in
-    record { costs = costs _ (omega (arith, cost, belongs.header.e_phnum)); finds = read_tells file _ _ c.in_err-load_segments.ensures.fault }))
+    (costs _ (omega (arith, cost, belongs.header.e_phnum)), read_tells file _ _ c.in_err-load_segments.ensures.fault)))
 
 pub returns-clause-did : goal.returns-clause-did
 returns-clause-did g c =
@@ -37,4 +37,4 @@ returns-clause-did g c =
     let none = sym (shnum ∙ belongs.header.e_shnum) ∙ c.if-header-ne0.false in
     let cost = segments_cost file none in
     let found = told.1 (told.0 belongs) in
-    record { costs = Charges-then _ (omega (arith, cost, belongs.header.e_phnum)) first.costs found.costs; finds = loaded_segments file none _ found.finds })
+    (Charges-then _ (omega (arith, cost, belongs.header.e_phnum)) first.costs found.0, loaded_segments file none _ found.1))

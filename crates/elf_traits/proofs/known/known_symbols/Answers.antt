@@ -11,7 +11,7 @@ returns-in-Err-clause-did g c =
     (Did-as _ (omega arith) (passed_did _ c.in-Err.ensures.did)
     (λ file told costs views.
     let found = told views in
-    record { costs = Charges-more _ (omega arith) (passed_charges _ found.costs); finds = passed_tells file _ found.finds }))
+    record { costs = Charges-more _ (omega arith) (passed_charges _ found.0); finds = passed_tells file _ found.1 }))
 
 pub returns-in_err-table-clause-did : goal.returns-in_err-table-clause-did
 returns-in_err-table-clause-did g c =
@@ -22,10 +22,10 @@ returns-in_err-table-clause-did g c =
     (Did-as _ (omega (arith, most)) (Did-then first c.in_err-table.ensures.did)
     (λ file told costs views.
     let found = told.0 views in
-    let scope = found.finds in
+    let scope = found.1 in
     let within = counts_within file scope.0 _ scope.1 scope.2 in
     record {
-      costs = Charges-then _ (omega (arith, within)) found.costs c.in_err-table.ensures.did.costs;
+      costs = Charges-then _ (omega (arith, within)) found.0 c.in_err-table.ensures.did.costs;
       finds = counts_refused file scope.0 _ scope.1 scope.2 _ (told.1 scope.0 (its_place file scope.0 _ scope.1 scope.2));
     }))
 
@@ -36,9 +36,9 @@ returns-clause-did g c =
     Did-as _ (omega (arith, most)) (Did-then first c.in_ok-table.ensures.did)
     (λ file told costs views.
     let found = told.0 views in
-    let scope = found.finds in
+    let scope = found.1 in
     let within = counts_within file scope.0 _ scope.1 scope.2 in
     record {
-      costs = Charges-then _ (omega (arith, within)) found.costs c.in_ok-table.ensures.did.costs;
+      costs = Charges-then _ (omega (arith, within)) found.0 c.in_ok-table.ensures.did.costs;
       finds = counted_known file scope.0 _ scope.1 scope.2 _ (told.1 scope.0 (its_place file scope.0 _ scope.1 scope.2));
     })
