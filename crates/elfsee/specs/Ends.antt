@@ -1,6 +1,52 @@
 -- How the program ends, by what it did.
-use Rattle.std.specs.Prelude.{ℕ, ◌≡◌, List, codes}
+use Rattle.std.specs.Prelude.{ℕ, ◌≡◌, ◌⊎◌, ◌≤◌, ◌+◌, List, codes, Option, Some, Result, IfErr, IfOk}
+use Rattle.std.specs.Io.Buffered.{writer_buffer, writer_contents, writer_inner}
+use Rattle.std.specs.declared.io.buffered.BufWriter.{BufWriter}
+use Rattle.elf_model.specs.ArchiveCost.{archive_cost}
+use Rattle.elf_source.specs.Growth.{Grows}
+use Rattle.elf_source.specs.Source.{Counting, Seen}
+use Rattle.elf_source.specs.Output.{Writing, Written}
+use Rattle.elf_headers.specs.Permitted.{style_of}
+use Rattle.elf_headers.specs.declared.caps.Caps.{Caps}
+use Rattle.elf_headers.specs.declared.stop.Stop.{Stop}
+use Rattle.elf_listing.specs.Reports.{Leaves}
+use Rattle.elf_archive.specs.Listed.{ArchiveSays, AsksInArchive, ReportsArchive}
+use Rattle.elf_program.specs.Endings.{Ends, PutsRest, wants_rest}
+use Rattle.elf_run.specs.ArchiveAnswers.{refused_by}
 
 -- there was no memory
 abbrev pub LacksMemory : ℕ → List ℕ → Type 0
 LacksMemory status line = (status ≡ 3) × (line ≡ codes "elfsee: out of memory")
+
+-- a file can't be opened or read
+abbrev pub LacksFile : ℕ → List ℕ → Type 0
+LacksFile status line = (status ≡ 3) × ((line ≡ codes "elfsee: cannot open") ⊎ (line ≡ codes "elfsee: read fault"))
+
+-- A RUN ENDS THE PROGRAM: over a source that nothing was asked of, and an output, it did what is asked for; by its answer, and
+-- by whether the output failed, the program ends; and what was left of the output went out, as far as its writer took it
+pub record EndsRunOver {W A : Type 0} (contents : W → Option (List ℕ)) (does : Counting → Counting → Written → Written → Result ℕ Stop → Type 0) (seen : Seen)
+    (output : BufWriter W A) (status : ℕ) (line : List ℕ) (sink : Writing W) : Type 0 where
+  pub old : Counting
+  pub new : Counting
+  pub same_size : old.seen.size ≡ seen.size
+  pub same_file : old.seen.file ≡ seen.file
+  pub unasked : old.asked ≡ 0
+  pub before : Written
+  pub after : Written
+  pub answer : Result ℕ Stop
+  pub begins : before.taken ≡ writer_contents contents output
+  pub did : does old new before after answer
+  pub last : BufWriter W A
+  pub stands : after.taken ≡ writer_contents contents last
+  pub ends : Ends answer sink.failed status line
+  pub rest : PutsRest (wants_rest answer) sink.failed (writer_buffer last) (contents (writer_inner last)) (contents sink.writer)
+
+-- WHAT THE LISTING OF AN ARCHIVE DID, by its caps and parts; the status tells whether the listing of a member was refused
+pub record RunsArchive (caps : Caps) (parts : ℕ) (old new : Counting) (before after : Written) (answer : Result ℕ Stop) : Type 0 where
+  pub grows : Grows before after
+  pub leaves : Leaves old new
+  pub says : IfErr answer (ArchiveSays old new after)
+  pub text : (file : List ℕ) → old.seen.file ≡ Some file → ReportsArchive file caps parts before after (refused_by answer)
+  pub cost : (file : List ℕ) → old.seen.file ≡ Some file → new.asked ≤ old.asked + archive_cost file caps.limits.headers (style_of caps.style) parts
+  pub asks : AsksInArchive caps old new (refused_by answer)
+  pub status : IfOk answer (λ status. status ≤ 1)

@@ -1,5 +1,6 @@
 //! The listing of an archive.
-ghost use Rattle.std.specs.Prelude.{◌≡◌};
+ghost use Rattle.std.specs.Prelude.{◌≡◌, ◌⊎◌, IfErr};
+ghost use Rattle.elfsee.specs.Ends.{EndsRunOver, LacksFile, LacksMemory, RunsArchive};
 
 use elf_archive::show_archive;
 use elf_headers::{Caps, HeaderRoom, HeaderStore};
@@ -21,6 +22,8 @@ pub fn list_archive<R: Files + Print + AllocGlobal>(
 ) -> Result<Ending, Ending>
 where
     R::File: FileExt,
+    ensures { IfErr result (λ ending.
+        LacksMemory ending.0 ending.1.now ⊎ LacksFile ending.0 ending.1.now) }
 {
     let Ok(mut room) = HeaderRoom::new(rt.alloc(), asked.headers()) else {
         return Err(OUT_OF_MEMORY);
@@ -29,19 +32,27 @@ where
         return Err(OUT_OF_MEMORY);
     };
     match open(rt, asked.file) {
-        Ok(source) => Ok(write_archive(asked, source, room.store(), output)),
+        Ok(source) => {
+            let (ending, _output) = write_archive(asked, source, room.store(), output);
+            Ok(ending)
+        }
         Err(ending) => Err(ending),
     }
 }
 
-/// Lists an archive and writes what is left of the output.
+/// Lists an archive by what is asked for, and writes what is left of the output. Answers how the program
+/// ends, and gives what took the output.
 fn write_archive<S: Source + Drop, W: Write + Drop>(
     asked: &Archiving<'_>,
     source: S,
     mut store: HeaderStore<'_>,
     output: BufWriter<W>,
-) -> Ending
+) -> (Ending, WriteSink<W>)
     requires { store.slots ≡ asked.now.limits.headers }
+    ensures { EndsRunOver W.contents
+        (RunsArchive (record { limits = asked.now.limits; style = asked.now.style })
+        asked.now.parts.0)
+        (S.seen source) output result.0.0 result.0.1.now result.1 }
 {
     let mut src = Counted::new(RangeSource::new(source));
     let mut out = Out::new(WriteSink::new(output));
@@ -50,6 +61,5 @@ fn write_archive<S: Source + Drop, W: Write + Drop>(
         style: asked.style,
     };
     let listed = show_archive(&mut src, &mut store, caps, asked.parts, &mut out);
-    let (ending, _output) = end_answer(&archive_status(listed), out.into_inner().into_inner());
-    ending
+    end_answer(&archive_status(listed), out.into_inner().into_inner())
 }

@@ -1,0 +1,35 @@
+-- What the listing of an archive did, by the status that is made of its answer.
+use Rattle.std.proofs.Common.{◌≡◌, ◌≤◌, ◌+◌, ℕ, Bool, List, Option, Some, Result, Ok, Err, sym, subst}
+use Rattle.std.specs.Prelude.{IfErr, IfOk}
+use Rattle.elf_model.specs.ArchiveCost.{archive_cost}
+use Rattle.elf_source.specs.Growth.{Grows}
+use Rattle.elf_source.specs.Source.{Counting}
+use Rattle.elf_source.specs.Output.{Written}
+use Rattle.elf_headers.specs.Permitted.{style_of}
+use Rattle.elf_headers.specs.declared.caps.Caps.{Caps}
+use Rattle.elf_headers.specs.declared.stop.Stop.{Stop}
+use Rattle.elf_listing.specs.Reports.{Leaves}
+use Rattle.elf_archive.specs.Listed.{ArchiveSays, AsksInArchive, ReportsArchive}
+use Rattle.elf_run.specs.ArchiveAnswers.{refused_by}
+use Rattle.elfsee.specs.Ends.{RunsArchive}
+
+-- what a stop says is so of a status's answer too
+status_says : (P : Stop → Type 0) (answer : Result ℕ Stop) → IfErr (refused_by answer) P → IfErr answer P
+status_says P (Ok status) says = tt
+status_says P (Err stop) says = says
+
+pub archive_runs : (caps : Caps) (parts : ℕ) (old new : Counting) (before after : Written) (listed : Result Bool Stop) (answer : Result ℕ Stop)
+    → refused_by answer ≡ listed → IfOk answer (λ status. status ≤ 1) → Grows before after → Leaves old new
+    → IfErr listed (ArchiveSays old new after)
+    → ((file : List ℕ) → old.seen.file ≡ Some file → ReportsArchive file caps parts before after listed)
+    → ((file : List ℕ) → old.seen.file ≡ Some file → new.asked ≤ old.asked + archive_cost file caps.limits.headers (style_of caps.style) parts)
+    → AsksInArchive caps old new listed → RunsArchive caps parts old new before after answer
+archive_runs caps parts old new before after listed answer same status grows leaves says text cost asks = record {
+  grows = grows;
+  leaves = leaves;
+  says = status_says _ answer (subst (λ r. IfErr r (ArchiveSays old new after)) (sym same) says);
+  text = λ file known. subst (λ r. ReportsArchive file caps parts before after r) (sym same) (text file known);
+  cost = cost;
+  asks = subst (λ r. AsksInArchive caps old new r) (sym same) asks;
+  status = status;
+}
