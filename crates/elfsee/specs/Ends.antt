@@ -1,5 +1,5 @@
 -- How the program ends, by what it did.
-use Rattle.std.specs.Prelude.{ℕ, ◌≡◌, ◌⊎◌, ◌≤◌, ◌+◌, List, codes, Option, Some, Result, IfErr, IfOk}
+use Rattle.std.specs.Prelude.{ℕ, ◌≡◌, ◌⊎◌, ◌≤◌, ◌+◌, ⊤, List, codes, Option, Some, Result, Ok, Err, IfErr, IfOk}
 use Rattle.std.specs.Io.Buffered.{writer_buffer, writer_contents, writer_inner}
 use Rattle.std.specs.declared.io.buffered.BufWriter.{BufWriter}
 use Rattle.elf_model.specs.ArchiveCost.{archive_cost}
@@ -11,7 +11,11 @@ use Rattle.elf_headers.specs.declared.caps.Caps.{Caps}
 use Rattle.elf_headers.specs.declared.stop.Stop.{Stop}
 use Rattle.elf_listing.specs.Reports.{Leaves}
 use Rattle.elf_archive.specs.Listed.{ArchiveSays, AsksInArchive, ReportsArchive}
+use Rattle.elf_many.specs.declared.lists.ListFault.{ListFault}
+use Rattle.elf_many.specs.declared.lists.ListFault.TheVariants as list
 use Rattle.elf_program.specs.Endings.{Ends, PutsRest, wants_rest}
+use Rattle.elf_program.specs.declared.outputs.Ended.{Ended}
+use Rattle.elf_program.specs.declared.outputs.Ended.TheVariants.{Status, Told, Unwritten}
 use Rattle.elf_run.specs.ArchiveAnswers.{refused_by}
 
 -- there was no memory
@@ -50,3 +54,16 @@ pub record RunsArchive (caps : Caps) (parts : ℕ) (old new : Counting) (before 
   pub cost : (file : List ℕ) → old.seen.file ≡ Some file → new.asked ≤ old.asked + archive_cost file caps.limits.headers (style_of caps.style) parts
   pub asks : AsksInArchive caps old new (refused_by answer)
   pub status : IfOk answer (λ status. status ≤ 1)
+
+-- how a run ended whose list came to an end, or to none
+abbrev pub EndsList : Result (Unit {0}) ListFault → Result (Unit {0}) Ended → Type 0
+EndsList (Ok x) result = result ≡ Ok x
+EndsList (Err list.Read) (Err (Told ending)) = (ending.0 ≡ 3) × (ending.1.now ≡ codes "elfsee: read fault")
+EndsList (Err list.Read) result = ⊥
+EndsList (Err (list.Out fault)) result = result ≡ Err Unwritten
+
+-- a run stopped before its end: a list can't be opened or read, or the output failed
+abbrev pub StopsCheck : Ended → Type 0
+StopsCheck (Status status) = ⊥
+StopsCheck (Told ending) = LacksFile ending.0 ending.1.now
+StopsCheck Unwritten = ⊤

@@ -1,5 +1,6 @@
 //! The check of many files.
-ghost use Rattle.std.specs.Prelude.{◌≡◌};
+ghost use Rattle.std.specs.Prelude.{◌≡◌, IfErr};
+ghost use Rattle.elfsee.specs.Ends.{EndsList, LacksMemory, StopsCheck};
 
 use elf_headers::{Caps, HeaderRoom, HeaderStore};
 use elf_many::{Checks, FolderWalk, ListFault, check_list, check_path};
@@ -18,7 +19,7 @@ const LIST_BYTES: usize = 65_536;
 /// how far the check is.
 ///
 /// # Errors
-/// There is no memory; a list of paths can't be opened or read; or the output can't be written.
+/// There is no memory.
 pub fn check_many<R: Files + Print + Input + AllocGlobal>(
     rt: &R,
     asked: &Checking<'_>,
@@ -26,6 +27,7 @@ pub fn check_many<R: Files + Print + Input + AllocGlobal>(
 ) -> Result<Ending, Ending>
 where
     R::File: FileExt,
+    ensures { IfErr result (λ ending. LacksMemory ending.0 ending.1.now) }
 {
     let Ok(mut room) = HeaderRoom::new(rt.alloc(), asked.headers()) else {
         return Err(OUT_OF_MEMORY);
@@ -48,6 +50,7 @@ fn check_within<R: Files + Print + Input + AllocGlobal>(
 where
     R::File: FileExt,
     requires { store.slots ≡ asked.now.limits.headers }
+    ensures { IfErr result (λ ending. LacksMemory ending.0 ending.1.now) }
 {
     let Ok(mut entries) = vec![in rt.alloc(); 0u8; LIST_BYTES] else {
         return Err(OUT_OF_MEMORY);
@@ -55,10 +58,11 @@ where
     let Ok(output) = BufWriter::with_capacity(rt.alloc(), OUTPUT_BYTES, io::writer(rt)) else {
         return Err(OUT_OF_MEMORY);
     };
-    check_into(rt, asked, store, walk, &mut entries, output, terminal)
+    Ok(check_into(rt, asked, store, walk, &mut entries, output, terminal))
 }
 
-/// Checks all files that are asked for, and writes their lines to an output.
+/// Checks all files that are asked for, writes their lines to an output, and answers how the program
+/// ends.
 fn check_into<R: Files + Input, W: Write + Drop>(
     rt: &R,
     asked: &Checking<'_>,
@@ -67,7 +71,7 @@ fn check_into<R: Files + Input, W: Write + Drop>(
     entries: &mut [u8],
     output: BufWriter<W>,
     terminal: Option<Stderr>,
-) -> Result<Ending, Ending>
+) -> Ending
 where
     R::File: FileExt,
     requires { store.slots ≡ asked.now.limits.headers }
@@ -79,7 +83,7 @@ where
         Err(ended) => ended,
     };
     let (ending, _output) = end_run(ended, checks.into_out().into_inner().into_inner());
-    Ok(ending)
+    ending
 }
 
 /// A check within what is asked for, with no file yet.
@@ -90,6 +94,10 @@ fn new_checks<'a, W: Sink>(
     terminal: Option<Stderr>,
 ) -> Checks<'a, W, Stderr>
     requires { store.slots ≡ asked.now.limits.headers }
+    ensures caps { result.caps ≡ record { limits = asked.now.limits; style = asked.now.style } }
+    ensures parts { result.parts ≡ asked.now.parts.0 }
+    ensures out { result.out ≡ out }
+    ensures begins { (result.status ≡ 0) × (result.unnamed ≡ 0) }
 {
     let caps = Caps {
         limits: asked.limits,
@@ -111,6 +119,7 @@ fn check_all<R: Files + Input, W: Sink>(
 ) -> Result<u8, Ended>
 where
     R::File: FileExt,
+    ensures { IfErr result StopsCheck }
 {
     if let Err(OutFault { .. }) = check_paths(rt, checks, walk, &asked.paths) {
         return Err(Ended::Unwritten);
@@ -160,6 +169,7 @@ fn check_listed<R: Files + Input, W: Sink>(
 ) -> Result<(), Ended>
 where
     R::File: FileExt,
+    ensures { IfErr result StopsCheck }
 {
     if list == "-" {
         return listed(check_list(rt, checks, walk, &mut rt.reader(), entries));
@@ -171,7 +181,10 @@ where
 }
 
 /// What a list answers, or how the run ended where it came to no end.
-fn listed(answer: Result<(), ListFault>) -> Result<(), Ended> {
+fn listed(answer: Result<(), ListFault>) -> Result<(), Ended>
+    ensures ends { EndsList answer result }
+    ensures stops { IfErr result StopsCheck }
+{
     match answer {
         Ok(()) => Ok(()),
         Err(ListFault::Read) => Err(Ended::Told(READ_FAULT)),
