@@ -1,14 +1,16 @@
 -- How the program ends, by what it did.
-use Rattle.std.specs.Prelude.{ℕ, ◌≡◌, ◌⊎◌, ◌≤◌, ◌+◌, ⊤, List, codes, Option, Some, Result, Ok, Err, IfErr, IfOk}
+use Rattle.std.specs.Prelude.{ℕ, ◌≡◌, ◌⊎◌, ◌≤◌, ◌+◌, ⊤, Bool, false, List, codes, Option, None, Some, Result, Ok, Err, IfErr, IfOk}
 use Rattle.std.specs.Io.Buffered.{writer_buffer, writer_contents, writer_inner}
 use Rattle.std.specs.declared.io.buffered.BufWriter.{BufWriter}
 use Rattle.elf_model.specs.ArchiveCost.{archive_cost}
+use Rattle.elf_model.specs.declared.causes.Refusal.{Refusal}
 use Rattle.elf_source.specs.Growth.{Grows}
 use Rattle.elf_source.specs.Source.{Counting, Seen}
 use Rattle.elf_source.specs.Output.{Writing, Written}
 use Rattle.elf_headers.specs.Permitted.{style_of}
 use Rattle.elf_headers.specs.declared.caps.Caps.{Caps}
 use Rattle.elf_headers.specs.declared.stop.Stop.{Stop}
+use Rattle.elf_headers.specs.declared.stop.Stop.TheVariants.{Refused}
 use Rattle.elf_listing.specs.Reports.{Leaves}
 use Rattle.elf_archive.specs.Listed.{ArchiveSays, AsksInArchive, ReportsArchive}
 use Rattle.elf_many.specs.declared.lists.ListFault.{ListFault}
@@ -44,6 +46,11 @@ pub record EndsRunOver {W A : Type 0} (contents : W → Option (List ℕ)) (does
   pub stands : after.taken ≡ writer_contents contents last
   pub ends : Ends answer sink.failed status line
   pub rest : PutsRest (wants_rest answer) sink.failed (writer_buffer last) (contents (writer_inner last)) (contents sink.writer)
+
+-- the refusal whose line went out
+abbrev pub told_refusal : Result ℕ Stop → Bool → Option Refusal
+told_refusal (Err (Refused refusal)) false = Some refusal
+told_refusal answer failed = None
 
 -- WHAT THE LISTING OF AN ARCHIVE DID, by its caps and parts; the status tells whether the listing of a member was refused
 pub record RunsArchive (caps : Caps) (parts : ℕ) (old new : Counting) (before after : Written) (answer : Result ℕ Stop) : Type 0 where

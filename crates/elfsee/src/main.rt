@@ -6,8 +6,11 @@ mod explaining;
 mod layouts;
 mod many;
 
-ghost use Rattle.std.specs.Prelude.{◌≡◌, IfErr};
+ghost use Rattle.std.specs.Prelude.{◌≡◌, ◌⊎◌, IfErr, IfOk, map, string_bytes};
 ghost use Rattle.elf_run.specs.Answers.{refused_line, refused_status};
+ghost use Rattle.elf_run.specs.Requests.{RunsTask};
+ghost use Rattle.elf_words.specs.Answered.{WordsAsk};
+ghost use Rattle.elfsee.specs.Ends.{EndsRunOver, LacksFile, LacksMemory, told_refusal};
 ghost use Rattle.elf_words.specs.declared.requests.RequestFault.{RequestFault};
 
 use archives::list_archive;
@@ -18,8 +21,9 @@ use elf_program::{
     Ending, OUT_OF_MEMORY, OUTPUT_BYTES, end_answer, exit, open, read_words, tell_version,
     tell_words,
 };
+use elf_record::Refusal;
 use elf_run::{refused, run};
-use elf_source::{Counted, MemorySource, Out, Source, WriteSink};
+use elf_source::{Counted, MemorySource, Out, Sink, Source, WriteSink};
 use elf_words::{AskedCommand, Request, RequestFault, request};
 use explaining::tell_why;
 use layouts::apply_laid;
@@ -86,7 +90,9 @@ where
 }
 
 /// Makes a layout without an item, in memory of its own: on the stack it would take a third of it.
-fn make_layout(alloc: Global) -> Result<Box<Layout>, Ending> {
+fn make_layout(alloc: Global) -> Result<Box<Layout>, Ending>
+    ensures { IfErr result (λ ending. LacksMemory ending.0 ending.1.now) }
+{
     match Box::new(alloc, Layout::new()) {
         Ok(layout) => Ok(layout),
         Err(_) => Err(OUT_OF_MEMORY),
@@ -101,6 +107,8 @@ fn answer_request<R: Files + Print + AllocGlobal>(
 ) -> Result<Ending, Ending>
 where
     R::File: FileExt,
+    ensures { IfErr result (λ ending.
+        LacksMemory ending.0 ending.1.now ⊎ LacksFile ending.0 ending.1.now) }
 {
     let Ok(mut room) = HeaderRoom::new(rt.alloc(), request.headers()) else {
         return Err(OUT_OF_MEMORY);
@@ -122,18 +130,20 @@ fn answer_into<R: Files + AllocGlobal, W: Write + Drop>(
 where
     R::File: FileExt,
     requires { store.slots ≡ request.now.limits.headers }
+    ensures { IfErr result (λ ending. LacksFile ending.0 ending.1.now) }
 {
     let alloc = rt.alloc();
-    match request.file {
+    let (ending, _output) = match request.file {
         Some(path) => match open(rt, path) {
-            Ok(source) => Ok(write_answer(alloc, request, source, store, output, errors)),
-            Err(ending) => Err(ending),
+            Ok(source) => write_answer(alloc, request, source, store, output, errors),
+            Err(ending) => return Err(ending),
         },
         None => {
             let source = MemorySource::new(sample());
-            Ok(write_answer(alloc, request, source, store, output, errors))
+            write_answer(alloc, request, source, store, output, errors)
         }
-    }
+    };
+    Ok(ending)
 }
 
 /// Reads what is asked for, and tells what is wrong with words that ask for nothing.
@@ -143,7 +153,8 @@ fn read_request<'a>(
     layout: &'a mut Layout,
     errors: Stderr,
 ) -> Result<AskedCommand<'a>, Ending>
-    ensures { IfErr result (λ ending. (fault : RequestFault)
+    ensures asked { IfOk result (WordsAsk (map string_bytes words.now)) }
+    ensures refused { IfErr result (λ ending. (fault : RequestFault)
         × (ending.0 ≡ refused_status fault) × (ending.1.now ≡ refused_line fault)) }
 {
     let fault = match request(alloc, words, layout) {
@@ -156,8 +167,9 @@ fn read_request<'a>(
     Err(refused(&fault))
 }
 
-/// Carries a request out and writes what is left of the output. It is not made part of its caller,
-/// whose stack would hold the buffers of a listing twice, one for each kind of source.
+/// Carries a request out and writes what is left of the output; where the line of a refusal went out,
+/// tells what would help. Gives how the program ends, and what took the output. It is not made part of
+/// its caller, whose stack would hold the buffers of a listing twice, one for each kind of source.
 #[inline(never)]
 fn write_answer<S: Source + Drop, W: Write + Drop>(
     alloc: Global,
@@ -166,17 +178,27 @@ fn write_answer<S: Source + Drop, W: Write + Drop>(
     mut store: HeaderStore<'_>,
     output: BufWriter<W>,
     errors: Stderr,
-) -> Ending
+) -> (Ending, WriteSink<W>)
     requires { store.slots ≡ request.now.limits.headers }
+    ensures { EndsRunOver W.contents (RunsTask request.now.limits request.now.task)
+        (S.seen source) output result.0.0 result.0.1.now result.1 }
 {
     let mut src = Counted::new(source);
     let mut out = Out::new(WriteSink::new(output));
     let answer = run(request, &mut src, &mut store, &mut out);
-    let (ending, _output) = end_answer(&answer, out.into_inner().into_inner());
-    if let Err(Stop::Refused(refusal)) = answer {
-        if ending.0 == 1 {
-            tell_why(alloc, request, refusal, &mut src, &mut store, errors);
-        }
+    let (ending, output) = end_answer(&answer, out.into_inner().into_inner());
+    if let Some(refusal) = refusal_told(&answer, &output) {
+        tell_why(alloc, request, refusal, &mut src, &mut store, errors);
     }
-    ending
+    (ending, output)
+}
+
+/// The refusal that a run answered, where its line went out: not after a fault of the output.
+fn refusal_told<W: Write>(answer: &Result<u8, Stop>, output: &WriteSink<W>) -> Option<Refusal>
+    ensures { result ≡ told_refusal answer.now output.now.failed }
+{
+    match answer {
+        Err(Stop::Refused(refusal)) if !output.failed() => Some(*refusal),
+        _ => None,
+    }
 }

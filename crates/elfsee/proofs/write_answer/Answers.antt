@@ -1,0 +1,25 @@
+-- What the run did ends the program.
+use Rattle.std.proofs.Common.{◌∙◌, ap, sym}
+use Rattle.std.specs.Io.Buffered.{writer_contents}
+use Rattle.elf_source.specs.Source.{Seen}
+use Rattle.elfsee.proofs.write_answer.Goals as goal
+
+pub returns : goal.returns
+returns g c =
+    let ran = c.run-answer in
+    record {
+      old = c.new-src.result;
+      new = ran.new.src;
+      same_size = ap (λ (s : Seen). s.size) c.new-src.ensures.seen;
+      same_file = ap (λ (s : Seen). s.file) c.new-src.ensures.seen;
+      unasked = c.new-src.ensures.asked;
+      before = c.new-out.result;
+      after = ran.new.out;
+      answer = ran.result;
+      begins = c.new-out.ensures.taken ∙ ap (writer_contents g.W.Write.contents) c.new.ensures.writer;
+      did = ran.ensures.runs;
+      last = c.into_inner-2.result;
+      stands = sym (ap (writer_contents g.W.Write.contents) c.into_inner-2.ensures ∙ c.into_inner.ensures.taken);
+      ends = c.end_answer-output.ensures.ends;
+      rest = c.end_answer-output.ensures.rest;
+    }
