@@ -11,8 +11,8 @@ use Rattle.elf_model.specs.Names.{Shown}
 use Rattle.elf_model.specs.declared.formats.Format.{Format}
 use Rattle.elf_model.specs.declared.formats.Format.TheVariants.{Columns, Object}
 use Rattle.elf_source.specs.Output.{Written}
-use Rattle.elf_fields.specs.Named.{line_tailed, name_bytes, shown_as}
-use Rattle.elf_fields.specs.Pieces.{TakesBefore, name_start, byte_text, spelt, end_of_name}
+use Rattle.elf_fields.specs.Named.{line_tailed, spelt_bytes, shown_as}
+use Rattle.elf_fields.specs.Pieces.{TakesBefore, name_start, byte_text, spelt, name_closing}
 use Rattle.elf_fields.proofs.Pieces.{TakesBefore-more, TakesBefore-then}
 
 -- the bytes of two texts, one behind the other
@@ -146,10 +146,10 @@ spelt-object (byte ∷ name) =
     ∙ sym (string_text-append (name_byte_text byte) (escaped name))
 
 -- so it is spelt in both
-pub spelt-bytes : (format : Format) (name : List ℕ) → spelt format name ≡ name_bytes format name
-unfolding name_bytes
-spelt-bytes Columns name = spelt-columns name
-spelt-bytes Object name = spelt-object name
+pub spelt-all : (format : Format) (name : List ℕ) → spelt format name ≡ spelt_bytes format name
+unfolding spelt_bytes
+spelt-all Columns name = spelt-columns name
+spelt-all Object name = spelt-object name
 
 -- a member with a string, between what stands before it and behind it
 member-whole : (a k q s : List ℕ) → a ++ ((k ++ (q ++ s ++ q)) ++ []) ≡ ((a ++ (k ++ q)) ++ s) ++ (q ++ [])
@@ -160,8 +160,8 @@ member-cut a k q s m = simp (append_assoc, append-nil)
 
 -- a line up to the end of its name, as its pieces
 pub named-pieces : (format : Format) (key line name : List ℕ) (is_cut : Bool)
-    → line_tailed format key line (shown_as is_cut name) [] ≡ ((line ++ name_start format key) ++ spelt format name) ++ end_of_name format is_cut
-unfolding line_tailed name_text name_start end_of_name quoted member_key
+    → line_tailed format key line (shown_as is_cut name) [] ≡ ((line ++ name_start format key) ++ spelt format name) ++ name_closing format is_cut
+unfolding line_tailed name_text name_start name_closing quoted member_key
 named-pieces Columns key line name true = rw (spelt-columns name) (simp (append_assoc, append-nil))
 named-pieces Columns key line name false = rw (spelt-columns name) (simp (append_assoc, append-nil))
 named-pieces Object key line name true =
@@ -183,12 +183,12 @@ tailed-pieces format key line name tail = sym (tailed-more format key line name 
 
 -- and another name
 pub joined-pieces : (format : Format) (key line : List ℕ) (name : Shown) (between other tail : List ℕ)
-    → line_tailed format key line name (between ++ (name_bytes format other ++ tail))
+    → line_tailed format key line name (between ++ (spelt_bytes format other ++ tail))
     ≡ ((line_tailed format key line name [] ++ between) ++ spelt format other) ++ tail
 joined-pieces format key line name between other tail =
     let front = line_tailed format key line name [] in
     let bytes = spelt format other in
-    rw (← spelt-bytes format other)
+    rw (← spelt-all format other)
     (tailed-pieces format key line name (between ++ (bytes ++ tail))
     ∙ sym (append_assoc front between (bytes ++ tail))
     ∙ sym (append_assoc (front ++ between) bytes tail))

@@ -21,6 +21,6 @@ abbrev pub tailed_line : LineFront → Shown → List ℕ → List ℕ
 tailed_line front name tail = line_tailed front.format front.key front.text name tail
 
 -- the bytes of a name as they are spelt, in a column or in a string
-unfoldable pub name_bytes : Format → List ℕ → List ℕ
-name_bytes Columns name = escaped name
-name_bytes Object name = string_text (escaped name)
+unfoldable pub spelt_bytes : Format → List ℕ → List ℕ
+spelt_bytes Columns name = escaped name
+spelt_bytes Object name = string_text (escaped name)

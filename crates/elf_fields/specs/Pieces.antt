@@ -35,6 +35,6 @@ spelt format [] = []
 spelt format (byte ∷ bytes) = byte_text format byte ++ spelt format bytes
 
 -- what ends a name, by whether it was cut
-unfoldable pub end_of_name : Format → Bool → List ℕ
-end_of_name Columns is_cut = if is_cut then cut_mark else []
-end_of_name Object is_cut = codes "\"" ++ (if is_cut then codes ",\"cut\":true" else [])
+unfoldable pub name_closing : Format → Bool → List ℕ
+name_closing Columns is_cut = if is_cut then cut_mark else []
+name_closing Object is_cut = codes "\"" ++ (if is_cut then codes ",\"cut\":true" else [])

@@ -5,8 +5,8 @@ ghost use Rattle.arrayvec.specs.ArrayVec.{array_vec_len};
 ghost use Rattle.elf_model.specs.Lines.{named_line, name_byte_text};
 ghost use Rattle.elf_source.specs.Output.{Puts};
 ghost use Rattle.elf_fields.specs.Fronts.{front_of};
-ghost use Rattle.elf_fields.specs.Named.{name_bytes, shown_as, tailed_line};
-ghost use Rattle.elf_fields.specs.Pieces.{PutsBefore, byte_text, end_of_name, name_start, spelt};
+ghost use Rattle.elf_fields.specs.Named.{spelt_bytes, shown_as, tailed_line};
+ghost use Rattle.elf_fields.specs.Pieces.{PutsBefore, byte_text, name_closing, name_start, spelt};
 
 use crate::columns::{LINE_BYTES, Line, put, put_hex};
 use crate::fields::LineFront;
@@ -85,7 +85,7 @@ pub fn show_joined<W: Sink>(
     requires between { length next.now.between.now ≤ 256 }
     requires tail { length next.now.tail.now ≤ 256 }
     ensures puts { let front = front_of front.old in
-        let more = name_bytes front.format next.now.name.now ++ next.now.tail.now in
+        let more = spelt_bytes front.format next.now.name.now ++ next.now.tail.now in
         Puts out.old out.new result
         (tailed_line front (shown_as is_cut name.now) (next.now.between.now ++ more)) }
 {
@@ -115,7 +115,7 @@ fn put_named<W: Sink>(
     let format = front.format;
     begin_name(front, out)?;
     put_name(&mut front.line, format, name, out)?;
-    put_piece(&mut front.line, end_of_name(format, is_cut), out)
+    put_piece(&mut front.line, name_closing(format, is_cut), out)
 }
 
 /// Puts a text of at most 256 bytes behind a line. Where the line is full it is written, and begun
@@ -170,9 +170,9 @@ fn begin_name<W: Sink>(front: &mut LineFront, out: &mut Out<W>) -> Result<(), Ou
 }
 
 /// What ends a name, by whether the name was cut.
-#[tactic(auto, unfolding(crate::specs::Pieces::end_of_name))]
-fn end_of_name(format: Format, is_cut: bool) -> &'static [u8]
-    ensures items { result.now ≡ end_of_name format is_cut }
+#[tactic(auto, unfolding(crate::specs::Pieces::name_closing))]
+fn name_closing(format: Format, is_cut: bool) -> &'static [u8]
+    ensures items { result.now ≡ name_closing format is_cut }
     ensures short { length result.now ≤ 12 }
 {
     match (format, is_cut) {
