@@ -1,0 +1,11 @@
+//! Texts of folders.
+
+/// A text of folders, which colons part, and the folder that stands for `$ORIGIN` in it; where there is
+/// none a `$` is a byte like others.
+#[derive(Clone, Copy)]
+pub struct Folders<'a> {
+    /// The text.
+    pub text: &'a [u8],
+    /// The folder of the object that has the text.
+    pub origin: Option<&'a [u8]>,
+}

@@ -1,0 +1,13 @@
+//! Where a library is looked for that a program needs: the paths that a loader of the GNU system tries for
+//! its name, one after another, in lent memory. Nothing is opened here. No call takes memory.
+#![tactic(auto)]
+
+mod entries;
+mod folders;
+mod paths;
+mod tokens;
+mod tries;
+
+pub use folders::Folders;
+pub use paths::{TriedPath, folder_of_path, named_path};
+pub use tries::Tries;
