@@ -1,3 +1,4 @@
 pub mod PartLaws
 pub mod TokenLaws
 pub mod PathLaws
+pub mod OnSearch

@@ -87,12 +87,10 @@ is_rooted text = slice_index text 0 == PATH_SLASH
 abbrev pub root_before : (root text : List ℕ) → List ℕ
 root_before root text = if is_rooted text then root else []
 
--- what stands between a folder and a name in it: the empty folder is the current one
+-- what stands between a folder and a name in it: a slash, whatever the folder ends in; the empty folder is the current one
 unfoldable pub behind_folder : List ℕ → List ℕ
 behind_folder folder =
-    if length folder == 0 then codes "./"
-    else if slice_index folder (length folder - 1) == PATH_SLASH then []
-    else codes "/"
+    if length folder == 0 then codes "./" else codes "/"
 
 -- the path of a name in a folder
 abbrev pub path_in : (folder name : List ℕ) → List ℕ

@@ -7,6 +7,7 @@ mod folders;
 mod paths;
 mod tokens;
 mod tries;
+pub mod worked;
 
 pub use folders::Folders;
 pub use paths::{TriedPath, folder_of_path, named_path};

@@ -87,9 +87,6 @@ fn put_behind(path: &mut TriedPath) -> bool
     if path.is_empty() {
         return put(path, b"./");
     }
-    if path[path.len() - 1] == b'/' {
-        return true;
-    }
     put(path, b"/")
 }
 
