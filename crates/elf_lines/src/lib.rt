@@ -20,7 +20,7 @@ mod version_rows;
 pub use check_rows::{show_check, show_unnamed};
 pub use dynamic_rows::dynamic_front;
 pub use elf_fields::{
-    Columns, LINES_BUFFER_BYTES, Line, LineFront, Object, Render, show_joined, show_named,
+    Columns, LINES_BUFFER_BYTES, Line, LineFront, NextName, Object, Render, show_joined, show_named,
 };
 pub use lack_rows::show_lack;
 pub use lookup_rows::show_steps;
