@@ -3,7 +3,7 @@ ghost use Rattle.std.specs.Prelude.{◌≡◌, IfOk};
 ghost use Rattle.elf_source.specs.Source.{Keeps};
 ghost use Rattle.elf_table.specs.Tables.{RowsWithin, StringsWithin};
 
-use crate::links::{LinkStore, Links, Need};
+use crate::links::{LinkStore, FileLinks, Need};
 use elf_headers::{Cap, Fault, refused};
 use elf_note::{DynStrings, dynamic_rows, entry_in};
 use elf_record::numbers::{DT_NEEDED, DT_RPATH, DT_RUNPATH, DT_SONAME};
@@ -16,7 +16,7 @@ const TEXT_CAP: Cap = Cap { bytes: 4096 };
 
 /// Where the texts of dynamic entries are: at the address that the entries tell, where a segment loads them.
 #[derive(Clone, Copy)]
-pub(crate) struct Strings<'v, 'f> {
+pub(crate) struct EntryTexts<'v, 'f> {
     /// The file with its program headers.
     pub view: &'v SegmentView<'f>,
     /// The address and the size that the entries tell.
@@ -32,16 +32,16 @@ pub(crate) struct Strings<'v, 'f> {
 /// want of budget.
 pub(crate) fn listed_links<S: Source>(
     src: &mut Counted<S>,
-    strings: &Strings<'_, '_>,
+    strings: &EntryTexts<'_, '_>,
     table: Table,
     store: &mut LinkStore,
-) -> Result<Links, Fault>
+) -> Result<FileLinks, Fault>
     requires rows { table.entry ≡ 16 }
     requires within { RowsWithin src.old.seen.size table }
     requires size { strings.now.view.now.loaded.size ≡ src.old.seen.size }
     ensures keeps { Keeps src.old.seen src.new.seen }
 {
-    let mut links = Links {
+    let mut links = FileLinks {
         soname: None,
         rpath: None,
         runpath: None,
@@ -61,12 +61,12 @@ pub(crate) fn listed_links<S: Source>(
 /// Those of [`listed_links`].
 fn with_entry<S: Source>(
     src: &mut Counted<S>,
-    strings: &Strings<'_, '_>,
+    strings: &EntryTexts<'_, '_>,
     at: u64,
     entry: &Dyn,
-    links: Links,
+    links: FileLinks,
     store: &mut LinkStore,
-) -> Result<Links, Fault>
+) -> Result<FileLinks, Fault>
     requires { strings.now.view.now.loaded.size ≡ src.old.seen.size }
     ensures keeps { Keeps src.old.seen src.new.seen }
 {
@@ -90,7 +90,7 @@ fn with_entry<S: Source>(
 /// Those of [`listed_links`].
 fn read_text<S: Source>(
     src: &mut Counted<S>,
-    strings: &Strings<'_, '_>,
+    strings: &EntryTexts<'_, '_>,
     at: u64,
     off: u64,
     store: &mut LinkStore,
@@ -113,7 +113,7 @@ fn read_text<S: Source>(
 /// # Errors
 /// `Unmapped` and `TableOutside` as [`SegmentView::mapped`] has them; `Unmapped` at the entry where no
 /// address or no size is told.
-fn mapped_strings(strings: &Strings<'_, '_>, at: u64) -> Result<Names, Fault>
+fn mapped_strings(strings: &EntryTexts<'_, '_>, at: u64) -> Result<Names, Fault>
     ensures { IfOk result (StringsWithin strings.now.view.now.loaded.size) }
 {
     let Some(address) = strings.told.address else {
@@ -126,8 +126,8 @@ fn mapped_strings(strings: &Strings<'_, '_>, at: u64) -> Result<Names, Fault>
 }
 
 /// The links with a text, unless an entry before told of one.
-fn with_text(links: Links, tag: u64, text: u32) -> Links {
-    Links {
+fn with_text(links: FileLinks, tag: u64, text: u32) -> FileLinks {
+    FileLinks {
         soname: links.soname.or(text_of(tag, DT_SONAME, text)),
         rpath: links.rpath.or(text_of(tag, DT_RPATH, text)),
         runpath: links.runpath.or(text_of(tag, DT_RUNPATH, text)),

@@ -15,7 +15,7 @@ pub struct Need {
 /// What the dynamic entries of a file tell of how it is linked (gABI 5, Dynamic Section). A text is told by
 /// its index.
 #[derive(Clone, Copy)]
-pub struct Links {
+pub struct FileLinks {
     /// DT_SONAME: its name as a library.
     pub soname: Option<u32>,
     /// DT_RPATH: where libraries are looked for.

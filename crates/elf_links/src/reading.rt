@@ -2,8 +2,8 @@
 ghost use Rattle.std.specs.Prelude.{◌≡◌, ◌<◌, ◌^◌};
 ghost use Rattle.elf_source.specs.Source.{Keeps};
 
-use crate::entries::{Strings, listed_links};
-use crate::links::{LinkStore, Links};
+use crate::entries::{EntryTexts, listed_links};
+use crate::links::{LinkStore, FileLinks};
 use elf_headers::{Fault, HeaderStore, fill, header, load, refused};
 use elf_note::dynamic_strings;
 use elf_record::numbers::PT_DYNAMIC;
@@ -52,7 +52,7 @@ pub fn read_links<S: Source>(
     src: &mut Counted<S>,
     store: &mut HeaderStore,
     links: &mut LinkStore,
-) -> Result<Links, Fault>
+) -> Result<FileLinks, Fault>
     ensures slots { store.new.slots ≡ store.old.slots }
 {
     src.hide_sections(true);
@@ -73,13 +73,13 @@ fn links_in_view<S: Source>(
     src: &mut Counted<S>,
     view: &SegmentView<'_>,
     links: &mut LinkStore,
-) -> Result<Links, Fault>
+) -> Result<FileLinks, Fault>
     requires size { view.now.loaded.size ≡ src.old.seen.size }
     requires small { view.now.loaded.size < 2 ^ 63 }
 {
     check_scope(src, view)?;
     let Some(segment) = view.first_segment(PT_DYNAMIC) else {
-        return Ok(Links {
+        return Ok(FileLinks {
             soname: None,
             rpath: None,
             runpath: None,
@@ -87,7 +87,7 @@ fn links_in_view<S: Source>(
     };
     let table = view.dynamic(segment)?;
     let told = dynamic_strings(table, src)?;
-    let strings = Strings { view, told };
+    let strings = EntryTexts { view, told };
     listed_links(src, &strings, table, links)
 }
 

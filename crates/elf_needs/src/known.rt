@@ -1,5 +1,5 @@
 //! The objects that are known so far.
-use elf_links::{LinkStore, Links, Need, Texts};
+use elf_links::{LinkStore, FileLinks, Need, Texts};
 use elf_search::folder_of_path;
 use std::alloc::{AllocError, Global};
 
@@ -22,7 +22,7 @@ pub(crate) struct Known {
     /// The index of its path, whose folder stands for `$ORIGIN`.
     pub path: Option<u32>,
     /// What its dynamic entries tell.
-    pub links: Links,
+    pub links: FileLinks,
     /// The first of its needs, and the one behind its last.
     pub needs: usize,
     pub needs_end: usize,

@@ -2,7 +2,7 @@
 use crate::candidates::{FileSource, candidate};
 use crate::known::{Known, MOST_OBJECTS, Objects};
 use crate::walk::NeedsFault;
-use elf_search::{Folders, TriedPath, Tries, named_path};
+use elf_search::{FolderList, TriedPath, PathTries, named_path};
 use memchr::memchr;
 use std::os::unix::fs::FileExt;
 use std::rt::Files;
@@ -125,7 +125,7 @@ where
             return Ok(None);
         };
         let origin = Some(folder);
-        self.try_all(Tries::new(self.folders.root, name, Folders { text, origin }))
+        self.try_all(PathTries::new(self.folders.root, name, FolderList { text, origin }))
     }
 
     /// Looks in the folders of a text that is told.
@@ -135,11 +135,11 @@ where
         name: &[u8],
     ) -> Result<Option<FileSource<R::File>>, NeedsFault> {
         let origin = None;
-        self.try_all(Tries::new(self.folders.root, name, Folders { text, origin }))
+        self.try_all(PathTries::new(self.folders.root, name, FolderList { text, origin }))
     }
 
-    /// Tries paths, one after another.
-    fn try_all(&mut self, tries: Tries<'_>) -> Result<Option<FileSource<R::File>>, NeedsFault> {
+    /// PathTries paths, one after another.
+    fn try_all(&mut self, tries: PathTries<'_>) -> Result<Option<FileSource<R::File>>, NeedsFault> {
         let mut tries = tries;
         while tries.next(&mut self.path) {
             if let Some(found) = self.candidate()? {
@@ -149,7 +149,7 @@ where
         Ok(None)
     }
 
-    /// Tries the path.
+    /// PathTries the path.
     fn candidate(&mut self) -> Result<Option<FileSource<R::File>>, NeedsFault> {
         candidate(self.rt, &self.path, self.machine, &mut self.left)
     }

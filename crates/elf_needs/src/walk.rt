@@ -6,7 +6,7 @@ use crate::room::NeedsRoom;
 use crate::search::{Search, SearchedFolders};
 use crate::states::ObjectState;
 use elf_headers::{Fault, HeaderStore};
-use elf_links::{Links, Need, machine_of, read_links};
+use elf_links::{FileLinks, Need, machine_of, read_links};
 use elf_model::Format;
 use elf_search::TriedPath;
 use elf_source::{Counted, Out, OutFault, Sink, Source};
@@ -23,6 +23,7 @@ pub enum NeedsFault {
 }
 
 /// A program that is opened: its source, its path as it is shown, and with all links followed.
+#[derive(Drop)]
 pub struct ProgramFile<'a, S: Source> {
     /// The source.
     pub source: Counted<S>,
@@ -47,7 +48,7 @@ pub struct NeedsSettings<'a> {
 #[derive(Clone, Copy)]
 struct Told {
     state: ObjectState,
-    links: Links,
+    links: FileLinks,
     needs: usize,
     needs_end: usize,
 }
@@ -63,7 +64,7 @@ enum Onward {
 
 /// A walk over the objects of a program.
 #[derive(Drop)]
-struct Walk<'a, 'w, R, W: Sink> {
+struct ObjectWalk<'a, 'w, R, W: Sink> {
     search: Search<'a, R>,
     objects: &'a mut Objects,
     store: &'a mut HeaderStore<'w>,
@@ -90,7 +91,7 @@ pub fn list_needs<'a, R: Files, S: Source, W: Sink>(
 where
     R::File: FileExt,
 {
-    let mut walk = Walk {
+    let mut walk = ObjectWalk {
         search: Search {
             rt,
             folders: settings.folders,
@@ -116,7 +117,7 @@ where
     Ok(walk.status)
 }
 
-impl<R: Files, W: Sink> Walk<'_, '_, R, W>
+impl<R: Files, W: Sink> ObjectWalk<'_, '_, R, W>
 where
     R::File: FileExt,
 {
@@ -249,7 +250,7 @@ where
 }
 
 /// What an object tells that is not read.
-const NO_LINKS: Links = Links {
+const NO_LINKS: FileLinks = FileLinks {
     soname: None,
     rpath: None,
     runpath: None,

@@ -129,10 +129,24 @@ rpath_of needer = elim needer.runpath [
   | None ↦ option_map (λ text. record { text = text; origin = Some needer.folder }) needer.rpath
 ]
 
+-- what its DT_RUNPATH names
+abbrev pub runpath_of : Needer → Option Folders
+runpath_of needer = option_map (λ text. record { text = text; origin = Some needer.folder }) needer.runpath
+
 -- what DT_RPATH names of an object, of the one that first needed it, and so on
-unfoldable pub rpath_folders : List Needer → List Folders → List Folders
-rpath_folders [] others = others
-rpath_folders (needer ∷ above) others = cons_option (rpath_of needer) (rpath_folders above others)
+unfoldable pub rpath_folders : List Needer → List Folders
+rpath_folders [] = []
+rpath_folders (needer ∷ above) = cons_option (rpath_of needer) (rpath_folders above)
+
+-- what DT_RUNPATH of the first names
+unfoldable pub first_runpath : List Needer → Option Folders
+first_runpath [] = None
+first_runpath (needer ∷ above) = runpath_of needer
+
+-- DT_RPATH counts only where the object that needs the library has no DT_RUNPATH
+abbrev pub unless_runpath : Option Folders → List Folders → List Folders
+unless_runpath None folders = folders
+unless_runpath (Some runpath) folders = []
 
 -- folders that a command line tells
 abbrev pub given_folders : List ℕ → Folders
@@ -141,12 +155,9 @@ given_folders text = record { text = text; origin = None }
 -- THE FOLDERS in which a library is looked for that an object needs, the first of these; behind it stands the object that first
 -- needed it, and so on. Its DT_RPATH and theirs, unless it has DT_RUNPATH; the path of libraries that is given; its DT_RUNPATH;
 -- the default folders
-unfoldable pub searched_folders : (library default : List ℕ) → List Needer → List Folders
-searched_folders library default [] = given_folders library ∷ given_folders default ∷ []
-searched_folders library default (needer ∷ above) = elim needer.runpath [
-  | None ↦ rpath_folders (needer ∷ above) (given_folders library ∷ given_folders default ∷ [])
-  | Some text ↦ given_folders library ∷ record { text = text; origin = Some needer.folder } ∷ given_folders default ∷ []
-]
+abbrev pub searched_folders : (library default : List ℕ) → List Needer → List Folders
+searched_folders library default needers =
+    unless_runpath (first_runpath needers) (rpath_folders needers) ++ (given_folders library ∷ cons_option (first_runpath needers) (given_folders default ∷ []))
 
 -- the paths of a name in all of them
 unfoldable pub searched_paths : (root name : List ℕ) → List Folders → List (List ℕ)

@@ -1,7 +1,7 @@
 //! The entries of a text of folders.
 ghost use Rattle.std.specs.Prelude.{◌≡◌, ◌<◌, ◌+◌, ◌∷◌, [], length};
 ghost use Rattle.elf_search.specs.Searching.{parted};
-ghost use Rattle.elf_search.specs.Steps.{bytes_left, entries_left};
+ghost use Rattle.elf_search.specs.Steps.{left_bytes, left_entries};
 
 use memchr::memchr;
 
@@ -16,8 +16,8 @@ pub(crate) struct Entry<'a> {
 
 /// The first entry of a text.
 pub(crate) fn first_entry(text: &[u8]) -> Entry<'_>
-    ensures parted { parted [] text.now ≡ result.text.now ∷ entries_left result.behind }
-    ensures less { bytes_left result.behind < length text.now + 1 }
+    ensures parted { parted [] text.now ≡ result.text.now ∷ left_entries result.behind }
+    ensures less { left_bytes result.behind < length text.now + 1 }
 {
     match memchr(b':', text) {
         Some(end) => Entry {

@@ -4,11 +4,15 @@
 
 mod entries;
 mod folders;
+mod needers;
 mod paths;
+mod search;
 mod tokens;
 mod tries;
 pub mod worked;
 
-pub use folders::Folders;
+pub use folders::FolderList;
+pub use needers::{FolderLists, Needer, NeederChain, gather_folders};
 pub use paths::{TriedPath, folder_of_path, named_path};
-pub use tries::Tries;
+pub use search::LibrarySearch;
+pub use tries::PathTries;

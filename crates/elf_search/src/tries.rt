@@ -4,13 +4,13 @@ ghost use Rattle.elf_search.specs.Searching.{folder_paths};
 ghost use Rattle.elf_search.specs.Steps.{folders_of};
 
 use crate::entries::first_entry;
-use crate::folders::Folders;
+use crate::folders::FolderList;
 use crate::paths::{TriedPath, put_entry};
 use std::marker::Model;
 
 /// The paths of a name in the folders of a text that were not tried yet.
 #[derive(Drop)]
-pub struct Tries<'a> {
+pub struct PathTries<'a> {
     root: &'a [u8],
     name: &'a [u8],
     origin: Option<&'a [u8]>,
@@ -18,21 +18,21 @@ pub struct Tries<'a> {
     left: Option<&'a [u8]>,
 }
 
-impl<'a> Model for Tries<'a> {
+impl<'a> Model for PathTries<'a> {
     ghost use Rattle.std.specs.Prelude.{List, ℕ};
     ghost use Rattle.elf_search.specs.Searching.{entry_paths};
-    ghost use Rattle.elf_search.specs.Steps.{entries_left, origin_of};
+    ghost use Rattle.elf_search.specs.Steps.{left_entries, origin_of};
 
     ghost Value = { List (List ℕ) };
 
-    ghost view = { λ t. entry_paths t.root.now t.name.now (origin_of t.origin) (entries_left t.left) };
+    ghost view = { λ t. entry_paths t.root.now t.name.now (origin_of t.origin) (left_entries t.left) };
 }
 
-impl<'a> Tries<'a> {
+impl<'a> PathTries<'a> {
     /// The paths of a name in the folders of a text, below a root: what stands before each folder that is
     /// written with a slash at its front.
     #[tactic(auto, unfolding(crate::specs::Searching::entries_of, crate::specs::Searching::entry_paths))]
-    pub fn new(root: &'a [u8], name: &'a [u8], folders: Folders<'a>) -> Tries<'a>
+    pub fn new(root: &'a [u8], name: &'a [u8], folders: FolderList<'a>) -> PathTries<'a>
         ensures { result ≡ folder_paths root.now name.now (folders_of folders.entry) }
     {
         let left = if folders.text.is_empty() {
@@ -40,11 +40,24 @@ impl<'a> Tries<'a> {
         } else {
             Some(folders.text)
         };
-        Tries {
+        PathTries {
             root,
             name,
             origin: folders.origin,
             left,
+        }
+    }
+
+    /// No path of a name.
+    #[tactic(auto, unfolding(crate::specs::Searching::entry_paths))]
+    pub(crate) fn none(root: &'a [u8], name: &'a [u8]) -> PathTries<'a>
+        ensures { result ≡ [] }
+    {
+        PathTries {
+            root,
+            name,
+            origin: None,
+            left: None,
         }
     }
 

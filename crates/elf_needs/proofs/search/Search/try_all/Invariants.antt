@@ -2,5 +2,5 @@
 use Rattle.std.proofs.Common.{length}
 use Rattle.elf_needs.proofs.search.Search.try_all.Given as goal
 
-abbrev pub decreases-loop-tries : goal.decreases-loop-tries
-decreases-loop-tries g l = length l.tries
+abbrev pub decreases-loop-search : goal.decreases-loop-search
+decreases-loop-search g l = length l.search
