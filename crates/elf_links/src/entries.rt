@@ -3,7 +3,7 @@ ghost use Rattle.std.specs.Prelude.{◌≡◌, IfOk};
 ghost use Rattle.elf_source.specs.Source.{Keeps};
 ghost use Rattle.elf_table.specs.Tables.{RowsWithin, StringsWithin};
 
-use crate::links::{LinkStore, FileLinks, Need};
+use crate::links::{FileLinks, LinkStore, Need};
 use elf_headers::{Cap, Fault, refused};
 use elf_note::{DynStrings, dynamic_rows, entry_in};
 use elf_record::numbers::{DT_NEEDED, DT_RPATH, DT_RUNPATH, DT_SONAME};

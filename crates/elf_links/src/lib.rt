@@ -7,6 +7,6 @@ mod links;
 mod reading;
 mod texts;
 
-pub use links::{LinkStore, FileLinks, Need};
+pub use links::{FileLinks, LinkStore, Need};
 pub use reading::{machine_of, read_links};
 pub use texts::Texts;

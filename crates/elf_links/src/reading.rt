@@ -3,7 +3,7 @@ ghost use Rattle.std.specs.Prelude.{◌≡◌, ◌<◌, ◌^◌};
 ghost use Rattle.elf_source.specs.Source.{Keeps};
 
 use crate::entries::{EntryTexts, listed_links};
-use crate::links::{LinkStore, FileLinks};
+use crate::links::{FileLinks, LinkStore};
 use elf_headers::{Fault, HeaderStore, fill, header, load, refused};
 use elf_note::dynamic_strings;
 use elf_record::numbers::PT_DYNAMIC;
@@ -18,6 +18,7 @@ const FRONT_BYTES: usize = 20;
 const MAGIC: u32 = 0x464c_457f;
 /// The class of files of 64 bits, at byte 4, and the encoding that is little-endian, at byte 5.
 const CLASS_64: u8 = 2;
+
 const LITTLE_ENDIAN: u8 = 1;
 
 /// The machine of a file of 64 bits that is little-endian; None of any other file.
@@ -102,10 +103,14 @@ fn check_scope<S: Source>(src: &mut Counted<S>, view: &SegmentView<'_>) -> Resul
 {
     match find_in_segments(src, view) {
         Ok(_) => Ok(()),
-        Err(Fault::Refused(Refusal {
-            at: _,
-            cause: Cause::NoHash,
-        })) => Ok(()),
+        Err(
+            Fault::Refused(
+                Refusal {
+                    at: _,
+                    cause: Cause::NoHash,
+                },
+            ),
+        ) => Ok(()),
         Err(fault) => Err(fault),
     }
 }

@@ -1,6 +1,5 @@
 //! Texts in memory that is taken once.
 ghost use Rattle.std.specs.Prelude.{◌≡◌, ◌<◌, ◌++◌, ◌∷◌, [], ℕ, List, IfOk, IfSome, IsNone, length, slice_index_or};
-
 ghost use Rattle.elf_links.specs.Pieces.{text_piece};
 
 use std::alloc::{AllocError, Global};

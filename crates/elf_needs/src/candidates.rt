@@ -3,10 +3,9 @@ use crate::walk::NeedsFault;
 use elf_headers::Fault;
 use elf_links::machine_of;
 use elf_source::{Counted, OffsetReader, Source, StreamSource};
-use std::fs;
 use std::os::unix::fs::FileExt;
 use std::rt::Files;
-use std::str;
+use std::{fs, str};
 
 /// A file of the system, read at offsets.
 pub(crate) type FileSource<F> = Counted<StreamSource<OffsetReader<F>>>;

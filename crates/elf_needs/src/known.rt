@@ -1,5 +1,5 @@
 //! The objects that are known so far.
-use elf_links::{LinkStore, FileLinks, Need, Texts};
+use elf_links::{FileLinks, LinkStore, Need, Texts};
 use elf_search::folder_of_path;
 use std::alloc::{AllocError, Global};
 
@@ -10,6 +10,7 @@ pub const MOST_OBJECTS: usize = 512;
 const PATH_ROOM: usize = 4_096;
 /// How many bytes of texts, and how many texts, there is room for with each object; all share it.
 const TEXT_ROOM: usize = 8_192;
+
 const TEXTS_EACH: usize = 64;
 
 /// An object: where it is, and what it needs.
@@ -45,11 +46,7 @@ impl Objects {
     /// Where memory is refused.
     pub(crate) fn new(alloc: Global) -> Result<Objects, AllocError> {
         Ok(Objects {
-            links: LinkStore::new(
-                alloc,
-                MOST_OBJECTS * TEXT_ROOM,
-                MOST_OBJECTS * TEXTS_EACH,
-            )?,
+            links: LinkStore::new(alloc, MOST_OBJECTS * TEXT_ROOM, MOST_OBJECTS * TEXTS_EACH)?,
             paths: Texts::new(alloc, MOST_OBJECTS * PATH_ROOM, MOST_OBJECTS)?,
             known: Vec::with_capacity(alloc, MOST_OBJECTS)?,
         })

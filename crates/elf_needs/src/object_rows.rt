@@ -99,11 +99,7 @@ pub fn show_object<W: Sink>(
 ///
 /// # Errors
 /// A fault of the output, with a front of the line written.
-pub fn show_too_many<W: Sink>(
-    place: u64,
-    format: Format,
-    out: &mut Out<W>,
-) -> Result<(), OutFault>
+pub fn show_too_many<W: Sink>(place: u64, format: Format, out: &mut Out<W>) -> Result<(), OutFault>
     ensures puts { Puts out.old out.new result (too_many_line format place) }
 {
     match format {

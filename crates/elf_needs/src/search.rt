@@ -2,7 +2,9 @@
 use crate::candidates::{FileSource, candidate};
 use crate::known::{Known, MOST_OBJECTS, Objects};
 use crate::walk::NeedsFault;
-use elf_search::{FolderList, TriedPath, PathTries, named_path};
+use elf_search::{
+    FolderLists, LibrarySearch, Needer, NeederChain, TriedPath, gather_folders, named_path,
+};
 use memchr::memchr;
 use std::os::unix::fs::FileExt;
 use std::rt::Files;
@@ -55,93 +57,24 @@ where
             }
             return self.candidate();
         }
-        if let Some(found) = self.find_by_rpath(objects, needer, name)? {
-            return Ok(Some(found));
-        }
-        if let Some(found) = self.find_given(self.folders.library, name)? {
-            return Ok(Some(found));
-        }
-        if let Some(found) = self.find_by_runpath(objects, needer, name)? {
-            return Ok(Some(found));
-        }
-        self.find_given(self.folders.default, name)
+        let needers = chain(objects, needer);
+        let mut lists = FolderLists::new();
+        let SearchedFolders {
+            library,
+            default,
+            root,
+        } = self.folders;
+        gather_folders(&needers, library, default, &mut lists);
+        self.try_all(LibrarySearch::new(root, name, &lists))
     }
 
-    /// Looks in the folders of an object's DT_RPATH, of that of the object that first needed it, and so
-    /// on; of each only where it has no DT_RUNPATH, and in none where the first has.
-    fn find_by_rpath(
+    /// Tries paths, one after another.
+    fn try_all(
         &mut self,
-        objects: &Objects,
-        needer: &Known,
-        name: &[u8],
+        search: LibrarySearch<'_>,
     ) -> Result<Option<FileSource<R::File>>, NeedsFault> {
-        if needer.links.runpath.is_some() {
-            return Ok(None);
-        }
-        let mut known = *needer;
-        for _above in 0..MOST_OBJECTS {
-            if let Some(found) = self.find_in_rpath(objects, &known, name)? {
-                return Ok(Some(found));
-            }
-            let Some(above) = above(objects, &known) else {
-                return Ok(None);
-            };
-            known = above;
-        }
-        Ok(None)
-    }
-
-    /// Looks in the folders of an object's DT_RPATH, if it has such and no DT_RUNPATH.
-    fn find_in_rpath(
-        &mut self,
-        objects: &Objects,
-        known: &Known,
-        name: &[u8],
-    ) -> Result<Option<FileSource<R::File>>, NeedsFault> {
-        if known.links.runpath.is_some() {
-            return Ok(None);
-        }
-        self.find_in(objects.text(known.links.rpath), objects.folder(known), name)
-    }
-
-    /// Looks in the folders of an object's DT_RUNPATH, if it has such.
-    fn find_by_runpath(
-        &mut self,
-        objects: &Objects,
-        known: &Known,
-        name: &[u8],
-    ) -> Result<Option<FileSource<R::File>>, NeedsFault> {
-        self.find_in(objects.text(known.links.runpath), objects.folder(known), name)
-    }
-
-    /// Looks in the folders of an object's text, if there is one.
-    fn find_in(
-        &mut self,
-        text: Option<&[u8]>,
-        folder: &[u8],
-        name: &[u8],
-    ) -> Result<Option<FileSource<R::File>>, NeedsFault> {
-        let Some(text) = text else {
-            return Ok(None);
-        };
-        let origin = Some(folder);
-        self.try_all(PathTries::new(self.folders.root, name, FolderList { text, origin }))
-    }
-
-    /// Looks in the folders of a text that is told.
-    fn find_given(
-        &mut self,
-        text: &[u8],
-        name: &[u8],
-    ) -> Result<Option<FileSource<R::File>>, NeedsFault> {
-        let origin = None;
-        self.try_all(PathTries::new(self.folders.root, name, FolderList { text, origin }))
-    }
-
-    /// PathTries paths, one after another.
-    fn try_all(&mut self, tries: PathTries<'_>) -> Result<Option<FileSource<R::File>>, NeedsFault> {
-        let mut tries = tries;
-        while tries.next(&mut self.path) {
+        let mut search = search;
+        while search.next(&mut self.path) {
             if let Some(found) = self.candidate()? {
                 return Ok(Some(found));
             }
@@ -149,10 +82,28 @@ where
         Ok(None)
     }
 
-    /// PathTries the path.
+    /// Tries the path.
     fn candidate(&mut self) -> Result<Option<FileSource<R::File>>, NeedsFault> {
         candidate(self.rt, &self.path, self.machine, &mut self.left)
     }
+}
+
+/// An object, the one that first needed it, and so on up to the program.
+fn chain<'a>(objects: &'a Objects, known: &Known) -> NeederChain<'a> {
+    let mut chain = NeederChain::new();
+    let mut known = *known;
+    for _above in 0..MOST_OBJECTS {
+        let _ = chain.try_push(Needer {
+            rpath: objects.text(known.links.rpath),
+            runpath: objects.text(known.links.runpath),
+            folder: objects.folder(&known),
+        });
+        let Some(above) = above(objects, &known) else {
+            return chain;
+        };
+        known = above;
+    }
+    chain
 }
 
 /// The object that first needed another, if one did.

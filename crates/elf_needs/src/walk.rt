@@ -133,8 +133,9 @@ where
         let told = self.read(&mut program.source)?;
         let path = self.objects.keep_path(program.real);
         self.add(None, None, path, &told);
-        show_object(0, None, told.state, program.path, self.format, self.out)
-            .map_err(NeedsFault::Out)
+        show_object(0, None, told.state, program.path, self.format, self.out).map_err(
+            NeedsFault::Out,
+        )
     }
 
     /// Goes over what an object needs.

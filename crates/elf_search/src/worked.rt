@@ -25,7 +25,7 @@ pub fn tokens_stand()
     ensures { TokensStand }
 {}
 
-/// FolderList and names, with another root too.
+/// Folders and names, with another root too.
 #[tactic(auto, unfolding(crate::proofs::OnSearch::on_search))]
 pub fn folders_are_joined()
     ensures { FoldersAreJoined }
