@@ -23,7 +23,7 @@ pub struct Listing<'s, 'o, 'f, S: Source, W: Sink> {
     /// The file that was loaded.
     pub file: File<'f>,
     /// How rows are shown.
-    pub style: Style,
+    pub style: Style<'f>,
     /// The last name that was read.
     pub name: NameBuf,
     /// The names and symbols that were read ahead.
