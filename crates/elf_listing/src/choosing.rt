@@ -38,7 +38,7 @@ impl Choosing for NamedRows {
     ghost BY_NAME = { Yes };
 }
 
-impl<S: Source, W: Sink> Listing<'_, '_, '_, S, W> {
+impl<S: Source, W: Sink> Listing<'_, '_, '_, '_, S, W> {
     /// Whether the row of the name that was read is shown.
     pub(crate) fn is_shown<C: Choosing>(&self, end: NameEnd) -> bool
         requires { ShowsRows C.BY_NAME self.now.style }

@@ -26,7 +26,7 @@ pub struct Numbered {
     pub needed: Names,
 }
 
-impl<S: Source, W: Sink> Listing<'_, '_, '_, S, W> {
+impl<S: Source, W: Sink> Listing<'_, '_, '_, '_, S, W> {
     /// Shows the row of the version of a symbol: its `X` line with the name of its number, where it is
     /// one of the rows that are shown, or the refusal of a number that has none at the entry (Linux
     /// Standard Base Core, Symbol Versioning).

@@ -19,7 +19,7 @@ use elf_table::{NameEnd, Names, Row, Table};
 /// Symbols with the string table of their names.
 type Linked = Option<(Table, Names)>;
 
-impl<S: Source, W: Sink> Listing<'_, '_, '_, S, W> {
+impl<S: Source, W: Sink> Listing<'_, '_, '_, '_, S, W> {
     /// Shows the row of a relocation entry of a section: its `R` line with the name of its symbol,
     /// where it is one of the rows that are shown, or the refusal of its symbol at the entry's offset,
     /// or of the name at the symbol's.

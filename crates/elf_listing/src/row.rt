@@ -15,7 +15,7 @@ use elf_record::{Phdr, Sym};
 use elf_source::{Sink, Source};
 use elf_table::{NameEnd, Names, Row};
 
-impl<S: Source, W: Sink> Listing<'_, '_, '_, S, W> {
+impl<S: Source, W: Sink> Listing<'_, '_, '_, '_, S, W> {
     /// Shows the row of a program header: its `P` line.
     pub(crate) fn segment_row<R: Render>(&mut self, row: &Row<'_>) -> Result<(), Stop>
         requires format { R.FORMAT ≡ self.old.style.format }

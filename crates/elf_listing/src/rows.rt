@@ -48,7 +48,7 @@ pub enum ListedAs<'f> {
     },
 }
 
-impl<S: Source, W: Sink> Listing<'_, '_, '_, S, W> {
+impl<S: Source, W: Sink> Listing<'_, '_, '_, '_, S, W> {
     /// Shows the rows of a table that are listed one after another, up to the first that is
     /// refused.
     pub(crate) fn rows(&mut self, table: Table, kind: &ListedAs<'_>) -> Result<(), Stop>

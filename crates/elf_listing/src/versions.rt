@@ -20,7 +20,7 @@ use elf_table::Names;
 use elf_wanted::RowChoice;
 use elf_versions::{VersionCursor, VersionRecord};
 
-impl<S: Source, W: Sink> Listing<'_, '_, '_, S, W> {
+impl<S: Source, W: Sink> Listing<'_, '_, '_, '_, S, W> {
     /// Shows the version definitions of a section, where it holds them: a `V` line each, or the
     /// first refusal of its table, of its string table or of a name, or of what stands in the place
     /// of a definition (Linux Standard Base Core, Symbol Versioning).
