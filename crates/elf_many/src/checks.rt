@@ -24,7 +24,7 @@ const TELL_EVERY: u64 = 512;
 pub struct Checks<'a, W: Sink, E: Write + Drop> {
     out: Out<W>,
     store: HeaderStore<'a>,
-    caps: Caps<'a>,
+    caps: Caps<'static>,
     parts: Parts,
     status: u8,
     unnamed: u64,
@@ -55,7 +55,7 @@ impl<'a, W: Sink, E: Write + Drop> Checks<'a, W, E> {
     pub fn new(
         out: Out<W>,
         store: HeaderStore<'a>,
-        caps: Caps<'a>,
+        caps: Caps<'static>,
         parts: Parts,
         terminal: Option<E>,
     ) -> Self
