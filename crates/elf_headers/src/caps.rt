@@ -65,7 +65,7 @@ impl Style<'_> {
             gnu: false,
             by_segments: false,
             format: Format::Columns,
-            choice: RowChoice::EveryRow,
+            choice: RowChoice::every_row(),
         }
     }
 }

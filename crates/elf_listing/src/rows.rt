@@ -13,7 +13,6 @@ use elf_lines::{Columns, LineFront, Object, Render};
 use elf_model::Format;
 use elf_source::{Sink, Source};
 use elf_table::{Names, Row, Table};
-use elf_wanted::RowChoice;
 
 /// What the rows of a table are listed as.
 #[derive(Clone, Copy)]
@@ -67,10 +66,10 @@ impl<S: Source, W: Sink> Listing<'_, '_, '_, '_, S, W> {
         requires table { IsTableOf self.old.src.now.seen.size kind.now table }
         ensures { ListsRows self.old self.new result kind.now table }
     {
-        match self.style.choice {
-            RowChoice::EveryRow => self.rows_in::<R, AllRows>(table, kind),
-            RowChoice::RowsOf(_) => self.rows_in::<R, NamedRows>(table, kind),
+        if self.style.choice.by_name {
+            return self.rows_in::<R, NamedRows>(table, kind);
         }
+        self.rows_in::<R, AllRows>(table, kind)
     }
 
     /// Shows those that the style chooses, one front of a line for all.

@@ -17,7 +17,6 @@ use elf_record::VersionKind;
 use elf_record::gnu_numbers::{SHT_GNU_VERDEF, SHT_GNU_VERNEED};
 use elf_source::{Sink, Source};
 use elf_table::Names;
-use elf_wanted::RowChoice;
 use elf_versions::{VersionCursor, VersionRecord};
 
 impl<S: Source, W: Sink> Listing<'_, '_, '_, '_, S, W> {
@@ -75,10 +74,10 @@ impl<S: Source, W: Sink> Listing<'_, '_, '_, '_, S, W> {
         requires strings { StringsWithin self.old.src.now.seen.size names }
         ensures { ListsRecords self.old self.new result cursor.old section names }
     {
-        match self.style.choice {
-            RowChoice::EveryRow => self.version_rows_in::<AllRows>(cursor, section, names),
-            RowChoice::RowsOf(_) => self.version_rows_in::<NamedRows>(cursor, section, names),
+        if self.style.choice.by_name {
+            return self.version_rows_in::<NamedRows>(cursor, section, names);
         }
+        self.version_rows_in::<AllRows>(cursor, section, names)
     }
 
     /// Shows them, as the style chooses rows.

@@ -43,7 +43,7 @@ pub fn style_of(options: &ArgMatches<'_>) -> Option<Style<'static>>
         gnu,
         by_segments,
         format: format_of(options),
-        choice: RowChoice::EveryRow,
+        choice: RowChoice::every_row(),
     })
 }
 

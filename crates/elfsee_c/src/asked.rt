@@ -45,7 +45,7 @@ impl CallerListing {
             gnu: self.gnu,
             by_segments: self.by_segments,
             format: self.format,
-            choice: RowChoice::EveryRow,
+            choice: RowChoice::every_row(),
         }
     }
 }
