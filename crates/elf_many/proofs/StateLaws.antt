@@ -20,13 +20,9 @@ use Rattle.elf_source.specs.Source.{Seen}
 use Rattle.elf_headers.specs.declared.caps.Caps.{Caps}
 use Rattle.elf_headers.specs.declared.stop.Stop.TheVariants.{Refused as StopRefused}
 use Rattle.elf_listing.specs.Reports.{Reports}
-use Rattle.elf_many.specs.Checked.{FindsState}
+use Rattle.elf_many.specs.Checked.{FindsShort, FindsState, short_refusal}
 
--- the refusal of a file that is too short
-abbrev pub short_of : List ℕ → Refusal
-short_of file = record { at = length file; cause = Short }
-
-short_first : (file : List ℕ) → length file < 64 → first_refusal (header_checks file) ≡ Some (short_of file)
+short_first : (file : List ℕ) → length file < 64 → first_refusal (header_checks file) ≡ Some (short_refusal file)
 short_first file short =
     let below : nat_lt (length file) (2 ^ 63) ≡ true = grind (arith, nat_tests) in
     let few : nat_lt (length file) 64 ≡ true = grind (arith, nat_tests) in
@@ -39,11 +35,11 @@ reported (Some bytes) file headers style parts refusal first = inl record { text
 
 -- the state of a short file
 short_state : (budget : Option ℕ) (file : List ℕ) (headers : ℕ) (style : Style) (parts : ℕ) (found : FileState) → length file < 64
-    → found ≡ state_of budget file (Some (short_of file)) → IsStateOf budget file headers style parts found
+    → found ≡ state_of budget file (Some (short_refusal file)) → IsStateOf budget file headers style parts found
 short_state budget file headers style parts found short is = record {
   text = report_of style.format (listing file headers style parts);
-  fault = Some (short_of file);
-  listed = reported budget file headers style parts (short_of file) (short_first file short);
+  fault = Some (short_refusal file);
+  listed = reported budget file headers style parts (short_refusal file) (short_first file short);
   state_is = is;
 }
 
@@ -51,25 +47,35 @@ short_state budget file headers style parts found short is = record {
 pub length_is : (was now : Seen) (file : List ℕ) (at : ℕ) → now ≡ was → was.file ≡ Some file → at ≡ now.size → length file ≡ at
 length_is was now file at same held is = let sized = was.sized file held in let size = ap (λ (seen : Seen). seen.size) same in omega (arith, sized, size, is)
 
-pub tiny : (budget : Option ℕ) (file : List ℕ) (headers : ℕ) (style : Style) (parts : ℕ) → length file < 4 → IsStateOf budget file headers style parts state.NoElf
-tiny budget file headers style parts small =
+pub tiny : (budget : Option ℕ) (file : List ℕ) → length file < 4 → state.NoElf ≡ state_of budget file (Some (short_refusal file))
+tiny budget file small =
     let four : nat_lt (length file) 4 ≡ true = grind (arith, nat_tests) in
     let few : nat_lt (length file) 64 ≡ true = grind (arith, nat_tests) in
-    short_state budget file headers style parts state.NoElf (omega arith) (rw (few, four) refl)
+    rw (few, four) refl
 
-pub unlooked : (budget : Option ℕ) (file : List ℕ) (headers : ℕ) (style : Style) (parts at : ℕ) → length file ≡ at → 4 ≤ at → at < 64 → permits_magic budget ≡ false
-    → IsStateOf budget file headers style parts (state.Refused record { at = at; cause = Short })
-unlooked budget file headers style parts at is most short none =
+pub unlooked : (budget : Option ℕ) (file : List ℕ) (at : ℕ) → length file ≡ at → 4 ≤ at → at < 64 → permits_magic budget ≡ false
+    → state.Refused (record { at = at; cause = Short }) ≡ state_of budget file (Some (short_refusal file))
+unlooked budget file at is most short none =
     let four : nat_lt (length file) 4 ≡ false = grind (arith, nat_tests) in
     let few : nat_lt (length file) 64 ≡ true = grind (arith, nat_tests) in
-    short_state budget file headers style parts _ (omega arith) (rw (few, four, none) (ap (λ n. state.Refused (record { at = n; cause = Short })) (sym is)))
+    rw (few, four, none) (ap (λ n. state.Refused (record { at = n; cause = Short })) (sym is))
 
-pub looked : (budget : Option ℕ) (file : List ℕ) (headers : ℕ) (style : Style) (parts at : ℕ) (begins : Bool) → length file ≡ at → 4 ≤ at → at < 64 → permits_magic budget ≡ true
-    → begins ≡ begins_as_elf file → IsStateOf budget file headers style parts (if not begins then state.NoElf else state.Refused record { at = at; cause = Short })
-looked budget file headers style parts at begins is most short some told =
+pub looked : (budget : Option ℕ) (file : List ℕ) (at : ℕ) (begins : Bool) → length file ≡ at → 4 ≤ at → at < 64 → permits_magic budget ≡ true
+    → begins ≡ begins_as_elf file
+    → (if not begins then state.NoElf else state.Refused record { at = at; cause = Short }) ≡ state_of budget file (Some (short_refusal file))
+looked budget file at begins is most short some told =
     let four : nat_lt (length file) 4 ≡ false = grind (arith, nat_tests) in
     let few : nat_lt (length file) 64 ≡ true = grind (arith, nat_tests) in
-    short_state budget file headers style parts _ (omega arith) (rw (few, four, some, ← told) (ap (λ n. if not begins then state.NoElf else state.Refused (record { at = n; cause = Short })) (sym is)))
+    rw (few, four, some, ← told) (ap (λ n. if not begins then state.NoElf else state.Refused (record { at = n; cause = Short })) (sym is))
+
+-- the state of a file that is too short is that of its listing
+pub short_found : (caps : Caps) (parts : ℕ) (file : List ℕ) (found : FileState) → length file < 64 → FindsShort caps.limits.budget file found
+    → FindsState caps parts file found
+short_found caps parts file state.Ok short is = short_state caps.limits.budget file caps.limits.headers (style_of caps.style) parts _ short is
+short_found caps parts file (state.Refused refusal) short is = short_state caps.limits.budget file caps.limits.headers (style_of caps.style) parts _ short is
+short_found caps parts file state.NoElf short is = short_state caps.limits.budget file caps.limits.headers (style_of caps.style) parts _ short is
+short_found caps parts file state.Unread short is = tt
+short_found caps parts file state.Memory short is = short_state caps.limits.budget file caps.limits.headers (style_of caps.style) parts _ short is
 
 -- a listing that came to its end
 pub ended : {X : Type 0} (file : List ℕ) (caps : Caps) (parts : ℕ) (old new : Written) (x : X) → Reports file caps parts old new (Ok x)

@@ -1,10 +1,12 @@
 -- What the check of one file did.
 use Rattle.elf_model.specs.Style.{Style}
 use Rattle.elf_headers.specs.Permitted.{style_of}
-use Rattle.std.specs.Prelude.{ℕ, ◌+◌, ◌≤◌, ◌<◌, nat_lt, if◌then◌else◌, List, length, IfSome, ⊤}
-use Rattle.elf_model.specs.Checking.{IsStateOf}
+use Rattle.std.specs.Prelude.{ℕ, ◌≡◌, ◌+◌, ◌≤◌, ◌<◌, nat_lt, if◌then◌else◌, List, length, Option, Some, IfSome, ⊤}
+use Rattle.elf_model.specs.Checking.{IsStateOf, state_of}
 use Rattle.elf_model.specs.Cost.{ceiling, listing_cost}
 use Rattle.elf_model.specs.Records.{FILE_HEADER_SIZE, ELF_MAGIC_SIZE}
+use Rattle.elf_model.specs.declared.causes.Cause.TheVariants.{Short}
+use Rattle.elf_model.specs.declared.causes.Refusal.{Refusal}
 use Rattle.elf_model.specs.declared.states.FileState.{FileState}
 use Rattle.elf_model.specs.declared.states.FileState.TheVariants as state
 use Rattle.elf_source.specs.Source.{Counting, IsHonest}
@@ -14,6 +16,15 @@ use Rattle.elf_headers.specs.declared.caps.Caps.{Caps}
 abbrev pub FindsState : Caps → ℕ → List ℕ → FileState → Type 0
 FindsState caps parts file state.Unread = ⊤
 FindsState caps parts file found = IsStateOf caps.limits.budget file caps.limits.headers (style_of caps.style) parts found
+
+-- the refusal of a file that is too short for a file header
+abbrev pub short_refusal : List ℕ → Refusal
+short_refusal file = record { at = length file; cause = Short }
+
+-- the state that is found of such a file: that of this refusal within the budget, unless a read failed
+abbrev pub FindsShort : Option ℕ → List ℕ → FileState → Type 0
+FindsShort budget file state.Unread = ⊤
+FindsShort budget file found = found ≡ state_of budget file (Some (short_refusal file))
 
 -- a file that was not read: a read of it failed, or its source isn't honest; a check takes no memory, so none is wanted
 abbrev pub FailsRead : Counting → Counting → FileState → Type 0

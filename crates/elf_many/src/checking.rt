@@ -6,7 +6,7 @@ ghost use Rattle.elf_model.specs.declared.states.FileState.TheVariants.{NoElf, R
 ghost use Rattle.elf_many.specs.Checked.{AsksFor, FailsRead, FindsState, check_cost};
 ghost use Rattle.elf_listing.specs.Reports.{Leaves};
 
-use crate::short::check_short;
+use crate::short::short_state;
 use elf_headers::{Caps, HeaderStore, Stop};
 use elf_listing::show;
 use elf_model::{Cause, FileState, Refusal};
@@ -40,14 +40,14 @@ pub fn check<S: Source>(
     ensures asks { AsksFor caps src.old src.new }
 {
     if src.length() < HEADER_BYTES {
-        return check_short(src, caps);
+        return short_state(src, caps.limits.budget);
     }
     let mut out = Out::new(NullSink);
     let listed = show(src, store, caps, parts, &mut out);
     let _sink = out.into_inner();
     match listed {
         Ok(()) => FileState::Ok,
-        Err(Stop::Refused(refusal)) => judged(refusal),
+        Err(Stop::Refused(refusal)) => refused_state(refusal),
         Err(Stop::Source { .. }) => FileState::Unread,
         // Not reached: the sink never fails.
         Err(Stop::Out(_)) => FileState::Unread,
@@ -55,7 +55,7 @@ pub fn check<S: Source>(
 }
 
 /// The state of a file that has room for a file header, by its refusal.
-fn judged(refusal: Refusal) -> FileState
+pub fn refused_state(refusal: Refusal) -> FileState
     ensures { result ≡ (if is_not_elf refusal.cause then NoElf else Refused refusal) }
 {
     match refusal.cause {
