@@ -1,5 +1,5 @@
 -- What is told of one file among many.
-use Rattle.std.specs.Prelude.{ℕ, ◌≡◌, ◌+◌, ◌≤◌, ◌⊎◌, ⊥, List, max, Some, Result, Ok, Err, IfOk, OnOk, OnErr}
+use Rattle.std.specs.Prelude.{ℕ, ◌≡◌, ◌+◌, ◌≤◌, ◌^◌, ◌⊎◌, ⊥, false, List, max, Some, Result, Ok, Err, IfOk, OnOk, OnErr}
 use Rattle.elf_headers.specs.Permitted.{style_of}
 use Rattle.elf_headers.specs.declared.caps.Caps.{Caps}
 use Rattle.elf_many.specs.Checked.{AsksFor, FailsRead, FindsState, check_cost}
@@ -9,8 +9,15 @@ use Rattle.elf_model.specs.declared.formats.Format.{Format}
 use Rattle.elf_model.specs.declared.states.FileState.{FileState}
 use Rattle.elf_model.specs.declared.states.FileState.TheVariants.{Memory, Unread}
 use Rattle.elf_source.specs.Output.{Puts, Written}
+use Rattle.elf_source.specs.Ranges.{IsWholeRange}
 use Rattle.elf_source.specs.Source.{Counting}
 use Rattle.elf_source.specs.declared.faults.OutFault.{OutFault}
+
+-- a source as it is when a file is opened: a range of all its bytes, of which nothing is hidden, and not much was asked
+pub record StandsWhole (c : Counting) : Type 0 where
+  pub whole : IsWholeRange c.seen
+  pub shows : c.hides ≡ false
+  pub few : c.asked ≤ 2 ^ 127
 
 -- many files: their output, how lines are written, by which rule each is told of, the status so far, and how many paths could not
 -- be named

@@ -7,7 +7,7 @@ use crate::statuses::status;
 use elf_headers::{Caps, HeaderStore};
 use elf_lines::show_check;
 use elf_record::Parts;
-use elf_source::{Counted, Out, OutFault, Sink, Source};
+use elf_source::{Counted, Out, OutFault, RangeSource, Sink, Source};
 use std::marker::Model;
 
 /// The rule by which files are checked.
@@ -61,7 +61,7 @@ impl<'a> EachFile for Checks<'a> {
 
     fn tell<S: Source, W: Sink>(
         &mut self,
-        src: &mut Counted<S>,
+        src: &mut Counted<RangeSource<S>>,
         path: &[u8],
         out: &mut Out<W>,
     ) -> Result<u8, OutFault> {

@@ -1,10 +1,11 @@
 //! What is done with each of many files.
-ghost use Rattle.std.specs.Prelude.{◌≡◌, ◌^◌, ◌≤◌, ℕ, List, Result};
+ghost use Rattle.std.specs.Prelude.{◌≡◌, ℕ, List, Result};
+ghost use Rattle.elf_many.specs.Telling.{StandsWhole};
 ghost use Rattle.elf_source.specs.Output.{Written};
 ghost use Rattle.elf_source.specs.Source.{Counting};
 ghost use Rattle.elf_source.specs.declared.faults.OutFault.{OutFault};
 
-use elf_source::{Counted, Out, OutFault, Sink, Source};
+use elf_source::{Counted, Out, OutFault, RangeSource, Sink, Source};
 
 /// Tells of files one after another, by the same rule: what came before a file is of no account.
 pub trait EachFile {
@@ -19,18 +20,18 @@ pub trait EachFile {
     ghost tells: { Self.Rule → List ℕ → Counting → Counting → Written → Written →
         Result ℕ OutFault → Type 0 };
 
-    /// Tells of the file at a path. At most 2^127 bytes were asked of its source. Answers the exit
-    /// status that the file calls for.
+    /// Tells of the file at a path, whose source is a range of all its bytes. At most 2^127 bytes were
+    /// asked of it. Answers the exit status that the file calls for.
     ///
     /// # Errors
     /// A fault of the output, with a front of what there is to tell written.
     fn tell<S: Source, W: Sink>(
         &mut self,
-        src: &mut Counted<S>,
+        src: &mut Counted<RangeSource<S>>,
         path: &[u8],
         out: &mut Out<W>,
     ) -> Result<u8, OutFault>
-        requires { src.old.asked ≤ 2 ^ 127 }
+        requires { StandsWhole src.old }
         ensures tells {
             tells (rule self.old) path.now src.old src.new out.old out.new result }
         ensures stays { rule self.new ≡ rule self.old };

@@ -1,6 +1,6 @@
 //! What is kept from one of many files to the next.
-ghost use Rattle.std.specs.Prelude.{◌≡◌, ◌+◌, ◌-◌, ◌^◌, ◌<◌, ◌≤◌, max, min, OnOk, Ok};
-ghost use Rattle.elf_many.specs.Telling.{KeepsRule, TellsLine, TellsSource};
+ghost use Rattle.std.specs.Prelude.{◌≡◌, ◌+◌, ◌-◌, ◌^◌, ◌<◌, max, min, OnOk, Ok};
+ghost use Rattle.elf_many.specs.Telling.{KeepsRule, StandsWhole, TellsLine, TellsSource};
 ghost use Rattle.elf_model.specs.Checking.{unnamed_line};
 ghost use Rattle.elf_source.specs.Output.{Puts};
 
@@ -8,7 +8,7 @@ use crate::each_file::EachFile;
 use crate::statuses::status;
 use elf_lines::{show_check, show_unnamed};
 use elf_model::{FileState, Format};
-use elf_source::{Counted, Out, OutFault, Sink, Source};
+use elf_source::{Counted, Out, OutFault, RangeSource, Sink, Source};
 use std::io::Write;
 use std::marker::Model;
 
@@ -61,16 +61,16 @@ impl<W: Sink, E: Write + Drop, A: EachFile + Drop> Many<W, E, A> {
     }
 
     /// Tells of the file of a source, whatever files came before it, and keeps the larger of the status
-    /// so far and the one that the file calls for. At most 2^127 bytes were asked of the source.
+    /// so far and the one that the file calls for. The source is a range of all bytes of the file.
     ///
     /// # Errors
     /// A fault of the output, with a front of what there is to tell written.
     pub fn tell_source<S: Source>(
         &mut self,
-        src: &mut Counted<S>,
+        src: &mut Counted<RangeSource<S>>,
         path: &[u8],
     ) -> Result<(), OutFault>
-        requires { src.old.asked ≤ 2 ^ 127 }
+        requires { StandsWhole src.old }
         ensures {
             TellsSource (A.tells self.old.rule path.now src.old src.new) result self.old self.new }
     {

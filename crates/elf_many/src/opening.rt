@@ -7,7 +7,9 @@ use crate::each_file::EachFile;
 use crate::many::Many;
 use elf_folder::unopened;
 use elf_model::FileState;
-use elf_source::{Counted, OffsetReader, OutFault, Sink, StreamSource, opened_path};
+use elf_source::{
+    Counted, OffsetReader, OutFault, RangeSource, Sink, StreamSource, opened_path,
+};
 use std::fs;
 use std::io::Write;
 use std::os::unix::fs::FileExt;
@@ -27,7 +29,7 @@ where
     ensures { TellsFile (A.tells many.old.rule) path.now result many.old many.new }
 {
     match open(rt, path) {
-        Ok(source) => many.tell_source(&mut Counted::new(source), path.as_bytes()),
+        Ok(source) => many.tell_source(&mut Counted::new(RangeSource::new(source)), path.as_bytes()),
         Err(state) => many.tell_state(state, path.as_bytes()),
     }
 }

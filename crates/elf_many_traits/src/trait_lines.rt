@@ -9,7 +9,7 @@ use elf_headers::{HeaderStore, Limits};
 use elf_lines::{show_check, show_lacking, show_traits};
 use elf_many::{EachFile, status};
 use elf_model::{FileState, Format, Traits};
-use elf_source::{Counted, Out, OutFault, Sink, Source};
+use elf_source::{Counted, Out, OutFault, RangeSource, Sink, Source};
 use elf_trait_words::{RequiredWord, lacking};
 use std::marker::Model;
 
@@ -63,7 +63,7 @@ impl<'a> EachFile for TraitLines<'a> {
 
     fn tell<S: Source, W: Sink>(
         &mut self,
-        src: &mut Counted<S>,
+        src: &mut Counted<RangeSource<S>>,
         path: &[u8],
         out: &mut Out<W>,
     ) -> Result<u8, OutFault> {
