@@ -1,8 +1,5 @@
 -- What is told of one file among many.
-use Rattle.std.specs.Prelude.{ℕ, ◌≡◌, ◌+◌, ◌≤◌, ◌^◌, ◌⊎◌, ⊥, false, List, max, Some, Result, Ok, Err, IfOk, OnOk, OnErr}
-use Rattle.elf_headers.specs.Permitted.{style_of}
-use Rattle.elf_headers.specs.declared.caps.Caps.{Caps}
-use Rattle.elf_many.specs.Checked.{AsksFor, FailsRead, FindsState, check_cost}
+use Rattle.std.specs.Prelude.{ℕ, ◌≡◌, ◌≤◌, ◌^◌, ◌⊎◌, false, List, max, Result, Ok, Err, OnOk, OnErr}
 use Rattle.elf_many.specs.Statuses.{state_status}
 use Rattle.elf_model.specs.Checking.{check_line}
 use Rattle.elf_model.specs.declared.formats.Format.{Format}
@@ -71,15 +68,3 @@ pub record TellsOpened {A X : Type 0} (tells : Counting → Counting → Written
 -- WHAT IS TOLD OF A FILE by its path
 abbrev pub TellsFile : {A X : Type 0} → (List ℕ → Counting → Counting → Written → Written → Result ℕ OutFault → Type 0) → List ℕ → Result X OutFault → (old new : Tally A) → Type 0
 TellsFile tells path result old new = TellsUnopened path result old new ⊎ TellsOpened (tells path) result old new
-
--- THE CHECK of a file among many, by its source and the output before and after: the line of the state that its own listing
--- has where the file is known, unread only where a read failed, and the status that this calls for; no more is asked of the
--- source than the listing's cost, and than the budget of a file
-pub record TellsState (caps : Caps) (parts : ℕ) (path : List ℕ) (before after : Counting) (old new : Written) (answer : Result ℕ OutFault) : Type 0 where
-  pub state : FileState
-  pub found : (file : List ℕ) → before.seen.file ≡ Some file → FindsState caps parts file state
-  pub read : FailsRead before after state
-  pub puts : Puts old new answer (check_line caps.style.format state path)
-  pub status : IfOk answer (λ status. status ≡ state_status state)
-  pub cost : (file : List ℕ) → before.seen.file ≡ Some file → after.asked ≤ before.asked + check_cost file caps.limits.headers (style_of caps.style) parts
-  pub asks : AsksFor caps before after

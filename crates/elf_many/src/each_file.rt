@@ -32,7 +32,6 @@ pub trait EachFile {
         out: &mut Out<W>,
     ) -> Result<u8, OutFault>
         requires { StandsWhole src.old }
-        ensures tells {
-            tells (rule self.old) path.now src.old src.new out.old out.new result }
+        ensures tells { tells (rule self.old) path.now src.old src.new out.old out.new result }
         ensures stays { rule self.new ≡ rule self.old };
 }

@@ -1,9 +1,9 @@
 //! A list of paths, each ended by NUL.
 use crate::each_file::EachFile;
 use crate::many::Many;
-use elf_folder::entry_end;
 use crate::paths::visit_path;
 use crate::walk::FolderWalk;
+use elf_folder::entry_end;
 use elf_source::{OutFault, Sink};
 use std::io::{ErrorKind, Read, Write};
 use std::os::unix::fs::FileExt;

@@ -71,8 +71,7 @@ impl<W: Sink, E: Write + Drop, A: EachFile + Drop> Many<W, E, A> {
         path: &[u8],
     ) -> Result<(), OutFault>
         requires { StandsWhole src.old }
-        ensures {
-            TellsSource (A.tells self.old.rule path.now src.old src.new) result self.old self.new }
+        ensures { TellsSource (A.tells self.old.rule path.now src.old src.new) result self.old self.new }
     {
         let found = self.each.tell(src, path, &mut self.out)?;
         self.count_file(found);
@@ -160,7 +159,7 @@ impl<W: Sink, E: Write + Drop, A: EachFile + Drop> Many<W, E, A> {
 
     /// Gives the output back.
     pub fn into_out(self) -> Out<W>
-        ensures { result ≡ self.entry.out }
+        ensures { result ≡ self.out }
     {
         let Many { out, .. } = self;
         out

@@ -1,6 +1,6 @@
 //! One file, opened and told of.
 ghost use Rattle.std.specs.Prelude.{◌≡◌, ◌⊎◌, IfErr};
-ghost use Rattle.elf_many.specs.Telling.{TellsFile};
+ghost use Rattle.elf_many.specs.Telling.{StandsWhole, TellsFile};
 ghost use Rattle.elf_model.specs.declared.states.FileState.TheVariants.{Memory, Unread};
 
 use crate::each_file::EachFile;
@@ -8,7 +8,7 @@ use crate::many::Many;
 use elf_folder::unopened;
 use elf_model::FileState;
 use elf_source::{
-    Counted, OffsetReader, OutFault, RangeSource, Sink, StreamSource, opened_path,
+    Counted, OffsetReader, OutFault, RangeSource, Sink, Source, StreamSource, opened_path,
 };
 use std::fs;
 use std::io::Write;
@@ -29,7 +29,7 @@ where
     ensures { TellsFile (A.tells many.old.rule) path.now result many.old many.new }
 {
     match open(rt, path) {
-        Ok(source) => many.tell_source(&mut Counted::new(RangeSource::new(source)), path.as_bytes()),
+        Ok(source) => many.tell_source(&mut whole(source), path.as_bytes()),
         Err(state) => many.tell_state(state, path.as_bytes()),
     }
 }
@@ -47,4 +47,12 @@ where
         Ok(file) => StreamSource::over(OffsetReader::new(file)).map_err(|_| FileState::Unread),
         Err(error) => Err(unopened(&error)),
     }
+}
+
+/// A source as a file is told of by it: a range of all its bytes, of which nothing was asked.
+fn whole<S: Source>(source: S) -> Counted<RangeSource<S>>
+    ensures whole { StandsWhole result }
+    ensures unasked { result.asked ≡ 0 }
+{
+    Counted::new(RangeSource::new(source))
 }

@@ -2,8 +2,8 @@
 use crate::each_file::EachFile;
 use crate::many::Many;
 use crate::opening::visit_file;
-use elf_folder::unopened;
 use crate::walk::FolderWalk;
+use elf_folder::unopened;
 use elf_model::FileState;
 use elf_source::{OutFault, Sink, opened_path};
 use std::fs;

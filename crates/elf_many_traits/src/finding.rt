@@ -1,6 +1,6 @@
 //! The traits of one file among many.
-ghost use Rattle.std.specs.Prelude.{◌≡◌, ◌+◌, ◌≤◌, ◌^◌, ℕ, List, Some, IfErr};
-ghost use Rattle.elf_listing.specs.Reports.{Leaves};
+ghost use Rattle.std.specs.Prelude.{◌≡◌, ◌+◌, ◌≤◌, ◌^◌, ℕ, List, None, Some, IfErr};
+ghost use Rattle.elf_source.specs.Source.{Keeps};
 ghost use Rattle.elf_many.specs.Checked.{FailsRead};
 ghost use Rattle.elf_many_traits.specs.Found.{AsksTraits, FindsWithin, file_traits_cost};
 
@@ -26,7 +26,8 @@ pub fn traits_within<S: Source>(
 ) -> Result<Traits, FileState>
     requires { (store.old.slots ≡ limits.headers) × (src.old.asked ≤ 2 ^ 127) }
     ensures slots { store.new.slots ≡ store.old.slots }
-    ensures leaves { Leaves src.old src.new }
+    ensures keeps { Keeps src.old.seen src.new.seen }
+    ensures free { src.new.most ≡ None }
     ensures finds { (file : List ℕ) → src.old.seen.file ≡ Some file →
         FindsWithin limits.budget limits.headers file result }
     ensures cost { (file : List ℕ) → src.old.seen.file ≡ Some file →

@@ -1,15 +1,14 @@
 //! The check of one file.
 ghost use Rattle.elf_headers.specs.Permitted.{style_of};
-ghost use Rattle.std.specs.Prelude.{◌≡◌, ◌+◌, ◌≤◌, ◌^◌, ℕ, List, Some, if◌then◌else◌};
-ghost use Rattle.elf_model.specs.Checking.{is_not_elf};
-ghost use Rattle.elf_model.specs.declared.states.FileState.TheVariants.{NoElf, Refused};
-ghost use Rattle.elf_many.specs.Checked.{AsksFor, FailsRead, FindsState, check_cost};
+ghost use Rattle.std.specs.Prelude.{◌≡◌, ◌+◌, ◌≤◌, ◌^◌, ℕ, List, Some};
+ghost use Rattle.elf_many.specs.Checked.{FailsRead};
+ghost use Rattle.elf_many_checks.specs.Checked.{AsksFor, FindsState, check_cost};
 ghost use Rattle.elf_listing.specs.Reports.{Leaves};
 
-use crate::short::short_state;
 use elf_headers::{Caps, HeaderStore, Stop};
 use elf_listing::show;
-use elf_model::{Cause, FileState, Refusal};
+use elf_many::{refused_state, short_state};
+use elf_model::FileState;
 use elf_record::Parts;
 use elf_source::{Counted, NullSink, Out, Source};
 
@@ -51,15 +50,5 @@ pub fn check<S: Source>(
         Err(Stop::Source { .. }) => FileState::Unread,
         // Not reached: the sink never fails.
         Err(Stop::Out(_)) => FileState::Unread,
-    }
-}
-
-/// The state of a file that has room for a file header, by its refusal.
-pub fn refused_state(refusal: Refusal) -> FileState
-    ensures { result ≡ (if is_not_elf refusal.cause then NoElf else Refused refusal) }
-{
-    match refusal.cause {
-        Cause::NotElf => FileState::NoElf,
-        _ => FileState::Refused(refusal),
     }
 }

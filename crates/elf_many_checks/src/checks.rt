@@ -2,10 +2,9 @@
 ghost use Rattle.std.specs.Prelude.{◌≡◌};
 
 use crate::checking::check;
-use crate::each_file::EachFile;
-use crate::statuses::status;
 use elf_headers::{Caps, HeaderStore};
 use elf_lines::show_check;
+use elf_many::{EachFile, status};
 use elf_record::Parts;
 use elf_source::{Counted, Out, OutFault, RangeSource, Sink, Source};
 use std::marker::Model;
@@ -28,7 +27,7 @@ pub struct Checks<'a> {
 
 impl<'a> Model for Checks<'a> {
     ghost use Rattle.std.specs.Prelude.{◌≡◌};
-    ghost use Rattle.elf_many.specs.declared.checks.CheckRule.{CheckRule};
+    ghost use Rattle.elf_many_checks.specs.declared.checks.CheckRule.{CheckRule};
 
     ghost Value = { CheckRule };
 
@@ -53,7 +52,7 @@ impl<'a> Checks<'a> {
 impl<'a> EachFile for Checks<'a> {
     type Rule = CheckRule;
 
-    ghost use Rattle.elf_many.specs.Telling.{TellsState};
+    ghost use Rattle.elf_many_checks.specs.Checked.{TellsState};
 
     ghost rule = { λ c. c };
 

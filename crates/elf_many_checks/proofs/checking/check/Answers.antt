@@ -1,8 +1,8 @@
 -- The state is that of the fault that the listing answers.
 use Rattle.std.proofs.Common.{rules, arith, ◌≡◌, Err}
 use Rattle.elf_headers.specs.declared.stop.Stop.TheVariants.{Refused}
-use Rattle.elf_many.proofs.StateLaws.{ended, finds, refused, short_found}
-use Rattle.elf_many.proofs.checking.check.Goals as goal
+use Rattle.elf_many_checks.proofs.StateLaws.{ended, finds, refused, short_found}
+use Rattle.elf_many_checks.proofs.checking.check.Goals as goal
 
 pub returns-then-length-lt-HEADER_BYTES-clause-state : goal.returns-then-length-lt-HEADER_BYTES-clause-state
 returns-then-length-lt-HEADER_BYTES-clause-state g c = λ file held.
