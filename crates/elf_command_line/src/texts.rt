@@ -1,7 +1,7 @@
 //! What help tells of the program and its commands.
 
 pub(crate) const ABOUT: &str = "\
-Lists what is in an ELF64 file, looks names up in it, applies its relocations, and checks many.
+Lists what is in an ELF64 file, looks names up in it, and applies its relocations.
 Whatever bytes the file has, elfsee always finishes, within its limits of memory and reads.";
 
 pub(crate) const MORE: &str = "\

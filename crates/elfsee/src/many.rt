@@ -121,10 +121,10 @@ where
     R::File: FileExt,
     ensures { IfErr result StopsCheck }
 {
-    if let Err(OutFault { .. }) = check_paths(rt, checks, walk, &asked.paths) {
+    if let Err(OutFault { .. }) = check_paths(rt, checks, walk, &asked.files.paths) {
         return Err(Ended::Unwritten);
     }
-    if let Some(list) = asked.list {
+    if let Some(list) = asked.files.list {
         if let Err(ended) = check_listed(rt, checks, walk, list, entries) {
             return Err(ended);
         }
