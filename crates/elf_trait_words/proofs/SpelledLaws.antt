@@ -1,6 +1,6 @@
 -- Which texts spell words that are required.
 use Rattle.std.proofs.Common.{◌≡◌, ◌≢◌, ◌==◌, ◌<◌, ℕ, zero, suc, Bool, true, false, List, [], ◌∷◌, ◌++◌, length, get_or, codes, Option, None, Some, option_map, refl, ap, sym, ◌∙◌, subst, arith}
-use Rattle.std.specs.Prelude.{bytes_eq, ◌||◌}
+use Rattle.std.specs.Prelude.{bytes_eq, if◌then◌else◌, ◌||◌}
 use Rattle.std.specs.Borrow.{Bor}
 use Rattle.std.specs.List.{list_any}
 use Rattle.std.proofs.lemmas.Bool.Decides.{nat_tests}
@@ -83,10 +83,10 @@ IsNamed name None = Unit {0}
 IsNamed name (Some its_column) = name ≡ column_name its_column
 
 named_or : (name text : List ℕ) (its_column : TraitColumn) (rest : Option TraitColumn) → text ≡ column_name its_column → IsNamed name rest
-    → IsNamed name (elim (bytes_eq name text) as (λ _. Option TraitColumn) [ true ↦ Some its_column | false ↦ rest ])
+    → IsNamed name (if bytes_eq name text then Some its_column else rest)
 named_or name text its_column rest is other = by (bytes_eq name text) refl
   where
-    by : (same : Bool) → bytes_eq name text ≡ same → IsNamed name (elim same as (λ _. Option TraitColumn) [ true ↦ Some its_column | false ↦ rest ])
+    by : (same : Bool) → bytes_eq name text ≡ same → IsNamed name (if same then Some its_column else rest)
     by true same = (bytes_eq-Decides name text).0 same ∙ is
     by false same = other
 

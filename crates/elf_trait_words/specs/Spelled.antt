@@ -1,5 +1,5 @@
 -- The words that are required, as texts spell them.
-use Rattle.std.specs.Prelude.{ℕ, ◌≡◌, ◌==◌, bytes_eq, true, false, List, [], ◌∷◌, codes, Option, None, Some, option_map}
+use Rattle.std.specs.Prelude.{ℕ, ◌≡◌, ◌==◌, bytes_eq, if◌then◌else◌, true, false, List, [], ◌∷◌, codes, Option, None, Some, option_map}
 use Rattle.std.specs.List.{list_any}
 use Rattle.elf_model.specs.TraitWords.{Required, column_word, lacking_text}
 use Rattle.elf_model.specs.declared.traits.TraitColumn.{TraitColumn}
@@ -17,39 +17,16 @@ parted_at sign (byte ∷ bytes) = elim (byte == sign) [
 -- the column of this name
 unfoldable pub column_named : List ℕ → Option TraitColumn
 column_named name =
-    elim (bytes_eq name (codes "kind")) [
-      | true ↦ Some column.Kind
-      | false ↦
-          elim (bytes_eq name (codes "relro")) [
-            | true ↦ Some column.Relro
-            | false ↦
-                elim (bytes_eq name (codes "stack")) [
-                  | true ↦ Some column.Stack
-                  | false ↦
-                      elim (bytes_eq name (codes "pages")) [
-                        | true ↦ Some column.Pages
-                        | false ↦
-                            elim (bytes_eq name (codes "text")) [
-                              | true ↦ Some column.Text
-                              | false ↦
-                                  elim (bytes_eq name (codes "cet")) [
-                                    | true ↦ Some column.Cet
-                                    | false ↦
-                                        elim (bytes_eq name (codes "canary")) [
-                                          | true ↦ Some column.Canary
-                                          | false ↦
-                                              elim (bytes_eq name (codes "fortify")) [
-                                                | true ↦ Some column.Fortify
-                                                | false ↦
-                                                    elim (bytes_eq name (codes "path")) [ true ↦ Some column.Path | false ↦ None ]
-                                              ]
-                                        ]
-                                  ]
-                            ]
-                      ]
-                ]
-          ]
-    ]
+    if bytes_eq name (codes "kind") then Some column.Kind
+    else if bytes_eq name (codes "relro") then Some column.Relro
+    else if bytes_eq name (codes "stack") then Some column.Stack
+    else if bytes_eq name (codes "pages") then Some column.Pages
+    else if bytes_eq name (codes "text") then Some column.Text
+    else if bytes_eq name (codes "cet") then Some column.Cet
+    else if bytes_eq name (codes "canary") then Some column.Canary
+    else if bytes_eq name (codes "fortify") then Some column.Fortify
+    else if bytes_eq name (codes "path") then Some column.Path
+    else None
 
 -- the words that a line can have in a column
 unfoldable pub column_words : TraitColumn → List (List ℕ)

@@ -65,7 +65,7 @@ pub word_fault : (before : Spelled) (text rest piece : Text) (more : List Text) 
 word_fault before text rest piece more fault so parts (inl memory) = inl memory
 word_fault before text rest piece more fault so parts (inr bad) =
     let here : map spelled_word (pieces text) ≡ before ++ None ∷ map spelled_word more =
-        sym so ∙ ap (λ p. before ++ map spelled_word p) parts ∙ ap (λ w. before ++ w ∷ map spelled_word more) bad.1 in
+    sym so ∙ ap (λ p. before ++ map spelled_word p) parts ∙ ap (λ w. before ++ w ∷ map spelled_word more) bad.1 in
     inr (bad.0, ap (list_any no_word) here ∙ any_at before (map spelled_word more))
 
 all_some : (words : List Required) → list_any no_word (map Some words) ≡ false

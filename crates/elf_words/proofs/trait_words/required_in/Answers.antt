@@ -14,10 +14,9 @@ returns-in-Err-clause-refused c =
 pub loop-piece-preserved : goal.loop-piece-preserved
 loop-piece-preserved c =
     let rest = c.loop-piece.rest.now in
-    let cut = rw c.in-Some.is at (split_parts 44 rest c.split_once.result c.split_once.ensures.cases (omega arith)) in
-    (
+    let cut = rw c.in-Some.is at (split_parts 44 rest c.split_once.result c.split_once.ensures.cases (omega arith)) in (
       word_more _ _ c.args.text.now rest c.in-Some.behind.now c.in-Some.piece.now c.loop-piece.invariant.0
-      (ap pieces cut.0 ∙ first_piece c.in-Some.piece.now c.in-Some.behind.now cut.1) c.in_default-put_required.ensures.put,
+          (ap pieces cut.0 ∙ first_piece c.in-Some.piece.now c.in-Some.behind.now cut.1) c.in_default-put_required.ensures.put,
       search rules,
     )
 
