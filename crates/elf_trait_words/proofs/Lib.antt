@@ -1,1 +1,2 @@
 pub mod LackingLaws
+pub mod SpelledLaws

@@ -1,1 +1,2 @@
 pub mod Required
+pub mod Spelled

@@ -4,9 +4,11 @@
 
 mod columns;
 mod required;
+mod spelled;
 
 pub use columns::{
     canary_word, cet_word, column_name, column_word, fortify_word, kind_word, pages_word,
     path_word, relro_word, stack_word, text_word,
 };
 pub use required::{RequiredWord, lacking, traits_status};
+pub use spelled::{spelled_word, spells_traits};

@@ -1,7 +1,7 @@
 use Rattle.std.proofs.Common.{◌≡◌, IfOk, subst}
 use Rattle.clap.specs.Words.{app_of}
 use Rattle.elf_command_line.specs.CommandLine.{without_command}
-use Rattle.elf_command_line.proofs.commands.checks.Goals as goal
+use Rattle.elf_command_line.proofs.commands.many.Goals as goal
 
 pub returns-in-Ok : goal.returns-in-Ok
 returns-in-Ok c =
