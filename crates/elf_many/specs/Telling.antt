@@ -53,13 +53,13 @@ pub record TellsSource {A X : Type 0} (tells : Written → Written → Result �
   pub rule : KeepsRule old new
 
 -- a file that can't be opened has the line of its state
-pub record TellsUnopened {A X : Type 0} (path : List ℕ) (result : Result X OutFault) (old new : Tally A) : Type 0 where
+pub record TellsUnopenedFile {A X : Type 0} (path : List ℕ) (result : Result X OutFault) (old new : Tally A) : Type 0 where
   pub state : FileState
   pub unopened : (state ≡ Unread) ⊎ (state ≡ Memory)
   pub tells : TellsLine state path result old new
 
 -- one that is opened is told by its source, of which nothing was asked before
-pub record TellsOpened {A X : Type 0} (tells : Counting → Counting → Written → Written → Result ℕ OutFault → Type 0) (result : Result X OutFault) (old new : Tally A) : Type 0 where
+pub record TellsOpenFile {A X : Type 0} (tells : Counting → Counting → Written → Written → Result ℕ OutFault → Type 0) (result : Result X OutFault) (old new : Tally A) : Type 0 where
   pub before : Counting
   pub after : Counting
   pub unasked : before.asked ≡ 0
@@ -67,4 +67,4 @@ pub record TellsOpened {A X : Type 0} (tells : Counting → Counting → Written
 
 -- WHAT IS TOLD OF A FILE by its path
 abbrev pub TellsFile : {A X : Type 0} → (List ℕ → Counting → Counting → Written → Written → Result ℕ OutFault → Type 0) → List ℕ → Result X OutFault → (old new : Tally A) → Type 0
-TellsFile tells path result old new = TellsUnopened path result old new ⊎ TellsOpened (tells path) result old new
+TellsFile tells path result old new = TellsUnopenedFile path result old new ⊎ TellsOpenFile (tells path) result old new

@@ -92,7 +92,7 @@ lacking_within (Some bytes) headers file s0 s1 s2 refusal small set sized budget
     let asked = set.asked in
     inr (
       budget_below bytes s0.asked over.most (traits_cost file headers) small (cc) (set.small bytes refl) (omega (arith, over.above, asked)),
-      (budget, omega (arith, says.0, sized))
+      (budget, omega (arith, says.0, sized)),
     )
 
 -- a refusal of a file that has room for a file header

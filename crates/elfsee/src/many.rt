@@ -3,7 +3,8 @@ ghost use Rattle.std.specs.Prelude.{◌≡◌, IfErr};
 ghost use Rattle.elfsee.specs.Ends.{EndsList, LacksMemory, StopsCheck};
 
 use elf_headers::{Caps, HeaderRoom, HeaderStore};
-use elf_many::{Checks, EachFile, FolderWalk, ListFault, Many, visit_list, visit_path};
+use elf_many::{EachFile, FolderWalk, ListFault, Many, visit_list, visit_path};
+use elf_many_checks::Checks;
 use elf_many_traits::{TraitLines, TraitRule};
 use elf_model::Format;
 use elf_program::{CANNOT_OPEN, Ended, Ending, OUT_OF_MEMORY, OUTPUT_BYTES, READ_FAULT, end_run};
