@@ -5,14 +5,14 @@ ghost use Rattle.elf_model.specs.TraitWords.{lacking_line, trait_front, trait_li
 ghost use Rattle.elf_model.specs.Fields.{with_field};
 ghost use Rattle.elf_model.specs.Fields.Field.{Word};
 ghost use Rattle.elf_model.specs.Text.{space};
-ghost use Rattle.elf_lines.specs.Fronts.{front_of};
-ghost use Rattle.elf_lines.specs.Rooms.{text_room};
+ghost use Rattle.elf_fields.specs.Fronts.{front_of};
+ghost use Rattle.elf_fields.specs.Rooms.{text_room};
 ghost use Rattle.elf_source.specs.Output.{Puts};
 
-use crate::columns::{Line, line_of, put};
-use crate::fields::{LineFront, begin, begin_named, put_closing, put_text};
-use crate::named::show_named;
-use crate::render::{Columns, Object, Render};
+use elf_fields::{
+    Columns, Line, LineFront, Object, Render, begin, begin_named, line_of, put, put_closing,
+    put_text, show_named,
+};
 use elf_model::{Format, TraitColumn, Traits};
 use elf_source::{Out, OutFault, Sink};
 use elf_trait_words::{
