@@ -6,7 +6,7 @@ use Rattle.elf_model.specs.Checking.{is_not_elf, state_of}
 use Rattle.elf_model.specs.Checks.{first_refusal, header_checks, load_checks}
 use Rattle.elf_model.specs.Style.{without_sections}
 use Rattle.elf_model.specs.TraitCost.{traits_cost}
-use Rattle.elf_model.specs.Traits.{traits_by_segments, traits_of}
+use Rattle.elf_model.specs.Traits.{loaded_traits, traits_by_segments, traits_of}
 use Rattle.elf_model.specs.declared.causes.Cause.{Cause}
 use Rattle.elf_model.specs.declared.causes.Cause.TheVariants.{Budget, Short}
 use Rattle.elf_model.specs.declared.causes.Refusal.{Refusal}
@@ -34,7 +34,8 @@ short_first file headers short =
 refused_first : (file : List ℕ) (headers : ℕ) (refusal : Refusal) → first_refusal (header_checks file ++ load_checks file headers) ≡ Some refusal
     → traits_by_segments file headers ≡ Err refusal
 unfolding traits_by_segments
-refused_first file headers refusal is = rw is refl
+refused_first file headers refusal is =
+    subst (λ (first : Option Refusal). traits_by_segments file headers ≡ (elim first as (λ _. Result Traits Refusal) [ Some it ↦ Err it | None ↦ loaded_traits file ])) is refl
 
 without_sections_are : (file : List ℕ) (headers : ℕ) → traits_of file headers ≡ traits_by_segments (without_sections file) headers
 unfolding traits_of
@@ -102,11 +103,11 @@ pub refused_within : (budget : Option ℕ) (headers : ℕ) (file : List ℕ) (s0
 refused_within budget headers file s0 s1 s2 refusal found long small set sized did is = by (is_budget refusal.cause)
   where
     by : (refusal.cause ≡ Budget) ⊎ (refusal.cause ≡ Budget → ⊥) → FindsWithin budget headers file (Err found)
-    by (inl yes) =
-        let foreign : is_not_elf refusal.cause ≡ false = ap is_not_elf yes in
+    by (inl wants) =
+        let foreign : is_not_elf refusal.cause ≡ false = ap is_not_elf wants in
         let same : state.Refused refusal ≡ found = sym (is ∙ ap (λ b. if b then state.NoElf else state.Refused refusal) foreign) in
         subst (λ s. FindsWithin budget headers file (Err s)) same
-        (finds budget headers file (Err (state.Refused refusal)) (lacking_within budget headers file s0 s1 s2 refusal small set sized yes did))
-    by (inr no) =
+        (finds budget headers file (Err (state.Refused refusal)) (lacking_within budget headers file s0 s1 s2 refusal small set sized wants did))
+    by (inr others) =
         finds budget headers file (Err found) (told budget headers file (Err found)
-        (ap (λ s. Err s) (is ∙ judged_long budget file refusal long) ∙ sym (ap (traits_found budget file) (did.finds no))))
+        (ap (λ s. Err s) (is ∙ judged_long budget file refusal long) ∙ sym (ap (traits_found budget file) (did.finds others))))

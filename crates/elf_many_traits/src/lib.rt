@@ -3,7 +3,9 @@
 #![tactic(auto)]
 
 mod finding;
+mod required;
 mod trait_lines;
 
 pub use finding::traits_within;
+pub use required::lacking;
 pub use trait_lines::{TraitLines, TraitRule};

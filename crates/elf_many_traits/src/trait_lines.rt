@@ -5,12 +5,13 @@ ghost use Rattle.elf_model.specs.TraitWords.{traits_status, traits_text};
 ghost use Rattle.elf_trait_words.specs.Required.{required_words};
 
 use crate::finding::traits_within;
+use crate::required::lacking;
 use elf_headers::{HeaderStore, Limits};
 use elf_lines::{show_check, show_lacking, show_traits};
 use elf_many::{EachFile, status};
 use elf_model::{FileState, Format, Traits};
 use elf_source::{Counted, Out, OutFault, RangeSource, Sink, Source};
-use elf_trait_words::{RequiredWord, lacking};
+use elf_trait_words::RequiredWord;
 use std::marker::Model;
 
 /// The rule by which files' traits are told of.
@@ -46,7 +47,7 @@ impl<'a> TraitLines<'a> {
     /// The lines by a rule, with a store, which has a slot for each header that the rule permits.
     pub fn new(store: HeaderStore<'a>, rule: TraitRule<'a>) -> Self
         requires { store.slots ≡ rule.limits.headers }
-        ensures { result ≡ rule }
+        ensures { result ≡ rule.entry }
     {
         TraitLines { store, rule }
     }
@@ -68,7 +69,7 @@ impl<'a> EachFile for TraitLines<'a> {
         out: &mut Out<W>,
     ) -> Result<u8, OutFault> {
         match traits_within(src, &mut self.store, self.rule.limits) {
-            Ok(traits) => show_lines(traits, self.rule, path, out),
+            Ok(traits) => show_lines(traits, &self.rule, path, out),
             Err(FileState::NoElf) => Ok(0),
             Err(state) => {
                 show_check(state, path, self.rule.format, out)?;
@@ -86,21 +87,21 @@ impl<'a> EachFile for TraitLines<'a> {
 #[tactic(auto, unfolding(elf_model::specs::TraitWords::traits_text, elf_model::specs::TraitWords::traits_status))]
 fn show_lines<W: Sink>(
     traits: Traits,
-    rule: TraitRule<'_>,
+    rule: &TraitRule<'_>,
     path: &[u8],
     out: &mut Out<W>,
 ) -> Result<u8, OutFault>
     ensures puts { Puts out.old out.new result
-        (traits_text rule.format traits (required_words rule.required.now) path.now) }
+        (traits_text rule.now.format traits (required_words rule.now.required.now) path.now) }
     ensures status { IfOk result
-        (λ status. status ≡ traits_status traits (required_words rule.required.now)) }
+        (λ status. status ≡ traits_status traits (required_words rule.now.required.now)) }
 {
     show_traits(traits, path, rule.format, out)?;
     match lacking(traits, rule.required) {
         None => Ok(0),
-        Some(column) => {
-            show_lacking(traits, column, rule.format, out)?;
-            Ok(1)
-        }
+        Some(column) => match show_lacking(traits, column, rule.format, out) {
+            Ok(()) => Ok(1),
+            Err(fault) => Err(fault),
+        },
     }
 }

@@ -1,7 +1,8 @@
 -- The first word that is lacking is among those that are left.
-use Rattle.std.proofs.Common.{◌≡◌, ℕ, zero, suc, ◌<◌, Bool, true, false, List, [], ◌∷◌, length, drop, refl, ap, sym, ◌∙◌, arith, subst, Option, None, Some}
+use Rattle.std.proofs.Common.{◌≡◌, ℕ, zero, suc, ◌<◌, Bool, true, false, List, [], ◌∷◌, ◌++◌, length, drop, refl, ap, sym, ◌∙◌, arith, subst, Option, None, Some}
 use Rattle.std.specs.Prelude.{slice_index_or}
-use Rattle.elf_model.specs.TraitWords.{Required, first_lacking, has_word, is_program, lacking}
+use Rattle.elf_model.specs.TraitWords.{Required, first_lacking, has_word, is_program, lacking, lacking_line, trait_line, traits_text}
+use Rattle.elf_model.specs.declared.formats.Format.{Format}
 use Rattle.elf_model.specs.declared.traits.TraitColumn.{TraitColumn}
 use Rattle.elf_model.specs.declared.traits.Traits.{Traits}
 use Rattle.elf_trait_words.specs.Required.{required_word, required_words}
@@ -35,3 +36,11 @@ pub of_program : (t : Traits) (required : List Required) → is_program t.kind �
 unfolding lacking
 of_program t required is =
     subst (λ (b : Bool). first_lacking t required ≡ elim b as (λ _. Option TraitColumn) [ true ↦ first_lacking t required | false ↦ None ]) (sym is) refl
+
+-- the lines of a file that lacks a word
+pub lacked_text : (format : Format) (t : Traits) (required : List Required) (path : List ℕ) (its_column : TraitColumn) → lacking t required ≡ Some its_column
+    → trait_line format t path ++ lacking_line format t its_column ≡ traits_text format t required path
+unfolding traits_text
+lacked_text format t required path its_column is =
+    subst (λ (found : Option TraitColumn). trait_line format t path ++ lacking_line format t its_column
+    ≡ trait_line format t path ++ (elim found as (λ _. List ℕ) [ None ↦ [] | Some other ↦ lacking_line format t other ])) (sym is) refl

@@ -1,8 +1,8 @@
 -- The words before one that is lacking are not.
 use Rattle.std.proofs.Common.{◌∙◌, ◌+◌, arith, sym}
 use Rattle.elf_trait_words.specs.Required.{required_words}
-use Rattle.elf_trait_words.proofs.LackingLaws.{had, lacked, of_program}
-use Rattle.elf_trait_words.proofs.required.lacking.Goals as goal
+use Rattle.elf_many_traits.proofs.LackingLaws.{had, lacked, of_program}
+use Rattle.elf_many_traits.proofs.required.lacking.Goals as goal
 
 pub returns-then-not-has_word : goal.returns-then-not-has_word
 returns-then-not-has_word c =

@@ -2,7 +2,7 @@
 use Rattle.std.proofs.Common.{◌≡◌, drop}
 use Rattle.elf_model.specs.TraitWords.{first_lacking}
 use Rattle.elf_trait_words.specs.Required.{required_words}
-use Rattle.elf_trait_words.proofs.required.lacking.Given as goal
+use Rattle.elf_many_traits.proofs.required.lacking.Given as goal
 
 abbrev pub invariant-loop-wanted : goal.invariant-loop-wanted
 invariant-loop-wanted l =
