@@ -8,6 +8,7 @@ _elfsee_options() {
     check) set -- --headers --names --max-read --only --gnu --by-segments --json --files0-from ;;
     find) set -- --headers --max-read --gnu --by-segments --json ;;
     apply) set -- --headers --max-read --layout --explain ;;
+    traits) set -- --headers --max-read --require --json --files0-from ;;
     *) set -- ;;
     esac
     for option in "$@" --help; do
@@ -59,7 +60,7 @@ _elfsee() {
         else
             case $word in
             --) ended=1 before= ;;
-            --headers | --names | --max-read | --only | --layout | --files0-from) skip=1 ;;
+            --headers | --names | --max-read | --only | --layout | --require | --files0-from) skip=1 ;;
             -*) ;;
             *) if [[ $command ]]; then files=$((files + 1)); else command=$word; fi ;;
             esac
@@ -72,7 +73,7 @@ _elfsee() {
             mapfile -t COMPREPLY < <(compgen -W "$parts" -- "$current")
             return
             ;;
-        --headers | --names | --max-read) return ;;
+        --headers | --names | --max-read | --require) return ;;
         --layout | --files0-from)
             _elfsee_files
             return
@@ -91,10 +92,10 @@ _elfsee() {
         esac
     fi
     case $command in
-    '') mapfile -t COMPREPLY < <(compgen -W 'show sample find apply check archive version help' -- "$current") ;;
-    help) [[ $files != 0 ]] || mapfile -t COMPREPLY < <(compgen -W 'show sample find apply check archive version' -- "$current") ;;
+    '') mapfile -t COMPREPLY < <(compgen -W 'show sample find apply check traits archive version help' -- "$current") ;;
+    help) [[ $files != 0 ]] || mapfile -t COMPREPLY < <(compgen -W 'show sample find apply check traits archive version' -- "$current") ;;
     show | find | archive) [[ $files != 0 ]] || _elfsee_files ;;
-    check) _elfsee_files ;;
+    check | traits) _elfsee_files ;;
     apply)
         case $files in
         0) _elfsee_files ;;

@@ -111,9 +111,17 @@ path_argument = record (new_rule (codes "PATH")) { range = Some (record { start_
 abbrev pub check_command : Words → App
 check_command parts = with_rule (with_rule (with_listing_options parts (new_app (codes "check"))) list_option) path_argument
 
+-- words that are required, which commas part
+abbrev pub require_option : Rule
+require_option = record (new_rule (codes "require")) { long = Some (codes "require"); value_names = 1 }
+
+abbrev pub traits_command : App
+traits_command =
+    with_rule (with_rule (with_rule (with_rule (with_reading_options (new_app (codes "traits"))) require_option) json_option) list_option) path_argument
+
 -- the program, with the commands that read one file, or many
-abbrev pub with_checks : Words → App
-with_checks parts = with_subcommand (with_one_file parts) (check_command parts).top
+abbrev pub with_many : Words → App
+with_many parts = with_subcommand (with_subcommand (with_one_file parts) (check_command parts).top) traits_command.top
 
 -- the names of the parts of a listing, and of those of an archive's
 pub record PartWords : Type 0 where
@@ -125,7 +133,7 @@ archive_command parts = with_rule (with_listing_options parts (new_app (codes "a
 
 -- the program, with the commands that read files
 abbrev pub with_files : PartWords → App
-with_files parts = with_subcommand (with_checks parts.listed) (archive_command parts.archived).top
+with_files parts = with_subcommand (with_many parts.listed) (archive_command parts.archived).top
 
 -- what tells the program's version, and takes no word
 abbrev pub version_command : App

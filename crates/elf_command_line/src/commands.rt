@@ -6,11 +6,11 @@ ghost use Rattle.elf_command_line.specs.Building.{IsBuilt};
 ghost use Rattle.elf_command_line.specs.CommandLine.{Words};
 ghost use Rattle.elf_command_line.specs.Described.{with_commands};
 ghost use Rattle.elf_command_line.specs.CommandLine.{archive_command, check_command, find_command, program};
-ghost use Rattle.elf_command_line.specs.CommandLine.{sample_command, show_command};
-ghost use Rattle.elf_command_line.specs.CommandLine.{with_checks, with_files, without_command};
+ghost use Rattle.elf_command_line.specs.CommandLine.{sample_command, show_command, traits_command};
+ghost use Rattle.elf_command_line.specs.CommandLine.{with_files, with_many, without_command};
 
 use crate::adding::{Described, command_of, new_command, with_command, with_commands};
-use crate::texts::{ABOUT, CHECKED, FOUND, ITEMS, MEMBERS, MORE};
+use crate::texts::{ABOUT, CHECKED, FOUND, HARDENED, ITEMS, MEMBERS, MORE};
 use crate::words::{Word, WordKind};
 use clap::Command;
 use clap::builder::ValueParser;
@@ -111,13 +111,19 @@ const ITEM: Word = Word {
 const LIST: Word = Word {
     name: "files0-from",
     kind: WordKind::Value("FILE"),
-    help: "Check the paths in FILE too, each ended by NUL; - is standard input",
+    help: "Take the paths in FILE too, each ended by NUL; - is standard input",
 };
 
 const PATH: Word = Word {
     name: "PATH",
     kind: WordKind::Any,
-    help: "A file to check, or a folder of files",
+    help: "A file, or a folder of files",
+};
+
+const REQUIRE: Word = Word {
+    name: "require",
+    kind: WordKind::Value("WORDS"),
+    help: "Tell of each program and library which of these words it lacks, as in stack=nx,relro=full",
 };
 
 const SHOW: Described = Described {
@@ -165,6 +171,13 @@ const CHECK: Described = Described {
     ],
 };
 
+const TRAITS: Described = Described {
+    name: "traits",
+    about: "Tell of many files how each is hardened",
+    more: HARDENED,
+    words: &[HEADERS, MAX_READ, REQUIRE, JSON, LIST, PATH],
+};
+
 const ARCHIVE: Described = Described {
     name: "archive",
     about: "List the members of an archive, such as a static library, and what is in each",
@@ -179,7 +192,7 @@ const VERSION: Described = Described {
     words: &[],
 };
 
-static COMMANDS: [Described; 5] = [SHOW, SAMPLE, FIND, APPLY, CHECK];
+static COMMANDS: [Described; 6] = [SHOW, SAMPLE, FIND, APPLY, CHECK, TRAITS];
 
 /// The command line, with the names of the parts of a listing, and of those of an archive's: all
 /// commands with their arguments and help, as `clap` reads words by them.
@@ -209,15 +222,15 @@ fn files<'a>(
     ensures { IfOk result (λ command. app_of command
         ≡ with_files (record { listed = parts.entry; archived = member_parts.entry })) }
 {
-    match checks(alloc, parts) {
+    match many(alloc, parts) {
         Ok(command) => with_command(alloc, command, &ARCHIVE, ValueParser::Names(member_parts)),
         Err(error) => Err(error),
     }
 }
 
 /// The program, with the commands that read one file, or many.
-fn checks<'a>(alloc: Global, parts: &'a [&'a str]) -> Result<Command<'a>, AllocError>
-    ensures { IfOk result (λ command. app_of command ≡ with_checks parts.entry) }
+fn many<'a>(alloc: Global, parts: &'a [&'a str]) -> Result<Command<'a>, AllocError>
+    ensures { IfOk result (λ command. app_of command ≡ with_many parts.entry) }
 {
     match program(alloc) {
         Ok(program) => with_commands(alloc, program, below(), ValueParser::Names(parts)),
@@ -228,7 +241,7 @@ fn checks<'a>(alloc: Global, parts: &'a [&'a str]) -> Result<Command<'a>, AllocE
 /// The commands below the program, but for the one that lists an archive.
 fn below() -> &'static [Described]
     ensures { (parts : Words)
-        → with_commands (Names parts) without_command result.now ≡ with_checks parts }
+        → with_commands (Names parts) without_command result.now ≡ with_many parts }
 {
     &COMMANDS
 }
@@ -238,7 +251,7 @@ fn program<'a>(alloc: Global) -> Result<Command<'a>, AllocError>
     ensures { IfOk result (λ command. app_of command ≡ without_command) }
 {
     let program = new_command(alloc, "elfsee", ABOUT, MORE)
-        .subcommand_value_name("show|sample|find|apply|check|archive|version")
+        .subcommand_value_name("show|sample|find|apply|check|traits|archive|version")
         .no_binary_name(true)
         .subcommand_required(true)
         .arg_required_else_help(true);
@@ -283,6 +296,16 @@ pub fn check<'a>(alloc: Global, parts: &'a [&'a str]) -> Result<Command<'a>, All
     ensures { IfOk result (IsBuilt (check_command parts.entry)) }
 {
     command_of(alloc, &CHECK, ValueParser::Names(parts))
+}
+
+/// The command that tells how files are hardened.
+///
+/// # Errors
+/// There is no memory for it; nothing of it is left then.
+pub fn traits<'a>(alloc: Global) -> Result<Command<'a>, AllocError>
+    ensures { IfOk result (IsBuilt traits_command) }
+{
+    command_of(alloc, &TRAITS, ValueParser::Names(&[]))
 }
 
 /// The command that lists an archive, with the names of its parts: the members, and those of a listing.

@@ -13,11 +13,13 @@ Examples:
   elfsee find --gnu /lib/libexample.so printf@GLIBC_2.2.5
   elfsee apply example.o 1 at:1=0x401000 def:main=0x401200
   elfsee check /usr/lib
+  elfsee traits --require relro=full,stack=nx,pages=w^x /usr/bin
   elfsee archive --only symbols /usr/lib/x86_64-linux-gnu/libc.a
   elfsee version
 
-Options, before or behind FILE; find and apply have only --headers, --max-read and --, find
-also --json and --gnu, with it --by-segments, and apply --layout and --explain:
+Options, before or behind FILE; find, apply and traits have only --headers, --max-read and --,
+find also --json, --gnu and with it --by-segments, apply also --layout and --explain, traits
+also --json, --require and --files0-from:
   --headers N   permit N section headers, and as many program headers:
                 1 to 65279 [default: 4096]
   --names N     show N bytes of a name: 1 to 4096 [default: 256]
@@ -35,16 +37,21 @@ also --json and --gnu, with it --by-segments, and apply --layout and --explain:
                 there are
   --explain     for apply only: where an address is missing, tell on standard error the type of
                 the relocation, the name of its symbol, and the item that would help
+  --require WORDS
+                for traits only: tell of each program and library which of these words it lacks,
+                as relro=full,stack=nx
   --files0-from FILE
-                for check only: check the paths in FILE too, each ended by NUL
+                for check and traits: take the paths in FILE too, each ended by NUL
   --            end the options, so that FILE, PATH or NAME may begin with a hyphen
 FILE or PATH may be - for the file on standard input.
 
 Exit status:
-  0  listed, found or applied; check: no file is at fault
+  0  listed, found or applied; check: no file is at fault; traits: no file is refused, and none
+     lacks what is required
   1  refused, or more to read than permitted: the last line is '!', an offset and the cause;
      or there is no such name: the line 'F absent' with the number of names compared;
-     check: some files are refused; archive: the archive or a member is refused
+     check: some files are refused; archive: the archive or a member is refused;
+     traits: some files are refused, or lack what is required
   2  the words are wrong, or ask for help, and no file is opened: standard error tells which
      word is wrong and why, or has the help, or one of these lines:
        elfsee: words are not UTF-8
@@ -53,10 +60,11 @@ Exit status:
        elfsee: bad item       an item has another form, or its index or name is out of range
        elfsee: layout-full    there are too many items of one sort
        elfsee: layout-repeat  two items of one sort have the same INDEX or NAME
+       elfsee: bad trait      a word of --require is not COLUMN=WORD with a word of that column
      of LIST: 'in line N' stands behind bad item and layout-repeat; or
        elfsee: cannot read layout, elfsee: layout too large
-  3  check: some files could not be read or named; else, and for the list and the output of
-     check, a read or write fault, a file that cannot be opened, or no memory: standard
+  3  check and traits: some files could not be read or named; else, and for their list and their
+     output, a read or write fault, a file that cannot be opened, or no memory: standard
      error has one of these lines:
        elfsee: read fault, elfsee: write fault, elfsee: cannot open, elfsee: out of memory";
 
@@ -100,6 +108,31 @@ Exit status: 0 all are ok or no-elf, 1 some are refused, 3 some are unread, memo
 Examples:
   elfsee check --only header /usr/lib
   find /opt -name '*.so' -print0 | elfsee check --files0-from -";
+
+pub(crate) const HARDENED: &str = "\
+Each ELF file has one line: T, its kind, eight traits, and its path. They are told as a loader
+sees the file, by its program headers and dynamic entries.
+  kind     exec, pie, static, lib, object, core or other
+  relro    full, partial or none: what is read-only once it is relocated
+  stack    nx or exec: whether the stack is executable
+  pages    w^x or wx: whether a segment is writable and executable
+  text     fixed or patch: whether relocations change a segment that is not writable
+  cet      ibt, shstk, ibt+shstk or -: the control flow that is checked
+  canary   canary or -: whether stacks are guarded
+  fortify  fortify or -: whether calls of the C library are checked
+  path     rpath, runpath or -: where libraries are looked for first
+A column is - where the file lacks what it asks for. Files and folders are gone through as check
+does it; other files have a line C only where they are unread, refused or without memory.
+
+With --require WORDS, as relro=full,stack=nx, a file of kind exec, pie, static or lib that lacks
+a word has a line ! behind its own: the column, = and what the file has.
+
+Exit status: 0 nothing is refused and nothing lacks a word, 1 something does, 3 some are unread,
+memory or unnamed.
+
+Examples:
+  elfsee traits /usr/bin
+  elfsee traits --require kind=pie,relro=full,stack=nx,pages=w^x /usr/sbin/sshd";
 
 pub(crate) const MEMBERS: &str = "\
 Each member has a line: A, its index, the offset and the size of its data, and its name. If it

@@ -9,10 +9,10 @@ use crate::options::{asks_gnu, find_lacks_gnu, text_of};
 use crate::reading::{MEMBER_PARTS, PARTS};
 use clap::error::ErrorKind;
 use clap::{ArgMatches, Command, Error};
-use elf_command_line::{archive, check, find, sample, show};
+use elf_command_line::{archive, check, find, sample, show, traits};
 use std::alloc::{AllocError, Global};
 
-/// What `check` without a path is told, as other commands are of their FILE.
+/// What a command of many files is told without a path, as other commands are of their FILE.
 const NO_PATH: &str = "the following required arguments were not provided:\n  <PATH>";
 
 /// What a command is told that lists the symbol versions alone, which only listings of the GNU
@@ -25,9 +25,9 @@ const NO_LISTING: &str =
     "of this program there are as yet only the commands show, sample and version";
 
 /// The answer to words that the command line lets through though they ask for nothing: to the
-/// symbol versions alone where the listing is not of the GNU system, to `check` where it has
-/// neither a path nor a file with paths, to `find` by the program headers that is no loader's lookup,
-/// and to other commands where only listings are read.
+/// symbol versions alone where the listing is not of the GNU system, to a command of many files where
+/// it has neither a path nor a file with paths, to `find` by the program headers that is no loader's
+/// lookup, and to other commands where only listings are read.
 pub fn unasked(alloc: Global, matches: &ArgMatches<'_>) -> WordsFault
     ensures { IsUnasked result }
 {
@@ -54,6 +54,7 @@ fn lacking<'m>(matches: &'m ArgMatches<'_>) -> (&'m str, &'static str) {
         Some((command, options)) if lacks_gnu(options) => (command, NO_GNU),
         Some(("find", options)) if find_lacks_gnu(options) => ("find", NO_GNU),
         Some(("check", _)) => ("check", NO_PATH),
+        Some(("traits", _)) => ("traits", NO_PATH),
         _ => ("show", NO_LISTING),
     }
 }
@@ -73,6 +74,7 @@ fn named<'a>(alloc: Global, command: &str) -> Result<Command<'a>, AllocError> {
         "find" => called(find(alloc), "elfsee find"),
         "sample" => called(sample(alloc, parts), "elfsee sample"),
         "check" => called(check(alloc, parts), "elfsee check"),
+        "traits" => called(traits(alloc), "elfsee traits"),
         "archive" => called(archive(alloc, MEMBER_PARTS.as_slice()), "elfsee archive"),
         _ => called(show(alloc, parts), "elfsee show"),
     }

@@ -19,6 +19,9 @@ pub const LAYOUT_FULL: Ending = (2, "elfsee: layout-full");
 /// There is an item of the same sort with the same index or name.
 pub const LAYOUT_REPEAT: Ending = (2, "elfsee: layout-repeat");
 
+/// A word that is required of traits is none.
+pub const BAD_TRAIT: Ending = (2, "elfsee: bad trait");
+
 /// What a listing of an archive answers, as a run does: the status 1 where the listing of a member was
 /// refused, else 0.
 pub fn archive_status(listed: Result<bool, Stop>) -> Result<u8, Stop>
@@ -44,6 +47,7 @@ pub fn refused(fault: &RequestFault) -> Ending
         RequestFault::BadItem => BAD_ITEM,
         RequestFault::LayoutFull => LAYOUT_FULL,
         RequestFault::LayoutRepeat => LAYOUT_REPEAT,
+        RequestFault::BadTrait => BAD_TRAIT,
         RequestFault::Memory => OUT_OF_MEMORY,
     }
 }

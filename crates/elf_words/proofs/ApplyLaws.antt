@@ -1,5 +1,5 @@
 -- What the words for applying come to.
-use Rattle.std.proofs.Common.{◌≡◌, ℕ, ◌<◌, ◌^◌, List, Option, None, Some, Ok, Err, refl, sym, subst, codes}
+use Rattle.std.proofs.Common.{◌≡◌, ℕ, ◌<◌, ◌^◌, List, Option, None, Some, Ok, Err, refl, sym, subst, codes, inl, inr}
 use Rattle.std.specs.Prelude.{Bool, IfSome}
 use Rattle.std.specs.Borrow.{Bor}
 use Rattle.clap.specs.Walk.{Row, Text, first_of, one_of}
@@ -10,30 +10,19 @@ use Rattle.elf_words.specs.Asked.{AsksNothing, ComesTo, HasFault, IsApplying, Is
 use Rattle.elf_words.specs.Layouts.{LaysWords}
 use Rattle.elf_words.specs.declared.requests.Request.{Request}
 use Rattle.elf_words.specs.declared.requests.RequestFault.{RequestFault}
-use Rattle.elf_words.specs.declared.requests.RequestFault.TheVariants.{Memory, BadName, BadItem, LayoutFull, LayoutRepeat, Words as Told}
 use Rattle.elf_words.specs.declared.requests.Task.{Task}
 use Rattle.elf_words.specs.declared.requests.Task.TheVariants.{Show, Find, Resolve, Apply, Place}
-use Rattle.elf_words.proofs.LayoutLaws.{never_refused}
 use Rattle.elf_words.proofs.OnceLaws.{laid}
 
 -- words of which one is refused
 pub refused : (rows : List Row) (fault : RequestFault) → LaysWords no_items (item_words rows) (Err fault) → HasFault (Some (codes "apply", rows)) fault
-refused rows BadName lays = absurd (never_refused BadName (λ word old refuses. refuses) (item_words rows) no_items lays)
-refused rows BadItem lays = (refl, lays)
-refused rows LayoutFull lays = (refl, lays)
-refused rows LayoutRepeat lays = (refl, lays)
-refused rows Memory lays = (refl, lays)
-refused rows (Told told) lays = (refl, lays)
+refused rows fault lays = inr (refl, lays)
 
 -- words that give a layout have no fault
 faultless : (rows : List Row) (layout : Layout) → LaysWords no_items (item_words rows) (Ok layout) → (fault : RequestFault)
     → HasFault (Some (codes "apply", rows)) fault → ⊥
-faultless rows layout lays BadName (is, name) = cc
-faultless rows layout lays BadItem has = laid (item_words rows) no_items layout BadItem lays has.1
-faultless rows layout lays LayoutFull has = laid (item_words rows) no_items layout LayoutFull lays has.1
-faultless rows layout lays LayoutRepeat has = laid (item_words rows) no_items layout LayoutRepeat lays has.1
-faultless rows layout lays Memory has = laid (item_words rows) no_items layout Memory lays has.1
-faultless rows layout lays (Told told) has = laid (item_words rows) no_items layout (Told told) lays has.1
+faultless rows layout lays fault (inl named) = let e = named.1.0 in cc
+faultless rows layout lays fault (inr badly) = laid (item_words rows) no_items layout fault lays badly.1
 
 -- only an applying is asked for by `apply`
 only_applying : (rows : List Row) (file : Option (Bor Text)) (task : Task) → IsTask (codes "apply") rows file task

@@ -1,96 +1,114 @@
--- What the words for a check come to.
-use Rattle.std.proofs.Common.{◌≡◌, ◌≢◌, ℕ, List, Option, None, Some, Err, ap, arith, codes, get_or, refl, sym}
+-- What the words for other things than one file come to.
+use Rattle.std.proofs.Common.{◌≡◌, ◌≢◌, ◌∙◌, Bool, true, false, List, [], ◌∷◌, Option, None, Some, codes, refl, subst, sym, inl, inr}
+use Rattle.std.specs.Prelude.{bytes_eq}
 use Rattle.std.specs.Borrow.{Bor}
-use Rattle.clap.specs.Walk.{Row, Text}
+use Rattle.std.specs.List.{list_any}
+use Rattle.std.proofs.lemmas.Slice.Eq.{bytes_eq-Decides}
+use Rattle.clap.specs.Walk.{Row, Text, first_of}
 use Rattle.elf_words.specs.Archives.{NothingArchived}
-use Rattle.elf_words.specs.Asked.{AsksNothing, HasFault, IsTask}
-use Rattle.elf_words.specs.Checks.{Becomes, NothingAsked, NothingChecked}
+use Rattle.elf_words.specs.Asked.{AsksBy, AsksNothing, HasFault, IsTask}
+use Rattle.elf_words.specs.AskedTraits.{LacksWord, NothingTold}
+use Rattle.elf_words.specs.Checks.{HasAnyFault, IsAsked, NothingAsked, NothingChecked}
+use Rattle.elf_words.specs.declared.checks.AskedCommand.{AskedCommand}
+use Rattle.elf_words.specs.declared.checks.AskedCommand.TheVariants.{File, Laid, Check, Traits, Archive, Version}
+use Rattle.elf_words.specs.declared.requests.Request.{Request}
 use Rattle.elf_words.specs.declared.requests.RequestFault.{RequestFault}
-use Rattle.elf_words.specs.declared.requests.RequestFault.TheVariants.{Memory, BadName, BadItem, LayoutFull, LayoutRepeat, Words as Told}
 use Rattle.elf_words.specs.declared.requests.Task.{Task}
 use Rattle.elf_words.specs.declared.requests.Task.TheVariants.{Show, Find, Resolve, Apply, Place}
 
-apart : (a b : ℕ) → a ≡ 99 → b ≡ 97 → a ≡ b → ⊥
-apart a b is_c is_a same = absurd (omega arith)
+-- two texts that are not the same, by the test
+apart : (text other : Text) → bytes_eq text other ≡ false → text ≡ other → ⊥
+apart text other differ same = let e : true ≡ false = sym ((bytes_eq-Decides text other).1 same) ∙ differ in cc
 
-check_is_not_apply : codes "check" ≡ codes "apply" → ⊥
-check_is_not_apply same = apart (get_or (codes "check") 0 0) (get_or (codes "apply") 0 0) refl refl (ap (λ (text : List ℕ). get_or text 0 0) same)
+-- THE COMMANDS OF ONE FILE
+is_of_file : Text → Bool
+is_of_file command = list_any (bytes_eq command) (codes "show" ∷ codes "sample" ∷ codes "find" ∷ codes "apply" ∷ [])
 
--- nothing is done with one file by `check`
-no_task : (rows : List Row) (file : Option (Bor Text)) (task : Task) → IsTask (codes "check") rows file task → ⊥
-no_task rows None (Show parts name) (are, parts_are, is) = cc
-no_task rows (Some path) (Show parts name) (are, parts_are, is) = let e = is.0 in cc
-no_task rows file (Find wanted format) is = let e = is.find in cc
-no_task rows file (Resolve wanted by_segments format) is = let e = is.lookup.find in cc
-no_task rows file (Apply section layout explain) is = check_is_not_apply is.apply
-no_task rows file (Place section addresses explain) is = absurd is
+task_of_file : (command : Text) (rows : List Row) (file : Option (Bor Text)) (task : Task) → IsTask command rows file task → is_of_file command ≡ true
+unfolding is_of_file
+task_of_file command rows None (Show parts name) is = subst (λ c. is_of_file c ≡ true) (sym is.2) refl
+task_of_file command rows (Some path) (Show parts name) is = subst (λ c. is_of_file c ≡ true) (sym is.2.0) refl
+task_of_file command rows file (Find wanted format) is = subst (λ c. is_of_file c ≡ true) (sym is.find) refl
+task_of_file command rows file (Resolve wanted by_segments format) is = subst (λ c. is_of_file c ≡ true) (sym is.lookup.find) refl
+task_of_file command rows file (Apply section layout explain) is = subst (λ c. is_of_file c ≡ true) (sym is.apply) refl
+task_of_file command rows file (Place section addresses explain) is = absurd is
 
-no_fault : (rows : List Row) (fault : RequestFault) → HasFault (Some (codes "check", rows)) fault → ⊥
-no_fault rows BadName (is, name) = cc
-no_fault rows BadItem has = check_is_not_apply has.0
-no_fault rows LayoutFull has = check_is_not_apply has.0
-no_fault rows LayoutRepeat has = check_is_not_apply has.0
-no_fault rows Memory has = check_is_not_apply has.0
-no_fault rows (Told told) has = check_is_not_apply has.0
+fault_of_file : (command : Text) (rows : List Row) (fault : RequestFault) → HasFault (Some (command, rows)) fault → is_of_file command ≡ true
+unfolding is_of_file
+fault_of_file command rows fault (inl badly) = subst (λ c. is_of_file c ≡ true) (sym badly.1.0) refl
+fault_of_file command rows fault (inr badly) = subst (λ c. is_of_file c ≡ true) (sym badly.0) refl
 
--- nothing is done with one file by `archive`
-no_archive_task : (rows : List Row) (file : Option (Bor Text)) (task : Task) → IsTask (codes "archive") rows file task → ⊥
-no_archive_task rows None (Show parts name) (are, parts_are, is) = cc
-no_archive_task rows (Some path) (Show parts name) (are, parts_are, is) = let e = is.0 in cc
-no_archive_task rows file (Find wanted format) is = let e = is.find in cc
-no_archive_task rows file (Resolve wanted by_segments format) is = let e = is.lookup.find in cc
-no_archive_task rows file (Apply section layout explain) is = let e = is.apply in cc
-no_archive_task rows file (Place section addresses explain) is = absurd is
+-- A COMMAND THAT IS NONE OF THEM asks for nothing of one file, and has no fault of such
+module _ (command : Text) (rows : List Row) (other : is_of_file command ≡ false) where
+  no_file : (request : Request) → AsksBy (Some (command, rows)) request → ⊥
+  no_file request asks = let e : true ≡ false = sym (task_of_file command rows request.file request.task asks.1) ∙ other in cc
 
-no_archive_fault : (rows : List Row) (fault : RequestFault) → HasFault (Some (codes "archive", rows)) fault → ⊥
-no_archive_fault rows BadName (is, name) = cc
-no_archive_fault rows BadItem has = let e = has.0 in cc
-no_archive_fault rows LayoutFull has = let e = has.0 in cc
-no_archive_fault rows LayoutRepeat has = let e = has.0 in cc
-no_archive_fault rows Memory has = let e = has.0 in cc
-no_archive_fault rows (Told told) has = let e = has.0 in cc
-
-check_is_not_archive : codes "check" ≡ codes "archive" → ⊥
-check_is_not_archive same = cc
-
-check_is_not_version : codes "check" ≡ codes "version" → ⊥
-check_is_not_version same = cc
-
-archive_is_not_version : codes "archive" ≡ codes "version" → ⊥
-archive_is_not_version same = other_first (get_or (codes "archive") 0 0) (get_or (codes "version") 0 0) refl refl (ap (λ (text : List ℕ). get_or text 0 0) same)
-  where
-    other_first : (a b : ℕ) → a ≡ 97 → b ≡ 118 → a ≡ b → ⊥
-    other_first a b is_a is_v same = absurd (omega arith)
+  no_fault : (command ≢ codes "traits") → (fault : RequestFault) → HasAnyFault (Some (command, rows)) fault → ⊥
+  no_fault not_traits fault (inl has) = let e : true ≡ false = sym (fault_of_file command rows fault has) ∙ other in cc
+  no_fault not_traits fault (inr has) = not_traits has.1.0
 
 -- where no check is asked for by `check`, nothing is
 pub nothing_by_check : (rows : List Row) → NothingChecked (Some (codes "check", rows)) → NothingAsked (Some (codes "check", rows))
-nothing_by_check rows none =
-    (record { nothing = λ request asks. no_task rows request.file request.task asks.1; faultless = no_fault rows }, none, (λ asked is. check_is_not_archive is.archive), check_is_not_version)
+unfolding is_of_file
+nothing_by_check rows none = record { nothing = nothing; faultless = no_fault (codes "check") rows refl (apart (codes "check") (codes "traits") refl) }
+  where
+    nothing : (asked : AskedCommand) → IsAsked (Some (codes "check", rows)) asked → ⊥
+    nothing (File request) is = no_file (codes "check") rows refl request is.0
+    nothing (Laid laying) is = no_file (codes "check") rows refl laying.request is.0
+    nothing (Check asked) is = none asked is
+    nothing (Traits asked) is = apart (codes "check") (codes "traits") refl is.traits
+    nothing (Archive asked) is = apart (codes "check") (codes "archive") refl is.archive
+    nothing Version is = apart (codes "check") (codes "version") refl is
+
+-- where no traits are asked for by `traits`, and no word is missing, nothing is
+pub nothing_by_traits : (rows : List Row) → NothingTold (Some (codes "traits", rows)) → (LacksWord (first_of (codes "require") rows) → ⊥) → NothingAsked (Some (codes "traits", rows))
+unfolding is_of_file
+nothing_by_traits rows none spelled = record { nothing = nothing; faultless = faultless }
+  where
+    nothing : (asked : AskedCommand) → IsAsked (Some (codes "traits", rows)) asked → ⊥
+    nothing (File request) is = no_file (codes "traits") rows refl request is.0
+    nothing (Laid laying) is = no_file (codes "traits") rows refl laying.request is.0
+    nothing (Check asked) is = apart (codes "traits") (codes "check") refl is.check
+    nothing (Traits asked) is = none asked is
+    nothing (Archive asked) is = apart (codes "traits") (codes "archive") refl is.archive
+    nothing Version is = apart (codes "traits") (codes "version") refl is
+
+    faultless : (fault : RequestFault) → HasAnyFault (Some (codes "traits", rows)) fault → ⊥
+    faultless fault (inl has) = let e : true ≡ false = sym (fault_of_file (codes "traits") rows fault has) in cc
+    faultless fault (inr has) = spelled has.1.1
 
 -- where no archive is asked for by `archive`, nothing is
 pub nothing_by_archive : (rows : List Row) → NothingArchived (Some (codes "archive", rows)) → NothingAsked (Some (codes "archive", rows))
-nothing_by_archive rows none =
-    (record { nothing = λ request asks. no_archive_task rows request.file request.task asks.1; faultless = no_archive_fault rows }, (λ asked is. check_is_not_archive (sym is.check)), none, archive_is_not_version)
+unfolding is_of_file
+nothing_by_archive rows none = record { nothing = nothing; faultless = no_fault (codes "archive") rows refl (apart (codes "archive") (codes "traits") refl) }
+  where
+    nothing : (asked : AskedCommand) → IsAsked (Some (codes "archive", rows)) asked → ⊥
+    nothing (File request) is = no_file (codes "archive") rows refl request is.0
+    nothing (Laid laying) is = no_file (codes "archive") rows refl laying.request is.0
+    nothing (Check asked) is = apart (codes "archive") (codes "check") refl is.check
+    nothing (Traits asked) is = apart (codes "archive") (codes "traits") refl is.traits
+    nothing (Archive asked) is = none asked is
+    nothing Version is = apart (codes "archive") (codes "version") refl is
 
 -- where another command asks for nothing of one file, nothing is asked for
-pub nothing_by_other : (command : Text) (rows : List Row) → command ≢ codes "check" → command ≢ codes "archive" → command ≢ codes "version" → AsksNothing (Some (command, rows)) → NothingAsked (Some (command, rows))
-nothing_by_other command rows other another third nothing = (nothing, (λ asked is. other is.check), (λ asked is. another is.archive), third)
+pub nothing_by_other : (command : Text) (rows : List Row) → command ≢ codes "check" → command ≢ codes "traits" → command ≢ codes "archive" → command ≢ codes "version"
+    → AsksNothing (Some (command, rows)) → NothingAsked (Some (command, rows))
+nothing_by_other command rows not_check not_traits not_archive not_version none = record { nothing = nothing; faultless = faultless }
+  where
+    nothing : (asked : AskedCommand) → IsAsked (Some (command, rows)) asked → ⊥
+    nothing (File request) is = none.nothing request is.0
+    nothing (Laid laying) is = none.nothing laying.request is.0
+    nothing (Check asked) is = not_check is.check
+    nothing (Traits asked) is = not_traits is.traits
+    nothing (Archive asked) is = not_archive is.archive
+    nothing Version is = not_version is
 
--- a fault of the words for one file is one
-pub fault_becomes : (matches : Option (Text × List Row)) (fault : RequestFault) → HasFault matches fault → Becomes matches (Err fault)
-fault_becomes matches Memory has = tt
-fault_becomes matches BadName has = has
-fault_becomes matches BadItem has = has
-fault_becomes matches LayoutFull has = has
-fault_becomes matches LayoutRepeat has = has
-fault_becomes matches (Told told) has = has
+    faultless : (fault : RequestFault) → HasAnyFault (Some (command, rows)) fault → ⊥
+    faultless fault (inl has) = none.faultless fault has
+    faultless fault (inr has) = not_traits has.1.0
 
 -- where a section is not applied by `apply`, nothing is asked for
 pub nothing_by_apply : (rows : List Row) → AsksNothing (Some (codes "apply", rows)) → NothingAsked (Some (codes "apply", rows))
-nothing_by_apply rows nothing = nothing_by_other (codes "apply") rows (λ same. check_is_not_apply (sym same)) apply_is_not_archive apply_is_not_version nothing
-  where
-    apply_is_not_archive : codes "apply" ≢ codes "archive"
-    apply_is_not_archive same = cc
-
-    apply_is_not_version : codes "apply" ≢ codes "version"
-    apply_is_not_version same = cc
+nothing_by_apply rows =
+    nothing_by_other (codes "apply") rows (apart (codes "apply") (codes "check") refl) (apart (codes "apply") (codes "traits") refl)
+    (apart (codes "apply") (codes "archive") refl) (apart (codes "apply") (codes "version") refl)

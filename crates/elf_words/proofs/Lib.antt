@@ -5,3 +5,4 @@ pub mod FaultLaws
 pub mod LayoutLaws
 pub mod ListingLaws
 pub mod OnceLaws
+pub mod PieceLaws

@@ -1,5 +1,5 @@
 -- What other words than those for a lookup and for applying come to: a listing, or nothing.
-use Rattle.std.proofs.Common.{◌≢◌, List, Option, Some, codes}
+use Rattle.std.proofs.Common.{◌≢◌, List, Option, Some, codes, inl, inr}
 use Rattle.std.specs.Borrow.{Bor}
 use Rattle.clap.specs.Walk.{Row, Text}
 use Rattle.elf_headers.specs.declared.caps.Limits.{Limits}
@@ -8,7 +8,6 @@ use Rattle.elf_listing_words.specs.Options.{AreLimitOptions}
 use Rattle.elf_listing_words.specs.declared.listings.ListingAsked.{ListingAsked}
 use Rattle.elf_words.specs.Asked.{AsksNothing, HasFault, IsTask}
 use Rattle.elf_words.specs.declared.requests.RequestFault.{RequestFault}
-use Rattle.elf_words.specs.declared.requests.RequestFault.TheVariants.{Memory, BadName, BadItem, LayoutFull, LayoutRepeat, Words}
 use Rattle.elf_words.specs.declared.requests.Task.{Task}
 use Rattle.elf_words.specs.declared.requests.Task.TheVariants.{Show, Find, Resolve, Apply, Place}
 
@@ -23,12 +22,8 @@ module _ (command : Text) (rows : List Row) (not_apply : command ≢ codes "appl
   no_task none file limits (Place section addresses explain) are is = absurd is
 
   no_fault : (fault : RequestFault) → HasFault (Some (command, rows)) fault → ⊥
-  no_fault BadName has = not_find has.0
-  no_fault BadItem has = not_apply has.0
-  no_fault LayoutFull has = not_apply has.0
-  no_fault LayoutRepeat has = not_apply has.0
-  no_fault Memory has = not_apply has.0
-  no_fault (Words told) has = not_apply has.0
+  no_fault fault (inl named) = not_find named.1.0
+  no_fault fault (inr badly) = not_apply badly.0
 
   -- where no listing is asked for, nothing is
   pub nothing_listed : ((listing : ListingAsked) → IsListing command rows listing → ⊥) → AsksNothing (Some (command, rows))

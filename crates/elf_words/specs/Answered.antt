@@ -1,13 +1,13 @@
 -- What the words of a command line ask for, and why they are refused.
-use Rattle.std.specs.Prelude.{⊤, ◌≡◌, ◌⊎◌, List, Option}
+use Rattle.std.specs.Prelude.{◌≡◌, ◌⊎◌, List, Option}
 use Rattle.clap.specs.Walk.{Row, Text}
 use Rattle.clap.specs.Values.{kind_of}
+use Rattle.clap.specs.declared.error.Error.{Error}
 use Rattle.clap.specs.declared.error.kind.ErrorKind.TheVariants as kind
 use Rattle.elf_listing_words.specs.Reading.{AreRead, AreRefused}
 use Rattle.elf_listing_words.specs.declared.faults.WordsFault.{WordsFault}
 use Rattle.elf_listing_words.specs.declared.faults.WordsFault.TheVariants.{Told, Memory as NoMemory}
-use Rattle.elf_words.specs.Asked.{HasFault}
-use Rattle.elf_words.specs.Checks.{IsAsked, NothingAsked}
+use Rattle.elf_words.specs.Checks.{HasAnyFault, IsAsked, NothingAsked}
 use Rattle.elf_words.specs.declared.checks.AskedCommand.{AskedCommand}
 use Rattle.elf_words.specs.declared.requests.RequestFault.{RequestFault}
 use Rattle.elf_words.specs.declared.requests.RequestFault.TheVariants.{Memory, Words}
@@ -23,9 +23,9 @@ unread_words NoMemory = Memory
 
 -- there was no memory; or nothing is asked for, which is told by the kind `Format`; or what is asked for has this fault
 abbrev pub IsRefusal : Option (Text × List Row) → RequestFault → Type 0
-IsRefusal matches Memory = ⊤
-IsRefusal matches (Words error) = (kind_of error ≡ kind.Format) × NothingAsked matches
-IsRefusal matches fault = HasFault matches fault
+IsRefusal matches fault =
+    (fault ≡ Memory)
+    ⊎ (HasAnyFault matches fault ⊎ ((error : Error) × (fault ≡ Words error) × (kind_of error ≡ kind.Format) × NothingAsked matches))
 
 -- WHY WORDS ARE REFUSED: the command line has a fault for them, or what it makes of them has one, or asks for nothing
 abbrev pub WordsRefused : List Text → RequestFault → Type 0

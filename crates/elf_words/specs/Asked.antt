@@ -1,5 +1,5 @@
 -- What the words of a command line ask for, of one file.
-use Rattle.std.specs.Prelude.{Bool, true, false, ◌≡◌, ◌<◌, ◌≤◌, ◌^◌, ℕ, length, unwrap_or, Result, Ok, Err, List, [], codes, Option, None, Some}
+use Rattle.std.specs.Prelude.{Bool, true, false, ◌≡◌, ◌⊎◌, ◌<◌, ◌≤◌, ◌^◌, ℕ, length, unwrap_or, Result, Ok, Err, List, [], codes, Option, None, Some}
 use Rattle.std.specs.Borrow.{Bor}
 use Rattle.clap.specs.Walk.{Row, Text, all_of, first_of, one_of}
 use Rattle.elf_model.specs.Loader.{is_complete, wanted_of}
@@ -97,8 +97,7 @@ LaysBadly command rows fault = (command ≡ codes "apply") × LaysWords no_items
 -- a command with the values of its arguments asks for something, and has this fault in its words for it
 abbrev pub HasFault : Option (Text × List Row) → RequestFault → Type 0
 HasFault None fault = ⊥
-HasFault (Some (command, rows)) BadName = NamesBadly command rows
-HasFault (Some (command, rows)) fault = LaysBadly command rows fault
+HasFault (Some (command, rows)) fault = ((fault ≡ BadName) × NamesBadly command rows) ⊎ LaysBadly command rows fault
 
 -- nothing is asked for, not even with a fault in the words for it
 pub record AsksNothing (matches : Option (Text × List Row)) : Type 0 where

@@ -1,27 +1,22 @@
 -- What the words of a command line ask for, of one file, of many or of an archive; and the version of the program.
-use Rattle.std.specs.Prelude.{⊤, ◌≡◌, List, [], Result, Ok, Err, codes, Option, None, Some, option_map, unwrap_or}
-use Rattle.clap.specs.Walk.{Row, Text, all_of, first_of, texts}
+use Rattle.std.specs.Prelude.{⊤, ◌≡◌, ◌⊎◌, List, Result, Ok, Err, codes, Option, None, Some}
+use Rattle.clap.specs.Walk.{Row, Text, first_of}
 use Rattle.elf_listing_words.specs.Listings.{AsksVersion}
 use Rattle.elf_listing_words.specs.Options.{AreLimitOptions, AreParts, IsStyle}
-use Rattle.elf_words.specs.Asked.{AsksBy, AsksNothing, HasFault}
+use Rattle.elf_words.specs.Asked.{AsksBy, HasFault}
+use Rattle.elf_words.specs.AskedTraits.{RequiresBadly, TellsBy}
+use Rattle.elf_words.specs.Files.{AreFiles}
 use Rattle.elf_words.specs.declared.checks.AskedCommand.{AskedCommand}
-use Rattle.elf_words.specs.declared.checks.AskedCommand.TheVariants.{File, Laid, Check, Archive, Version}
-use Rattle.elf_words.specs.Archives.{ArchivesBy, NothingArchived}
+use Rattle.elf_words.specs.declared.checks.AskedCommand.TheVariants.{File, Laid, Check, Traits, Archive, Version}
+use Rattle.elf_words.specs.Archives.{ArchivesBy}
 use Rattle.elf_words.specs.declared.checks.Checking.{Checking}
 use Rattle.elf_words.specs.declared.requests.RequestFault.{RequestFault}
-use Rattle.elf_words.specs.declared.requests.RequestFault.TheVariants.{Memory}
+use Rattle.elf_words.specs.declared.requests.RequestFault.TheVariants.{BadTrait, Memory}
 
--- the words for the paths that are checked
-abbrev pub path_words : List Row → List Text
-path_words rows = unwrap_or (all_of (codes "PATH") rows) []
-
--- a check of the files and folders whose paths stand among the values, and of those that a file has; of nothing there is
--- no check
+-- a check of the files that stand among the values
 pub record IsChecking (command : Text) (rows : List Row) (asked : Checking) : Type 0 where
   pub check : command ≡ codes "check"
-  pub paths : texts asked.paths.items ≡ path_words rows
-  pub list : option_map (λ path. path.now) asked.list ≡ first_of (codes "files0-from") rows
-  pub some : path_words rows ≡ [] → first_of (codes "files0-from") rows ≡ None → ⊥
+  pub files : AreFiles rows asked.files
   pub limits : AreLimitOptions rows asked.limits
   pub style : IsStyle rows asked.style
   pub parts : AreParts rows asked.parts
@@ -46,6 +41,7 @@ abbrev pub IsAsked : Option (Text × List Row) → AskedCommand → Type 0
 IsAsked matches (File request) = AsksBy matches request × LacksList matches
 IsAsked matches (Laid laying) = AsksBy matches laying.request × HasList matches laying.list.now
 IsAsked matches (Check asked) = ChecksBy matches asked
+IsAsked matches (Traits asked) = TellsBy matches asked
 IsAsked matches (Archive asked) = ArchivesBy matches asked
 IsAsked matches Version = AsksVersion matches
 
@@ -53,13 +49,17 @@ IsAsked matches Version = AsksVersion matches
 abbrev pub NothingChecked : Option (Text × List Row) → Type 0
 NothingChecked matches = (asked : Checking) → ChecksBy matches asked → ⊥
 
--- nothing is asked for
-abbrev pub NothingAsked : Option (Text × List Row) → Type 0
-NothingAsked matches = AsksNothing matches × NothingChecked matches × NothingArchived matches × (AsksVersion matches → ⊥)
+-- a command with the values of its arguments asks for something, and has this fault in its words for it
+abbrev pub HasAnyFault : Option (Text × List Row) → RequestFault → Type 0
+HasAnyFault matches fault = HasFault matches fault ⊎ ((fault ≡ BadTrait) × RequiresBadly matches)
+
+-- nothing is asked for, not even with a fault in the words for it
+pub record NothingAsked (matches : Option (Text × List Row)) : Type 0 where
+  pub nothing : (asked : AskedCommand) → IsAsked matches asked → ⊥
+  pub faultless : (fault : RequestFault) → HasAnyFault matches fault → ⊥
 
 -- what a command with the values of its arguments comes to: what is asked for, nothing, or a fault
 abbrev pub Becomes : Option (Text × List Row) → Result (Option AskedCommand) RequestFault → Type 0
 Becomes matches (Ok (Some asked)) = IsAsked matches asked
 Becomes matches (Ok None) = NothingAsked matches
-Becomes matches (Err Memory) = ⊤
-Becomes matches (Err fault) = HasFault matches fault
+Becomes matches (Err fault) = (fault ≡ Memory) ⊎ HasAnyFault matches fault

@@ -4,7 +4,7 @@ use Rattle.clap.specs.Walk.{Text}
 use Rattle.elf_layout.specs.Layouts.{Pushes}
 use Rattle.elf_layout.specs.declared.layout.Item.{Item}
 use Rattle.elf_layout.specs.declared.layout.LayoutFault.TheVariants.{Full, Repeat}
-use Rattle.elf_model.specs.Placing.{Layout, Compared}
+use Rattle.elf_model.specs.Placing.{Layout}
 use Rattle.elf_layout.specs.Spelled.{Spells}
 use Rattle.elf_words.specs.declared.requests.RequestFault.{RequestFault}
 use Rattle.elf_words.specs.declared.requests.RequestFault.TheVariants.{BadItem, LayoutFull, LayoutRepeat}

@@ -3,7 +3,9 @@ ghost use Rattle.std.specs.Prelude.{◌≡◌, ◌≤◌};
 
 use crate::requests::Request;
 use elf_headers::{Limits, Style};
+use elf_model::Format;
 use elf_record::Parts;
+use elf_trait_words::RequiredWord;
 
 /// What is asked for.
 #[derive(Drop)]
@@ -14,6 +16,8 @@ pub enum AskedCommand<'a> {
     Laid(Laying<'a>),
     /// Many files are checked.
     Check(Checking<'a>),
+    /// How many files are hardened is told.
+    Traits(TraitsAsked<'a>),
     /// The members of an archive are listed.
     Archive(Archiving<'a>),
     /// The version of the program is told.
@@ -29,14 +33,20 @@ pub struct Laying<'a> {
     pub list: &'a str,
 }
 
-/// A check of many files: whose they are, how much of each may be read, and which parts of its listing
-/// count.
+/// The files that are asked for, where there are many.
 #[derive(Drop)]
-pub struct Checking<'a> {
+pub struct ManyFiles<'a> {
     /// The paths of files and folders.
     pub paths: Vec<&'a str>,
     /// The path of a file that has more paths, each ended by NUL; `-` is standard input.
     pub list: Option<&'a str>,
+}
+
+/// A check of many files: which, how much of each may be read, and which parts of its listing count.
+#[derive(Drop)]
+pub struct Checking<'a> {
+    /// The files.
+    pub files: ManyFiles<'a>,
     /// How many headers are permitted, and how many bytes may be read, of each file.
     pub limits: Limits,
     /// The parts of a listing that count.
@@ -46,6 +56,33 @@ pub struct Checking<'a> {
 }
 
 impl<'a> Checking<'a> {
+    ghost use Rattle.std.specs.Prelude.{◌≤◌};
+
+    /// How many slots the header store needs, 1 to 65,279.
+    pub fn headers(&self) -> u16
+        ensures value { result ≡ self.now.limits.headers }
+        ensures some { 1 ≤ result }
+        ensures few { result ≤ 65279 }
+    {
+        self.limits.headers
+    }
+}
+
+/// How many files are hardened: which files, how much of each may be read, how a line is written, and
+/// what is required.
+#[derive(Drop)]
+pub struct TraitsAsked<'a> {
+    /// The files.
+    pub files: ManyFiles<'a>,
+    /// How many headers are permitted, and how many bytes may be read, of each file.
+    pub limits: Limits,
+    /// How a line is written.
+    pub format: Format,
+    /// The words that are required of each program and library, in the order in which they were given.
+    pub required: Vec<RequiredWord<'a>>,
+}
+
+impl<'a> TraitsAsked<'a> {
     ghost use Rattle.std.specs.Prelude.{◌≤◌};
 
     /// How many slots the header store needs, 1 to 65,279.

@@ -4,12 +4,14 @@
 mod archive_words;
 mod check_words;
 mod checks;
+mod file_words;
 mod items;
 mod names;
 mod requests;
+mod trait_words;
 mod words;
 
-pub use checks::{Archiving, AskedCommand, Checking, Laying};
+pub use checks::{Archiving, AskedCommand, Checking, Laying, ManyFiles, TraitsAsked};
 pub use names::{checked_name, checked_symbol};
 pub use requests::{Request, RequestFault, Task, WantedName, WantedSymbol};
 pub use words::request;

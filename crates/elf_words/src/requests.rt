@@ -118,6 +118,9 @@ pub enum RequestFault {
     /// an earlier one.
     #[error("layout-repeat")]
     LayoutRepeat,
+    /// One of the words that are required of a file's traits is none.
+    #[error("bad trait")]
+    BadTrait,
     /// There was no memory for the request.
     #[error("out of memory")]
     Memory,

@@ -18,6 +18,7 @@ use crate::checks::{AskedCommand, Laying};
 use crate::items::lay;
 use crate::names::{checked_name, checked_symbol};
 use crate::requests::{Request, RequestFault, Task};
+use crate::trait_words::traits_asked;
 use clap::ArgMatches;
 use elf_layout::Layout;
 use elf_listing_words::{
@@ -34,7 +35,7 @@ use std::convert::AsStr;
 /// `Words` for words that ask for nothing that there is, or for help; `BadName` where they ask for
 /// a name that is not of 1 to 4,096 bytes without NUL; `BadItem`, `LayoutRepeat` and `LayoutFull`
 /// for the first word that is no item of a layout, gives an item again, or gives one more of a sort
-/// than a layout holds; `Memory` where there is none for reading them.
+/// than a layout holds; `BadTrait` where a word that is required of traits is none; `Memory` where there is none for reading them.
 pub fn request<'a, S: AsStr>(
     alloc: Global,
     words: &'a [S],
@@ -100,6 +101,7 @@ fn asked_by<'a>(
 {
     match command {
         "check" => check_asked(alloc, options),
+        "traits" => traits_asked(alloc, options),
         "archive" => Ok(archive_asked(options)),
         "apply" => apply_asked(options, layout),
         "version" => Ok(Some(AskedCommand::Version)),
@@ -132,13 +134,15 @@ fn with_list<'a>(options: &ArgMatches<'a>, request: Request<'a>) -> AskedCommand
     }
 }
 
-/// What another command than `check`, `archive`, `version` and `apply` with these arguments asks for.
+/// What another command with these arguments asks for, which is none of many files, of an archive or
+/// of the version, and not `apply`.
 fn file_asked<'a>(
     command: &str,
     options: &ArgMatches<'a>,
 ) -> Result<Option<AskedCommand<'a>>, RequestFault>
-    requires { (command.now ≢ codes "check") × (command.now ≢ codes "archive")
-        × (command.now ≢ codes "version") × (command.now ≢ codes "apply") }
+    requires { (command.now ≢ codes "check") × (command.now ≢ codes "traits")
+        × (command.now ≢ codes "archive") × (command.now ≢ codes "version")
+        × (command.now ≢ codes "apply") }
     ensures { Becomes (Some (command.now, rows_of (found_of options.now))) result }
 {
     match of_file(command, options) {

@@ -1,9 +1,9 @@
 -- What `apply` asks for is of one file.
-use Rattle.std.proofs.Common.{Some, Ok, subst, codes}
+use Rattle.std.proofs.Common.{Some, Ok, subst, codes, inl, inr}
 use Rattle.clap.specs.Walk.{rows_of}
 use Rattle.clap.specs.Words.{found_of}
 use Rattle.elf_words.specs.Asked.{ComesTo}
-use Rattle.elf_words.proofs.CheckLaws.{fault_becomes, nothing_by_apply}
+use Rattle.elf_words.proofs.CheckLaws.{nothing_by_apply}
 use Rattle.elf_words.proofs.words.apply_asked.Goals as goal
 
 pub returns-in-Ok-None : goal.returns-in-Ok-None
@@ -12,4 +12,4 @@ returns-in-Ok-None c =
     nothing_by_apply rows (subst (λ asked. ComesTo (Some (codes "apply", rows)) (Ok asked)) c.in-Ok-None.field-0-is c.in-Ok-None.ensures)
 
 pub returns-in-Err : goal.returns-in-Err
-returns-in-Err c = fault_becomes (Some (codes "apply", rows_of (found_of c.args.options.now))) c.in-Err.fault c.in-Err.ensures
+returns-in-Err c = inr (inl c.in-Err.ensures)

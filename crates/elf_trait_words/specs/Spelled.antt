@@ -1,0 +1,67 @@
+-- The words that are required, as texts spell them.
+use Rattle.std.specs.Prelude.{ℕ, ◌≡◌, ◌==◌, bytes_eq, if◌then◌else◌, true, false, List, [], ◌∷◌, codes, Option, None, Some, option_map}
+use Rattle.std.specs.List.{list_any}
+use Rattle.elf_model.specs.TraitWords.{Required, column_word, lacking_text}
+use Rattle.elf_model.specs.declared.traits.TraitColumn.{TraitColumn}
+use Rattle.elf_model.specs.declared.traits.TraitColumn.TheVariants as column
+use Rattle.elf_model.specs.declared.traits.Traits.{Traits}
+
+-- what stands before and behind the first of the bytes that is this sign
+unfoldable pub parted_at : ℕ → List ℕ → Option (List ℕ × List ℕ)
+parted_at sign [] = None
+parted_at sign (byte ∷ bytes) = elim (byte == sign) [
+  | true ↦ Some ([], bytes)
+  | false ↦ option_map (λ parts. (byte ∷ parts.0, parts.1)) (parted_at sign bytes)
+]
+
+-- the column of this name
+unfoldable pub column_named : List ℕ → Option TraitColumn
+column_named name =
+    if bytes_eq name (codes "kind") then Some column.Kind
+    else if bytes_eq name (codes "relro") then Some column.Relro
+    else if bytes_eq name (codes "stack") then Some column.Stack
+    else if bytes_eq name (codes "pages") then Some column.Pages
+    else if bytes_eq name (codes "text") then Some column.Text
+    else if bytes_eq name (codes "cet") then Some column.Cet
+    else if bytes_eq name (codes "canary") then Some column.Canary
+    else if bytes_eq name (codes "fortify") then Some column.Fortify
+    else if bytes_eq name (codes "path") then Some column.Path
+    else None
+
+-- the words that a line can have in a column
+unfoldable pub column_words : TraitColumn → List (List ℕ)
+column_words column.Kind =
+    codes "exec" ∷ codes "pie" ∷ codes "static" ∷ codes "lib" ∷ codes "object" ∷ codes "core" ∷ codes "other" ∷ []
+column_words column.Relro = codes "full" ∷ codes "partial" ∷ codes "none" ∷ codes "-" ∷ []
+column_words column.Stack = codes "nx" ∷ codes "exec" ∷ codes "-" ∷ []
+column_words column.Pages = codes "w^x" ∷ codes "wx" ∷ codes "-" ∷ []
+column_words column.Text = codes "fixed" ∷ codes "patch" ∷ codes "-" ∷ []
+column_words column.Cet = codes "ibt+shstk" ∷ codes "ibt" ∷ codes "shstk" ∷ codes "-" ∷ []
+column_words column.Canary = codes "canary" ∷ codes "-" ∷ []
+column_words column.Fortify = codes "fortify" ∷ codes "-" ∷ []
+column_words column.Path = codes "rpath" ∷ codes "runpath" ∷ codes "-" ∷ []
+
+-- the word of a column, where it is one of those
+abbrev pub word_in : TraitColumn → List ℕ → Option Required
+word_in its_column word = elim (list_any (bytes_eq word) (column_words its_column)) [
+  | true ↦ Some (record { column = its_column; word = word })
+  | false ↦ None
+]
+
+abbrev pub word_under : Option TraitColumn → List ℕ → Option Required
+word_under None word = None
+word_under (Some its_column) word = word_in its_column word
+
+abbrev pub word_of_parts : Option (List ℕ × List ℕ) → Option Required
+word_of_parts None = None
+word_of_parts (Some parts) = word_under (column_named parts.0) parts.1
+
+-- THE WORD THAT A TEXT SPELLS: the name of a column, an equals sign, and a word that a line can have there
+unfoldable pub spelled_word : List ℕ → Option Required
+spelled_word text = word_of_parts (parted_at 61 text)
+
+-- JUST THOSE texts spell words that tell what some file has
+pub record SpellsTraits : Type 0 where
+  pub told : (t : Traits) (its_column : TraitColumn) → spelled_word (lacking_text t its_column) ≡ Some (record { column = its_column; word = column_word t its_column })
+  pub tells : (text : List ℕ) (required : Required) → spelled_word text ≡ Some required
+      → (t : Traits) × (text ≡ lacking_text t required.column) × (required.word ≡ column_word t required.column)
