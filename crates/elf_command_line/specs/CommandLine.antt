@@ -108,8 +108,19 @@ list_option = record (new_rule (codes "files0-from")) { long = Some (codes "file
 abbrev pub path_argument : Rule
 path_argument = record (new_rule (codes "PATH")) { range = Some (record { start_inclusive = 0; end_inclusive = usize_max }) }
 
+-- whether archives are gone into
+abbrev pub members_option : Rule
+members_option = flag (codes "members")
+
+-- a command that goes over many files, with the options of a listing
+abbrev pub over_files : Words → App → App
+over_files parts command = with_rule (with_rule (with_rule (with_listing_options parts command) members_option) list_option) path_argument
+
 abbrev pub check_command : Words → App
-check_command parts = with_rule (with_rule (with_listing_options parts (new_app (codes "check"))) list_option) path_argument
+check_command parts = over_files parts (new_app (codes "check"))
+
+abbrev pub list_command : Words → App
+list_command parts = over_files parts (new_app (codes "list"))
 
 -- words that are required, which commas part
 abbrev pub require_option : Rule
@@ -121,7 +132,8 @@ traits_command =
 
 -- the program, with the commands that read one file, or many
 abbrev pub with_many : Words → App
-with_many parts = with_subcommand (with_subcommand (with_one_file parts) (check_command parts).top) traits_command.top
+with_many parts =
+    with_subcommand (with_subcommand (with_subcommand (with_one_file parts) (check_command parts).top) (list_command parts).top) traits_command.top
 
 -- the names of the parts of a listing, and of those of an archive's
 pub record PartWords : Type 0 where

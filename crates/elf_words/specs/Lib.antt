@@ -5,3 +5,4 @@ pub mod Archives
 pub mod Checks
 pub mod Files
 pub mod Layouts
+pub mod Lists

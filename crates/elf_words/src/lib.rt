@@ -6,12 +6,13 @@ mod check_words;
 mod checks;
 mod file_words;
 mod items;
+mod list_words;
 mod names;
 mod requests;
 mod trait_words;
 mod words;
 
-pub use checks::{Archiving, AskedCommand, Checking, Laying, ManyFiles, TraitsAsked};
+pub use checks::{Archiving, AskedCommand, Checking, Laying, ListAsked, ManyFiles, TraitsAsked};
 pub use names::{checked_name, checked_symbol};
 pub use requests::{Request, RequestFault, Task, WantedName, WantedSymbol};
 pub use words::request;
