@@ -18,6 +18,7 @@ use crate::checks::{AskedCommand, Laying};
 use crate::items::lay;
 use crate::list_words::list_asked;
 use crate::names::{checked_name, checked_symbol};
+use crate::need_words::needs_asked;
 use crate::requests::{Request, RequestFault, Task};
 use crate::trait_words::traits_asked;
 use clap::ArgMatches;
@@ -104,6 +105,7 @@ fn asked_by<'a>(
         "check" => check_asked(alloc, options),
         "list" => list_asked(alloc, options),
         "traits" => traits_asked(alloc, options),
+        "needs" => Ok(needs_asked(options)),
         "archive" => Ok(archive_asked(options)),
         "apply" => apply_asked(options, layout),
         "version" => Ok(Some(AskedCommand::Version)),
@@ -143,8 +145,9 @@ fn file_asked<'a>(
     options: &ArgMatches<'a>,
 ) -> Result<Option<AskedCommand<'a>>, RequestFault>
     requires { (command.now ≢ codes "check") × (command.now ≢ codes "list")
-        × (command.now ≢ codes "traits") × (command.now ≢ codes "archive")
-        × (command.now ≢ codes "version") × (command.now ≢ codes "apply") }
+        × (command.now ≢ codes "traits") × (command.now ≢ codes "needs")
+        × (command.now ≢ codes "archive") × (command.now ≢ codes "version")
+        × (command.now ≢ codes "apply") }
     ensures { Becomes (Some (command.now, rows_of (found_of options.now))) result }
 {
     match of_file(command, options) {
