@@ -5,7 +5,7 @@ ghost use Rattle.elf_model.specs.ArchiveCost.{long_name_bytes};
 ghost use Rattle.elf_model.specs.Bytes.{slice};
 ghost use Rattle.elf_model.specs.Notes.{capped};
 ghost use Rattle.elf_headers.specs.Faults.{IsOfRead, Says};
-ghost use Rattle.elf_lines.specs.Pieces.{shown_as};
+ghost use Rattle.elf_fields.specs.Named.{shown_as};
 ghost use Rattle.elf_source.specs.Source.{Reads};
 ghost use Rattle.elf_archive.specs.Members.{FrontRead, LengthTold, LiesIn, NameShown, member_name_cost, extent_of_names};
 ghost use Rattle.elf_archive.specs.Members.{told_cost};

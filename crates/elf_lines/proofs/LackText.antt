@@ -1,18 +1,11 @@
--- The line of what a layout lacks, by its pieces.
-use Rattle.std.proofs.Common.{◌≡◌, ℕ, ◌==◌, Bool, true, false, List, ◌++◌, length, codes, refl}
-use Rattle.elf_model.specs.ExplainLine.{entry_item_text, entry_text, help_text, items_text, type_front, where_named}
-use Rattle.elf_model.specs.Lines.{cut_mark, escaped, name_text}
+-- The line of what a layout lacks, by whether the name was cut.
+use Rattle.std.proofs.Common.{◌≡◌, ◌==◌, Bool, true, false, List, ◌++◌, length, codes, refl, append_assoc, ℕ}
+use Rattle.elf_model.specs.ExplainLine.{entry_item_text, entry_text, help_text, item_text, items_text, type_front, where_named}
+use Rattle.elf_model.specs.Lines.{escaped, name_text}
+use Rattle.elf_model.specs.Names.Shown.{Whole}
 use Rattle.elf_model.specs.declared.missing.LayoutAddress.TheVariants.{Entry, Named}
 use Rattle.elf_model.specs.declared.relocation_types.Base.{Base}
-use Rattle.elf_lines.specs.Pieces.{shown_as}
-use Rattle.elf_lines.proofs.NameText.{name_text-pieces}
-
--- with the front of a name
-pub entry_cut : (kind : ℕ) (name : List ℕ) (is_cut : Bool) → is_cut ≡ true
-    → entry_text kind (shown_as is_cut name) ≡ ((type_front kind ++ codes " to ") ++ escaped name) ++ (cut_mark ++ codes ": ")
-unfolding entry_text
-entry_cut kind name true cut = name_text-pieces (type_front kind ++ codes " to ") name (codes ": ") true
-entry_cut kind name false cut = absurd (cc)
+use Rattle.elf_fields.specs.Named.{shown_as}
 
 -- without a name
 pub entry_unnamed : (kind : ℕ) (name : List ℕ) (is_cut : Bool) → is_cut ≡ false → (length name == 0) ≡ true
@@ -21,12 +14,12 @@ unfolding entry_text
 entry_unnamed kind name true whole none = absurd (cc)
 entry_unnamed kind name false whole none = rw (none, entry_text) refl
 
--- with a whole one
-pub entry_whole : (kind : ℕ) (name : List ℕ) (is_cut : Bool) → is_cut ≡ false → (length name == 0) ≡ false
-    → entry_text kind (shown_as is_cut name) ≡ ((type_front kind ++ codes " to ") ++ escaped name) ++ codes ": "
+-- with one, or the front of one
+pub entry_named : (kind : ℕ) (name : List ℕ) (is_cut : Bool) → (is_cut ≡ false → (length name == 0) ≡ false)
+    → entry_text kind (shown_as is_cut name) ≡ (type_front kind ++ codes " to ") ++ (name_text (shown_as is_cut name) ++ codes ": ")
 unfolding entry_text
-entry_whole kind name true whole some = absurd (cc)
-entry_whole kind name false whole some = rw (some, entry_text) (name_text-pieces (type_front kind ++ codes " to ") name (codes ": ") false)
+entry_named kind name true some = refl
+entry_named kind name false some = rw (some refl, entry_text) refl
 
 -- the items of a name
 pub help_named : (base : Base) (name : List ℕ) (is_cut : Bool) → is_cut ≡ false → (length name == 0) ≡ false
@@ -41,3 +34,8 @@ pub help_entry : (name : List ℕ) (is_cut : Bool) → is_cut ≡ false → (len
 unfolding help_text name_text
 help_entry name true whole some = absurd (cc)
 help_entry name false whole some = rw (some, help_text, where_named) refl
+
+-- an item of a name, by what stands around it
+pub item_around : (word name tail : List ℕ) → item_text word (escaped name) tail ≡ word ++ (name_text (Whole name) ++ tail)
+unfolding name_text
+item_around word name tail = append_assoc word (escaped name) tail

@@ -1,9 +1,6 @@
-pub mod Digits
 pub mod HexText
 pub mod LackText
-pub mod NameText
 pub mod Names
-pub mod Pieces
+pub mod NoteText
 pub mod PutsSteps
 pub mod TagBits
-pub mod ToldText

@@ -1,6 +1,8 @@
 -- What is known of a note's descriptor where its line is written.
 use Rattle.std.specs.Prelude.{ℕ, ◌≡◌, if◌then◌else◌, Bool, List, [], ◌++◌, codes, length, take}
-use Rattle.elf_model.specs.Lines.{SHOWN_DESCRIPTOR, cut_mark, hex_bytes, note_tail}
+use Rattle.elf_model.specs.Fields.{closing, member_key, quoted}
+use Rattle.elf_model.specs.Lines.{SHOWN_DESCRIPTOR, cut_mark}
+use Rattle.elf_model.specs.Text.{newline, space}
 use Rattle.elf_model.specs.declared.formats.Format.{Format}
 use Rattle.elf_model.specs.declared.formats.Format.TheVariants.{Columns, Object}
 
@@ -9,9 +11,7 @@ pub record IsDescriptor (first : List ℕ) (size : ℕ) (descriptor : List ℕ) 
   pub first_is : first ≡ take SHOWN_DESCRIPTOR descriptor
   pub size_is : size ≡ length descriptor
 
--- what stands behind a note's name, by whether the name was cut
-unfoldable pub note_end : Format → Bool → List ℕ → List ℕ
-note_end Columns is_cut descriptor = (if is_cut then cut_mark else []) ++ note_tail descriptor
-note_end Object is_cut descriptor =
-    codes "\"" ++ (if is_cut then codes ",\"cut\":true" else []) ++ codes ",\"descriptor\":\""
-    ++ hex_bytes (take SHOWN_DESCRIPTOR descriptor) ++ codes "\"}\n"
+-- what stands behind a note's name: the digits of the bytes that are shown, in columns marked where the descriptor has more
+unfoldable pub note_end : Format → List ℕ → Bool → List ℕ
+note_end Columns digits has_more = space ++ (digits ++ (if has_more then cut_mark else [])) ++ newline
+note_end Object digits has_more = member_key (codes "descriptor") ++ quoted digits ++ closing Object

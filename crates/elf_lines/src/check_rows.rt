@@ -5,15 +5,13 @@ ghost use Rattle.elf_model.specs.Checking.{check_front, check_line, fault_fields
 ghost use Rattle.elf_model.specs.Checking.{unnamed_line};
 ghost use Rattle.elf_model.specs.Fields.{with_fields};
 ghost use Rattle.elf_source.specs.Output.{Puts};
-ghost use Rattle.elf_lines.specs.Fronts.{front_of};
+ghost use Rattle.elf_fields.specs.Fronts.{front_of};
 
-use crate::columns::{Line, put};
-use crate::fields::{
-    LineFront, begin, begin_named, put_closing, put_decimal, put_hexadecimal, put_text,
-};
-use crate::named::show_named;
-use crate::render::{Columns, Object, Render};
 use crate::rows::cause_word;
+use elf_fields::{
+    Columns, Line, LineFront, Object, Render, begin, begin_named, put, put_closing, put_decimal,
+    put_hexadecimal, put_text, show_named,
+};
 use elf_model::{FileState, Format};
 use elf_source::{Out, OutFault, Sink};
 

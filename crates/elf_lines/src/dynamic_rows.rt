@@ -4,11 +4,10 @@ ghost use Rattle.elf_model.specs.Text.{name_of};
 ghost use Rattle.elf_model.specs.NameTables.{dynamic_tags};
 ghost use Rattle.elf_model.specs.LineFronts.{dynamic_front};
 ghost use Rattle.elf_record.specs.Dyn.{IsDyn};
-ghost use Rattle.elf_lines.specs.Fronts.{front_of};
+ghost use Rattle.elf_fields.specs.Fronts.{front_of};
 
-use crate::fields::{LineFront, begin_named, put_decimal, put_hexadecimal, put_name_or_hex};
 use crate::name_tables::name_of_either;
-use crate::render::Render;
+use elf_fields::{LineFront, Render, begin_named, put_decimal, put_hexadecimal, put_name_or_hex};
 use elf_record::Dyn;
 use elf_record::gnu_numbers::{
     DT_AUDIT, DT_AUXILIARY, DT_CHECKSUM, DT_CONFIG, DT_DEPAUDIT, DT_FEATURE, DT_FILTER, DT_FLAGS_1,

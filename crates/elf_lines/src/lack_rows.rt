@@ -3,14 +3,13 @@ ghost use Rattle.std.specs.Prelude.{◌≡◌, ◌+◌, ◌≤◌, ◌++◌, tru
 ghost use Rattle.arrayvec.specs.ArrayVec.{array_vec_len};
 ghost use Rattle.elf_model.specs.ExplainLine.{entry_text, help_text, item_text, items_text};
 ghost use Rattle.elf_model.specs.ExplainLine.{lack_line, place_text, type_front};
-ghost use Rattle.elf_model.specs.Lines.{escaped};
+ghost use Rattle.elf_model.specs.Lines.{escaped, name_text};
 ghost use Rattle.elf_model.specs.NameTables.{number_sign, relocation_types};
 ghost use Rattle.elf_source.specs.Output.{Puts};
-ghost use Rattle.elf_lines.specs.Pieces.{shown_as};
+ghost use Rattle.elf_fields.specs.Named.{shown_as};
 
-use crate::columns::{Line, line_of, number_sign, put};
-use crate::named::show_spelt;
 use crate::relocation_rows::relocation_type_name;
+use elf_fields::{Line, LineFront, line_of, number_sign, put, show_tailed};
 use elf_model::{Base, Format, LayoutAddress, Missing};
 use elf_source::{Out, OutFault, Sink};
 use itoa::Buffer;
@@ -46,16 +45,12 @@ fn show_entry<W: Sink>(
     ensures puts { Puts out.old out.new result (entry_text kind (shown_as is_cut name.now)) }
 {
     let mut line = type_front(kind);
-    if is_cut {
-        put(&mut line, b" to ");
-        return show_around(line, name, b"\\+: ", out);
-    }
-    if name.is_empty() {
+    if name.is_empty() && !is_cut {
         put(&mut line, b": ");
         return out.put(&line);
     }
     put(&mut line, b" to ");
-    show_around(line, name, b": ", out)
+    show_around(line, name, is_cut, b": ", out)
 }
 
 /// The type of an entry: its name as in a listing with the names of the GNU system, or its number.
@@ -158,22 +153,30 @@ fn show_item<W: Sink>(
     requires tail { length tail.now ≤ 256 }
     ensures puts { Puts out.old out.new result (item_text word.now (escaped name.now) tail.now) }
 {
-    show_around(line_of(word), name, tail, out)
+    show_around(line_of(word), name, false, tail, out)
 }
 
-/// Writes what stands before a name, the name as it is spelt in columns, and what stands behind it.
+/// Writes what stands before a name, the name as it is spelt in columns, what tells that it was cut,
+/// and what stands behind it.
 ///
 /// # Errors
 /// A fault of the output, with a front of the text written.
+#[tactic(auto, unfolding(elf_fields::specs::Named::line_tailed))]
 fn show_around<W: Sink>(
-    front: Line,
+    line: Line,
     name: &[u8],
+    is_cut: bool,
     tail: &[u8],
     out: &mut Out<W>,
 ) -> Result<(), OutFault>
     requires { length tail.now ≤ 256 }
-    ensures puts { Puts out.old out.new result ((front.items ++ escaped name.now) ++ tail.now) }
+    ensures puts { let shown = name_text (shown_as is_cut name.now) in
+        Puts out.old out.new result (line.items ++ (shown ++ tail.now)) }
 {
-    let mut line = front;
-    show_spelt(&mut line, Format::Columns, name, tail, out)
+    let mut front = LineFront {
+        line,
+        format: Format::Columns,
+        key: b"",
+    };
+    show_tailed(&mut front, name, is_cut, tail, out)
 }

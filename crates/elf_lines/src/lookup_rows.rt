@@ -3,9 +3,7 @@ ghost use Rattle.std.specs.Prelude.{◌≡◌};
 ghost use Rattle.elf_model.specs.Lines.{steps_line};
 ghost use Rattle.elf_source.specs.Output.{Puts};
 
-use crate::columns::Line;
-use crate::fields::{begin, put_closing, put_decimal, put_text};
-use crate::render::{Columns, Object, Render};
+use elf_fields::{Columns, Line, Object, Render, begin, put_closing, put_decimal, put_text};
 use elf_model::Format;
 use elf_source::{Out, OutFault, Sink};
 

@@ -1,10 +1,9 @@
 //! The lines of an archive's members.
 ghost use Rattle.std.specs.Prelude.{◌≡◌, ◌≤◌, length};
-ghost use Rattle.elf_lines.specs.Fronts.{front_of};
+ghost use Rattle.elf_fields.specs.Fronts.{front_of};
 ghost use Rattle.elf_model.specs.Archive.{member_front};
 
-use crate::fields::{LineFront, begin_named, put_decimal, put_hexadecimal};
-use crate::render::Render;
+use elf_fields::{LineFront, Render, begin_named, put_decimal, put_hexadecimal};
 
 /// The `A` line of an archive's member up to the name, in place of what the front held: its index,
 /// the file offset and the size in bytes of its data.

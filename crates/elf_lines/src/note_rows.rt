@@ -1,18 +1,18 @@
 //! The lines of notes.
 ghost use Rattle.elf_source.specs.Growth.{Grows};
-ghost use Rattle.std.specs.Prelude.{◌≡◌, ◌+◌, ◌*◌, ◌≤◌, ◌++◌, ℕ, List, length, IfErr};
+ghost use Rattle.std.specs.Prelude.{◌≡◌, ◌≤◌, ℕ, List, length, IfErr};
 ghost use Rattle.arrayvec.specs.ArrayVec.{array_vec_len};
 ghost use Rattle.elf_model.specs.LineFronts.{note_front};
-ghost use Rattle.elf_model.specs.Lines.{hex_bytes, note_line};
+ghost use Rattle.elf_model.specs.Lines.{note_line};
 ghost use Rattle.elf_source.specs.Output.{OutFails, Puts};
-ghost use Rattle.elf_lines.specs.Fronts.{front_of};
+ghost use Rattle.elf_fields.specs.Fronts.{front_of};
 ghost use Rattle.elf_lines.specs.Notes.{IsDescriptor, note_end};
-ghost use Rattle.elf_lines.specs.Pieces.{shown_as};
+ghost use Rattle.elf_fields.specs.Named.{shown_as};
 
-use crate::columns::{Line, put, put_where};
-use crate::fields::{LineFront, begin_named, put_half, put_hexadecimal};
-use crate::named::{begin_name, show_spelt};
-use crate::render::Render;
+use elf_fields::{
+    Line, LineFront, Object, Render, begin_named, put, put_closing, put_half, put_hexadecimal,
+    put_text, put_where, show_tailed,
+};
 use elf_model::Format;
 use elf_record::NoteHead;
 use elf_source::{Out, OutFault, Sink};
@@ -60,49 +60,33 @@ pub fn show_note<W: Sink>(
         Puts out.old out.new result
         (note_line (front_of front.old) (shown_as is_cut name.now) descriptor) }
 {
-    let format = front.format;
-    let tail = note_tail(format, is_cut, first_bytes, descsz);
-    begin_name(front, out)?;
-    show_spelt(&mut front.line, format, name, &tail, out)
+    let mut digits = [0; 64];
+    let text = &mut digits[..2 * first_bytes.len()];
+    encode_to_slice(first_bytes, text).unwrap();
+    let tail = note_end(front.format, text, descsz > SHOWN_DESCRIPTOR);
+    show_tailed(front, name, is_cut, &tail, out)
 }
 
-/// What stands behind a note's name: what tells that it was cut, the first bytes of its descriptor,
-/// in columns the mark where it has more than these, and the line's end.
+/// What stands behind a note's name: the digits of the first bytes of its descriptor, in columns
+/// the mark where it has more than these, and the line's end.
 #[tactic(auto, unfolding(crate::specs::Notes::note_end))]
-fn note_tail(format: Format, is_cut: bool, first_bytes: &[u8], descsz: u32) -> Line
-    requires { length first_bytes.now ≤ 32 }
-    ensures { (descriptor : List ℕ) → IsDescriptor first_bytes.now descsz descriptor →
-        result.items ≡ note_end format is_cut descriptor }
+fn note_end(format: Format, digits: &[u8], has_more: bool) -> Line
+    requires { length digits.now ≤ 64 }
+    ensures items { result.items ≡ note_end format digits.now has_more }
+    ensures short { array_vec_len result ≤ 256 }
 {
     let mut line = Line::new();
     match format {
         Format::Columns => {
-            put_where(&mut line, is_cut, b"\\+");
             put(&mut line, b" ");
-            put_bytes(&mut line, first_bytes);
-            put_where(&mut line, descsz > SHOWN_DESCRIPTOR, b"\\+");
+            put(&mut line, digits);
+            put_where(&mut line, has_more, b"\\+");
             put(&mut line, b"\n");
         }
         Format::Object => {
-            put(&mut line, b"\"");
-            put_where(&mut line, is_cut, b",\"cut\":true");
-            put(&mut line, b",\"descriptor\":\"");
-            put_bytes(&mut line, first_bytes);
-            put(&mut line, b"\"}\n");
+            put_text::<Object>(&mut line, b"descriptor", 0, digits, b'\n');
+            put_closing::<Object>(&mut line);
         }
     }
     line
-}
-
-/// Puts bytes in hexadecimal, two digits each.
-fn put_bytes(line: &mut Line, bytes: &[u8])
-    requires room { array_vec_len line.old + 64 ≤ 256 }
-    requires few { length bytes.now ≤ 32 }
-    ensures items { line.new.items ≡ line.old.items ++ hex_bytes bytes.now }
-    ensures len { array_vec_len line.new ≡ array_vec_len line.old + 2 * length bytes.now }
-{
-    let mut digits = [0; 64];
-    let text = &mut digits[..2 * bytes.len()];
-    encode_to_slice(bytes, text).unwrap();
-    put(line, text);
 }

@@ -4,14 +4,13 @@ ghost use Rattle.elf_model.specs.Text.{name_of};
 ghost use Rattle.elf_model.specs.NameTables.{relocation_names, relocation_types};
 ghost use Rattle.elf_model.specs.LineFronts.{relocation_front};
 ghost use Rattle.elf_record.specs.Rela.{IsRela};
-ghost use Rattle.elf_lines.specs.Fronts.{front_of};
+ghost use Rattle.elf_fields.specs.Fronts.{front_of};
 
-use crate::fields::{
-    LineFront, begin_named, put_half, put_hexadecimal, put_name_or_sign, put_signed,
-};
 use crate::name_tables::name_of_either;
 use crate::naming::NumberNaming;
-use crate::render::Render;
+use elf_fields::{
+    LineFront, Render, begin_named, put_half, put_hexadecimal, put_name_or_sign, put_signed,
+};
 use elf_record::Rela;
 use elf_record::gnu_numbers::{
     R_X86_64_DTPMOD64, R_X86_64_DTPOFF32, R_X86_64_DTPOFF64, R_X86_64_GNU_VTENTRY,

@@ -7,13 +7,14 @@ ghost use Rattle.elf_lines.specs.Tables.{letters};
 ghost use Rattle.elf_model.specs.NameTables.{section_flags, section_flags_text, section_types};
 ghost use Rattle.elf_model.specs.LineFronts.{section_front};
 ghost use Rattle.elf_record.specs.Shdr.{IsShdr};
-ghost use Rattle.elf_lines.specs.Fronts.{front_of};
+ghost use Rattle.elf_fields.specs.Fronts.{front_of};
 
-use crate::columns::{Line, put_where};
-use crate::fields::{LineFront, begin_named, put_half, put_hexadecimal, put_name_or_hex, put_text};
 use crate::name_tables::name_of_either;
 use crate::naming::NumberNaming;
-use crate::render::Render;
+use elf_fields::{
+    Line, LineFront, Render, begin_named, put_half, put_hexadecimal, put_name_or_hex, put_text,
+    put_where,
+};
 use elf_record::gnu_numbers::{
     SHF_EXCLUDE, SHF_GNU_MBIND, SHF_GNU_RETAIN, SHF_X86_64_LARGE, SHT_GNU_ATTRIBUTES, SHT_GNU_HASH,
     SHT_GNU_LIBLIST, SHT_GNU_VERDEF, SHT_GNU_VERNEED, SHT_GNU_VERSYM, SHT_RELR, SHT_X86_64_UNWIND,

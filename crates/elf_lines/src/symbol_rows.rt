@@ -8,16 +8,15 @@ ghost use Rattle.elf_model.specs.LineFronts.{symbol_front};
 ghost use Rattle.elf_model.specs.Lines.{named_line};
 ghost use Rattle.elf_model.specs.Names.Shown.{Whole};
 ghost use Rattle.elf_record.specs.Sym.{IsSym};
-ghost use Rattle.elf_lines.specs.Fronts.{front_of};
+ghost use Rattle.elf_fields.specs.Fronts.{front_of};
 ghost use Rattle.elf_source.specs.Output.{OutFails, Puts};
 
-use crate::fields::{
-    LineFront, begin_named, put_decimal, put_half, put_hexadecimal, put_name_or_decimal,
-};
 use crate::name_tables::{name_of, name_of_either};
-use crate::named::show_named;
 use crate::naming::NumberNaming;
-use crate::render::{Columns, Object, Render};
+use elf_fields::{
+    Columns, LineFront, Object, Render, begin_named, put_decimal, put_half, put_hexadecimal,
+    put_name_or_decimal, show_named,
+};
 use elf_model::Format;
 use elf_record::Sym;
 use elf_record::gnu_numbers::{SHN_X86_64_LCOMMON, STB_GNU_UNIQUE, STT_GNU_IFUNC};

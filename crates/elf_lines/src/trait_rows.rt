@@ -1,24 +1,21 @@
 //! The lines of files' traits.
 ghost use Rattle.std.specs.Prelude.{◌≡◌, ◌+◌, ◌≤◌, length};
 ghost use Rattle.arrayvec.specs.ArrayVec.{array_vec_len};
-ghost use Rattle.elf_model.specs.TraitWords.{lacking_line, trait_front, trait_line};
+ghost use Rattle.elf_model.specs.TraitWords.{canary_word, cet_word, column_name, column_word, fortify_word, kind_word, lacking_line};
+ghost use Rattle.elf_model.specs.TraitWords.{pages_word, path_word, relro_word, stack_word, text_word, trait_front, trait_line};
 ghost use Rattle.elf_model.specs.Fields.{with_field};
 ghost use Rattle.elf_model.specs.Fields.Field.{Word};
 ghost use Rattle.elf_model.specs.Text.{space};
-ghost use Rattle.elf_lines.specs.Fronts.{front_of};
-ghost use Rattle.elf_lines.specs.Rooms.{text_room};
+ghost use Rattle.elf_fields.specs.Fronts.{front_of};
+ghost use Rattle.elf_fields.specs.Rooms.{text_room};
 ghost use Rattle.elf_source.specs.Output.{Puts};
 
-use crate::columns::{Line, line_of, put};
-use crate::fields::{LineFront, begin, begin_named, put_closing, put_text};
-use crate::named::show_named;
-use crate::render::{Columns, Object, Render};
-use elf_model::{Format, TraitColumn, Traits};
-use elf_source::{Out, OutFault, Sink};
-use elf_trait_words::{
-    canary_word, cet_word, column_name, column_word, fortify_word, kind_word, pages_word,
-    path_word, relro_word, stack_word, text_word,
+use elf_fields::{
+    Columns, Line, LineFront, Object, Render, begin, begin_named, line_of, put, put_closing,
+    put_text, show_named,
 };
+use elf_model::{Format, ProgramKind, Relro, SearchPath, SegmentTraits, TraitColumn, Traits};
+use elf_source::{Out, OutFault, Sink};
 
 /// Writes the `T` line of a file: its traits in columns, and its path, spelt as names are.
 ///
@@ -102,4 +99,147 @@ fn lacking_row<R: Render>(traits: Traits, column: TraitColumn) -> Line
     put_text::<R>(&mut line, b"trait", 0, &text, b'\n');
     put_closing::<R>(&mut line);
     line
+}
+
+/// The word of a file's traits in a column.
+#[tactic(auto, unfolding(elf_model::specs::TraitWords::column_word))]
+pub fn column_word(traits: Traits, column: TraitColumn) -> &'static str
+    ensures word { result.now ≡ column_word traits column }
+    ensures short { length result.now ≤ 9 }
+{
+    match column {
+        TraitColumn::Kind => kind_word(traits.kind),
+        TraitColumn::Relro => relro_word(traits.segments),
+        TraitColumn::Stack => stack_word(traits.segments),
+        TraitColumn::Pages => pages_word(traits.segments),
+        TraitColumn::Text => text_word(traits.segments),
+        TraitColumn::Cet => cet_word(traits.ibt, traits.shstk),
+        TraitColumn::Canary => canary_word(traits.canary),
+        TraitColumn::Fortify => fortify_word(traits.fortify),
+        TraitColumn::Path => path_word(traits.path),
+    }
+}
+
+/// The name of a column.
+#[tactic(auto, unfolding(elf_model::specs::TraitWords::column_name))]
+pub fn column_name(column: TraitColumn) -> &'static str
+    ensures word { result.now ≡ column_name column }
+    ensures short { length result.now ≤ 7 }
+{
+    match column {
+        TraitColumn::Kind => "kind",
+        TraitColumn::Relro => "relro",
+        TraitColumn::Stack => "stack",
+        TraitColumn::Pages => "pages",
+        TraitColumn::Text => "text",
+        TraitColumn::Cet => "cet",
+        TraitColumn::Canary => "canary",
+        TraitColumn::Fortify => "fortify",
+        TraitColumn::Path => "path",
+    }
+}
+
+#[tactic(auto, unfolding(elf_model::specs::TraitWords::kind_word))]
+fn kind_word(kind: ProgramKind) -> &'static str
+    ensures word { result.now ≡ kind_word kind }
+    ensures short { length result.now ≤ 6 }
+{
+    match kind {
+        ProgramKind::Exec => "exec",
+        ProgramKind::Pie => "pie",
+        ProgramKind::Static => "static",
+        ProgramKind::Lib => "lib",
+        ProgramKind::Object => "object",
+        ProgramKind::Core => "core",
+        ProgramKind::Other => "other",
+    }
+}
+
+#[tactic(auto, unfolding(elf_model::specs::TraitWords::relro_word, elf_model::specs::TraitWords::relro_text))]
+fn relro_word(segments: Option<SegmentTraits>) -> &'static str
+    ensures word { result.now ≡ relro_word segments }
+    ensures short { length result.now ≤ 7 }
+{
+    match segments {
+        None => "-",
+        Some(told) => match told.relro {
+            Relro::Full => "full",
+            Relro::Partial => "partial",
+            Relro::Absent => "none",
+        },
+    }
+}
+
+#[tactic(auto, unfolding(elf_model::specs::TraitWords::stack_word))]
+fn stack_word(segments: Option<SegmentTraits>) -> &'static str
+    ensures word { result.now ≡ stack_word segments }
+    ensures short { length result.now ≤ 4 }
+{
+    match segments {
+        None => "-",
+        Some(told) => { if told.stack_executable { "exec" } else { "nx" } }
+    }
+}
+
+#[tactic(auto, unfolding(elf_model::specs::TraitWords::pages_word))]
+fn pages_word(segments: Option<SegmentTraits>) -> &'static str
+    ensures word { result.now ≡ pages_word segments }
+    ensures short { length result.now ≤ 3 }
+{
+    match segments {
+        None => "-",
+        Some(told) => { if told.pages_writable { "wx" } else { "w^x" } }
+    }
+}
+
+#[tactic(auto, unfolding(elf_model::specs::TraitWords::text_word))]
+fn text_word(segments: Option<SegmentTraits>) -> &'static str
+    ensures word { result.now ≡ text_word segments }
+    ensures short { length result.now ≤ 5 }
+{
+    match segments {
+        None => "-",
+        Some(told) => { if told.text_patched { "patch" } else { "fixed" } }
+    }
+}
+
+#[tactic(auto, unfolding(elf_model::specs::TraitWords::cet_word))]
+fn cet_word(ibt: bool, shstk: bool) -> &'static str
+    ensures word { result.now ≡ cet_word ibt shstk }
+    ensures short { length result.now ≤ 9 }
+{
+    match (ibt, shstk) {
+        (true, true) => "ibt+shstk",
+        (true, false) => "ibt",
+        (false, true) => "shstk",
+        (false, false) => "-",
+    }
+}
+
+#[tactic(auto, unfolding(elf_model::specs::TraitWords::canary_word))]
+fn canary_word(canary: bool) -> &'static str
+    ensures word { result.now ≡ canary_word canary }
+    ensures short { length result.now ≤ 6 }
+{
+    if canary { "canary" } else { "-" }
+}
+
+#[tactic(auto, unfolding(elf_model::specs::TraitWords::fortify_word))]
+fn fortify_word(fortify: bool) -> &'static str
+    ensures word { result.now ≡ fortify_word fortify }
+    ensures short { length result.now ≤ 7 }
+{
+    if fortify { "fortify" } else { "-" }
+}
+
+#[tactic(auto, unfolding(elf_model::specs::TraitWords::path_word))]
+fn path_word(path: SearchPath) -> &'static str
+    ensures word { result.now ≡ path_word path }
+    ensures short { length result.now ≤ 7 }
+{
+    match path {
+        SearchPath::Runpath => "runpath",
+        SearchPath::Rpath => "rpath",
+        SearchPath::Absent => "-",
+    }
 }

@@ -1,10 +1,12 @@
 //! The lines of symbol versions.
 ghost use Rattle.std.specs.Prelude.{◌≡◌, ◌≤◌, if◌then◌else◌, codes, length};
-ghost use Rattle.elf_lines.specs.Fronts.{front_of};
+ghost use Rattle.elf_fields.specs.Fronts.{front_of};
 ghost use Rattle.elf_model.specs.VersionRows.{kind_text, version_front, symbol_version_front};
 
-use crate::fields::{LineFront, begin_named, put_decimal, put_half, put_hexadecimal, put_text};
-use crate::render::{Columns, Object, Render};
+use elf_fields::{
+    Columns, LineFront, Object, Render, begin_named, put_decimal, put_half, put_hexadecimal,
+    put_text,
+};
 use elf_model::Format;
 use elf_record::VersionKind;
 

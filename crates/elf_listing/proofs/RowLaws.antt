@@ -12,7 +12,7 @@ use Rattle.elf_model.specs.Fields.{LineFront}
 use Rattle.elf_model.specs.Rows.{segment_row, symbol_row, named_row, symbol_named, relocation_row}
 use Rattle.elf_model.specs.declared.causes.Refusal.{Refusal}
 use Rattle.elf_model.specs.declared.causes.Cause.{Cause}
-use Rattle.elf_lines.specs.Pieces.{shown_as}
+use Rattle.elf_fields.specs.Named.{shown_as}
 use Rattle.elf_source.specs.Output.{Written, Takes, TakesFront}
 use Rattle.elf_source.proofs.PutsLaws.{Takes-nothing}
 use Rattle.elf_headers.specs.Faults.{IsOfRead}

@@ -1,6 +1,6 @@
 //! The row of a table, shown.
 ghost use Rattle.std.specs.Prelude.{◌≡◌, ◌≤◌, length};
-ghost use Rattle.elf_lines.specs.Fronts.{front_of};
+ghost use Rattle.elf_fields.specs.Fronts.{front_of};
 ghost use Rattle.elf_listing.specs.Kinds.{ListsRow, RowFits};
 ghost use Rattle.elf_listing.specs.Shows.{ListsLine, cut_of};
 ghost use Rattle.elf_listing.specs.declared.rows.ListedAs.TheVariants.{Segments, Symbols};

@@ -1,13 +1,1 @@
 pub mod StateLaws
-pub mod AllNamesLaws
-pub mod AscendLaws
-pub mod OrderLaws
-pub mod PassLaws
-pub mod MemberLaws
-pub mod FrontLaws
-pub mod HeldLaws
-pub mod RoomLaws
-pub mod SortedLaws
-pub mod StackedLaws
-pub mod EntryLaws
-pub mod GatherLaws

@@ -1,108 +1,42 @@
--- The state of a file, by what is known of its listing.
-use Rattle.elf_model.specs.Style.{Style}
-use Rattle.elf_headers.specs.Permitted.{style_of}
-use Rattle.std.proofs.Common.{◌≡◌, ℕ, ◌<◌, ◌≤◌, Bool, true, false, not, if◌then◌else◌, List, length, Option, None, Some, inl, refl, sym, ap, ◌∙◌, nat_lt, arith, ◌^◌}
-use Rattle.std.specs.Prelude.{Ok, Err}
+-- The state of a file that is too short, or refused.
+use Rattle.std.proofs.Common.{◌≡◌, ℕ, ◌<◌, ◌≤◌, Bool, true, false, not, if◌then◌else◌, List, length, Option, None, Some, refl, sym, ap, ◌∙◌, nat_lt, arith}
 use Rattle.std.proofs.lemmas.Bool.Decides.{nat_tests}
-use Rattle.elf_model.specs.Budget.{IsBudgeted}
-use Rattle.elf_model.specs.Checking.{IsStateOf, is_not_elf, permits_magic, state_of}
-use Rattle.elf_model.specs.Checks.{first_refusal, header_checks}
-use Rattle.elf_model.specs.Listing.{report_of}
+use Rattle.elf_model.specs.Checking.{is_not_elf, permits_magic, state_of}
 use Rattle.elf_model.specs.Records.{begins_as_elf}
-use Rattle.elf_model.specs.Report.{listing}
 use Rattle.elf_model.specs.declared.causes.Cause.TheVariants.{Short}
 use Rattle.elf_model.specs.declared.causes.Refusal.{Refusal}
 use Rattle.elf_model.specs.declared.states.FileState.{FileState}
 use Rattle.elf_model.specs.declared.states.FileState.TheVariants as state
-use Rattle.elf_model.proofs.ListingLemmas.{header_fault}
-use Rattle.elf_source.specs.Output.{Written}
 use Rattle.elf_source.specs.Source.{Seen}
-use Rattle.elf_headers.specs.declared.caps.Caps.{Caps}
-use Rattle.elf_headers.specs.declared.stop.Stop.TheVariants.{Refused as StopRefused}
-use Rattle.elf_listing.specs.Reports.{Reports}
-use Rattle.elf_many.specs.Checked.{FindsState}
-
--- the refusal of a file that is too short
-abbrev pub short_of : List ℕ → Refusal
-short_of file = record { at = length file; cause = Short }
-
-short_first : (file : List ℕ) → length file < 64 → first_refusal (header_checks file) ≡ Some (short_of file)
-short_first file short =
-    let below : nat_lt (length file) (2 ^ 63) ≡ true = grind (arith, nat_tests) in
-    let few : nat_lt (length file) 64 ≡ true = grind (arith, nat_tests) in
-    rw (below, few) refl
-
-reported : (budget : Option ℕ) (file : List ℕ) (headers : ℕ) (style : Style) (parts : ℕ) (refusal : Refusal) → first_refusal (header_checks file) ≡ Some refusal
-    → IsBudgeted budget file headers style parts (report_of style.format (listing file headers style parts)) (Some refusal)
-reported None file headers style parts refusal first = record { text_is = refl; fault_is = sym (header_fault file headers style parts refusal first).1 }
-reported (Some bytes) file headers style parts refusal first = inl record { text_is = refl; fault_is = sym (header_fault file headers style parts refusal first).1 }
-
--- the state of a short file
-short_state : (budget : Option ℕ) (file : List ℕ) (headers : ℕ) (style : Style) (parts : ℕ) (found : FileState) → length file < 64
-    → found ≡ state_of budget file (Some (short_of file)) → IsStateOf budget file headers style parts found
-short_state budget file headers style parts found short is = record {
-  text = report_of style.format (listing file headers style parts);
-  fault = Some (short_of file);
-  listed = reported budget file headers style parts (short_of file) (short_first file short);
-  state_is = is;
-}
+use Rattle.elf_many.specs.Checked.{short_refusal}
 
 -- the length that is asked for is the file's
 pub length_is : (was now : Seen) (file : List ℕ) (at : ℕ) → now ≡ was → was.file ≡ Some file → at ≡ now.size → length file ≡ at
 length_is was now file at same held is = let sized = was.sized file held in let size = ap (λ (seen : Seen). seen.size) same in omega (arith, sized, size, is)
 
-pub tiny : (budget : Option ℕ) (file : List ℕ) (headers : ℕ) (style : Style) (parts : ℕ) → length file < 4 → IsStateOf budget file headers style parts state.NoElf
-tiny budget file headers style parts small =
+pub tiny : (budget : Option ℕ) (file : List ℕ) → length file < 4 → state.NoElf ≡ state_of budget file (Some (short_refusal file))
+tiny budget file small =
     let four : nat_lt (length file) 4 ≡ true = grind (arith, nat_tests) in
     let few : nat_lt (length file) 64 ≡ true = grind (arith, nat_tests) in
-    short_state budget file headers style parts state.NoElf (omega arith) (rw (few, four) refl)
+    rw (few, four) refl
 
-pub unlooked : (budget : Option ℕ) (file : List ℕ) (headers : ℕ) (style : Style) (parts at : ℕ) → length file ≡ at → 4 ≤ at → at < 64 → permits_magic budget ≡ false
-    → IsStateOf budget file headers style parts (state.Refused record { at = at; cause = Short })
-unlooked budget file headers style parts at is most short none =
+pub unlooked : (budget : Option ℕ) (file : List ℕ) (at : ℕ) → length file ≡ at → 4 ≤ at → at < 64 → permits_magic budget ≡ false
+    → state.Refused (record { at = at; cause = Short }) ≡ state_of budget file (Some (short_refusal file))
+unlooked budget file at is most short none =
     let four : nat_lt (length file) 4 ≡ false = grind (arith, nat_tests) in
     let few : nat_lt (length file) 64 ≡ true = grind (arith, nat_tests) in
-    short_state budget file headers style parts _ (omega arith) (rw (few, four, none) (ap (λ n. state.Refused (record { at = n; cause = Short })) (sym is)))
+    rw (few, four, none) (ap (λ n. state.Refused (record { at = n; cause = Short })) (sym is))
 
-pub looked : (budget : Option ℕ) (file : List ℕ) (headers : ℕ) (style : Style) (parts at : ℕ) (begins : Bool) → length file ≡ at → 4 ≤ at → at < 64 → permits_magic budget ≡ true
-    → begins ≡ begins_as_elf file → IsStateOf budget file headers style parts (if not begins then state.NoElf else state.Refused record { at = at; cause = Short })
-looked budget file headers style parts at begins is most short some told =
+pub looked : (budget : Option ℕ) (file : List ℕ) (at : ℕ) (begins : Bool) → length file ≡ at → 4 ≤ at → at < 64 → permits_magic budget ≡ true
+    → begins ≡ begins_as_elf file
+    → (if not begins then state.NoElf else state.Refused record { at = at; cause = Short }) ≡ state_of budget file (Some (short_refusal file))
+looked budget file at begins is most short some told =
     let four : nat_lt (length file) 4 ≡ false = grind (arith, nat_tests) in
     let few : nat_lt (length file) 64 ≡ true = grind (arith, nat_tests) in
-    short_state budget file headers style parts _ (omega arith) (rw (few, four, some, ← told) (ap (λ n. if not begins then state.NoElf else state.Refused (record { at = n; cause = Short })) (sym is)))
+    rw (few, four, some, ← told) (ap (λ n. if not begins then state.NoElf else state.Refused (record { at = n; cause = Short })) (sym is))
 
--- a listing that came to its end
-pub ended : {X : Type 0} (file : List ℕ) (caps : Caps) (parts : ℕ) (old new : Written) (x : X) → Reports file caps parts old new (Ok x)
-    → IsStateOf caps.limits.budget file caps.limits.headers (style_of caps.style) parts state.Ok
-ended file caps parts old new x reports = record {
-  text = reports.text;
-  fault = reports.fault;
-  listed = reports.listed;
-  state_is = ap (state_of caps.limits.budget file) reports.wrote.1;
-}
-
-judged_long : (budget : Option ℕ) (file : List ℕ) (refusal : Refusal) → 64 ≤ length file
+pub judged_long : (budget : Option ℕ) (file : List ℕ) (refusal : Refusal) → 64 ≤ length file
     → (if is_not_elf refusal.cause then state.NoElf else state.Refused refusal) ≡ state_of budget file (Some refusal)
 judged_long budget file refusal long =
     let few : nat_lt (length file) 64 ≡ false = grind (arith, nat_tests) in
     rw few refl
-
--- a listing that was refused, of a file that has room for a file header
-pub refused : {X : Type 0} (file : List ℕ) (caps : Caps) (parts : ℕ) (old new : Written) (refusal : Refusal) (found : FileState) → 64 ≤ length file
-    → Reports {X = X} file caps parts old new (Err (StopRefused refusal)) → found ≡ (if is_not_elf refusal.cause then state.NoElf else state.Refused refusal)
-    → IsStateOf caps.limits.budget file caps.limits.headers (style_of caps.style) parts found
-refused file caps parts old new refusal found long reports is = record {
-  text = reports.text;
-  fault = reports.fault;
-  listed = reports.listed;
-  state_is = is ∙ (judged_long caps.limits.budget file refusal long ∙ ap (state_of caps.limits.budget file) reports.wrote.1);
-}
-
--- a state that is that of the listing is found
-pub finds : (caps : Caps) (parts : ℕ) (file : List ℕ) (found : FileState)
-    → IsStateOf caps.limits.budget file caps.limits.headers (style_of caps.style) parts found → FindsState caps parts file found
-finds caps parts file state.Ok is = is
-finds caps parts file (state.Refused refusal) is = is
-finds caps parts file state.NoElf is = is
-finds caps parts file state.Unread is = tt
-finds caps parts file state.Memory is = is

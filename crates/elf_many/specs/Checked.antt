@@ -1,36 +1,23 @@
--- What the check of one file did.
-use Rattle.elf_model.specs.Style.{Style}
-use Rattle.elf_headers.specs.Permitted.{style_of}
-use Rattle.std.specs.Prelude.{ℕ, ◌+◌, ◌≤◌, ◌<◌, nat_lt, if◌then◌else◌, List, length, IfSome, ⊤}
-use Rattle.elf_model.specs.Checking.{IsStateOf}
-use Rattle.elf_model.specs.Cost.{ceiling, listing_cost}
-use Rattle.elf_model.specs.Records.{FILE_HEADER_SIZE, ELF_MAGIC_SIZE}
+-- The state of a file among many, where it is too short for a file header, or was not read.
+use Rattle.std.specs.Prelude.{ℕ, ◌≡◌, ◌<◌, List, length, Option, Some, ⊤}
+use Rattle.elf_model.specs.Checking.{state_of}
+use Rattle.elf_model.specs.declared.causes.Cause.TheVariants.{Short}
+use Rattle.elf_model.specs.declared.causes.Refusal.{Refusal}
 use Rattle.elf_model.specs.declared.states.FileState.{FileState}
 use Rattle.elf_model.specs.declared.states.FileState.TheVariants as state
 use Rattle.elf_source.specs.Source.{Counting, IsHonest}
-use Rattle.elf_headers.specs.declared.caps.Caps.{Caps}
 
--- THE STATE that is found of a file: that of its listing within the budget, unless a read failed
-abbrev pub FindsState : Caps → ℕ → List ℕ → FileState → Type 0
-FindsState caps parts file state.Unread = ⊤
-FindsState caps parts file found = IsStateOf caps.limits.budget file caps.limits.headers (style_of caps.style) parts found
+-- the refusal of a file that is too short for a file header
+abbrev pub short_refusal : List ℕ → Refusal
+short_refusal file = record { at = length file; cause = Short }
 
--- a file that was not read: a read of it failed, or its source isn't honest; a check takes no memory, so none is wanted
+-- the state that is found of such a file: that of this refusal within the budget, unless a read failed
+abbrev pub FindsShort : Option ℕ → List ℕ → FileState → Type 0
+FindsShort budget file state.Unread = ⊤
+FindsShort budget file found = found ≡ state_of budget file (Some (short_refusal file))
+
+-- a file that was not read: a read of it failed, or its source isn't honest; what is told of it takes no memory, so none is wanted
 abbrev pub FailsRead : Counting → Counting → FileState → Type 0
 FailsRead old new state.Unread = IsHonest new.seen → old.seen.failures < new.seen.failures
 FailsRead old new state.Memory = ⊥
 FailsRead old new _ = ⊤
-
--- what a file's check may ask for: of one that is too short for a file header its first bytes
-abbrev pub check_cost : List ℕ → ℕ → Style → ℕ → ℕ
-check_cost file headers style parts =
-    if nat_lt (length file) FILE_HEADER_SIZE then ELF_MAGIC_SIZE else listing_cost file headers style parts
-
--- the same of every source
-abbrev pub check_ceiling : ℕ → (headers cap : ℕ) → ℕ
-check_ceiling size headers cap = if nat_lt size FILE_HEADER_SIZE then ELF_MAGIC_SIZE else ceiling size headers cap
-
--- what is asked for, for every source: no more than the ceiling, and no more than the budget
-pub record AsksFor (caps : Caps) (old new : Counting) : Type 0 where
-  pub ceiling : new.asked ≤ old.asked + check_ceiling old.seen.size caps.limits.headers caps.style.cap.bytes
-  pub budget : IfSome caps.limits.budget (λ bytes. new.asked ≤ old.asked + bytes)

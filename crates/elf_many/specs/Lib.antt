@@ -1,12 +1,3 @@
 pub mod Checked
-pub mod Entries
-pub mod Gathered
-pub mod Held
-pub mod Joined
-pub mod Kept
-pub mod Order
-pub mod Pass
-pub mod Passes
-pub mod Stacked
 pub mod Statuses
 pub mod Telling

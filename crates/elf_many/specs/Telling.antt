@@ -1,44 +1,70 @@
 -- What is told of one file among many.
-use Rattle.std.specs.Prelude.{ℕ, ◌≡◌, List, max, Some, Result, OnOk, OnErr}
-use Rattle.elf_headers.specs.declared.caps.Caps.{Caps}
-use Rattle.elf_many.specs.Checked.{FailsRead, FindsState}
+use Rattle.std.specs.Prelude.{ℕ, ◌≡◌, ◌≤◌, ◌^◌, ◌⊎◌, false, List, max, Result, Ok, Err, OnOk, OnErr}
 use Rattle.elf_many.specs.Statuses.{state_status}
 use Rattle.elf_model.specs.Checking.{check_line}
+use Rattle.elf_model.specs.declared.formats.Format.{Format}
 use Rattle.elf_model.specs.declared.states.FileState.{FileState}
+use Rattle.elf_model.specs.declared.states.FileState.TheVariants.{Memory, Unread}
 use Rattle.elf_source.specs.Output.{Puts, Written}
+use Rattle.elf_source.specs.Ranges.{IsWholeRange}
 use Rattle.elf_source.specs.Source.{Counting}
 use Rattle.elf_source.specs.declared.faults.OutFault.{OutFault}
 
--- a check of many files: its output, what is asked for, the status so far, and how many paths could not be named
-pub record Tally : Type 0 where
+-- a source as it is when a file is opened: a range of all its bytes, of which nothing is hidden, and not much was asked
+pub record StandsWhole (c : Counting) : Type 0 where
+  pub whole : IsWholeRange c.seen
+  pub shows : c.hides ≡ false
+  pub few : c.asked ≤ 2 ^ 127
+
+-- many files: their output, how lines are written, by which rule each is told of, the status so far, and how many paths could not
+-- be named
+pub record Tally (A : Type 0) : Type 0 where
   pub out : Written
-  pub caps : Caps
-  pub parts : ℕ
+  pub format : Format
+  pub rule : A
   pub status : ℕ
   pub unnamed : ℕ
 
--- what is asked for stays
-pub record KeepsAsked (old new : Tally) : Type 0 where
-  pub caps : new.caps ≡ old.caps
-  pub parts : new.parts ≡ old.parts
+-- the rule stays
+pub record KeepsRule {A : Type 0} (old new : Tally A) : Type 0 where
+  pub format : new.format ≡ old.format
+  pub rule : new.rule ≡ old.rule
 
--- the line of one file, and the status that its state calls for; at a fault of the output the status stays
-pub record TellsLine {X : Type 0} (state : FileState) (path : List ℕ) (result : Result X OutFault) (old new : Tally) : Type 0 where
-  pub puts : Puts old.out new.out result (check_line old.caps.style.format state path)
+-- the line of one file in a state, and the status that its state calls for; at a fault of the output the status stays
+pub record TellsLine {A X : Type 0} (state : FileState) (path : List ℕ) (result : Result X OutFault) (old new : Tally A) : Type 0 where
+  pub puts : Puts old.out new.out result (check_line old.format state path)
   pub status : OnOk result (new.status ≡ max old.status (state_status state))
   pub stays : OnErr result (new.status ≡ old.status)
   pub unnamed : new.unnamed ≡ old.unnamed
-  pub asked : KeepsAsked old new
+  pub rule : KeepsRule old new
 
--- THE LINE of a file among many, by its source before and after: that of the state that its own listing has where the file
--- is known, unread only where a read failed; and the status is at least what this calls for
-pub record TellsOf {X : Type 0} (path : List ℕ) (before after : Counting) (result : Result X OutFault) (old new : Tally) : Type 0 where
+-- a file called for a status, of which the larger one is kept; at a fault of the output the status stays
+abbrev pub KeepsStatus : {X : Type 0} → Result ℕ OutFault → Result X OutFault → (old new : ℕ) → Type 0
+KeepsStatus (Ok status) (Ok x) old new = new ≡ max old status
+KeepsStatus (Err fault) (Err same) old new = (same ≡ fault) × (new ≡ old)
+KeepsStatus _ _ old new = ⊥
+
+-- WHAT IS TOLD OF A SOURCE among many, as `tells` has it of the output before and after and of the answer
+pub record TellsSource {A X : Type 0} (tells : Written → Written → Result ℕ OutFault → Type 0) (result : Result X OutFault) (old new : Tally A) : Type 0 where
+  pub answer : Result ℕ OutFault
+  pub told : tells old.out new.out answer
+  pub status : KeepsStatus answer result old.status new.status
+  pub unnamed : new.unnamed ≡ old.unnamed
+  pub rule : KeepsRule old new
+
+-- a file that can't be opened has the line of its state
+pub record TellsUnopenedFile {A X : Type 0} (path : List ℕ) (result : Result X OutFault) (old new : Tally A) : Type 0 where
   pub state : FileState
-  pub found : (file : List ℕ) → before.seen.file ≡ Some file → FindsState old.caps old.parts file state
-  pub read : FailsRead before after state
+  pub unopened : (state ≡ Unread) ⊎ (state ≡ Memory)
   pub tells : TellsLine state path result old new
 
--- what is told of a file by its path: one line, of a state
-pub record TellsFile {X : Type 0} (path : List ℕ) (result : Result X OutFault) (old new : Tally) : Type 0 where
-  pub state : FileState
-  pub tells : TellsLine state path result old new
+-- one that is opened is told by its source, of which nothing was asked before
+pub record TellsOpenFile {A X : Type 0} (tells : Counting → Counting → Written → Written → Result ℕ OutFault → Type 0) (result : Result X OutFault) (old new : Tally A) : Type 0 where
+  pub before : Counting
+  pub after : Counting
+  pub unasked : before.asked ≡ 0
+  pub source : TellsSource (tells before after) result old new
+
+-- WHAT IS TOLD OF A FILE by its path
+abbrev pub TellsFile : {A X : Type 0} → (List ℕ → Counting → Counting → Written → Written → Result ℕ OutFault → Type 0) → List ℕ → Result X OutFault → (old new : Tally A) → Type 0
+TellsFile tells path result old new = TellsUnopenedFile path result old new ⊎ TellsOpenFile (tells path) result old new

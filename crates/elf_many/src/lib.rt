@@ -1,33 +1,20 @@
-//! Many files checked one after another: the state of a file, with a store and buffers that are used
-//! again for the next; entries that end in NUL, paths, and the names in a folder in order, in memory of
-//! a fixed size; and each file's line.
+//! Many files told of one after another: paths, folders, and lists of entries that end in NUL; and what is
+//! done with each file, which is one trait.
 #![tactic(auto)]
 
-mod batch;
-mod checking;
-mod checks;
-mod entries;
-mod folders;
-mod laws;
+mod each_file;
 mod lists;
-mod names;
+mod many;
 mod opening;
-mod path;
 mod paths;
 mod short;
-mod stack;
 mod statuses;
 mod walk;
 
-pub use batch::{Batch, FolderName, Put};
-pub use checking::check;
-pub use checks::Checks;
-pub use entries::{ends_at, entry_end};
-pub use laws::{all_names, entry_is_found, last_is_found, order_ascends, pass_keeps};
-pub use lists::{ListFault, check_list};
-pub use names::{FOLDER_NAME_BYTES, FolderNames, KEPT_BYTES, KEPT_NAMES};
-pub use path::{PATH_BYTES, PathText, join};
-pub use paths::check_path;
-pub use stack::{STACK_BYTES, Stack, count_within};
-pub use statuses::{status, worse};
+pub use each_file::EachFile;
+pub use lists::{ListFault, visit_list};
+pub use many::Many;
+pub use paths::visit_path;
+pub use short::{refused_state, short_state};
+pub use statuses::status;
 pub use walk::{DEPTH, FolderWalk};

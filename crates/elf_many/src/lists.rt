@@ -1,8 +1,9 @@
 //! A list of paths, each ended by NUL.
-use crate::checks::Checks;
-use crate::entries::entry_end;
-use crate::paths::check_path;
+use crate::each_file::EachFile;
+use crate::many::Many;
+use crate::paths::visit_path;
 use crate::walk::FolderWalk;
+use elf_folder::entry_end;
 use elf_source::{OutFault, Sink};
 use std::io::{ErrorKind, Read, Write};
 use std::os::unix::fs::FileExt;
@@ -27,15 +28,15 @@ enum Place {
     TooLong,
 }
 
-/// Checks the files and folders whose paths a list has, each ended by NUL; the last one may end with
+/// Tells of the files and folders whose paths a list has, each ended by NUL; the last one may end with
 /// the list. An entry that is not UTF-8, or longer than `room`, can't be named. `room` is where
 /// entries are read.
 ///
 /// # Errors
-/// Where the list can't be read, or the output failed: the paths before were checked.
-pub fn check_list<R: Files, W: Sink, E: Write + Drop, I: Read>(
+/// Where the list can't be read, or the output failed: the paths before were told of.
+pub fn visit_list<R: Files, W: Sink, E: Write + Drop, A: EachFile + Drop, I: Read>(
     rt: &R,
-    checks: &mut Checks<'_, W, E>,
+    many: &mut Many<W, E, A>,
     walk: &mut FolderWalk,
     list: &mut I,
     room: &mut [u8],
@@ -54,14 +55,14 @@ where
             Err(_) => return Err(ListFault::Read),
         };
         let end = start.saturating_add(count).min(room.len());
-        let used = check_entries(rt, checks, walk, &room[..end], &mut place)?;
+        let used = visit_entries(rt, many, walk, &room[..end], &mut place)?;
         held = keep_rest(room, used, end);
         if held == room.len() {
             place = Place::TooLong;
             held = 0;
         }
     }
-    check_last(rt, checks, walk, &room[..held.min(room.len())], place)
+    visit_last(rt, many, walk, &room[..held.min(room.len())], place)
 }
 
 /// Moves what is left of an entry to the front, and answers how many bytes that are.
@@ -71,10 +72,10 @@ fn keep_rest(room: &mut [u8], used: usize, end: usize) -> usize {
     end - used
 }
 
-/// Checks the entries that are whole, and answers how many bytes they have.
-fn check_entries<R: Files, W: Sink, E: Write + Drop>(
+/// Tells of the entries that are whole, and answers how many bytes they have.
+fn visit_entries<R: Files, W: Sink, E: Write + Drop, A: EachFile + Drop>(
     rt: &R,
-    checks: &mut Checks<'_, W, E>,
+    many: &mut Many<W, E, A>,
     walk: &mut FolderWalk,
     bytes: &[u8],
     place: &mut Place,
@@ -88,17 +89,17 @@ where
             return Ok(at);
         };
         let end = at + len;
-        check_entry(rt, checks, walk, &bytes[at..end], *place)?;
+        visit_entry(rt, many, walk, &bytes[at..end], *place)?;
         *place = Place::Entry;
         at = end + 1;
     }
     Ok(at)
 }
 
-/// Checks what is left behind the last NUL.
-fn check_last<R: Files, W: Sink, E: Write + Drop>(
+/// Tells of what is left behind the last NUL.
+fn visit_last<R: Files, W: Sink, E: Write + Drop, A: EachFile + Drop>(
     rt: &R,
-    checks: &mut Checks<'_, W, E>,
+    many: &mut Many<W, E, A>,
     walk: &mut FolderWalk,
     rest: &[u8],
     place: Place,
@@ -109,13 +110,13 @@ where
     if rest.is_empty() && place == Place::Entry {
         return Ok(());
     }
-    check_entry(rt, checks, walk, rest, place)
+    visit_entry(rt, many, walk, rest, place)
 }
 
-/// Checks the path that an entry has.
-fn check_entry<R: Files, W: Sink, E: Write + Drop>(
+/// Tells of the path that an entry has.
+fn visit_entry<R: Files, W: Sink, E: Write + Drop, A: EachFile + Drop>(
     rt: &R,
-    checks: &mut Checks<'_, W, E>,
+    many: &mut Many<W, E, A>,
     walk: &mut FolderWalk,
     entry: &[u8],
     place: Place,
@@ -125,10 +126,10 @@ where
 {
     match str::from_utf8(entry) {
         Ok(path) if place == Place::Entry => {
-            check_path(rt, checks, walk, path).map_err(ListFault::Out)
+            visit_path(rt, many, walk, path).map_err(ListFault::Out)
         }
         _ => {
-            checks.count_unnamed(1);
+            many.count_unnamed(1);
             Ok(())
         }
     }

@@ -1,44 +1,36 @@
-//! One file, opened and checked.
-ghost use Rattle.std.specs.Prelude.{◌≡◌};
-ghost use Rattle.elf_many.specs.Telling.{TellsFile};
+//! One file, opened and told of.
+ghost use Rattle.std.specs.Prelude.{◌≡◌, ◌⊎◌, IfErr};
+ghost use Rattle.elf_many.specs.Telling.{StandsWhole, TellsFile};
 ghost use Rattle.elf_model.specs.declared.states.FileState.TheVariants.{Memory, Unread};
-ghost use Rattle.std.specs.IoError.{error_kind};
 
-use crate::checks::Checks;
+use crate::each_file::EachFile;
+use crate::many::Many;
+use elf_folder::unopened;
 use elf_model::FileState;
-use elf_source::{Counted, OffsetReader, OutFault, Sink, StreamSource, opened_path};
+use elf_source::{
+    Counted, OffsetReader, OutFault, RangeSource, Sink, Source, StreamSource, opened_path,
+};
 use std::fs;
-use std::io::{Error, ErrorKind, Write};
+use std::io::Write;
 use std::os::unix::fs::FileExt;
 use std::rt::Files;
 
-/// The state of a path that can't be looked at or opened: want of memory is told as that.
-pub(crate) fn unopened(error: &Error) -> FileState
-    ensures memory { error_kind error.now ≡ ErrorKind.OutOfMemory → result ≡ Memory }
-    ensures unread { (error_kind error.now ≡ ErrorKind.OutOfMemory → ⊥) → result ≡ Unread }
-{
-    if error.kind() == ErrorKind::OutOfMemory {
-        return FileState::Memory;
-    }
-    FileState::Unread
-}
-
-/// Checks the file at a path, and writes its line.
+/// Opens the file at a path, and tells of it.
 ///
 /// # Errors
 /// A fault of the output.
-pub(crate) fn check_file<R: Files, W: Sink, E: Write + Drop>(
+pub(crate) fn visit_file<R: Files, W: Sink, E: Write + Drop, A: EachFile + Drop>(
     rt: &R,
-    checks: &mut Checks<'_, W, E>,
+    many: &mut Many<W, E, A>,
     path: &str,
 ) -> Result<(), OutFault>
 where
     R::File: FileExt,
-    ensures { TellsFile path.now result checks.old checks.new }
+    ensures { TellsFile (A.tells many.old.rule) path.now result many.old many.new }
 {
     match open(rt, path) {
-        Ok(source) => checks.check_source(&mut Counted::new(source), path.as_bytes()),
-        Err(state) => checks.tell(state, path.as_bytes()),
+        Ok(source) => many.tell_source(&mut whole(source), path.as_bytes()),
+        Err(state) => many.tell_state(state, path.as_bytes()),
     }
 }
 
@@ -49,9 +41,18 @@ where
 fn open<R: Files>(rt: &R, path: &str) -> Result<StreamSource<OffsetReader<R::File>>, FileState>
 where
     R::File: FileExt,
+    ensures { IfErr result (λ state. (state ≡ Unread) ⊎ (state ≡ Memory)) }
 {
     match fs::open(rt, opened_path(path)) {
         Ok(file) => StreamSource::over(OffsetReader::new(file)).map_err(|_| FileState::Unread),
         Err(error) => Err(unopened(&error)),
     }
+}
+
+/// A source as a file is told of by it: a range of all its bytes, of which nothing was asked.
+fn whole<S: Source>(source: S) -> Counted<RangeSource<S>>
+    ensures whole { StandsWhole result }
+    ensures unasked { result.asked ≡ 0 }
+{
+    Counted::new(RangeSource::new(source))
 }

@@ -1,12 +1,11 @@
-//! A file that is too short for a file header.
-ghost use Rattle.std.specs.Prelude.{◌≡◌, ◌+◌, ◌<◌, ◌≤◌, ◌^◌, ℕ, List, IfOk, IfErr, IfSome, Some, true};
-ghost use Rattle.elf_model.specs.Checking.{permits_magic};
+//! The state of a file that is too short for a file header, and of one that is refused.
+ghost use Rattle.std.specs.Prelude.{◌≡◌, ◌+◌, ◌<◌, ◌≤◌, ◌^◌, ℕ, List, IfOk, IfErr, IfSome, None, Some, true, if◌then◌else◌};
+ghost use Rattle.elf_model.specs.Checking.{is_not_elf, permits_magic};
 ghost use Rattle.elf_model.specs.Records.{begins_as_elf};
-ghost use Rattle.elf_source.specs.Source.{Faults, Fills};
-ghost use Rattle.elf_many.specs.Checked.{FailsRead, FindsState};
-ghost use Rattle.elf_listing.specs.Reports.{Leaves};
+ghost use Rattle.elf_model.specs.declared.states.FileState.TheVariants.{NoElf, Refused};
+ghost use Rattle.elf_source.specs.Source.{Faults, Fills, Keeps};
+ghost use Rattle.elf_many.specs.Checked.{FailsRead, FindsShort};
 
-use elf_headers::Caps;
 use elf_model::{Cause, FileState, Refusal};
 use elf_record::word;
 use elf_source::{Counted, Source, SourceFault};
@@ -17,17 +16,18 @@ const MAGIC: u32 = 0x464c_457f;
 /// How many bytes the magic number has.
 const MAGIC_BYTES: u64 = 4;
 
-/// Checks a file with fewer bytes than a file header: by one read of its first four, where it has
-/// four and the budget has them too.
-pub(crate) fn check_short<S: Source>(src: &mut Counted<S>, caps: Caps) -> FileState
+/// The state of a file with fewer bytes than a file header: by one read of its first four, where it has
+/// four and the budget has them too. Afterwards no limit is set.
+pub fn short_state<S: Source>(src: &mut Counted<S>, budget: Option<u64>) -> FileState
     requires short { src.old.seen.size < 64 }
     requires few { src.old.asked ≤ 2 ^ 127 }
-    ensures leaves { Leaves src.old src.new }
+    ensures keeps { Keeps src.old.seen src.new.seen }
+    ensures free { src.new.most ≡ None }
     ensures read { FailsRead src.old src.new result }
     ensures asks { src.new.asked ≤ src.old.asked + 4 }
-    ensures budget { IfSome caps.limits.budget (λ bytes. src.new.asked ≤ src.old.asked + bytes) }
-    ensures state { (file : List ℕ) (parts : ℕ) → src.old.seen.file ≡ Some file →
-        FindsState caps parts file result }
+    ensures within { IfSome budget (λ bytes. src.new.asked ≤ src.old.asked + bytes) }
+    ensures state { (file : List ℕ) → src.old.seen.file ≡ Some file →
+        FindsShort budget file result }
 {
     src.limit(None);
     let at = src.length();
@@ -38,7 +38,7 @@ pub(crate) fn check_short<S: Source>(src: &mut Counted<S>, caps: Caps) -> FileSt
         at,
         cause: Cause::Short,
     };
-    if !permits_magic(caps.limits.budget) {
+    if !permits_magic(budget) {
         return FileState::Refused(short);
     }
     let begins = begins_as_elf(src);
@@ -75,4 +75,14 @@ fn begins_as_elf<S: Source>(src: &mut Counted<S>) -> Result<bool, SourceFault>
     let mut bytes = [0; 4];
     src.fill(0, &mut bytes)?;
     Ok(word(&bytes) == MAGIC)
+}
+
+/// The state of a file that has room for a file header, by its refusal.
+pub fn refused_state(refusal: Refusal) -> FileState
+    ensures { result ≡ (if is_not_elf refusal.cause then NoElf else Refused refusal) }
+{
+    match refusal.cause {
+        Cause::NotElf => FileState::NoElf,
+        _ => FileState::Refused(refusal),
+    }
 }

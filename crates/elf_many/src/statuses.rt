@@ -1,5 +1,5 @@
-//! The exit status of a check over many files.
-ghost use Rattle.std.specs.Prelude.{◌≡◌, max};
+//! The exit status that a file calls for.
+ghost use Rattle.std.specs.Prelude.{◌≡◌};
 ghost use Rattle.elf_many.specs.Statuses.{state_status};
 
 use elf_model::FileState;
@@ -14,11 +14,4 @@ pub fn status(state: FileState) -> u8
         FileState::Refused(_) => 1,
         FileState::Unread | FileState::Memory => 3,
     }
-}
-
-/// The exit status of a check, `status` so far, after one more file with this state: the larger one.
-pub fn worse(status_so_far: u8, state: FileState) -> u8
-    ensures { result ≡ max status_so_far (state_status state) }
-{
-    status_so_far.max(status(state))
 }

@@ -1,10 +1,10 @@
 //! Folders, gone through in the order of their names.
-use crate::batch::{Batch, FolderName};
-use crate::checks::Checks;
-use crate::folders::gather;
-use crate::opening::{check_file, unopened};
-use crate::path::{PathText, join};
-use crate::stack::{STACK_BYTES, Stack, count_within};
+use crate::each_file::EachFile;
+use crate::many::Many;
+use crate::opening::visit_file;
+use elf_folder::{
+    Batch, FolderName, PathText, STACK_BYTES, Stack, count_within, gather, join, unopened,
+};
 use elf_model::FileState;
 use elf_source::{OutFault, Sink};
 use std::alloc::{AllocError, Global};
@@ -101,15 +101,15 @@ impl FolderWalk {
         })
     }
 
-    /// Checks all files in a folder, and in the folders in it, in the order of their names. No link in
+    /// Tells of all files in a folder, and in the folders in it, in the order of their names. No link in
     /// it is followed, and what is neither a file nor a folder is passed over.
     ///
     /// # Errors
     /// A fault of the output.
-    pub(crate) fn check_folder<R: Files, W: Sink, E: Write + Drop>(
+    pub(crate) fn visit_folder<R: Files, W: Sink, E: Write + Drop, A: EachFile + Drop>(
         &mut self,
         rt: &R,
-        checks: &mut Checks<'_, W, E>,
+        many: &mut Many<W, E, A>,
         path: &str,
     ) -> Result<(), OutFault>
     where
@@ -121,35 +121,35 @@ impl FolderWalk {
         self.given = path.len();
         // The slash has a link at the path followed.
         if !join(&mut self.path, path.as_bytes()) || !join(&mut self.path, b"") {
-            return checks.tell(FileState::Unread, path.as_bytes());
+            return many.tell_state(FileState::Unread, path.as_bytes());
         }
-        self.enter(rt, checks)?;
+        self.enter(rt, many)?;
         for _step in 0..u64::MAX {
             if self.depth == 0 {
                 return Ok(());
             }
-            self.step(rt, checks)?;
+            self.step(rt, many)?;
         }
         Ok(())
     }
 
     /// Takes the next name of the innermost folder, or begins its next pass, or leaves it.
-    fn step<R: Files, W: Sink, E: Write + Drop>(
+    fn step<R: Files, W: Sink, E: Write + Drop, A: EachFile + Drop>(
         &mut self,
         rt: &R,
-        checks: &mut Checks<'_, W, E>,
+        many: &mut Many<W, E, A>,
     ) -> Result<(), OutFault>
     where
         R::File: FileExt,
     {
         let innermost = self.depth.saturating_sub(1);
         match next_name(&self.levels, innermost, &mut self.stack, &mut self.path) {
-            NextName::Named => self.visit(rt, checks),
+            NextName::Named => self.visit(rt, many),
             NextName::TooLong => {
-                checks.count_unnamed(1);
+                many.count_unnamed(1);
                 Ok(())
             }
-            NextName::Pass => self.pass(rt, checks, innermost),
+            NextName::Pass => self.pass(rt, many, innermost),
             NextName::Nothing => {
                 self.depth = innermost;
                 Ok(())
@@ -157,55 +157,55 @@ impl FolderWalk {
         }
     }
 
-    /// Checks the file at the path, or enters the folder there.
-    fn visit<R: Files, W: Sink, E: Write + Drop>(
+    /// Tells of the file at the path, or enters the folder there.
+    fn visit<R: Files, W: Sink, E: Write + Drop, A: EachFile + Drop>(
         &mut self,
         rt: &R,
-        checks: &mut Checks<'_, W, E>,
+        many: &mut Many<W, E, A>,
     ) -> Result<(), OutFault>
     where
         R::File: FileExt,
     {
         let Ok(text) = str::from_utf8(&self.path) else {
-            checks.count_unnamed(1);
+            many.count_unnamed(1);
             return Ok(());
         };
         match look(rt, text) {
-            Found::File => check_file(rt, checks, text),
+            Found::File => visit_file(rt, many, text),
             Found::Other => Ok(()),
-            Found::Gone(state) => checks.tell(state, &self.path),
-            Found::Folder => self.enter(rt, checks),
+            Found::Gone(state) => many.tell_state(state, &self.path),
+            Found::Folder => self.enter(rt, many),
         }
     }
 
     /// Enters the folder at the path. One that lies too deep is not read.
-    fn enter<R: Files, W: Sink, E: Write + Drop>(
+    fn enter<R: Files, W: Sink, E: Write + Drop, A: EachFile + Drop>(
         &mut self,
         rt: &R,
-        checks: &mut Checks<'_, W, E>,
+        many: &mut Many<W, E, A>,
     ) -> Result<(), OutFault> {
         let at = self.depth;
         let Some(level) = self.levels.get_mut(at) else {
-            return checks.tell(FileState::Unread, &self.path);
+            return many.tell_state(FileState::Unread, &self.path);
         };
         level.after.clear();
         level.has_more = false;
         level.base = self.stack.len();
         level.end = self.path.len();
         self.depth = at.saturating_add(1);
-        self.pass(rt, checks, at)
+        self.pass(rt, many, at)
     }
 
     /// Goes once through the folder at the path, for its next names. One that can't be read is left.
-    fn pass<R: Files, W: Sink, E: Write + Drop>(
+    fn pass<R: Files, W: Sink, E: Write + Drop, A: EachFile + Drop>(
         &mut self,
         rt: &R,
-        checks: &mut Checks<'_, W, E>,
+        many: &mut Many<W, E, A>,
         at: usize,
     ) -> Result<(), OutFault> {
         let Ok(text) = str::from_utf8(&self.path) else {
             self.depth = at;
-            checks.count_unnamed(1);
+            many.count_unnamed(1);
             return Ok(());
         };
         let Some(level) = self.levels.get_mut(at) else {
@@ -218,14 +218,14 @@ impl FolderWalk {
         };
         match answer {
             Ok(unnamed) => {
-                checks.count_unnamed(unnamed);
+                many.count_unnamed(unnamed);
                 Ok(())
             }
             Err(state) => {
                 self.depth = at;
                 let end = if at == 0 { self.given } else { self.path.len() };
                 let path = self.path.get(..end).unwrap_or(&self.path);
-                checks.tell(state, path)
+                many.tell_state(state, path)
             }
         }
     }

@@ -5,9 +5,9 @@ use Rattle.std.proofs.lemmas.List.{drop_all}
 use Rattle.std.proofs.lemmas.Bool.{cases_Bool}
 use Rattle.std.proofs.lemmas.Bool.Decides.{nat_tests}
 use Rattle.elf_model.specs.Lines.{name_byte_text}
-use Rattle.elf_lines.specs.Told.{told_byte, told_text}
-use Rattle.elf_lines.specs.Pieces.{TakesBefore}
-use Rattle.elf_lines.proofs.Pieces.{TakesBefore-front, TakesBefore-then}
+use Rattle.elf_fields.specs.Told.{told_byte, told_text}
+use Rattle.elf_fields.specs.Pieces.{TakesBefore}
+use Rattle.elf_fields.proofs.Pieces.{TakesBefore-front, TakesBefore-then}
 use Rattle.elf_model.specs.Text.{digit, hex}
 use Rattle.elf_source.specs.Output.{Written, Takes, TakesFront}
 use Rattle.elf_source.proofs.PutsLaws.{TakesFront-more}

@@ -5,7 +5,7 @@ ghost use Rattle.elf_program.specs.Marked.{byte_beside, told_beside};
 
 use crate::endings::{BAD_WORDS, Ending, NOT_UTF8, OUT_OF_MEMORY};
 use crate::outputs::{ERROR_LINE_BYTES, write_rest};
-use elf_lines::show_told;
+use elf_fields::show_told;
 use elf_listing_words::{WordsFault, matches_of};
 use elf_source::{Out, OutFault, Sink, WriteSink};
 use std::alloc::{AllocError, Global};

@@ -1,6 +1,6 @@
 //! A name looked up as a loader does.
 ghost use Rattle.std.specs.Prelude.{◌≡◌, ◌^◌, ◌≤◌, ◌++◌, ℕ, List, length, IfErr, Some, option_map, true};
-ghost use Rattle.elf_lines.specs.Pieces.{shown_as};
+ghost use Rattle.elf_fields.specs.Named.{shown_as};
 ghost use Rattle.elf_listing.specs.Shows.{IsOfOutput};
 ghost use Rattle.elf_loader.specs.Finding.{name_shown, version_found};
 ghost use Rattle.elf_loader.specs.Lookups.{AnswersLoaderLookup};

@@ -1,2 +1,1 @@
-pub mod LackingLaws
 pub mod SpelledLaws

@@ -27,7 +27,7 @@ use elf_source::{Counted, MemorySource, Out, Sink, Source, WriteSink};
 use elf_words::{AskedCommand, Request, RequestFault, request};
 use explaining::tell_why;
 use layouts::apply_laid;
-use many::check_many;
+use many::{check_many, tell_traits};
 use std::alloc::Global;
 use std::io::{self, BufWriter, Input, IsTerminal, Stderr, Write};
 use std::os::unix::fs::FileExt;
@@ -84,6 +84,7 @@ where
         AskedCommand::File(request) => answer_request(rt, request, errors),
         AskedCommand::Laid(laying) => apply_laid(rt, laying, errors),
         AskedCommand::Check(checking) => check_many(rt, checking, terminal),
+        AskedCommand::Traits(traits) => tell_traits(rt, traits, terminal),
         AskedCommand::Archive(archiving) => list_archive(rt, archiving),
         AskedCommand::Version => tell_version(rt),
     }

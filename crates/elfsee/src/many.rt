@@ -1,12 +1,15 @@
-//! The check of many files.
+//! What is told of many files: their check, and how they are hardened.
 ghost use Rattle.std.specs.Prelude.{◌≡◌, IfErr};
 ghost use Rattle.elfsee.specs.Ends.{EndsList, LacksMemory, StopsCheck};
 
 use elf_headers::{Caps, HeaderRoom, HeaderStore};
-use elf_many::{Checks, FolderWalk, ListFault, check_list, check_path};
+use elf_many::{EachFile, FolderWalk, ListFault, Many, visit_list, visit_path};
+use elf_many_checks::Checks;
+use elf_many_traits::{TraitLines, TraitRule};
+use elf_model::Format;
 use elf_program::{CANNOT_OPEN, Ended, Ending, OUT_OF_MEMORY, OUTPUT_BYTES, READ_FAULT, end_run};
 use elf_source::{Out, OutFault, Sink, WriteSink};
-use elf_words::Checking;
+use elf_words::{Checking, ManyFiles, TraitsAsked};
 use std::fs;
 use std::io::{self, BufWriter, Input, Stderr, Write};
 use std::os::unix::fs::FileExt;
@@ -16,7 +19,7 @@ use std::rt::Files;
 const LIST_BYTES: usize = 65_536;
 
 /// Checks all files that are asked for, and writes a line for each. Where there is a terminal it is told
-/// how far the check is.
+/// how far it is.
 ///
 /// # Errors
 /// There is no memory.
@@ -32,88 +35,108 @@ where
     let Ok(mut room) = HeaderRoom::new(rt.alloc(), asked.headers()) else {
         return Err(OUT_OF_MEMORY);
     };
-    let Ok(mut walk) = FolderWalk::new(rt.alloc()) else {
-        return Err(OUT_OF_MEMORY);
-    };
-    check_within(rt, asked, room.store(), &mut walk, terminal)
+    let checks = new_checks(asked, room.store());
+    visit_files(rt, &asked.files, checks, asked.style.format, terminal)
 }
 
-/// Makes what memory is needed beside that for headers and a walk, and checks all files that are asked
-/// for.
-fn check_within<R: Files + Print + Input + AllocGlobal>(
+/// Tells how all files that are asked for are hardened. Where there is a terminal it is told how far it is.
+///
+/// # Errors
+/// There is no memory.
+pub fn tell_traits<R: Files + Print + Input + AllocGlobal>(
     rt: &R,
-    asked: &Checking<'_>,
-    store: HeaderStore<'_>,
-    walk: &mut FolderWalk,
+    asked: &TraitsAsked<'_>,
     terminal: Option<Stderr>,
 ) -> Result<Ending, Ending>
 where
     R::File: FileExt,
-    requires { store.slots ≡ asked.now.limits.headers }
     ensures { IfErr result (λ ending. LacksMemory ending.0 ending.1.now) }
 {
+    let Ok(mut room) = HeaderRoom::new(rt.alloc(), asked.headers()) else {
+        return Err(OUT_OF_MEMORY);
+    };
+    let lines = new_trait_lines(asked, room.store());
+    visit_files(rt, &asked.files, lines, asked.format, terminal)
+}
+
+/// A check by what is asked for.
+fn new_checks<'a>(asked: &Checking<'_>, store: HeaderStore<'a>) -> Checks<'a>
+    requires { store.slots ≡ asked.now.limits.headers }
+    ensures caps { result.caps ≡ record { limits = asked.now.limits; style = asked.now.style } }
+    ensures parts { result.parts ≡ asked.now.parts }
+{
+    let caps = Caps {
+        limits: asked.limits,
+        style: asked.style,
+    };
+    Checks::new(store, caps, asked.parts)
+}
+
+/// The lines of traits by what is asked for.
+fn new_trait_lines<'a>(asked: &'a TraitsAsked<'a>, store: HeaderStore<'a>) -> TraitLines<'a>
+    requires { store.slots ≡ asked.now.limits.headers }
+    ensures limits { result.limits ≡ asked.now.limits }
+    ensures format { result.format ≡ asked.now.format }
+    ensures required { result.required.now ≡ asked.now.required.items }
+{
+    let rule = TraitRule {
+        limits: asked.limits,
+        format: asked.format,
+        required: &asked.required,
+    };
+    TraitLines::new(store, rule)
+}
+
+/// Makes what memory is needed beside that for headers, and tells of all files that are asked for.
+///
+/// # Errors
+/// There is no memory.
+fn visit_files<R: Files + Print + Input + AllocGlobal, A: EachFile + Drop>(
+    rt: &R,
+    files: &ManyFiles<'_>,
+    each: A,
+    format: Format,
+    terminal: Option<Stderr>,
+) -> Result<Ending, Ending>
+where
+    R::File: FileExt,
+    ensures { IfErr result (λ ending. LacksMemory ending.0 ending.1.now) }
+{
+    let Ok(mut walk) = FolderWalk::new(rt.alloc()) else {
+        return Err(OUT_OF_MEMORY);
+    };
     let Ok(mut entries) = vec![in rt.alloc(); 0u8; LIST_BYTES] else {
         return Err(OUT_OF_MEMORY);
     };
     let Ok(output) = BufWriter::with_capacity(rt.alloc(), OUTPUT_BYTES, io::writer(rt)) else {
         return Err(OUT_OF_MEMORY);
     };
-    Ok(check_into(rt, asked, store, walk, &mut entries, output, terminal))
+    let mut many = Many::new(Out::new(WriteSink::new(output)), each, format, terminal);
+    let ended = visit_all(rt, files, &mut many, &mut walk, &mut entries);
+    Ok(end_many(ended, many))
 }
 
-/// Checks all files that are asked for, writes their lines to an output, and answers how the program
-/// ends.
-fn check_into<R: Files + Input, W: Write + Drop>(
-    rt: &R,
-    asked: &Checking<'_>,
-    store: HeaderStore<'_>,
-    walk: &mut FolderWalk,
-    entries: &mut [u8],
-    output: BufWriter<W>,
-    terminal: Option<Stderr>,
-) -> Ending
-where
-    R::File: FileExt,
-    requires { store.slots ≡ asked.now.limits.headers }
-{
-    let out = Out::new(WriteSink::new(output));
-    let mut checks = new_checks(asked, out, store, terminal);
-    let ended = match check_all(rt, asked, &mut checks, walk, entries) {
+/// Writes what is left of the output, and answers how the program ends.
+fn end_many<W: Write + Drop, A: EachFile + Drop>(
+    ended: Result<u8, Ended>,
+    many: Many<WriteSink<BufWriter<W>>, Stderr, A>,
+) -> Ending {
+    let ended = match ended {
         Ok(status) => Ended::Status(status),
         Err(ended) => ended,
     };
-    let (ending, _output) = end_run(ended, checks.into_out().into_inner().into_inner());
+    let (ending, _output) = end_run(ended, many.into_out().into_inner().into_inner());
     ending
 }
 
-/// A check within what is asked for, with no file yet.
-fn new_checks<'a, W: Sink>(
-    asked: &Checking<'_>,
-    out: Out<W>,
-    store: HeaderStore<'a>,
-    terminal: Option<Stderr>,
-) -> Checks<'a, W, Stderr>
-    requires { store.slots ≡ asked.now.limits.headers }
-    ensures caps { result.caps ≡ record { limits = asked.now.limits; style = asked.now.style } }
-    ensures parts { result.parts ≡ asked.now.parts.0 }
-    ensures out { result.out ≡ out }
-    ensures begins { (result.status ≡ 0) × (result.unnamed ≡ 0) }
-{
-    let caps = Caps {
-        limits: asked.limits,
-        style: asked.style,
-    };
-    Checks::new(out, store, caps, asked.parts, terminal)
-}
-
-/// Checks the paths that are asked for, then those of the list, and answers the exit status.
+/// Tells of the paths that are asked for, then of those of the list, and answers the exit status.
 ///
 /// # Errors
 /// How the run ended where the list or the output failed.
-fn check_all<R: Files + Input, W: Sink>(
+fn visit_all<R: Files + Input, W: Sink, A: EachFile + Drop>(
     rt: &R,
-    asked: &Checking<'_>,
-    checks: &mut Checks<'_, W, Stderr>,
+    files: &ManyFiles<'_>,
+    many: &mut Many<W, Stderr, A>,
     walk: &mut FolderWalk,
     entries: &mut [u8],
 ) -> Result<u8, Ended>
@@ -121,27 +144,27 @@ where
     R::File: FileExt,
     ensures { IfErr result StopsCheck }
 {
-    if let Err(OutFault { .. }) = check_paths(rt, checks, walk, &asked.files.paths) {
+    if let Err(OutFault { .. }) = visit_paths(rt, many, walk, &files.paths) {
         return Err(Ended::Unwritten);
     }
-    if let Some(list) = asked.files.list {
-        if let Err(ended) = check_listed(rt, checks, walk, list, entries) {
+    if let Some(list) = files.list {
+        if let Err(ended) = visit_listed(rt, many, walk, list, entries) {
             return Err(ended);
         }
     }
-    match checks.end() {
+    match many.end() {
         Ok(status) => Ok(status),
         Err(OutFault { .. }) => Err(Ended::Unwritten),
     }
 }
 
-/// Checks files and folders.
+/// Tells of files and folders.
 ///
 /// # Errors
 /// The output failed.
-fn check_paths<R: Files, W: Sink>(
+fn visit_paths<R: Files, W: Sink, A: EachFile + Drop>(
     rt: &R,
-    checks: &mut Checks<'_, W, Stderr>,
+    many: &mut Many<W, Stderr, A>,
     walk: &mut FolderWalk,
     paths: &[&str],
 ) -> Result<(), OutFault>
@@ -149,20 +172,20 @@ where
     R::File: FileExt,
 {
     for path in paths {
-        if let Err(fault) = check_path(rt, checks, walk, path) {
+        if let Err(fault) = visit_path(rt, many, walk, path) {
             return Err(fault);
         }
     }
     Ok(())
 }
 
-/// Checks the paths of a list; `-` is standard input.
+/// Tells of the paths of a list; `-` is standard input.
 ///
 /// # Errors
 /// How the run ended where the list or the output failed.
-fn check_listed<R: Files + Input, W: Sink>(
+fn visit_listed<R: Files + Input, W: Sink, A: EachFile + Drop>(
     rt: &R,
-    checks: &mut Checks<'_, W, Stderr>,
+    many: &mut Many<W, Stderr, A>,
     walk: &mut FolderWalk,
     list: &str,
     entries: &mut [u8],
@@ -172,10 +195,10 @@ where
     ensures { IfErr result StopsCheck }
 {
     if list == "-" {
-        return listed(check_list(rt, checks, walk, &mut rt.reader(), entries));
+        return listed(visit_list(rt, many, walk, &mut rt.reader(), entries));
     }
     match fs::open(rt, list) {
-        Ok(mut file) => listed(check_list(rt, checks, walk, &mut file, entries)),
+        Ok(mut file) => listed(visit_list(rt, many, walk, &mut file, entries)),
         Err(_) => Err(Ended::Told(CANNOT_OPEN)),
     }
 }

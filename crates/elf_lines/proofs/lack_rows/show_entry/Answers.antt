@@ -1,21 +1,22 @@
 -- The type alone, or with the name.
 use Rattle.std.proofs.Common.{rules, ◌≡◌, ◌==◌, ◌∙◌, ap, ◌++◌, codes, true, false, length}
-use Rattle.elf_lines.proofs.LackText.{entry_cut, entry_unnamed, entry_whole}
+use Rattle.elf_lines.proofs.LackText.{entry_named, entry_unnamed}
 use Rattle.elf_lines.proofs.lack_rows.show_entry.Goals as goal
+use Rattle.elf_lines.proofs.lack_rows.show_entry.Goals.{else-is_empty-via-then-is_empty+else-not-is_cut, else-is_empty-via-else-is_empty}
 
-pub returns-then-is_cut : goal.returns-then-is_cut
-returns-then-is_cut g c =
-    let front = c.put.ensures.items ∙ ap (λ xs. xs ++ codes " to ") c.type_front-line.ensures.text in
-    record { puts = rw (entry_cut c.args.kind c.args.name.now c.args.is_cut c.if-is_cut.true) (rw front at c.show_around.ensures.puts) }
-
-pub returns-then-is_empty : goal.returns-then-is_empty
-returns-then-is_empty g c =
+pub returns-then-not-is_cut : goal.returns-then-not-is_cut
+returns-then-not-is_cut g c =
     let none : (length c.args.name.now == 0) ≡ true = search rules in
-    let all = c.deref.ensures.0 ∙ (c.put-then-is_empty.ensures.items ∙ ap (λ xs. xs ++ codes ": ") c.type_front-line.ensures.text) in
-    record { puts = rw (entry_unnamed c.args.kind c.args.name.now c.args.is_cut c.if-is_cut.false none) (rw all at c.put-then-is_empty-2.ensures.puts) }
+    let whole : c.args.is_cut ≡ false = search rules in
+    let all = c.deref.ensures.0 ∙ (c.put.ensures.items ∙ ap (λ xs. xs ++ codes ": ") c.type_front-line.ensures.text) in
+    record { puts = rw (entry_unnamed c.args.kind c.args.name.now c.args.is_cut whole none) (rw all at c.put-then-not-is_cut.ensures.puts) }
 
 pub returns : goal.returns
 returns g c =
-    let some : (length c.args.name.now == 0) ≡ false = search rules in
+    let some : c.args.is_cut ≡ false → (length c.args.name.now == 0) ≡ false =
+    elim c.else-is_empty.branch [
+      | else-is_empty-via-then-is_empty+else-not-is_cut w ↦ λ whole. search rules
+      | else-is_empty-via-else-is_empty w ↦ λ whole. search rules
+    ] in
     let front = c.put-2.ensures.items ∙ ap (λ xs. xs ++ codes " to ") c.type_front-line.ensures.text in
-    record { puts = rw (entry_whole c.args.kind c.args.name.now c.args.is_cut c.if-is_cut.false some) (rw front at c.show_around-2.ensures.puts) }
+    record { puts = rw (entry_named c.args.kind c.args.name.now c.args.is_cut some) (rw front at c.show_around.ensures.puts) }

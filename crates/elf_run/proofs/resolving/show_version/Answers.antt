@@ -2,7 +2,7 @@
 use Rattle.std.proofs.Common.{subst}
 use Rattle.elf_model.specs.Lines.{named_line}
 use Rattle.elf_source.specs.Output.{Puts}
-use Rattle.elf_lines.specs.Pieces.{shown_as}
+use Rattle.elf_fields.specs.Named.{shown_as}
 use Rattle.elf_loader.specs.Finding.{version_found}
 use Rattle.elf_wanted.specs.Wants.{asked_of}
 use Rattle.elf_run.proofs.LookupLaws.{version_line}

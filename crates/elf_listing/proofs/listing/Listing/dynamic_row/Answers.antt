@@ -3,7 +3,7 @@ use Rattle.elf_headers.specs.Permitted.{style_of}
 use Rattle.std.proofs.Common.{◌≡◌, refl, ap, ◌∙◌, arith}
 use Rattle.std.proofs.lemmas.Result.{err_from_is_err_and}
 use Rattle.elf_model.specs.Dynamic.{dynamic_at}
-use Rattle.elf_lines.specs.Fronts.{front_of}
+use Rattle.elf_fields.specs.Fronts.{front_of}
 use Rattle.elf_model.specs.LineFronts.{dynamic_front}
 use Rattle.elf_listing.specs.Strings.{strings_told, string_told}
 use Rattle.elf_listing.proofs.RowLaws.{Writes-as}

@@ -1,0 +1,4 @@
+pub mod Digits
+pub mod NameText
+pub mod Pieces
+pub mod ToldText

@@ -1,0 +1,5 @@
+pub mod Fronts
+pub mod Named
+pub mod Pieces
+pub mod Rooms
+pub mod Told

@@ -1,0 +1,9 @@
+//! The check of many files: the state of each, with a store and buffers that are used again for the next,
+//! and its line.
+#![tactic(auto)]
+
+mod checking;
+mod checks;
+
+pub use checking::check;
+pub use checks::{CheckRule, Checks};

@@ -1,0 +1,47 @@
+-- The traits that are found of one file among many, within its limits.
+use Rattle.std.specs.Prelude.{ℕ, ◌≡◌, ◌+◌, ◌≤◌, ◌<◌, ◌⊎◌, ⊤, nat_lt, if◌then◌else◌, List, length, Option, None, Some, Result, Ok, Err, IfSome}
+use Rattle.elf_model.specs.Budget.{IsBudget}
+use Rattle.elf_model.specs.Checking.{state_of}
+use Rattle.elf_model.specs.Records.{FILE_HEADER_SIZE, ELF_MAGIC_SIZE}
+use Rattle.elf_model.specs.TraitCost.{traits_ceiling, traits_cost}
+use Rattle.elf_model.specs.Traits.{traits_of}
+use Rattle.elf_model.specs.declared.causes.Refusal.{Refusal}
+use Rattle.elf_model.specs.declared.states.FileState.{FileState}
+use Rattle.elf_model.specs.declared.states.FileState.TheVariants as state
+use Rattle.elf_model.specs.declared.traits.Traits.{Traits}
+use Rattle.elf_source.specs.Source.{Counting}
+use Rattle.elf_headers.specs.declared.caps.Limits.{Limits}
+
+-- the traits of a file, or the state of one that is refused
+abbrev pub traits_found : Option ℕ → List ℕ → Result Traits Refusal → Result Traits FileState
+traits_found budget file (Ok traits) = Ok traits
+traits_found budget file (Err refusal) = Err (state_of budget file (Some refusal))
+
+-- a refusal for want of budget, at an offset of the file
+abbrev pub LacksBudget : (size : ℕ) → Result Traits FileState → Type 0
+LacksBudget size (Err (state.Refused refusal)) = IsBudget refusal × (refusal.at < size)
+LacksBudget size _ = ⊥
+
+-- the same within a budget: or, where the traits cost more, a refusal for want of it
+abbrev pub IsFoundWithin : Option ℕ → (headers : ℕ) → List ℕ → Result Traits FileState → Type 0
+IsFoundWithin None headers file found = found ≡ traits_found None file (traits_of file headers)
+IsFoundWithin (Some bytes) headers file found =
+    (found ≡ traits_found (Some bytes) file (traits_of file headers)) ⊎ ((bytes < traits_cost file headers) × LacksBudget (length file) found)
+
+-- WHAT IS FOUND of a file: that, unless a read failed
+abbrev pub FindsWithin : Option ℕ → (headers : ℕ) → List ℕ → Result Traits FileState → Type 0
+FindsWithin budget headers file (Err state.Unread) = ⊤
+FindsWithin budget headers file found = IsFoundWithin budget headers file found
+
+-- what a file's traits may ask for: of one that is too short for a file header its first bytes
+abbrev pub file_traits_cost : List ℕ → (headers : ℕ) → ℕ
+file_traits_cost file headers = if nat_lt (length file) FILE_HEADER_SIZE then ELF_MAGIC_SIZE else traits_cost file headers
+
+-- the same of every source
+abbrev pub file_traits_ceiling : (size headers : ℕ) → ℕ
+file_traits_ceiling size headers = if nat_lt size FILE_HEADER_SIZE then ELF_MAGIC_SIZE else traits_ceiling size headers
+
+-- what is asked for, for every source: no more than the ceiling, and no more than the budget
+pub record AsksTraits (limits : Limits) (old new : Counting) : Type 0 where
+  pub ceiling : new.asked ≤ old.asked + file_traits_ceiling old.seen.size limits.headers
+  pub budget : IfSome limits.budget (λ bytes. new.asked ≤ old.asked + bytes)
