@@ -1,8 +1,9 @@
 -- A name as it is written, byte by byte, and the line that ends in it, in columns and in an object.
-use Rattle.std.proofs.Common.{◌≡◌, ℕ, zero, suc, ◌+◌, ◌/◌, ◌%◌, ◌^◌, ◌<◌, ◌≤◌, ◌==◌, ◌≢◌, ◌&&◌, nat_lt, nat_le, Bool, true, false, if◌then◌else◌, refl, sym}
+use Rattle.std.proofs.Common.{◌≡◌, ℕ, zero, suc, ◌+◌, ◌-◌, ◌/◌, ◌%◌, ◌^◌, ◌<◌, ◌≤◌, ◌==◌, ◌≢◌, ◌&&◌, nat_lt, nat_le, Bool, true, false, if◌then◌else◌, refl, sym, inl, inr}
 use Rattle.std.proofs.Common.{List, codes, [], ◌∷◌, ◌++◌, length, take, drop, get_or, ap, ◌∙◌, arith}
 use Rattle.std.proofs.Common.{append_assoc, append-nil, add-one, drop-cons}
-use Rattle.std.proofs.lemmas.List.{drop_all}
+use Rattle.std.proofs.lemmas.Bool.{cases_lt}
+use Rattle.std.proofs.lemmas.List.{drop_all, get_or-drop, get_or-take}
 use Rattle.std.proofs.lemmas.Bool.Decides.{nat_tests}
 use Rattle.elf_model.specs.Fields.{string_byte, string_text, quoted, member_key}
 use Rattle.elf_model.specs.Text.{digit, hex}
@@ -119,6 +120,21 @@ object_plain byte low high mark other =
 pub plain : (format : Format) (byte : ℕ) → 32 ≤ byte → byte ≤ 126 → byte ≢ 34 → byte ≢ 92 → byte_text format byte ≡ byte ∷ []
 plain Columns byte low high mark other = name_plain byte low high other
 plain Object byte low high mark other = object_plain byte low high mark other
+
+-- sixteen bytes more that stand as they are
+pub stand_more : (format : Format) (name piece : List ℕ) (count : ℕ) → piece ≡ take 16 (drop count name)
+    → ((k : ℕ) → k < count → byte_text format (get_or name k 0) ≡ get_or name k 0 ∷ [])
+    → ((k : ℕ) → k < 16 → byte_text format (get_or piece k 0) ≡ get_or piece k 0 ∷ [])
+    → (k : ℕ) → k < count + 16 → byte_text format (get_or name k 0) ≡ get_or name k 0 ∷ []
+stand_more format name piece count same before here k less = elim (cases_lt k count) [
+  | inl below ↦ before k below
+  | inr over ↦
+      let few : k - count < 16 = omega (arith, less, over) in
+      let back : count + (k - count) ≡ k = omega (arith, over) in
+      let at : get_or piece (k - count) 0 ≡ get_or name k 0 =
+      rw same (get_or-take 16 (drop count name) (k - count) 0 few ∙ get_or-drop count name (k - count) 0 ∙ ap (λ m. get_or name m 0) back) in
+      rw at at (here (k - count) few)
+]
 
 -- the bytes at the front of a name that stand as they are, and the others as they are spelt
 pub spelt-plain : (format : Format) (name : List ℕ) (n : ℕ) → n ≤ length name

@@ -1,11 +1,12 @@
 //! A line of a listing while it is put together, field by field.
-ghost use Rattle.std.specs.Prelude.{◌≡◌, ◌+◌, ◌<◌, ◌≤◌, ◌++◌, ◌∷◌, [], if◌then◌else◌, length, max};
+ghost use Rattle.std.specs.Prelude.{◌≡◌, ◌+◌, ◌<◌, ◌≤◌, ◌++◌, ◌∷◌, [], if◌then◌else◌, decimal, length, max, take};
 ghost use Rattle.arrayvec.specs.ArrayVec.{array_vec_len};
 ghost use Rattle.elf_model.specs.Text.{digit, hex, spaces, left_in, right_in};
 ghost use Rattle.elf_model.specs.NameTables.{number_sign};
 
+use crate::hexadecimal::eight_digits;
 use arrayvec::ArrayVec;
-use itoa::{Buffer, Integer};
+use itoa::{Buffer, write_digits};
 
 /// The bytes that a line may have, but for its name.
 pub const LINE_BYTES: usize = 256;
@@ -16,6 +17,7 @@ pub const DIGIT_BYTES: usize = 40;
 pub type Line = ArrayVec<u8, 256>;
 
 /// Puts a text at the end.
+#[inline(always)]
 pub fn put(line: &mut Line, text: &[u8])
     requires { array_vec_len line.old + length text.now ≤ 256 }
     ensures items { line.new.items ≡ line.old.items ++ text.now }
@@ -62,18 +64,36 @@ pub(crate) fn put_left(line: &mut Line, width: usize, text: &[u8], end: u8)
 
 /// Puts a decimal number at the right of a column of this width, and the byte that ends the column.
 /// A longer number is not cut.
-#[tactic(auto, unfolding(elf_model::specs::Text::right_in))]
-pub(crate) fn put_right<I: Integer>(line: &mut Line, width: usize, number: I, end: u8)
-    requires { array_vec_len line.old + (max width I.MAX_STR_LEN + 1) ≤ 256 }
-    ensures items { line.new.items ≡ line.old.items ++ right_in width (I.text number) ++ end ∷ [] }
+#[inline(always)]
+pub(crate) fn put_right(line: &mut Line, width: usize, number: u64, end: u8)
+    requires width { width ≤ 20 }
+    requires room { array_vec_len line.old + (max width (length (decimal number)) + 1) ≤ 256 }
+    ensures items { line.new.items
+        ≡ line.old.items ++ right_in width (decimal number) ++ end ∷ [] }
     ensures len { array_vec_len line.new
-        ≤ array_vec_len line.old + (max width I.MAX_STR_LEN + 1) }
+        ≡ array_vec_len line.old + (max width (length (decimal number)) + 1) }
 {
-    let mut buffer = Buffer::new();
-    let text = buffer.format(number).as_bytes();
-    put_spaces(line, width.saturating_sub(text.len()));
-    put(line, text);
-    line.push(end);
+    let mut cell = [b' '; 24];
+    let start = write_cell(&mut cell, number, end);
+    let first = 20 - width;
+    if start >= first {
+        put(line, &cell[first..21]);
+    } else {
+        put(line, &cell[start..21]);
+    }
+}
+
+/// Writes a decimal number into a cell of spaces so that it ends at the twentieth byte, and the byte
+/// that ends its column behind it. Answers where the number begins.
+#[inline(always)]
+fn write_cell(cell: &mut [u8; 24], number: u64, end: u8) -> usize
+    requires { cell.old ≡ spaces 24 }
+    ensures start { result + length (decimal number) ≡ 20 }
+    ensures text { take 21 cell.new ≡ spaces result ++ (decimal number ++ end ∷ []) }
+{
+    let start = write_digits(number, cell, 20);
+    cell[20] = end;
+    start
 }
 
 /// A number behind a sign of one.
@@ -100,7 +120,25 @@ pub fn put_where(line: &mut Line, holds: bool, text: &[u8])
 }
 
 /// Puts the last hexadecimal digits of a number, in lower case, with leading zeros.
+#[inline(always)]
 pub fn put_hex(line: &mut Line, digits: u32, number: u64)
+    requires room { array_vec_len line.old + digits ≤ 256 }
+    requires digits { digits ≤ 16 }
+    ensures items { line.new.items ≡ line.old.items ++ hex digits number }
+    ensures len { array_vec_len line.new ≡ array_vec_len line.old + digits }
+{
+    match digits {
+        16 => {
+            put(line, &eight_digits((number >> 32) as u32));
+            put(line, &eight_digits((number % (1 << 32)) as u32));
+        }
+        8 => put(line, &eight_digits((number % (1 << 32)) as u32)),
+        _ => put_digits(line, digits, number),
+    }
+}
+
+/// The same, digit by digit.
+fn put_digits(line: &mut Line, digits: u32, number: u64)
     requires room { array_vec_len line.old + digits ≤ 256 }
     requires digits { digits ≤ 16 }
     ensures items { line.new.items ≡ line.old.items ++ hex digits number }

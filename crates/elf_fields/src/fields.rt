@@ -72,6 +72,7 @@ pub fn begin<R: Render>(line: &mut Line, letter: &[u8])
 /// Puts a number that stands in decimal at the right of a column of this width, and the byte that
 /// ends the column. A longer number is not cut.
 #[tactic(auto, unfolding(elf_model::specs::Fields::with_field, elf_model::specs::Text::right_decimal))]
+#[inline(always)]
 pub fn put_decimal<R: Render>(line: &mut Line, key: &[u8], width: usize, number: u64, end: u8)
     requires room { array_vec_len line.old + number_room (length key.now) ≤ 256 }
     requires width { width ≤ 20 }
@@ -88,6 +89,7 @@ pub fn put_decimal<R: Render>(line: &mut Line, key: &[u8], width: usize, number:
 /// Puts a number of 16 bits, in decimal at the right of five columns, and the byte that ends the
 /// column.
 #[tactic(auto, unfolding(elf_model::specs::Fields::with_field, elf_model::specs::Text::right_decimal))]
+#[inline(always)]
 pub fn put_half<R: Render>(line: &mut Line, key: &[u8], number: u16, end: u8)
     requires { array_vec_len line.old + half_room (length key.now) ≤ 256 }
     ensures items { line.new.items
@@ -95,13 +97,14 @@ pub fn put_half<R: Render>(line: &mut Line, key: &[u8], number: u16, end: u8)
     ensures len { array_vec_len line.new ≤ array_vec_len line.old + half_room (length key.now) }
 {
     match R::FORMAT {
-        Format::Columns => put_right(line, 5, number, end),
+        Format::Columns => put_right(line, 5, u64::from(number), end),
         Format::Object => put_number(line, key, number),
     }
 }
 
 /// Puts a number in so many hexadecimal digits, and the byte that ends the column.
 #[tactic(auto, unfolding(elf_model::specs::Fields::with_field))]
+#[inline(always)]
 pub fn put_hexadecimal<R: Render>(line: &mut Line, key: &[u8], digits: u32, number: u64, end: u8)
     requires room { array_vec_len line.old + number_room (length key.now) ≤ 256 }
     requires digits { digits ≤ 16 }
@@ -120,6 +123,7 @@ pub fn put_hexadecimal<R: Render>(line: &mut Line, key: &[u8], digits: u32, numb
 
 /// Puts a number with its sign, and its absolute value in sixteen hexadecimal digits, and a space.
 #[tactic(auto, unfolding(elf_model::specs::Fields::with_field, elf_model::specs::Fields::signed_text))]
+#[inline(always)]
 pub fn put_signed<R: Render>(line: &mut Line, key: &[u8], number: i64)
     requires { array_vec_len line.old + number_room (length key.now) ≤ 256 }
     ensures items { line.new.items

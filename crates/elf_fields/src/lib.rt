@@ -5,6 +5,7 @@
 mod buffers;
 mod columns;
 mod fields;
+mod hexadecimal;
 mod named;
 mod objects;
 mod render;

@@ -1,6 +1,6 @@
 //! Lines with a name, which is of any length: a line is written in pieces.
 ghost use Rattle.std.specs.Prelude.{◌≡◌, ℕ, ◌+◌, ◌<◌, ◌≤◌, [], ◌∷◌, ◌++◌, length};
-ghost use Rattle.std.specs.Prelude.{slice_index, IsOk};
+ghost use Rattle.std.specs.Prelude.{slice_index, IsOk, IsTrue};
 ghost use Rattle.arrayvec.specs.ArrayVec.{array_vec_len};
 ghost use Rattle.elf_model.specs.Lines.{named_line, name_byte_text};
 ghost use Rattle.elf_source.specs.Output.{Puts};
@@ -209,12 +209,42 @@ fn plain_bytes(format: Format, name: &[u8]) -> usize
     ensures stand { (k : ℕ) → k < result →
         byte_text format (slice_index name.now k) ≡ slice_index name.now k ∷ [] }
 {
-    for (i, byte) in name.iter().enumerate() {
-        if *byte < b' ' || *byte > b'~' || *byte == b'"' || *byte == b'\\' {
-            return i;
+    let mut count = 0;
+    while let Some(piece) = name[count..].first_chunk::<16>() {
+        if !are_plain(piece) {
+            break;
         }
+        count += 16;
     }
-    name.len()
+    while count < name.len() && is_plain(name[count]) {
+        count += 1;
+    }
+    count
+}
+
+/// Whether all of sixteen bytes of a name stand in a line as they are. Each is looked at, so that
+/// the compiler looks at all of them at once.
+fn are_plain(piece: &[u8; 16]) -> bool
+    ensures { (format : Format) (k : ℕ) → IsTrue result → k < 16 →
+        byte_text format (slice_index piece.now k) ≡ slice_index piece.now k ∷ [] }
+{
+    let mut plain = true;
+    for byte in piece {
+        plain &= is_plain(*byte);
+    }
+    plain
+}
+
+/// Whether a byte of a name is a printing ASCII character, no quotation mark and no backslash, and
+/// so stands in a line as it is.
+#[inline(always)]
+fn is_plain(byte: u8) -> bool
+    ensures { (format : Format) → IsTrue result → byte_text format byte ≡ byte ∷ [] }
+{
+    if byte < b' ' || byte > b'~' || byte == b'"' || byte == b'\\' {
+        return false;
+    }
+    true
 }
 
 /// Puts a name behind a line, each byte as it is spelt. Where the line is full it is written, and

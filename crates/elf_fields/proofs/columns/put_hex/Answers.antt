@@ -1,17 +1,20 @@
--- The digit that is put is the first of those that are left.
-use Rattle.std.proofs.Common.{arith, sym, ◌∙◌}
-use Rattle.elf_fields.proofs.Digits.{digit_put, none_left}
+-- Eight digits are those of the lower half, and sixteen those of both.
+use Rattle.std.proofs.Common.{◌++◌, ◌/◌, ◌%◌, ◌∙◌, ap, ap₂, append_assoc}
+use Rattle.elf_model.specs.Text.{hex}
+use Rattle.elf_fields.proofs.Pairs.{lower_eight, sixteen}
 use Rattle.elf_fields.proofs.columns.put_hex.Goals as goal
 
-pub loop-left-preserved : goal.loop-left-preserved
-loop-left-preserved c = record {
-  digits =
-      digit_put c.loop-left.line.items c.push.new.self.items c.loop-left.left c.args.number c.digit_of.result c.loop-left-test.true c.digit_of.ensures c.push.ensures.items
-      ∙ c.loop-left.invariant.digits;
-  length = omega (arith, c.push.ensures.len);
-  few = omega arith;
-}
+pub returns-in-16-clause-items : goal.returns-in-16-clause-items
+returns-in-16-clause-items c =
+    let line = c.args.line.now.items in
+    let high = c.put.ensures.items ∙ ap (λ xs. line ++ xs) c.eight_digits.ensures in
+    let both = c.put-in-16.ensures.items ∙ ap₂ (λ xs ys. xs ++ ys) high c.eight_digits-in-16.ensures in
+    let n = c.args.number in
+    rw c.in-16.is
+    (both ∙ append_assoc line (hex 8 (n / 4294967296)) (hex 8 (n % 4294967296)) ∙ ap (λ xs. line ++ xs) (sixteen n))
 
-pub returns-clause-items : goal.returns-clause-items
-returns-clause-items c =
-    sym (none_left c.loop-left.line.items c.loop-left.left c.args.number c.loop-left-test.false) ∙ c.loop-left.invariant.digits
+pub returns-in-8-clause-items : goal.returns-in-8-clause-items
+returns-in-8-clause-items c =
+    let line = c.args.line.now.items in
+    rw c.in-8.is
+    (c.put-in-8.ensures.items ∙ ap (λ xs. line ++ xs) (c.eight_digits-in-8.ensures ∙ lower_eight c.args.number))

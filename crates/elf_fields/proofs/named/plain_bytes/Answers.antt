@@ -1,9 +1,18 @@
--- The byte that was passed is a printing ASCII character, no quotation mark and no backslash.
-use Rattle.std.proofs.Common.{below_more, get_or}
-use Rattle.elf_fields.proofs.NameText.{plain}
+-- The sixteen bytes of the piece stand behind those before.
+use Rattle.std.proofs.Common.{◌≡◌, ◌-◌, drop, take, ◌∙◌, ap, length, length-drop, arith, refl}
+use Rattle.std.proofs.lemmas.List.{take_all}
+use Rattle.elf_fields.proofs.NameText.{stand_more}
 use Rattle.elf_fields.proofs.named.plain_bytes.Goals as goal
 
-pub loop-i-preserved : goal.loop-i-preserved
-loop-i-preserved c =
-    let byte = get_or c.args.name.now c.loop-i.i 0 in
-    below_more _ _ c.loop-i.invariant (plain c.args.format byte c.if-byte-lt32.false c.if-byte-gt126.false c.if-byte-eq34.false c.if-byte-eq92.false)
+pub loop-piece-preserved : goal.loop-piece-preserved
+loop-piece-preserved c =
+    let name = c.args.name.now in
+    let count = c.loop-piece.count in
+    let found = rw c.in-Some.is at c.first_chunk.ensures.cases in
+    let all = take_all (length name - count) (drop count name) (omega (arith, length-drop count name)) in
+    let same : c.in-Some.piece.now ≡ take 16 (drop count name) = found.same ∙ ap (λ xs. take 16 xs) all in
+    let long = rw all at found.enough in
+    record {
+      within = omega (arith, long, length-drop count name);
+      stand = stand_more c.args.format name c.in-Some.piece.now count same c.loop-piece.invariant.stand (λ k less. c.are_plain.ensures c.args.format k c.if-not-are_plain.false less);
+    }

@@ -1,7 +1,7 @@
 use Rattle.std.proofs.Common.{◌≡◌, ◌+◌, ◌≤◌, ◌++◌}
 use Rattle.arrayvec.specs.ArrayVec.{array_vec_len}
 use Rattle.elf_model.specs.Text.{hex}
-use Rattle.elf_fields.proofs.columns.put_hex.Given as goal
+use Rattle.elf_fields.proofs.columns.put_digits.Given as goal
 
 -- what is put, and the digits that are left, are the digits
 abbrev pub invariant-loop-left : goal.invariant-loop-left
