@@ -13,7 +13,6 @@ Examples:
   elfsee find --gnu /lib/libexample.so printf@GLIBC_2.2.5
   elfsee apply example.o 1 at:1=0x401000 def:main=0x401200
   elfsee check /usr/lib
-  elfsee list --only symbols --members /usr/lib/x86_64-linux-gnu
   elfsee traits --require relro=full,stack=nx,pages=w^x /usr/bin
   elfsee needs /bin/ls
   elfsee archive --only symbols /usr/lib/x86_64-linux-gnu/libc.a
@@ -39,7 +38,6 @@ traits also --json, --require and --files0-from, needs also --json and those for
                 there are
   --explain     for apply only: where an address is missing, tell on standard error the type of
                 the relocation, the name of its symbol, and the item that would help
-  --members     for check and list only: go into archives too
   --require WORDS
                 for traits only: tell of each program and library which of these words it lacks,
                 as relro=full,stack=nx
@@ -49,16 +47,16 @@ traits also --json, --require and --files0-from, needs also --json and those for
                 for needs only: look in these folders last, not in those of a system
   --root DIR    for needs only: look below DIR for each path that begins with a slash
   --files0-from FILE
-                for check, list and traits: take the paths in FILE too, each ended by NUL
+                for check and traits: take the paths in FILE too, each ended by NUL
   --            end the options, so that FILE, PATH or NAME may begin with a hyphen
 FILE or PATH may be - for the file on standard input.
 
 Exit status:
-  0  listed, found or applied; check and list: no file is at fault; traits: no file is refused,
-     and none lacks what is required; needs: each library is found
+  0  listed, found or applied; check: no file is at fault; traits: no file is refused, and none
+     lacks what is required; needs: each library is found
   1  refused, or more to read than permitted: the last line is '!', an offset and the cause;
      or there is no such name: the line 'F absent' with the number of names compared;
-     check and list: some files are refused; archive: the archive or a member is refused;
+     check: some files are refused; archive: the archive or a member is refused;
      traits: some files are refused, or lack what is required; needs: a library is missing or
      refused
   2  the words are wrong, or ask for help, and no file is opened: standard error tells which
@@ -72,8 +70,8 @@ Exit status:
        elfsee: bad trait      a word of --require is not COLUMN=WORD with a word of that column
      of LIST: 'in line N' stands behind bad item and layout-repeat; or
        elfsee: cannot read layout, elfsee: layout too large
-  3  check, list and traits: some files could not be read or named; else, and for their list and
-     their output, a read or write fault, a file that cannot be opened, or no memory: standard
+  3  check and traits: some files could not be read or named; else, and for their list and their
+     output, a read or write fault, a file that cannot be opened, or no memory: standard
      error has one of these lines:
        elfsee: read fault, elfsee: write fault, elfsee: cannot open, elfsee: out of memory";
 
@@ -106,9 +104,7 @@ pub(crate) const CHECKED: &str = "\
 Each file has one line: C, its state, where it is at fault and why, and its path.
   ok       'show' with these options ends with status 0
   refused  it ends with status 1: an offset in the file and the cause follow the state
-  no-elf   it does not begin with the magic number; an archive is such a file without --members,
-           and with it has the state of its members' listings: the first fault, at its offset in
-           the archive
+  no-elf   it does not begin with the magic number
   unread   it cannot be opened or read, or lies more than 64 folders deep
   memory   there was no memory for it
 If a PATH is a folder, all files in it are checked, in the order of their names; links in it are
@@ -119,18 +115,6 @@ Exit status: 0 all are ok or no-elf, 1 some are refused, 3 some are unread, memo
 Examples:
   elfsee check --only header /usr/lib
   find /opt -name '*.so' -print0 | elfsee check --files0-from -";
-
-pub(crate) const LISTED: &str = "\
-Each ELF file has a line @ with its path, and behind it the listing that 'show' writes with these
-options. With --members an archive has one too, and behind it what 'archive' writes. Of other
-files there is nothing, but for a line C where one is unread, or there is no memory for it.
-Files and folders are gone through as 'check' does it.
-
-Exit status: 0 all is listed, 1 some files are refused, 3 some are unread, memory or unnamed.
-
-Examples:
-  elfsee list --only dynamic /usr/bin
-  elfsee list --only symbols --members /usr/lib/x86_64-linux-gnu";
 
 pub(crate) const HARDENED: &str = "\
 Each ELF file has one line: T, its kind, eight traits, and its path. They are told as a loader

@@ -9,7 +9,7 @@ use crate::options::{asks_gnu, find_lacks_gnu, text_of};
 use crate::reading::{MEMBER_PARTS, PARTS};
 use clap::error::ErrorKind;
 use clap::{ArgMatches, Command, Error};
-use elf_command_line::{archive, check, find, list, sample, show, traits};
+use elf_command_line::{archive, check, find, sample, show, traits};
 use std::alloc::{AllocError, Global};
 
 /// What a command of many files is told without a path, as other commands are of their FILE.
@@ -54,7 +54,6 @@ fn lacking<'m>(matches: &'m ArgMatches<'_>) -> (&'m str, &'static str) {
         Some((command, options)) if lacks_gnu(options) => (command, NO_GNU),
         Some(("find", options)) if find_lacks_gnu(options) => ("find", NO_GNU),
         Some(("check", _)) => ("check", NO_PATH),
-        Some(("list", _)) => ("list", NO_PATH),
         Some(("traits", _)) => ("traits", NO_PATH),
         _ => ("show", NO_LISTING),
     }
@@ -75,7 +74,6 @@ fn named<'a>(alloc: Global, command: &str) -> Result<Command<'a>, AllocError> {
         "find" => called(find(alloc), "elfsee find"),
         "sample" => called(sample(alloc, parts), "elfsee sample"),
         "check" => called(check(alloc, parts), "elfsee check"),
-        "list" => called(list(alloc, parts), "elfsee list"),
         "traits" => called(traits(alloc), "elfsee traits"),
         "archive" => called(archive(alloc, MEMBER_PARTS.as_slice()), "elfsee archive"),
         _ => called(show(alloc, parts), "elfsee show"),

@@ -2,14 +2,13 @@
 use Rattle.std.specs.Prelude.{⊤, ◌≡◌, ◌⊎◌, List, Result, Ok, Err, codes, Option, None, Some}
 use Rattle.clap.specs.Walk.{Row, Text, first_of}
 use Rattle.elf_listing_words.specs.Listings.{AsksVersion}
-use Rattle.elf_listing_words.specs.Options.{AreLimitOptions, AreParts, IsStyle, is_option_set}
+use Rattle.elf_listing_words.specs.Options.{AreLimitOptions, AreParts, IsStyle}
 use Rattle.elf_words.specs.Asked.{AsksBy, HasFault}
 use Rattle.elf_words.specs.AskedNeeds.{NeedsBy}
 use Rattle.elf_words.specs.AskedTraits.{RequiresBadly, TellsBy}
 use Rattle.elf_words.specs.Files.{AreFiles}
-use Rattle.elf_words.specs.Lists.{FilesListedBy}
 use Rattle.elf_words.specs.declared.checks.AskedCommand.{AskedCommand}
-use Rattle.elf_words.specs.declared.checks.AskedCommand.TheVariants.{File, Laid, Check, List as Listings, Traits, Needs, Archive, Version}
+use Rattle.elf_words.specs.declared.checks.AskedCommand.TheVariants.{File, Laid, Check, Traits, Needs, Archive, Version}
 use Rattle.elf_words.specs.Archives.{ArchivesBy}
 use Rattle.elf_words.specs.declared.checks.Checking.{Checking}
 use Rattle.elf_words.specs.declared.requests.RequestFault.{RequestFault}
@@ -22,7 +21,6 @@ pub record IsChecking (command : Text) (rows : List Row) (asked : Checking) : Ty
   pub limits : AreLimitOptions rows asked.limits
   pub style : IsStyle rows asked.style
   pub parts : AreParts rows asked.parts
-  pub members : asked.members ≡ is_option_set (first_of (codes "members") rows)
 
 -- a command with the values of its arguments asks for this check
 abbrev pub ChecksBy : Option (Text × List Row) → Checking → Type 0
@@ -44,7 +42,6 @@ abbrev pub IsAsked : Option (Text × List Row) → AskedCommand → Type 0
 IsAsked matches (File request) = AsksBy matches request × LacksList matches
 IsAsked matches (Laid laying) = AsksBy matches laying.request × HasList matches laying.list.now
 IsAsked matches (Check asked) = ChecksBy matches asked
-IsAsked matches (Listings asked) = FilesListedBy matches asked
 IsAsked matches (Traits asked) = TellsBy matches asked
 IsAsked matches (Needs asked) = NeedsBy matches asked
 IsAsked matches (Archive asked) = ArchivesBy matches asked

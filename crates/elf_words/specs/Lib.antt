@@ -6,4 +6,3 @@ pub mod Archives
 pub mod Checks
 pub mod Files
 pub mod Layouts
-pub mod Lists

@@ -16,7 +16,6 @@ use crate::archive_words::archive_asked;
 use crate::check_words::check_asked;
 use crate::checks::{AskedCommand, Laying};
 use crate::items::lay;
-use crate::list_words::list_asked;
 use crate::names::{checked_name, checked_symbol};
 use crate::need_words::needs_asked;
 use crate::requests::{Request, RequestFault, Task};
@@ -103,7 +102,6 @@ fn asked_by<'a>(
 {
     match command {
         "check" => check_asked(alloc, options),
-        "list" => list_asked(alloc, options),
         "traits" => traits_asked(alloc, options),
         "needs" => Ok(needs_asked(options)),
         "archive" => Ok(archive_asked(options)),
@@ -144,10 +142,9 @@ fn file_asked<'a>(
     command: &str,
     options: &ArgMatches<'a>,
 ) -> Result<Option<AskedCommand<'a>>, RequestFault>
-    requires { (command.now ≢ codes "check") × (command.now ≢ codes "list")
-        × (command.now ≢ codes "traits") × (command.now ≢ codes "needs")
-        × (command.now ≢ codes "archive") × (command.now ≢ codes "version")
-        × (command.now ≢ codes "apply") }
+    requires { (command.now ≢ codes "check") × (command.now ≢ codes "traits")
+        × (command.now ≢ codes "needs") × (command.now ≢ codes "archive")
+        × (command.now ≢ codes "version") × (command.now ≢ codes "apply") }
     ensures { Becomes (Some (command.now, rows_of (found_of options.now))) result }
 {
     match of_file(command, options) {
