@@ -8,6 +8,7 @@ _elfsee_options() {
     check) set -- --headers --names --max-read --only --gnu --by-segments --json --files0-from ;;
     find) set -- --headers --max-read --gnu --by-segments --json ;;
     apply) set -- --headers --max-read --layout --explain ;;
+    needs) set -- --headers --max-read --library-path --default --root --json ;;
     traits) set -- --headers --max-read --require --json --files0-from ;;
     *) set -- ;;
     esac
@@ -60,7 +61,7 @@ _elfsee() {
         else
             case $word in
             --) ended=1 before= ;;
-            --headers | --names | --max-read | --only | --layout | --require | --files0-from) skip=1 ;;
+            --headers | --names | --max-read | --only | --layout | --require | --library-path | --default | --root | --files0-from) skip=1 ;;
             -*) ;;
             *) if [[ $command ]]; then files=$((files + 1)); else command=$word; fi ;;
             esac
@@ -73,8 +74,8 @@ _elfsee() {
             mapfile -t COMPREPLY < <(compgen -W "$parts" -- "$current")
             return
             ;;
-        --headers | --names | --max-read | --require) return ;;
-        --layout | --files0-from)
+        --headers | --names | --max-read | --require | --library-path | --default) return ;;
+        --layout | --root | --files0-from)
             _elfsee_files
             return
             ;;
@@ -92,9 +93,9 @@ _elfsee() {
         esac
     fi
     case $command in
-    '') mapfile -t COMPREPLY < <(compgen -W 'show sample find apply check traits archive version help' -- "$current") ;;
-    help) [[ $files != 0 ]] || mapfile -t COMPREPLY < <(compgen -W 'show sample find apply check traits archive version' -- "$current") ;;
-    show | find | archive) [[ $files != 0 ]] || _elfsee_files ;;
+    '') mapfile -t COMPREPLY < <(compgen -W 'show sample find apply check traits needs archive version help' -- "$current") ;;
+    help) [[ $files != 0 ]] || mapfile -t COMPREPLY < <(compgen -W 'show sample find apply check traits needs archive version' -- "$current") ;;
+    show | find | needs | archive) [[ $files != 0 ]] || _elfsee_files ;;
     check | traits) _elfsee_files ;;
     apply)
         case $files in

@@ -119,9 +119,30 @@ abbrev pub traits_command : App
 traits_command =
     with_rule (with_rule (with_rule (with_rule (with_reading_options (new_app (codes "traits"))) require_option) json_option) list_option) path_argument
 
+-- folders, which colons part
+abbrev pub library_path_option : Rule
+library_path_option = record (new_rule (codes "library-path")) { long = Some (codes "library-path"); value_names = 1 }
+
+abbrev pub default_option : Rule
+default_option = record (new_rule (codes "default")) { long = Some (codes "default"); value_names = 1 }
+
+-- the folder that another system's files stand in
+abbrev pub root_option : Rule
+root_option = record (new_rule (codes "root")) { long = Some (codes "root"); value_names = 1 }
+
+abbrev pub needs_command : App
+needs_command =
+    with_rule (with_rule (with_rule (with_rule (with_rule (with_reading_options (new_app (codes "needs"))) library_path_option) default_option) root_option)
+    json_option) file_argument
+
+-- a program, with the commands that read many files
+abbrev pub with_many_files : Words → App → App
+with_many_files parts app =
+    with_subcommand (with_subcommand (with_subcommand app (check_command parts).top) traits_command.top) needs_command.top
+
 -- the program, with the commands that read one file, or many
 abbrev pub with_many : Words → App
-with_many parts = with_subcommand (with_subcommand (with_one_file parts) (check_command parts).top) traits_command.top
+with_many parts = with_many_files parts (with_one_file parts)
 
 -- the names of the parts of a listing, and of those of an archive's
 pub record PartWords : Type 0 where

@@ -1,16 +1,17 @@
 //! The commands of the command line, with what each takes among its words.
 ghost use Rattle.std.specs.Prelude.{◌≡◌, IfOk};
+ghost use Rattle.clap.specs.Simple.{App};
 ghost use Rattle.clap.specs.Words.{app_of};
 ghost use Rattle.clap.specs.declared.builder.value_parser.ValueParser.TheVariants.{Names};
 ghost use Rattle.elf_command_line.specs.Building.{IsBuilt};
 ghost use Rattle.elf_command_line.specs.CommandLine.{Words};
 ghost use Rattle.elf_command_line.specs.Described.{with_commands};
 ghost use Rattle.elf_command_line.specs.CommandLine.{archive_command, check_command, find_command, program};
-ghost use Rattle.elf_command_line.specs.CommandLine.{sample_command, show_command, traits_command};
-ghost use Rattle.elf_command_line.specs.CommandLine.{with_files, with_many, without_command};
+ghost use Rattle.elf_command_line.specs.CommandLine.{needs_command, sample_command, show_command, traits_command};
+ghost use Rattle.elf_command_line.specs.CommandLine.{with_files, with_many, with_many_files, with_one_file, without_command};
 
 use crate::adding::{Described, command_of, new_command, with_command, with_commands};
-use crate::texts::{ABOUT, CHECKED, FOUND, HARDENED, ITEMS, MEMBERS, MORE};
+use crate::texts::{ABOUT, CHECKED, FOUND, HARDENED, ITEMS, MEMBERS, MORE, NEEDED};
 use crate::words::{Word, WordKind};
 use clap::Command;
 use clap::builder::ValueParser;
@@ -126,6 +127,24 @@ const REQUIRE: Word = Word {
     help: "Tell of each program and library which of these words it lacks, as in stack=nx,relro=full",
 };
 
+const LIBRARY_PATH: Word = Word {
+    name: "library-path",
+    kind: WordKind::Value("DIRS"),
+    help: "Look for libraries in these folders too, as a loader does by LD_LIBRARY_PATH",
+};
+
+const DEFAULT: Word = Word {
+    name: "default",
+    kind: WordKind::Value("DIRS"),
+    help: "Look in these folders last, not in those of a system",
+};
+
+const ROOT: Word = Word {
+    name: "root",
+    kind: WordKind::Value("DIR"),
+    help: "Look below DIR for each path that begins with a slash",
+};
+
 const SHOW: Described = Described {
     name: "show",
     about: "List a file, whole or one part of it",
@@ -178,6 +197,13 @@ const TRAITS: Described = Described {
     words: &[HEADERS, MAX_READ, REQUIRE, JSON, LIST, PATH],
 };
 
+const NEEDS: Described = Described {
+    name: "needs",
+    about: "Tell which libraries a program needs, and where they are",
+    more: NEEDED,
+    words: &[HEADERS, MAX_READ, LIBRARY_PATH, DEFAULT, ROOT, JSON, FILE],
+};
+
 const ARCHIVE: Described = Described {
     name: "archive",
     about: "List the members of an archive, such as a static library, and what is in each",
@@ -192,7 +218,9 @@ const VERSION: Described = Described {
     words: &[],
 };
 
-static COMMANDS: [Described; 6] = [SHOW, SAMPLE, FIND, APPLY, CHECK, TRAITS];
+static OF_ONE_FILE: [Described; 4] = [SHOW, SAMPLE, FIND, APPLY];
+
+static OF_MANY_FILES: [Described; 3] = [CHECK, TRAITS, NEEDS];
 
 /// The command line, with the names of the parts of a listing, and of those of an archive's: all
 /// commands with their arguments and help, as `clap` reads words by them.
@@ -232,18 +260,36 @@ fn files<'a>(
 fn many<'a>(alloc: Global, parts: &'a [&'a str]) -> Result<Command<'a>, AllocError>
     ensures { IfOk result (λ command. app_of command ≡ with_many parts.entry) }
 {
-    match program(alloc) {
-        Ok(program) => with_commands(alloc, program, below(), ValueParser::Names(parts)),
+    match one_file(alloc, parts) {
+        Ok(command) => with_commands(alloc, command, of_many_files(), ValueParser::Names(parts)),
         Err(error) => Err(error),
     }
 }
 
-/// The commands below the program, but for the one that lists an archive.
-fn below() -> &'static [Described]
-    ensures { (parts : Words)
-        → with_commands (Names parts) without_command result.now ≡ with_many parts }
+/// The program, with the commands that read one file.
+fn one_file<'a>(alloc: Global, parts: &'a [&'a str]) -> Result<Command<'a>, AllocError>
+    ensures { IfOk result (λ command. app_of command ≡ with_one_file parts.entry) }
 {
-    &COMMANDS
+    match program(alloc) {
+        Ok(program) => with_commands(alloc, program, of_one_file(), ValueParser::Names(parts)),
+        Err(error) => Err(error),
+    }
+}
+
+/// The commands that read one file, but for the one that lists an archive.
+fn of_one_file() -> &'static [Described]
+    ensures { (parts : Words)
+        → with_commands (Names parts) without_command result.now ≡ with_one_file parts }
+{
+    &OF_ONE_FILE
+}
+
+/// The commands that read many files.
+fn of_many_files() -> &'static [Described]
+    ensures { (parts : Words) (app : App)
+        → with_commands (Names parts) app result.now ≡ with_many_files parts app }
+{
+    &OF_MANY_FILES
 }
 
 /// The program, without its commands.
@@ -251,7 +297,7 @@ fn program<'a>(alloc: Global) -> Result<Command<'a>, AllocError>
     ensures { IfOk result (λ command. app_of command ≡ without_command) }
 {
     let program = new_command(alloc, "elfsee", ABOUT, MORE)
-        .subcommand_value_name("show|sample|find|apply|check|traits|archive|version")
+        .subcommand_value_name("show|sample|find|apply|check|traits|needs|archive|version")
         .no_binary_name(true)
         .subcommand_required(true)
         .arg_required_else_help(true);
@@ -306,6 +352,16 @@ pub fn traits<'a>(alloc: Global) -> Result<Command<'a>, AllocError>
     ensures { IfOk result (IsBuilt traits_command) }
 {
     command_of(alloc, &TRAITS, ValueParser::Names(&[]))
+}
+
+/// The command that tells which libraries a program needs.
+///
+/// # Errors
+/// There is no memory for it; nothing of it is left then.
+pub fn needs<'a>(alloc: Global) -> Result<Command<'a>, AllocError>
+    ensures { IfOk result (IsBuilt needs_command) }
+{
+    command_of(alloc, &NEEDS, ValueParser::Names(&[]))
 }
 
 /// The command that lists an archive, with the names of its parts: the members, and those of a listing.

@@ -14,12 +14,13 @@ Examples:
   elfsee apply example.o 1 at:1=0x401000 def:main=0x401200
   elfsee check /usr/lib
   elfsee traits --require relro=full,stack=nx,pages=w^x /usr/bin
+  elfsee needs /bin/ls
   elfsee archive --only symbols /usr/lib/x86_64-linux-gnu/libc.a
   elfsee version
 
-Options, before or behind FILE; find, apply and traits have only --headers, --max-read and --,
-find also --json, --gnu and with it --by-segments, apply also --layout and --explain, traits
-also --json, --require and --files0-from:
+Options, before or behind FILE; find, apply, traits and needs have only --headers, --max-read
+and --, find also --json, --gnu and with it --by-segments, apply also --layout and --explain,
+traits also --json, --require and --files0-from, needs also --json and those for it only:
   --headers N   permit N section headers, and as many program headers:
                 1 to 65279 [default: 4096]
   --names N     show N bytes of a name: 1 to 4096 [default: 256]
@@ -40,6 +41,11 @@ also --json, --require and --files0-from:
   --require WORDS
                 for traits only: tell of each program and library which of these words it lacks,
                 as relro=full,stack=nx
+  --library-path DIRS
+                for needs only: look in these folders too, as a loader does by LD_LIBRARY_PATH
+  --default DIRS
+                for needs only: look in these folders last, not in those of a system
+  --root DIR    for needs only: look below DIR for each path that begins with a slash
   --files0-from FILE
                 for check and traits: take the paths in FILE too, each ended by NUL
   --            end the options, so that FILE, PATH or NAME may begin with a hyphen
@@ -47,11 +53,12 @@ FILE or PATH may be - for the file on standard input.
 
 Exit status:
   0  listed, found or applied; check: no file is at fault; traits: no file is refused, and none
-     lacks what is required
+     lacks what is required; needs: each library is found
   1  refused, or more to read than permitted: the last line is '!', an offset and the cause;
      or there is no such name: the line 'F absent' with the number of names compared;
      check: some files are refused; archive: the archive or a member is refused;
-     traits: some files are refused, or lack what is required
+     traits: some files are refused, or lack what is required; needs: a library is missing or
+     refused
   2  the words are wrong, or ask for help, and no file is opened: standard error tells which
      word is wrong and why, or has the help, or one of these lines:
        elfsee: words are not UTF-8
@@ -133,6 +140,22 @@ memory or unnamed.
 Examples:
   elfsee traits /usr/bin
   elfsee traits --require kind=pie,relro=full,stack=nx,pages=w^x /usr/sbin/sshd";
+
+pub(crate) const NEEDED: &str = "\
+Each object has a line: L, its index, the index of the object that first needed it, its state,
+where it is at fault and why, and its path. FILE is the object 0. Nothing is run or loaded.
+  found    it is read, and the libraries that it needs follow
+  missing  no folder has it: the name in place of the path
+  refused  its headers, its dynamic entries or what a lookup is made in is at fault
+A library is looked for in RPATH, --library-path, RUNPATH and --default, as a loader does it.
+DIRS are folders, separated by colons; without --default they are
+/lib/x86_64-linux-gnu:/usr/lib/x86_64-linux-gnu:/lib64:/usr/lib64:/lib:/usr/lib
+
+Exit status: 1 where a library is missing or refused.
+
+Examples:
+  elfsee needs /bin/ls
+  elfsee needs --root /srv/other /srv/other/bin/ls";
 
 pub(crate) const MEMBERS: &str = "\
 Each member has a line: A, its index, the offset and the size of its data, and its name. If it

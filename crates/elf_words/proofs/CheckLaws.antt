@@ -8,9 +8,10 @@ use Rattle.clap.specs.Walk.{Row, Text, first_of}
 use Rattle.elf_words.specs.Archives.{NothingArchived}
 use Rattle.elf_words.specs.Asked.{AsksBy, AsksNothing, HasFault, IsTask}
 use Rattle.elf_words.specs.AskedTraits.{LacksWord, NothingTold}
+use Rattle.elf_words.specs.AskedNeeds.{NothingNeeded}
 use Rattle.elf_words.specs.Checks.{HasAnyFault, IsAsked, NothingAsked, NothingChecked}
 use Rattle.elf_words.specs.declared.checks.AskedCommand.{AskedCommand}
-use Rattle.elf_words.specs.declared.checks.AskedCommand.TheVariants.{File, Laid, Check, Traits, Archive, Version}
+use Rattle.elf_words.specs.declared.checks.AskedCommand.TheVariants.{File, Laid, Check, Traits, Needs, Archive, Version}
 use Rattle.elf_words.specs.declared.requests.Request.{Request}
 use Rattle.elf_words.specs.declared.requests.RequestFault.{RequestFault}
 use Rattle.elf_words.specs.declared.requests.Task.{Task}
@@ -57,6 +58,7 @@ nothing_by_check rows none = record { nothing = nothing; faultless = no_fault (c
     nothing (Laid laying) is = no_file (codes "check") rows refl laying.request is.0
     nothing (Check asked) is = none asked is
     nothing (Traits asked) is = apart (codes "check") (codes "traits") refl is.traits
+    nothing (Needs asked) is = apart (codes "check") (codes "needs") refl is.needs
     nothing (Archive asked) is = apart (codes "check") (codes "archive") refl is.archive
     nothing Version is = apart (codes "check") (codes "version") refl is
 
@@ -70,12 +72,27 @@ nothing_by_traits rows none spelled = record { nothing = nothing; faultless = fa
     nothing (Laid laying) is = no_file (codes "traits") rows refl laying.request is.0
     nothing (Check asked) is = apart (codes "traits") (codes "check") refl is.check
     nothing (Traits asked) is = none asked is
+    nothing (Needs asked) is = apart (codes "traits") (codes "needs") refl is.needs
     nothing (Archive asked) is = apart (codes "traits") (codes "archive") refl is.archive
     nothing Version is = apart (codes "traits") (codes "version") refl is
 
     faultless : (fault : RequestFault) → HasAnyFault (Some (codes "traits", rows)) fault → ⊥
     faultless fault (inl has) = let e : true ≡ false = sym (fault_of_file (codes "traits") rows fault has) in cc
     faultless fault (inr has) = spelled has.1.1
+
+-- where no needs are asked for by `needs`, nothing is
+pub nothing_by_needs : (rows : List Row) → NothingNeeded (Some (codes "needs", rows)) → NothingAsked (Some (codes "needs", rows))
+unfolding is_of_file
+nothing_by_needs rows none = record { nothing = nothing; faultless = no_fault (codes "needs") rows refl (apart (codes "needs") (codes "traits") refl) }
+  where
+    nothing : (asked : AskedCommand) → IsAsked (Some (codes "needs", rows)) asked → ⊥
+    nothing (File request) is = no_file (codes "needs") rows refl request is.0
+    nothing (Laid laying) is = no_file (codes "needs") rows refl laying.request is.0
+    nothing (Check asked) is = apart (codes "needs") (codes "check") refl is.check
+    nothing (Traits asked) is = apart (codes "needs") (codes "traits") refl is.traits
+    nothing (Needs asked) is = none asked is
+    nothing (Archive asked) is = apart (codes "needs") (codes "archive") refl is.archive
+    nothing Version is = apart (codes "needs") (codes "version") refl is
 
 -- where no archive is asked for by `archive`, nothing is
 pub nothing_by_archive : (rows : List Row) → NothingArchived (Some (codes "archive", rows)) → NothingAsked (Some (codes "archive", rows))
@@ -87,19 +104,21 @@ nothing_by_archive rows none = record { nothing = nothing; faultless = no_fault 
     nothing (Laid laying) is = no_file (codes "archive") rows refl laying.request is.0
     nothing (Check asked) is = apart (codes "archive") (codes "check") refl is.check
     nothing (Traits asked) is = apart (codes "archive") (codes "traits") refl is.traits
+    nothing (Needs asked) is = apart (codes "archive") (codes "needs") refl is.needs
     nothing (Archive asked) is = none asked is
     nothing Version is = apart (codes "archive") (codes "version") refl is
 
 -- where another command asks for nothing of one file, nothing is asked for
-pub nothing_by_other : (command : Text) (rows : List Row) → command ≢ codes "check" → command ≢ codes "traits" → command ≢ codes "archive" → command ≢ codes "version"
+pub nothing_by_other : (command : Text) (rows : List Row) → command ≢ codes "check" → command ≢ codes "traits" → command ≢ codes "needs" → command ≢ codes "archive" → command ≢ codes "version"
     → AsksNothing (Some (command, rows)) → NothingAsked (Some (command, rows))
-nothing_by_other command rows not_check not_traits not_archive not_version none = record { nothing = nothing; faultless = faultless }
+nothing_by_other command rows not_check not_traits not_needs not_archive not_version none = record { nothing = nothing; faultless = faultless }
   where
     nothing : (asked : AskedCommand) → IsAsked (Some (command, rows)) asked → ⊥
     nothing (File request) is = none.nothing request is.0
     nothing (Laid laying) is = none.nothing laying.request is.0
     nothing (Check asked) is = not_check is.check
     nothing (Traits asked) is = not_traits is.traits
+    nothing (Needs asked) is = not_needs is.needs
     nothing (Archive asked) is = not_archive is.archive
     nothing Version is = not_version is
 
@@ -110,5 +129,5 @@ nothing_by_other command rows not_check not_traits not_archive not_version none 
 -- where a section is not applied by `apply`, nothing is asked for
 pub nothing_by_apply : (rows : List Row) → AsksNothing (Some (codes "apply", rows)) → NothingAsked (Some (codes "apply", rows))
 nothing_by_apply rows =
-    nothing_by_other (codes "apply") rows (apart (codes "apply") (codes "check") refl) (apart (codes "apply") (codes "traits") refl)
+    nothing_by_other (codes "apply") rows (apart (codes "apply") (codes "check") refl) (apart (codes "apply") (codes "traits") refl) (apart (codes "apply") (codes "needs") refl)
     (apart (codes "apply") (codes "archive") refl) (apart (codes "apply") (codes "version") refl)

@@ -4,10 +4,11 @@ use Rattle.clap.specs.Walk.{Row, Text, first_of}
 use Rattle.elf_listing_words.specs.Listings.{AsksVersion}
 use Rattle.elf_listing_words.specs.Options.{AreLimitOptions, AreParts, IsStyle}
 use Rattle.elf_words.specs.Asked.{AsksBy, HasFault}
+use Rattle.elf_words.specs.AskedNeeds.{NeedsBy}
 use Rattle.elf_words.specs.AskedTraits.{RequiresBadly, TellsBy}
 use Rattle.elf_words.specs.Files.{AreFiles}
 use Rattle.elf_words.specs.declared.checks.AskedCommand.{AskedCommand}
-use Rattle.elf_words.specs.declared.checks.AskedCommand.TheVariants.{File, Laid, Check, Traits, Archive, Version}
+use Rattle.elf_words.specs.declared.checks.AskedCommand.TheVariants.{File, Laid, Check, Traits, Needs, Archive, Version}
 use Rattle.elf_words.specs.Archives.{ArchivesBy}
 use Rattle.elf_words.specs.declared.checks.Checking.{Checking}
 use Rattle.elf_words.specs.declared.requests.RequestFault.{RequestFault}
@@ -42,6 +43,7 @@ IsAsked matches (File request) = AsksBy matches request × LacksList matches
 IsAsked matches (Laid laying) = AsksBy matches laying.request × HasList matches laying.list.now
 IsAsked matches (Check asked) = ChecksBy matches asked
 IsAsked matches (Traits asked) = TellsBy matches asked
+IsAsked matches (Needs asked) = NeedsBy matches asked
 IsAsked matches (Archive asked) = ArchivesBy matches asked
 IsAsked matches Version = AsksVersion matches
 

@@ -18,6 +18,8 @@ pub enum AskedCommand<'a> {
     Check(Checking<'a>),
     /// How many files are hardened is told.
     Traits(TraitsAsked<'a>),
+    /// What a program needs is told.
+    Needs(NeedsAsked<'a>),
     /// The members of an archive are listed.
     Archive(Archiving<'a>),
     /// The version of the program is told.
@@ -110,6 +112,37 @@ pub struct Archiving<'a> {
 }
 
 impl<'a> Archiving<'a> {
+    ghost use Rattle.std.specs.Prelude.{◌≤◌};
+
+    /// How many slots the header store needs, 1 to 65,279.
+    pub fn headers(&self) -> u16
+        ensures value { result ≡ self.now.limits.headers }
+        ensures some { 1 ≤ result }
+        ensures few { result ≤ 65279 }
+    {
+        self.limits.headers
+    }
+}
+
+/// What a program needs: which program, where its libraries are looked for, how much of each file may be
+/// read, and how a line is written. Folders are separated by colons.
+#[derive(Clone, Copy, Drop)]
+pub struct NeedsAsked<'a> {
+    /// The path of the program.
+    pub file: &'a str,
+    /// The folders that are looked in before those of DT_RUNPATH; empty where none are given.
+    pub library_path: &'a str,
+    /// The folders that are looked in last.
+    pub default: &'a str,
+    /// The folder below which paths that begin with a slash are looked for; empty where none is given.
+    pub root: &'a str,
+    /// How many headers are permitted, of each file, and how many bytes may be read, of all together.
+    pub limits: Limits,
+    /// How a line is written.
+    pub format: Format,
+}
+
+impl<'a> NeedsAsked<'a> {
     ghost use Rattle.std.specs.Prelude.{◌≤◌};
 
     /// How many slots the header store needs, 1 to 65,279.

@@ -7,11 +7,12 @@ mod checks;
 mod file_words;
 mod items;
 mod names;
+mod need_words;
 mod requests;
 mod trait_words;
 mod words;
 
-pub use checks::{Archiving, AskedCommand, Checking, Laying, ManyFiles, TraitsAsked};
+pub use checks::{Archiving, AskedCommand, Checking, Laying, ManyFiles, NeedsAsked, TraitsAsked};
 pub use names::{checked_name, checked_symbol};
 pub use requests::{Request, RequestFault, Task, WantedName, WantedSymbol};
 pub use words::request;

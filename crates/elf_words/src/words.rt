@@ -17,6 +17,7 @@ use crate::check_words::check_asked;
 use crate::checks::{AskedCommand, Laying};
 use crate::items::lay;
 use crate::names::{checked_name, checked_symbol};
+use crate::need_words::needs_asked;
 use crate::requests::{Request, RequestFault, Task};
 use crate::trait_words::traits_asked;
 use clap::ArgMatches;
@@ -102,6 +103,7 @@ fn asked_by<'a>(
     match command {
         "check" => check_asked(alloc, options),
         "traits" => traits_asked(alloc, options),
+        "needs" => Ok(needs_asked(options)),
         "archive" => Ok(archive_asked(options)),
         "apply" => apply_asked(options, layout),
         "version" => Ok(Some(AskedCommand::Version)),
@@ -141,8 +143,8 @@ fn file_asked<'a>(
     options: &ArgMatches<'a>,
 ) -> Result<Option<AskedCommand<'a>>, RequestFault>
     requires { (command.now ≢ codes "check") × (command.now ≢ codes "traits")
-        × (command.now ≢ codes "archive") × (command.now ≢ codes "version")
-        × (command.now ≢ codes "apply") }
+        × (command.now ≢ codes "needs") × (command.now ≢ codes "archive")
+        × (command.now ≢ codes "version") × (command.now ≢ codes "apply") }
     ensures { Becomes (Some (command.now, rows_of (found_of options.now))) result }
 {
     match of_file(command, options) {

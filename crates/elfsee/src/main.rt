@@ -5,6 +5,7 @@ mod archives;
 mod explaining;
 mod layouts;
 mod many;
+mod needs;
 
 ghost use Rattle.std.specs.Prelude.{◌≡◌, ◌⊎◌, IfErr, IfOk, map, string_bytes};
 ghost use Rattle.elf_run.specs.Answers.{refused_line, refused_status};
@@ -28,6 +29,7 @@ use elf_words::{AskedCommand, Request, RequestFault, request};
 use explaining::tell_why;
 use layouts::apply_laid;
 use many::{check_many, tell_traits};
+use needs::tell_needs;
 use std::alloc::Global;
 use std::io::{self, BufWriter, Input, IsTerminal, Stderr, Write};
 use std::os::unix::fs::FileExt;
@@ -85,6 +87,7 @@ where
         AskedCommand::Laid(laying) => apply_laid(rt, laying, errors),
         AskedCommand::Check(checking) => check_many(rt, checking, terminal),
         AskedCommand::Traits(traits) => tell_traits(rt, traits, terminal),
+        AskedCommand::Needs(asked) => tell_needs(rt, asked),
         AskedCommand::Archive(archiving) => list_archive(rt, archiving),
         AskedCommand::Version => tell_version(rt),
     }
