@@ -23,11 +23,11 @@ pub struct SearchedFolders<'a> {
 
 /// A search for a library of a machine: what it goes by, and what is left of the budget.
 #[derive(Drop)]
-pub(crate) struct Search<'a, R> {
+pub(crate) struct Search<'r, 's, R> {
     /// The system's files.
-    pub rt: &'a R,
+    pub rt: &'r R,
     /// The folders that are told.
-    pub folders: SearchedFolders<'a>,
+    pub folders: SearchedFolders<'s>,
     /// The machine.
     pub machine: u16,
     /// The path that is tried.
@@ -36,7 +36,7 @@ pub(crate) struct Search<'a, R> {
     pub left: Option<u64>,
 }
 
-impl<R: Files> Search<'_, R>
+impl<R: Files> Search<'_, '_, R>
 where
     R::File: FileExt,
 {

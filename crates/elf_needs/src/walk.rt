@@ -24,13 +24,13 @@ pub enum NeedsFault {
 
 /// A program that is opened: its source, its path as it is shown, and with all links followed.
 #[derive(Drop)]
-pub struct ProgramFile<'a, S: Source> {
+pub struct ProgramFile<'p, 'r, S: Source> {
     /// The source.
     pub source: Counted<S>,
     /// The path that is shown.
-    pub path: &'a [u8],
+    pub path: &'p [u8],
     /// The path whose folder stands for `$ORIGIN`.
-    pub real: &'a [u8],
+    pub real: &'r [u8],
 }
 
 /// What a walk goes by.
@@ -64,12 +64,12 @@ enum Onward {
 
 /// A walk over the objects of a program.
 #[derive(Drop)]
-struct ObjectWalk<'a, 'w, R, W: Sink> {
-    search: Search<'a, R>,
-    objects: &'a mut Objects,
-    store: &'a mut HeaderStore<'w>,
+struct ObjectWalk<'r, 's, 'o, 'h, 'w, 'u, R, W: Sink> {
+    search: Search<'r, 's, R>,
+    objects: &'o mut Objects,
+    store: &'h mut HeaderStore<'w>,
     format: Format,
-    out: &'a mut Out<W>,
+    out: &'u mut Out<W>,
     status: u8,
 }
 
@@ -80,13 +80,13 @@ struct ObjectWalk<'a, 'w, R, W: Sink> {
 ///
 /// # Errors
 /// A read or the output failed.
-pub fn list_needs<'a, R: Files, S: Source, W: Sink>(
-    rt: &'a R,
-    program: &mut ProgramFile<'_, S>,
-    settings: &NeedsSettings<'a>,
-    store: &'a mut HeaderStore<'_>,
-    room: &'a mut NeedsRoom,
-    out: &'a mut Out<W>,
+pub fn list_needs<R: Files, S: Source, W: Sink>(
+    rt: &R,
+    program: &mut ProgramFile<'_, '_, S>,
+    settings: &NeedsSettings<'_>,
+    store: &mut HeaderStore<'_>,
+    room: &mut NeedsRoom,
+    out: &mut Out<W>,
 ) -> Result<u8, NeedsFault>
 where
     R::File: FileExt,
@@ -117,12 +117,12 @@ where
     Ok(walk.status)
 }
 
-impl<R: Files, W: Sink> ObjectWalk<'_, '_, R, W>
+impl<R: Files, W: Sink> ObjectWalk<'_, '_, '_, '_, '_, '_, R, W>
 where
     R::File: FileExt,
 {
     /// Reads the program, and writes its line.
-    fn program<S: Source>(&mut self, program: &mut ProgramFile<'_, S>) -> Result<(), NeedsFault> {
+    fn program<S: Source>(&mut self, program: &mut ProgramFile<'_, '_, S>) -> Result<(), NeedsFault> {
         program.source.limit(self.search.left);
         match machine_of(&mut program.source) {
             Ok(Some(machine)) => self.search.machine = machine,

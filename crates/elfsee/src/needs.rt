@@ -58,26 +58,21 @@ where
         Err(error) if error.kind() == ErrorKind::OutOfMemory => return Err(OUT_OF_MEMORY),
         Err(_) => return Err(CANNOT_OPEN),
     };
-    let mut program = program_file(source, asked.file, real.as_str());
+    let mut program = ProgramFile {
+        source: Counted::new(source),
+        path: asked.file.as_bytes(),
+        real: real.as_str().as_bytes(),
+    };
     let mut out = Out::new(WriteSink::new(output));
     let ended = list_to(rt, &mut program, asked, store, room, &mut out);
     let (ending, _output) = end_run(ended, out.into_inner().into_inner());
     Ok(ending)
 }
 
-/// A program that is opened, by its path as it is shown, and with all links followed.
-fn program_file<'a, S: Source>(source: S, path: &'a str, real: &'a str) -> ProgramFile<'a, S> {
-    ProgramFile {
-        source: Counted::new(source),
-        path: path.as_bytes(),
-        real: real.as_bytes(),
-    }
-}
-
 /// Lists the objects that a program needs, and answers how the run ended.
 fn list_to<R: Files, S: Source, W: Sink>(
     rt: &R,
-    program: &mut ProgramFile<'_, S>,
+    program: &mut ProgramFile<'_, '_, S>,
     asked: &NeedsAsked<'_>,
     store: &mut HeaderStore<'_>,
     room: &mut NeedsRoom,
