@@ -122,7 +122,10 @@ where
     R::File: FileExt,
 {
     /// Reads the program, and writes its line.
-    fn program<S: Source>(&mut self, program: &mut ProgramFile<'_, '_, S>) -> Result<(), NeedsFault> {
+    fn program<S: Source>(
+        &mut self,
+        program: &mut ProgramFile<'_, '_, S>,
+    ) -> Result<(), NeedsFault> {
         program.source.limit(self.search.left);
         match machine_of(&mut program.source) {
             Ok(Some(machine)) => self.search.machine = machine,
