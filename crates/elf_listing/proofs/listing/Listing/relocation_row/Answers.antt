@@ -34,7 +34,9 @@ returns-then-not-is_shown g c = Lists-hidden _ _ _ _ _ _ (omega arith) c.in_ok-e
     let decoded = c.decode-entry.ensures.stands file c.args.row.now.at (c.whole_row.ensures ∙ row.bytes) in
     let here : c.args.row.now.at ≡ sh_offset file (section_at file c.args.section) + c.args.row.now.index * 24 = omega (arith, of_kind.1, row.here) in
     let symbol = c.symbol-symbol.ensures ∙ ap (λ n. n / 2 ^ 32) decoded.r_info in
-    rw (relocation_is file _ (style_of c.args.self.now.style) c.args.section (section_at file c.args.section) c.args.row.now.at _ c.args.row.now.index here refl symbol,
-    chosen-hidden _ _ _ _ _ _ (c.in_ok-end.ensures.read file (section_at file c.args.section) held of_kind.0) (chosen-as c.args.self.now.style _ _ _ _ c.in_ok-end.ensures.fetches.0.same_style c.is_shown.ensures c.if-not-is_shown.true),
-    c.in_ok-end.ensures.fetches.1)
+    rw (
+      relocation_is file _ (style_of c.args.self.now.style) c.args.section (section_at file c.args.section) c.args.row.now.at _ c.args.row.now.index here refl symbol,
+      chosen-hidden _ _ _ _ _ _ (c.in_ok-end.ensures.read file (section_at file c.args.section) held of_kind.0) (chosen-as c.args.self.now.style _ _ _ _ c.in_ok-end.ensures.fetches.0.same_style c.is_shown.ensures c.if-not-is_shown.true),
+      c.in_ok-end.ensures.fetches.1,
+    )
     (Whole-none _))

@@ -29,7 +29,9 @@ pub returns-then-not-is_shown : goal.returns-then-not-is_shown
 returns-then-not-is_shown g c = Lists-hidden _ _ _ _ _ _ (omega arith) c.in_ok-end.ensures.fetches (λ file held at of_kind row.
     let decoded = c.decode-symbol.ensures.stands file c.args.row.now.at (c.whole_row.ensures ∙ row.bytes) in
     let here : c.args.row.now.at ≡ sh_offset file (section_at file c.args.section) + c.args.row.now.index * 24 = omega (arith, of_kind.1, row.here) in
-    rw (symbol_is file (style_of c.args.self.now.style) _ _ _ _ _ _ refl of_kind.0 (c.from-off.ensures ∙ decoded.st_name) here,
-    chosen-hidden _ _ _ _ _ _ (c.in_ok-end.ensures.read file held) (chosen-as c.args.self.now.style _ _ _ _ c.in_ok-end.ensures.fetches.0.same_style c.is_shown.ensures c.if-not-is_shown.true),
-    c.in_ok-end.ensures.fetches.1)
+    rw (
+      symbol_is file (style_of c.args.self.now.style) _ _ _ _ _ _ refl of_kind.0 (c.from-off.ensures ∙ decoded.st_name) here,
+      chosen-hidden _ _ _ _ _ _ (c.in_ok-end.ensures.read file held) (chosen-as c.args.self.now.style _ _ _ _ c.in_ok-end.ensures.fetches.0.same_style c.is_shown.ensures c.if-not-is_shown.true),
+      c.in_ok-end.ensures.fetches.1,
+    )
     (Whole-none _))

@@ -27,7 +27,10 @@ returns g c = Lists-named _ _ _ _ _ _ _ _ (omega arith) c.in_ok-end.ensures.fetc
 pub returns-then-not-is_shown : goal.returns-then-not-is_shown
 returns-then-not-is_shown g c = Lists-hidden _ _ _ _ _ _ (omega arith) c.in_ok-end.ensures.fetches (λ file met held is.
     let off = c.from.ensures in
-    rw (record_is file (style_of c.args.self.now.style) c.args.section _ met c.args.given.now is, ← off,
-    chosen-hidden _ _ _ _ _ _ (c.in_ok-end.ensures.read file held) (chosen-as c.args.self.now.style _ _ _ _ c.in_ok-end.ensures.fetches.0.same_style c.is_shown.ensures c.if-not-is_shown.true),
-    c.in_ok-end.ensures.fetches.1)
+    rw (
+      record_is file (style_of c.args.self.now.style) c.args.section _ met c.args.given.now is,
+      ← off,
+      chosen-hidden _ _ _ _ _ _ (c.in_ok-end.ensures.read file held) (chosen-as c.args.self.now.style _ _ _ _ c.in_ok-end.ensures.fetches.0.same_style c.is_shown.ensures c.if-not-is_shown.true),
+      c.in_ok-end.ensures.fetches.1,
+    )
     (Whole-none _))
