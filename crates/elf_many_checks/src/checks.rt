@@ -13,7 +13,7 @@ use std::marker::Model;
 #[derive(Clone, Copy)]
 pub struct CheckRule {
     /// How much of the file may be read, and how rows of its listing are shown.
-    pub caps: Caps,
+    pub caps: Caps<'static>,
     /// The parts of its listing that count.
     pub parts: Parts,
 }
@@ -38,9 +38,9 @@ impl<'a> Model for Checks<'a> {
 
 impl<'a> Checks<'a> {
     /// A check with a store, which has a slot for each header that the caps permit.
-    pub fn new(store: HeaderStore<'a>, caps: Caps, parts: Parts) -> Self
+    pub fn new(store: HeaderStore<'a>, caps: Caps<'static>, parts: Parts) -> Self
         requires { store.slots ≡ caps.limits.headers }
-        ensures asked { (result.caps ≡ caps) × (result.parts ≡ parts) }
+        ensures asked { (result.caps ≡ caps.entry) × (result.parts ≡ parts) }
     {
         Checks {
             store,

@@ -54,7 +54,7 @@ pub struct Checking<'a> {
     /// The parts of a listing that count.
     pub parts: Parts,
     /// How rows are shown in such a listing.
-    pub style: Style,
+    pub style: Style<'static>,
 }
 
 impl<'a> Checking<'a> {
@@ -108,7 +108,7 @@ pub struct Archiving<'a> {
     /// The parts of a listing.
     pub parts: Parts,
     /// How rows are shown.
-    pub style: Style,
+    pub style: Style<'a>,
 }
 
 impl<'a> Archiving<'a> {
