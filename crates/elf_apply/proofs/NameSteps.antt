@@ -1,5 +1,5 @@
 -- A symbol's name, as far as it is read.
-use Rattle.std.proofs.Common.{◌≡◌, ℕ, ◌+◌, ◌-◌, ◌<◌, ◌≤◌, min, List, [], ◌∷◌, length, drop, Result, Ok, Err, None, refl, sym, ap, ◌∙◌, inl, inr, arith, length-take}
+use Rattle.std.proofs.Common.{◌≡◌, ℕ, ◌+◌, ◌-◌, ◌<◌, ◌≤◌, min, List, [], ◌∷◌, length, drop, Ok, Err, None, refl, sym, ap, ◌∙◌, inl, inr, arith, length-take}
 use Rattle.std.proofs.lemmas.Bool.{cases_lt}
 use Rattle.std.proofs.lemmas.List.{take_all}
 use Rattle.elf_model.specs.ApplyCost.{longest, lookup_cost}
@@ -8,11 +8,7 @@ use Rattle.elf_model.specs.Names.{same}
 use Rattle.elf_model.specs.Placing.{Searched, address_named}
 use Rattle.elf_model.specs.declared.causes.Cause.TheVariants.{NameOutside}
 use Rattle.std.proofs.lemmas.Bool.Decides.{nat_tests}
-use Rattle.std.specs.Prelude.{IfErr}
 use Rattle.elf_source.specs.Source.{Counting, Reads}
-use Rattle.elf_headers.specs.Faults.{Says}
-use Rattle.elf_headers.specs.declared.fault.Fault.{Fault}
-use Rattle.elf_apply.proofs.ReadLaws.{Says-more}
 use Rattle.elf_model.proofs.Slices.{slice-slice, slice-rest}
 
 pub lookup_most : (items : List (List ℕ × ℕ)) → (items ≡ [] → ⊥) → longest items + 1 ≤ lookup_cost Searched items
@@ -23,10 +19,6 @@ lookup_most (item ∷ items) some = omega arith
 -- a looser bound
 pub Reads-more : (a b : Counting) (n k : ℕ) → n ≤ k → Reads a b n → Reads a b k
 Reads-more a b n k within reads = grind arith
-
-pub says_more : {X : Type 0} (a b : Counting) (n k : ℕ) (result : Result X Fault) → n ≤ k → IfErr result (Says a b n) → IfErr result (Says a b k)
-says_more a b n k (Ok x) within says = tt
-says_more a b n k (Err fault) within says = Says-more a b n k fault within says
 
 -- so many bytes from an index of a string table on, or all up to its end
 pub front_is : (file : List ℕ) (at size index most n : ℕ) → index < size → n ≡ min (size - index) (most + 1) → slice file (at + index) n ≡ slice (slice file at size) index (most + 1)

@@ -1,11 +1,12 @@
 -- What a lookup by name answers, and what it costs.
-use Rattle.std.specs.Prelude.{ℕ, ◌≡◌, List, Option, Result, Ok, Err}
+use Rattle.std.specs.Prelude.{ℕ, ◌≡◌, List, Option, Result, Ok, Err, IfErr}
 use Rattle.elf_model.specs.Budget.{IsBudget}
 use Rattle.elf_model.specs.Placing.{address_named}
 use Rattle.elf_model.specs.declared.causes.Cause.{Cause}
 use Rattle.elf_model.specs.declared.causes.Refusal.{Refusal}
 use Rattle.elf_record.specs.Sym.{IsSym}
 use Rattle.elf_source.specs.Source.{Counting}
+use Rattle.elf_headers.specs.Faults.{IsOfCheck}
 use Rattle.elf_headers.specs.Ledger.{Did, why_stopped}
 use Rattle.elf_headers.specs.declared.fault.Fault.{Fault}
 use Rattle.elf_headers.specs.declared.fault.Fault.TheVariants.{Refused, Source}
@@ -23,6 +24,11 @@ abbrev pub ValueOrRefusal : {X : Type 0} → Result X Fault → Result X Refusal
 ValueOrRefusal (Ok x) answer = answer ≡ Ok x
 ValueOrRefusal (Err (Refused refusal)) answer = (IsBudget refusal → ⊥) → answer ≡ Err refusal
 ValueOrRefusal (Err (Source fault at)) answer = Unit {0}
+
+-- the same of a call that reads nothing: it refuses by a check alone
+pub record AnswersUnread {X : Type 0} (result : Result X Fault) (answer : Result X Refusal) : Type 0 where
+  pub value : ValueOrRefusal result answer
+  pub refusal : IfErr result IsOfCheck
 
 -- what a call did that looks for a symbol's name among items: it asked for at most n bytes, and answers the address of the
 -- first item of that name, where there is one; a refusal names the symbol

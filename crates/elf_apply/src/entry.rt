@@ -1,5 +1,5 @@
 //! What a relocation entry stores.
-ghost use Rattle.std.specs.Prelude.{◌≡◌, ◌+◌, ℕ, List, Some, IfErr, IfOk, IfSome, nat_lt};
+ghost use Rattle.std.specs.Prelude.{◌≡◌, ◌+◌, ℕ, List, Some, IfOk, IfSome, nat_lt};
 ghost use Rattle.elf_model.specs.Apply.{change_of, entry_changes, where_based};
 ghost use Rattle.elf_model.specs.Placing.{unnamed_value};
 ghost use Rattle.elf_model.specs.Records.{r_offset, r_sym};
@@ -7,11 +7,10 @@ ghost use Rattle.elf_model.specs.Values.{kind_of};
 ghost use Rattle.elf_model.specs.declared.causes.Cause.TheVariants.{Unplaced};
 ghost use Rattle.elf_reloc.specs.Types.{IsSized, IsWidth};
 ghost use Rattle.elf_record.specs.Rela.{IsRela};
-ghost use Rattle.elf_headers.specs.Faults.{IsOfCheck};
 ghost use Rattle.elf_headers.specs.Ledger.{Did, why_stopped};
 ghost use Rattle.elf_table.specs.Relocations.{RefersTo};
 ghost use Rattle.elf_table.specs.Tables.{SymbolsWithin};
-ghost use Rattle.elf_apply.specs.Costs.{ValueOrRefusal};
+ghost use Rattle.elf_apply.specs.Costs.{AnswersUnread, ValueOrRefusal};
 ghost use Rattle.elf_apply.specs.Entries.{Changes, DidFor, Does, IsPlacedInside};
 ghost use Rattle.elf_apply.specs.Entries.{beside_entry_cost, taken_place, target_as, term_of};
 ghost use Rattle.elf_apply.specs.Entries.{value_or};
@@ -184,8 +183,7 @@ fn taken_value<S: Source>(
 /// B of symbol 0, which the entry at `at` names: S and L are 0, and it has no other entry.
 #[tactic(auto, unfolding(elf_model::specs::Placing::unnamed_value))]
 fn unnamed_value(base: Base, at: u64) -> Result<u64, Fault>
-    ensures value { ValueOrRefusal result (unnamed_value base at) }
-    ensures refusal { IfErr result IsOfCheck }
+    ensures { AnswersUnread result (unnamed_value base at) }
 {
     match base {
         Base::Symbol | Base::Linkage => Ok(0),

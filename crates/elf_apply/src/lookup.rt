@@ -11,7 +11,7 @@ ghost use Rattle.elf_record.specs.Sym.{IsSym};
 ghost use Rattle.elf_headers.specs.Faults.{IsOfCheck};
 ghost use Rattle.elf_table.specs.Tables.{StringsWithin};
 ghost use Rattle.elf_layout.specs.Layouts.{items_cost, names_for};
-ghost use Rattle.elf_apply.specs.Costs.{FindsAddress, GivesValue, ValueOrRefusal};
+ghost use Rattle.elf_apply.specs.Costs.{AnswersUnread, FindsAddress, GivesValue, ValueOrRefusal};
 
 use elf_headers::{Fault, fill, refused};
 use elf_layout::{Addresses, Among, NamedAddress, SortedNames};
@@ -132,8 +132,7 @@ fn address_named<S: Source>(
 /// An offset from an address modulo 2^64; without an address the entry, which stands at `entry`, is
 /// refused.
 fn placed_at(entry: u64, address: Option<u64>, offset: u64) -> Result<u64, Fault>
-    ensures value { ValueOrRefusal result (placed_at entry address offset) }
-    ensures refusal { IfErr result IsOfCheck }
+    ensures { AnswersUnread result (placed_at entry address offset) }
 {
     match address {
         Some(address) => Ok(address.wrapping_add(offset)),

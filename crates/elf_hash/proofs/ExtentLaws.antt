@@ -1,5 +1,5 @@
 -- How many symbols a hash table tells of, word by word.
-use Rattle.std.proofs.Common.{◌≡◌, ℕ, zero, suc, ◌+◌, ◌-◌, ◌*◌, ◌<◌, ◌≤◌, max, min, nat_lt, Bool, true, false, List, [], Option, None, Some, Result, Ok, refl, sym, ap, subst, ◌∙◌, arith, nat_cmp}
+use Rattle.std.proofs.Common.{◌≡◌, ℕ, zero, suc, ◌+◌, ◌-◌, ◌*◌, ◌<◌, ◌≤◌, max, min, nat_lt, Bool, true, false, List, Option, None, Some, Result, Ok, refl, sym, ap, subst, ◌∙◌, arith, nat_cmp}
 use Rattle.std.specs.Ordering.{ord_max}
 use Rattle.std.proofs.lemmas.Bool.Decides.{nat_tests}
 use Rattle.elf_model.specs.Bytes.{field}
@@ -13,7 +13,7 @@ use Rattle.elf_source.specs.Source.{Counting}
 use Rattle.elf_headers.specs.Ledger.{Charges, IsRead}
 use Rattle.elf_headers.specs.declared.fault.Fault.{Fault}
 use Rattle.elf_headers.proofs.LedgerLaws.{Charges-more}
-use Rattle.elf_table.specs.Cursors.{Advances, EndsRows, GivesRow, HoldsRows, Reading, row_at, unread_bytes}
+use Rattle.elf_table.specs.Cursors.{Advances, EndsRows, GivesRow, Reading, row_at, unread_bytes}
 use Rattle.elf_table.specs.Tables.{Rows, size_of}
 use Rattle.elf_hash.specs.Counts.{IsGnu, IsSysv}
 use Rattle.elf_hash.specs.Extents.{EndsChain, TellsExtent, extent_bytes, last_in}
@@ -170,10 +170,6 @@ module _ (file : List ℕ) (scope : Scope) where
 -- what a cursor over buckets may ask for before the first
 pub unread_start : (c : Reading) (t : Gnu) → c.failed ≡ None → c.table ≡ buckets_of t → c.unread ≡ size_of c.table → unread_bytes c ≡ 4 * t.nbucket
 unread_start c t none is unread = rw (none, unread, is) (omega arith)
-
--- a cursor that holds nothing agrees with every file
-pub agrees_none : (file : List ℕ) (c : Reading) → c.held ≡ [] → HoldsRows file c
-agrees_none file c none = rw none refl
 
 -- the chain word of a symbol, as it is read
 pub word_is : (file : List ℕ) (table : Table) (t : Gnu) (index word place : ℕ) → IsGnu file table t

@@ -196,15 +196,6 @@ module _ (file : List ℕ) (table : Table) (hash : ℕ) (says : ℕ → Result B
     pub of_hash : b ≡ is_of_hash word hash
 
   module _ (read tried index word : ℕ) (b : Bool) (t : There read tried index word b) where
-    least_there : (tried + one_if b ≤ walk.tried) × (suc read ≤ walk.read)
-    least_there =
-        let l = least walk (gnu_lookup_answers file table hash says) read t.along.told t.along.goes (rw (← t.along.index_is) t.is) in
-        let next = tried_next read in
-        let same : one_if b ≡ one_if (is_of_hash (word_of (symbols read)) hash)
-        = ap one_if (t.of_hash ∙ ap (λ (w : ℕ). is_of_hash w hash) (t.word_is ∙ ap word_of t.along.index_is)) in
-        let tried_is = t.along.tried_is in
-        (omega (arith, l.0, next, same, tried_is), l.1)
-
     tried_now : tried + one_if b ≡ tried_of (suc read)
     tried_now =
         let next = tried_next read in
@@ -212,6 +203,12 @@ module _ (file : List ℕ) (table : Table) (hash : ℕ) (says : ℕ → Result B
         = ap one_if (t.of_hash ∙ ap (λ (w : ℕ). is_of_hash w hash) (t.word_is ∙ ap word_of t.along.index_is)) in
         let tried_is = t.along.tried_is in
         omega (arith, next, same, tried_is)
+
+    least_there : (tried + one_if b ≤ walk.tried) × (suc read ≤ walk.read)
+    least_there =
+        let l = least walk (gnu_lookup_answers file table hash says) read t.along.told t.along.goes (rw (← t.along.index_is) t.is) in
+        let now = tried_now in
+        (omega (arith, l.0, now), l.1)
 
     end_there : ends index ≡ (elim b [ true ↦ end_of_trial (says index) (end_of_chain (word_of index)) | false ↦ end_of_chain (word_of index) ])
     end_there = end_by index b t.is (ap (λ (w : ℕ). is_of_hash w hash) (sym t.word_is) ∙ sym t.of_hash)
@@ -240,28 +237,29 @@ module _ (file : List ℕ) (table : Table) (hash : ℕ) (says : ℕ → Result B
     gives : (end : WalkEnd) → ends file table hash says index ≡ Some end → looked ≡ gnu_walked_at file table.place hash read end
     gives end here = ends_here file table hash says read tried index t.place end t.along here
 
+    -- a symbol that answers, or fails, was to be tried
+    wanted : (c : Bool) (result : Result (Option TrialAnswer) Fault) → (result ≡ Ok None → ⊥) → TriesWhere c stands says index result → (c ≡ true) × Tries stands says index result
+    wanted true result other tries = (refl, tries)
+    wanted false result other tries = absurd (other tries)
+
     pub meets_untried_here : (fault : Fault) → TriesWhere b stands says index (Err fault)
         → Meets stands 0 cost looked (walk_bytes 0 read tried cost + 4 + cost_where b cost) (Err fault)
     unfolding gnu_walked_at
     meets_untried_here fault tries =
         let least = least_there file table hash says read tried index word b t in
-        let w = wanted b tries in
+        let w = wanted b (Err fault) (λ e. cc) tries in
         let end = end_there file table hash says read tried index word b t in
         let now = tried_now file table hash says read tried index word b t in
         meets_untried stands 0 cost looked _ (tried + one_if b) (suc read) index says fault w.1
         (λ refusal e. rw (now) (gives (Untried refusal) (end ∙ rw (w.0, e) refl)))
         least.0 least.1 (let bytes = bytes_where 0 read tried cost b in omega (arith, bytes))
-      where
-        wanted : (c : Bool) → TriesWhere c stands says index (Err fault) → (c ≡ true) × Tries stands says index (Err fault)
-        wanted true tries = (refl, tries)
-        wanted false tries = absurd (cc)
 
     pub meets_found : (answer : TrialAnswer) (all : ℕ) → TriesWhere b stands says index (Ok (Some answer)) → all ≡ tried + one_if b
         → Meets stands 0 cost looked (walk_bytes 0 read tried cost + 4 + cost_where b cost)
         (Ok (record { found = Some (record { index = index; answer = answer }); tried = all; read = read + 1 }))
     unfolding gnu_walked_at
     meets_found answer all tries count =
-        let w = wanted b tries in
+        let w = wanted b (Ok (Some answer)) (λ e. cc) tries in
         let end = end_there file table hash says read tried index word b t in
         let now = tried_now file table hash says read tried index word b t in
         let index_is = t.along.index_is in
@@ -269,10 +267,6 @@ module _ (file : List ℕ) (table : Table) (hash : ℕ) (says : ℕ → Result B
         (meets_answer stands 0 cost looked _ (tried + one_if b) (suc read) _
         (rw (now, index_is) (gives Answers (end ∙ rw (w.0, w.1.0) refl)))
         (let bytes = bytes_where 0 read tried cost b in omega (arith, bytes)) w.1.1)
-      where
-        wanted : (c : Bool) → TriesWhere c stands says index (Ok (Some answer)) → (c ≡ true) × Tries stands says index (Ok (Some answer))
-        wanted true tries = (refl, tries)
-        wanted false tries = absurd (cc)
 
     -- a symbol that does not answer, or is not tried
     end_passed : TriesWhere b stands says index (Ok None) → ends file table hash says index ≡ end_of_chain (word_of file table hash says index)

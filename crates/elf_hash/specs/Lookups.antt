@@ -1,7 +1,6 @@
 -- What a lookup answers, and what it asks for.
 use Rattle.std.specs.Prelude.{ℕ, ◌≡◌, ◌+◌, ◌*◌, ◌/◌, List, None, Some, Result, Ok, Err}
 use Rattle.elf_model.specs.Budget.{IsBudget}
-use Rattle.elf_model.specs.Checks.{first_refusal, header_checks, load_checks}
 use Rattle.elf_model.specs.Find.{find_cost, first_hash, looked, looked_in}
 use Rattle.elf_model.specs.Hash.{Lookup as Looked, Found as IsFound, Absent as IsAbsent, Refused as IsRefused, refused_after}
 use Rattle.elf_model.specs.Names.{pad64}
@@ -56,12 +55,7 @@ pub record LooksBySysv (file : List ℕ) (looked : Looked) (old new : Counting) 
   pub costs : Charges old new (why_stopped result) (few + looked.compared * step_bytes length)
   pub finds : GivesLookup file looked result
 
--- the checks of the file pass
-pub record Passed (file : List ℕ) (headers : ℕ) : Type 0 where
-  pub header : first_refusal (header_checks file) ≡ None
-  pub load : first_refusal (load_checks file headers) ≡ None
-
--- what a lookup gives once those pass, by the first HASH section
+-- what a lookup gives once the checks of the file pass, by the first HASH section
 abbrev pub looked_behind : List ℕ → List ℕ → Looked
 looked_behind file wanted = elim (first_hash file) [
   | None ↦ refused_after 0 (record { at = 0x28; cause = NoHash })

@@ -1,3 +1,5 @@
+pub mod Absent
+pub mod FaultLaws
 pub mod LedgerLaws
 pub mod LoadLaws
 pub mod OpenLaws

@@ -41,6 +41,16 @@ fills_onward one_read old new at n low high (Ok x) once from to = onward_one one
 fills_onward one_read old new at n low high (Err (Refused refusal)) once from to = onward_none one_read old new low high once (omega arith)
 fills_onward one_read old new at n low high (Err (Source fault offset)) once from to = onward_one one_read old new at n low high once from to
 
+-- a cost of the file header at least, and of the section headers where the checks before them pass, is that of the load at least
+pub load-within :
+    (file : List ℕ) (header : Ehdr) (size headers cost : ℕ) → IsEhdr file 0 header → size ≡ length file → 64 ≤ cost
+    → (first_refusal (early_checks file headers) ≡ None → 64 + 64 * header.e_shnum ≤ cost) → 64 + load_cost header size headers ≤ cost
+load-within file header size headers cost is same least loaded = by_cases (first_refusal (early_of header size headers)) refl
+  where
+    by_cases : (first : Option Refusal) → first ≡ first_refusal (early_of header size headers) → 64 + cost_where (is_none first) (64 * header.e_shnum) ≤ cost
+    by_cases None none = loaded (sym (none ∙ early_is file header size headers is same))
+    by_cases (Some refusal) some = least
+
 -- a load asks for no more section headers than there are slots
 pub load_slots : (header : Ehdr) (size slots : ℕ) → load_cost header size slots ≤ 64 * slots
 load_slots header size slots = grind arith

@@ -2,7 +2,7 @@
 use Rattle.std.proofs.Common.{◌≡◌, ℕ, suc, ◌+◌, ◌%◌, ◌^◌, ◌≤◌, ◌==◌, ◌||◌, nat_lt, length, Bool, true, false, List, ◌∷◌, Result, Ok, Err, Some, refl, sym, ap, ◌∙◌, arith}
 use Rattle.std.proofs.lemmas.Bool.Decides.{nat_tests}
 use Rattle.std.specs.List.{position_or_len}
-use Rattle.elf_model.specs.Loader.{Compared, RecordReading, Meets, Refuses, Misses, compared_until, compared_with, is_among, one_more, with_number}
+use Rattle.elf_model.specs.Loader.{Compared, RecordReading, Meets, Refuses, Misses, compared_with, is_among, one_more, with_number}
 use Rattle.elf_model.specs.Names.{same}
 use Rattle.elf_model.specs.Versions.{Met, name_index, named_at, names_version, number_in, number_word}
 use Rattle.elf_model.specs.declared.causes.Cause.{Cause}

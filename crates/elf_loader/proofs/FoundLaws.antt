@@ -21,10 +21,11 @@ use Rattle.elf_headers.proofs.LedgerLaws.{Charges-more, Charges-none}
 use Rattle.elf_scope.specs.Symbols.{AreWords, IsWords}
 use Rattle.elf_scope.specs.declared.symbols.VersionWords.{VersionWords as Words}
 use Rattle.elf_table.specs.Cursors.{row_at}
-use Rattle.elf_loader.specs.Finding.{FindsVersion, IsVersionFound, LookupSpends}
+use Rattle.elf_loader.specs.Finding.{FindsVersion, IsVersionFound, LookupSpends, StandsTold, name_shown}
 use Rattle.elf_loader.specs.Telling.{TellsVersionName, told_bytes}
 use Rattle.elf_loader.specs.declared.found.FoundVersion.{FoundVersion}
 use Rattle.elf_loader.specs.declared.telling.ToldName.{ToldName}
+use Rattle.elf_loader.specs.declared.found.VersionName.{VersionName}
 use Rattle.elf_loader.specs.declared.found.VersionName.TheVariants.{Wanted, Unnamed, Told}
 
 -- where a version is wanted, it is told as it is wanted
@@ -67,24 +68,34 @@ told-spends file scope words y walked naming = go naming.found refl naming.refus
     go None f None r = rw (f, r, told_by) (record { tried = refl; chain_words = refl; records = refl; is_named = refl })
     go None f (Some refusal) r = rw (f, r, told_by) (record { tried = refl; chain_words = refl; records = refl; is_named = refl })
 
--- the version of a symbol that is found is told, under the wanted name
-pub finds-wanted :
-    (file : List ℕ) (scope : Scope) (asked : Asked) (words : VersionWords) (y word : ℕ) (version told : List ℕ) (c : Counting) (code : Words)
-    → asked_name asked ≡ Some version → IsWords words code → word ≡ versym file (version_word_at words y) → Charges c c None 0
-    → FindsVersion Some file scope asked (Some words) y c c told (Ok (record { index = code.index; word = word; name = Wanted; name_at = 0 }))
-finds-wanted file scope asked words y word version told c code n is here none = record {
+-- the version of a symbol that is found is told without a read
+finds-here :
+    (file : List ℕ) (scope : Scope) (asked : Asked) (words : VersionWords) (y word : ℕ) (told : List ℕ) (c : Counting) (code : Words) (named : VersionName)
+    → IsWords words code → word ≡ versym file (version_word_at words y) → StandsTold file told 0 named → Charges c c None 0
+    → ((before : ℕ) (walked : Walked) → found_in file scope asked before y walked (Some words)
+    ≡ found_lookup scope y walked before false (Some (record { index = words.index; word = versym file (version_word_at words y); name = name_shown (asked_name asked) told named })))
+    → FindsVersion Some file scope asked (Some words) y c c told (Ok (record { index = code.index; word = word; name = named; name_at = 0 }))
+finds-here file scope asked words y word told c code named is here stands none in_is = record {
   records = 0;
   is_named = false;
   costs = Charges-more _ (omega arith) none;
   spends = λ walked before first.
-      let e = in-wanted file scope asked before y walked words version n in
+      let e = in_is before walked in
       rw e (record { tried = refl; chain_words = refl; records = omega arith; is_named = refl });
   finds = λ walked before first.
-      let e = in-wanted file scope asked before y walked words version n in
+      let e = in_is before walked in
       let index = is.index in
-      rw (e, n, index, here) refl;
-  stands = refl;
+      rw (e, index, here) refl;
+  stands = stands;
 }
+
+-- under the wanted name
+pub finds-wanted :
+    (file : List ℕ) (scope : Scope) (asked : Asked) (words : VersionWords) (y word : ℕ) (version told : List ℕ) (c : Counting) (code : Words)
+    → asked_name asked ≡ Some version → IsWords words code → word ≡ versym file (version_word_at words y) → Charges c c None 0
+    → FindsVersion Some file scope asked (Some words) y c c told (Ok (record { index = code.index; word = word; name = Wanted; name_at = 0 }))
+finds-wanted file scope asked words y word version told c code n is here none =
+    finds-here file scope asked words y word told c code Wanted is here refl none (λ before walked. rw n (in-wanted file scope asked before y walked words version n))
 
 -- without a name
 pub finds-unnamed :
@@ -93,19 +104,7 @@ pub finds-unnamed :
     → FindsVersion Some file scope asked (Some words) y c c told (Ok (record { index = code.index; word = word; name = Unnamed; name_at = 0 }))
 finds-unnamed file scope asked words y word told c code n is here low none =
     let small : nat_lt (number_in (versym file (version_word_at words y))) 2 ≡ true = subst (λ (w : ℕ). nat_lt (number_in w) 2 ≡ true) here (below (number_in word) low) in
-    record {
-      records = 0;
-      is_named = false;
-      costs = Charges-more _ (omega arith) none;
-      spends = λ walked before first.
-          let e = in-unnamed file scope asked before y walked words n small in
-          rw e (record { tried = refl; chain_words = refl; records = omega arith; is_named = refl });
-      finds = λ walked before first.
-          let e = in-unnamed file scope asked before y walked words n small in
-          let index = is.index in
-          rw (e, index, here) refl;
-      stands = refl;
-    }
+    finds-here file scope asked words y word told c code Unnamed is here refl none (λ before walked. in-unnamed file scope asked before y walked words n small)
   where
     below : (number : ℕ) → number < 2 → nat_lt number 2 ≡ true
     below number low = grind (arith, nat_tests)

@@ -1,5 +1,6 @@
 pub mod SetLaws
 pub mod LeftReadings
+pub mod RecordWalk
 pub mod CompareLaws
 pub mod TableLaws
 pub mod TablesLaws

@@ -1,6 +1,5 @@
 -- Looking for the record that names the version of a number, record by record.
-use Rattle.std.proofs.Common.{◌≡◌, ℕ, ◌+◌, ◌-◌, ◌*◌, ◌≤◌, Bool, true, false, List, [], ◌∷◌, inl, inr, Option, None, Some, Result, Ok, Err, refl, ◌∙◌, arith}
-use Rattle.std.proofs.lemmas.Bool.{cases_lt}
+use Rattle.std.proofs.Common.{◌≡◌, ℕ, ◌+◌, ◌-◌, ◌*◌, ◌≤◌, Bool, true, false, List, [], ◌∷◌, Option, None, Some, Result, Ok, Err, refl, ◌∙◌, arith}
 use Rattle.elf_model.specs.Budget.{IsBudget}
 use Rattle.elf_model.specs.Loader.{Meets, Misses, Naming, RecordReading, RecordTable, Refuses, naming_of, one_later, readings_of}
 use Rattle.elf_model.specs.Versions.{Met, names_number}
@@ -12,12 +11,12 @@ use Rattle.elf_headers.specs.declared.fault.Fault.TheVariants.{Refused, Source}
 use Rattle.elf_headers.proofs.LedgerLaws.{Charges-more, Charges-then}
 use Rattle.elf_scope.specs.Symbols.{IsRecordTable}
 use Rattle.elf_scope.specs.declared.symbols.RecordTable.{RecordTable as Given}
-use Rattle.elf_versions.specs.Reading.{GivesVersion, LeadsOn, SpendsRecord, StartsVersions, TellsVersion, Walking, versions_left}
-use Rattle.elf_versions.specs.declared.record.VersionRecord.{VersionRecord}
+use Rattle.elf_versions.specs.Reading.{SpendsRecord, StartsVersions, TellsVersion, Walking, versions_left}
 use Rattle.elf_loader.specs.Naming.{NamedAs, NamesBefore}
 use Rattle.elf_loader.specs.declared.naming.NamedBy.{NamedBy}
 use Rattle.elf_loader.proofs.TablesLaws.{more-pays}
-use Rattle.elf_loader.proofs.LeftReadings.{ended-left, left_of, read-left, refused-left, start-left, step-left}
+use Rattle.elf_loader.proofs.LeftReadings.{ended-left, left_of, refused-left, start-left}
+use Rattle.elf_loader.proofs.RecordWalk.{walk-read}
 
 -- a record that has the number, and one that has not
 naming-here :
@@ -76,15 +75,8 @@ pub spent-read :
     (file strings : List ℕ) (number : ℕ) (others : List RecordReading) (old new : Walking) → SpendsRecord old new
     → old.left - new.left ≤ (naming_of file number (left_of file strings others old)).read
 spent-read file strings number others old new spends =
-    elim (cases_lt new.left old.left) [
-      | inl fewer ↦
-          let one : 1 ≤ (naming_of file number (left_of file strings others old)).read =
-          read-left file strings old.held.table.at old.held.table.count old.standing old.left others
-          (λ (all : List RecordReading). 1 ≤ (naming_of file number all).read) (omega (arith, fewer)) (spends.there fewer)
-          (λ refusal. refused-reads file number refusal others) (λ met more. naming-reads file strings number met more) in
-          omega (arith, one, spends.one)
-      | inr same ↦ omega (arith, same)
-    ]
+    walk-read file strings others old new (λ (all : List RecordReading). (naming_of file number all).read) (λ refusal. refused-reads file number refusal others)
+    (λ met more. naming-reads file strings number met more) spends
 
 -- before the first record none is read
 pub start-as :
@@ -97,27 +89,17 @@ start-as file number told records others c done none starts is =
 
 -- a record more that has not the number
 pub later-as :
-    (file strings : List ℕ) (number : ℕ) (others : List RecordReading) (old new : Walking) (given : VersionRecord) (n k : ℕ) (all : Naming)
-    → n + 1 ≡ k → new.held ≡ old.held → new.left + 1 ≡ old.left
-    → (gives : GivesVersion file (versions_left file old) (versions_left file new) given) → LeadsOn file old new → names_number file number gives.met ≡ false
-    → NamedAs n all (naming_of file number (left_of file strings others old)) → NamedAs k all (naming_of file number (left_of file strings others new))
-later-as file strings number others old new given n k all sum held fewer gives leads other before =
-    let e = step-left file strings others old new given held fewer gives leads in
-    let later = naming-later file strings number gives.met (left_of file strings others new) other in
-    let b = rw (e, later) at before in
+    (file names : List ℕ) (number : ℕ) (met : Met) (old new : List RecordReading) (n k : ℕ) (all : Naming) → n + 1 ≡ k → old ≡ Meets names met ∷ new
+    → names_number file number met ≡ false → NamedAs n all (naming_of file number old) → NamedAs k all (naming_of file number new)
+later-as file names number met old new n k all sum first other before =
+    let b = rw (first, naming-later file names number met new other) at before in
     record { found = b.found; refused = b.refused; read = omega (arith, sum, b.read) }
 
 -- and one that has it
 pub here-as :
-    (file strings : List ℕ) (number : ℕ) (others : List RecordReading) (old new : Walking) (given : VersionRecord) (n : ℕ) (all : Naming)
-    → new.held ≡ old.held → new.left + 1 ≡ old.left
-    → (gives : GivesVersion file (versions_left file old) (versions_left file new) given) → LeadsOn file old new → names_number file number gives.met ≡ true
-    → NamedAs n all (naming_of file number (left_of file strings others old)) → (all.found ≡ Some (strings, gives.met)) × (all.read ≡ n + 1)
-here-as file strings number others old new given n all held fewer gives leads here before =
-    let e = step-left file strings others old new given held fewer gives leads in
-    let found = naming-here file strings number gives.met (left_of file strings others new) here in
-    let b = rw (e, found) at before in
-    (b.found, b.read)
+    (file names : List ℕ) (number : ℕ) (met : Met) (old new : List RecordReading) (n : ℕ) (all : Naming) → old ≡ Meets names met ∷ new
+    → names_number file number met ≡ true → NamedAs n all (naming_of file number old) → (all.found ≡ Some (names, met)) × (all.read ≡ n + 1)
+here-as file names number met old new n all first here before = let b = rw (first, naming-here file names number met new here) at before in (b.found, b.read)
 
 pub ended-as :
     (file strings : List ℕ) (number : ℕ) (others : List RecordReading) (old new : Walking) (records : ℕ) (all : Naming)

@@ -143,9 +143,8 @@ impl ReadAhead {
         name: &mut NameBuf,
     ) -> Result<bool, Fault>
         requires empty { name.old ≡ [] }
-        requires inside { index.off + want ≤ index.names.size }
+        requires few { (index.off + want ≤ index.names.size) × (want ≤ self.old.credit) }
         requires within { StringsWithin src.old.seen.size index.names }
-        requires paid { want ≤ self.old.credit }
         ensures ahead { ReadsAhead src.old src.new self.old self.new result 0
             (index.names.size - index.off) }
         ensures loses { IfErr result (λ fault. IsOfRead fault × (self.new.names.bytes ≡ [])) }

@@ -39,8 +39,7 @@ impl<const N: usize> Model for Stretch<N> {
 impl<const N: usize> Stretch<N> {
     /// A stretch of no bytes. A read where bytes are wanted that don't follow takes `few`.
     pub(crate) fn new(few: u64) -> Stretch<N>
-        requires room { N ≤ 4096 }
-        requires fits { few ≤ N }
+        requires { (few ≤ N) × (N ≤ 4096) }
         ensures { result.bytes ≡ [] }
     {
         Stretch {
@@ -67,10 +66,8 @@ impl<const N: usize> Stretch<N> {
         end: u64,
         credit: &mut u64,
     ) -> Result<(), Fault>
-        requires room { count ≤ N }
-        requires paid { count ≤ credit.old }
-        requires inside { at + count ≤ end }
-        requires within { end ≤ src.old.seen.size }
+        requires few { (count ≤ N) × (count ≤ credit.old) }
+        requires inside { (at + count ≤ end) × (end ≤ src.old.seen.size) }
         ensures costs { OnCredit src.old src.new credit.old credit.new result 0 (end - at) }
         ensures loses { IfErr result (LosesAt at self.new) }
         ensures agrees { StaysOf src.old.seen.file self.old self.new }
@@ -106,8 +103,7 @@ impl<const N: usize> Stretch<N> {
 
     /// The bytes that are held from the offset `at` on, at most `most`.
     pub(crate) fn part(&self, at: u64, most: u64) -> &[u8]
-        requires begins { self.now.at ≤ at }
-        requires ends { at ≤ reach self.now }
+        requires { (self.now.at ≤ at) × (at ≤ reach self.now) }
         ensures size { length result.now ≡ min most (reach self.now - at) }
         ensures part { result.now
             ≡ slice self.now.bytes (at - self.now.at) (min most (reach self.now - at)) }

@@ -1,4 +1,4 @@
 pub mod EntriesLeft
+pub mod EntriesLoop
 pub mod ShownNames
 pub mod Stepping
-pub mod ThroughLaws

@@ -1,4 +1,3 @@
 pub mod DynCursors
 pub mod NoteCursors
 pub mod Steps
-pub mod WindowCalls

@@ -1,11 +1,10 @@
 //! The names of notes.
-ghost use Rattle.std.specs.Prelude.{◌≡◌, ℕ, ◌+◌, ◌<◌, List, length, Some, IfErr, OnOk, IfOk};
+ghost use Rattle.std.specs.Prelude.{◌≡◌, ℕ, ◌+◌, ◌<◌, List, length, Some, OnOk, IfOk};
 ghost use Rattle.elf_model.specs.Bytes.{slice};
 ghost use Rattle.elf_model.specs.Notes.{Note, note_shown};
-ghost use Rattle.elf_headers.specs.Faults.{IsOfRead};
 ghost use Rattle.elf_table.specs.Windows.{HoldsBytes};
 ghost use Rattle.elf_note.specs.NoteCursors.{NameIs};
-ghost use Rattle.elf_note.specs.WindowCalls.{HasLeft, Through};
+ghost use Rattle.elf_table.specs.WindowCalls.{HasLeft, ReadsThrough};
 
 use elf_headers::{Cap, Fault};
 use elf_source::{Counted, Source};
@@ -25,8 +24,7 @@ pub(crate) fn read_name<S: Source>(
 ) -> Result<NameEnd, Fault>
     requires left { HasLeft src.old.seen.size window.old size }
     requires some { 0 < window.old.page }
-    ensures went { Through S.one_read src.old src.new window.old window.new result }
-    ensures fault { IfErr result IsOfRead }
+    ensures reads { ReadsThrough S.one_read src.old src.new window.old window.new result }
     ensures at { OnOk result (window.new.at ≡ window.old.at + size) }
     ensures read { (file : List ℕ) → src.old.seen.file ≡ Some file → HoldsBytes file window.old →
         (note : Note) → note.name ≡ slice file window.old.at size → length note.name ≡ size →

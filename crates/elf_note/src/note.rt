@@ -3,11 +3,10 @@ ghost use Rattle.std.specs.Prelude.{◌≡◌, ℕ, ◌+◌, ◌-◌, ◌^◌, �
 ghost use Rattle.std.specs.Prelude.{Some, IfErr, OnOk, IfOk};
 ghost use Rattle.elf_model.specs.Bytes.{slice};
 ghost use Rattle.elf_model.specs.Notes.{to_next};
-ghost use Rattle.elf_headers.specs.Faults.{IsOfRead};
 ghost use Rattle.elf_table.specs.Windows.{HoldsBytes, RangeWithin, bytes_left};
 ghost use Rattle.elf_note.specs.NoteCursors.{PassesNote, StopsNote, TakesNoteBytes, TellsNote, notes_left};
 ghost use Rattle.elf_note.specs.NoteCursors.{note_cut};
-ghost use Rattle.elf_note.specs.WindowCalls.{HasLeft, Through};
+ghost use Rattle.elf_table.specs.WindowCalls.{HasLeft, ReadsThrough, Through};
 
 use crate::naming::read_name;
 use crate::sizes::{gap_between, padding};
@@ -108,8 +107,7 @@ fn read_rest<S: Source>(
     requires part { length desc.old ≤ size }
     requires left { HasLeft src.old.seen.size window.old size }
     requires ends { start + size < 2 ^ 64 }
-    ensures went { Through S.one_read src.old src.new window.old window.new result }
-    ensures fault { IfErr result IsOfRead }
+    ensures reads { ReadsThrough S.one_read src.old src.new window.old window.new result }
     ensures at { OnOk result (window.new.at ≡ window.old.at + size
         + min (to_next align (start + size)) (bytes_left window.old - size)) }
     ensures read { (file : List ℕ) → src.old.seen.file ≡ Some file → HoldsBytes file window.old →

@@ -1,10 +1,10 @@
 //! Where dynamic entries say that their string table is.
-ghost use Rattle.std.specs.Prelude.{◌≡◌, ℕ, List, Some, Option, IfErr, IfOk};
+ghost use Rattle.std.specs.Prelude.{◌≡◌, ℕ, List, Option, IfErr, IfOk};
 ghost use Rattle.elf_model.specs.Numbers.{DT_STRSZ, DT_STRTAB};
 ghost use Rattle.elf_model.specs.Records.{d_tag, d_un};
 ghost use Rattle.elf_record.specs.Dyn.{IsDyn};
-ghost use Rattle.elf_source.specs.Source.{Reads};
-ghost use Rattle.elf_headers.specs.Faults.{IsOfRead, Says};
+ghost use Rattle.elf_headers.specs.Faults.{IsOfRead};
+ghost use Rattle.elf_headers.specs.Ledger.{Did, why_stopped};
 ghost use Rattle.elf_table.specs.Tables.{RowsWithin, size_of};
 ghost use Rattle.elf_note.specs.DynCursors.{AreStrings, first_value, value_here};
 
@@ -33,11 +33,9 @@ pub struct DynStrings {
 pub fn dynamic_strings<S: Source>(table: Table, src: &mut Counted<S>) -> Result<DynStrings, Fault>
     requires rows { table.entry ≡ 16 }
     requires within { RowsWithin src.old.seen.size table }
-    ensures reads { Reads src.old src.new (size_of table) }
-    ensures says { IfErr result (Says src.old src.new (size_of table)) }
+    ensures did { Did src.old src.new (why_stopped result) (size_of table)
+        (λ file. IfOk result (AreStrings file table)) }
     ensures fault { IfErr result IsOfRead }
-    ensures values { (file : List ℕ) → src.old.seen.file ≡ Some file →
-        IfOk result (AreStrings file table) }
 {
     let mut address: Option<u64> = None;
     let mut size: Option<u64> = None;

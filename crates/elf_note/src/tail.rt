@@ -1,10 +1,9 @@
 //! The end of a table of notes.
-ghost use Rattle.std.specs.Prelude.{◌≡◌, ℕ, ◌≤◌, List, Some, IfErr, OnOk, IfOk};
+ghost use Rattle.std.specs.Prelude.{◌≡◌, ℕ, ◌≤◌, List, Some, OnOk, IfOk};
 ghost use Rattle.elf_model.specs.Notes.{are_zeros};
-ghost use Rattle.elf_headers.specs.Faults.{IsOfRead};
 ghost use Rattle.elf_table.specs.Windows.{HoldsBytes, RangeWithin, bytes_left};
 ghost use Rattle.elf_note.specs.NoteCursors.{rest};
-ghost use Rattle.elf_note.specs.WindowCalls.{Through};
+ghost use Rattle.elf_table.specs.WindowCalls.{ReadsThrough};
 
 use elf_headers::Fault;
 use elf_source::{Counted, Source};
@@ -21,8 +20,7 @@ pub(crate) fn ends_in_zeros<S: Source>(
 ) -> Result<bool, Fault>
     requires few { bytes_left window.old ≤ window.old.page }
     requires within { RangeWithin src.old.seen.size window.old }
-    ensures went { Through S.one_read src.old src.new window.old window.new result }
-    ensures fault { IfErr result IsOfRead }
+    ensures reads { ReadsThrough S.one_read src.old src.new window.old window.new result }
     ensures passed { OnOk result (bytes_left window.new ≡ 0) }
     ensures zeros { (file : List ℕ) → src.old.seen.file ≡ Some file → HoldsBytes file window.old →
         IfOk result (λ zeros. zeros ≡ are_zeros (rest file window.old)) }

@@ -1,9 +1,8 @@
 //! Bytes that are taken out of a window.
-ghost use Rattle.std.specs.Prelude.{◌≡◌, ℕ, ◌+◌, ◌≤◌, List, length, Some, IfErr, OnOk};
+ghost use Rattle.std.specs.Prelude.{◌≡◌, ℕ, ◌+◌, ◌≤◌, List, length, Some, OnOk};
 ghost use Rattle.elf_model.specs.Bytes.{slice};
-ghost use Rattle.elf_headers.specs.Faults.{IsOfRead};
 ghost use Rattle.elf_table.specs.Windows.{HoldsBytes};
-ghost use Rattle.elf_note.specs.WindowCalls.{HasLeft, Through};
+ghost use Rattle.elf_table.specs.WindowCalls.{HasLeft, ReadsThrough};
 
 use elf_headers::Fault;
 use elf_source::{Counted, Source};
@@ -20,8 +19,7 @@ pub(crate) fn take<S: Source>(
 ) -> Result<(), Fault>
     requires left { HasLeft src.old.seen.size window.old (length out.old) }
     requires small { length out.old ≤ window.old.page }
-    ensures went { Through S.one_read src.old src.new window.old window.new result }
-    ensures fault { IfErr result IsOfRead }
+    ensures reads { ReadsThrough S.one_read src.old src.new window.old window.new result }
     ensures at { OnOk result (window.new.at ≡ window.old.at + length out.old) }
     ensures taken { (file : List ℕ) → src.old.seen.file ≡ Some file → HoldsBytes file window.old →
         OnOk result (out.new ≡ slice file window.old.at (length out.old)) }

@@ -9,7 +9,7 @@ use Rattle.elf_model.specs.Tables.{DYNAMIC_SIZE}
 use Rattle.elf_record.specs.Dyn.{IsDyn}
 use Rattle.elf_record.specs.declared.dyn_entry.Dyn.{Dyn}
 use Rattle.elf_table.specs.Tables.{Rows}
-use Rattle.elf_scope.specs.Entries.{AreTaggedEntries, AreListed, EachTag, TakesEntry, dynamic_entry_at, entry_here, first_entry, listed_entry, no_entries, tagged_entry}
+use Rattle.elf_scope.specs.Entries.{AreTaggedEntries, AreListed, EachTag, TakesEntry, dynamic_entry_at, entry_here, first_entry, listed_entry, tagged_entry}
 use Rattle.elf_scope.specs.declared.entry.TaggedEntries.{TaggedEntries}
 use Rattle.elf_scope.specs.declared.entry.Entry.{Entry}
 
@@ -148,11 +148,6 @@ module _ (file : List ℕ) (table : Rows) (at n : ℕ) (found : TaggedEntries) (
     verdef = sym (entry_end file _ at n found.verdef none) ∙ e.verdef;
     verneed = sym (entry_end file _ at n found.verneed none) ∙ e.verneed;
   }
-
--- before the first entry
-pub each_start : (file : List ℕ) (table : Rows) (at n : ℕ) → at ≡ table.at → n ≡ dynamic_count file table.at table.count
-    → EachTag (λ entry tag. first_entry entry (tagged_entry file at n tag) ≡ listed_entry file table tag) no_entries
-each_start file table at n place count = rw (place, count) (record { hash = refl; gnu_hash = refl; symtab = refl; strtab = refl; strsz = refl; versym = refl; verdef = refl; verneed = refl })
 
 -- an entry that is taken in stands at an offset that is told in other words
 pub takes_at : (file : List ℕ) (at there : ℕ) (entry : Dyn) (old new : TaggedEntries) → there ≡ at → (IsDyn file there entry → TakesEntry file there old new) → IsDyn file at entry

@@ -1,10 +1,8 @@
 -- What a file tells of what a lookup is made in, behind its load, and what asking for it costs.
 use Rattle.std.proofs.Common.{◌≡◌, ℕ, ◌+◌, ◌*◌, ◌≤◌, ◌==◌, true, false, inl, inr, List, ◌++◌, length, Option, None, Some, Result, Err, refl, sym, ap, subst, ◌∙◌, arith, eq-eqb, ne_eqb}
 use Rattle.std.proofs.lemmas.Bool.{cases_Bool, eqb-true}
-use Rattle.std.specs.Prelude.{is_none}
 use Rattle.elf_model.specs.Budget.{IsBudget}
 use Rattle.elf_model.specs.Checks.{first_refusal, before_headers, header_checks, early_checks, load_checks}
-use Rattle.elf_model.specs.Cost.{cost_where}
 use Rattle.elf_model.specs.LoaderFind.{segments_asked}
 use Rattle.elf_model.specs.LoaderScope.{Scope as IsScopeOf, scope_by_sections, scope_by_segments, scope_of}
 use Rattle.elf_model.specs.Records.{e_phnum, e_shnum}
@@ -13,11 +11,11 @@ use Rattle.elf_model.proofs.CheckSteps.{first_refusal-none, first_refusal-some}
 use Rattle.elf_record.specs.Ehdr.{IsEhdr}
 use Rattle.elf_record.specs.declared.ehdr.Ehdr.{Ehdr}
 use Rattle.elf_headers.specs.Faults.{HeaderRead, IsOfRead}
-use Rattle.elf_headers.specs.Load.{LoadedAs, early_of, load_cost}
+use Rattle.elf_headers.specs.Load.{LoadedAs, load_cost}
 use Rattle.elf_headers.specs.Store.{Stored}
 use Rattle.elf_headers.specs.declared.fault.Fault.{Fault}
 use Rattle.elf_headers.specs.declared.fault.Fault.TheVariants.{Refused, Source}
-use Rattle.elf_headers.proofs.LoadLaws.{early_is, load_most}
+use Rattle.elf_headers.proofs.LoadLaws.{load-within, load_most}
 use Rattle.elf_scope.specs.Finding.{scope_cost, scope_loaded, segments_bytes}
 use Rattle.elf_scope.specs.Scopes.{IsScopeFound}
 use Rattle.elf_scope.specs.Segments.{entries_asked}
@@ -94,16 +92,8 @@ module _ (file : List ℕ) (headers : ℕ) where
 
   pub load_within : (header : Ehdr) (size : ℕ) → IsEhdr file 0 header → size ≡ length file → first_refusal (header_checks file) ≡ None
       → 64 + load_cost header size headers ≤ scope_cost file headers
-  load_within header size is same passed = by_cases (first_refusal (early_of header size headers)) refl
-    where
-      by_cases : (first : Option Refusal) → first ≡ first_refusal (early_of header size headers)
-          → 64 + cost_where (is_none first) (64 * header.e_shnum) ≤ scope_cost file headers
-      by_cases None none =
-          let early : first_refusal (early_checks file headers) ≡ None = sym (none ∙ early_is file header size headers is same) in
-          let cost = cost_loaded passed early in
-          let count : header.e_shnum ≡ e_shnum file = is.e_shnum in
-          omega (arith, cost, count)
-      by_cases (Some refusal) some = scope_least
+  load_within header size is same passed =
+      load-within file header size headers _ is same scope_least (λ early. let cost = cost_loaded passed early in let count : header.e_shnum ≡ e_shnum file = is.e_shnum in omega (arith, cost, count))
 
 -- all that is asked for: the section headers, or the program headers and the dynamic entries
 pub all_within : (header : Ehdr) (size seen slots : ℕ) → header.e_shnum ≤ slots → header.e_phnum ≤ slots

@@ -1,5 +1,5 @@
 -- What a lookup is made in, by the section headers.
-use Rattle.std.proofs.Common.{◌≡◌, ℕ, List, [], Option, None, Some, Result, Ok, Err, refl, ap, ◌∙◌}
+use Rattle.std.proofs.Common.{◌≡◌, ℕ, List, [], None, Some, Result, Ok, Err, refl, ap, ◌∙◌}
 use Rattle.elf_model.specs.LoaderScope.{HashKind as IsHashKind, GnuTable, SysvTable, hash_section, scope_by_sections, section_checks, section_scope, version_checks, section_words, records_of_type, least_size}
 use Rattle.elf_model.specs.Find.{hash_checks_from}
 use Rattle.elf_model.specs.Numbers.{SHT_HASH, SHT_GNU_HASH, SHT_GNU_VERDEF, SHT_GNU_VERNEED}
@@ -71,8 +71,3 @@ section_is file kind at scope found versions h v machine is_kind head place size
     };
   },
 )
-
--- nothing is there
-pub not_some : {A : Type 0} (found : Option A) → ((value : A) → found ≡ Some value → ⊥) → found ≡ None
-not_some None other = refl
-not_some (Some value) other = absurd (other value refl)

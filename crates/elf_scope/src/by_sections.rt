@@ -43,10 +43,10 @@ fn hash_section(file: &File<'_>) -> Option<(HashKind, u16)>
     ensures held { (bytes : List ℕ) → Belongs bytes file.now.loaded file.now.store.now →
         hash_section bytes ≡ option_map (found_at bytes) result }
 {
-    if let Some(section) = file.first_section(SHT_GNU_HASH) {
+    if let Some(section) = file.first(SHT_GNU_HASH) {
         return Some((HashKind::Gnu, section));
     }
-    let Some(section) = file.first_section(SHT_HASH) else {
+    let Some(section) = file.first(SHT_HASH) else {
         return None;
     };
     Some((HashKind::Sysv, section))

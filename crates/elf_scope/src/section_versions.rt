@@ -86,7 +86,7 @@ fn words_section(file: &File<'_>) -> Option<u16>
         result ≡ words_section bytes }
 {
     if has_bytes(file, SHT_GNU_VERDEF) || has_bytes(file, SHT_GNU_VERNEED) {
-        return file.first_section(SHT_GNU_VERSYM);
+        return file.first(SHT_GNU_VERSYM);
     }
     None
 }
@@ -96,7 +96,7 @@ fn has_bytes(file: &File<'_>, sh_type: u32) -> bool
     ensures { (bytes : List ℕ) → Belongs bytes file.now.loaded file.now.store.now →
         result ≡ has_bytes bytes sh_type }
 {
-    let Some(section) = file.first_section(sh_type) else {
+    let Some(section) = file.first(sh_type) else {
         return false;
     };
     file.section(section).sh_size != 0
@@ -118,7 +118,7 @@ fn first_records(
         Settles (checks_of_type bytes sh_type (all_checks version_table bytes))
         (AreInFront bytes (records_of_type bytes sh_type kind)) result) }
 {
-    let Some(section) = file.first_section(sh_type) else {
+    let Some(section) = file.first(sh_type) else {
         return Ok(None);
     };
     let records = section_records(file, section, kind)?;

@@ -1,6 +1,6 @@
 -- What the checks of a section that is a hash table say, one by one, and what its symbols are.
-use Rattle.std.proofs.Common.{◌≡◌, ℕ, ◌+◌, ◌*◌, ◌==◌, ◌||◌, not, Bool, true, false, List, ◌++◌, length, Option, None, Some, Result, Ok, Err, refl, sym, ap, ◌∙◌}
-use Rattle.elf_model.specs.Checks.{Check, first_refusal}
+use Rattle.std.proofs.Common.{◌≡◌, ℕ, ◌+◌, ◌*◌, ◌==◌, ◌||◌, not, Bool, true, false, List, ◌++◌, length, None, Some, Ok, Err, refl, sym, ap, ◌∙◌}
+use Rattle.elf_model.specs.Checks.{first_refusal}
 use Rattle.elf_model.specs.Find.{has_wide_words, hash_checks_from}
 use Rattle.elf_model.specs.Records.{sh_link, section_at}
 use Rattle.elf_model.specs.Tables.{has_symbols, linked_at, symbol_table_checks}

@@ -1,3 +1,4 @@
+pub mod CursorLaws
 pub mod HashSectionLaws
 pub mod MappedLaws
 pub mod NameWindows
@@ -7,4 +8,5 @@ pub mod Pieces
 pub mod RelocationLaws
 pub mod SameNames
 pub mod Standing
+pub mod ThroughLaws
 pub mod VersionLaws

@@ -5,7 +5,7 @@ use Rattle.std.proofs.lemmas.List.{drop_all}
 use Rattle.elf_model.specs.Bytes.{slice}
 use Rattle.elf_model.proofs.Slices.{slice-rest}
 use Rattle.elf_model.proofs.Searches.{slice-two}
-use Rattle.elf_table.specs.Windows.{Ahead, HoldsBytes, MovesOn, range_end}
+use Rattle.elf_table.specs.Windows.{Ahead, HoldsBytes}
 
 -- what was read stands behind what was held
 pub joined : (file window held out : List ℕ) (at n size : ℕ) → window ≡ held ++ out → length held ≡ n → held ≡ slice file at n
@@ -62,22 +62,3 @@ Agrees-passed file bytes at from held count passed whole m e = go (cases_lt held
 -- a front of what is held
 pub held-front : (file : List ℕ) (w : Ahead) (n : ℕ) → n ≤ length w.held → HoldsBytes file w → take n w.held ≡ slice file w.at n
 held-front file w n few e = ap (take n) e ∙ take-take n (length w.held) (drop w.at file) few
-
--- one call after the other
-pub Moves-then : (a b c : Ahead) (first second third : ℕ) → MovesOn a b first second → MovesOn b c second third → MovesOn a c first third
-Moves-then a b c first second third p q = record {
-  same_page = q.same_page ∙ p.same_page;
-  same_end = q.same_end ∙ p.same_end;
-  onward = let x = p.onward in let y = q.onward in omega arith;
-  account = let x = p.account in let y = q.account in omega arith;
-}
-
--- bytes are passed over without a read
-pub Moves-skip : (a b c : Ahead) (first second n : ℕ) → c.page ≡ b.page → range_end c ≡ range_end b → c.at ≡ b.at + n → c.unread ≤ b.unread
-    → MovesOn a b first second → MovesOn a c first second
-Moves-skip a b c first second n page end at unread p = record {
-  same_page = page ∙ p.same_page;
-  same_end = end ∙ p.same_end;
-  onward = let x = p.onward in omega arith;
-  account = let x = p.account in omega arith;
-}

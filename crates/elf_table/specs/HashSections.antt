@@ -1,7 +1,7 @@
 -- What a section that is a hash table refers to, once its checks pass.
-use Rattle.std.specs.Prelude.{ℕ, ◌≡◌, ◌+◌, ◌≤◌, ◌||◌, nat_lt, not, Bool, true, List, [], ◌∷◌, None, Result, Ok, Err}
+use Rattle.std.specs.Prelude.{ℕ, ◌≡◌, ◌+◌, ◌^◌, ◌<◌, ◌≤◌, ◌||◌, nat_lt, not, Bool, true, List, [], ◌∷◌, None, Result, Ok, Err}
 use Rattle.elf_model.specs.Checks.{Check, refuse, first_refusal, is_outside}
-use Rattle.elf_model.specs.Records.{sh_link}
+use Rattle.elf_model.specs.Records.{sh_link, sh_offset, sh_size}
 use Rattle.elf_model.specs.Tables.{linked_at}
 use Rattle.elf_model.specs.declared.causes.Cause.TheVariants.{BadLink, HashShape, TableOutside}
 use Rattle.elf_record.specs.declared.shdr.Shdr.{Shdr}
@@ -18,6 +18,13 @@ Settles checks Is (Err fault) = RefusedBy checks fault
 pub record AreHashed (file : List ℕ) (at : ℕ) (found : ℕ × (Rows × Strings)) : Type 0 where
   pub link : found.0 ≡ sh_link file at
   pub symbols : AreSymbols file (linked_at file at) found.1
+
+-- the bytes of a section with a hash table, by its header at an offset of some bytes, end in a file of so many bytes, and below
+-- 2^64, and are `least` at least
+pub record HashFits (least size : ℕ) (bytes : List ℕ) (at : ℕ) : Type 0 where
+  pub inside : sh_offset bytes at + sh_size bytes at ≤ size
+  pub ends : sh_offset bytes at + sh_size bytes at < 2 ^ 64
+  pub room : least ≤ sh_size bytes at
 
 -- the checks of a hash table's own header, in a file of so many bytes, where it links to symbols or not, and where its words are
 -- wide or not

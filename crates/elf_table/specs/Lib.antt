@@ -7,4 +7,5 @@ pub mod Sections
 pub mod Tables
 pub mod Versions
 pub mod Views
+pub mod WindowCalls
 pub mod Windows

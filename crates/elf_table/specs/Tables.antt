@@ -16,6 +16,17 @@ size_of table = table.count * table.entry
 abbrev pub RowsWithin : ℕ → Rows → Type 0
 RowsWithin size table = 0 < table.count → table.at + size_of table ≤ size
 
+-- a table of rows of one size, of so many bytes, that ends within a source of this size where it is not empty
+pub record Spans (size width bytes : ℕ) (table : Rows) : Type 0 where
+  pub within : RowsWithin size table
+  pub entry : table.entry ≡ width
+  pub sized : size_of table ≡ bytes
+
+-- a table of single bytes that ends within a source of this size, empty or not
+pub record BytesWithin (size : ℕ) (table : Rows) : Type 0 where
+  pub within : table.at + table.count ≤ size
+  pub single : table.entry ≡ 1
+
 -- a string table: the offset of its first byte, and how many bytes there are
 pub record Strings : Type 0 where
   pub at : ℕ

@@ -1,5 +1,5 @@
 -- What a loaded file in the segment view tells of its segments.
-use Rattle.std.specs.Prelude.{ℕ, ◌≡◌, ◌+◌, ◌-◌, ◌*◌, ◌==◌, List, [], ◌∷◌, length, Option, None, Some, Result, Ok, Err}
+use Rattle.std.specs.Prelude.{ℕ, ◌≡◌, ◌+◌, ◌-◌, ◌*◌, ◌≤◌, ◌==◌, List, [], ◌∷◌, length, Option, None, Some, Result, Ok, Err}
 use Rattle.elf_model.specs.Checks.{Check, refuse, first_refusal, is_outside}
 use Rattle.elf_model.specs.Find.{first_that}
 use Rattle.elf_model.specs.Records.{e_phnum, p_type, p_offset, p_vaddr, p_filesz, segment_at}
@@ -60,6 +60,11 @@ strings_placed file_size header place size =
 abbrev pub strings_mapped : List ℕ → ℕ → ℕ → ℕ → Result Strings Fault
 strings_mapped file address size entry =
     checked (mapped_checks file address size entry) (strings (mapped_place file address size) size)
+
+-- a segment whose program header stands at an offset of some bytes holds so many bytes from an address on
+pub record HoldsAddresses (bytes : List ℕ) (at address size : ℕ) : Type 0 where
+  pub above : p_vaddr bytes at ≤ address
+  pub inside : address + size ≤ p_vaddr bytes at + p_filesz bytes at
 
 -- the first program header of a kind
 abbrev pub first_of_kind : List ℕ → ℕ → Option ℕ

@@ -1,10 +1,10 @@
 //! The checks of one section by its header.
-ghost use Rattle.std.specs.Prelude.{◌≡◌, ℕ, ◌<◌, ◌≤◌, List, IfOk, IfErr};
+ghost use Rattle.std.specs.Prelude.{◌≡◌, ℕ, ◌<◌, ◌≤◌, List, IfOk, IfErr, MatchResult};
 ghost use Rattle.elf_model.specs.Checks.{is_symbol_table};
 ghost use Rattle.elf_record.specs.Shdr.{IsShdr};
 ghost use Rattle.elf_headers.specs.Faults.{IsOfCheck};
 ghost use Rattle.elf_table.specs.Sections.{byte_rows, rows_of, table_of, string_table_of};
-ghost use Rattle.elf_table.specs.Tables.{RowsWithin, StringsWithin, size_of};
+ghost use Rattle.elf_table.specs.Tables.{Spans, StringsWithin};
 
 use crate::names::Names;
 use crate::table::Table;
@@ -23,9 +23,7 @@ pub fn checked_table(header: &Shdr, size: u64, place: u64, entry: u64) -> Result
     requires { (0 < entry) × (entry ≤ 4096) }
     ensures value { (bytes : List ℕ) (at : ℕ) → IsShdr bytes at header.now →
         result ≡ table_of bytes at size place entry }
-    ensures within { IfOk result (RowsWithin size) }
-    ensures entry { IfOk result (λ table. table.entry ≡ entry) }
-    ensures sized { IfOk result (λ table. size_of table ≡ header.now.sh_size) }
+    ensures lies { MatchResult result (Spans size entry header.now.sh_size) IsOfCheck }
 {
     if header.sh_size != 0 && header.sh_entsize != entry {
         return refused(place, Cause::EntrySize);
@@ -44,10 +42,7 @@ pub(crate) fn checked_rows(
 ) -> Result<Table, Fault>
     requires { (0 < entry) × (entry ≤ 4096) }
     ensures value { result ≡ rows_of size offset bytes place entry }
-    ensures within { IfOk result (RowsWithin size) }
-    ensures entry { IfOk result (λ table. table.entry ≡ entry) }
-    ensures sized { IfOk result (λ table. size_of table ≡ bytes) }
-    ensures refusal { IfErr result IsOfCheck }
+    ensures lies { MatchResult result (Spans size entry bytes) IsOfCheck }
 {
     if bytes == 0 {
         return Ok(Table::new(offset, 0, entry));
@@ -65,9 +60,7 @@ pub(crate) fn checked_rows(
 /// not checked. A refusal names `place`.
 pub(crate) fn checked_bytes(offset: u64, bytes: u64, size: u64, place: u64) -> Result<Table, Fault>
     ensures value { result ≡ byte_rows size offset bytes place }
-    ensures within { IfOk result (RowsWithin size) }
-    ensures single { IfOk result (λ table. table.entry ≡ 1) }
-    ensures refusal { IfErr result IsOfCheck }
+    ensures lies { MatchResult result (Spans size 1 bytes) IsOfCheck }
 {
     if bytes != 0 && ends_outside(size, offset, bytes) {
         return refused(place, Cause::TableOutside);

@@ -1,19 +1,16 @@
 //! The sections of one type, and the checks of one that is a hash table.
-ghost use Rattle.std.specs.Prelude.{◌≡◌, ◌+◌, ◌^◌, ◌<◌, ◌≤◌, ◌==◌, ◌||◌, not, ℕ, List};
-ghost use Rattle.std.specs.Prelude.{IfOk, IfErr, IfSome, IsTrue, MatchOption};
+ghost use Rattle.std.specs.Prelude.{◌≡◌, ◌<◌, ℕ, List};
+ghost use Rattle.std.specs.Prelude.{IfOk, IfErr, MatchOption};
 ghost use Rattle.elf_model.specs.Checks.{first_refusal};
 ghost use Rattle.elf_model.specs.Find.{has_wide_words, hash_checks_from};
-ghost use Rattle.elf_model.specs.Records.{section_at, sh_link, sh_offset, sh_size};
-ghost use Rattle.elf_model.specs.Tables.{has_symbols};
-ghost use Rattle.elf_model.specs.VersionRows.{first_of_type};
+ghost use Rattle.elf_model.specs.Records.{section_at};
 ghost use Rattle.elf_record.specs.Shdr.{IsShdr};
 ghost use Rattle.elf_headers.specs.Faults.{IsOfCheck};
 ghost use Rattle.elf_headers.specs.Load.{Belongs};
 ghost use Rattle.elf_headers.specs.Store.{row};
-ghost use Rattle.elf_table.specs.HashSections.{AreHashed, PassesFront, Settles, front_checks};
+ghost use Rattle.elf_table.specs.HashSections.{AreHashed, HashFits, PassesFront, Settles, front_checks};
 ghost use Rattle.elf_table.specs.Tables.{SymbolsWithin};
 
-use crate::checks::holds_symbols;
 use crate::file::File;
 use crate::names::Names;
 use crate::table::Table;
@@ -25,20 +22,6 @@ use elf_record::{Cause, Refusal, Shdr};
 const WIDE_WORD_BYTES: u64 = 8;
 
 impl File<'_> {
-    /// The index of the first section of a type, if there is one (gABI 4, Section Header).
-    pub fn first_section(&self, sh_type: u32) -> Option<u16>
-        ensures below { IfSome result (λ section. section < self.now.store.now.loaded) }
-        ensures first { (bytes : List ℕ) → Belongs bytes self.now.loaded self.now.store.now →
-            result ≡ first_of_type bytes sh_type }
-    {
-        for section in 0..self.sections() {
-            if self.section(section).sh_type == sh_type {
-                return Some(section);
-            }
-        }
-        None
-    }
-
     /// The index of the section of symbols that a section with a hash table refers to, the symbols,
     /// rows of 24 bytes, and the string table with their names. The hash table's section has `least`
     /// bytes at least; that it is of a type with hash tables is the caller's matter. No bytes are read
@@ -56,18 +39,13 @@ impl File<'_> {
             Settles (hash_checks_from least bytes (section_at bytes section))
             (AreHashed bytes (section_at bytes section)) result }
         ensures within { IfOk result (λ found. SymbolsWithin self.now.loaded.size found.1) }
-        ensures inside { IfOk result (λ found.
-            sh_offset (row self.now.store.now section) 0
-            + sh_size (row self.now.store.now section) 0 ≤ self.now.loaded.size) }
-        ensures ends { IfOk result (λ found.
-            sh_offset (row self.now.store.now section) 0
-            + sh_size (row self.now.store.now section) 0 < 2 ^ 64) }
-        ensures room { IfOk result (λ found. least ≤ sh_size (row self.now.store.now section) 0) }
+        ensures fits { IfOk result (λ found.
+            HashFits least self.now.loaded.size (row self.now.store.now section) 0) }
         ensures refusal { IfErr result IsOfCheck }
     {
         let header = self.section(section);
         let place = self.place(section);
-        let linked = links_to_symbols(self, &header);
+        let linked = self.links_to_symbols(section);
         let size = self.loaded.size();
         let wide = holds_wide_words(self, &header);
         if let Some(refusal) = refused_front(&header, place, size, linked, least, wide) {
@@ -122,16 +100,4 @@ fn holds_wide_words(file: &File<'_>, header: &Shdr) -> bool
 {
     let machine = file.loaded.header().e_machine;
     machine == EM_ALPHA && (header.sh_type == SHT_HASH && header.sh_entsize == WIDE_WORD_BYTES)
-}
-
-// Whether a section links to a section of symbols, which is not the first.
-fn links_to_symbols(file: &File<'_>, header: &Shdr) -> bool
-    ensures below { IsTrue result → header.now.sh_link < file.now.store.now.loaded }
-    ensures small { IsTrue result → header.now.sh_link < 2 ^ 16 }
-    ensures is { (bytes : List ℕ) (at : ℕ) → Belongs bytes file.now.loaded file.now.store.now →
-        IsShdr bytes at header.now →
-        result ≡ not (sh_link bytes at == 0 || not (has_symbols bytes at)) }
-{
-    let link = header.sh_link;
-    link != 0 && link < u32::from(file.sections()) && holds_symbols(&file.section(link as u16))
 }

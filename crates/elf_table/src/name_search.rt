@@ -1,13 +1,11 @@
 //! The search for the NUL that ends a name.
 ghost use Rattle.std.specs.Prelude.{◌≡◌, ℕ, ◌+◌, ◌<◌, ◌≤◌, List, [], length};
-ghost use Rattle.std.specs.Prelude.{Some, IfErr, IfSome, OnOk};
+ghost use Rattle.std.specs.Prelude.{Some, IfSome, OnOk};
 ghost use Rattle.elf_model.specs.Bytes.{slice};
 ghost use Rattle.elf_model.specs.Names.{nul_in};
-ghost use Rattle.elf_source.specs.Onward.{ReadsOnward};
-ghost use Rattle.elf_source.specs.Source.{Reads};
-ghost use Rattle.elf_headers.specs.Faults.{IsOfRead, Says};
 ghost use Rattle.elf_table.specs.NamesRead.{Searched};
-ghost use Rattle.elf_table.specs.Windows.{HoldsBytes, StillHolds, RangeWithin, MovesOn, bytes_left, frontier};
+ghost use Rattle.elf_table.specs.WindowCalls.{HasLeft, ReadsThrough};
+ghost use Rattle.elf_table.specs.Windows.{HoldsBytes};
 
 use crate::name_buf::NameBuf;
 use crate::window::Window;
@@ -30,17 +28,10 @@ pub fn search_name<S: Source, const N: usize>(
     name: &mut NameBuf,
 ) -> Result<bool, Fault>
     requires empty { name.old ≡ [] }
-    requires enough { want ≤ bytes_left window.old }
+    requires left { HasLeft src.old.seen.size window.old want }
     requires some { 0 < window.old.page }
-    requires within { RangeWithin src.old.seen.size window.old }
-    ensures reads { Reads src.old src.new window.old.unread }
-    ensures says { IfErr result (Says src.old src.new window.old.unread) }
-    ensures fault { IfErr result IsOfRead }
-    ensures moves { MovesOn window.old window.new src.old.asked src.new.asked }
-    ensures onward { ReadsOnward S.one_read src.old.source src.new.source
-        (frontier window.old) (frontier window.new) }
+    ensures reads { ReadsThrough S.one_read src.old src.new window.old window.new result }
     ensures inside { OnOk result (window.new.at ≤ window.old.at + want) }
-    ensures agrees { StillHolds src.old.seen.file window.old window.new }
     ensures searched { (file : List ℕ) → src.old.seen.file ≡ Some file →
         HoldsBytes file window.old →
         Searched (slice file window.old.at want) cap.bytes result name.new }

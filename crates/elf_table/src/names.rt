@@ -5,6 +5,7 @@ ghost use Rattle.elf_model.specs.Bytes.{slice};
 ghost use Rattle.elf_model.specs.Names.{shown, same, pad64, name_bytes};
 ghost use Rattle.elf_source.specs.Source.{Reads};
 ghost use Rattle.elf_headers.specs.Faults.{IsOfRead, Says};
+ghost use Rattle.elf_headers.specs.Ledger.{Did, why_stopped};
 ghost use Rattle.elf_table.specs.NamesRead.{NameRead, ComparesName, Matched};
 ghost use Rattle.elf_table.specs.Tables.{StringsWithin, strings_in};
 
@@ -178,11 +179,9 @@ fn matches<S: Source>(
     requires most { want ≤ length wanted.now + 1 }
     requires ends { start + want < 2 ^ 64 }
     requires within { start + want ≤ src.old.seen.size }
-    ensures reads { Reads src.old src.new want }
-    ensures says { IfErr result (Says src.old src.new want) }
+    ensures did { Did src.old src.new (why_stopped result) want
+        (λ file. Matched (slice file start want) wanted.now result) }
     ensures fault { IfErr result IsOfRead }
-    ensures matched { (file : List ℕ) → src.old.seen.file ≡ Some file →
-        Matched (slice file start want) wanted.now result }
 {
     if want <= PIECE as u64 {
         match_pieces::<S, PIECE>(src, start, want, wanted)
@@ -202,11 +201,9 @@ fn match_pieces<S: Source, const N: usize>(
     requires most { want ≤ length wanted.now + 1 }
     requires ends { start + want < 2 ^ 64 }
     requires within { start + want ≤ src.old.seen.size }
-    ensures reads { Reads src.old src.new want }
-    ensures says { IfErr result (Says src.old src.new want) }
+    ensures did { Did src.old src.new (why_stopped result) want
+        (λ file. Matched (slice file start want) wanted.now result) }
     ensures fault { IfErr result IsOfRead }
-    ensures matched { (file : List ℕ) → src.old.seen.file ≡ Some file →
-        Matched (slice file start want) wanted.now result }
 {
     let mut window: Window<N> = Window::new(start, want, N as u64);
     let mut done: u64 = 0;

@@ -1,5 +1,5 @@
 //! The checks of a loaded file's sections.
-ghost use Rattle.std.specs.Prelude.{◌≡◌, ℕ, ◌<◌, ◌≤◌, ◌^◌, ◌==◌, ◌||◌, not, List, true, None, Ok, IfOk, IfErr, IfSome, IsTrue};
+ghost use Rattle.std.specs.Prelude.{◌≡◌, ℕ, ◌<◌, ◌≤◌, ◌^◌, ◌==◌, ◌||◌, not, List, true, None, Ok, IfOk, IfErr, IfSome, IsTrue, MatchResult};
 ghost use Rattle.elf_model.specs.Records.{section_at};
 ghost use Rattle.elf_record.specs.Shdr.{IsShdr};
 ghost use Rattle.elf_headers.specs.Load.{Belongs, Passes, section_place};
@@ -14,7 +14,7 @@ ghost use Rattle.elf_model.specs.Records.{sh_link};
 ghost use Rattle.elf_model.specs.Tables.{has_symbols};
 ghost use Rattle.elf_model.specs.VersionCost.{has_strings};
 ghost use Rattle.elf_headers.specs.Store.{row};
-ghost use Rattle.elf_table.specs.Tables.{RowsWithin, StringsWithin, SymbolsWithin, size_of};
+ghost use Rattle.elf_table.specs.Tables.{RowsWithin, Spans, StringsWithin, SymbolsWithin, size_of};
 
 use crate::checks::{checked_bytes, checked_strings, checked_table, holds_symbols};
 use crate::file::File;
@@ -83,9 +83,8 @@ impl File<'_> {
         requires entry { (0 < entry) × (entry ≤ 4096) }
         ensures value { result ≡ table_in self.now section entry }
         ensures held { Tells self.now section result (λ file at. table_at file at entry) }
-        ensures within { IfOk result (RowsWithin self.now.loaded.size) }
-        ensures entry { IfOk result (λ table. table.entry ≡ entry) }
-        ensures sized { IfOk result (λ table. size_of table ≡ size_in self.now section) }
+        ensures lies { MatchResult result
+            (Spans self.now.loaded.size entry (size_in self.now section)) IsOfCheck }
     {
         checked_table(
             &self.store.section(section),
@@ -264,7 +263,7 @@ impl File<'_> {
     }
 
     /// Whether a section links to a section of symbols, which is not the first.
-    fn links_to_symbols(&self, section: u16) -> bool
+    pub(crate) fn links_to_symbols(&self, section: u16) -> bool
         requires below { section < self.now.store.now.loaded }
         ensures linked { IsTrue result → LinksToSymbols self.now section }
         ensures held { (file : List ℕ) → Belongs file self.now.loaded self.now.store.now →

@@ -1,9 +1,9 @@
 //! The checks of one segment by its program header.
-ghost use Rattle.std.specs.Prelude.{◌≡◌, ℕ, ◌+◌, ◌≤◌, List, IfOk, IfErr, true};
+ghost use Rattle.std.specs.Prelude.{◌≡◌, ℕ, ◌+◌, ◌≤◌, List, IfOk, IfErr, MatchResult, true};
 ghost use Rattle.elf_model.specs.Mapped.{is_mapped_by, mapped_offset};
 ghost use Rattle.elf_record.specs.Phdr.{IsPhdr};
 ghost use Rattle.elf_headers.specs.Faults.{IsOfCheck};
-ghost use Rattle.elf_table.specs.Tables.{StringsWithin};
+ghost use Rattle.elf_table.specs.Tables.{BytesWithin, StringsWithin};
 ghost use Rattle.elf_table.specs.Views.{rest_of, strings_placed};
 
 use crate::names::Names;
@@ -62,9 +62,7 @@ pub(crate) fn checked_rest(
     requires inside { address ≤ header.now.p_vaddr + header.now.p_filesz }
     ensures value { (file : List ℕ) (at : ℕ) → IsPhdr file at header.now →
         result ≡ rest_of file at size place address }
-    ensures within { IfOk result (λ table. table.at + table.count ≤ size) }
-    ensures bytes { IfOk result (λ table. table.entry ≡ 1) }
-    ensures refusal { IfErr result IsOfCheck }
+    ensures lies { MatchResult result (BytesWithin size) IsOfCheck }
 {
     if ends_outside(size, header.p_offset, header.p_filesz) {
         return refused(place, Cause::TableOutside);

@@ -1,15 +1,15 @@
 //! The checks of the segments of a file in the segment view.
-ghost use Rattle.std.specs.Prelude.{◌≡◌, ◌+◌, ◌≤◌, ◌<◌, ℕ, List, IfOk, IfErr, IfSome};
+ghost use Rattle.std.specs.Prelude.{◌≡◌, ◌+◌, ◌≤◌, ◌<◌, ℕ, List, IfOk, IfErr, IfSome, MatchResult};
 ghost use Rattle.std.specs.Option.{option_map};
-ghost use Rattle.elf_model.specs.Records.{p_filesz, p_vaddr, segment_at};
+ghost use Rattle.elf_model.specs.Records.{segment_at};
 ghost use Rattle.elf_model.specs.Mapped.{mapped_at};
 ghost use Rattle.elf_record.specs.Phdr.{IsPhdr};
 ghost use Rattle.elf_headers.specs.Faults.{IsOfCheck};
 ghost use Rattle.elf_headers.specs.Load.{Views};
 ghost use Rattle.elf_headers.specs.Store.{segment_bytes};
-ghost use Rattle.elf_table.specs.Tables.{RowsWithin, StringsWithin, size_of};
+ghost use Rattle.elf_table.specs.Tables.{BytesWithin, Spans, StringsWithin};
 ghost use Rattle.elf_table.specs.Views.{TellsSegment, byte_table_at, dynamic_table_at, dynamic_in};
-ghost use Rattle.elf_table.specs.Views.{filesz_in};
+ghost use Rattle.elf_table.specs.Views.{HoldsAddresses, filesz_in};
 ghost use Rattle.elf_table.specs.Views.{first_of_kind, rest_mapped, segment_place, strings_mapped};
 
 use crate::checks::{checked_bytes, checked_rows};
@@ -58,10 +58,8 @@ impl SegmentView<'_> {
         requires { segment < self.now.store.now.segments }
         ensures value { result ≡ dynamic_in self.now segment }
         ensures held { TellsSegment self.now segment result dynamic_table_at }
-        ensures within { IfOk result (RowsWithin self.now.loaded.size) }
-        ensures entry { IfOk result (λ table. table.entry ≡ 16) }
-        ensures sized { IfOk result (λ table. size_of table ≡ filesz_in self.now segment) }
-        ensures refusal { IfErr result IsOfCheck }
+        ensures lies { MatchResult result
+            (Spans self.now.loaded.size 16 (filesz_in self.now segment)) IsOfCheck }
     {
         let header = self.segment(segment);
         checked_rows(
@@ -81,9 +79,8 @@ impl SegmentView<'_> {
     pub fn bytes(&self, segment: u16) -> Result<Table, Fault>
         requires { segment < self.now.store.now.segments }
         ensures held { TellsSegment self.now segment result byte_table_at }
-        ensures within { IfOk result (RowsWithin self.now.loaded.size) }
-        ensures single { IfOk result (λ table. table.entry ≡ 1) }
-        ensures refusal { IfErr result IsOfCheck }
+        ensures lies { MatchResult result
+            (Spans self.now.loaded.size 1 (filesz_in self.now segment)) IsOfCheck }
     {
         let header = self.segment(segment);
         checked_bytes(
@@ -140,10 +137,7 @@ impl SegmentView<'_> {
     pub fn rest(&self, address: u64, at: u64) -> Result<Table, Fault>
         ensures value { (file : List ℕ) → Views file self.now.loaded self.now.store.now →
             result ≡ rest_mapped file address at }
-        ensures within { IfOk result (λ table.
-            table.at + table.count ≤ self.now.loaded.size) }
-        ensures bytes { IfOk result (λ table. table.entry ≡ 1) }
-        ensures refusal { IfErr result IsOfCheck }
+        ensures lies { MatchResult result (BytesWithin self.now.loaded.size) IsOfCheck }
     {
         let Some(segment) = self.mapping(address, 1) else {
             return refused(at, Cause::Unmapped);
@@ -158,11 +152,8 @@ impl SegmentView<'_> {
         ensures held { (file : List ℕ) → Views file self.now.loaded self.now.store.now →
             mapped_at file address size ≡ option_map (segment_at file) result }
         ensures below { IfSome result (λ segment. segment < self.now.store.now.segments) }
-        ensures above { IfSome result (λ segment.
-            p_vaddr (segment_bytes self.now.store.now segment) 0 ≤ address) }
-        ensures inside { IfSome result (λ segment.
-            address + size ≤ p_vaddr (segment_bytes self.now.store.now segment) 0
-            + p_filesz (segment_bytes self.now.store.now segment) 0) }
+        ensures holds { IfSome result (λ segment.
+            HoldsAddresses (segment_bytes self.now.store.now segment) 0 address size) }
     {
         let count = self.segments();
         let mut segment = 0;

@@ -2,12 +2,10 @@
 ghost use Rattle.std.specs.Prelude.{◌≡◌, ℕ, ◌+◌, ◌^◌, ◌<◌, ◌≤◌, List, [], length, min, take, drop};
 ghost use Rattle.std.specs.Prelude.{IfErr, OnOk};
 ghost use Rattle.elf_model.specs.Bytes.{slice};
-ghost use Rattle.elf_source.specs.Onward.{ReadsOnward};
-ghost use Rattle.elf_source.specs.Source.{Reads};
-ghost use Rattle.elf_headers.specs.Faults.{Says, IsAt};
-ghost use Rattle.elf_table.specs.Windows.{HoldsBytes, StillHolds, Brings, RangeWithin, MovesOn};
-ghost use Rattle.elf_table.specs.Windows.{bytes_left};
-ghost use Rattle.elf_table.specs.Windows.{frontier, range_end};
+ghost use Rattle.elf_headers.specs.Faults.{IsAt};
+ghost use Rattle.elf_table.specs.WindowCalls.{HasLeft, Skips, Through};
+ghost use Rattle.elf_table.specs.Windows.{Brings, RangeWithin};
+ghost use Rattle.elf_table.specs.Windows.{bytes_left, frontier};
 
 use elf_headers::{Fault, fill};
 use elf_source::{Counted, Source};
@@ -99,16 +97,10 @@ impl<const N: usize> Window<N> {
     /// A fault of a read, or a refusal for want of budget, at the first byte that was not asked for
     /// yet. Nothing is held then, and the place is behind the bytes that were to be read.
     pub fn bring<S: Source>(&mut self, src: &mut Counted<S>, count: u64) -> Result<(), Fault>
-        requires enough { count ≤ bytes_left self.old }
+        requires left { HasLeft src.old.seen.size self.old count }
         requires small { count ≤ self.old.page }
-        requires within { RangeWithin src.old.seen.size self.old }
-        ensures reads { Reads src.old src.new self.old.unread }
-        ensures says { IfErr result (Says src.old src.new self.old.unread) }
-        ensures moves { MovesOn self.old self.new src.old.asked src.new.asked }
-        ensures onward { ReadsOnward S.one_read src.old.source src.new.source
-            (frontier self.old) (frontier self.new) }
+        ensures went { Through S.one_read src.old src.new self.old self.new result }
         ensures brings { Brings self.old self.new count result }
-        ensures agrees { StillHolds src.old.seen.file self.old self.new }
     {
         if self.held >= count {
             return Ok(());
@@ -119,13 +111,7 @@ impl<const N: usize> Window<N> {
     /// Passes over `count` bytes, no more than are left; what isn't held of them is never read.
     pub fn skip(&mut self, count: u64)
         requires { count ≤ bytes_left self.old }
-        ensures page { self.new.page ≡ self.old.page }
-        ensures at { self.new.at ≡ self.old.at + count }
-        ensures left { bytes_left self.new + count ≡ bytes_left self.old }
-        ensures unread { self.new.unread ≤ self.old.unread }
-        ensures held { self.new.held ≡ drop count self.old.held }
-        ensures end { range_end self.new ≡ range_end self.old }
-        ensures agrees { (file : List ℕ) → HoldsBytes file self.old → HoldsBytes file self.new }
+        ensures { Skips self.old self.new count }
     {
         let held = count.min(self.held);
         self.at += count;
@@ -138,16 +124,11 @@ impl<const N: usize> Window<N> {
     fn read_page<S: Source>(&mut self, src: &mut Counted<S>) -> Result<(), Fault>
         requires room { (length self.old.held < self.old.page) × (0 < self.old.unread) }
         requires within { RangeWithin src.old.seen.size self.old }
-        ensures reads { Reads src.old src.new self.old.unread }
-        ensures says { IfErr result (Says src.old src.new self.old.unread) }
+        ensures went { Through S.one_read src.old src.new self.old self.new result }
         ensures fault { IfErr result (IsAt (frontier self.old)) }
-        ensures moves { MovesOn self.old self.new src.old.asked src.new.asked }
-        ensures onward { ReadsOnward S.one_read src.old.source src.new.source
-            (frontier self.old) (frontier self.new) }
         ensures stays { OnOk result (self.new.at ≡ self.old.at) }
         ensures whole { OnOk result
             (length self.new.held ≡ min self.old.page (bytes_left self.old)) }
-        ensures agrees { StillHolds src.old.seen.file self.old self.new }
     {
         gather(&mut self.bytes, self.from as usize, self.held as usize);
         self.from = 0;

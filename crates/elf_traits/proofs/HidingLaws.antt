@@ -1,5 +1,5 @@
 -- What is found while what the file header tells of section headers is hidden.
-use Rattle.std.proofs.Common.{◌≡◌, ℕ, List, Option, None, Some, Result, refl, sym, subst, ◌∙◌, arith, true}
+use Rattle.std.proofs.Common.{◌≡◌, ℕ, List, Result, refl, subst, true}
 use Rattle.elf_model.specs.Records.{e_shnum}
 use Rattle.elf_model.specs.Style.{without_sections}
 use Rattle.elf_model.specs.TraitCost.{segment_traits_cost, traits_cost}
@@ -7,25 +7,11 @@ use Rattle.elf_model.specs.Traits.{traits_by_segments, traits_of}
 use Rattle.elf_model.specs.declared.traits.Traits.{Traits}
 use Rattle.elf_model.proofs.StyleLemmas.{view_tells_of_none}
 use Rattle.elf_source.specs.Source.{Counting, Hides}
-use Rattle.elf_source.proofs.HidingLaws.{Faults-hidden, OverLimit-hidden, Reads-hidden}
-use Rattle.elf_headers.specs.Faults.{Says}
+use Rattle.elf_headers.proofs.FaultLaws.{charges_hidden}
 use Rattle.elf_headers.specs.Ledger.{Charges, Did, why_stopped}
 use Rattle.elf_headers.specs.declared.fault.Fault.{Fault}
-use Rattle.elf_headers.specs.declared.fault.Fault.TheVariants.{Refused, Source}
 use Rattle.elf_traits.specs.Features.{TellsValue}
 use Rattle.elf_traits.specs.Finding.{FindsShown, FindsTraits}
-
--- what a fault says
-says_hidden : {a b c d : Counting} (n : ℕ) (fault : Fault) → Hides a b true → Hides c d a.hides → Says b c n fault → Says a d n fault
-says_hidden n (Refused refusal) hide show says = λ late.
-    let said = says late in
-    (omega (arith, hide.same_size, said.0), OverLimit-hidden hide show said.1, said.2 ∙ sym show.same_stopped)
-says_hidden n (Source fault at) hide show says = (Faults-hidden fault hide show says.0, says.1 ∙ sym show.same_stopped)
-
--- what a call costs
-charges_hidden : {a b c d : Counting} (n : ℕ) (stop : Option Fault) → Hides a b true → Hides c d a.hides → Charges b c stop n → Charges a d stop n
-charges_hidden n None hide show costs = record { reads = Reads-hidden hide costs.reads show; says = tt }
-charges_hidden n (Some fault) hide show costs = record { reads = Reads-hidden hide costs.reads show; says = says_hidden n fault hide show costs.says }
 
 cost_is : (file : List ℕ) (headers : ℕ) → segment_traits_cost (without_sections file) headers ≡ traits_cost file headers
 unfolding traits_cost

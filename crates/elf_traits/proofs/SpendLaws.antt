@@ -7,7 +7,7 @@ use Rattle.elf_headers.specs.declared.fault.Fault.{Fault}
 use Rattle.elf_headers.proofs.LedgerLaws.{Charges-then}
 use Rattle.elf_model.specs.Traits.{SymbolMarks}
 use Rattle.elf_names.specs.Ahead.{HeldAhead, IsAheadOf}
-use Rattle.elf_table.specs.Cursors.{GivesRow, Reading, HoldsRows, next_row, row_at, unread_bytes}
+use Rattle.elf_table.specs.Cursors.{GivesRow, Reading, next_row, row_at, unread_bytes}
 use Rattle.elf_table.specs.Tables.{Rows, RowsWithin, size_of}
 use Rattle.elf_traits.specs.Marks.{marks_in}
 
@@ -27,10 +27,6 @@ pub account_next : (unread read left rest before between later credit after all 
     → later + after ≤ between + (credit + 64) → before + credit + (unread + left * 64) ≤ all → later + after + (read + rest * 64) ≤ all
 account_next unread read left rest before between later credit after all less reads spends within =
     let product = ap (λ (n : ℕ). n * 64) less in omega (arith, product, reads, spends, within)
-
--- a cursor that holds nothing agrees with every file
-pub agrees_none : (file : List ℕ) (c : Reading) → c.held ≡ [] → HoldsRows file c
-agrees_none file c none = rw none refl
 
 -- nothing is read ahead
 pub nothing_ahead : (file : List ℕ) (a : HeldAhead) → a.names.bytes ≡ [] → a.symbols.bytes ≡ [] → IsAheadOf file a

@@ -2,8 +2,7 @@
 use Rattle.std.proofs.Common.{◌≡◌, ℕ, ◌+◌, ◌≤◌, List, take, IfSome, IfErr, OnOk, Result, Ok, Err, sym, ap, ◌∙◌, arith}
 use Rattle.elf_model.specs.Bytes.{slice}
 use Rattle.elf_model.proofs.Slices.{slice-slice}
-use Rattle.elf_model.specs.declared.causes.Refusal.{Refusal}
-use Rattle.elf_headers.specs.Faults.{IsAt, IsOfRead}
+use Rattle.elf_headers.specs.Faults.{IsAt}
 use Rattle.elf_headers.specs.Ledger.{why_stopped}
 use Rattle.elf_headers.specs.declared.fault.Fault.{Fault}
 use Rattle.elf_headers.specs.declared.fault.Fault.TheVariants.{Refused, Source}
@@ -31,8 +30,3 @@ read-gives wanted bytes at (Err (Source fault offset)) fails reads = tt
 pub stop-says : {X : Type 0} (P : Fault → Type 0) (result : Result X Fault) → IfErr result P → IfSome (why_stopped result) P
 stop-says P (Ok x) says = tt
 stop-says P (Err fault) says = says
-
--- a fault of a read at an offset is one of a read
-pub of-read : (at : ℕ) (fault : Fault) → IsAt at fault → IsOfRead fault
-of-read at (Refused refusal) is = ap (λ (r : Refusal). r.cause) is
-of-read at (Source fault offset) is = tt

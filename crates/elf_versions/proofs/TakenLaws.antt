@@ -6,7 +6,7 @@ use Rattle.elf_source.specs.Source.{Counting}
 use Rattle.elf_headers.specs.Ledger.{Did, why_stopped}
 use Rattle.elf_headers.specs.declared.fault.Fault.{Fault}
 use Rattle.elf_headers.specs.declared.fault.Fault.TheVariants.{Refused, Source}
-use Rattle.elf_versions.specs.NumberNames.{NamesNumbers, ReadsNumberNames, behind_all}
+use Rattle.elf_versions.specs.NumberNames.{NamesNumbers, ReadsNumberNames}
 use Rattle.elf_versions.specs.Reading.{HeldTable, KeepsWalk, TellsVersion, Walking, unheld, unread, why_stopped_now}
 use Rattle.elf_versions.specs.declared.number_names.NameAt.{NameAt}
 
@@ -23,6 +23,10 @@ unread-fewer old new keeps =
     let held = keeps.same_held in
     let each = keeps.same_each in
     rw (held, each) (less-unheld old.held new.left old.left old.each keeps.fewer)
+
+-- some records in front of those that are left
+abbrev pub behind_all : List Met → Versions → Versions
+behind_all records left = record { met = records ++ left.met; cut = left.cut }
 
 -- before the first step none was met
 pub met-none : (file : List ℕ) (records : List Met) (all : Versions) (names : List NameAt) → NamesNumbers file records names

@@ -13,6 +13,7 @@ use Rattle.elf_versions.specs.Words.{HoldsName, HoldsWords, aux_word, checks_of,
 use Rattle.elf_versions.specs.Reading.{Fits, HeldTable, ReadsRecord, bytes_each, index_bytes, stand_of, unheld}
 use Rattle.elf_versions.specs.declared.stepping.Standing.{Standing}
 use Rattle.elf_versions.specs.declared.words.RecordWords.{RecordWords}
+pub use Rattle.elf_headers.proofs.Absent.{none-of}
 
 pub distance-is : (file : List ℕ) (kind : VersionKind) (at : ℕ) → distance_of_name kind (aux_word file (record { kind = kind; at = at })) ≡ name_distance file (record { kind = kind; at = at })
 unfolding distance_of_name aux_word name_distance
@@ -77,10 +78,6 @@ record-checked file table size s words inside h =
     let t : nat_lt size (s.place + record_size s.kind) ≡ false = grind (arith, nat_tests) in
     let same = checks-are file s.kind (table + s.place) size s.place words h in
     rw (t, same) refl
-
-pub none-of : {X : Type 0} (o : Option X) → ((x : X) → o ≡ Some x → ⊥) → o ≡ None
-none-of None h = refl
-none-of (Some x) h = absurd (h x refl)
 
 pub fits-all :
     (size each : ℕ) (o : Option Standing) → IfSome o (λ s. s.place < 2 ^ 64 + 2 ^ 32) → IfSome o (λ s. s.owner ≤ size)

@@ -25,10 +25,6 @@ IsNameOfRecord file (Some met) (Needed index) = (met.kind ≡ Need) × (index �
 abbrev pub NamesNumbers : List ℕ → List Met → List NameAt → Type 0
 NamesNumbers file records names = (number : ℕ) → IsNameOfRecord file (named_by file number records) (name_at names number)
 
--- some records in front of those that are left
-abbrev pub behind_all : List Met → Versions → Versions
-behind_all records left = record { met = records ++ left.met; cut = left.cut }
-
 -- what a walk to the end says: all records that were left were met, and the names are those of them too; or what was left is
 -- refused behind some of them
 abbrev pub ReadsNumberNames : List ℕ → List Met → Versions → List NameAt → Result (Unit {0}) Fault → Type 0

@@ -9,8 +9,9 @@ use Rattle.elf_model.specs.declared.versions.VersionKind.TheVariants.{Definition
 use Rattle.elf_headers.specs.Faults.{IsOfRead}
 use Rattle.elf_headers.specs.declared.fault.Fault.{Fault}
 use Rattle.elf_headers.specs.declared.fault.Fault.TheVariants.{Refused, Source}
-use Rattle.elf_table.specs.Tables.{Rows}
-use Rattle.elf_headers.specs.Ledger.{why_stopped}
+use Rattle.elf_table.specs.Tables.{Rows, RowsWithin}
+use Rattle.elf_source.specs.Source.{Counting}
+use Rattle.elf_headers.specs.Ledger.{Did, why_stopped}
 use Rattle.elf_versions.specs.Words.{HoldsWords}
 use Rattle.elf_versions.specs.declared.words.RecordWords.{RecordWords}
 use Rattle.elf_versions.specs.declared.record.VersionRecord.{VersionRecord}
@@ -31,6 +32,17 @@ IsHeldOf file h = h.whole ≡ true → h.bytes ≡ slice file h.table.at h.table
 -- how many bytes are asked for, of so many that are wanted
 abbrev pub unheld : HeldTable → ℕ → ℕ
 unheld h n = if h.whole then 0 else n
+
+-- a table within a source of this size has its bytes up to a place
+pub record HasUpTo (size : ℕ) (h : HeldTable) (stop : ℕ) : Type 0 where
+  pub within : RowsWithin size h.table
+  pub inside : stop ≤ h.table.count
+  pub low : h.table.count < 2 ^ 64
+
+-- what a call did that reads of a table: it asks for so many bytes where they are not held, and what is held being the file's it
+-- tells this
+abbrev pub DidHeld : {X : Type 0} → Counting → Counting → HeldTable → Result X Fault → ℕ → (List ℕ → Type 0) → Type 0
+DidHeld before after h result n tells = Did before after (why_stopped result) (unheld h n) (λ file. IsHeldOf file h → tells file)
 
 -- a read gives bytes of the file, or its fault
 abbrev pub GivesBytes : {X : Type 0} → List ℕ → List ℕ → Result X Fault → Type 0
@@ -142,6 +154,11 @@ index_bytes kind = elim kind [ Definition ↦ 4 | File ↦ 0 | Need ↦ 0 ]
 abbrev pub WordsRead : List ℕ → Met → Result RecordWords Fault → Type 0
 WordsRead file met (Ok words) = HoldsWords file met words
 WordsRead file met (Err fault) = IsOfRead fault
+
+-- a record leads a walk there, and what is known there is the file's
+pub record LeadsTo (file : List ℕ) (table : ℕ) (stand : Stand) (next : Option Standing) : Type 0 where
+  pub leads : option_map stand_of next ≡ next_stand file table stand
+  pub knows : KnowsAhead file table next
 
 -- a record of a table that is read, and where it leads: its checks pass, and it is the file's; or the first check that fails
 pub record IsStep (file : List ℕ) (table size : ℕ) (stand : Stand) (step : RecordStep) : Type 0 where

@@ -1,11 +1,12 @@
 -- The words of a record of symbol versions, and its checks.
-use Rattle.std.specs.Prelude.{ℕ, ◌≡◌, ◌+◌, ◌==◌, nat_lt, not, List, [], ◌∷◌}
+use Rattle.std.specs.Prelude.{ℕ, ◌≡◌, ◌+◌, ◌<◌, ◌≤◌, ◌==◌, nat_lt, not, List, [], ◌∷◌}
 use Rattle.elf_model.specs.Checks.{Check, refuse}
 use Rattle.elf_model.specs.Records.{vd_aux, vn_aux, vn_file, vna_name}
 use Rattle.elf_model.specs.Versions.{DEFINED_NAME_SIZE, NEED_SIZE, VERSION_NUMBERS, Met, number_in, version_word, number_word, flags_word, hash_word, next_word}
 use Rattle.elf_model.specs.declared.causes.Cause.TheVariants.{BadVersion, VersionCut, VersionIndex}
 use Rattle.elf_model.specs.declared.versions.VersionKind.{VersionKind}
 use Rattle.elf_model.specs.declared.versions.VersionKind.TheVariants.{Definition, File, Need}
+use Rattle.elf_versions.specs.declared.stepping.Standing.{Standing}
 use Rattle.elf_versions.specs.declared.words.RecordWords.{RecordWords}
 
 -- the distance that a record holds beside that to the next of its kind: to its name, or to its first version
@@ -40,3 +41,8 @@ checks_of kind size place at words =
     ∷ refuse (not (nat_lt (number_in words.number) VERSION_NUMBERS)) at VersionIndex
     ∷ refuse (nat_lt size (place + end_of_named_record kind words.aux)) at VersionCut
     ∷ []
+
+-- what those checks leave of a record where a walk stands: its name ends in its table of some bytes, and its number is small
+pub record PassesWords (size : ℕ) (s : Standing) (words : RecordWords) : Type 0 where
+  pub ends : s.place + end_of_named_record s.kind words.aux ≤ size
+  pub small : number_in words.number < VERSION_NUMBERS

@@ -1,9 +1,8 @@
 //! A record of symbol versions, read where a walk stands.
 ghost use Rattle.std.specs.Prelude.{◌≡◌, ℕ, ◌+◌, ◌^◌, ◌<◌, ◌≤◌, List, IfOk};
-ghost use Rattle.elf_headers.specs.Ledger.{Did, IsRead, why_stopped};
-ghost use Rattle.elf_table.specs.Tables.{RowsWithin};
+ghost use Rattle.elf_headers.specs.Ledger.{IsRead};
 ghost use Rattle.elf_model.specs.Versions.{met_at, name_index, record_size};
-ghost use Rattle.elf_versions.specs.Reading.{IsHeldOf, IsVersion, KnowsFiles, ReadsRecord, StepFits, WordsRead, bytes_each, index_bytes, stand_of, unheld};
+ghost use Rattle.elf_versions.specs.Reading.{DidHeld, HasUpTo, IsVersion, KnowsFiles, ReadsRecord, StepFits, WordsRead, bytes_each, index_bytes, stand_of};
 ghost use Rattle.elf_versions.specs.Words.{HoldsWords, distance_of_name, end_of_named_record};
 
 use crate::record::VersionRecord;
@@ -32,12 +31,11 @@ pub(crate) fn read_record<S: Source>(
     src: &mut Counted<S>,
     stand: &Standing,
 ) -> Result<RecordStep, Fault>
-    requires within { RowsWithin src.old.seen.size held.now.table }
-    requires inside { stand.now.place + record_size stand.now.kind ≤ held.now.table.count }
+    requires has { HasUpTo src.old.seen.size held.now
+        (stand.now.place + record_size stand.now.kind) }
     requires owner { stand.now.owner ≤ held.now.table.count }
-    ensures did { Did src.old src.new (why_stopped result)
-        (unheld held.now (bytes_each stand.now.kind))
-        (λ file. IsHeldOf file held.now → KnowsFiles file held.now.table.at stand.now →
+    ensures did { DidHeld src.old src.new held.now result (bytes_each stand.now.kind)
+        (λ file. KnowsFiles file held.now.table.at stand.now →
         ReadsRecord file held.now.table.at held.now.table.count (stand_of stand.now) result) }
     ensures fits { IfOk result (StepFits held.now.table.count (bytes_each stand.now.kind)) }
 {
@@ -60,13 +58,9 @@ fn read_words<S: Source>(
     src: &mut Counted<S>,
     stand: &Standing,
 ) -> Result<RecordWords, Fault>
-    requires within { RowsWithin src.old.seen.size held.now.table }
-    requires inside { stand.now.place + record_size stand.now.kind ≤ held.now.table.count }
-    requires low { held.now.table.count < 2 ^ 64 }
-    ensures did { Did src.old src.new (why_stopped result)
-        (unheld held.now (record_size stand.now.kind))
-        (λ file. IsHeldOf file held.now →
-        WordsRead file (met_at held.now.table.at (stand_of stand.now)) result) }
+    requires { HasUpTo src.old.seen.size held.now (stand.now.place + record_size stand.now.kind) }
+    ensures did { DidHeld src.old src.new held.now result (record_size stand.now.kind)
+        (λ file. WordsRead file (met_at held.now.table.at (stand_of stand.now)) result) }
 {
     match stand.kind {
         VersionKind::Definition => {
@@ -95,14 +89,10 @@ fn read_name<S: Source>(
     stand: &Standing,
     words: &RecordWords,
 ) -> Result<u32, Fault>
-    requires within { RowsWithin src.old.seen.size held.now.table }
-    requires inside { stand.now.place + end_of_named_record stand.now.kind words.now.aux
-        ≤ held.now.table.count }
-    requires low { held.now.table.count < 2 ^ 64 }
-    ensures did { Did src.old src.new (why_stopped result)
-        (unheld held.now (index_bytes stand.now.kind))
-        (λ file. IsHeldOf file held.now →
-        HoldsWords file (met_at held.now.table.at (stand_of stand.now)) words.now →
+    requires { HasUpTo src.old.seen.size held.now
+        (stand.now.place + end_of_named_record stand.now.kind words.now.aux) }
+    ensures did { DidHeld src.old src.new held.now result (index_bytes stand.now.kind)
+        (λ file. HoldsWords file (met_at held.now.table.at (stand_of stand.now)) words.now →
         IsRead result (name_index file (met_at held.now.table.at (stand_of stand.now)))) }
 {
     match stand.kind {

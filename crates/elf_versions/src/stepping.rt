@@ -2,10 +2,10 @@
 ghost use Rattle.std.specs.Prelude.{◌≡◌, ℕ, ◌+◌, ◌^◌, ◌<◌, ◌≤◌, List, Some, IfSome, MatchOption, option_map};
 ghost use Rattle.elf_model.specs.Budget.{IsBudget};
 ghost use Rattle.elf_model.specs.Checks.{first_refusal};
-ghost use Rattle.elf_model.specs.Versions.{record_size, along, next_stand, first_stand, number_in};
+ghost use Rattle.elf_model.specs.Versions.{record_size, along, first_stand, met_at, number_in};
 ghost use Rattle.elf_model.specs.declared.versions.VersionKind.TheVariants.{Need};
-ghost use Rattle.elf_versions.specs.Reading.{KnowsAhead, KnowsFiles, bytes_each, stand_of};
-ghost use Rattle.elf_versions.specs.Words.{HoldsWords, checks_of, distance_of_name, end_of_named_record};
+ghost use Rattle.elf_versions.specs.Reading.{KnowsAhead, KnowsFiles, LeadsTo, bytes_each, stand_of};
+ghost use Rattle.elf_versions.specs.Words.{HoldsWords, PassesWords, checks_of, distance_of_name, end_of_named_record};
 
 use crate::words::RecordWords;
 use elf_record::sizes::{VERSION_DEFINITION_BYTES, VERSION_NAME_BYTES, VERSION_NEED_BYTES};
@@ -44,8 +44,7 @@ pub(crate) fn record_bytes(kind: VersionKind) -> u64
 /// How many bytes a record may ask for, with its name.
 pub(crate) fn bytes_each(kind: VersionKind) -> u64
     ensures value { result ≡ bytes_each kind }
-    ensures small { result ≤ 28 }
-    ensures enough { record_size kind ≤ result }
+    ensures range { (record_size kind ≤ result) × (result ≤ 28) }
 {
     match kind {
         VersionKind::Definition => VERSION_DEFINITION_BYTES + VERSION_NAME_BYTES,
@@ -96,9 +95,8 @@ pub(crate) fn refused_words(
     requires { stand.now.place < 2 ^ 64 }
     ensures is { result
         ≡ first_refusal (checks_of stand.now.kind size stand.now.place at words.now) }
-    ensures passes { MatchOption result
-        ((stand.now.place + end_of_named_record stand.now.kind words.now.aux ≤ size)
-        × (number_in words.now.number < 1024)) (λ refusal. IsBudget refusal → ⊥) }
+    ensures passes { MatchOption result (PassesWords size stand.now words.now)
+        (λ refusal. IsBudget refusal → ⊥) }
 {
     if words.version != 1 {
         return refused(at, Cause::BadVersion);
@@ -134,13 +132,11 @@ fn refused(at: u64, cause: Cause) -> Option<Refusal>
 /// Where a record leads a walk.
 #[tactic(auto, unfolding(elf_model::specs::Versions::next_stand, elf_model::specs::Versions::next_word, crate::specs::Words::aux_word))]
 pub(crate) fn behind(table: u64, stand: &Standing, words: &RecordWords) -> Option<Standing>
-    requires low { stand.now.place < 2 ^ 64 }
     requires ends { table + stand.now.place < 2 ^ 64 }
     requires owned { table + stand.now.owner < 2 ^ 64 }
     ensures leads { (file : List ℕ) → KnowsFiles file table stand.now →
-        HoldsWords file (record { kind = stand.now.kind; at = table + stand.now.place }) words.now →
-        (option_map stand_of result ≡ next_stand file table (stand_of stand.now))
-        × KnowsAhead file table result }
+        HoldsWords file (met_at table (stand_of stand.now)) words.now →
+        LeadsTo file table (stand_of stand.now) result }
     ensures near { IfSome result (λ s. s.place < 2 ^ 64 + 2 ^ 32) }
     ensures pays { IfSome result (λ s. bytes_each s.kind ≡ bytes_each stand.now.kind) }
     ensures owner { (size : ℕ) → stand.now.place ≤ size → stand.now.owner ≤ size →

@@ -1,10 +1,10 @@
 //! The bytes of a table of symbol versions.
-ghost use Rattle.std.specs.Prelude.{◌≡◌, ℕ, ◌+◌, ◌^◌, ◌≤◌, ◌<◌, List, length, false, IfOk, IfErr, None};
+ghost use Rattle.std.specs.Prelude.{◌≡◌, ℕ, ◌+◌, ◌^◌, ◌≤◌, ◌<◌, List, length, false, IfOk, MatchResult, None};
 ghost use Rattle.elf_model.specs.Bytes.{slice};
 ghost use Rattle.elf_headers.specs.Faults.{IsOfRead};
 ghost use Rattle.elf_headers.specs.Ledger.{Did, why_stopped};
 ghost use Rattle.elf_table.specs.Tables.{RowsWithin};
-ghost use Rattle.elf_versions.specs.Reading.{GivesBytes, IsHeldOf, unheld};
+ghost use Rattle.elf_versions.specs.Reading.{DidHeld, GivesBytes, HasUpTo, IsHeldOf, unheld};
 
 use elf_headers::{Fault, fill};
 use elf_source::{Counted, Source};
@@ -53,10 +53,8 @@ impl TableBytes {
         requires within { RowsWithin src.old.seen.size table }
         ensures did { Did src.old src.new (why_stopped result) most
             (λ file. IfOk result (IsHeldOf file)) }
-        ensures fault { IfErr result IsOfRead }
-        ensures account { IfOk result (λ held.
-            src.new.asked + unheld held most ≤ src.old.asked + most) }
-        ensures its_table { IfOk result (λ held. held.table ≡ table) }
+        ensures holds { MatchResult result (λ held. (held.table ≡ table)
+            × (src.new.asked + unheld held most ≤ src.old.asked + most)) IsOfRead }
     {
         let _ = table.entry();
         let size = table.len();
@@ -109,13 +107,10 @@ impl TableBytes {
         place: u64,
         out: &mut [u8],
     ) -> Result<(), Fault>
-        requires inside { place + length out.old ≤ self.now.table.count }
+        requires has { HasUpTo src.old.seen.size self.now (place + length out.old) }
         requires small { length out.old ≤ 4096 }
         requires some { 0 < length out.old }
-        requires within { RowsWithin src.old.seen.size self.now.table }
-        ensures did { Did src.old src.new (why_stopped result)
-            (unheld self.now (length out.old))
-            (λ file. IsHeldOf file self.now →
+        ensures did { DidHeld src.old src.new self.now result (length out.old) (λ file.
             GivesBytes (slice file (self.now.table.at + place) (length out.old)) out.new result) }
     {
         if self.whole {

@@ -6,7 +6,8 @@ use Rattle.elf_model.specs.Traits.{highest_start}
 use Rattle.elf_source.proofs.ReadsLaws.{Reads-none, Reads-then, Reads-to}
 use Rattle.elf_table.specs.Cursors.{next_row, row_at}
 use Rattle.elf_table.specs.Tables.{Rows}
-use Rattle.elf_hash.proofs.ExtentLaws.{agrees_none, bucket_stands, greater_is, highest_next, highest_none, row_given, unread_start}
+use Rattle.elf_table.proofs.CursorLaws.{agrees_none}
+use Rattle.elf_hash.proofs.ExtentLaws.{bucket_stands, greater_is, highest_next, highest_none, row_given, unread_start}
 use Rattle.elf_hash.proofs.extent.highest_start.Goals as goal
 
 pub words-init : goal.words-init

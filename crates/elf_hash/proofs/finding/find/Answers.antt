@@ -2,9 +2,9 @@
 use Rattle.std.proofs.Common.{ℕ, ◌/◌, length, sym, ap, ◌∙◌, arith}
 use Rattle.std.proofs.lemmas.Result.{err_from_is_err_and}
 use Rattle.elf_model.specs.Checks.{first_refusal, load_checks}
-use Rattle.elf_hash.specs.Lookups.{Passed, behind_headers_bytes}
+use Rattle.elf_hash.specs.Lookups.{behind_headers_bytes}
 use Rattle.elf_headers.proofs.LoadLaws.{header_most, load_most, load_slots}
-use Rattle.elf_hash.proofs.FindLaws.{cost_behind, find_least, finds_header, finds_load, load_within, looked_passed}
+use Rattle.elf_hash.proofs.FindLaws.{Passed, cost_behind, find_least, finds_header, finds_load, load_within, looked_passed}
 use Rattle.elf_headers.proofs.LedgerLaws.{Charges-then, Did-as, Did-of, Did-sized, Did-then}
 use Rattle.elf_hash.proofs.finding.find.Goals as goal
 

@@ -4,7 +4,8 @@ use Rattle.std.proofs.lemmas.Result.{err_from_is_err_and}
 use Rattle.elf_model.specs.Find.{first_hash}
 use Rattle.elf_hash.specs.Lookups.{looked_behind, step_bytes}
 use Rattle.elf_hash.specs.declared.place.HashPlace.{HashPlace}
-use Rattle.elf_hash.proofs.FindLaws.{finds_checks, finds_counts, looked_there, not_some, place_is_of}
+use Rattle.elf_headers.proofs.Absent.{none-of}
+use Rattle.elf_hash.proofs.FindLaws.{finds_checks, finds_counts, looked_there, place_is_of}
 use Rattle.elf_headers.proofs.LedgerLaws.{Charges-then, Did-as, Did-none, Did-stop, Did-then}
 use Rattle.elf_hash.proofs.finding.find_in.Goals as goal
 
@@ -13,7 +14,7 @@ returns-in_default-clause-did g c =
     rw c.refused.ensures
     (Did-as _ (omega arith) (Did-stop _ (λ budget. cc) (Did-none c.args.src.now))
     (λ file told costs belongs.
-    let none : first_hash file ≡ None = sym (c.first_hash.ensures.first file belongs) ∙ not_some c.first_hash.result c.in_default.not-Some in
+    let none : first_hash file ≡ None = sym (c.first_hash.ensures.first file belongs) ∙ none-of c.first_hash.result c.in_default.not-Some in
     rw (none, looked_behind) (record { costs = costs _ (omega arith); finds = λ other. refl })))
 
 pub returns-in_err-section-clause-did : goal.returns-in_err-section-clause-did

@@ -1,9 +1,8 @@
 -- The load's checks: those of the file header, and then those of the section of the section names.
-use Rattle.std.proofs.Common.{◌≡◌, ℕ, List, length, Option, None, Some, refl, sym, ap, ◌∙◌}
-use Rattle.elf_model.specs.Bytes.{slice}
+use Rattle.std.proofs.Common.{◌≡◌, ℕ, length, Option, refl, sym, ap, ◌∙◌}
 use Rattle.elf_model.specs.Checks.{first_refusal, early_checks, section_name_checks}
 use Rattle.elf_model.specs.declared.causes.Refusal.{Refusal}
-use Rattle.elf_model.proofs.CheckSteps.{first_refusal-some, first_refusal-none}
+use Rattle.elf_model.proofs.CheckSteps.{first_refusal-some}
 use Rattle.elf_record.specs.declared.ehdr.Ehdr.{Ehdr}
 use Rattle.elf_headers.specs.Load.{early_of}
 use Rattle.elf_headers.specs.Store.{Stored, emptied}

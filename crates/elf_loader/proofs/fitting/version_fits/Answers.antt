@@ -3,7 +3,7 @@ use Rattle.std.proofs.Common.{ap, sym, Ok, ◌∙◌, arith}
 use Rattle.elf_headers.proofs.LedgerLaws.{Did-as, Did-none, Did-stop}
 use Rattle.elf_headers.specs.declared.fault.Fault.TheVariants.{Refused}
 use Rattle.elf_model.specs.declared.causes.Cause.TheVariants.{VersionCut}
-use Rattle.elf_versions.proofs.WordLaws.{none-of}
+use Rattle.elf_headers.proofs.Absent.{none-of}
 use Rattle.elf_loader.specs.NumberSets.{has_number}
 use Rattle.elf_wanted.specs.Wants.{asked_of}
 use Rattle.elf_loader.proofs.AnswerLaws.{fits-cut, fits-none, fits-word}

@@ -3,7 +3,7 @@ use Rattle.std.proofs.Common.{sym, ap, arith}
 use Rattle.std.proofs.lemmas.Result.{err_from_is_err_and}
 use Rattle.elf_headers.proofs.LedgerLaws.{Did-as, Did-none}
 use Rattle.elf_model.specs.Chains.{Walked as Walk}
-use Rattle.elf_versions.proofs.WordLaws.{none-of}
+use Rattle.elf_headers.proofs.Absent.{none-of}
 use Rattle.elf_loader.proofs.LookLaws.{looks_absent, looks_found, looks_untold}
 use Rattle.elf_wanted.specs.Wants.{the_wanted}
 use Rattle.elf_loader.proofs.looking.answer_of.Goals as goal

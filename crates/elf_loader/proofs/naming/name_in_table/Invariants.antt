@@ -1,26 +1,21 @@
 -- So many records of the table have not the number, and the others are left.
-use Rattle.std.proofs.Common.{◌≡◌, ◌-◌, ◌*◌, ◌≤◌, List, None, false}
+use Rattle.std.proofs.Common.{◌-◌, ◌*◌, List, None}
 use Rattle.elf_headers.specs.Ledger.{Did}
 use Rattle.elf_model.specs.Loader.{RecordReading, RecordTable as IsTableOf, naming_of, readings_of}
-use Rattle.elf_model.specs.Versions.{most_records}
 use Rattle.elf_scope.specs.Symbols.{IsRecordTable}
-use Rattle.elf_versions.specs.Reading.{IsCursorOf, bytes_each}
+use Rattle.elf_versions.specs.Reading.{IsCursorOf}
 use Rattle.elf_loader.specs.Naming.{NamedAs}
 use Rattle.elf_loader.proofs.LeftReadings.{left_of}
+use Rattle.elf_loader.proofs.RecordWalk.{WalksOn, gone_by}
 use Rattle.elf_loader.proofs.naming.name_in_table.Given as goal
 
 abbrev pub invariant-records : goal.invariant-records
 invariant-records g l =
-    let most = most_records l.records.kind l.records.table.count in
     record {
-      going : l.cursor.failed ≡ None;
-      its_table : l.cursor.held.table ≡ l.records.table;
-      alone : l.cursor.held.whole ≡ false;
-      each : l.cursor.each ≡ bytes_each l.records.kind;
-      fewer : l.cursor.left ≤ most;
-      so_far : Did l.fn.src l.src None ((most - l.cursor.left) * 28)
+      walks : WalksOn l.records l.cursor;
+      so_far : Did l.fn.src l.src None ((gone_by l.records l.cursor) * 28)
           (λ file. IsCursorOf file l.cursor × ((told : IsTableOf) (others : List RecordReading) → IsRecordTable file told l.records
-          → NamedAs (most - l.cursor.left) (naming_of file l.number (readings_of file told others))
+          → NamedAs (gone_by l.records l.cursor) (naming_of file l.number (readings_of file told others))
           (naming_of file l.number (left_of file told.strings others l.cursor))));
     }
 

@@ -9,7 +9,7 @@ use Rattle.elf_headers.specs.declared.fault.Fault.TheVariants.{Refused}
 use Rattle.elf_headers.proofs.LedgerLaws.{Did-as, Did-of, Did-stop, Did-then}
 use Rattle.elf_model.specs.Loader.{naming_of, readings}
 use Rattle.elf_model.specs.declared.causes.Cause.TheVariants.{VersionIndex}
-use Rattle.elf_versions.proofs.WordLaws.{none-of}
+use Rattle.elf_headers.proofs.Absent.{none-of}
 use Rattle.elf_loader.proofs.NamingLaws.{naming-nothing}
 use Rattle.elf_loader.proofs.TellingLaws.{fault-tells, name-fails, name-tells, none-tells}
 use Rattle.elf_loader.proofs.telling.told_name.Goals as goal

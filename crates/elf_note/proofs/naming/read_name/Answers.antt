@@ -1,7 +1,7 @@
-use Rattle.std.proofs.Common.{◌≡◌, Ok, false, inl, inr, rules}
+use Rattle.std.proofs.Common.{◌≡◌, false, inl, inr, rules}
 use Rattle.std.proofs.lemmas.Result.{err_from_is_err_and}
 use Rattle.elf_note.proofs.ShownNames.{shown-cut, shown-whole}
-use Rattle.elf_note.proofs.ThroughLaws.{through_skip}
+use Rattle.elf_table.proofs.ThroughLaws.{through_err, through_ok, through_skip}
 use Rattle.elf_note.proofs.naming.read_name.Goals as goal
 use Rattle.elf_note.proofs.naming.read_name.Goals.{else-not-found-via-then-not-found+else-size-from, else-not-found-via-else-not-found}
 
@@ -24,16 +24,16 @@ pub returns-in_err-found : goal.returns-in_err-found
 returns-in_err-found g c =
     let p = err_from_is_err_and c.from_residual.result c.from_residual.ensures.1 in
     let e = c.in_err-found.ensures in
-    rw (p.1, p.2) (record { went = record { reads = e.reads; says = e.says; moves = e.moves; onward = e.onward; agrees = e.agrees }; fault = e.fault; at = tt; read = λ file h a note n l. tt })
+    rw (p.1, p.2) (record { reads = record { went = through_err e.reads.went; fault = e.reads.fault }; at = tt; read = λ file h a note n l. tt })
 
-pub returns-then-size-from-clause-went : goal.returns-then-size-from-clause-went
-returns-then-size-from-clause-went g c =
+pub returns-then-size-from-clause-reads : goal.returns-then-size-from-clause-reads
+returns-then-size-from-clause-reads g c =
     let e = c.in_ok-found.ensures in
     let s = c.skip.ensures in
-    through_skip _ _ _ _ _ _ (Ok _) _ (record { reads = e.reads; says = tt; moves = e.moves; onward = e.onward; agrees = e.agrees }) s.page s.at s.unread s.end s.agrees
+    record { went = through_skip (through_ok _ e.reads.went) s; fault = tt }
 
-pub returns-clause-went : goal.returns-clause-went
-returns-clause-went g c =
+pub returns-clause-reads : goal.returns-clause-reads
+returns-clause-reads g c =
     let e = c.in_ok-found.ensures in
     let s = c.skip.ensures in
-    through_skip _ _ _ _ _ _ (Ok _) _ (record { reads = e.reads; says = tt; moves = e.moves; onward = e.onward; agrees = e.agrees }) s.page s.at s.unread s.end s.agrees
+    record { went = through_skip (through_ok _ e.reads.went) s; fault = tt }

@@ -2,11 +2,14 @@ use Rattle.std.proofs.Common.{◌≡◌, ℕ, ◌+◌, ◌-◌, ◌<◌, ◌≤�
 use Rattle.std.proofs.lemmas.List.{take_at}
 use Rattle.std.proofs.lemmas.Result.{err_from_is_err_and}
 use Rattle.elf_model.specs.Bytes.{slice}
-use Rattle.elf_model.specs.Notes.{to_next}
+use Rattle.elf_model.specs.Notes.{descriptor_start, to_next}
 use Rattle.elf_record.specs.NoteHead.{IsNoteHead}
 use Rattle.elf_table.specs.Windows.{bytes_left, range_end}
+use Rattle.elf_note.specs.NoteCursors.{note_size}
 use Rattle.elf_note.proofs.Stepping.{left-zeros, left-few, left-short, moved-by, found-tells, no-cut, taken-size}
-use Rattle.elf_note.proofs.ThroughLaws.{through_then, through_skip, through_err}
+use Rattle.elf_table.proofs.ThroughLaws.{through_err, through_ok, through_skip, through_then}
+use Rattle.elf_note.proofs.note.next_note.Given.{Over}
+use Rattle.elf_note.proofs.note.next_note.Goals.{In_ok-read_rest}
 use Rattle.elf_note.proofs.note.next_note.Goals as goal
 
 pub returns-then-branch-clause-tells : goal.returns-then-branch-clause-tells
@@ -26,7 +29,7 @@ returns-then-left-from-clause-tells g c = λ file h a f.
     let some = c.requires.within (omega arith) in
     let ends : range_end w ≤ length file = omega arith in
     let stands : IsNoteHead file w.at head = c.decode-head.ensures.stands file w.at (c.in_ok-take.ensures.taken file h a) in
-    let tm = c.in_ok-take.ensures.went.moves.same_end in
+    let tm = c.in_ok-take.ensures.reads.went.moves.same_end in
     let ta = c.in_ok-take.ensures.at in
     let lf = c.left-2.ensures.value in
     let gap = c.gap_between-gap.ensures.value in
@@ -36,116 +39,103 @@ returns-then-left-from-clause-tells g c = λ file h a f.
     let few : bytes_left w < 12 + head.namesz + c.gap_between-gap.result + head.descsz = omega arith in
     left-short c.args.align file w head stands ends many (rw gap at few)
 
+-- where the parts of a note stand that is read, and the window behind it
+laid : (g : Over) (c : In_ok-read_rest g)
+    → let w = c.args.window.now in
+    let head = c.decode-head.result in
+    let start = descriptor_start c.args.align head.namesz head.descsz in
+    (c.at-desc_at.result ≡ w.at + start) × (start + head.descsz ≤ bytes_left w) × (range_end c.read_rest.new.window ≡ range_end w)
+    × (c.read_rest.new.window.at ≡ w.at + note_size c.args.align head.namesz head.descsz (bytes_left w))
+laid g c =
+    let w = c.args.window.now in
+    let head = c.decode-head.result in
+    let gp = c.gap_between-gap.result in
+    let gap = c.gap_between-gap.ensures.value in
+    let ta : c.take.new.window.at ≡ w.at + 12 = c.in_ok-take.ensures.at in
+    let te : range_end c.take.new.window ≡ range_end w = c.in_ok-take.ensures.reads.went.moves.same_end in
+    let lf : c.left-2.result ≡ bytes_left c.take.new.window = c.left-2.ensures.value in
+    let f1 : c.from.result ≡ head.namesz = c.from.ensures in
+    let f2 : c.from-2.result ≡ head.descsz = c.from-2.ensures in
+    let f3 : c.from-3.result ≡ head.namesz = c.from-3.ensures in
+    let test : c.from.result + gp + c.from-2.result ≤ c.left-2.result = c.if-left-from.false in
+    let na : c.read_name.new.window.at ≡ c.take.new.window.at + c.from-3.result = c.in_ok-name_end.ensures.at in
+    let ne : range_end c.read_name.new.window ≡ range_end c.take.new.window = c.in_ok-name_end.ensures.reads.went.moves.same_end in
+    let sa : c.skip.new.self.at ≡ c.read_name.new.window.at + gp = c.skip.ensures.at in
+    let se : range_end c.skip.new.self ≡ range_end c.read_name.new.window = c.skip.ensures.end in
+    let da : c.at-desc_at.result ≡ c.skip.new.self.at = c.at-desc_at.ensures.value in
+    let at0 : c.at-at.result ≡ w.at = c.at-at.ensures.value in
+    let fit : 12 + head.namesz + gp + head.descsz ≤ bytes_left w = omega arith in
+    let place : c.at-desc_at.result ≡ w.at + (12 + head.namesz + gp) = omega arith in
+    let start : c.at-desc_at.result - c.at-at.result ≡ 12 + head.namesz + gp = omega arith in
+    let behind : bytes_left c.skip.new.self + (12 + head.namesz + gp) ≡ bytes_left w = omega arith in (
+      rw gap at place,
+      rw gap at fit,
+      c.in_ok-read_rest.ensures.reads.went.moves.same_end ∙ se ∙ ne ∙ te,
+      moved-by c.args.align w.at head.namesz head.descsz (bytes_left w) (bytes_left c.skip.new.self) c.at-desc_at.result (c.at-desc_at.result - c.at-at.result) c.read_rest.new.window.at
+          (rw gap at place) (rw gap at start) (rw gap at fit) (rw gap at behind)
+          (c.in_ok-read_rest.ensures.at ∙ ap (λ (x : ℕ). x + head.descsz + min (to_next c.args.align (c.at-desc_at.result - c.at-at.result + head.descsz)) (bytes_left c.skip.new.self - head.descsz)) (sym da)),
+    )
+
 pub returns-clause-tells : goal.returns-clause-tells
 returns-clause-tells g c = λ file h a.
     let w = c.args.window.now in
     let head = c.decode-head.result in
-    let gp = c.gap_between-gap.result in
-    let h1 = c.in_ok-take.ensures.went.reads.keeps.same_file ∙ h in
-    let h2 = c.in_ok-name_end.ensures.went.reads.keeps.same_file ∙ h1 in
-    let a1 = c.in_ok-take.ensures.went.agrees file h a in
-    let a2 = c.skip.ensures.agrees file (c.in_ok-name_end.ensures.went.agrees file h1 a1) in
+    let all = laid g (goal.at.returns-clause-tells g c).In_ok-read_rest in
+    let h1 = c.in_ok-take.ensures.reads.went.reads.keeps.same_file ∙ h in
+    let h2 = c.in_ok-name_end.ensures.reads.went.reads.keeps.same_file ∙ h1 in
+    let a1 = c.in_ok-take.ensures.reads.went.agrees file h a in
+    let a2 = c.skip.ensures.agrees file (c.in_ok-name_end.ensures.reads.went.agrees file h1 a1) in
     let many : 12 ≤ bytes_left w = search rules in
     let sized = c.args.src.now.seen.sized file h in
     let some = c.requires.within (omega arith) in
     let ends : range_end w ≤ length file = omega arith in
     let stands : IsNoteHead file w.at head = c.decode-head.ensures.stands file w.at (c.in_ok-take.ensures.taken file h a) in
-    let gap = c.gap_between-gap.ensures.value in
-    let ta : c.take.new.window.at ≡ w.at + 12 = c.in_ok-take.ensures.at in
-    let te : range_end c.take.new.window ≡ range_end w = c.in_ok-take.ensures.went.moves.same_end in
-    let lf : c.left-2.result ≡ bytes_left c.take.new.window = c.left-2.ensures.value in
-    let f1 : c.from.result ≡ head.namesz = c.from.ensures in
-    let f2 : c.from-2.result ≡ head.descsz = c.from-2.ensures in
     let f3 : c.from-3.result ≡ head.namesz = c.from-3.ensures in
-    let f4 : c.from-4.result ≡ head.descsz = c.from-4.ensures in
-    let test : c.from.result + gp + c.from-2.result ≤ c.left-2.result = c.if-left-from.false in
-    let na : c.read_name.new.window.at ≡ c.take.new.window.at + c.from-3.result = c.in_ok-name_end.ensures.at in
-    let ne : range_end c.read_name.new.window ≡ range_end c.take.new.window = c.in_ok-name_end.ensures.went.moves.same_end in
-    let sa : c.skip.new.self.at ≡ c.read_name.new.window.at + gp = c.skip.ensures.at in
-    let se : range_end c.skip.new.self ≡ range_end c.read_name.new.window = c.skip.ensures.end in
-    let da : c.at-desc_at.result ≡ c.skip.new.self.at = c.at-desc_at.ensures.value in
-    let at0 : c.at-at.result ≡ w.at = c.at-at.ensures.value in
-    let sh : c.min-shown.result ≡ min c.from-4.result 32 = c.min-shown.ensures in
-    let fit : 12 + head.namesz + gp + head.descsz ≤ bytes_left w = omega arith in
-    let place : c.at-desc_at.result ≡ w.at + (12 + head.namesz + gp) = omega arith in
-    let start : c.at-desc_at.result - c.at-at.result ≡ 12 + head.namesz + gp = omega arith in
-    let behind : bytes_left c.skip.new.self + (12 + head.namesz + gp) ≡ bytes_left w = omega arith in
-    let ra : c.read_rest.new.window.at ≡ c.skip.new.self.at + head.descsz + min (to_next c.args.align (c.at-desc_at.result - c.at-at.result + head.descsz)) (bytes_left c.skip.new.self - head.descsz) =
-    c.in_ok-read_rest.ensures.at in
     let size : length c.read_rest.new.desc ≡ c.min-shown.result = search (rules, c.read_rest.auto.desc) in
     let rest : c.read_rest.new.desc ≡ slice file c.at-desc_at.result c.min-shown.result =
-    c.in_ok-read_rest.ensures.read file h2 a2 ∙ ap (slice file c.skip.new.self.at) (sym c.read_rest.auto.desc ∙ size) ∙ ap (λ (x : ℕ). slice file x c.min-shown.result) (sym da) in
+    c.in_ok-read_rest.ensures.read file h2 a2 ∙ ap (slice file c.skip.new.self.at) (sym c.read_rest.auto.desc ∙ size) ∙ ap (λ (x : ℕ). slice file x c.min-shown.result) (sym c.at-desc_at.ensures.value) in
     found-tells file c.args.align c.args.cap.bytes w c.read_rest.new.window head c.in_ok-name_end.name_end c.read_name.new.name _ c.at-at.result c.at-desc_at.result c.min-shown.result
-    at0 stands ends many (rw gap at fit) (c.in_ok-read_rest.ensures.went.moves.same_end ∙ se ∙ ne ∙ te)
-    (moved-by c.args.align w.at head.namesz head.descsz (bytes_left w) (bytes_left c.skip.new.self) c.at-desc_at.result (c.at-desc_at.result - c.at-at.result) c.read_rest.new.window.at
-    (rw gap at place) (rw gap at start) (rw gap at fit) (rw gap at behind)
-    (ra ∙ ap (λ (x : ℕ). x + head.descsz + min (to_next c.args.align (c.at-desc_at.result - c.at-at.result + head.descsz)) (bytes_left c.skip.new.self - head.descsz)) (sym da)))
-    (λ note n l. c.in_ok-name_end.ensures.read file h1 a1 note (n ∙ ap (λ (x : ℕ). slice file x head.namesz) (sym ta) ∙ ap (slice file c.take.new.window.at) (sym f3)) (l ∙ sym f3))
-    (rw gap at place) (sh ∙ ap (λ (x : ℕ). min x 32) f4) (take_at c.read_rest.new.desc _ c.min-shown.result size ∙ rest)
+    c.at-at.ensures.value stands ends many all.1 all.2 all.3
+    (λ note n l. c.in_ok-name_end.ensures.read file h1 a1 note (n ∙ ap (λ (x : ℕ). slice file x head.namesz) (sym c.in_ok-take.ensures.at) ∙ ap (slice file c.take.new.window.at) (sym f3)) (l ∙ sym f3))
+    all.0 (c.min-shown.ensures ∙ ap (λ (x : ℕ). min x 32) c.from-4.ensures) (take_at c.read_rest.new.desc _ c.min-shown.result size ∙ rest)
 
 pub returns-clause-sized : goal.returns-clause-sized
 returns-clause-sized g c =
-    let w = c.args.window.now in
-    let head = c.decode-head.result in
-    let gp = c.gap_between-gap.result in
-    let gap = c.gap_between-gap.ensures.value in
-    let ta : c.take.new.window.at ≡ w.at + 12 = c.in_ok-take.ensures.at in
-    let te : range_end c.take.new.window ≡ range_end w = c.in_ok-take.ensures.went.moves.same_end in
-    let lf : c.left-2.result ≡ bytes_left c.take.new.window = c.left-2.ensures.value in
-    let f1 : c.from.result ≡ head.namesz = c.from.ensures in
-    let f2 : c.from-2.result ≡ head.descsz = c.from-2.ensures in
-    let f3 : c.from-3.result ≡ head.namesz = c.from-3.ensures in
-    let test : c.from.result + gp + c.from-2.result ≤ c.left-2.result = c.if-left-from.false in
-    let na : c.read_name.new.window.at ≡ c.take.new.window.at + c.from-3.result = c.in_ok-name_end.ensures.at in
-    let ne : range_end c.read_name.new.window ≡ range_end c.take.new.window = c.in_ok-name_end.ensures.went.moves.same_end in
-    let sa : c.skip.new.self.at ≡ c.read_name.new.window.at + gp = c.skip.ensures.at in
-    let se : range_end c.skip.new.self ≡ range_end c.read_name.new.window = c.skip.ensures.end in
-    let re : range_end c.read_rest.new.window ≡ range_end c.skip.new.self = c.in_ok-read_rest.ensures.went.moves.same_end in
-    let da : c.at-desc_at.result ≡ c.skip.new.self.at = c.at-desc_at.ensures.value in
-    let at0 : c.at-at.result ≡ w.at = c.at-at.ensures.value in
-    let fit : 12 + head.namesz + gp + head.descsz ≤ bytes_left w = omega arith in
-    let place : c.at-desc_at.result ≡ w.at + (12 + head.namesz + gp) = omega arith in
-    let start : c.at-desc_at.result - c.at-at.result ≡ 12 + head.namesz + gp = omega arith in
-    let behind : bytes_left c.skip.new.self + (12 + head.namesz + gp) ≡ bytes_left w = omega arith in
-    let ra : c.read_rest.new.window.at ≡ c.skip.new.self.at + head.descsz + min (to_next c.args.align (c.at-desc_at.result - c.at-at.result + head.descsz)) (bytes_left c.skip.new.self - head.descsz) =
-    c.in_ok-read_rest.ensures.at in
-    let moved = moved-by c.args.align w.at head.namesz head.descsz (bytes_left w) (bytes_left c.skip.new.self) c.at-desc_at.result (c.at-desc_at.result - c.at-at.result) c.read_rest.new.window.at
-    (rw gap at place) (rw gap at start) (rw gap at fit) (rw gap at behind)
-    (ra ∙ ap (λ (x : ℕ). x + head.descsz + min (to_next c.args.align (c.at-desc_at.result - c.at-at.result + head.descsz)) (bytes_left c.skip.new.self - head.descsz)) (sym da)) in
+    let all = laid g (goal.at.returns-clause-sized g c).In_ok-read_rest in
     record {
-      size = taken-size c.args.align head w c.read_rest.new.window (re ∙ se ∙ ne ∙ te) moved;
-      ends = omega (arith, place, fit);
+      size = taken-size c.args.align c.decode-head.result c.args.window.now c.read_rest.new.window all.2 all.3;
+      ends = omega (arith, all.0, all.1);
     }
 
 pub returns-clause-went : goal.returns-clause-went
 returns-clause-went g c =
     let s = c.skip.ensures in
-    let named = through_then _ _ _ _ _ _ _ _ _ c.in_ok-take.ensures.went c.in_ok-name_end.ensures.went in
-    let rest = through_then _ _ _ _ _ _ _ _ _ (through_skip _ _ _ _ _ _ _ _ named s.page s.at s.unread s.end s.agrees) c.in_ok-read_rest.ensures.went in
-    record { reads = rest.reads; says = tt; moves = rest.moves; onward = rest.onward; agrees = rest.agrees }
+    let named = through_then c.in_ok-take.ensures.reads.went c.in_ok-name_end.ensures.reads.went in
+    let rest = through_then (through_skip named s) c.in_ok-read_rest.ensures.reads.went in
+    through_ok _ rest
 
 pub returns-in_err-ends_in_zeros : goal.returns-in_err-ends_in_zeros
 returns-in_err-ends_in_zeros g c =
     let p = err_from_is_err_and c.from_residual.result c.from_residual.ensures.1 in
     let e = c.in_err-ends_in_zeros.ensures in
-    rw (p.1, p.2) (record { went = through_err _ _ _ _ _ _ (e.went); stops = inl e.fault; passes = tt; sized = tt; tells = λ file h a cut. absurd (no-cut _ e.fault cut) })
+    rw (p.1, p.2) (record { went = through_err (e.reads.went); stops = inl e.reads.fault; passes = tt; sized = tt; tells = λ file h a cut. absurd (no-cut _ e.reads.fault cut) })
 
 pub returns-in_err-take : goal.returns-in_err-take
 returns-in_err-take g c =
     let p = err_from_is_err_and c.from_residual-in_err-take.result c.from_residual-in_err-take.ensures.1 in
     let e = c.in_err-take.ensures in
-    rw (p.1, p.2) (record { went = through_err _ _ _ _ _ _ (e.went); stops = inl e.fault; passes = tt; sized = tt; tells = λ file h a cut. absurd (no-cut _ e.fault cut) })
+    rw (p.1, p.2) (record { went = through_err (e.reads.went); stops = inl e.reads.fault; passes = tt; sized = tt; tells = λ file h a cut. absurd (no-cut _ e.reads.fault cut) })
 
 pub returns-in_err-name_end : goal.returns-in_err-name_end
 returns-in_err-name_end g c =
     let p = err_from_is_err_and c.from_residual-in_err-name_end.result c.from_residual-in_err-name_end.ensures.1 in
     let e = c.in_err-name_end.ensures in
-    rw (p.1, p.2) (record { went = through_err _ _ _ _ _ _ (through_then _ _ _ _ _ _ _ _ _ c.in_ok-take.ensures.went e.went); stops = inl e.fault; passes = tt; sized = tt; tells = λ file h a cut. absurd (no-cut _ e.fault cut) })
+    rw (p.1, p.2) (record { went = through_err (through_then c.in_ok-take.ensures.reads.went e.reads.went); stops = inl e.reads.fault; passes = tt; sized = tt; tells = λ file h a cut. absurd (no-cut _ e.reads.fault cut) })
 
 pub returns-in_err-read_rest : goal.returns-in_err-read_rest
 returns-in_err-read_rest g c =
     let p = err_from_is_err_and c.from_residual-in_err-read_rest.result c.from_residual-in_err-read_rest.ensures.1 in
     let e = c.in_err-read_rest.ensures in
     let s = c.skip.ensures in
-    let named = through_then _ _ _ _ _ _ _ _ _ c.in_ok-take.ensures.went c.in_ok-name_end.ensures.went in
-    rw (p.1, p.2) (record { went = through_err _ _ _ _ _ _ (through_then _ _ _ _ _ _ _ _ _ (through_skip _ _ _ _ _ _ _ _ named s.page s.at s.unread s.end s.agrees) e.went); stops = inl e.fault; passes = tt; sized = tt; tells = λ file h a cut. absurd (no-cut _ e.fault cut) })
+    let named = through_then c.in_ok-take.ensures.reads.went c.in_ok-name_end.ensures.reads.went in
+    rw (p.1, p.2) (record { went = through_err (through_then (through_skip named s) e.reads.went); stops = inl e.reads.fault; passes = tt; sized = tt; tells = λ file h a cut. absurd (no-cut _ e.reads.fault cut) })

@@ -1,19 +1,14 @@
-use Rattle.std.proofs.Common.{◌≡◌, ◌+◌, ◌≤◌, ℕ, List, None, Some}
+use Rattle.std.proofs.Common.{◌≡◌, ℕ, List, Some}
 use Rattle.elf_model.specs.Dynamic.{dynamic_value, listed_value}
 use Rattle.elf_model.specs.Numbers.{DT_STRSZ, DT_STRTAB}
-use Rattle.elf_source.specs.Source.{Reads}
-use Rattle.elf_table.specs.Cursors.{HoldsRows, next_row, unread_bytes}
-use Rattle.elf_table.specs.Tables.{size_of}
+use Rattle.elf_table.specs.Cursors.{next_row}
 use Rattle.elf_note.specs.DynCursors.{entries_left, first_value}
+use Rattle.elf_note.proofs.EntriesLoop.{GoesOver}
 use Rattle.elf_note.proofs.string_values.dynamic_strings.Given as goal
 
 abbrev pub invariant-entries : goal.invariant-entries
 invariant-entries g l = record {
-  same_table : l.cursor.cursor.table ≡ l.fn.table;
-  not_failed : l.cursor.cursor.failed ≡ None;
-  reads : Reads l.fn.src l.src (size_of l.fn.table);
-  account : l.src.asked + unread_bytes l.cursor.cursor ≤ l.fn.src.asked + size_of l.fn.table;
-  agrees : (file : List ℕ) → l.fn.src.seen.file ≡ Some file → HoldsRows file l.cursor.cursor;
+  goes : GoesOver l.fn.table l.fn.src l.src l.cursor;
   address : (file : List ℕ) → l.fn.src.seen.file ≡ Some file
       → first_value l.address (dynamic_value file (next_row l.cursor.cursor) (entries_left file l.cursor) DT_STRTAB) ≡ listed_value file l.fn.table.at l.fn.table.count DT_STRTAB;
   size : (file : List ℕ) → l.fn.src.seen.file ≡ Some file

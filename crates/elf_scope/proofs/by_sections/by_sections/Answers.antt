@@ -2,7 +2,8 @@
 use Rattle.std.proofs.Common.{ap, ◌∙◌}
 use Rattle.std.specs.Prelude.{option_map}
 use Rattle.elf_scope.specs.Kinds.{found_at}
-use Rattle.elf_scope.proofs.SectionLaws.{not_some, sections_find, sections_none}
+use Rattle.elf_headers.proofs.Absent.{none-of}
+use Rattle.elf_scope.proofs.SectionLaws.{sections_find, sections_none}
 use Rattle.elf_scope.proofs.SettleLaws.{refuses}
 use Rattle.elf_scope.proofs.by_sections.by_sections.Goals as goal
 
@@ -10,7 +11,7 @@ pub returns-in_default : goal.returns-in_default
 returns-in_default c =
     rw c.refused.ensures
     (refuses _ (λ budget. cc) (λ bytes belongs other.
-    sections_none bytes (c.hash_section.ensures.held bytes belongs ∙ ap (option_map (found_at bytes)) (not_some c.hash_section.result c.in_default.not-Some))))
+    sections_none bytes (c.hash_section.ensures.held bytes belongs ∙ ap (option_map (found_at bytes)) (none-of c.hash_section.result c.in_default.not-Some))))
 
 pub returns : goal.returns
 returns c = record {

@@ -1,7 +1,7 @@
 -- The entry of the hash table decides.
 use Rattle.elf_hash.specs.Kinds.{hash_kind_of}
 use Rattle.elf_scope.proofs.ScopeLaws.{entries_find, entries_none}
-use Rattle.elf_scope.proofs.SectionLaws.{not_some}
+use Rattle.elf_headers.proofs.Absent.{none-of}
 use Rattle.elf_model.specs.Records.{segment_at}
 use Rattle.elf_scope.proofs.SettleLaws.{refuses}
 use Rattle.elf_scope.proofs.by_segments.by_entries.Goals as goal
@@ -12,7 +12,7 @@ returns-in_default c =
     (refuses _ (λ budget. cc) (λ bytes views are other.
     let at = segment_at bytes c.args.segment in
     let all = c.hash_entry.ensures bytes at are in
-    entries_none bytes c.args.segment at (rw (not_some c.hash_entry.result c.in_default.not-Some) at all)))
+    entries_none bytes c.args.segment at (rw (none-of c.hash_entry.result c.in_default.not-Some) at all)))
 
 pub returns : goal.returns
 returns c = record {

@@ -5,7 +5,7 @@ use Rattle.elf_table.specs.Tables.{Rows}
 use Rattle.elf_headers.proofs.LedgerLaws.{Did-as, Did-none, Did-stop}
 use Rattle.elf_scope.proofs.EntryLaws.{entries_are}
 use Rattle.elf_scope.proofs.FoundLaws.{asked_within, did_check, dynamic_is, dynamic_refused, index_is, read_finds, segment_finds, segments_none, size_within}
-use Rattle.elf_scope.proofs.SectionLaws.{not_some}
+use Rattle.elf_headers.proofs.Absent.{none-of}
 use Rattle.elf_scope.proofs.by_segments.in_segments.Goals as goal
 
 pub returns-in_default : goal.returns-in_default
@@ -14,7 +14,7 @@ returns-in_default g c = record {
       rw c.refused.ensures
       (Did-as _ (omega arith) (Did-stop _ (λ budget. cc) (Did-none c.args.src.now))
       (λ file told costs views.
-      let none = index_is file ∙ (sym (c.first_segment.ensures.first file views) ∙ not_some c.first_segment.result c.in_default.not-Some) in
+      let none = index_is file ∙ (sym (c.first_segment.ensures.first file views) ∙ none-of c.first_segment.result c.in_default.not-Some) in
       (costs _ (omega arith), λ other. segments_none file none)));
   within = rw c.refused.ensures tt;
 }
@@ -25,7 +25,7 @@ returns-in_err-table g c =
     record {
       did =
           rw (p.1, p.2)
-          (Did-as _ (omega arith) (Did-stop _ c.in_err-table.ensures.refusal (Did-none c.args.src.now))
+          (Did-as _ (omega arith) (Did-stop _ c.in_err-table.ensures.lies (Did-none c.args.src.now))
           (λ file told costs views.
           let some = index_is file ∙ (sym (c.first_segment.ensures.first file views) ∙ c.in-Some.is) in
           (costs _ (omega arith), dynamic_refused file _ some _ (c.in_err-table.ensures.held file views))));
@@ -35,7 +35,7 @@ returns-in_err-table g c =
 pub returns-in_err-found : goal.returns-in_err-found
 returns-in_err-found g c =
     let p = err_from_is_err_and c.from_residual-in_err-found.result c.from_residual-in_err-found.ensures.1 in
-    let fits = size_within _ _ c.in_ok-table.ensures.within in
+    let fits = size_within _ _ c.in_ok-table.ensures.lies.within in
     record {
       did =
           rw (p.1, p.2)
@@ -48,7 +48,7 @@ returns-in_err-found g c =
 
 pub returns : goal.returns
 returns g c =
-    let fits = size_within _ _ c.in_ok-table.ensures.within in
+    let fits = size_within _ _ c.in_ok-table.ensures.lies.within in
     record {
       did =
           Did-as _ (omega (arith, fits, c.requires.size)) (did_check c.by_entries.result c.by_entries.ensures.refusal c.in_ok-found.ensures.did)

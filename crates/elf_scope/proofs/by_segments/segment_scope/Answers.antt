@@ -13,7 +13,7 @@ use Rattle.elf_scope.proofs.by_segments.segment_scope.Goals.{then-len-least_byte
 pub returns-in_err-hash : goal.returns-in_err-hash
 returns-in_err-hash c =
     let p = err_from_is_err_and c.from_residual.result c.from_residual.ensures.1 in
-    rw (p.1, p.2) (refuses _ c.in_err-hash.ensures.refusal (λ bytes views are value.
+    rw (p.1, p.2) (refuses _ c.in_err-hash.ensures.lies (λ bytes views are value.
     let at = segment_at bytes c.args.segment in
     (hash_refuses bytes (hash_kind_of c.args.kind) c.args.segment at c.args.row.now value _ (c.in_err-hash.ensures.value bytes views))))
 

@@ -1,7 +1,7 @@
 -- The words, then the definitions, then the needs.
 use Rattle.std.proofs.Common.{rules, refl}
 use Rattle.std.proofs.lemmas.Result.{err_from_is_err_and}
-use Rattle.elf_scope.proofs.SectionLaws.{not_some}
+use Rattle.elf_headers.proofs.Absent.{none-of}
 use Rattle.elf_scope.proofs.VersionLaws.{definitions_refuse, needs_refuse, no_versions, versions_are, words_refuse}
 use Rattle.elf_scope.proofs.SettleLaws.{finds, refuses}
 use Rattle.elf_scope.proofs.section_versions.section_versions.Goals as goal
@@ -15,7 +15,7 @@ returns-in_err-words c =
 pub returns-in_default : goal.returns-in_default
 returns-in_default c = finds _ (search rules) (λ bytes belongs at link.
     let told = c.in_ok-words.ensures.held bytes belongs at link in
-    let none = rw (not_some c.in_ok-words.field-0 c.in_default.not-Some) at told in
+    let none = rw (none-of c.in_ok-words.field-0 c.in_default.not-Some) at told in
     no_versions bytes at _ none.1 refl refl refl)
 
 pub returns-in_err-definitions : goal.returns-in_err-definitions

@@ -2,14 +2,14 @@
 use Rattle.std.proofs.Common.{rules, sym, refl, ◌∙◌}
 use Rattle.std.proofs.lemmas.Result.{err_from_is_err_and}
 use Rattle.elf_table.proofs.HashSectionLaws.{place_is}
-use Rattle.elf_scope.proofs.SectionLaws.{not_some}
+use Rattle.elf_headers.proofs.Absent.{none-of}
 use Rattle.elf_scope.proofs.VersionLaws.{words_are, words_none, words_refused}
 use Rattle.elf_scope.proofs.SettleLaws.{finds, refuses}
 use Rattle.elf_scope.proofs.section_versions.section_words.Goals as goal
 
 pub returns-in_default : goal.returns-in_default
 returns-in_default c = finds _ (search rules) (λ bytes belongs at link.
-    words_none bytes at (sym (c.words_section.ensures.held bytes belongs) ∙ not_some c.words_section.result c.in_default.not-Some))
+    words_none bytes at (sym (c.words_section.ensures.held bytes belongs) ∙ none-of c.words_section.result c.in_default.not-Some))
 
 pub returns-in_err-words : goal.returns-in_err-words
 returns-in_err-words c =

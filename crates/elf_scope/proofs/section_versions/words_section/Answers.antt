@@ -6,7 +6,7 @@ use Rattle.elf_scope.proofs.section_versions.words_section.Goals.{then-has_bytes
 
 pub returns-then-has_bytes-clause-held : goal.returns-then-has_bytes-clause-held
 returns-then-has_bytes-clause-held c = λ bytes belongs.
-    c.first_section.ensures.first bytes belongs
+    c.first.ensures.held bytes belongs
     ∙ elim c.then-has_bytes.branch [
       | then-has_bytes-via-then-has_bytes w ↦ words_defined bytes (sym (c.has_bytes.ensures bytes belongs) ∙ w.if-has_bytes.true)
       | then-has_bytes-via-else-has_bytes+then-has_bytes-2 w ↦

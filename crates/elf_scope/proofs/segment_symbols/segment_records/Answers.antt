@@ -8,7 +8,7 @@ use Rattle.elf_scope.proofs.segment_symbols.segment_records.Goals as goal
 pub returns-in_err-table : goal.returns-in_err-table
 returns-in_err-table c =
     let p = err_from_is_err_and c.from_residual.result c.from_residual.ensures.1 in
-    rw (p.1, p.2) (refuses _ c.in_err-table.ensures.refusal (λ bytes views at tag is names.
+    rw (p.1, p.2) (refuses _ c.in_err-table.ensures.lies (λ bytes views at tag is names.
     (tag_refused bytes at tag c.args.kind c.args.entry _ is c.in-Some.is _ (c.in_err-table.ensures.value bytes views))))
 
 pub returns : goal.returns

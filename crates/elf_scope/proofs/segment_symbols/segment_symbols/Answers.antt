@@ -3,7 +3,7 @@ use Rattle.std.proofs.Common.{rules, ap, refl}
 use Rattle.std.proofs.lemmas.Result.{err_from_is_err_and}
 use Rattle.elf_table.specs.Tables.{Rows}
 use Rattle.elf_scope.proofs.ScopeLaws.{names_told, strings_refuse, symbols_missing, symbols_refuse, symbols_settle, versions_refuse}
-use Rattle.elf_scope.proofs.SectionLaws.{not_some}
+use Rattle.elf_headers.proofs.Absent.{none-of}
 use Rattle.elf_scope.proofs.SettleLaws.{finds, refuses}
 use Rattle.elf_scope.proofs.segment_symbols.segment_symbols.Goals as goal
 
@@ -11,13 +11,13 @@ pub returns-in_default : goal.returns-in_default
 returns-in_default c =
     rw c.refused.ensures
     (refuses _ (λ budget. cc) (λ bytes views at are.
-    let told = rw (not_some c.symbol_entries.result c.in_default.not-Some) at c.symbol_entries.ensures in
+    let told = rw (none-of c.symbol_entries.result c.in_default.not-Some) at c.symbol_entries.ensures in
     symbols_missing bytes at c.args.row c.args.found.now are told))
 
 pub returns-in_err-rest : goal.returns-in_err-rest
 returns-in_err-rest c =
     let p = err_from_is_err_and c.from_residual.result c.from_residual.ensures.1 in
-    rw (p.1, p.2) (refuses _ c.in_err-rest.ensures.refusal (λ bytes views at are.
+    rw (p.1, p.2) (refuses _ c.in_err-rest.ensures.lies (λ bytes views at are.
     let told = rw c.in-Some.is at c.symbol_entries.ensures in
     (symbols_refuse bytes at c.args.row c.args.found.now _ _ _ are told _ (c.in_err-rest.ensures.value bytes views))))
 

@@ -3,19 +3,19 @@ use Rattle.std.proofs.Common.{rules, ap, refl}
 use Rattle.std.proofs.lemmas.Result.{err_from_is_err_and}
 use Rattle.elf_model.specs.Numbers.{DT_VERDEF, DT_VERNEED}
 use Rattle.elf_table.specs.Tables.{Rows}
-use Rattle.elf_scope.proofs.SectionLaws.{not_some}
+use Rattle.elf_headers.proofs.Absent.{none-of}
 use Rattle.elf_scope.proofs.SegmentLaws.{definition_row_refused, need_row_refused, rows_none, rows_versions, words_row_refused}
 use Rattle.elf_scope.proofs.SettleLaws.{finds, refuses}
 use Rattle.elf_scope.proofs.segment_symbols.segment_versions.Goals as goal
 
 pub returns-in_default : goal.returns-in_default
 returns-in_default c = finds _ (search rules) (λ bytes views at are names.
-    rows_none bytes c.args.segment at c.words_entry.result _ (c.words_entry.ensures bytes at are) (not_some c.words_entry.result c.in_default.not-Some) refl refl refl)
+    rows_none bytes c.args.segment at c.words_entry.result _ (c.words_entry.ensures bytes at are) (none-of c.words_entry.result c.in_default.not-Some) refl refl refl)
 
 pub returns-in_err-rest : goal.returns-in_err-rest
 returns-in_err-rest c =
     let p = err_from_is_err_and c.from_residual.result c.from_residual.ensures.1 in
-    rw (p.1, p.2) (refuses _ c.in_err-rest.ensures.refusal (λ bytes views at are names.
+    rw (p.1, p.2) (refuses _ c.in_err-rest.ensures.lies (λ bytes views at are names.
     (words_row_refused bytes c.args.segment at c.words_entry.result _ (c.words_entry.ensures bytes at are) c.in-Some.is _ (c.in_err-rest.ensures.value bytes views))))
 
 pub returns-in_err-definitions : goal.returns-in_err-definitions

@@ -1,9 +1,8 @@
-use Rattle.std.proofs.Common.{◌≡◌, ℕ, ◌+◌, ◌-◌, ◌≤◌, List, length, take, None, Some}
+use Rattle.std.proofs.Common.{◌≡◌, ℕ, ◌+◌, ◌-◌, ◌≤◌, List, length, take, None, Some, Ok}
 use Rattle.elf_model.specs.Bytes.{slice}
 use Rattle.elf_model.specs.Names.{nul_in}
-use Rattle.elf_source.specs.Onward.{ReadsOnward}
-use Rattle.elf_source.specs.Source.{Reads}
-use Rattle.elf_table.specs.Windows.{HoldsBytes, StillHolds, MovesOn, frontier}
+use Rattle.elf_table.specs.WindowCalls.{Through}
+use Rattle.elf_table.specs.Windows.{HoldsBytes}
 use Rattle.elf_table.proofs.name_search.search_name.Given as goal
 
 abbrev pub invariant-loop-done : goal.invariant-loop-done
@@ -11,10 +10,7 @@ invariant-loop-done g l = record {
   in_range : l.done ≤ l.want;
   few : length l.name ≤ l.cap.bytes;
   place : l.window.at ≡ l.fn.window.at + l.done;
-  moves : MovesOn l.fn.window l.window l.fn.src.asked l.src.asked;
-  onward : ReadsOnward g.S.Source.one_read l.fn.src.source l.src.source (frontier l.fn.window) (frontier l.window);
-  reads : Reads l.fn.src l.src l.fn.window.unread;
-  agrees : StillHolds l.fn.src.seen.file l.fn.window l.window;
+  went : Through {X = Unit {0}} g.S.Source.one_read l.fn.src l.src l.fn.window l.window (Ok tt);
   no_nul : (file : List ℕ) → l.fn.src.seen.file ≡ Some file → HoldsBytes file l.fn.window → nul_in (slice file l.fn.window.at l.done) ≡ None;
   name : (file : List ℕ) → l.fn.src.seen.file ≡ Some file → HoldsBytes file l.fn.window → l.name ≡ take l.cap.bytes (slice file l.fn.window.at l.done);
 }

@@ -1,22 +1,24 @@
-use Rattle.std.proofs.Common.{◌≡◌, ℕ, ◌+◌, List, Some, length, refl, ◌∙◌, arith}
+use Rattle.std.proofs.Common.{◌≡◌, ℕ, ◌+◌, List, Some, length, refl, ◌∙◌, arith, rules}
 use Rattle.elf_model.specs.Bytes.{slice}
+use Rattle.elf_headers.proofs.LedgerLaws.{Did-of}
 use Rattle.elf_table.proofs.NameWindows.{piece-of_file, piece-some, Between-next, Reads-next}
 use Rattle.elf_table.proofs.Pieces.{alike-more, differ-here}
 use Rattle.elf_table.proofs.names.match_pieces.Goals as goal
 
-pub returns-then-not-agrees-clause-matched : goal.returns-then-not-agrees-clause-matched
-returns-then-not-agrees-clause-matched g c = λ file h.
+pub returns-then-not-agrees-clause-did : goal.returns-then-not-agrees-clause-did
+returns-then-not-agrees-clause-did g c =
     let l = c.loop-done in
     let i = l.invariant in
     let b = c.in_ok-bring.ensures in
     let p = c.front-piece.result.now in
+    Did-of (search rules) tt (λ file h.
     let piece = piece-of_file file c.args.start c.args.want l.done l.window c.bring.new.self p i.stands b.brings
-    (λ bytes e. b.agrees bytes (i.reads.keeps.same_file ∙ h ∙ e)) c.front-piece.ensures in
-    let some = piece-some c.args.start c.args.want l.done l.window c.bring.new.self p _ _ i.stands b.brings b.moves c.front-piece.ensures in
+    (λ bytes e. b.went.agrees bytes (i.reads.keeps.same_file ∙ h ∙ e)) c.front-piece.ensures in
+    let some = piece-some c.args.start c.args.want l.done l.window c.bring.new.self p _ _ i.stands b.brings b.went.moves c.front-piece.ensures in
     let other = c.if-not-agrees.ensures in
     let sized = c.args.src.now.seen.sized file h in
     let ends = c.requires.within in
-    differ-here file p c.args.wanted.now c.args.start l.done (length p) c.args.want other.0 piece refl other.1 other.2 some.1 (omega arith)
+    differ-here file p c.args.wanted.now c.args.start l.done (length p) c.args.want other.0 piece refl other.1 other.2 some.1 (omega arith))
 
 pub loop-done-preserved : goal.loop-done-preserved
 loop-done-preserved g c =
@@ -24,14 +26,14 @@ loop-done-preserved g c =
     let i = l.invariant in
     let b = c.in_ok-bring.ensures in
     let p = c.front-piece.result.now in
-    let some = piece-some c.args.start c.args.want l.done l.window c.bring.new.self p _ _ i.stands b.brings b.moves c.front-piece.ensures in
+    let some = piece-some c.args.start c.args.want l.done l.window c.bring.new.self p _ _ i.stands b.brings b.went.moves c.front-piece.ensures in
     let piece : (file : List ℕ) → c.args.src.now.seen.file ≡ Some file → p ≡ slice file (c.args.start + l.done) (length p) =
     λ file h. piece-of_file file c.args.start c.args.want l.done l.window c.bring.new.self p i.stands b.brings
-    (λ bytes e. b.agrees bytes (i.reads.keeps.same_file ∙ h ∙ e)) c.front-piece.ensures in
+    (λ bytes e. b.went.agrees bytes (i.reads.keeps.same_file ∙ h ∙ e)) c.front-piece.ensures in
     let s = c.skip.ensures in
     record {
       in_range = some.1;
-      stands = Between-next c.args.start c.args.want l.done l.window c.bring.new.self c.skip.new.self p _ _ i.stands b.brings b.moves c.front-piece.ensures s.at s.end s.page s.held;
-      reads = Reads-next c.args.src.now l.src c.bring.new.src c.args.start c.args.want l.done l.window c.bring.new.self p i.stands b.brings b.moves c.front-piece.ensures i.reads b.reads;
+      stands = Between-next c.args.start c.args.want l.done l.window c.bring.new.self c.skip.new.self p _ _ i.stands b.brings b.went.moves c.front-piece.ensures s.at s.end s.page s.held;
+      reads = Reads-next c.args.src.now l.src c.bring.new.src c.args.start c.args.want l.done l.window c.bring.new.self p i.stands b.brings b.went.moves c.front-piece.ensures i.reads b.went.reads;
       alike = λ file h. alike-more file p c.args.wanted.now c.args.start l.done (length p) (piece file h) refl (i.alike file h) c.if-not-agrees.ensures;
     }

@@ -2,14 +2,14 @@
 use Rattle.std.proofs.Common.{ℕ, ◌-◌, ◌*◌, ap, arith}
 use Rattle.std.proofs.lemmas.Result.{err_from_is_err_and}
 use Rattle.elf_headers.proofs.LedgerLaws.{Charges-more, Charges-then, Did-as, Did-none, Did-then}
-use Rattle.elf_scope.proofs.SectionLaws.{not_some}
+use Rattle.elf_headers.proofs.Absent.{none-of}
 use Rattle.elf_traits.proofs.FindingLaws.{marks_none, marks_some, rest_asked, rows_most}
 use Rattle.elf_traits.proofs.MarkLaws.{marks_as, read_marks}
 use Rattle.elf_traits.proofs.finding.known_marks.Goals as goal
 
 pub returns-in_default : goal.returns-in_default
 returns-in_default g c =
-    let none = not_some _ c.in_default.not-Some in
+    let none = none-of _ c.in_default.not-Some in
     Did-as _ (omega arith) (Did-none c.args.src.now)
     (λ file told costs known. record { costs = costs _ (omega arith); finds = marks_none file (rw none at known) _ c.no_marks.ensures })
 

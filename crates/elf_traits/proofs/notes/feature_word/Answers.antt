@@ -5,7 +5,7 @@ use Rattle.std.proofs.lemmas.Result.{err_from_is_err_and}
 use Rattle.elf_model.proofs.Slices.{slice-size}
 use Rattle.elf_record.specs.declared.ehdr.Ehdr.{Ehdr}
 use Rattle.elf_headers.proofs.LedgerLaws.{Charges-more, Charges-then, Did-as, Did-none, Did-sized, Did-then}
-use Rattle.elf_scope.proofs.SectionLaws.{not_some}
+use Rattle.elf_headers.proofs.Absent.{none-of}
 use Rattle.elf_traits.proofs.FeatureLaws.{asked_least, asked_list, list_fails, other_machine, value_of, word_none, word_some}
 use Rattle.elf_traits.proofs.notes.feature_word.Goals as goal
 
@@ -29,7 +29,7 @@ returns-in_err-list g c =
 
 pub returns-in_default : goal.returns-in_default
 returns-in_default g c =
-    let none = not_some _ c.in_default.not-Some in
+    let none = none-of _ c.in_default.not-Some in
     let found = rw none at c.in_ok-list.ensures in
     Did-as _ (omega arith) found.did
     (λ file told costs views.

@@ -2,7 +2,7 @@
 use Rattle.std.proofs.Common.{◌≡◌, ◌+◌, ◌*◌, ◌<◌, refl, arith, add-mul}
 use Rattle.std.proofs.lemmas.Result.{err_from_is_err_and}
 use Rattle.elf_headers.proofs.LedgerLaws.{Charges-more, Charges-then, Did-as, Did-none, Did-then}
-use Rattle.elf_scope.proofs.SectionLaws.{not_some}
+use Rattle.elf_headers.proofs.Absent.{none-of}
 use Rattle.elf_traits.proofs.FeatureLaws.{asked_all, asked_next, lists_begin, lists_end, lists_here, lists_next, lists_stop, product_most, product_next}
 use Rattle.elf_traits.proofs.notes.property_list.Goals as goal
 
@@ -66,7 +66,7 @@ segments-preserved g c =
     let below : c.segments.segment < c.args.view.now.store.now.segments = omega (arith, count, c.segments-test.true) in
     let one : (c.segments.segment + 1) * c.args.src.now.seen.size ≡ c.segments.segment * c.args.src.now.seen.size + 1 * c.args.src.now.seen.size = add-mul c.segments.segment 1 c.args.src.now.seen.size in
     let same = i.so_far.costs.reads.keeps.same_size in
-    let none = not_some _ c.in_default.not-Some in
+    let none = none-of _ c.in_default.not-Some in
     let found = rw none at c.in_ok-list.ensures in
     record {
       below = omega (arith, below);

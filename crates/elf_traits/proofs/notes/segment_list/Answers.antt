@@ -21,7 +21,7 @@ returns-in_err-table g c =
     let p = err_from_is_err_and c.from_residual.result c.from_residual.ensures.1 in
     rw (p.1, p.2)
     (record {
-      did = Did-as _ (omega arith) (Did-stop _ c.in_err-table.ensures.refusal (Did-none c.args.src.now))
+      did = Did-as _ (omega arith) (Did-stop _ c.in_err-table.ensures.lies (Did-none c.args.src.now))
           (λ file told costs views.
           let stands = c.segment-header.ensures.stands file views in
           let is = eq-eqb _ _ (sym stands.p_type ∙ c.if-header-ne-PT_NOTE.false) in
@@ -31,7 +31,7 @@ returns-in_err-table g c =
 
 pub returns-clause-did : goal.returns-clause-did
 returns-clause-did g c =
-    let fits = count_within _ _ c.in_ok-table.ensures.single c.in_ok-table.ensures.within in
+    let fits = count_within _ _ c.in_ok-table.ensures.lies.entry c.in_ok-table.ensures.lies.within in
     Did-as _ (omega (arith, fits, c.requires.size)) c.first_list.ensures.did
     (λ file told costs views.
     let stands = c.segment-header.ensures.stands file views in

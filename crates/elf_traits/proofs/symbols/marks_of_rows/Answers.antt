@@ -8,7 +8,8 @@ use Rattle.elf_table.specs.Cursors.{next_row, row_at}
 use Rattle.elf_table.specs.Tables.{Rows, strings_in}
 use Rattle.elf_traits.specs.Marks.{marks_of}
 use Rattle.elf_traits.proofs.MarkLaws.{at_is_read, mark_more, mark_none, mark_stops, read_marks}
-use Rattle.elf_traits.proofs.SpendLaws.{account_next, account_start, agrees_none, charges_behind, next_is, nothing_ahead, row_place}
+use Rattle.elf_table.proofs.CursorLaws.{agrees_none}
+use Rattle.elf_traits.proofs.SpendLaws.{account_next, account_start, charges_behind, next_is, nothing_ahead, row_place}
 use Rattle.elf_traits.proofs.symbols.marks_of_rows.Goals as goal
 
 pub symbols-init : goal.symbols-init

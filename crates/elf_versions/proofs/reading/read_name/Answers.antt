@@ -11,9 +11,9 @@ pub overflow_add-place : goal.overflow_add-place
 unfolding end_of_named_record
 overflow_add-place g c = let inside = rw c.in-Definition.is at c.requires.inside in omega (arith, c.from.ensures, c.requires.low)
 
-pub read-requires-clause-inside : goal.read-requires-clause-inside
+pub read-requires-clause-has : goal.read-requires-clause-has
 unfolding end_of_named_record
-read-requires-clause-inside g c = let inside = rw c.in-Definition.is at c.requires.inside in omega (arith, c.from.ensures)
+read-requires-clause-has g c = let inside = rw c.in-Definition.is at c.requires.inside in record { within = c.requires.within; inside = omega (arith, c.from.ensures); low = c.requires.low }
 
 pub returns-in_ok-read-in-Definition : goal.returns-in_ok-read-in-Definition
 returns-in_ok-read-in-Definition g c =

@@ -5,7 +5,8 @@ use Rattle.elf_headers.specs.declared.fault.Fault.TheVariants.{Refused}
 use Rattle.elf_headers.proofs.LedgerLaws.{Did-as, Did-stop, Did-then}
 use Rattle.elf_table.specs.Tables.{Rows}
 use Rattle.elf_versions.specs.Reading.{bytes_each, stand_of}
-use Rattle.elf_versions.proofs.WordLaws.{asks-words, asks-name, distance-inside, fits-all, none-of, read-fails, record-checked}
+use Rattle.elf_headers.proofs.Absent.{none-of}
+use Rattle.elf_versions.proofs.WordLaws.{asks-words, asks-name, distance-inside, fits-all, read-fails, record-checked}
 use Rattle.elf_versions.proofs.reading.read_record.Goals as goal
 
 pub returns-in-Some-clause-did : goal.returns-in-Some-clause-did
@@ -18,7 +19,7 @@ returns-in-Some-clause-did g c =
     let checked = rw (at, size) at c.refused_words.ensures.is in
     Did-as _ (asks-words h s.kind) (Did-stop (Refused c.in-Some.refusal) passes c.in_ok-words.ensures.did)
     (λ file told costs held knows other.
-    record-checked file h.table.at h.table.count s c.in_ok-words.words c.requires.inside (told held) ∙ sym checked ∙ c.in-Some.is)
+    record-checked file h.table.at h.table.count s c.in_ok-words.words c.requires.has.inside (told held) ∙ sym checked ∙ c.in-Some.is)
 
 pub given-requires : goal.given-requires
 given-requires g c =
@@ -28,7 +29,7 @@ given-requires g c =
     let at : c.at.result ≡ h.table.at = c.at.ensures ∙ ap (λ (t : Rows). t.at) c.table-table.ensures.is in
     let size : c.len.result ≡ h.table.count = c.len.ensures ∙ ap (λ (t : Rows). t.count) c.table-table.ensures.is in
     let passes = rw (none-of c.refused_words.result c.in_default.not-Some) at c.refused_words.ensures.passes in
-    let inside = passes.0 in
+    let inside = passes.ends in
     omega (arith, at, size, inside, distance-inside s.kind aux, c.table-table.ensures.ends)
 
 pub returns-clause-did : goal.returns-clause-did
@@ -45,11 +46,12 @@ returns-clause-did g c =
     Did-as _ (asks-name h s.kind) (Did-then c.in_ok-words.ensures.did c.in_ok-name.ensures.did)
     (λ file told costs held knows.
     let stands = told.0 held in
+    let there = leads file knows stands in
     record {
-      passes = record-checked file h.table.at h.table.count s words c.requires.inside stands ∙ sym checked ∙ passes;
+      passes = record-checked file h.table.at h.table.count s words c.requires.has.inside stands ∙ sym checked ∙ passes;
       is = c.given.ensures.is file h.table.at at stands (told.1 held stands);
-      leads = (leads file knows stands).0;
-      knows = (leads file knows stands).1;
+      leads = there.leads;
+      knows = there.knows;
     })
 
 pub returns-clause-fits : goal.returns-clause-fits
@@ -58,9 +60,9 @@ returns-clause-fits g c =
     let s = c.args.stand.now in
     let passes = rw (none-of c.refused_words.result c.in_default.not-Some) at c.refused_words.ensures.passes in
     record {
-      number = rw c.given.ensures.number passes.1;
+      number = rw c.given.ensures.number passes.small;
       next =
-          fits-all h.table.count (bytes_each s.kind) c.behind.result c.behind.ensures.near (c.behind.ensures.owner h.table.count (omega (arith, c.requires.inside)) c.requires.owner)
+          fits-all h.table.count (bytes_each s.kind) c.behind.result c.behind.ensures.near (c.behind.ensures.owner h.table.count (omega (arith, c.requires.has.inside)) c.requires.owner)
           c.behind.ensures.pays;
     }
 
@@ -88,23 +90,19 @@ returns-in_err-name g c =
       fits = tt;
     })
 
-pub read_words-requires : goal.read_words-requires
-read_words-requires g c = record { within = c.requires.within; inside = c.requires.inside; low = omega (arith, c.table-table.ensures.ends) }
-
 pub read_name-requires : goal.read_name-requires
 read_name-requires g c =
     let h = c.args.held.now in
     let size : c.len.result ≡ h.table.count = c.len.ensures ∙ ap (λ (t : Rows). t.count) c.table-table.ensures.is in
     let passes = rw (none-of c.refused_words.result c.in_default.not-Some) at c.refused_words.ensures.passes in
     let same = c.in_ok-words.ensures.did.costs.reads.keeps.same_size in
-    record { within = rw same c.requires.within; inside = rw size at passes.0; low = omega (arith, c.table-table.ensures.ends) }
+    record { within = rw same c.requires.has.within; inside = rw size at passes.ends; low = c.requires.has.low }
 
 pub behind-requires : goal.behind-requires
 behind-requires g c =
     let at : c.at-2.result ≡ c.args.held.now.table.at = c.at-2.ensures ∙ ap (λ (t : Rows). t.at) c.table-table.ensures.is in
     let ends = c.table-table.ensures.ends in
     record {
-      low = omega (arith, ends, c.requires.inside);
-      ends = omega (arith, at, ends, c.requires.inside);
+      ends = omega (arith, at, ends, c.requires.has.inside);
       owned = omega (arith, at, ends, c.requires.owner);
     }

@@ -23,13 +23,13 @@ returns-in_ok-read-in-Need g c =
     (record { did = Did-as _ (omega arith) c.in_ok-read-in-Need.ensures.did (λ file told costs held. c.of_need.ensures file at (c.decode-in-Need.ensures.stands file at (told held))) })
 
 pub read-requires : goal.read-requires
-read-requires g c = let inside = rw c.in-Definition.is at c.requires.inside in record { inside = inside; small = omega arith; some = omega arith; within = c.requires.within }
+read-requires g c = let inside = rw c.in-Definition.is at c.requires.inside in record { has = record { within = c.requires.within; inside = inside; low = c.requires.low }; small = omega arith; some = omega arith }
 
 pub read-requires-in-File : goal.read-requires-in-File
-read-requires-in-File g c = let inside = rw c.in-File.is at c.requires.inside in record { inside = inside; small = omega arith; some = omega arith; within = c.requires.within }
+read-requires-in-File g c = let inside = rw c.in-File.is at c.requires.inside in record { has = record { within = c.requires.within; inside = inside; low = c.requires.low }; small = omega arith; some = omega arith }
 
 pub read-requires-in-Need : goal.read-requires-in-Need
-read-requires-in-Need g c = let inside = rw c.in-Need.is at c.requires.inside in record { inside = inside; small = omega arith; some = omega arith; within = c.requires.within }
+read-requires-in-Need g c = let inside = rw c.in-Need.is at c.requires.inside in record { has = record { within = c.requires.within; inside = inside; low = c.requires.low }; small = omega arith; some = omega arith }
 
 pub returns-in_err-read-in-Definition : goal.returns-in_err-read-in-Definition
 returns-in_err-read-in-Definition g c =

@@ -39,9 +39,9 @@ returns-in_err-table g c =
 
 pub invariant_of-self : goal.invariant_of-self
 invariant_of-self g c = record {
-  loaded = still_open _ _ c.dynamic_strings.ensures.reads c.args.self.now.loaded;
-  viewed = still_viewed _ _ c.dynamic_strings.ensures.reads c.args.self.now.viewed;
-  held = still_held _ c.dynamic_strings.ensures.reads c.args.self.now.held;
+  loaded = still_open _ _ c.dynamic_strings.ensures.did.costs.reads c.args.self.now.loaded;
+  viewed = still_viewed _ _ c.dynamic_strings.ensures.did.costs.reads c.args.self.now.viewed;
+  held = still_held _ c.dynamic_strings.ensures.did.costs.reads c.args.self.now.held;
 }
 
 pub returns-in_err-told : goal.returns-in_err-told
@@ -56,8 +56,8 @@ returns-in_err-told g c = record {
       let kind = sym fields.p_type ∙ c.if-segment-ne-PT_DYNAMIC.false in
       let value = rw (c.view-view.ensures.store, c.view-view.ensures.loaded) at c.in_ok-table.ensures.value in
       let within = segment_within f.store.now c.args.segment f.loaded.size _ c.args.self.now.style.cap.bytes _ (eq-eqb _ _ kind) value in
-      let bytes : size_of c.in_ok-table.table ≡ c.in_ok-table.table.count * 16 = ap (λ n. c.in_ok-table.table.count * n) c.in_ok-table.ensures.entry in
-      rw (p.1, p.2) (Spent-fault _ _ _ _ _ _ _ (omega (arith, within, bytes)) c.in_err-told.ensures.reads c.in_err-told.ensures.says);
+      let bytes : size_of c.in_ok-table.table ≡ c.in_ok-table.table.count * 16 = ap (λ n. c.in_ok-table.table.count * n) c.in_ok-table.ensures.lies.entry in
+      rw (p.1, p.2) (Spent-fault _ _ _ _ _ _ _ (omega (arith, within, bytes)) c.in_err-told.ensures.did.costs.reads c.in_err-told.ensures.did.costs.says);
   shows = λ file held.
       let p = err_from_is_err_and c.from_residual-in_err-told.result c.from_residual-in_err-told.ensures.1 in
       rw (p.1, p.2) (Stopped-unread-first _ _ _ c.in_err-told.ensures.fault);
@@ -79,13 +79,13 @@ returns g c = record {
       let kind = sym fields.p_type ∙ c.if-segment-ne-PT_DYNAMIC.false in
       let value = rw (c.view-view.ensures.store, c.view-view.ensures.loaded) at c.in_ok-table.ensures.value in
       let within = segment_within f.store.now c.args.segment f.loaded.size _ c.args.self.now.style.cap.bytes _ (eq-eqb _ _ kind) value in
-      let bytes : size_of c.in_ok-table.table ≡ c.in_ok-table.table.count * 16 = ap (λ n. c.in_ok-table.table.count * n) c.in_ok-table.ensures.entry in
-      Spent-behind _ _ _ _ _ _ _ _ _ _ (omega (arith, within, bytes)) c.in_ok-told.ensures.reads c.rows.ensures.spent;
+      let bytes : size_of c.in_ok-table.table ≡ c.in_ok-table.table.count * 16 = ap (λ n. c.in_ok-table.table.count * n) c.in_ok-table.ensures.lies.entry in
+      Spent-behind _ _ _ _ _ _ _ _ _ _ (omega (arith, within, bytes)) c.in_ok-told.ensures.did.costs.reads c.rows.ensures.spent;
   shows = λ file held.
       let viewed = views file _ _ _ (c.args.self.now.loaded.belongs file held) c.args.self.now.viewed held (omega (arith, c.requires)) in
       let view : Views file c.view-view.result.loaded c.view-view.result.store.now = rw (c.view-view.ensures.loaded, c.view-view.ensures.store) viewed in
       let kind = sym (c.segment.ensures.stands file view).p_type ∙ c.if-segment-ne-PT_DYNAMIC.false in
-      let found = segment_passes file (style_of c.args.self.now.style) _ _ _ (sym (c.in_ok-table.ensures.held file view)) (c.in_ok-told.ensures.values file held) in
+      let found = segment_passes file (style_of c.args.self.now.style) _ _ _ (sym (c.in_ok-table.ensures.held file view)) (c.in_ok-told.ensures.did.known file held) in
       Writes-as _ _ _ (table_passes segment_dynamic file (style_of c.args.self.now.style) c.args.segment _ (eq-eqb _ _ kind) found.0 ∙ found.1)
-      (c.rows.ensures.shows file (c.dynamic_strings.ensures.reads.keeps.same_file ∙ held) (λ some. view));
+      (c.rows.ensures.shows file (c.dynamic_strings.ensures.did.costs.reads.keeps.same_file ∙ held) (λ some. view));
 }

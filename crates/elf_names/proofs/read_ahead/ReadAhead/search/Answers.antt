@@ -27,7 +27,7 @@ returns-in-Some-clause-searched g c = λ file h a.
     piece-of_file file p held at _ _ known (omega arith) begins (omega arith) size part in
     let below = c.in-Some.ensures.below in
     let sized = c.args.src.now.seen.sized file h in
-    let inside = c.requires.inside in
+    let inside = c.requires.few.0 in
     let some : 0 < c.args.index.names.size = omega arith in
     let within = c.requires.within some in
     found-here file p l.name c.add.new.self start l.done (length p) c.args.want c.in-Some.place c.args.cap.bytes piece (i.no_nul file h a)

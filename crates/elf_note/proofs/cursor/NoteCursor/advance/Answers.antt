@@ -1,5 +1,6 @@
 -- A cursor that had not failed goes over the next note, and keeps what that call did.
 use Rattle.std.proofs.Common.{◌≡◌, ℕ, Option, None, Some, Result, IfErr, refl}
+use Rattle.elf_headers.proofs.Absent.{none-of}
 use Rattle.elf_source.specs.Onward.{ReadsOnward}
 use Rattle.elf_source.specs.Source.{Seen, Counting, Reads}
 use Rattle.elf_headers.specs.Faults.{Says}
@@ -8,10 +9,6 @@ use Rattle.elf_table.specs.Windows.{MovesOn, frontier}
 use Rattle.elf_note.specs.NoteCursors.{KeepsNotes, NoteReading}
 use Rattle.elf_note.specs.Steps.{StepReads}
 use Rattle.elf_note.proofs.cursor.NoteCursor.advance.Goals as goal
-
-none-of : {X : Type 0} (o : Option X) → ((x : X) → o ≡ Some x → ⊥) → o ≡ None
-none-of None h = refl
-none-of (Some x) h = absurd (h x refl)
 
 no-some : {o : Option Fault} (fault : Fault) → o ≡ None → o ≡ Some fault → ⊥
 no-some fault none some = cc

@@ -33,7 +33,7 @@ returns-in-Err-clause-steps g c =
 pub returns-in-Err-clause-onward : goal.returns-in-Err-clause-onward
 returns-in-Err-clause-onward g c =
     let ends = c.skip.ensures.end ∙ c.self.invariant.3 in
-    rw (← c.self.view_is) (onward_asked _ _ _ _ _ c.skip.new.self c.bring.new.self c.bring.ensures.onward ends (c.bring.ensures.moves.same_end ∙ ends) c.skip.ensures.unread)
+    rw (← c.self.view_is) (onward_asked _ _ _ _ _ c.skip.new.self c.bring.new.self c.bring.ensures.went.onward ends (c.bring.ensures.went.moves.same_end ∙ ends) c.skip.ensures.unread)
 
 pub invariant_of-self-2 : goal.invariant_of-self-2
 invariant_of-self-2 g c =
@@ -41,7 +41,7 @@ invariant_of-self-2 g c =
     let inv = c.self.invariant in
     let below : i.index < i.table.count = let few = inv.0 in let other = c.if-self-len.false in let len = c.len.ensures in omega arith in
     let brings = c.in_default-bring.ensures.brings in
-    let moves = c.bring.ensures.moves in
+    let moves = c.bring.ensures.went.moves in
     let entry = c.entry-entry.ensures in
     let page = c.skip.ensures.page ∙ inv.2 in
     let ends = c.skip.ensures.end ∙ inv.3 in (
@@ -63,9 +63,9 @@ returns-clause-steps g c =
     let stands = Stands-skip i.table i.index i.shown i.window c.skip.new.self c.skip.ensures.at c.skip.ensures.held (inv.4 nf) in
     rw (← c.self.view_is)
     (Gives-next c.args.src.now.seen.file i.table i.index i.shown c.entry-entry.result i.failed i.window c.skip.new.self c.bring.new.self c.entry-entry.ensures.value nf below
-    c.skip.ensures.at c.skip.ensures.held stands c.in_default-bring.ensures.brings c.in_default-bring.ensures.agrees)
+    c.skip.ensures.at c.skip.ensures.held stands c.in_default-bring.ensures.brings c.in_default-bring.ensures.went.agrees)
 
 pub returns-clause-onward : goal.returns-clause-onward
 returns-clause-onward g c =
     let ends = c.skip.ensures.end ∙ c.self.invariant.3 in
-    rw (← c.self.view_is) (onward_asked _ _ _ _ _ c.skip.new.self c.bring.new.self c.bring.ensures.onward ends (c.bring.ensures.moves.same_end ∙ ends) c.skip.ensures.unread)
+    rw (← c.self.view_is) (onward_asked _ _ _ _ _ c.skip.new.self c.bring.new.self c.bring.ensures.went.onward ends (c.bring.ensures.went.moves.same_end ∙ ends) c.skip.ensures.unread)

@@ -25,8 +25,8 @@ returns-then-section-eq0-clause-held c = λ file belongs.
 pub returns-then-section-eq0-clause-counts : goal.returns-then-section-eq0-clause-counts
 returns-then-section-eq0-clause-counts c =
     let none = sym c.section.ensures.fields.sh_size ∙ c.if-section-eq0.true in
-    let entry = c.in_ok-table.ensures.entry in
-    let sized = rw entry at c.in_ok-table.ensures.sized in
+    let entry = c.in_ok-table.ensures.lies.entry in
+    let sized = rw entry at c.in_ok-table.ensures.lies.sized in
     record {
       entry = entry;
       counted = omega (arith, sized);
@@ -76,8 +76,8 @@ returns-clause-counts c =
     let link = c.section-link.ensures.fields.sh_link in
     let linked = c.links_to_symbols.ensures.linked c.if-not-links_to_symbols.false in
     let bytes = row c.args.self.now.store.now c.section-link.result.sh_link in
-    let entry = c.in_ok-table.ensures.entry in
-    let sized = rw entry at c.in_ok-table.ensures.sized in
+    let entry = c.in_ok-table.ensures.lies.entry in
+    let sized = rw entry at c.in_ok-table.ensures.lies.sized in
     let symbols = rw c.in_ok-symbols.ensures.within.0 at c.in_ok-symbols.ensures.sized in
     record {
       entry = entry;

@@ -19,14 +19,14 @@ returns-then-not-branch-clause-compared g c = λ file h.
     let ends = c.requires.within (omega arith) in
     let sized = c.args.src.now.seen.sized file h in
     same-false file c.args.wanted.now c.args.self.now.at c.args.self.now.size c.args.off c.min-want.result (omega arith) (omega arith) (omega arith)
-    (rw (c.if-not-branch.true, c.at.ensures.value) at (c.in_ok-matches.ensures.matched file h))
+    (rw (c.if-not-branch.true, c.at.ensures.value) at (c.in_ok-matches.ensures.did.known file h))
 
 pub returns-then-want-full-clause-compared : goal.returns-then-want-full-clause-compared
 returns-then-want-full-clause-compared g c = λ file h.
     let ends = c.requires.within (omega arith) in
     let sized = c.args.src.now.seen.sized file h in
     elim (same-alike file c.args.wanted.now c.args.self.now.at c.args.self.now.size c.args.off c.min-want.result (omega arith) (omega arith) (omega arith)
-    (rw (c.if-not-branch.false, c.at.ensures.value) at (c.in_ok-matches.ensures.matched file h))) [ inl whole ↦ whole.0 | inr short ↦ absurd (omega (arith, short.1)) ]
+    (rw (c.if-not-branch.false, c.at.ensures.value) at (c.in_ok-matches.ensures.did.known file h))) [ inl whole ↦ whole.0 | inr short ↦ absurd (omega (arith, short.1)) ]
 
 pub returns-clause-compared : goal.returns-clause-compared
 returns-clause-compared g c = λ file h.
@@ -35,5 +35,5 @@ returns-clause-compared g c = λ file h.
     rw c.refused-2.ensures (λ _. (
       refl,
       elim (same-alike file c.args.wanted.now c.args.self.now.at c.args.self.now.size c.args.off c.min-want.result (omega arith) (omega arith) (omega arith)
-          (rw (c.if-not-branch.false, c.at.ensures.value) at (c.in_ok-matches.ensures.matched file h))) [ inl whole ↦ absurd (omega (arith, whole.1)) | inr short ↦ short.0 ],
+          (rw (c.if-not-branch.false, c.at.ensures.value) at (c.in_ok-matches.ensures.did.known file h))) [ inl whole ↦ absurd (omega (arith, whole.1)) | inr short ↦ short.0 ],
     ))

@@ -49,16 +49,16 @@ not-past after before unread want size all off most few is least same = omega ar
 
 pub returns-in_err-search_name-clause-not_past : goal.returns-in_err-search_name-clause-not_past
 returns-in_err-search_name-clause-not_past g c =
-    not-past _ _ _ _ _ _ _ _ c.in_err-search_name.ensures.reads.at_most (ap (λ (w : Ahead). w.unread) c.new-window.ensures) c.min-want.ensures c.size-size.ensures.value
+    not-past _ _ _ _ _ _ _ _ c.in_err-search_name.ensures.reads.went.reads.at_most (ap (λ (w : Ahead). w.unread) c.new-window.ensures) c.min-want.ensures c.size-size.ensures.value
 
 pub returns-then-branch-clause-not_past : goal.returns-then-branch-clause-not_past
 returns-then-branch-clause-not_past g c =
-    not-past _ _ _ _ _ _ _ _ c.in_ok-search_name.ensures.reads.at_most (ap (λ (w : Ahead). w.unread) c.new-window.ensures) c.min-want.ensures c.size-size.ensures.value
+    not-past _ _ _ _ _ _ _ _ c.in_ok-search_name.ensures.reads.went.reads.at_most (ap (λ (w : Ahead). w.unread) c.new-window.ensures) c.min-want.ensures c.size-size.ensures.value
 
 pub returns-then-left-from-clause-not_past : goal.returns-then-left-from-clause-not_past
 returns-then-left-from-clause-not_past g c =
-    not-past _ _ _ _ _ _ _ _ c.in_ok-search_name.ensures.reads.at_most (ap (λ (w : Ahead). w.unread) c.new-window.ensures) c.min-want.ensures c.size-size.ensures.value
+    not-past _ _ _ _ _ _ _ _ c.in_ok-search_name.ensures.reads.went.reads.at_most (ap (λ (w : Ahead). w.unread) c.new-window.ensures) c.min-want.ensures c.size-size.ensures.value
 
 pub returns-clause-not_past : goal.returns-clause-not_past
 returns-clause-not_past g c =
-    not-past _ _ _ _ _ _ _ _ c.in_ok-search_name.ensures.reads.at_most (ap (λ (w : Ahead). w.unread) c.new-window.ensures) c.min-want.ensures c.size-size.ensures.value
+    not-past _ _ _ _ _ _ _ _ c.in_ok-search_name.ensures.reads.went.reads.at_most (ap (λ (w : Ahead). w.unread) c.new-window.ensures) c.min-want.ensures c.size-size.ensures.value

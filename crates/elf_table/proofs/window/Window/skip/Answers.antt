@@ -11,19 +11,18 @@ overflow_add-self g c = grind (arith, common_steps)
 pub invariant_of-self : goal.invariant_of-self
 invariant_of-self g c = grind (arith, common_steps)
 
-pub returns-clause-left : goal.returns-clause-left
-returns-clause-left g c = grind (arith, common_steps)
-
-pub returns-clause-held : goal.returns-clause-held
-returns-clause-held g c = rw (← c.self.view_is) (passed-held _ _ _ _ _ c.min-held.ensures)
-
-pub returns-clause-end : goal.returns-clause-end
-returns-clause-end g c = grind (arith, common_steps)
-
-pub returns-clause-agrees : goal.returns-clause-agrees
-returns-clause-agrees g c = λ file a.
+pub returns : goal.returns
+returns g c =
     let i = c.self.inside in
     let inv = c.self.invariant in
     let told = c.self.told in
     let whole : length (slice i.bytes i.from i.held) ≡ i.held = slice-size i.bytes i.from i.held (omega (arith, told)) in
-    Agrees-passed file i.bytes i.at i.from i.held c.args.count c.min-held.result whole c.min-held.ensures (rw (← c.self.view_is) at a)
+    record {
+      page = grind (arith, common_steps);
+      at = grind (arith, common_steps);
+      left = grind (arith, common_steps);
+      unread = grind (arith, common_steps);
+      held = rw (← c.self.view_is) (passed-held _ _ _ _ _ c.min-held.ensures);
+      end = grind (arith, common_steps);
+      agrees = λ file a. Agrees-passed file i.bytes i.at i.from i.held c.args.count c.min-held.result whole c.min-held.ensures (rw (← c.self.view_is) at a);
+    }

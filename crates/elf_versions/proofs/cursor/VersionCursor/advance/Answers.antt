@@ -2,7 +2,7 @@
 use Rattle.std.proofs.Common.{arith}
 use Rattle.elf_model.proofs.VersionSteps.{met-ended}
 use Rattle.elf_headers.proofs.LedgerLaws.{Did-as, Did-none}
-use Rattle.elf_versions.proofs.WordLaws.{none-of}
+use Rattle.elf_headers.proofs.Absent.{none-of}
 use Rattle.elf_versions.proofs.cursor.VersionCursor.advance.Goals as goal
 
 pub returns-in_default-standing-clause-did : goal.returns-in_default-standing-clause-did

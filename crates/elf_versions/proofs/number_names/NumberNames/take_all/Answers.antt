@@ -4,7 +4,7 @@ use Rattle.std.proofs.lemmas.Result.{err_from_is_err_and}
 use Rattle.elf_headers.proofs.LedgerLaws.{Did-as, Did-none, Did-then}
 use Rattle.elf_versions.specs.Reading.{versions_left}
 use Rattle.elf_versions.proofs.TakenLaws.{behind-more, end-cut, end-names, going-did, met-none, names-more, stops-all, unread-fewer}
-use Rattle.elf_versions.proofs.WordLaws.{none-of}
+use Rattle.elf_headers.proofs.Absent.{none-of}
 use Rattle.elf_versions.proofs.number_names.NumberNames.take_all.Goals as goal
 
 pub records-init : goal.records-init

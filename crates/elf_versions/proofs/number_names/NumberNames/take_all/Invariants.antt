@@ -2,8 +2,9 @@
 use Rattle.std.proofs.Common.{◌≡◌, ◌-◌, ◌≤◌, List, ◌++◌, None}
 use Rattle.elf_headers.specs.Ledger.{Did}
 use Rattle.elf_model.specs.Versions.{Met}
-use Rattle.elf_versions.specs.NumberNames.{NamesNumbers, behind_all}
+use Rattle.elf_versions.specs.NumberNames.{NamesNumbers}
 use Rattle.elf_versions.specs.Reading.{IsCursorOf, unread, versions_left}
+use Rattle.elf_versions.proofs.TakenLaws.{behind_all}
 use Rattle.elf_versions.proofs.number_names.NumberNames.take_all.Given as goal
 
 abbrev pub invariant-records : goal.invariant-records

@@ -2,7 +2,7 @@
 use Rattle.std.proofs.Common.{arith, rules}
 use Rattle.std.proofs.lemmas.Result.{err_from_is_err_and}
 use Rattle.elf_headers.proofs.LedgerLaws.{Did-as, Did-none, Did-of}
-use Rattle.elf_versions.proofs.HeldBytes.{of-read}
+use Rattle.elf_headers.proofs.FaultLaws.{of-read}
 use Rattle.elf_versions.proofs.table_bytes.TableBytes.load.Goals as goal
 
 pub returns-then-size-most : goal.returns-then-size-most
@@ -10,9 +10,7 @@ returns-then-size-most g c =
     let none = c.unread.ensures.none in
     record {
       did = Did-as _ (omega arith) (Did-none c.args.src.now) (λ file told costs whole. cc);
-      fault = tt;
-      account = rw none (omega arith);
-      its_table = c.unread.ensures.its_table;
+      holds = (c.unread.ensures.its_table, rw none (omega arith));
     }
 
 pub returns-in_err-fill : goal.returns-in_err-fill
@@ -22,7 +20,5 @@ returns-in_err-fill g c =
     rw (p.1, p.2)
     (record {
       did = Did-as _ (search rules) (Did-of {P = λ file. Unit {0}} e.reads e.says (λ file h. tt)) (λ file told costs. tt);
-      fault = of-read _ _ e.at;
-      account = tt;
-      its_table = tt;
+      holds = of-read _ _ e.at;
     })

@@ -14,7 +14,7 @@ returns-then-self g c =
     (rw c.if-self.true
     (record {
       did = Did-as 0 (omega arith) (Did-none c.args.src.now)
-          (λ file told costs held. copied ∙ part-held file i.bytes i.table.at i.table.count c.args.place n (held refl) (rw (← c.self.view_is) at c.requires.inside));
+          (λ file told costs held. copied ∙ part-held file i.bytes i.table.at i.table.count c.args.place n (held refl) (rw (← c.self.view_is) at c.requires.has.inside));
     }))
 
 pub returns : goal.returns

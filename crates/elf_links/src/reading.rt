@@ -1,0 +1,116 @@
+//! What one file needs.
+ghost use Rattle.std.specs.Prelude.{◌≡◌, ◌<◌, ◌^◌};
+ghost use Rattle.elf_source.specs.Source.{Keeps};
+
+use crate::entries::{EntryTexts, listed_links};
+use crate::links::{FileLinks, LinkStore};
+use elf_headers::{Fault, HeaderStore, fill, header, load, refused};
+use elf_note::dynamic_strings;
+use elf_record::numbers::PT_DYNAMIC;
+use elf_record::{Cause, Refusal, u16_at, word};
+use elf_scope::find_in_segments;
+use elf_source::{Counted, Source};
+use elf_table::SegmentView;
+
+/// How many bytes of a file tell its class, its encoding and its machine (gABI 4, ELF Header).
+const FRONT_BYTES: usize = 20;
+/// The number of the magic number's four bytes (gABI 4, ELF Identification).
+const MAGIC: u32 = 0x464c_457f;
+/// The class of files of 64 bits, at byte 4, and the encoding that is little-endian, at byte 5.
+const CLASS_64: u8 = 2;
+
+const LITTLE_ENDIAN: u8 = 1;
+
+/// The machine of a file of 64 bits that is little-endian; None of any other file.
+///
+/// # Errors
+/// A fault of a read, or a refusal for want of budget.
+pub fn machine_of<S: Source>(src: &mut Counted<S>) -> Result<Option<u16>, Fault> {
+    if src.length() < FRONT_BYTES as u64 {
+        return Ok(None);
+    }
+    let mut front = [0; FRONT_BYTES];
+    fill(src, 0, &mut front)?;
+    if word(&[front[0], front[1], front[2], front[3]]) != MAGIC
+        || front[4] != CLASS_64
+        || front[5] != LITTLE_ENDIAN
+    {
+        return Ok(None);
+    }
+    Ok(Some(u16_at(&front, 18)))
+}
+
+/// What a file needs, as a loader sees it: by its program headers, whatever its section headers are. The
+/// texts are kept in the store of links, behind those that are there; where this fails some may stand there
+/// that nothing tells of.
+///
+/// # Errors
+/// The first that fails: the checks of [`header`] and of [`load`]; of [`find_in_segments`], but `NoHash`;
+/// of the first segment of dynamic entries; of each entry with a text, at the entry: its string table, its
+/// text, and `TooLong` where that has more than 4,096 bytes or finds no room. Else a fault of a read, or a
+/// refusal for want of budget.
+pub fn read_links<S: Source>(
+    src: &mut Counted<S>,
+    store: &mut HeaderStore,
+    links: &mut LinkStore,
+) -> Result<FileLinks, Fault>
+    ensures slots { store.new.slots ≡ store.old.slots }
+{
+    src.hide_sections(true);
+    let header = header(src)?;
+    if header.e_shnum != 0 {
+        return refused(0x3c, Cause::TooManyHeaders);
+    }
+    let loaded = load(src, store, &header)?;
+    loaded.load_segments(src, store)?;
+    links_in_view(src, &SegmentView { loaded, store }, links)
+}
+
+/// The same of a file whose program headers are loaded.
+///
+/// # Errors
+/// Those of [`read_links`] behind the load.
+fn links_in_view<S: Source>(
+    src: &mut Counted<S>,
+    view: &SegmentView<'_>,
+    links: &mut LinkStore,
+) -> Result<FileLinks, Fault>
+    requires size { view.now.loaded.size ≡ src.old.seen.size }
+    requires small { view.now.loaded.size < 2 ^ 63 }
+{
+    check_scope(src, view)?;
+    let Some(segment) = view.first_segment(PT_DYNAMIC) else {
+        return Ok(FileLinks {
+            soname: None,
+            rpath: None,
+            runpath: None,
+        });
+    };
+    let table = view.dynamic(segment)?;
+    let told = dynamic_strings(table, src)?;
+    let strings = EntryTexts { view, told };
+    listed_links(src, &strings, table, links)
+}
+
+/// Checks what a lookup is made in; a file without a hash table has none.
+///
+/// # Errors
+/// Those of [`find_in_segments`] but `NoHash`.
+fn check_scope<S: Source>(src: &mut Counted<S>, view: &SegmentView<'_>) -> Result<(), Fault>
+    requires size { view.now.loaded.size ≡ src.old.seen.size }
+    requires small { view.now.loaded.size < 2 ^ 63 }
+    ensures keeps { Keeps src.old.seen src.new.seen }
+{
+    match find_in_segments(src, view) {
+        Ok(_) => Ok(()),
+        Err(
+            Fault::Refused(
+                Refusal {
+                    at: _,
+                    cause: Cause::NoHash,
+                },
+            ),
+        ) => Ok(()),
+        Err(fault) => Err(fault),
+    }
+}

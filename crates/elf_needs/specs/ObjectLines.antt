@@ -1,0 +1,47 @@
+-- The lines of the objects that a program needs.
+use Rattle.std.specs.Prelude.{ℕ, [], ◌∷◌, List, codes, Option, None, Some}
+use Rattle.elf_model.specs.Causes.{cause_word}
+use Rattle.elf_model.specs.Fields.{Field, Fields, LineFront, closed_line, front}
+use Rattle.elf_model.specs.Fields.Field.{Decimal, Hexadecimal, Hyphen, NameOrDecimal, Word}
+use Rattle.elf_model.specs.Lines.{named_line}
+use Rattle.elf_model.specs.Names.Shown.{Whole}
+use Rattle.elf_model.specs.declared.formats.Format.{Format}
+use Rattle.elf_needs.specs.declared.states.ObjectState.{ObjectState}
+use Rattle.elf_needs.specs.declared.states.ObjectState.TheVariants as state
+
+-- the word of a state
+unfoldable pub object_word : ObjectState → List ℕ
+object_word state.Found = codes "found"
+object_word state.Missing = codes "missing"
+object_word (state.Refused refusal) = codes "refused"
+
+-- where an object is refused and why, or a hyphen
+abbrev pub refusal_fields : ObjectState → List Field
+refusal_fields (state.Refused refusal) =
+    Hexadecimal (codes "place") 16 refusal.at ∷ Word (codes "cause") 0 (cause_word refusal.cause) ∷ []
+refusal_fields _ = Hyphen ∷ []
+
+-- the index of the object that first needed one; a hyphen for the file itself
+abbrev pub needer_field : Option ℕ → Field
+needer_field None = NameOrDecimal (codes "needed_by") 5 (Some (codes "-")) 0
+needer_field (Some index) = NameOrDecimal (codes "needed_by") 5 None index
+
+-- an object: its index, the one that first needed it, its state, and its refusal
+abbrev pub object_fields : ℕ → Option ℕ → ObjectState → Fields
+object_fields index needer found = record {
+  letter = codes "L";
+  fields = Decimal (codes "index") 5 index ∷ needer_field needer ∷ Word (codes "state") 8 (object_word found) ∷ refusal_fields found;
+}
+
+-- an object's line up to its path
+unfoldable pub object_front : Format → ℕ → Option ℕ → ObjectState → LineFront
+object_front format index needer found = front format (codes "path") (object_fields index needer found)
+
+-- THE LINE OF AN OBJECT, with its path, or the name of one that is missing
+abbrev pub object_line : Format → ℕ → Option ℕ → ObjectState → List ℕ → List ℕ
+object_line format index needer found path = named_line (object_front format index needer found) (Whole path)
+
+-- the line that ends the objects where there are more than are listed: the place of the dynamic entry that needs one more
+unfoldable pub too_many_line : Format → ℕ → List ℕ
+too_many_line format place =
+    closed_line format (record { letter = codes "!"; fields = Hexadecimal (codes "place") 16 place ∷ [] }) (Word (codes "cause") 0 (codes "too-many-objects"))

@@ -1,0 +1,74 @@
+//! Files that may be the one that is looked for.
+use crate::walk::NeedsFault;
+use elf_headers::Fault;
+use elf_links::machine_of;
+use elf_source::{Counted, OffsetReader, Source, StreamSource};
+use std::os::unix::fs::FileExt;
+use std::rt::Files;
+use std::{fs, str};
+
+/// A file of the system, read at offsets.
+pub(crate) type FileSource<F> = Counted<StreamSource<OffsetReader<F>>>;
+
+/// Opens the file at a path, if it is a regular one that can be opened, of 64 bits, little-endian and of
+/// this machine. No more is asked for than what is left of a budget, where there is one; what was asked
+/// of a file that is passed over is taken off.
+///
+/// # Errors
+/// A read failed.
+pub(crate) fn candidate<R: Files>(
+    rt: &R,
+    path: &[u8],
+    machine: u16,
+    left: &mut Option<u64>,
+) -> Result<Option<FileSource<R::File>>, NeedsFault>
+where
+    R::File: FileExt,
+{
+    let Some(mut source) = opened(rt, path)? else {
+        return Ok(None);
+    };
+    source.limit(*left);
+    match machine_of(&mut source) {
+        Ok(Some(found)) if found == machine => Ok(Some(source)),
+        Ok(_) => {
+            take_off(left, &source);
+            Ok(None)
+        }
+        // The budget has no room for it: that is told of the file where it is read.
+        Err(Fault::Refused(_)) => Ok(Some(source)),
+        Err(Fault::Source { .. }) => Err(NeedsFault::Read),
+    }
+}
+
+/// Opens the file at a path, if it is a regular one that can be opened.
+///
+/// # Errors
+/// Its length can't be found.
+fn opened<R: Files>(rt: &R, path: &[u8]) -> Result<Option<FileSource<R::File>>, NeedsFault>
+where
+    R::File: FileExt,
+{
+    let Ok(path) = str::from_utf8(path) else {
+        return Ok(None);
+    };
+    match fs::metadata(rt, path) {
+        Ok(found) if found.is_file() => {}
+        _ => return Ok(None),
+    }
+    let Ok(file) = fs::open(rt, path) else {
+        return Ok(None);
+    };
+    match StreamSource::over(OffsetReader::new(file)) {
+        Ok(source) => Ok(Some(Counted::new(source))),
+        Err(_) => Err(NeedsFault::Read),
+    }
+}
+
+/// Takes off what is left of a budget what was asked of a source.
+pub(crate) fn take_off<S: Source>(left: &mut Option<u64>, source: &Counted<S>) {
+    if let Some(bytes) = *left {
+        let asked = u64::try_from(source.asked()).unwrap_or(u64::MAX);
+        *left = Some(bytes.saturating_sub(asked));
+    }
+}

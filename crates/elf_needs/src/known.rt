@@ -1,0 +1,133 @@
+//! The objects that are known so far.
+use elf_links::{FileLinks, LinkStore, Need, Texts};
+use elf_search::folder_of_path;
+use std::alloc::{AllocError, Global};
+
+/// The most objects of a program.
+pub const MOST_OBJECTS: usize = 512;
+
+/// How many bytes of paths each object has room for.
+const PATH_ROOM: usize = 4_096;
+/// How many bytes of texts, and how many texts, there is room for with each object; all share it.
+const TEXT_ROOM: usize = 8_192;
+
+const TEXTS_EACH: usize = 64;
+
+/// An object: where it is, and what it needs.
+#[derive(Clone, Copy)]
+pub(crate) struct Known {
+    /// The index of the object that first needed it.
+    pub needer: Option<u16>,
+    /// The index of the name that it was first needed by.
+    pub name: Option<u32>,
+    /// The index of its path, whose folder stands for `$ORIGIN`.
+    pub path: Option<u32>,
+    /// What its dynamic entries tell.
+    pub links: FileLinks,
+    /// The first of its needs, and the one behind its last.
+    pub needs: usize,
+    pub needs_end: usize,
+}
+
+/// The objects that are known, with their texts, in memory that is taken once.
+#[derive(Drop)]
+pub struct Objects {
+    /// What their dynamic entries tell.
+    pub(crate) links: LinkStore,
+    paths: Texts,
+    known: Vec<Known>,
+}
+
+impl Objects {
+    /// No object. The memory is taken from `alloc` here: for each of 512 objects 4,096 bytes of paths,
+    /// 8,192 of texts, 1,544 for where texts and needs are, and its record.
+    ///
+    /// # Errors
+    /// Where memory is refused.
+    pub(crate) fn new(alloc: Global) -> Result<Objects, AllocError> {
+        Ok(Objects {
+            links: LinkStore::new(alloc, MOST_OBJECTS * TEXT_ROOM, MOST_OBJECTS * TEXTS_EACH)?,
+            paths: Texts::new(alloc, MOST_OBJECTS * PATH_ROOM, MOST_OBJECTS)?,
+            known: Vec::with_capacity(alloc, MOST_OBJECTS)?,
+        })
+    }
+
+    /// How many there are.
+    pub(crate) fn len(&self) -> usize {
+        self.known.len()
+    }
+
+    /// The object of an index, if there is one.
+    pub(crate) fn get(&self, index: usize) -> Option<Known> {
+        match self.known.get(index) {
+            Some(known) => Some(*known),
+            None => None,
+        }
+    }
+
+    /// Keeps a path, and answers its index. None where there is no room for it.
+    pub(crate) fn keep_path(&mut self, path: &[u8]) -> Option<u32> {
+        self.paths.push(path)
+    }
+
+    /// Adds an object behind the others. Answers its index; None where there are 512.
+    pub(crate) fn add(&mut self, known: Known) -> Option<u16> {
+        if self.known.len() >= MOST_OBJECTS {
+            return None;
+        }
+        let Ok(index) = u16::try_from(self.known.len()) else {
+            return None;
+        };
+        if self.known.push(known).is_err() {
+            return None;
+        }
+        Some(index)
+    }
+
+    /// The need of an index, if there is one.
+    pub(crate) fn need(&self, index: usize) -> Option<Need> {
+        match self.links.needs.get(index) {
+            Some(need) => Some(*need),
+            None => None,
+        }
+    }
+
+    /// The text of an index, if one is told.
+    pub(crate) fn text(&self, index: Option<u32>) -> Option<&[u8]> {
+        match index {
+            Some(index) => Some(self.links.texts.get(index)),
+            None => None,
+        }
+    }
+
+    /// The folder of an object, which stands for `$ORIGIN`.
+    pub(crate) fn folder(&self, known: &Known) -> &[u8] {
+        match known.path {
+            Some(path) => folder_of_path(self.paths.get(path)),
+            None => b".",
+        }
+    }
+
+    /// Whether an object has a name: it was needed by it, or calls itself so.
+    pub(crate) fn has_name(&self, name: &[u8]) -> bool {
+        for known in &self.known {
+            if self.is_called(known, name) {
+                return true;
+            }
+        }
+        false
+    }
+
+    /// Whether one object has a name.
+    fn is_called(&self, known: &Known, name: &[u8]) -> bool {
+        is_text(self.text(known.name), name) || is_text(self.text(known.links.soname), name)
+    }
+}
+
+/// Whether a text is told, and is a name.
+fn is_text(text: Option<&[u8]>, name: &[u8]) -> bool {
+    match text {
+        Some(text) => text.len() == name.len() && text == name,
+        None => false,
+    }
+}

@@ -1,0 +1,19 @@
+//! What a program needs: its objects in the order of a loader of the GNU system, each looked for in the
+//! folders that the loader would search, and a line for each. Nothing is run or loaded. The memory is taken
+//! once.
+#![tactic(auto)]
+
+mod candidates;
+mod known;
+mod object_rows;
+mod room;
+mod search;
+mod states;
+mod walk;
+
+pub use known::MOST_OBJECTS;
+pub use object_rows::{show_object, show_too_many};
+pub use room::NeedsRoom;
+pub use search::SearchedFolders;
+pub use states::ObjectState;
+pub use walk::{NeedsFault, NeedsSettings, ProgramFile, list_needs};

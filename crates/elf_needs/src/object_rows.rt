@@ -1,0 +1,122 @@
+//! The lines of the objects that a program needs.
+ghost use Rattle.std.specs.Prelude.{◌≡◌, ◌≤◌, length};
+ghost use Rattle.arrayvec.specs.ArrayVec.{array_vec_len};
+ghost use Rattle.elf_model.specs.Fields.{with_fields};
+ghost use Rattle.elf_source.specs.Output.{Puts};
+ghost use Rattle.elf_fields.specs.Fronts.{front_of};
+ghost use Rattle.elf_needs.specs.ObjectLines.{object_front, object_line, object_word, refusal_fields, too_many_line};
+
+use crate::states::ObjectState;
+use elf_fields::{
+    Columns, Line, LineFront, Object, Render, begin, begin_named, put, put_closing, put_decimal,
+    put_hexadecimal, put_name_or_decimal, put_text, show_named,
+};
+use elf_lines::cause_word;
+use elf_model::Format;
+use elf_source::{Out, OutFault, Sink};
+
+/// The `L` line of an object up to its path.
+#[tactic(auto, unfolding(crate::specs::ObjectLines::object_front))]
+fn object_row<R: Render>(front: &mut LineFront, index: u16, needer: Option<u16>, state: ObjectState)
+    ensures front { front_of front.new ≡ object_front R.FORMAT index needer state }
+    ensures key { length front.new.key.now ≤ 16 }
+{
+    begin_named::<R>(front, b"L", b"path");
+    let line = &mut front.line;
+    put_decimal::<R>(line, b"index", 5, u64::from(index), b' ');
+    match needer {
+        None => put_name_or_decimal::<R>(line, b"needed_by", 5, Some("-"), 0),
+        Some(needer) => {
+            put_name_or_decimal::<R>(line, b"needed_by", 5, None, u64::from(needer));
+        }
+    }
+    put_text::<R>(line, b"state", 8, object_word(state).as_bytes(), b' ');
+    put_refusal::<R>(line, state);
+}
+
+/// Puts where an object is refused and why; in columns a hyphen for one that is not refused.
+#[tactic(auto, unfolding(elf_model::specs::Fields::with_field))]
+fn put_refusal<R: Render>(line: &mut Line, state: ObjectState)
+    requires { array_vec_len line.old ≤ 150 }
+    ensures items { line.new.items ≡ with_fields R.FORMAT line.old.items (refusal_fields state) }
+{
+    if let ObjectState::Refused(refusal) = state {
+        put_hexadecimal::<R>(line, b"place", 16, refusal.at, b' ');
+        put_text::<R>(
+            line,
+            b"cause",
+            0,
+            cause_word(refusal.cause).as_bytes(),
+            b' ',
+        );
+        return;
+    }
+    match R::FORMAT {
+        Format::Columns => put(line, b"- "),
+        Format::Object => {}
+    }
+}
+
+/// The word of a state in an object's line.
+#[tactic(auto, unfolding(crate::specs::ObjectLines::object_word))]
+fn object_word(state: ObjectState) -> &'static str
+    ensures word { result.now ≡ object_word state }
+    ensures short { length result.now ≤ 8 }
+{
+    match state {
+        ObjectState::Found => "found",
+        ObjectState::Missing => "missing",
+        ObjectState::Refused(_) => "refused",
+    }
+}
+
+/// Writes the line of an object: its index, the index of the object that first needed it, its state, the
+/// file offset and the cause of its refusal, and its path, or its name where it is missing, spelt as names
+/// are.
+///
+/// # Errors
+/// A fault of the output, with a front of the line written.
+pub fn show_object<W: Sink>(
+    index: u16,
+    needer: Option<u16>,
+    state: ObjectState,
+    path: &[u8],
+    format: Format,
+    out: &mut Out<W>,
+) -> Result<(), OutFault>
+    ensures puts { Puts out.old out.new result (object_line format index needer state path.now) }
+{
+    let mut front = LineFront::new();
+    match format {
+        Format::Columns => object_row::<Columns>(&mut front, index, needer, state),
+        Format::Object => object_row::<Object>(&mut front, index, needer, state),
+    }
+    show_named(&mut front, path, false, out)
+}
+
+/// Writes the line that ends the objects where one more is needed than are listed: the file offset of the
+/// dynamic entry that needs it.
+///
+/// # Errors
+/// A fault of the output, with a front of the line written.
+pub fn show_too_many<W: Sink>(place: u64, format: Format, out: &mut Out<W>) -> Result<(), OutFault>
+    ensures puts { Puts out.old out.new result (too_many_line format place) }
+{
+    match format {
+        Format::Columns => out.put(&too_many_row::<Columns>(place)),
+        Format::Object => out.put(&too_many_row::<Object>(place)),
+    }
+}
+
+/// The line that ends the objects.
+#[tactic(auto, unfolding(crate::specs::ObjectLines::too_many_line))]
+fn too_many_row<R: Render>(place: u64) -> Line
+    ensures { result.items ≡ too_many_line R.FORMAT place }
+{
+    let mut line = Line::new();
+    begin::<R>(&mut line, b"!");
+    put_hexadecimal::<R>(&mut line, b"place", 16, place, b' ');
+    put_text::<R>(&mut line, b"cause", 0, b"too-many-objects", b'\n');
+    put_closing::<R>(&mut line);
+    line
+}

@@ -1,0 +1,22 @@
+//! The memory of a walk over a program's objects.
+use crate::known::Objects;
+use std::alloc::{AllocError, Global};
+
+/// What a walk over a program's objects needs, taken once.
+#[derive(Drop)]
+pub struct NeedsRoom {
+    pub(crate) objects: Objects,
+}
+
+impl NeedsRoom {
+    /// Room for 512 objects. All memory that it needs is taken here, some 7 MB, of which what is not used
+    /// is never touched.
+    ///
+    /// # Errors
+    /// Where memory is refused.
+    pub fn new(alloc: Global) -> Result<NeedsRoom, AllocError> {
+        Ok(NeedsRoom {
+            objects: Objects::new(alloc)?,
+        })
+    }
+}

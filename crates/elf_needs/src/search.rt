@@ -1,0 +1,115 @@
+//! The search for a library.
+use crate::candidates::{FileSource, candidate};
+use crate::known::{Known, MOST_OBJECTS, Objects};
+use crate::walk::NeedsFault;
+use elf_search::{
+    FolderLists, LibrarySearch, Needer, NeederChain, TriedPath, gather_folders, named_path,
+};
+use memchr::memchr;
+use std::os::unix::fs::FileExt;
+use std::rt::Files;
+
+/// The folders that a command line tells, each text parted by colons, and what stands before each folder
+/// that is written with a slash at its front.
+#[derive(Clone, Copy)]
+pub struct SearchedFolders<'a> {
+    /// Those that come before an object's DT_RUNPATH.
+    pub library: &'a [u8],
+    /// Those that come last.
+    pub default: &'a [u8],
+    /// The other root.
+    pub root: &'a [u8],
+}
+
+/// A search for a library of a machine: what it goes by, and what is left of the budget.
+#[derive(Drop)]
+pub(crate) struct Search<'a, R> {
+    /// The system's files.
+    pub rt: &'a R,
+    /// The folders that are told.
+    pub folders: SearchedFolders<'a>,
+    /// The machine.
+    pub machine: u16,
+    /// The path that is tried.
+    pub path: TriedPath,
+    /// What is left of the budget, where there is one.
+    pub left: Option<u64>,
+}
+
+impl<R: Files> Search<'_, R>
+where
+    R::File: FileExt,
+{
+    /// Looks for the library of a name that an object needs. Where it is found its path stands in the
+    /// search's.
+    ///
+    /// # Errors
+    /// A read failed.
+    pub(crate) fn find(
+        &mut self,
+        objects: &Objects,
+        needer: &Known,
+        name: &[u8],
+    ) -> Result<Option<FileSource<R::File>>, NeedsFault> {
+        if memchr(b'/', name).is_some() {
+            if !named_path(&mut self.path, self.folders.root, name) {
+                return Ok(None);
+            }
+            return self.candidate();
+        }
+        let needers = chain(objects, needer);
+        let mut lists = FolderLists::new();
+        let SearchedFolders {
+            library,
+            default,
+            root,
+        } = self.folders;
+        gather_folders(&needers, library, default, &mut lists);
+        self.try_all(LibrarySearch::new(root, name, &lists))
+    }
+
+    /// Tries paths, one after another.
+    fn try_all(
+        &mut self,
+        search: LibrarySearch<'_>,
+    ) -> Result<Option<FileSource<R::File>>, NeedsFault> {
+        let mut search = search;
+        while search.next(&mut self.path) {
+            if let Some(found) = self.candidate()? {
+                return Ok(Some(found));
+            }
+        }
+        Ok(None)
+    }
+
+    /// Tries the path.
+    fn candidate(&mut self) -> Result<Option<FileSource<R::File>>, NeedsFault> {
+        candidate(self.rt, &self.path, self.machine, &mut self.left)
+    }
+}
+
+/// An object, the one that first needed it, and so on up to the program.
+fn chain<'a>(objects: &'a Objects, known: &Known) -> NeederChain<'a> {
+    let mut chain = NeederChain::new();
+    let mut known = *known;
+    for _above in 0..MOST_OBJECTS {
+        let _ = chain.try_push(Needer {
+            rpath: objects.text(known.links.rpath),
+            runpath: objects.text(known.links.runpath),
+            folder: objects.folder(&known),
+        });
+        let Some(above) = above(objects, &known) else {
+            return chain;
+        };
+        known = above;
+    }
+    chain
+}
+
+/// The object that first needed another, if one did.
+fn above(objects: &Objects, known: &Known) -> Option<Known> {
+    match known.needer {
+        Some(needer) => objects.get(usize::from(needer)),
+        None => None,
+    }
+}

@@ -1,0 +1,13 @@
+//! What is told of an object that a program needs.
+use elf_model::Refusal;
+
+/// The state of an object.
+#[derive(Clone, Copy)]
+pub enum ObjectState {
+    /// It was found, and what it needs is known.
+    Found,
+    /// None of the paths that are tried for it can be opened.
+    Missing,
+    /// It was found, and is refused.
+    Refused(Refusal),
+}

@@ -1,0 +1,258 @@
+//! The objects of a program, in a loader's order.
+use crate::candidates::take_off;
+use crate::known::{Known, MOST_OBJECTS, Objects};
+use crate::object_rows::{show_object, show_too_many};
+use crate::room::NeedsRoom;
+use crate::search::{Search, SearchedFolders};
+use crate::states::ObjectState;
+use elf_headers::{Fault, HeaderStore};
+use elf_links::{FileLinks, Need, machine_of, read_links};
+use elf_model::Format;
+use elf_search::TriedPath;
+use elf_source::{Counted, Out, OutFault, Sink, Source};
+use std::os::unix::fs::FileExt;
+use std::rt::Files;
+
+/// Why a walk came to no end.
+#[derive(Clone, Copy)]
+pub enum NeedsFault {
+    /// A read failed.
+    Read,
+    /// The output failed.
+    Out(OutFault),
+}
+
+/// A program that is opened: its source, its path as it is shown, and with all links followed.
+#[derive(Drop)]
+pub struct ProgramFile<'a, S: Source> {
+    /// The source.
+    pub source: Counted<S>,
+    /// The path that is shown.
+    pub path: &'a [u8],
+    /// The path whose folder stands for `$ORIGIN`.
+    pub real: &'a [u8],
+}
+
+/// What a walk goes by.
+#[derive(Clone, Copy)]
+pub struct NeedsSettings<'a> {
+    /// The folders that are told.
+    pub folders: SearchedFolders<'a>,
+    /// How many bytes may be asked for, of all files together, where that is limited.
+    pub budget: Option<u64>,
+    /// How a line is written.
+    pub format: Format,
+}
+
+/// What an object comes to: its state, what its dynamic entries tell, and where its needs are.
+#[derive(Clone, Copy)]
+struct Told {
+    state: ObjectState,
+    links: FileLinks,
+    needs: usize,
+    needs_end: usize,
+}
+
+/// Whether a walk goes on.
+#[derive(Clone, Copy, PartialEq, Eq)]
+enum Onward {
+    /// It does.
+    Yes,
+    /// There are more objects than are listed.
+    TooMany,
+}
+
+/// A walk over the objects of a program.
+#[derive(Drop)]
+struct ObjectWalk<'a, 'w, R, W: Sink> {
+    search: Search<'a, R>,
+    objects: &'a mut Objects,
+    store: &'a mut HeaderStore<'w>,
+    format: Format,
+    out: &'a mut Out<W>,
+    status: u8,
+}
+
+/// Lists the objects that a program needs, in a loader's order: the program, then for each object in order
+/// each library that it needs and that is none of those before. A line for each. Answers the exit status:
+/// 1 where one is missing or refused, or there are more than 512. No more is asked for, of all files
+/// together, than the budget has, where there is one.
+///
+/// # Errors
+/// A read or the output failed.
+pub fn list_needs<'a, R: Files, S: Source, W: Sink>(
+    rt: &'a R,
+    program: &mut ProgramFile<'_, S>,
+    settings: &NeedsSettings<'a>,
+    store: &'a mut HeaderStore<'_>,
+    room: &'a mut NeedsRoom,
+    out: &'a mut Out<W>,
+) -> Result<u8, NeedsFault>
+where
+    R::File: FileExt,
+{
+    let mut walk = ObjectWalk {
+        search: Search {
+            rt,
+            folders: settings.folders,
+            machine: 0,
+            path: TriedPath::new(),
+            left: settings.budget,
+        },
+        objects: &mut room.objects,
+        store,
+        format: settings.format,
+        out,
+        status: 0,
+    };
+    walk.program(program)?;
+    for index in 0..MOST_OBJECTS {
+        let Some(known) = walk.objects.get(index) else {
+            break;
+        };
+        if walk.needs_of(index, &known)? == Onward::TooMany {
+            break;
+        }
+    }
+    Ok(walk.status)
+}
+
+impl<R: Files, W: Sink> ObjectWalk<'_, '_, R, W>
+where
+    R::File: FileExt,
+{
+    /// Reads the program, and writes its line.
+    fn program<S: Source>(&mut self, program: &mut ProgramFile<'_, S>) -> Result<(), NeedsFault> {
+        program.source.limit(self.search.left);
+        match machine_of(&mut program.source) {
+            Ok(Some(machine)) => self.search.machine = machine,
+            // That is told of the program where it is read.
+            Ok(None) | Err(Fault::Refused(_)) => {}
+            Err(Fault::Source { .. }) => return Err(NeedsFault::Read),
+        }
+        let told = self.read(&mut program.source)?;
+        let path = self.objects.keep_path(program.real);
+        self.add(None, None, path, &told);
+        show_object(0, None, told.state, program.path, self.format, self.out).map_err(
+            NeedsFault::Out,
+        )
+    }
+
+    /// Goes over what an object needs.
+    fn needs_of(&mut self, index: usize, known: &Known) -> Result<Onward, NeedsFault> {
+        for place in known.needs..known.needs_end {
+            let Some(need) = self.objects.need(place) else {
+                return Ok(Onward::Yes);
+            };
+            let objects = &*self.objects;
+            if objects.has_name(objects.links.texts.get(need.name)) {
+                continue;
+            }
+            if self.objects.len() >= MOST_OBJECTS {
+                self.status = 1;
+                show_too_many(need.at, self.format, self.out).map_err(NeedsFault::Out)?;
+                return Ok(Onward::TooMany);
+            }
+            self.take(index, known, need)?;
+        }
+        Ok(Onward::Yes)
+    }
+
+    /// Looks for a library that an object needs, reads it, and writes its line.
+    fn take(&mut self, index: usize, needer: &Known, need: Need) -> Result<(), NeedsFault> {
+        let objects = &*self.objects;
+        let name = objects.links.texts.get(need.name);
+        let found = self.search.find(objects, needer, name)?;
+        let by = u16::try_from(index).ok();
+        match found {
+            None => self.add_missing(by, need.name),
+            Some(source) => self.add_found(by, need.name, source),
+        }
+    }
+
+    /// Adds a library that is not found, and writes its line.
+    fn add_missing(&mut self, by: Option<u16>, name: u32) -> Result<(), NeedsFault> {
+        let told = Told {
+            state: ObjectState::Missing,
+            links: NO_LINKS,
+            needs: 0,
+            needs_end: 0,
+        };
+        let index = self.add(by, Some(name), None, &told);
+        let shown = self.objects.links.texts.get(name);
+        show_object(index, by, told.state, shown, self.format, self.out).map_err(NeedsFault::Out)
+    }
+
+    /// Reads a library that is found at the path of the search, adds it, and writes its line.
+    fn add_found<S: Source + Drop>(
+        &mut self,
+        by: Option<u16>,
+        name: u32,
+        source: Counted<S>,
+    ) -> Result<(), NeedsFault> {
+        let mut source = source;
+        let told = self.read(&mut source)?;
+        let path = self.objects.keep_path(&self.search.path);
+        let index = self.add(by, Some(name), path, &told);
+        show_object(
+            index,
+            by,
+            told.state,
+            &self.search.path,
+            self.format,
+            self.out,
+        )
+        .map_err(NeedsFault::Out)
+    }
+
+    /// Reads what a file needs. What was asked of it is taken off the budget.
+    fn read<S: Source>(&mut self, source: &mut Counted<S>) -> Result<Told, NeedsFault> {
+        let needs = self.objects.links.needs.len();
+        let links = read_links(source, self.store, &mut self.objects.links);
+        take_off(&mut self.search.left, source);
+        match links {
+            Ok(links) => Ok(Told {
+                state: ObjectState::Found,
+                links,
+                needs,
+                needs_end: self.objects.links.needs.len(),
+            }),
+            Err(Fault::Refused(refusal)) => Ok(Told {
+                state: ObjectState::Refused(refusal),
+                links: NO_LINKS,
+                needs,
+                needs_end: needs,
+            }),
+            Err(Fault::Source { .. }) => Err(NeedsFault::Read),
+        }
+    }
+
+    /// Adds an object, and answers its index.
+    fn add(
+        &mut self,
+        needer: Option<u16>,
+        name: Option<u32>,
+        path: Option<u32>,
+        told: &Told,
+    ) -> u16 {
+        if !matches!(told.state, ObjectState::Found) {
+            self.status = 1;
+        }
+        let added = self.objects.add(Known {
+            needer,
+            name,
+            path,
+            links: told.links,
+            needs: told.needs,
+            needs_end: told.needs_end,
+        });
+        added.unwrap_or(0)
+    }
+}
+
+/// What an object tells that is not read.
+const NO_LINKS: FileLinks = FileLinks {
+    soname: None,
+    rpath: None,
+    runpath: None,
+};

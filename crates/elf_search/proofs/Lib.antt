@@ -1,0 +1,5 @@
+pub mod PartLaws
+pub mod TokenLaws
+pub mod PathLaws
+pub mod OnSearch
+pub mod FolderLaws

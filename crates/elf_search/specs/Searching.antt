@@ -1,0 +1,183 @@
+-- Where a loader of the GNU system looks for a library that a program needs: the paths that are tried for its name, in order, by
+-- texts alone (gABI 5, Shared Object Dependencies; ld.so(8)).
+use Rattle.std.specs.Prelude.{◌≡◌, ◌≢◌, ◌<◌, ◌⊎◌, take, ℕ, zero, suc, ◌-◌, ◌==◌, ◌&&◌, ◌||◌, nat_eq, nat_lt, not, Bool, true, false, if◌then◌else◌, List, [], ◌∷◌, ◌++◌, length, slice_index, codes, Option, None, Some, option_map}
+use Rattle.std.specs.List.{cons_option, list_any, starts_with}
+
+-- `:` parts folders, `/` the names of a path, `$` begins a token
+abbrev pub COLON : ℕ
+COLON = 58
+
+abbrev pub PATH_SLASH : ℕ
+PATH_SLASH = 47
+
+abbrev pub DOLLAR : ℕ
+DOLLAR = 36
+
+-- how many bytes a path has at most: no longer one can be opened
+abbrev pub MOST_PATH_BYTES : ℕ
+MOST_PATH_BYTES = 4095
+
+-- TOKENS. A byte of a name: a letter, a digit, or `_`
+unfoldable pub is_name_byte : ℕ → Bool
+is_name_byte b = (not (nat_lt b 48) && nat_lt b 58) || (not (nat_lt b 65) && nat_lt b 91) || (not (nat_lt b 97) && nat_lt b 123) || b == 95
+
+-- a token: what stands for it, and how many bytes it has behind its `$`
+pub record Token : Type 0 where
+  pub value : List ℕ
+  pub size : ℕ
+
+-- bytes begin with a name that ends there, or with the name in braces; if so that is how many bytes it has
+unfoldable pub token_size : (bytes name braced : List ℕ) → Option ℕ
+token_size bytes name braced =
+    if starts_with nat_eq bytes braced then Some (length braced)
+    else if starts_with nat_eq bytes name && not (is_name_byte (slice_index bytes (length name))) then Some (length name)
+    else None
+
+-- the token of a name, else another
+abbrev pub token_or : Option ℕ → List ℕ → Option Token → Option Token
+token_or (Some size) value other = Some (record { value = value; size = size })
+token_or None value other = other
+
+-- the token behind a `$`: the folder of the object that has it, and the two names of the platform
+unfoldable pub token_in : (origin bytes : List ℕ) → Option Token
+token_in origin bytes =
+    token_or (token_size bytes (codes "ORIGIN") (codes "{ORIGIN}")) origin
+    (token_or (token_size bytes (codes "LIB") (codes "{LIB}")) (codes "lib/x86_64-linux-gnu")
+    (token_or (token_size bytes (codes "PLATFORM") (codes "{PLATFORM}")) (codes "x86_64") None))
+
+-- a text behind its first bytes, with what stands for its tokens; none where a `$` begins none
+unfoldable pub expanded : (origin : List ℕ) (skip : ℕ) (text : List ℕ) → Option (List ℕ)
+expanded origin skip [] = Some []
+expanded origin (suc skip) (b ∷ text) = expanded origin skip text
+expanded origin zero (b ∷ text) = elim (b == DOLLAR) [
+  | false ↦ option_map (λ rest. b ∷ rest) (expanded origin 0 text)
+  | true ↦ elim (token_in origin text) [
+    | None ↦ None
+    | Some token ↦ option_map (λ rest. token.value ++ rest) (expanded origin token.size text)
+  ]
+]
+
+-- FOLDERS. A text of folders, and the folder that stands for `$ORIGIN`: where there is none a `$` is a byte like others
+pub record Folders : Type 0 where
+  pub text : List ℕ
+  pub origin : Option (List ℕ)
+
+-- the entries of a text, which colons part
+unfoldable pub parted : (entry text : List ℕ) → List (List ℕ)
+parted entry [] = entry ∷ []
+parted entry (b ∷ text) = elim (b == COLON) [
+  | true ↦ entry ∷ parted [] text
+  | false ↦ parted (entry ++ b ∷ []) text
+]
+
+-- an empty text has none
+unfoldable pub entries_of : List ℕ → List (List ℕ)
+entries_of [] = []
+entries_of (b ∷ text) = parted [] (b ∷ text)
+
+-- the folder that an entry names
+unfoldable pub folder_of_entry : Option (List ℕ) → List ℕ → Option (List ℕ)
+folder_of_entry None entry = Some entry
+folder_of_entry (Some origin) entry = expanded origin 0 entry
+
+-- PATHS. What is written with a slash at its front stands below another root
+abbrev pub is_rooted : List ℕ → Bool
+is_rooted text = slice_index text 0 == PATH_SLASH
+
+abbrev pub root_before : (root text : List ℕ) → List ℕ
+root_before root text = if is_rooted text then root else []
+
+-- what stands between a folder and a name in it: a slash, whatever the folder ends in; the empty folder is the current one
+unfoldable pub behind_folder : List ℕ → List ℕ
+behind_folder folder =
+    if length folder == 0 then codes "./" else codes "/"
+
+-- the path of a name in a folder
+abbrev pub path_in : (folder name : List ℕ) → List ℕ
+path_in folder name = folder ++ (behind_folder folder ++ name)
+
+-- a path that can be opened
+abbrev pub if_short : List ℕ → Option (List ℕ)
+if_short path = if nat_lt MOST_PATH_BYTES (length path) then None else Some path
+
+-- the path of a name in the folder that an entry names: none where a `$` begins no token, or where it is too long
+unfoldable pub entry_path : (root name : List ℕ) (origin : Option (List ℕ)) (entry : List ℕ) → Option (List ℕ)
+entry_path root name origin entry = elim (folder_of_entry origin entry) [
+  | None ↦ None
+  | Some folder ↦ if_short (path_in (root_before root entry ++ folder) name)
+]
+
+-- the paths of a name in the folders that entries name
+unfoldable pub entry_paths : (root name : List ℕ) (origin : Option (List ℕ)) → List (List ℕ) → List (List ℕ)
+entry_paths root name origin [] = []
+entry_paths root name origin (entry ∷ entries) = cons_option (entry_path root name origin entry) (entry_paths root name origin entries)
+
+-- the paths of a name in the folders of a text
+abbrev pub folder_paths : (root name : List ℕ) → Folders → List (List ℕ)
+folder_paths root name folders = entry_paths root name folders.origin (entries_of folders.text)
+
+-- THE ORDER. An object that needs others: its DT_RPATH and its DT_RUNPATH, if it has such, and the folder that it is in
+pub record Needer : Type 0 where
+  pub rpath : Option (List ℕ)
+  pub runpath : Option (List ℕ)
+  pub folder : List ℕ
+
+-- what an object's own DT_RPATH names: nothing where it has DT_RUNPATH
+abbrev pub rpath_of : Needer → Option Folders
+rpath_of needer = elim needer.runpath [
+  | Some text ↦ None
+  | None ↦ option_map (λ text. record { text = text; origin = Some needer.folder }) needer.rpath
+]
+
+-- what its DT_RUNPATH names
+abbrev pub runpath_of : Needer → Option Folders
+runpath_of needer = option_map (λ text. record { text = text; origin = Some needer.folder }) needer.runpath
+
+-- what DT_RPATH names of an object, of the one that first needed it, and so on
+unfoldable pub rpath_folders : List Needer → List Folders
+rpath_folders [] = []
+rpath_folders (needer ∷ above) = cons_option (rpath_of needer) (rpath_folders above)
+
+-- what DT_RUNPATH of the first names
+unfoldable pub first_runpath : List Needer → Option Folders
+first_runpath [] = None
+first_runpath (needer ∷ above) = runpath_of needer
+
+-- DT_RPATH counts only where the object that needs the library has no DT_RUNPATH
+abbrev pub unless_runpath : Option Folders → List Folders → List Folders
+unless_runpath None folders = folders
+unless_runpath (Some runpath) folders = []
+
+-- folders that a command line tells
+abbrev pub given_folders : List ℕ → Folders
+given_folders text = record { text = text; origin = None }
+
+-- THE FOLDERS in which a library is looked for that an object needs, the first of these; behind it stands the object that first
+-- needed it, and so on. Its DT_RPATH and theirs, unless it has DT_RUNPATH; the path of libraries that is given; its DT_RUNPATH;
+-- the default folders
+abbrev pub searched_folders : (library default : List ℕ) → List Needer → List Folders
+searched_folders library default needers =
+    unless_runpath (first_runpath needers) (rpath_folders needers) ++ (given_folders library ∷ cons_option (first_runpath needers) (given_folders default ∷ []))
+
+-- the paths of a name in all of them
+unfoldable pub searched_paths : (root name : List ℕ) → List Folders → List (List ℕ)
+searched_paths root name [] = []
+searched_paths root name (folders ∷ others) = folder_paths root name folders ++ searched_paths root name others
+
+-- THE PATHS THAT ARE TRIED for a name: where there is a slash in it that path alone
+unfoldable pub paths_tried : (root library default : List ℕ) → List Needer → (name : List ℕ) → List (List ℕ)
+paths_tried root library default needers name = elim (list_any (λ b. b == PATH_SLASH) name) [
+  | true ↦ cons_option (if_short (root_before root name ++ name)) []
+  | false ↦ searched_paths root name (searched_folders library default needers)
+]
+
+-- THE FOLDER of a path: what stands before its last slash, `/` where nothing does, and the current folder where there is none
+pub record LastSlash (path : List ℕ) (place : ℕ) : Type 0 where
+  pub below : place < length path
+  pub is_slash : slice_index path place ≡ PATH_SLASH
+  pub none_behind : (k : ℕ) → place < k → k < length path → slice_index path k ≢ PATH_SLASH
+
+abbrev pub IsFolderOf : (path folder : List ℕ) → Type 0
+IsFolderOf path folder =
+    ((place : ℕ) × LastSlash path place × (folder ≡ (if place == 0 then codes "/" else take place path)))
+    ⊎ (((k : ℕ) → k < length path → slice_index path k ≢ PATH_SLASH) × (folder ≡ codes "."))
