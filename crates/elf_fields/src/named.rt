@@ -42,6 +42,7 @@ pub fn show_named<W: Sink>(
 ///
 /// # Errors
 /// A fault of the output, with a front of the line written.
+#[inline(always)]
 pub fn show_tailed<W: Sink>(
     front: &mut LineFront,
     name: &[u8],
@@ -101,6 +102,7 @@ pub fn show_joined<W: Sink>(
 ///
 /// # Errors
 /// A fault of the output, with a front of these bytes written.
+#[inline(always)]
 fn put_named<W: Sink>(
     front: &mut LineFront,
     name: &[u8],
@@ -123,6 +125,7 @@ fn put_named<W: Sink>(
 ///
 /// # Errors
 /// A fault of the output, with a front of the line written.
+#[inline(always)]
 fn put_piece<W: Sink>(line: &mut Line, text: &[u8], out: &mut Out<W>) -> Result<(), OutFault>
     requires { length text.now ≤ 256 }
     ensures puts { let whole = line.old.items ++ text.now in
@@ -137,6 +140,7 @@ fn put_piece<W: Sink>(line: &mut Line, text: &[u8], out: &mut Out<W>) -> Result<
 ///
 /// # Errors
 /// A fault of the output, with a front of these bytes written.
+#[inline(always)]
 fn show_last<W: Sink>(line: &mut Line, text: &[u8], out: &mut Out<W>) -> Result<(), OutFault>
     requires { length text.now ≤ 256 }
     ensures puts { Puts out.old out.new result (line.old.items ++ text.now) }
@@ -150,6 +154,7 @@ fn show_last<W: Sink>(line: &mut Line, text: &[u8], out: &mut Out<W>) -> Result<
 ///
 /// # Errors
 /// A fault of the output, with a front of the line written.
+#[inline(always)]
 #[tactic(auto, unfolding(crate::specs::Pieces::name_start))]
 fn begin_name<W: Sink>(front: &mut LineFront, out: &mut Out<W>) -> Result<(), OutFault>
     requires { length front.old.key.now ≤ 16 }
@@ -170,6 +175,7 @@ fn begin_name<W: Sink>(front: &mut LineFront, out: &mut Out<W>) -> Result<(), Ou
 }
 
 /// What ends a name, by whether the name was cut.
+#[inline(always)]
 #[tactic(auto, unfolding(crate::specs::Pieces::name_closing))]
 fn name_closing(format: Format, is_cut: bool) -> &'static [u8]
     ensures items { result.now ≡ name_closing format is_cut }
@@ -188,6 +194,7 @@ fn name_closing(format: Format, is_cut: bool) -> &'static [u8]
 ///
 /// # Errors
 /// A fault of the output, with a front of the line and the name written.
+#[inline(always)]
 fn put_name<W: Sink>(
     line: &mut Line,
     format: Format,
@@ -286,6 +293,7 @@ fn put_byte(line: &mut Line, format: Format, byte: u8)
 ///
 /// # Errors
 /// A fault of the output, with a front of the line written.
+#[inline(always)]
 pub(crate) fn make_room<W: Sink>(
     line: &mut Line,
     count: usize,

@@ -16,4 +16,4 @@ pub use object_rows::{show_object, show_too_many};
 pub use room::NeedsRoom;
 pub use search::SearchedFolders;
 pub use states::ObjectState;
-pub use walk::{NeedsFault, NeedsSettings, ProgramFile, list_needs};
+pub use walk::{NeedsFault, NeedsSettings, ObjectWalk};

@@ -23,9 +23,7 @@ pub struct SearchedFolders<'a> {
 
 /// A search for a library of a machine: what it goes by, and what is left of the budget.
 #[derive(Drop)]
-pub(crate) struct Search<'r, 's, R> {
-    /// The system's files.
-    pub rt: &'r R,
+pub(crate) struct Search<'s> {
     /// The folders that are told.
     pub folders: SearchedFolders<'s>,
     /// The machine.
@@ -36,26 +34,27 @@ pub(crate) struct Search<'r, 's, R> {
     pub left: Option<u64>,
 }
 
-impl<R: Files> Search<'_, '_, R>
-where
-    R::File: FileExt,
-{
+impl Search<'_> {
     /// Looks for the library of a name that an object needs. Where it is found its path stands in the
     /// search's.
     ///
     /// # Errors
     /// A read failed.
-    pub(crate) fn find(
+    pub(crate) fn find<R: Files>(
         &mut self,
+        rt: &R,
         objects: &Objects,
         needer: &Known,
         name: &[u8],
-    ) -> Result<Option<FileSource<R::File>>, NeedsFault> {
+    ) -> Result<Option<FileSource<R::File>>, NeedsFault>
+    where
+        R::File: FileExt,
+    {
         if memchr(b'/', name).is_some() {
             if !named_path(&mut self.path, self.folders.root, name) {
                 return Ok(None);
             }
-            return self.candidate();
+            return self.candidate(rt);
         }
         let needers = chain(objects, needer);
         let mut lists = FolderLists::new();
@@ -65,17 +64,21 @@ where
             root,
         } = self.folders;
         gather_folders(&needers, library, default, &mut lists);
-        self.try_all(LibrarySearch::new(root, name, &lists))
+        self.try_all(rt, LibrarySearch::new(root, name, &lists))
     }
 
     /// Tries paths, one after another.
-    fn try_all(
+    fn try_all<R: Files>(
         &mut self,
+        rt: &R,
         search: LibrarySearch<'_>,
-    ) -> Result<Option<FileSource<R::File>>, NeedsFault> {
+    ) -> Result<Option<FileSource<R::File>>, NeedsFault>
+    where
+        R::File: FileExt,
+    {
         let mut search = search;
         while search.next(&mut self.path) {
-            if let Some(found) = self.candidate()? {
+            if let Some(found) = self.candidate(rt)? {
                 return Ok(Some(found));
             }
         }
@@ -83,8 +86,11 @@ where
     }
 
     /// Tries the path.
-    fn candidate(&mut self) -> Result<Option<FileSource<R::File>>, NeedsFault> {
-        candidate(self.rt, &self.path, self.machine, &mut self.left)
+    fn candidate<R: Files>(&mut self, rt: &R) -> Result<Option<FileSource<R::File>>, NeedsFault>
+    where
+        R::File: FileExt,
+    {
+        candidate(rt, &self.path, self.machine, &mut self.left)
     }
 }
 

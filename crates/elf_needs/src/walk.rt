@@ -22,17 +22,6 @@ pub enum NeedsFault {
     Out(OutFault),
 }
 
-/// A program that is opened: its source, its path as it is shown, and with all links followed.
-#[derive(Drop)]
-pub struct ProgramFile<'p, 'r, S: Source> {
-    /// The source.
-    pub source: Counted<S>,
-    /// The path that is shown.
-    pub path: &'p [u8],
-    /// The path whose folder stands for `$ORIGIN`.
-    pub real: &'r [u8],
-}
-
 /// What a walk goes by.
 #[derive(Clone, Copy)]
 pub struct NeedsSettings<'a> {
@@ -62,110 +51,141 @@ enum Onward {
     TooMany,
 }
 
-/// A walk over the objects of a program.
+/// A walk over the objects of a program: what it uses for each, and what has come of them so far.
 #[derive(Drop)]
-struct ObjectWalk<'r, 's, 'o, 'h, 'w, 'u, R, W: Sink> {
-    search: Search<'r, 's, R>,
-    objects: &'o mut Objects,
-    store: &'h mut HeaderStore<'w>,
+pub struct ObjectWalk<'w, 's, W: Sink> {
+    search: Search<'s>,
+    objects: Objects,
+    store: HeaderStore<'w>,
     format: Format,
-    out: &'u mut Out<W>,
+    out: Out<W>,
     status: u8,
 }
 
-/// Lists the objects that a program needs, in a loader's order: the program, then for each object in order
-/// each library that it needs and that is none of those before. A line for each. Answers the exit status:
-/// 1 where one is missing or refused, or there are more than 512. No more is asked for, of all files
-/// together, than the budget has, where there is one.
-///
-/// # Errors
-/// A read or the output failed.
-pub fn list_needs<R: Files, S: Source, W: Sink>(
-    rt: &R,
-    program: &mut ProgramFile<'_, '_, S>,
-    settings: &NeedsSettings<'_>,
-    store: &mut HeaderStore<'_>,
-    room: &mut NeedsRoom,
-    out: &mut Out<W>,
-) -> Result<u8, NeedsFault>
-where
-    R::File: FileExt,
-{
-    let mut walk = ObjectWalk {
-        search: Search {
-            rt,
-            folders: settings.folders,
-            machine: 0,
-            path: TriedPath::new(),
-            left: settings.budget,
-        },
-        objects: &mut room.objects,
-        store,
-        format: settings.format,
-        out,
-        status: 0,
-    };
-    walk.program(program)?;
-    for index in 0..MOST_OBJECTS {
-        let Some(known) = walk.objects.get(index) else {
-            break;
-        };
-        if walk.needs_of(index, &known)? == Onward::TooMany {
-            break;
+impl<'w, 's, W: Sink> ObjectWalk<'w, 's, W> {
+    /// A walk with no object yet. Headers are loaded into the store, and lines are written to `out`.
+    pub fn new(
+        settings: &NeedsSettings<'s>,
+        store: HeaderStore<'w>,
+        room: NeedsRoom,
+        out: Out<W>,
+    ) -> ObjectWalk<'w, 's, W> {
+        let NeedsRoom { objects } = room;
+        ObjectWalk {
+            search: Search {
+                folders: settings.folders,
+                machine: 0,
+                path: TriedPath::new(),
+                left: settings.budget,
+            },
+            objects,
+            store,
+            format: settings.format,
+            out,
+            status: 0,
         }
     }
-    Ok(walk.status)
+
+    /// Gives the output back.
+    pub fn into_out(self) -> Out<W> {
+        let ObjectWalk { out, .. } = self;
+        out
+    }
 }
 
-impl<R: Files, W: Sink> ObjectWalk<'_, '_, '_, '_, '_, '_, R, W>
-where
-    R::File: FileExt,
-{
+impl<W: Sink> ObjectWalk<'_, '_, W> {
+    /// Lists the objects that a program needs, in a loader's order: the program, then for each object in
+    /// order each library that it needs and that is none of those before. A line for each. Answers the exit
+    /// status: 1 where one is missing or refused, or there are more than 512. No more is asked for, of all
+    /// files together, than the budget has, where there is one. `path` is the program's as it is shown, and
+    /// the folder of `real` stands for `$ORIGIN`.
+    ///
+    /// # Errors
+    /// A read or the output failed.
+    pub fn list<R: Files, S: Source>(
+        &mut self,
+        rt: &R,
+        source: &mut Counted<S>,
+        path: &[u8],
+        real: &[u8],
+    ) -> Result<u8, NeedsFault>
+    where
+        R::File: FileExt,
+    {
+        self.program(source, path, real)?;
+        for index in 0..MOST_OBJECTS {
+            let Some(known) = self.objects.get(index) else {
+                return Ok(self.status);
+            };
+            if self.needs_of(rt, index, &known)? == Onward::TooMany {
+                return Ok(self.status);
+            }
+        }
+        Ok(self.status)
+    }
+
     /// Reads the program, and writes its line.
     fn program<S: Source>(
         &mut self,
-        program: &mut ProgramFile<'_, '_, S>,
+        source: &mut Counted<S>,
+        path: &[u8],
+        real: &[u8],
     ) -> Result<(), NeedsFault> {
-        program.source.limit(self.search.left);
-        match machine_of(&mut program.source) {
+        source.limit(self.search.left);
+        match machine_of(source) {
             Ok(Some(machine)) => self.search.machine = machine,
             // That is told of the program where it is read.
             Ok(None) | Err(Fault::Refused(_)) => {}
             Err(Fault::Source { .. }) => return Err(NeedsFault::Read),
         }
-        let told = self.read(&mut program.source)?;
-        let path = self.objects.keep_path(program.real);
-        self.add(None, None, path, &told);
-        show_object(0, None, told.state, program.path, self.format, self.out).map_err(
-            NeedsFault::Out,
-        )
+        let told = self.read(source)?;
+        let kept = self.objects.keep_path(real);
+        self.add(None, None, kept, &told);
+        show_object(0, None, told.state, path, self.format, &mut self.out).map_err(NeedsFault::Out)
     }
 
     /// Goes over what an object needs.
-    fn needs_of(&mut self, index: usize, known: &Known) -> Result<Onward, NeedsFault> {
+    fn needs_of<R: Files>(
+        &mut self,
+        rt: &R,
+        index: usize,
+        known: &Known,
+    ) -> Result<Onward, NeedsFault>
+    where
+        R::File: FileExt,
+    {
         for place in known.needs..known.needs_end {
             let Some(need) = self.objects.need(place) else {
                 return Ok(Onward::Yes);
             };
-            let objects = &*self.objects;
+            let objects = &self.objects;
             if objects.has_name(objects.links.texts.get(need.name)) {
                 continue;
             }
             if self.objects.len() >= MOST_OBJECTS {
                 self.status = 1;
-                show_too_many(need.at, self.format, self.out).map_err(NeedsFault::Out)?;
+                show_too_many(need.at, self.format, &mut self.out).map_err(NeedsFault::Out)?;
                 return Ok(Onward::TooMany);
             }
-            self.take(index, known, need)?;
+            self.take(rt, index, known, need)?;
         }
         Ok(Onward::Yes)
     }
 
     /// Looks for a library that an object needs, reads it, and writes its line.
-    fn take(&mut self, index: usize, needer: &Known, need: Need) -> Result<(), NeedsFault> {
-        let objects = &*self.objects;
+    fn take<R: Files>(
+        &mut self,
+        rt: &R,
+        index: usize,
+        needer: &Known,
+        need: Need,
+    ) -> Result<(), NeedsFault>
+    where
+        R::File: FileExt,
+    {
+        let objects = &self.objects;
         let name = objects.links.texts.get(need.name);
-        let found = self.search.find(objects, needer, name)?;
+        let found = self.search.find(rt, objects, needer, name)?;
         let by = u16::try_from(index).ok();
         match found {
             None => self.add_missing(by, need.name),
@@ -183,7 +203,9 @@ where
         };
         let index = self.add(by, Some(name), None, &told);
         let shown = self.objects.links.texts.get(name);
-        show_object(index, by, told.state, shown, self.format, self.out).map_err(NeedsFault::Out)
+        show_object(index, by, told.state, shown, self.format, &mut self.out).map_err(
+            NeedsFault::Out,
+        )
     }
 
     /// Reads a library that is found at the path of the search, adds it, and writes its line.
@@ -203,7 +225,7 @@ where
             told.state,
             &self.search.path,
             self.format,
-            self.out,
+            &mut self.out,
         )
         .map_err(NeedsFault::Out)
     }
@@ -211,7 +233,7 @@ where
     /// Reads what a file needs. What was asked of it is taken off the budget.
     fn read<S: Source>(&mut self, source: &mut Counted<S>) -> Result<Told, NeedsFault> {
         let needs = self.objects.links.needs.len();
-        let links = read_links(source, self.store, &mut self.objects.links);
+        let links = read_links(source, &mut self.store, &mut self.objects.links);
         take_off(&mut self.search.left, source);
         match links {
             Ok(links) => Ok(Told {

@@ -1,11 +1,11 @@
 //! What a program needs.
 
 use elf_headers::{HeaderRoom, HeaderStore};
-use elf_needs::{NeedsFault, NeedsRoom, NeedsSettings, ProgramFile, SearchedFolders, list_needs};
+use elf_needs::{NeedsFault, NeedsRoom, NeedsSettings, ObjectWalk, SearchedFolders};
 use elf_program::{
     CANNOT_OPEN, Ended, Ending, OUT_OF_MEMORY, OUTPUT_BYTES, READ_FAULT, end_run, open,
 };
-use elf_source::{Counted, Out, OutFault, Sink, Source, WriteSink, opened_path};
+use elf_source::{Counted, Out, OutFault, WriteSink, opened_path};
 use elf_words::NeedsAsked;
 use std::io::{self, BufWriter, ErrorKind, Write};
 use std::os::unix::fs::FileExt;
@@ -25,13 +25,13 @@ where
     let Ok(mut headers) = HeaderRoom::new(rt.alloc(), asked.limits.headers) else {
         return Err(OUT_OF_MEMORY);
     };
-    let Ok(mut room) = NeedsRoom::new(rt.alloc()) else {
+    let Ok(room) = NeedsRoom::new(rt.alloc()) else {
         return Err(OUT_OF_MEMORY);
     };
     let Ok(output) = BufWriter::with_capacity(rt.alloc(), OUTPUT_BYTES, io::writer(rt)) else {
         return Err(OUT_OF_MEMORY);
     };
-    needs_into(rt, asked, &mut headers.store(), &mut room, output)
+    needs_into(rt, asked, headers.store(), room, output)
 }
 
 /// Opens the program, and lists the objects that it needs to an output. The folder of the program is told
@@ -42,15 +42,15 @@ where
 fn needs_into<R: Files + AllocGlobal, W: Write + Drop>(
     rt: &R,
     asked: &NeedsAsked<'_>,
-    store: &mut HeaderStore<'_>,
-    room: &mut NeedsRoom,
+    store: HeaderStore<'_>,
+    room: NeedsRoom,
     output: BufWriter<W>,
 ) -> Result<Ending, Ending>
 where
     R::File: FileExt,
 {
-    let source = match open(rt, asked.file) {
-        Ok(source) => source,
+    let mut source = match open(rt, asked.file) {
+        Ok(source) => Counted::new(source),
         Err(ending) => return Err(ending),
     };
     let real = match rt.canonicalize(rt.alloc(), opened_path(asked.file)) {
@@ -58,30 +58,21 @@ where
         Err(error) if error.kind() == ErrorKind::OutOfMemory => return Err(OUT_OF_MEMORY),
         Err(_) => return Err(CANNOT_OPEN),
     };
-    let mut program = ProgramFile {
-        source: Counted::new(source),
-        path: asked.file.as_bytes(),
-        real: real.as_str().as_bytes(),
-    };
-    let mut out = Out::new(WriteSink::new(output));
-    let ended = list_to(rt, &mut program, asked, store, room, &mut out);
-    let (ending, _output) = end_run(ended, out.into_inner().into_inner());
+    let out = Out::new(WriteSink::new(output));
+    let mut walk = ObjectWalk::new(&settings(asked), store, room, out);
+    let listed = walk.list(
+        rt,
+        &mut source,
+        asked.file.as_bytes(),
+        real.as_str().as_bytes(),
+    );
+    let (ending, _output) = end_run(ended(listed), walk.into_out().into_inner().into_inner());
     Ok(ending)
 }
 
-/// Lists the objects that a program needs, and answers how the run ended.
-fn list_to<R: Files, S: Source, W: Sink>(
-    rt: &R,
-    program: &mut ProgramFile<'_, '_, S>,
-    asked: &NeedsAsked<'_>,
-    store: &mut HeaderStore<'_>,
-    room: &mut NeedsRoom,
-    out: &mut Out<W>,
-) -> Ended
-where
-    R::File: FileExt,
-{
-    let settings = NeedsSettings {
+/// What a walk goes by.
+fn settings<'a>(asked: &NeedsAsked<'a>) -> NeedsSettings<'a> {
+    NeedsSettings {
         folders: SearchedFolders {
             library: asked.library_path.as_bytes(),
             default: asked.default.as_bytes(),
@@ -89,8 +80,12 @@ where
         },
         budget: asked.limits.budget,
         format: asked.format,
-    };
-    match list_needs(rt, program, &settings, store, room, out) {
+    }
+}
+
+/// How a run ended, by what a walk answered.
+fn ended(listed: Result<u8, NeedsFault>) -> Ended {
+    match listed {
         Ok(status) => Ended::Status(status),
         Err(NeedsFault::Read) => Ended::Told(READ_FAULT),
         Err(NeedsFault::Out(OutFault { .. })) => Ended::Unwritten,
