@@ -16,6 +16,7 @@ use std::rt::Files;
 ///
 /// # Errors
 /// There is no memory, or the archive can't be opened.
+#[inline(never)]
 pub fn list_archive<R: Files + Print + AllocGlobal>(
     rt: &R,
     asked: &Archiving<'_>,

@@ -23,6 +23,7 @@ const LIST_BYTES: usize = 65_536;
 ///
 /// # Errors
 /// There is no memory.
+#[inline(never)]
 pub fn check_many<R: Files + Print + Input + AllocGlobal>(
     rt: &R,
     asked: &Checking<'_>,
@@ -43,6 +44,7 @@ where
 ///
 /// # Errors
 /// There is no memory.
+#[inline(never)]
 pub fn tell_traits<R: Files + Print + Input + AllocGlobal>(
     rt: &R,
     asked: &TraitsAsked<'_>,

@@ -15,6 +15,7 @@ use std::rt::Files;
 ///
 /// # Errors
 /// There is no memory, or the program can't be opened.
+#[inline(never)]
 pub fn tell_needs<R: Files + Print + AllocGlobal>(
     rt: &R,
     asked: &NeedsAsked<'_>,
