@@ -4,7 +4,7 @@ use Rattle.std.specs.Borrow.{Bor}
 use Rattle.clap.specs.Walk.{Rule, Text}
 use Rattle.clap.specs.Simple.{App, new_app, new_rule, with_rule, with_subcommand}
 use Rattle.clap.specs.Lexer.{usize_max}
-use Rattle.clap.specs.declared.builder.action.ArgAction.TheVariants.{SetTrue}
+use Rattle.clap.specs.declared.builder.action.ArgAction.TheVariants.{Append, SetTrue}
 use Rattle.clap.specs.declared.builder.value_parser.ValueParser.{ValueParser}
 use Rattle.clap.specs.declared.builder.value_parser.ValueParser.TheVariants.{Signed, Unsigned, Names}
 
@@ -50,8 +50,20 @@ with_listing_options parts command =
     with_rule (with_rule (with_rule (with_rule (with_rule (with_rule (with_rule command headers_option) names_option) max_read_option)
     (only_option parts)) gnu_option) by_segments_option) json_option
 
+-- names of which the rows are shown, one each time it stands among the words
+abbrev pub name_option : Rule
+name_option = record (new_rule (codes "name")) { long = Some (codes "name"); value_names = 1; action = Some Append }
+
+-- a file that has such names, one a line
+abbrev pub name_list_option : Rule
+name_list_option = record (new_rule (codes "name-list")) { long = Some (codes "name-list"); value_names = 1 }
+
+-- a command with the options of a listing of which rows are chosen by their names
+abbrev pub with_chosen_rows : Words → App → App
+with_chosen_rows parts command = with_rule (with_rule (with_listing_options parts command) name_option) name_list_option
+
 abbrev pub show_command : Words → App
-show_command parts = with_rule (with_listing_options parts (new_app (codes "show"))) file_argument
+show_command parts = with_rule (with_chosen_rows parts (new_app (codes "show"))) file_argument
 
 abbrev pub sample_command : Words → App
 sample_command parts = with_listing_options parts (new_app (codes "sample"))
@@ -112,15 +124,15 @@ path_argument = record (new_rule (codes "PATH")) { range = Some (record { start_
 abbrev pub members_option : Rule
 members_option = flag (codes "members")
 
--- a command that goes over many files, with the options of a listing
-abbrev pub over_files : Words → App → App
-over_files parts command = with_rule (with_rule (with_rule (with_listing_options parts command) members_option) list_option) path_argument
+-- a command that goes over many files, and perhaps into archives
+abbrev pub over_files : App → App
+over_files command = with_rule (with_rule (with_rule command members_option) list_option) path_argument
 
 abbrev pub check_command : Words → App
-check_command parts = over_files parts (new_app (codes "check"))
+check_command parts = over_files (with_listing_options parts (new_app (codes "check")))
 
 abbrev pub list_command : Words → App
-list_command parts = over_files parts (new_app (codes "list"))
+list_command parts = over_files (with_chosen_rows parts (new_app (codes "list")))
 
 -- words that are required, which commas part
 abbrev pub require_option : Rule
@@ -162,7 +174,7 @@ pub record PartWords : Type 0 where
   pub archived : Words
 
 abbrev pub archive_command : Words → App
-archive_command parts = with_rule (with_listing_options parts (new_app (codes "archive"))) file_argument
+archive_command parts = with_rule (with_chosen_rows parts (new_app (codes "archive"))) file_argument
 
 -- the program, with the commands that read files
 abbrev pub with_files : PartWords → App

@@ -8,6 +8,7 @@ pub(crate) const MORE: &str = "\
 Examples:
   elfsee show /bin/ls
   elfsee show --only symbols --names 64 /bin/ls
+  elfsee show --name main --name printf /bin/ls
   elfsee sample --only header
   elfsee find /lib/libexample.so printf
   elfsee find --gnu /lib/libexample.so printf@GLIBC_2.2.5
@@ -39,6 +40,9 @@ traits also --json, --require and --files0-from, needs also --json and those for
                 there are
   --explain     for apply only: where an address is missing, tell on standard error the type of
                 the relocation, the name of its symbol, and the item that would help
+  --name NAME   for show, archive and list only: show the rows of this name alone; at most 64 times
+  --name-list LIST
+                for show, archive and list only: show the rows of the names in LIST, one a line
   --members     for check and list only: go into archives too
   --require WORDS
                 for traits only: tell of each program and library which of these words it lacks,
@@ -64,8 +68,10 @@ Exit status:
   2  the words are wrong, or ask for help, and no file is opened: standard error tells which
      word is wrong and why, or has the help, or one of these lines:
        elfsee: words are not UTF-8
-       elfsee: bad name       NAME is empty, or longer than 4096 bytes; with --gnu also where it
-                              has an empty name or an empty version
+       elfsee: bad name       a NAME is empty, or longer than 4096 bytes; of find --gnu also where
+                              it has an empty name or an empty version
+       elfsee: too many names
+                              --name stands there more than 64 times
        elfsee: bad item       an item has another form, or its index or name is out of range
        elfsee: layout-full    there are too many items of one sort
        elfsee: layout-repeat  two items of one sort have the same INDEX or NAME
@@ -119,6 +125,15 @@ Exit status: 0 all are ok or no-elf, 1 some are refused, 3 some are unread, memo
 Examples:
   elfsee check --only header /usr/lib
   find /opt -name '*.so' -print0 | elfsee check --files0-from -";
+
+pub(crate) const SHOWN: &str = "\
+With --name or --name-list the parts are symbols alone, or the one that --only tells: symbols,
+relocs, or with --gnu versions. Of them those rows are shown whose name is one of the names.
+--names stands beside neither: as many bytes of a name are looked at as the longest NAME has.
+
+Examples:
+  elfsee show --only symbols /bin/ls
+  elfsee show --name main --name printf /bin/ls";
 
 pub(crate) const LISTED: &str = "\
 Each ELF file has a line @ with its path, and behind it the listing that 'show' writes with these

@@ -2,6 +2,7 @@
 use Rattle.std.specs.Prelude.{◌≡◌, List, codes, Option, None, Some}
 use Rattle.clap.specs.Walk.{Row, Text, first_of}
 use Rattle.elf_listing_words.specs.Options.{AreLimitOptions, AreParts, IsStyle, is_option_set}
+use Rattle.elf_words.specs.AskedNames.{AreRows}
 use Rattle.elf_words.specs.Files.{AreFiles}
 use Rattle.elf_words.specs.declared.checks.ListAsked.{ListAsked}
 
@@ -11,7 +12,7 @@ pub record IsListAsked (command : Text) (rows : List Row) (asked : ListAsked) : 
   pub files : AreFiles rows asked.files
   pub limits : AreLimitOptions rows asked.limits
   pub style : IsStyle rows asked.style
-  pub parts : AreParts rows asked.parts
+  pub shown : AreRows (AreParts rows asked.parts) rows asked.parts asked.names
   pub members : asked.members ≡ is_option_set (first_of (codes "members") rows)
 
 -- a command with the values of its arguments asks for these listings

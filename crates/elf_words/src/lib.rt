@@ -7,14 +7,17 @@ mod checks;
 mod file_words;
 mod items;
 mod list_words;
+mod name_words;
 mod names;
 mod need_words;
 mod requests;
+mod show_words;
 mod trait_words;
 mod words;
 
 pub use checks::{
-    Archiving, AskedCommand, Checking, Laying, ListAsked, ManyFiles, NeedsAsked, TraitsAsked,
+    Archiving, AskedCommand, Checking, Choosing, Laying, ListAsked, ManyFiles, NamesAsked,
+    NeedsAsked, TraitsAsked,
 };
 pub use names::{checked_name, checked_symbol};
 pub use requests::{Request, RequestFault, Task, WantedName, WantedSymbol};
