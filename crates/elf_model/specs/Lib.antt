@@ -22,6 +22,7 @@ pub mod Rows
 pub mod HeaderTables
 pub mod VersionCost
 pub mod VersionRows
+pub mod Suffixes
 pub mod TableKinds
 pub mod Report
 pub mod ListingLaws
