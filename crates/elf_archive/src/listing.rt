@@ -30,8 +30,8 @@ use elf_table::NameBuf;
 
 /// What is listed of members: how rows are shown, and which parts of a listing.
 #[derive(Clone, Copy)]
-struct Choice {
-    style: Style,
+struct Choice<'n> {
+    style: Style<'n>,
     parts: Parts,
 }
 
@@ -63,12 +63,12 @@ pub fn show_archive<S: Source, W: Sink>(
     ensures leaves { Leaves src.old src.new }
     ensures says { IfErr result (ArchiveSays src.old src.new out.new) }
     ensures text { (file : List ℕ) → src.old.seen.file ≡ Some file →
-        ReportsArchive file caps parts.0 out.old out.new result }
+        ReportsArchive file caps.entry parts.0 out.old out.new result }
     ensures cost { (file : List ℕ) → src.old.seen.file ≡ Some file →
         src.new.asked ≤ src.old.asked
-        + archive_cost file caps.limits.headers (style_of caps.style) parts.0 }
+        + archive_cost file caps.entry.limits.headers (style_of caps.entry.style) parts.0 }
     // For every source.
-    ensures asks { AsksInArchive caps src.old src.new result }
+    ensures asks { AsksInArchive caps.entry src.old src.new result }
 {
     src.limit(caps.limits.budget);
     let choice = Choice {
@@ -99,19 +99,19 @@ fn list_archive<S: Source, W: Sink>(
     ensures slots { store.new.slots ≡ store.old.slots }
     ensures grows { Grows out.old out.new }
     ensures ceiling { Consumes src.old src.new out.new result
-        (archive_ceiling src.old.seen.size store.old.slots choice.style.cap.bytes) }
+        (archive_ceiling src.old.seen.size store.old.slots choice.entry.style.cap.bytes) }
     ensures unread { (refusal : Refuses) →
         first_refusal (archive_length_checks src.old.seen.size) ≡ Some refusal →
         src.new ≡ src.old }
     ensures cost { (file : List ℕ) → src.old.seen.file ≡ Some file →
         Consumes src.old src.new out.new result
-        (archive_cost file store.old.slots (style_of choice.style) choice.parts.0) }
+        (archive_cost file store.old.slots (style_of choice.entry.style) choice.entry.parts.0) }
     ensures text { (file : List ℕ) → src.old.seen.file ≡ Some file →
         Writes out.old out.new result
-        (archive_items file store.old.slots (style_of choice.style) choice.parts.0) }
+        (archive_items file store.old.slots (style_of choice.entry.style) choice.entry.parts.0) }
     ensures refused { (file : List ℕ) → src.old.seen.file ≡ Some file →
         IfOk result (λ any. any ≡
-        any_refused file store.old.slots (style_of choice.style) choice.parts.0) }
+        any_refused file store.old.slots (style_of choice.entry.style) choice.entry.parts.0) }
 {
     magic(src)?;
     list_members(src, store, choice, out)
@@ -133,9 +133,10 @@ fn list_members<S: Source, W: Sink>(
     ensures slots { store.new.slots ≡ store.old.slots }
     ensures grows { Grows out.old out.new }
     ensures allowed { Consumes src.old src.new out.new result
-        (allowance (src.old.seen.size - 8) store.old.slots choice.style.cap.bytes) }
+        (allowance (src.old.seen.size - 8) store.old.slots choice.entry.style.cap.bytes) }
     ensures walks { (file : List ℕ) → src.old.seen.file ≡ Some file →
-        WalksMembers file store.old.slots (style_of choice.style) choice.parts.0 (length file)
+        WalksMembers file store.old.slots
+        (style_of choice.entry.style) choice.entry.parts.0 (length file)
         before_members src.old src.new out.old out.new result }
 {
     let mut cursor = MemberCursor::new();
@@ -174,18 +175,19 @@ fn list_next<S: Source, W: Sink>(
     ensures slots { store.new.slots ≡ store.old.slots }
     ensures grows { Grows out.old out.new }
     ensures stands { StandsBehind src.old.seen.size cursor.old cursor.new result }
-    ensures within { StepsWithin store.old.slots choice.style.cap.bytes cursor.old cursor.new
+    ensures within { StepsWithin store.old.slots choice.entry.style.cap.bytes cursor.old cursor.new
         src.old src.new out.new result }
     ensures cost { (file : List ℕ) → src.old.seen.file ≡ Some file →
         Consumes src.old src.new out.new result
-        (next_cost file store.old.slots (style_of choice.style) choice.parts.0 cursor.old
-        (next_member file choice.style.cap.bytes cursor.old)) }
+        (next_cost file store.old.slots
+        (style_of choice.entry.style) choice.entry.parts.0 cursor.old
+        (next_member file choice.entry.style.cap.bytes cursor.old)) }
     ensures text { (file : List ℕ) → src.old.seen.file ≡ Some file →
         Writes out.old out.new result
-        (next_items file store.old.slots (style_of choice.style) choice.parts.0
-        (next_member file choice.style.cap.bytes cursor.old)) }
+        (next_items file store.old.slots (style_of choice.entry.style) choice.entry.parts.0
+        (next_member file choice.entry.style.cap.bytes cursor.old)) }
     ensures steps { (file : List ℕ) → src.old.seen.file ≡ Some file →
-        StepsListing file store.old.slots (style_of choice.style) choice.parts.0
+        StepsListing file store.old.slots (style_of choice.entry.style) choice.entry.parts.0
         cursor.old cursor.new result }
 {
     let Some(member) = cursor.advance(src, choice.style.cap, name)? else {
@@ -214,13 +216,16 @@ fn list_member<S: Source, W: Sink>(
     ensures slots { store.new.slots ≡ store.old.slots }
     ensures grows { Grows out.old out.new }
     ensures ceiling { Consumes src.old src.new out.new result
-        (4 + ceiling extent.size store.old.slots choice.style.cap.bytes) }
+        (4 + ceiling extent.size store.old.slots choice.entry.style.cap.bytes) }
     ensures cost { (file : List ℕ) → src.old.seen.file ≡ Some file → (member : Listed) →
         member.extent ≡ extent_of extent → Consumes src.old src.new out.new result
-        (member_cost file store.old.slots (style_of choice.style) choice.parts.0 member) }
+        (member_cost file store.old.slots
+        (style_of choice.entry.style) choice.entry.parts.0 member) }
     ensures text { (file : List ℕ) → src.old.seen.file ≡ Some file → (member : Listed) →
-        member.extent ≡ extent_of extent → ListsTold choice.style.format out.old out.new result
-        (member_listing file store.old.slots (style_of choice.style) choice.parts.0 member) }
+        member.extent ≡ extent_of extent →
+        ListsTold choice.entry.style.format out.old out.new result
+        (member_listing file store.old.slots
+        (style_of choice.entry.style) choice.entry.parts.0 member) }
 {
     if choice.parts.known(choice.style.gnu).0 == 0 {
         return Ok(false);
@@ -249,15 +254,15 @@ fn list_range<S: Source, W: Sink>(
     ensures slots { store.new.slots ≡ store.old.slots }
     ensures grows { Grows out.old out.new }
     ensures ceiling { Consumes src.old src.new out.new result
-        (ceiling extent.size store.old.slots choice.style.cap.bytes) }
+        (ceiling extent.size store.old.slots choice.entry.style.cap.bytes) }
     ensures cost { (file : List ℕ) → src.old.seen.file ≡ Some file →
         Consumes src.old src.new out.new result
         (listing_cost (bytes_in file (extent_of extent)) store.old.slots
-        (style_of choice.style) choice.parts.0) }
+        (style_of choice.entry.style) choice.entry.parts.0) }
     ensures text { (file : List ℕ) → src.old.seen.file ≡ Some file →
-        ListsTold choice.style.format out.old out.new result
+        ListsTold choice.entry.style.format out.old out.new result
         (listing (bytes_in file (extent_of extent))
-        store.old.slots (style_of choice.style) choice.parts.0) }
+        store.old.slots (style_of choice.entry.style) choice.entry.parts.0) }
 {
     src.narrow(extent.at, extent.size);
     let listed = list(src, store, choice.style, choice.parts, out);

@@ -5,6 +5,7 @@ use Rattle.elf_model.specs.Archive.{archive, archive_items, is_elf, is_name_tabl
 use Rattle.elf_model.specs.ArchiveCost.{IsArchiveBudgeted, any_refused, archive_ceiling, archive_cost}
 use Rattle.elf_model.specs.Bytes.{little}
 use Rattle.elf_model.specs.Budget.{IsBudget}
+use Rattle.elf_model.specs.Choice.{EveryRow}
 use Rattle.elf_model.specs.Lines.{refusal_line}
 use Rattle.elf_model.specs.Listing.{ALL, HEADER, SECTIONS, SYMBOLS, VERSIONS, report_of}
 use Rattle.elf_model.specs.Report.{report}
@@ -72,12 +73,12 @@ of_one content = archive_of (member (codes "a.o/") content)
 abbrev pub StylesAreTheMembers : Type 0
 StylesAreTheMembers =
     (report_of Columns
-    (archive_items (of_one (with_bytes 0xbc (little 4 0x6ffffff6) one_symbol_table)) 3 (record { cap = 63; gnu = true; by_segments = false; format = Columns }) SECTIONS)
+    (archive_items (of_one (with_bytes 0xbc (little 4 0x6ffffff6) one_symbol_table)) 3 (record { cap = 63; gnu = true; by_segments = false; format = Columns; choice = EveryRow }) SECTIONS)
     ≡ codes "A     0 0000000000000044 0000000000000138 a.o\n"
     ++ codes "S     0 NULL                       0000000000000000 0000000000000000 0000000000000000 00000000 00000000 \n"
     ++ codes "S     1 GNU_HASH                   0000000000000000 0000000000000040 0000000000000030 00000002 00000001 \n"
     ++ codes "S     2 STRTAB                     0000000000000000 0000000000000070 0000000000000006 00000000 00000000 \n")
-    × (report_of Columns (archive_items (of_one one_symbol_table) 3 (record { cap = 63; gnu = false; by_segments = true; format = Columns }) SYMBOLS)
+    × (report_of Columns (archive_items (of_one one_symbol_table) 3 (record { cap = 63; gnu = false; by_segments = true; format = Columns; choice = EveryRow }) SYMBOLS)
     ≡ codes "A     0 0000000000000044 0000000000000138 a.o\n")
 
 -- as many headers as are permitted are a member's too

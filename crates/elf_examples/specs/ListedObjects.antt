@@ -1,6 +1,7 @@
 -- Lines as JSON objects.
 use Rattle.std.specs.Prelude.{ℕ, ◌^◌, ◌≡◌, true, false, List, [], ◌∷◌, ◌++◌, codes}
 use Rattle.elf_model.specs.Archive.{member_front}
+use Rattle.elf_model.specs.Choice.{EveryRow}
 use Rattle.elf_model.specs.Checking.{check_line, unnamed_line}
 use Rattle.elf_model.specs.Fixtures.{one_symbol_table}
 use Rattle.elf_model.specs.LineFronts.{dynamic_front, note_front, relocation_front, section_front, symbol_front}
@@ -18,7 +19,7 @@ use Rattle.elf_model.specs.declared.versions.VersionKind.TheVariants.{Definition
 
 -- objects, with so many bytes of a name
 abbrev pub objects : ℕ → Style
-objects cap = record { cap = cap; gnu = false; by_segments = false; format = Object }
+objects cap = record { cap = cap; gnu = false; by_segments = false; format = Object; choice = EveryRow }
 
 -- a whole listing: the file header, the section headers and the symbols
 abbrev pub ObjectsOfAFile : Type 0

@@ -2,6 +2,7 @@
 use Rattle.std.specs.Prelude.{◌≡◌, ℕ, ◌+◌, ◌-◌, ◌^◌, true, false, List, [], ◌++◌, None, codes}
 use Rattle.elf_model.specs.declared.formats.Format.TheVariants.{Columns}
 use Rattle.elf_model.specs.Bytes.{little}
+use Rattle.elf_model.specs.Choice.{EveryRow}
 use Rattle.elf_model.specs.Cost.{listing_cost}
 use Rattle.elf_model.specs.Listing.{report_of, fault_of, HEADER, SECTIONS, SEGMENTS, SYMBOLS, NOTES, DYNAMIC, ALL}
 use Rattle.elf_model.specs.Report.{report, listing}
@@ -11,7 +12,7 @@ use Rattle.elf_model.specs.FixturesTables.{program_header}
 use Rattle.elf_model.specs.FixturesSegments.{object, object_with}
 
 abbrev by_segments : Style
-by_segments = record { cap = 63; gnu = false; by_segments = true; format = Columns }
+by_segments = record { cap = 63; gnu = false; by_segments = true; format = Columns; choice = EveryRow }
 
 -- a segment that is loaded at an address, of so many bytes in memory, with none of them in the file
 abbrev load : (address size : ℕ) → List ℕ

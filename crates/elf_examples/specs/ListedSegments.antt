@@ -2,6 +2,7 @@
 use Rattle.std.specs.Prelude.{◌≡◌, ℕ, ◌+◌, ◌-◌, ◌*◌, ◌^◌, true, false, List, [], ◌∷◌, ◌++◌, codes, take}
 use Rattle.elf_model.specs.declared.formats.Format.TheVariants.{Columns}
 use Rattle.elf_model.specs.Bytes.{little}
+use Rattle.elf_model.specs.Choice.{EveryRow}
 use Rattle.elf_model.specs.Cost.{cost, listing_cost, ceiling}
 use Rattle.elf_model.specs.Listing.{report_of, SEGMENTS, SYMBOLS, NOTES, DYNAMIC, ALL}
 use Rattle.elf_model.specs.Report.{report, listing}
@@ -333,7 +334,7 @@ abbrev hidden : List ℕ
 hidden = with_bytes 0x28 (little 8 0x1000) (with_bytes 0x3c (little 2 3 ++ little 2 7) library_without_sections)
 
 abbrev by_segments : Style
-by_segments = record { cap = 63; gnu = false; by_segments = true; format = Columns }
+by_segments = record { cap = 63; gnu = false; by_segments = true; format = Columns; choice = EveryRow }
 
 abbrev pub SegmentsDespiteSections : Type 0
 SegmentsDespiteSections =

@@ -1,4 +1,5 @@
 pub mod ListedVersions
+pub mod ListedChoices
 pub mod LoaderWords
 pub mod ExamplesLoader
 pub mod ExamplesChains

@@ -3,6 +3,7 @@ use Rattle.std.specs.Prelude.{◌≡◌, ℕ, ◌+◌, ◌-◌, ◌==◌, List, 
 use Rattle.std.specs.List.{concat}
 use Rattle.elf_model.specs.declared.formats.Format.TheVariants.{Columns}
 use Rattle.elf_model.specs.Bytes.{little}
+use Rattle.elf_model.specs.Choice.{EveryRow}
 use Rattle.elf_model.specs.Cost.{cost, listing_cost}
 use Rattle.elf_model.specs.Fixtures.{with_bytes}
 use Rattle.elf_model.specs.FixturesTables.{one_table}
@@ -13,7 +14,7 @@ use Rattle.elf_model.specs.Style.{Style, standard}
 
 -- how rows are shown here: 63 bytes of a name, and the names of the GNU system's numbers
 abbrev pub standard_style : Style
-standard_style = record { cap = 63; gnu = true; by_segments = false; format = Columns }
+standard_style = record { cap = 63; gnu = true; by_segments = false; format = Columns; choice = EveryRow }
 
 -- the listing of some parts of a file, with eight headers permitted, and of its symbol versions alone
 unfoldable pub parts_listed : ℕ → List ℕ → List ℕ

@@ -4,6 +4,7 @@
 
 mod before_rows;
 mod chain_rows;
+mod choice_rows;
 mod hash_rows;
 mod library_rows;
 mod listed_versions;

@@ -5,10 +5,11 @@ use Rattle.elf_headers.specs.declared.caps.Cap.{Cap}
 use Rattle.elf_headers.specs.declared.caps.Caps.{Caps}
 use Rattle.elf_headers.specs.declared.caps.Limits.{Limits}
 use Rattle.elf_headers.specs.declared.caps.Style.{Style}
+use Rattle.elf_wanted.specs.Chosen.{choice_of}
 
 -- a style as the definitions of listings have it
 abbrev pub style_of : Style → Styled
-style_of style = record { cap = style.cap.bytes; gnu = style.gnu; by_segments = style.by_segments; format = style.format }
+style_of style = record { cap = style.cap.bytes; gnu = style.gnu; by_segments = style.by_segments; format = style.format; choice = choice_of style.choice }
 
 -- how many headers may be permitted
 abbrev pub AreHeaders : ℕ → Type 0

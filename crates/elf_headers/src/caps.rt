@@ -2,6 +2,7 @@
 ghost use Rattle.std.specs.Prelude.{◌≤◌};
 
 use elf_model::Format;
+use elf_wanted::RowChoice;
 
 /// The most headers that may be permitted.
 const MOST_HEADERS: u16 = 65_279;
@@ -32,9 +33,10 @@ impl Cap {
 }
 
 /// How rows are shown: how many bytes of a name, whether numbers of the GNU system have names beside
-/// those of the standards, by which headers tables are found, and how a line is written.
+/// those of the standards, by which headers tables are found, how a line is written, and which rows
+/// that end in the name of a symbol or of a version are shown.
 #[derive(Clone, Copy)]
-pub struct Style {
+pub struct Style<'n> {
     /// How many bytes of a name are shown.
     pub cap: Cap,
     /// Whether numbers of the GNU system have names.
@@ -43,16 +45,18 @@ pub struct Style {
     pub by_segments: bool,
     /// How a line is written.
     pub format: Format,
+    /// Which rows that end in the name of a symbol or of a version are shown.
+    pub choice: RowChoice<'n>,
 }
 
-impl Style {
+impl Style<'_> {
     ghost use Rattle.std.specs.Prelude.{◌≡◌};
     ghost use Rattle.elf_model.specs.Style.{standard};
     ghost use Rattle.elf_headers.specs.Permitted.{style_of};
 
     /// So many bytes of a name, the names of the standards alone, tables found by the section headers
-    /// where there are some, and lines in columns.
-    pub fn standard(cap: Cap) -> Style
+    /// where there are some, lines in columns, and every row.
+    pub fn standard(cap: Cap) -> Style<'static>
         ensures same { result.cap ≡ cap }
         ensures style { style_of result ≡ standard cap.bytes }
     {
@@ -61,6 +65,7 @@ impl Style {
             gnu: false,
             by_segments: false,
             format: Format::Columns,
+            choice: RowChoice::every_row(),
         }
     }
 }
@@ -94,20 +99,20 @@ impl Limits {
 
 /// The caps of a listing: the limits on what is read of its file, and how its rows are shown.
 #[derive(Clone, Copy)]
-pub struct Caps {
+pub struct Caps<'n> {
     /// The limits on what is read.
     pub limits: Limits,
     /// How rows are shown.
-    pub style: Style,
+    pub style: Style<'n>,
 }
 
-impl Caps {
+impl<'n> Caps<'n> {
     ghost use Rattle.std.specs.Prelude.{◌≡◌, Some};
     ghost use Rattle.elf_headers.specs.Permitted.{Permits};
 
     /// The caps of 1 to 65,279 headers and 1 to 4,096 bytes of a name, in the standards' names, with
     /// no limit on what is read; None for other numbers.
-    pub fn new(headers: u16, name: u16) -> Option<Caps>
+    pub fn new(headers: u16, name: u16) -> Option<Caps<'static>>
         ensures { Permits headers name result }
     {
         let limits = Limits::new(headers, None)?;
@@ -116,9 +121,9 @@ impl Caps {
     }
 
     /// The same caps with a read budget: so many bytes may be read, and no more.
-    pub fn with_budget(self, bytes: u64) -> Caps
-        ensures headers { result.limits.headers ≡ self.limits.headers }
-        ensures style { result.style ≡ self.style }
+    pub fn with_budget(self, bytes: u64) -> Caps<'n>
+        ensures headers { result.limits.headers ≡ self.entry.limits.headers }
+        ensures style { result.style ≡ self.entry.style }
         ensures budget { result.limits.budget ≡ Some bytes }
     {
         Caps {

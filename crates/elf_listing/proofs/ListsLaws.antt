@@ -3,7 +3,7 @@ use Rattle.std.proofs.Common.{ℕ, ◌≤◌, Result, Ok, Err, refl, ◌∙◌, 
 use Rattle.elf_source.specs.declared.source.Source.{Ghosts as Sources}
 use Rattle.elf_source.specs.declared.sink.Sink.{Ghosts as Sinks}
 use Rattle.elf_source.proofs.GrowthLaws.{grows_not}
-use Rattle.elf_names.proofs.SpendsLaws.{Spends-none}
+use Rattle.elf_names.proofs.SpendsLaws.{Spends-none, Spends-to}
 use Rattle.elf_headers.specs.Faults.{IsOfCheck}
 use Rattle.elf_headers.specs.declared.fault.Fault.{Fault}
 use Rattle.elf_headers.specs.declared.fault.Fault.TheVariants.{Refused, Source}
@@ -54,6 +54,16 @@ Lists-unread a b fault n k shown within p is = record {
   grows = rw p.1 (grows_not _);
   keeps = p.0;
   spent = Spent-failed _ _ _ _ _ _ _ _ within p.2 p.3;
+  shows = is;
+}
+
+-- a name was read, and its row is not shown
+pub Lists-hidden : {S W X : Type 0} {s : Sources S} {w : Sinks W} (a b : Listing S W s w) (x : X) (n k : ℕ) (shown : Type 0)
+    → n ≤ k → Fetches a b (Ok Whole) n → shown → Lists a b (Ok x) k shown
+Lists-hidden a b x n k shown within p is = record {
+  grows = rw p.1 (grows_not _);
+  keeps = p.0;
+  spent = (Spends-to p.2 (let q = p.2 in omega (arith, within, q.account)), tt);
   shows = is;
 }
 

@@ -4,7 +4,7 @@ use Rattle.elf_model.specs.Bytes.{field, slice}
 use Rattle.elf_model.specs.Fields.{LineFront}
 use Rattle.elf_model.specs.Listing.{ListingItem}
 use Rattle.elf_model.specs.Records.{versym}
-use Rattle.elf_model.specs.Rows.{named_row}
+use Rattle.elf_model.specs.Rows.{chosen_row}
 use Rattle.elf_model.specs.Style.{Style}
 use Rattle.elf_model.specs.VersionRows.{symbol_version_front}
 use Rattle.elf_model.specs.Versions.{number_in}
@@ -19,6 +19,6 @@ word_is file bytes at word is read = read ∙ ap (λ (b : List ℕ). field b 0 2
 -- the row of an entry
 pub told_is : (file : List ℕ) (style : Style) (numbered : Numbered) (section at index word : ℕ) (front : LineFront) → word ≡ versym file at
     → front ≡ symbol_version_front style.format section index word
-    → told_row file style numbered section at index ≡ named_row front at (version_told numbered file style.cap (number_in word))
+    → told_row file style numbered section at index ≡ chosen_row style.choice front at (version_told numbered file style.cap (number_in word))
 unfolding told_row
 told_is file style numbered section at index word front is same = rw (same, is) refl

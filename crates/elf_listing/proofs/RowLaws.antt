@@ -1,7 +1,8 @@
 -- The items of one row, by the line that was put.
 use Rattle.elf_model.specs.Style.{Style}
-use Rattle.std.proofs.Common.{◌≡◌, ℕ, ◌+◌, ◌*◌, List, [], ◌∷◌, Result, Ok, Err, refl, sym, ap, ◌∙◌, subst, arith, append-nil}
+use Rattle.std.proofs.Common.{◌≡◌, ℕ, ◌+◌, ◌*◌, List, [], ◌∷◌, Bool, true, false, Result, Ok, Err, refl, sym, ap, ◌∙◌, subst, arith, append-nil}
 use Rattle.elf_model.specs.Budget.{IsBudget}
+use Rattle.elf_model.specs.Choice.{RowChoice, NoSuffix, chooses}
 use Rattle.elf_model.specs.Records.{e_phoff, segment_at, section_at, sh_offset, st_name, e_machine, r_sym}
 use Rattle.elf_model.specs.Names.{Shown, shown}
 use Rattle.elf_model.specs.Tables.{strings_of, entry_at}
@@ -9,14 +10,16 @@ use Rattle.elf_model.specs.LineFronts.{symbol_front, relocation_front}
 use Rattle.elf_model.specs.Lines.{segment_line, named_line}
 use Rattle.elf_model.specs.Listing.{ListingItem, Line, Fault as FaultItem, lines_of}
 use Rattle.elf_model.specs.Fields.{LineFront}
-use Rattle.elf_model.specs.Rows.{segment_row, symbol_row, named_row, symbol_named, relocation_row}
+use Rattle.elf_model.specs.Rows.{segment_row, symbol_row, chosen_row, named_row, symbol_named, relocation_row}
 use Rattle.elf_model.specs.declared.causes.Refusal.{Refusal}
 use Rattle.elf_model.specs.declared.causes.Cause.{Cause}
 use Rattle.elf_fields.specs.Named.{shown_as}
 use Rattle.elf_source.specs.Output.{Written, Takes, TakesFront}
 use Rattle.elf_source.proofs.PutsLaws.{Takes-nothing}
 use Rattle.elf_headers.specs.Faults.{IsOfRead}
-use Rattle.elf_table.specs.NamesRead.{NameRead}
+use Rattle.elf_table.specs.NamesRead.{NameRead, shown_by}
+use Rattle.elf_headers.specs.declared.caps.Style.{Style as Shape}
+use Rattle.elf_wanted.specs.Chosen.{choice_of}
 use Rattle.elf_headers.specs.declared.fault.Fault.{Fault}
 use Rattle.elf_headers.specs.declared.fault.Fault.TheVariants.{Refused, Source}
 use Rattle.elf_table.specs.declared.names.NameEnd.{NameEnd}
@@ -55,6 +58,31 @@ pub Stopped-unread-first : (a : Written) (fault : Fault) (all : List ListingItem
 Stopped-unread-first a (Refused refusal) all read = Ends-first a refusal all (λ other. absurd (other read))
 Stopped-unread-first a (Source fault at) all read = Front-none a all
 
+-- the row of a name is its line where it is shown, else nothing
+pub chosen-shown : (choice : RowChoice) (front : LineFront) (at : ℕ) (end : NameEnd) (name : List ℕ) (answer : Result Shown Cause) → NameRead at (Ok end) name answer
+    → chooses choice (shown_by end name) NoSuffix ≡ true → chosen_row choice front at answer ≡ named_row front at answer
+chosen-shown choice front at NameWhole name answer read is = rw read (rw is refl)
+chosen-shown choice front at NameCut name answer read is = rw read (rw is refl)
+
+pub chosen-hidden : (choice : RowChoice) (front : LineFront) (at : ℕ) (end : NameEnd) (name : List ℕ) (answer : Result Shown Cause) → NameRead at (Ok end) name answer
+    → chooses choice (shown_by end name) NoSuffix ≡ false → chosen_row choice front at answer ≡ []
+chosen-hidden choice front at NameWhole name answer read is = rw read (rw is refl)
+chosen-hidden choice front at NameCut name answer read is = rw read (rw is refl)
+
+-- what was answered of a name, in a style that is the same
+pub chosen-as : (style now : Shape) (name : Shown) (answer b : Bool) → now ≡ style → answer ≡ chooses (choice_of now.choice) name NoSuffix → answer ≡ b
+    → chooses (choice_of style.choice) name NoSuffix ≡ b
+chosen-as style now name answer b same is shows = rw (← same) (sym is ∙ shows)
+
+-- a name that could not be read for a row
+pub Stopped-chosen : (a : Written) (choice : RowChoice) (front : LineFront) (at : ℕ) (fault : Fault) (name : List ℕ) (answer : Result Shown Cause) → NameRead at (Err fault) name answer
+    → Stopped a a (stop_of fault) (chosen_row choice front at answer)
+Stopped-chosen a choice front at (Refused refusal) name answer read =
+    Ends-first a refusal (chosen_row choice front at answer) (λ other.
+    let is = read other in
+    ap (chosen_row choice front at) is.1 ∙ ap (λ (place : ℕ). FaultItem (record { at = place; cause = refusal.cause }) ∷ []) (sym is.0))
+Stopped-chosen a choice front at (Source fault offset) name answer read = Front-none a (chosen_row choice front at answer)
+
 -- a name that could not be read
 pub Stopped-name : (a : Written) (front : LineFront) (at : ℕ) (fault : Fault) (name : List ℕ) (answer : Result Shown Cause) → NameRead at (Err fault) name answer
     → Stopped a a (stop_of fault) (named_row front at answer)
@@ -75,22 +103,22 @@ segment_is file line style at index same here =
 -- a symbol's row at its place
 pub symbol_is : (file : List ℕ) (style : Style) (section index at : ℕ) (front : LineFront) (table : List ℕ) (off : ℕ) → front ≡ symbol_front style.format style.gnu (e_machine file) file at section index
     → table ≡ strings_of file (section_at file section) → off ≡ st_name file at → at ≡ sh_offset file (section_at file section) + index * 24
-    → symbol_row file style section (section_at file section) index ≡ named_row front at (shown table off style.cap)
+    → symbol_row file style section (section_at file section) index ≡ chosen_row style.choice front at (shown table off style.cap)
 unfolding symbol_row
 symbol_is file style section index at front table off same_front same_table same_name here =
     let place : at ≡ entry_at file (section_at file section) 24 index = omega arith in
-    sym (ap (λ text. named_row text at (shown table off style.cap)) same_front
-    ∙ (ap (λ names. named_row (symbol_front style.format style.gnu (e_machine file) file at section index) at (shown names off style.cap)) same_table
-    ∙ (ap (λ name. named_row (symbol_front style.format style.gnu (e_machine file) file at section index) at (shown (strings_of file (section_at file section)) name style.cap)) same_name
-    ∙ ap (λ p. named_row (symbol_front style.format style.gnu (e_machine file) file p section index) p (shown (strings_of file (section_at file section)) (st_name file p) style.cap)) place)))
+    sym (ap (λ text. chosen_row style.choice text at (shown table off style.cap)) same_front
+    ∙ (ap (λ names. chosen_row style.choice (symbol_front style.format style.gnu (e_machine file) file at section index) at (shown names off style.cap)) same_table
+    ∙ (ap (λ name. chosen_row style.choice (symbol_front style.format style.gnu (e_machine file) file at section index) at (shown (strings_of file (section_at file section)) name style.cap)) same_name
+    ∙ ap (λ p. chosen_row style.choice (symbol_front style.format style.gnu (e_machine file) file p section index) p (shown (strings_of file (section_at file section)) (st_name file p) style.cap)) place)))
 
 -- a relocation entry's row at its place
 pub relocation_is : (file : List ℕ) (front : LineFront) (style : Style) (section at entry symbol index : ℕ) → entry ≡ sh_offset file at + index * 24
     → front ≡ relocation_front style.format style.gnu (e_machine file) file entry section → symbol ≡ r_sym file entry
-    → relocation_row file style section at index ≡ named_row front (symbol_named file style.cap at entry symbol).0 (symbol_named file style.cap at entry symbol).1
+    → relocation_row file style section at index ≡ chosen_row style.choice front (symbol_named file style.cap at entry symbol).0 (symbol_named file style.cap at entry symbol).1
 unfolding relocation_row
 relocation_is file front style section at entry symbol index here same names =
     let place : entry ≡ entry_at file at 24 index = omega arith in
-    let row : LineFront → ℕ → ℕ → List ListingItem = λ text e k. named_row text (symbol_named file style.cap at e k).0 (symbol_named file style.cap at e k).1 in
+    let row : LineFront → ℕ → ℕ → List ListingItem = λ text e k. chosen_row style.choice text (symbol_named file style.cap at e k).0 (symbol_named file style.cap at e k).1 in
     sym (ap (λ text. row text entry symbol) same ∙ (ap (λ k. row (relocation_front style.format style.gnu (e_machine file) file entry section) entry k) names
     ∙ ap (λ e. row (relocation_front style.format style.gnu (e_machine file) file e section) e (r_sym file e)) place))

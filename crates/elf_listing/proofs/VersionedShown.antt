@@ -5,6 +5,7 @@ use Rattle.std.proofs.lemmas.List.Elements.{All-nil}
 use Rattle.std.specs.Prelude.{All}
 use Rattle.std.specs.Prelude.{is_none}
 use Rattle.std.specs.Result.{is_ok}
+use Rattle.elf_model.specs.Choice.{RowChoice}
 use Rattle.elf_model.specs.Checks.{first_refusal, pass, table_checks_of}
 use Rattle.elf_model.specs.Cost.{cost_where, table_cost}
 use Rattle.elf_model.specs.HeaderTables.{HeaderTable, TableKind, file_sections, first_typed, header_field}
@@ -14,7 +15,7 @@ use Rattle.elf_model.specs.Numbers.{SHT_GNU_VERDEF, SHT_GNU_VERNEED}
 use Rattle.elf_model.specs.Records.{e_shnum, sh_offset, sh_size, sh_type, section_at, versym}
 use Rattle.elf_model.specs.Report.{kinds_rows, table_rows}
 use Rattle.elf_model.specs.Fields.{LineFront}
-use Rattle.elf_model.specs.Rows.{named_row, refused_row}
+use Rattle.elf_model.specs.Rows.{chosen_row, refused_row}
 use Rattle.elf_model.specs.Style.{Style}
 use Rattle.elf_model.specs.Tables.{all_checks, entry_count, strings_of}
 use Rattle.elf_model.specs.VersionCost.{has_symbol_table, versioned_cost, versioned_rows, walk_cost, walks_cost, is_inside}
@@ -89,9 +90,9 @@ needs-whole file style h = λ i first.
     section-whole File version_needs file style i (section_at file i) there.0 refl row
 
 -- a name that is shown makes one row, wherever its fault would be
-shown-anywhere : (front : LineFront) (at other : ℕ) (name : Result Shown Cause) → is_ok name ≡ true → named_row front at name ≡ named_row front other name
-shown-anywhere front at other (Ok name) h = refl
-shown-anywhere front at other (Err cause) h = cc
+shown-anywhere : (choice : RowChoice) (front : LineFront) (at other : ℕ) (name : Result Shown Cause) → is_ok name ≡ true → chosen_row choice front at name ≡ chosen_row choice front other name
+shown-anywhere choice front at other (Ok name) h = refl
+shown-anywhere choice front at other (Err cause) h = cc
 
 -- all records of the first section of a type are of one kind
 first-kinds : (kind : VersionKind) (type : ℕ) (file : List ℕ) → All (λ (m : Met). IsDefinition m.kind ≡ IsDefinition kind) (first_versions kind type file)
@@ -141,10 +142,10 @@ module _ (file : List ℕ) (style : Style) (numbered : Numbered) (are : AreNumbe
   abbrev listed : Option Met → List ListingItem
   listed named = elim named [
     | None ↦ refused_row entry VersionIndex
-    | Some met ↦ named_row front (named_at file met) (shown (version_strings file met.kind) (name_index file met) style.cap)
+    | Some met ↦ chosen_row style.choice front (named_at file met) (shown (version_strings file met.kind) (name_index file met) style.cap)
   ]
 
-  by_name : (few : nat_lt number 2 ≡ false) (named : Option Met) → named_by file number all ≡ named → (name : NameAt) → IsNameOfRecord file named name → named_row front entry (told name) ≡ listed named
+  by_name : (few : nat_lt number 2 ≡ false) (named : Option Met) → named_by file number all ≡ named → (name : NameAt) → IsNameOfRecord file named name → chosen_row style.choice front entry (told name) ≡ listed named
   unfolding all version_named version_of
   by_name few None is Nowhere fits = refl
   by_name few None is (Defined index) fits = absurd fits
@@ -154,14 +155,14 @@ module _ (file : List ℕ) (style : Style) (numbered : Numbered) (are : AreNumbe
       let strings : strings_in file numbered.defined ≡ version_strings file met.kind =
       are.defined (some-definitions file number (first_versions Definition SHT_GNU_VERDEF file) met is fits.0) ∙ sym (strings-defined file met.kind fits.0) in
       let ok = names_are_shown file style number met no_fault (rw few is) in
-      rw (strings, fits.1) (shown-anywhere front entry (named_at file met) _ ok)
+      rw (strings, fits.1) (shown-anywhere style.choice front entry (named_at file met) _ ok)
   by_name few (Some met) is (Needed index) fits =
       let strings : strings_in file numbered.needed ≡ version_strings file met.kind =
       are.needed (some-needs file number (first_versions File SHT_GNU_VERNEED file) met is fits.0) ∙ sym (strings-needed file met.kind fits.0) in
       let ok = names_are_shown file style number met no_fault (rw few is) in
-      rw (strings, fits.1) (shown-anywhere front entry (named_at file met) _ ok)
+      rw (strings, fits.1) (shown-anywhere style.choice front entry (named_at file met) _ ok)
 
-  pub number-is : named_row front entry (version_told numbered file style.cap number) ≡ numbered_row file style front entry number
+  pub number-is : chosen_row style.choice front entry (version_told numbered file style.cap number) ≡ numbered_row file style front entry number
   unfolding version_told numbered_row version_named version_of all
   number-is = elim (cases_Bool (nat_lt number 2)) [
     | inl few ↦ rw few refl

@@ -1,7 +1,7 @@
 -- The rows of symbol versions, by what is left of a walk over their records.
 use Rattle.std.proofs.Common.{◌≡◌, ℕ, ◌+◌, ◌-◌, ◌*◌, ◌≤◌, List, [], ◌∷◌, ◌++◌, Option, None, Some, Ok, Err, refl, sym, ap, ◌∙◌, append_assoc, append-nil, arith}
 use Rattle.elf_model.specs.Listing.{ListingItem, Fault as FaultItem}
-use Rattle.elf_model.specs.Rows.{named_row}
+use Rattle.elf_model.specs.Rows.{chosen_row}
 use Rattle.elf_model.specs.Names.{Shown, shown}
 use Rattle.elf_model.specs.Style.{Style}
 use Rattle.elf_model.specs.VersionRows.{end_rows, met_rows, version_front, version_row}
@@ -27,7 +27,7 @@ use Rattle.elf_listing.proofs.NotesShown.{before_more, before_stopped}
 -- the row of a record as it is given
 pub record_is : (file : List ℕ) (style : Style) (section : ℕ) (strings : List ℕ) (met : Met) (given : VersionRecord) → IsVersion file met given
     → version_row file style section strings met
-    ≡ named_row (version_front style.format given.kind section given.number given.flags given.hash) given.named_at (shown strings given.name style.cap)
+    ≡ chosen_row style.choice (version_front style.format given.kind section given.number given.flags given.hash) given.named_at (shown strings given.name style.cap)
 unfolding version_row
 record_is file style section strings met given is =
     let kind = is.kind in

@@ -1,5 +1,5 @@
 -- Program headers that are loaded stay those of a source that is read, and are checked where a style goes by them.
-use Rattle.std.proofs.Common.{◌≡◌, ℕ, ◌==◌, ◌&&◌, ◌||◌, not, Bool, true, false, List, [], None, if◌then◌else◌, refl, ap, ◌∙◌, sym, eq-eqb}
+use Rattle.std.proofs.Common.{◌≡◌, ℕ, ◌==◌, ◌&&◌, ◌||◌, Bool, true, false, List, [], None, if◌then◌else◌, refl, ap, ◌∙◌, sym, eq-eqb}
 use Rattle.elf_model.specs.Checks.{first_refusal}
 use Rattle.elf_model.specs.Cost.{needs_segments}
 use Rattle.elf_model.specs.Listing.{has, SEGMENTS, NOTES, DYNAMIC}
@@ -16,7 +16,7 @@ pub still_viewed : {a b : Counting} {n : ℕ} (loaded : Opened) (store : Stored)
 still_viewed loaded store p viewed = record { all = viewed.all; held = λ file is. viewed.held file (sym p.keeps.same_file ∙ is) }
 
 -- a style does not go by them
-pub not_by : (by : Bool) → not by ≡ true → by ≡ true → ⊥
+pub not_by : (by : Bool) → by ≡ false → by ≡ true → ⊥
 not_by true n b = cc
 not_by false n b = cc
 

@@ -3,7 +3,7 @@ use Rattle.std.specs.Prelude.{ℕ, ◌≡◌, nat_lt, if◌then◌else◌, List,
 use Rattle.elf_model.specs.Listing.{ListingItem}
 use Rattle.elf_model.specs.Names.{Shown, name_bytes, shown}
 use Rattle.elf_model.specs.Records.{versym}
-use Rattle.elf_model.specs.Rows.{named_row, no_name}
+use Rattle.elf_model.specs.Rows.{chosen_row, no_name}
 use Rattle.elf_model.specs.Style.{Style}
 use Rattle.elf_model.specs.VersionRows.{symbol_version_front}
 use Rattle.elf_model.specs.Versions.{number_in}
@@ -39,7 +39,7 @@ version_told numbered file cap number =
 unfoldable pub told_row : List ℕ → Style → Numbered → (section entry_at index : ℕ) → List ListingItem
 told_row file style numbered section entry_at index =
     let word = versym file entry_at in
-    named_row (symbol_version_front style.format section index word) entry_at (version_told numbered file style.cap (number_in word))
+    chosen_row style.choice (symbol_version_front style.format section index word) entry_at (version_told numbered file style.cap (number_in word))
 
 -- what a call did that reads the name of a number, for the entry at an offset
 pub record FetchesVersion {S W : Type 0} {s : Sources S} {w : Sinks W} (old new : Listing S W s w) (result : Result NameEnd Fault) (numbered : Numbered) (number at : ℕ) : Type 0 where

@@ -34,7 +34,7 @@ pub enum EntryStrings<'f> {
     },
 }
 
-impl<S: Source, W: Sink> Listing<'_, '_, '_, S, W> {
+impl<S: Source, W: Sink> Listing<'_, '_, '_, '_, S, W> {
     /// Shows the row of a dynamic entry: its `D` line with its string, or the refusal of the string
     /// table or of the string.
     pub(crate) fn dynamic_row<R: Render>(

@@ -9,7 +9,7 @@ use crate::parts::Part;
 use elf_headers::Stop;
 use elf_source::{Sink, Source};
 
-impl<S: Source, W: Sink> Listing<'_, '_, '_, S, W> {
+impl<S: Source, W: Sink> Listing<'_, '_, '_, '_, S, W> {
     /// Shows a part of each header in the order of the headers, up to the first that is refused.
     pub(crate) fn headers(&mut self, part: Part) -> Result<(), Stop>
         requires { Awaits part self.old.src.now.seen.file (style_of self.old.style) }

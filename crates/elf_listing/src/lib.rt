@@ -2,6 +2,7 @@
 #![tactic(auto)]
 
 mod buffers;
+mod choosing;
 mod dynamic_row;
 mod headers;
 mod listing;

@@ -15,7 +15,7 @@ use elf_table::{File, NameBuf};
 /// shown, a buffer for a name, and the names and symbols that were read ahead. What shows
 /// a part of the file is a method.
 #[derive(Drop)]
-pub struct Listing<'s, 'o, 'f, S: Source, W: Sink> {
+pub struct Listing<'s, 'o, 'f, 'n, S: Source, W: Sink> {
     /// The source that is read.
     pub src: &'s mut Counted<S>,
     /// The output that is written.
@@ -23,7 +23,7 @@ pub struct Listing<'s, 'o, 'f, S: Source, W: Sink> {
     /// The file that was loaded.
     pub file: File<'f>,
     /// How rows are shown.
-    pub style: Style,
+    pub style: Style<'n>,
     /// The last name that was read.
     pub name: NameBuf,
     /// The names and symbols that were read ahead.
@@ -33,7 +33,7 @@ pub struct Listing<'s, 'o, 'f, S: Source, W: Sink> {
     pub ghost held: { AgreesWith src.now.seen.file ahead },
 }
 
-impl<S: Source, W: Sink> Listing<'_, '_, '_, S, W> {
+impl<S: Source, W: Sink> Listing<'_, '_, '_, '_, S, W> {
     /// How numbers are named in the file's lines.
     pub(crate) fn naming(&self) -> NumberNaming
         ensures gnu { result.gnu ≡ self.now.style.gnu }

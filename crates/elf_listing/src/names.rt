@@ -9,7 +9,7 @@ use elf_names::NameIndex;
 use elf_source::{Sink, Source};
 use elf_table::{NameEnd, Names};
 
-impl<S: Source, W: Sink> Listing<'_, '_, '_, S, W> {
+impl<S: Source, W: Sink> Listing<'_, '_, '_, '_, S, W> {
     /// Reads the name at an index of a string table into the listing's buffer (gABI 4, String
     /// Table).
     ///

@@ -12,7 +12,7 @@ use elf_note::{NoteCursor, NoteRow};
 use elf_source::{Sink, Source};
 use elf_table::Table;
 
-impl<S: Source, W: Sink> Listing<'_, '_, '_, S, W> {
+impl<S: Source, W: Sink> Listing<'_, '_, '_, '_, S, W> {
     /// Shows the notes of a table of single bytes, an `N` line each, up to the place where no note
     /// stands. `align` is the alignment that the table's header tells, and `index` is the header's
     /// (gABI 5, Note Section).

@@ -1,9 +1,11 @@
 //! The name of a symbol's version, by its number.
 ghost use Rattle.std.specs.Prelude.{◌≡◌};
+ghost use Rattle.elf_listing.specs.Choosing.{ShowsRows};
 ghost use Rattle.elf_listing.specs.Kinds.{ListsRow, RowFits};
 ghost use Rattle.elf_listing.specs.Numbered.{FetchesVersion, NumberedWithin};
 ghost use Rattle.elf_listing.specs.declared.rows.ListedAs.TheVariants.{Versions};
 
+use crate::choosing::Choosing;
 use crate::listing::Listing;
 use elf_headers::{Fault, Stop, refused};
 use elf_lines::{LineFront, Render, symbol_version_front};
@@ -24,10 +26,11 @@ pub struct Numbered {
     pub needed: Names,
 }
 
-impl<S: Source, W: Sink> Listing<'_, '_, '_, S, W> {
-    /// Shows the row of the version of a symbol: its `X` line with the name of its number, or the
-    /// refusal of a number that has none at the entry (Linux Standard Base Core, Symbol Versioning).
-    pub(crate) fn version_number<R: Render>(
+impl<S: Source, W: Sink> Listing<'_, '_, '_, '_, S, W> {
+    /// Shows the row of the version of a symbol: its `X` line with the name of its number, where it is
+    /// one of the rows that are shown, or the refusal of a number that has none at the entry (Linux
+    /// Standard Base Core, Symbol Versioning).
+    pub(crate) fn version_number<R: Render, C: Choosing>(
         &mut self,
         front: &mut LineFront,
         row: &Row<'_>,
@@ -35,11 +38,15 @@ impl<S: Source, W: Sink> Listing<'_, '_, '_, S, W> {
         numbered: &Numbered,
     ) -> Result<(), Stop>
         requires format { R.FORMAT ≡ self.old.style.format }
+        requires rows { ShowsRows C.BY_NAME self.old.style }
         requires row { RowFits self.old.src.now.seen.size (Versions section numbered) row.now }
         ensures { ListsRow self.old self.new result (Versions section numbered.entry) row.now }
     {
         let word = u16_at(row.bytes, 0);
         let end = self.read_version(numbered, word % (1 << 15), row.at)?;
+        if !self.is_shown::<C>(end) {
+            return Ok(());
+        }
         symbol_version_front::<R>(front, section, row.index, word);
         self.named_line(front, end)
     }

@@ -41,7 +41,7 @@ pub enum Part {
     SymbolVersions,
 }
 
-impl<S: Source, W: Sink> Listing<'_, '_, '_, S, W> {
+impl<S: Source, W: Sink> Listing<'_, '_, '_, '_, S, W> {
     /// Shows the tables of the file in their order, as far as the parts have them, up to the first
     /// refusal.
     pub(crate) fn tables(&mut self, parts: Parts) -> Result<(), Stop>

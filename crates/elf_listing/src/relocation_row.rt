@@ -1,10 +1,12 @@
 //! The row of a relocation entry, shown.
 ghost use Rattle.std.specs.Prelude.{◌≡◌, IfSome};
 ghost use Rattle.elf_table.specs.Tables.{SymbolsWithin};
+ghost use Rattle.elf_listing.specs.Choosing.{ShowsRows};
 ghost use Rattle.elf_listing.specs.Fetched.{FetchesSymbol};
 ghost use Rattle.elf_listing.specs.Kinds.{ListsRow, RowFits};
 ghost use Rattle.elf_listing.specs.declared.rows.ListedAs.TheVariants.{Relocations};
 
+use crate::choosing::Choosing;
 use crate::listing::Listing;
 use crate::row::whole_row;
 use elf_headers::{Fault, Stop, refused};
@@ -17,10 +19,11 @@ use elf_table::{NameEnd, Names, Row, Table};
 /// Symbols with the string table of their names.
 type Linked = Option<(Table, Names)>;
 
-impl<S: Source, W: Sink> Listing<'_, '_, '_, S, W> {
+impl<S: Source, W: Sink> Listing<'_, '_, '_, '_, S, W> {
     /// Shows the row of a relocation entry of a section: its `R` line with the name of its symbol,
-    /// or the refusal of its symbol at the entry's offset, or of the name at the symbol's.
-    pub(crate) fn relocation_row<R: Render>(
+    /// where it is one of the rows that are shown, or the refusal of its symbol at the entry's offset,
+    /// or of the name at the symbol's.
+    pub(crate) fn relocation_row<R: Render, C: Choosing>(
         &mut self,
         front: &mut LineFront,
         row: &Row<'_>,
@@ -28,6 +31,7 @@ impl<S: Source, W: Sink> Listing<'_, '_, '_, S, W> {
         linked: Linked,
     ) -> Result<(), Stop>
         requires format { R.FORMAT ≡ self.old.style.format }
+        requires rows { ShowsRows C.BY_NAME self.old.style }
         requires row { let kind = Relocations section linked in
             RowFits self.old.src.now.seen.size kind row.now }
         ensures { ListsRow self.old self.new result (Relocations section linked) row.now }
@@ -36,6 +40,9 @@ impl<S: Source, W: Sink> Listing<'_, '_, '_, S, W> {
         let entry = Rela::decode(whole_row(row));
         let symbol = entry.symbol();
         let end = self.read_symbol(linked, symbol, row.at)?;
+        if !self.is_shown::<C>(end) {
+            return Ok(());
+        }
         relocation_front::<R>(front, section, &entry, naming);
         self.named_line(front, end)
     }

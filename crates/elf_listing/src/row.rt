@@ -1,10 +1,12 @@
 //! The row of a table, shown.
 ghost use Rattle.std.specs.Prelude.{◌≡◌, ◌≤◌, length};
 ghost use Rattle.elf_fields.specs.Fronts.{front_of};
+ghost use Rattle.elf_listing.specs.Choosing.{ShowsRows};
 ghost use Rattle.elf_listing.specs.Kinds.{ListsRow, RowFits};
 ghost use Rattle.elf_listing.specs.Shows.{ListsLine, cut_of};
 ghost use Rattle.elf_listing.specs.declared.rows.ListedAs.TheVariants.{Segments, Symbols};
 
+use crate::choosing::Choosing;
 use crate::listing::Listing;
 use elf_headers::Stop;
 use elf_lines::{LineFront, Render, segment_row, show_named, symbol_front};
@@ -13,7 +15,7 @@ use elf_record::{Phdr, Sym};
 use elf_source::{Sink, Source};
 use elf_table::{NameEnd, Names, Row};
 
-impl<S: Source, W: Sink> Listing<'_, '_, '_, S, W> {
+impl<S: Source, W: Sink> Listing<'_, '_, '_, '_, S, W> {
     /// Shows the row of a program header: its `P` line.
     pub(crate) fn segment_row<R: Render>(&mut self, row: &Row<'_>) -> Result<(), Stop>
         requires format { R.FORMAT ≡ self.old.style.format }
@@ -25,9 +27,9 @@ impl<S: Source, W: Sink> Listing<'_, '_, '_, S, W> {
         Ok(())
     }
 
-    /// Shows the row of a symbol of a section: its `Y` line with its name, or the name's refusal at
-    /// the symbol's offset.
-    pub(crate) fn symbol_row<R: Render>(
+    /// Shows the row of a symbol of a section: its `Y` line with its name, where it is one of the
+    /// rows that are shown, or the name's refusal at the symbol's offset.
+    pub(crate) fn symbol_row<R: Render, C: Choosing>(
         &mut self,
         front: &mut LineFront,
         row: &Row<'_>,
@@ -35,6 +37,7 @@ impl<S: Source, W: Sink> Listing<'_, '_, '_, S, W> {
         names: &Names,
     ) -> Result<(), Stop>
         requires format { R.FORMAT ≡ self.old.style.format }
+        requires rows { ShowsRows C.BY_NAME self.old.style }
         requires row { RowFits self.old.src.now.seen.size (Symbols section names.now) row.now }
         ensures { ListsRow self.old self.new result (Symbols section names.now) row.now }
     {
@@ -46,6 +49,9 @@ impl<S: Source, W: Sink> Listing<'_, '_, '_, S, W> {
             off,
             at: row.at,
         })?;
+        if !self.is_shown::<C>(end) {
+            return Ok(());
+        }
         symbol_front::<R>(front, section, row.index, &symbol, naming);
         self.named_line(front, end)
     }

@@ -1,7 +1,9 @@
 //! The rows of a table, shown one after another.
 ghost use Rattle.std.specs.Prelude.{◌≡◌};
+ghost use Rattle.elf_listing.specs.Choosing.{ShowsRows};
 ghost use Rattle.elf_listing.specs.Kinds.{IsTableOf, ListsRow, ListsRows, RowFits};
 
+use crate::choosing::{AllRows, Choosing, NamedRows};
 use crate::dynamic_row::EntryStrings;
 use crate::listing::Listing;
 use crate::numbered::Numbered;
@@ -45,7 +47,7 @@ pub enum ListedAs<'f> {
     },
 }
 
-impl<S: Source, W: Sink> Listing<'_, '_, '_, S, W> {
+impl<S: Source, W: Sink> Listing<'_, '_, '_, '_, S, W> {
     /// Shows the rows of a table that are listed one after another, up to the first that is
     /// refused.
     pub(crate) fn rows(&mut self, table: Table, kind: &ListedAs<'_>) -> Result<(), Stop>
@@ -53,46 +55,64 @@ impl<S: Source, W: Sink> Listing<'_, '_, '_, S, W> {
         ensures { ListsRows self.old self.new result kind.now table }
     {
         match self.style.format {
-            Format::Columns => self.rows_in::<Columns>(table, kind),
-            Format::Object => self.rows_in::<Object>(table, kind),
+            Format::Columns => self.rows_of::<Columns>(table, kind),
+            Format::Object => self.rows_of::<Object>(table, kind),
         }
     }
 
-    /// Shows them in the rendering of the style, one front of a line for all.
-    fn rows_in<R: Render>(&mut self, table: Table, kind: &ListedAs<'_>) -> Result<(), Stop>
+    /// Shows them in the rendering of the style.
+    fn rows_of<R: Render>(&mut self, table: Table, kind: &ListedAs<'_>) -> Result<(), Stop>
         requires format { R.FORMAT ≡ self.old.style.format }
+        requires table { IsTableOf self.old.src.now.seen.size kind.now table }
+        ensures { ListsRows self.old self.new result kind.now table }
+    {
+        if self.style.choice.by_name {
+            return self.rows_in::<R, NamedRows>(table, kind);
+        }
+        self.rows_in::<R, AllRows>(table, kind)
+    }
+
+    /// Shows those that the style chooses, one front of a line for all.
+    fn rows_in<R: Render, C: Choosing>(
+        &mut self,
+        table: Table,
+        kind: &ListedAs<'_>,
+    ) -> Result<(), Stop>
+        requires format { R.FORMAT ≡ self.old.style.format }
+        requires rows { ShowsRows C.BY_NAME self.old.style }
         requires table { IsTableOf self.old.src.now.seen.size kind.now table }
         ensures { ListsRows self.old self.new result kind.now table }
     {
         let mut front = LineFront::new();
         let mut cursor = RowCursor::new(table, kind);
         'rows: while cursor.advance(self.src)? {
-            self.row::<R>(&mut front, &cursor.row(), kind)?;
+            self.row::<R, C>(&mut front, &cursor.row(), kind)?;
         }
         Ok(())
     }
 
     /// Shows one row.
-    fn row<R: Render>(
+    fn row<R: Render, C: Choosing>(
         &mut self,
         front: &mut LineFront,
         row: &Row<'_>,
         kind: &ListedAs<'_>,
     ) -> Result<(), Stop>
         requires format { R.FORMAT ≡ self.old.style.format }
+        requires rows { ShowsRows C.BY_NAME self.old.style }
         requires row { RowFits self.old.src.now.seen.size kind.now row.now }
         ensures { ListsRow self.old self.new result kind.now row.now }
     {
         match kind {
             ListedAs::Segments => self.segment_row::<R>(row),
-            ListedAs::Symbols { section, names } => self.symbol_row::<R>(
+            ListedAs::Symbols { section, names } => self.symbol_row::<R, C>(
                 front, row, *section, names,
             ),
-            ListedAs::Relocations { section, linked } => self.relocation_row::<R>(
+            ListedAs::Relocations { section, linked } => self.relocation_row::<R, C>(
                 front, row, *section, *linked,
             ),
             ListedAs::Dynamic { strings } => self.dynamic_row::<R>(front, row, strings),
-            ListedAs::Versions { section, numbered } => self.version_number::<R>(
+            ListedAs::Versions { section, numbered } => self.version_number::<R, C>(
                 front, row, *section, numbered,
             ),
         }

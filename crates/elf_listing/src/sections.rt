@@ -16,7 +16,7 @@ use elf_record::sizes::DYNAMIC_BYTES;
 use elf_source::{Sink, Source};
 use elf_table::holds_symbols;
 
-impl<S: Source, W: Sink> Listing<'_, '_, '_, S, W> {
+impl<S: Source, W: Sink> Listing<'_, '_, '_, '_, S, W> {
     /// Shows the row of a section header: its `S` line with its name, or the name's refusal at the
     /// section header (gABI 4, Section Header).
     pub(crate) fn section_row(&mut self, section: u16) -> Result<(), Stop>

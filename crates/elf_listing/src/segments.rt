@@ -15,7 +15,7 @@ use elf_record::numbers::{PT_DYNAMIC, PT_NOTE};
 use elf_source::{Sink, Source};
 use elf_table::SegmentView;
 
-impl<'f, S: Source, W: Sink> Listing<'_, '_, 'f, S, W> {
+impl<'f, S: Source, W: Sink> Listing<'_, '_, 'f, '_, S, W> {
     /// The file with its program headers, where they are loaded.
     fn view(&self) -> SegmentView<'f>
         requires { 0 < self.now.file.store.now.segments }

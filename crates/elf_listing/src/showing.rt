@@ -61,12 +61,12 @@ pub fn show<S: Source, W: Sink>(
     ensures leaves { Leaves src.old src.new }
     ensures says { IfErr result (FaultSays src.old src.new out.new) }
     ensures text { (file : List ℕ) → src.old.seen.file ≡ Some file →
-        Reports file caps parts.0 out.old out.new result }
+        Reports file caps.entry parts.0 out.old out.new result }
     ensures cost { (file : List ℕ) → src.old.seen.file ≡ Some file →
         src.new.asked ≤ src.old.asked
-        + listing_cost file caps.limits.headers (style_of caps.style) parts.0 }
+        + listing_cost file caps.entry.limits.headers (style_of caps.entry.style) parts.0 }
     // For every source.
-    ensures asks { AsksWithin caps parts.0 src.old src.new result }
+    ensures asks { AsksWithin caps.entry parts.0 src.old src.new result }
 {
     src.limit(caps.limits.budget);
     let listed = list(src, store, caps.style, parts, out);
@@ -94,17 +94,17 @@ pub fn list<S: Source, W: Sink>(
     ensures slots { store.new.slots ≡ store.old.slots }
     ensures grows { Grows out.old out.new }
     ensures ceiling { Costs src.old src.new out.new result
-        (ceiling src.old.seen.size store.old.slots style.cap.bytes) }
+        (ceiling src.old.seen.size store.old.slots style.entry.cap.bytes) }
     ensures unread { (refusal : Refuses) →
         first_refusal (length_checks src.old.seen.size) ≡ Some refusal → src.new ≡ src.old }
-    ensures alone { has_tables (known_parts (style_of style) parts.0) ≡ false →
+    ensures alone { has_tables (known_parts (style_of style.entry) parts.0) ≡ false →
         src.new.asked ≤ src.old.asked + 64 }
     ensures cost { (file : List ℕ) → src.old.seen.file ≡ Some file →
         Costs src.old src.new out.new result
-        (listing_cost file store.old.slots (style_of style) parts.0) }
+        (listing_cost file store.old.slots (style_of style.entry) parts.0) }
     ensures text { (file : List ℕ) → src.old.seen.file ≡ Some file →
         Writes out.old out.new result
-        (listed_items file store.old.slots (style_of style) parts.0) }
+        (listed_items file store.old.slots (style_of style.entry) parts.0) }
 {
     let header = header(src)?;
     list_header(&header, style.format, parts, out)?;
@@ -150,14 +150,16 @@ fn list_viewed<S: Source, W: Sink>(
     ensures slots { store.new.slots ≡ store.old.slots }
     ensures grows { Grows out.old out.new }
     ensures below { Costs src.old src.new out.new result
-        (ceiling src.old.seen.size store.old.slots style.cap.bytes - 64) }
+        (ceiling src.old.seen.size store.old.slots style.entry.cap.bytes - 64) }
     ensures alone { has_tables parts.0 ≡ false → src.new.asked ≡ src.old.asked }
     ensures cost { (file : List ℕ) → src.old.seen.file ≡ Some file →
         Costs src.old src.new out.new result
-        (behind_header (view_of (style_of style) file) store.old.slots style.cap.bytes parts.0) }
+        (behind_header (view_of (style_of style.entry) file) store.old.slots
+        style.entry.cap.bytes parts.0) }
     ensures text { (file : List ℕ) → src.old.seen.file ≡ Some file →
         Writes out.old out.new result
-        (load_items (view_of (style_of style) file) store.old.slots (style_of style) parts.0) }
+        (load_items (view_of (style_of style.entry) file) store.old.slots
+        (style_of style.entry) parts.0) }
 {
     if !style.by_segments {
         return list_loaded(src, store, header, style, parts, out);
@@ -187,14 +189,14 @@ fn list_loaded<S: Source, W: Sink>(
     ensures slots { store.new.slots ≡ store.old.slots }
     ensures grows { Grows out.old out.new }
     ensures below { Costs src.old src.new out.new result
-        (ceiling src.old.seen.size store.old.slots style.cap.bytes - 64) }
+        (ceiling src.old.seen.size store.old.slots style.entry.cap.bytes - 64) }
     ensures alone { has_tables parts.0 ≡ false → src.new ≡ src.old }
     ensures cost { (file : List ℕ) → src.old.seen.file ≡ Some file →
         Costs src.old src.new out.new result
-        (behind_header file store.old.slots style.cap.bytes parts.0) }
+        (behind_header file store.old.slots style.entry.cap.bytes parts.0) }
     ensures text { (file : List ℕ) → src.old.seen.file ≡ Some file →
         Writes out.old out.new result
-        (load_items file store.old.slots (style_of style) parts.0) }
+        (load_items file store.old.slots (style_of style.entry) parts.0) }
 {
     if !parts.intersects(TABLES) {
         return Ok(());
@@ -216,9 +218,9 @@ fn list_tables<S: Source, W: Sink>(
     requires { IsReady parts.0 src.old loaded store.now }
     ensures grows { Grows out.old out.new }
     ensures costs { Costs src.old src.new out.new result
-        (tables_listed parts.0 loaded store.now style.cap.bytes) }
+        (tables_listed parts.0 loaded store.now style.entry.cap.bytes) }
     ensures text { (file : List ℕ) → src.old.seen.file ≡ Some file →
-        Writes out.old out.new result (table_items file (style_of style) parts.0) }
+        Writes out.old out.new result (table_items file (style_of style.entry) parts.0) }
 {
     let name = NameBuf::new();
     let ahead = ReadAhead::new();

@@ -21,7 +21,7 @@ use elf_source::{Sink, Source};
 use elf_table::{Names, Table};
 use elf_versions::{NumberNames, VersionCursor};
 
-impl<S: Source, W: Sink> Listing<'_, '_, '_, S, W> {
+impl<S: Source, W: Sink> Listing<'_, '_, '_, '_, S, W> {
     /// Shows the versions of the symbols of a section, where it holds them: an `X` line each, or the
     /// first refusal of its table, of the symbols that it links to or of a number; last the section's
     /// refusal where a symbol has no entry any more (Linux Standard Base Core, Symbol Versioning).

@@ -2,10 +2,12 @@
 ghost use Rattle.std.specs.Prelude.{◌≡◌, ◌<◌, None};
 ghost use Rattle.elf_model.specs.declared.versions.VersionKind.TheVariants.{Need};
 ghost use Rattle.elf_table.specs.Tables.{RowsWithin, StringsWithin};
+ghost use Rattle.elf_listing.specs.Choosing.{ShowsRows};
 ghost use Rattle.elf_listing.specs.HeadersListed.{ListsHeader};
 ghost use Rattle.elf_listing.specs.Versions.{ListsRecord, ListsRecords, ListsVersions, kind_type};
 ghost use Rattle.elf_listing.specs.declared.parts.Part.TheVariants.{Definitions, Needs};
 
+use crate::choosing::{AllRows, Choosing, NamedRows};
 use crate::listing::Listing;
 use elf_headers::Stop;
 use elf_lines::{Columns, LineFront, Object, Render, version_front};
@@ -17,7 +19,7 @@ use elf_source::{Sink, Source};
 use elf_table::Names;
 use elf_versions::{VersionCursor, VersionRecord};
 
-impl<S: Source, W: Sink> Listing<'_, '_, '_, S, W> {
+impl<S: Source, W: Sink> Listing<'_, '_, '_, '_, S, W> {
     /// Shows the version definitions of a section, where it holds them: a `V` line each, or the
     /// first refusal of its table, of its string table or of a name, or of what stands in the place
     /// of a definition (Linux Standard Base Core, Symbol Versioning).
@@ -59,8 +61,8 @@ impl<S: Source, W: Sink> Listing<'_, '_, '_, S, W> {
         self.version_rows(&mut cursor, section, names)
     }
 
-    /// Shows the records that a cursor still gives, a `V` line each with its name, up to the first
-    /// name that is refused, or to what is no record.
+    /// Shows the records that a cursor still gives, a `V` line with its name for each that is shown,
+    /// up to the first name that is refused, or to what is no record.
     fn version_rows(
         &mut self,
         cursor: &mut VersionCursor,
@@ -72,32 +74,58 @@ impl<S: Source, W: Sink> Listing<'_, '_, '_, S, W> {
         requires strings { StringsWithin self.old.src.now.seen.size names }
         ensures { ListsRecords self.old self.new result cursor.old section names }
     {
+        if self.style.choice.by_name {
+            return self.version_rows_in::<NamedRows>(cursor, section, names);
+        }
+        self.version_rows_in::<AllRows>(cursor, section, names)
+    }
+
+    /// Shows them, as the style chooses rows.
+    fn version_rows_in<C: Choosing>(
+        &mut self,
+        cursor: &mut VersionCursor,
+        section: u16,
+        names: Names,
+    ) -> Result<(), Stop>
+        requires rows { ShowsRows C.BY_NAME self.old.style }
+        requires going { cursor.old.failed ≡ None }
+        requires within { RowsWithin self.old.src.now.seen.size cursor.old.held.table }
+        requires strings { StringsWithin self.old.src.now.seen.size names }
+        ensures { ListsRecords self.old self.new result cursor.old section names }
+    {
         'records: while let Some(given) = cursor.advance(self.src)? {
-            self.version_row(&given, section, names)?;
+            self.version_row::<C>(&given, section, names)?;
         }
         Ok(())
     }
 
-    /// Shows a record: its `V` line with its name, or the name's refusal at what holds its index
-    /// (Linux Standard Base Core, Symbol Versioning).
-    fn version_row(&mut self, given: &VersionRecord, section: u16, names: Names) -> Result<(), Stop>
-        requires { StringsWithin self.old.src.now.seen.size names }
+    /// Shows a record: its `V` line with its name, where it is one of the rows that are shown, or the
+    /// name's refusal at what holds its index (Linux Standard Base Core, Symbol Versioning).
+    fn version_row<C: Choosing>(
+        &mut self,
+        given: &VersionRecord,
+        section: u16,
+        names: Names,
+    ) -> Result<(), Stop>
+        requires rows { ShowsRows C.BY_NAME self.old.style }
+        requires within { StringsWithin self.old.src.now.seen.size names }
         ensures { ListsRecord self.old self.new result given.now section names }
     {
         match self.style.format {
-            Format::Columns => self.version_line::<Columns>(given, section, names),
-            Format::Object => self.version_line::<Object>(given, section, names),
+            Format::Columns => self.version_line::<Columns, C>(given, section, names),
+            Format::Object => self.version_line::<Object, C>(given, section, names),
         }
     }
 
     /// Shows it in the rendering of the style.
-    fn version_line<R: Render>(
+    fn version_line<R: Render, C: Choosing>(
         &mut self,
         given: &VersionRecord,
         section: u16,
         names: Names,
     ) -> Result<(), Stop>
         requires format { R.FORMAT ≡ self.old.style.format }
+        requires rows { ShowsRows C.BY_NAME self.old.style }
         requires within { StringsWithin self.old.src.now.seen.size names }
         ensures { ListsRecord self.old self.new result given.now section names }
     {
@@ -106,6 +134,9 @@ impl<S: Source, W: Sink> Listing<'_, '_, '_, S, W> {
             off: u64::from(given.name),
             at: given.named_at,
         })?;
+        if !self.is_shown::<C>(end) {
+            return Ok(());
+        }
         let mut front = LineFront::new();
         version_front::<R>(
             &mut front,

@@ -41,8 +41,8 @@ pub(crate) fn load_view<S: Source>(
         Belongs file loaded.now store.old → OnOk result
         (Belongs file loaded.now store.new × HoldsSegments file store.new) }
     ensures checked { (file : List ℕ) → src.old.seen.file ≡ Some file →
-        Belongs file loaded.now store.old → (style.by_segments ≡ true → e_shnum file ≡ 0) →
-        ChecksView (view_checks file (style_of style) parts.0) result }
+        Belongs file loaded.now store.old → (style.entry.by_segments ≡ true → e_shnum file ≡ 0) →
+        ChecksView (view_checks file (style_of style.entry) parts.0) result }
 {
     read_view(src, store, loaded, parts)?;
     check_view(store, loaded, style, parts)
@@ -55,8 +55,8 @@ pub(crate) fn load_view<S: Source>(
 fn check_view(store: &HeaderStore, loaded: &Loaded, style: Style, parts: Parts) -> Result<(), Fault>
     requires { store.now.segments ≡ viewed_headers parts.0 loaded.now }
     ensures checked { (file : List ℕ) → Belongs file loaded.now store.now →
-        HoldsSegments file store.now → (style.by_segments ≡ true → e_shnum file ≡ 0) →
-        Decides (view_checks file (style_of style) parts.0) result }
+        HoldsSegments file store.now → (style.entry.by_segments ≡ true → e_shnum file ≡ 0) →
+        Decides (view_checks file (style_of style.entry) parts.0) result }
     ensures refusal { IfErr result IsOfCheck }
 {
     if !is_checked(loaded, style, parts) {
@@ -68,7 +68,7 @@ fn check_view(store: &HeaderStore, loaded: &Loaded, style: Style, parts: Parts) 
 
 /// Whether the style finds tables by the program headers, and the parts need these.
 fn is_checked(loaded: &Loaded, style: Style, parts: Parts) -> bool
-    ensures { result ≡ (style.by_segments && needs_view parts.0 loaded.now) }
+    ensures { result ≡ (style.entry.by_segments && needs_view parts.0 loaded.now) }
 {
     style.by_segments && loaded.header().e_shnum == 0 && needs_view(parts)
 }

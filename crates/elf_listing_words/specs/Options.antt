@@ -8,6 +8,8 @@ use Rattle.elf_model.specs.Listing.{HEADER, SECTIONS, SEGMENTS, SYMBOLS, RELOCS,
 use Rattle.elf_record.specs.declared.parts.Parts.{Parts}
 use Rattle.elf_headers.specs.declared.caps.Limits.{Limits}
 use Rattle.elf_headers.specs.declared.caps.Style.{Style}
+use Rattle.elf_model.specs.Choice.{EveryRow}
+use Rattle.elf_wanted.specs.Chosen.{choice_of}
 use Rattle.elf_model.specs.declared.formats.Format.{Format}
 use Rattle.elf_model.specs.declared.formats.Format.TheVariants.{Columns, Object}
 
@@ -67,6 +69,7 @@ pub record IsStyle (rows : List Row) (style : Style) : Type 0 where
   pub gnu : style.gnu ≡ asks_gnu rows
   pub by_segments : style.by_segments ≡ is_option_set (first_of (codes "by-segments") rows)
   pub format : style.format ≡ asked_format rows
+  pub choice : choice_of style.choice ≡ EveryRow
 
 -- the part with this name, or without a name all, of listings of the GNU system or of the standards' alone
 abbrev pub ArePartsOf : Bool → Option Text → Parts → Type 0

@@ -32,7 +32,7 @@ pub struct ListingAsked<'a> {
     /// The parts of the listing.
     pub parts: Parts,
     /// How rows are shown.
-    pub style: Style,
+    pub style: Style<'a>,
 }
 
 /// What a program that only lists one file can be asked for.

@@ -16,6 +16,7 @@ use clap::ArgMatches;
 use elf_headers::{Cap, Limits, Style};
 use elf_model::Format;
 use elf_record::Parts;
+use elf_wanted::RowChoice;
 
 /// The limits that the options ask for.
 pub fn limits_of(options: &ArgMatches<'_>) -> Option<Limits>
@@ -28,8 +29,8 @@ pub fn limits_of(options: &ArgMatches<'_>) -> Option<Limits>
     Limits::new(headers, budget)
 }
 
-/// How rows are shown, by the options.
-pub fn style_of(options: &ArgMatches<'_>) -> Option<Style>
+/// How rows are shown, by the options: every row is.
+pub fn style_of(options: &ArgMatches<'_>) -> Option<Style<'static>>
     ensures some { IfSome result (IsStyle (rows_of (found_of options.now))) }
     ensures none { result ≡ None → (style : Style)
         → IsStyle (rows_of (found_of options.now)) style → ⊥ }
@@ -42,6 +43,7 @@ pub fn style_of(options: &ArgMatches<'_>) -> Option<Style>
         gnu,
         by_segments,
         format: format_of(options),
+        choice: RowChoice::every_row(),
     })
 }
 

@@ -31,13 +31,13 @@ pub fn check<S: Source>(
     ensures slots { store.new.slots ≡ store.old.slots }
     ensures leaves { Leaves src.old src.new }
     ensures state { (file : List ℕ) → src.old.seen.file ≡ Some file →
-        FindsState caps parts.0 file result }
+        FindsState caps.entry parts.0 file result }
     ensures cost { (file : List ℕ) → src.old.seen.file ≡ Some file →
         src.new.asked ≤ src.old.asked
-        + check_cost file caps.limits.headers (style_of caps.style) parts.0 }
+        + check_cost file caps.entry.limits.headers (style_of caps.entry.style) parts.0 }
     // For every source.
     ensures read { FailsRead src.old src.new result }
-    ensures asks { AsksFor caps src.old src.new }
+    ensures asks { AsksFor caps.entry src.old src.new }
 {
     if src.length() < HEADER_BYTES {
         return check_short(src, caps);

@@ -24,7 +24,7 @@ const TELL_EVERY: u64 = 512;
 pub struct Checks<'a, W: Sink, E: Write + Drop> {
     out: Out<W>,
     store: HeaderStore<'a>,
-    caps: Caps,
+    caps: Caps<'static>,
     parts: Parts,
     status: u8,
     unnamed: u64,
@@ -55,13 +55,13 @@ impl<'a, W: Sink, E: Write + Drop> Checks<'a, W, E> {
     pub fn new(
         out: Out<W>,
         store: HeaderStore<'a>,
-        caps: Caps,
+        caps: Caps<'static>,
         parts: Parts,
         terminal: Option<E>,
     ) -> Self
         requires { store.slots ≡ caps.limits.headers }
         ensures out { result.out ≡ out }
-        ensures asked { (result.caps ≡ caps) × (result.parts ≡ parts.0) }
+        ensures asked { (result.caps ≡ caps.entry) × (result.parts ≡ parts.0) }
         ensures status { result.status ≡ 0 }
         ensures unnamed { result.unnamed ≡ 0 }
     {

@@ -25,9 +25,10 @@ pub(crate) fn check_short<S: Source>(src: &mut Counted<S>, caps: Caps) -> FileSt
     ensures leaves { Leaves src.old src.new }
     ensures read { FailsRead src.old src.new result }
     ensures asks { src.new.asked ≤ src.old.asked + 4 }
-    ensures budget { IfSome caps.limits.budget (λ bytes. src.new.asked ≤ src.old.asked + bytes) }
+    ensures budget { IfSome caps.entry.limits.budget (λ bytes.
+        src.new.asked ≤ src.old.asked + bytes) }
     ensures state { (file : List ℕ) (parts : ℕ) → src.old.seen.file ≡ Some file →
-        FindsState caps parts file result }
+        FindsState caps.entry parts file result }
 {
     src.limit(None);
     let at = src.length();

@@ -3,6 +3,7 @@ use Rattle.std.proofs.Common.{◌≡◌, ℕ, zero, suc, ◌+◌, ◌<◌, ◌�
 use Rattle.std.proofs.lemmas.Bool.{cases_Bool}
 use Rattle.std.proofs.lemmas.List.Elements.{All-nil, All-cons, All-head, All-tail, All-append}
 use Rattle.std.specs.Result.{is_ok}
+use Rattle.elf_model.specs.Choice.{RowChoice}
 use Rattle.elf_model.specs.Checks.{Check, first_refusal}
 use Rattle.elf_model.specs.HeaderTables.{TableKind, file_sections, header_field}
 use Rattle.elf_model.specs.Listing.{ListingItem, Line, Fault, fault_of, guarded, each}
@@ -11,7 +12,7 @@ use Rattle.elf_model.specs.Numbers.{SHT_GNU_VERDEF, SHT_GNU_VERNEED}
 use Rattle.elf_model.specs.Records.{e_shnum, sh_type, sh_offset, sh_size, section_at, vn_aux, vn_next}
 use Rattle.elf_model.specs.Report.{table_rows, kinds_rows}
 use Rattle.elf_model.specs.Fields.{LineFront}
-use Rattle.elf_model.specs.Rows.{named_row}
+use Rattle.elf_model.specs.Rows.{chosen_row}
 use Rattle.elf_model.specs.Style.{Style}
 use Rattle.elf_model.specs.Tables.{all_checks, strings_of}
 use Rattle.elf_model.specs.VersionLaws.{NamesOfNumbersAreShown, records_rows}
@@ -60,9 +61,9 @@ table-none kind file style index at has h =
     guarded-none (all_checks kind.checks file at) (kind.rows file style index at) (rw (has, table_rows) at h)
 
 -- the name of a row without a fault is shown
-row-shown : (front : LineFront) (at : ℕ) (name : Result Shown Cause) → fault_of (named_row front at name) ≡ None → is_ok name ≡ true
-row-shown front at (Ok name) h = refl
-row-shown front at (Err cause) h = cc
+row-shown : (choice : RowChoice) (front : LineFront) (at : ℕ) (name : Result Shown Cause) → fault_of (chosen_row choice front at name) ≡ None → is_ok name ≡ true
+row-shown choice front at (Ok name) h = refl
+row-shown choice front at (Err cause) h = cc
 
 -- the name of a record is shown, in some strings
 abbrev IsShown : List ℕ → ℕ → List ℕ → Met → Type 0
@@ -75,7 +76,7 @@ rows-shown file style section strings [] h = All-nil _
 rows-shown file style section strings (met ∷ others) h =
     let row : List ListingItem = version_row file style section strings met in
     let more : List ListingItem = met_rows file style section strings others in
-    All-cons (IsShown file style.cap strings) met others (row-shown _ (named_at file met) _ (front-none row more h))
+    All-cons (IsShown file style.cap strings) met others (row-shown style.choice _ (named_at file met) _ (front-none row more h))
     (rows-shown file style section strings others (back-none row more h))
 
 met-none : (kind : VersionKind) (file : List ℕ) (style : Style) (section at : ℕ) → fault_of (versions_rows kind file style section at) ≡ None

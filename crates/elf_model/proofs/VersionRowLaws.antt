@@ -2,10 +2,11 @@
 use Rattle.std.proofs.Common.{◌≡◌, ℕ, zero, suc, ◌+◌, ◌<◌, ◌≤◌, min, nat_lt, true, false, List, [], ◌++◌, length, length-append, Option, None, Some, Result, Ok, Err, refl, ◌∙◌, arith, inl, inr}
 use Rattle.std.proofs.lemmas.Bool.{cases_Bool}
 use Rattle.std.proofs.lemmas.Bool.Decides.{nat_tests}
+use Rattle.elf_model.specs.Choice.{RowChoice, EveryRow, RowsOf}
 use Rattle.elf_model.specs.Listing.{ListingItem, each}
 use Rattle.elf_model.specs.Names.{Shown}
 use Rattle.elf_model.specs.Fields.{LineFront}
-use Rattle.elf_model.specs.Rows.{named_row, refused_row}
+use Rattle.elf_model.specs.Rows.{chosen_row, no_name, refused_row}
 use Rattle.elf_model.specs.Style.{Style}
 use Rattle.elf_model.specs.Tables.{entry_count}
 use Rattle.elf_model.specs.Versions.{VERSYM_SIZE, Met}
@@ -14,25 +15,28 @@ use Rattle.elf_model.specs.declared.causes.Cause.{Cause}
 use Rattle.elf_model.specs.declared.causes.Cause.TheVariants.{VersionCut}
 use Rattle.elf_model.specs.VersionLaws.{RowsAreSymbols}
 
--- a row with a name is one member
-named-one : (front : LineFront) (at : ℕ) (name : Result Shown Cause) → length (named_row front at name) ≡ 1
-named-one front at (Ok name) = refl
-named-one front at (Err cause) = refl
+-- where every row is shown, a row with a name is one member
+chosen-one : (choice : RowChoice) (front : LineFront) (at : ℕ) (name : Result Shown Cause) → choice ≡ EveryRow
+    → length (chosen_row choice front at name) ≡ 1
+chosen-one EveryRow front at (Ok name) every = refl
+chosen-one EveryRow front at (Err cause) every = refl
+chosen-one (RowsOf names) front at name every = cc
 
 -- and so is the row of a number
 numbered-one :
-    (file : List ℕ) (style : Style) (front : LineFront) (entry number : ℕ) → length (numbered_row file style front entry number) ≡ 1
+    (file : List ℕ) (style : Style) (front : LineFront) (entry number : ℕ) → style.choice ≡ EveryRow
+    → length (numbered_row file style front entry number) ≡ 1
 unfolding numbered_row
-numbered-one file style front entry number =
+numbered-one file style front entry number every =
     elim (cases_Bool (nat_lt number 2)) [
-      | inl few ↦ rw few refl
+      | inl few ↦ rw few (chosen-one style.choice front entry no_name every)
       | inr many ↦ go many (version_named file number) refl
     ]
   where
     go : nat_lt number 2 ≡ false → (named : Option Met) → version_named file number ≡ named
         → length (numbered_row file style front entry number) ≡ 1
     go many None same = rw (many, same) refl
-    go many (Some met) same = rw (many, same) (named-one front _ _)
+    go many (Some met) same = rw (many, same) (chosen-one style.choice front _ _ every)
 
 -- as many rows as there are entries, where each is one member
 each-one :
@@ -52,10 +56,10 @@ no-more rows a b n many = let l = length-append rows [] in let t : b ≤ a = gri
 
 pub rows_are_symbols : RowsAreSymbols
 unfolding symbol_version_rows symbol_version_row
-rows_are_symbols file style section at some =
+rows_are_symbols file style section at every some =
     let rows = each (symbol_version_row file style section at) 0 (versioned_count file at) in
     let counted : length rows ≡ versioned_count file at =
-    each-one (symbol_version_row file style section at) (λ i. numbered-one file style _ _ _) 0 (versioned_count file at) in
+    each-one (symbol_version_row file style section at) (λ i. numbered-one file style _ _ _ every) 0 (versioned_count file at) in
     elim (cases_Bool (nat_lt (entry_count file at VERSYM_SIZE) (versioned_symbols file at))) [
       | inl few ↦
           rw (some, few) (one-more rows (refused_row at VersionCut) (entry_count file at VERSYM_SIZE) (versioned_symbols file at) counted refl few)

@@ -1,5 +1,6 @@
 -- The rows of a listing. Each is a line, or the fault of its entry.
 use Rattle.std.specs.Prelude.{ℕ, ◌+◌, ◌==◌, ◌||◌, Bool, true, false, if◌then◌else◌, List, [], ◌∷◌, ◌++◌, length, Option, None, Some, Result, Ok, Err}
+use Rattle.elf_model.specs.Choice.{RowChoice, NoSuffix, chooses}
 use Rattle.elf_model.specs.Records.{e_machine, e_shstrndx, sh_name, section_at, segment_at, st_name, r_sym, d_tag, d_un}
 use Rattle.elf_model.specs.Numbers.{DT_NEEDED, DT_SONAME, DT_RPATH, DT_RUNPATH}
 use Rattle.elf_model.specs.Names.{Shown, shown}
@@ -24,6 +25,12 @@ refused_row at cause = Fault (record { at = at; cause = cause }) ∷ []
 abbrev pub named_row : LineFront → ℕ → Result Shown Cause → List ListingItem
 named_row front at (Ok name) = Line (named_line front name) ∷ []
 named_row front at (Err cause) = refused_row at cause
+
+-- a row that ends in the name of a symbol or of a version: its line where it is one of the rows that are shown, or the name's
+-- fault
+abbrev pub chosen_row : RowChoice → LineFront → ℕ → Result Shown Cause → List ListingItem
+chosen_row choice front at (Ok name) = if chooses choice name NoSuffix then Line (named_line front name) ∷ [] else []
+chosen_row choice front at (Err cause) = refused_row at cause
 
 -- the empty name
 abbrev pub no_name : Result Shown Cause
@@ -50,7 +57,7 @@ unfoldable pub symbol_row : List ℕ → Style → ℕ → ℕ → ℕ → List 
 symbol_row file style section at index =
     let symbol_at = entry_at file at SYMBOL_SIZE index in
     let front = symbol_front style.format style.gnu (e_machine file) file symbol_at section index in
-    named_row front symbol_at (shown (strings_of file at) (st_name file symbol_at) style.cap)
+    chosen_row style.choice front symbol_at (shown (strings_of file at) (st_name file symbol_at) style.cap)
 
 -- the offset that a fault names and the name that is shown, for the symbol of an index that a relocation entry names, whose
 -- section's header stands at an offset: symbol 0 has no name; any other is one of the linked table's, else it is a fault at
@@ -70,7 +77,7 @@ unfoldable pub relocation_row : List ℕ → Style → ℕ → ℕ → ℕ → L
 relocation_row file style section at index =
     let rela_at = entry_at file at RELA_SIZE index in
     let symbol = symbol_named file style.cap at rela_at (r_sym file rela_at) in
-    named_row (relocation_front style.format style.gnu (e_machine file) file rela_at section) symbol.0 symbol.1
+    chosen_row style.choice (relocation_front style.format style.gnu (e_machine file) file rela_at section) symbol.0 symbol.1
 
 -- the row of a note
 unfoldable pub note_row : Style → ℕ → Note → ListingItem

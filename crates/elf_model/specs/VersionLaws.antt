@@ -4,6 +4,7 @@ use Rattle.std.specs.Prelude.{◌<◌, ℕ, suc, ◌≡◌, ◌+◌, ◌==◌, �
 use Rattle.std.specs.List.{All}
 use Rattle.std.specs.Result.{is_ok}
 use Rattle.elf_model.specs.Checks.{first_refusal, pass}
+use Rattle.elf_model.specs.Choice.{EveryRow}
 use Rattle.elf_model.specs.HeaderTables.{file_sections}
 use Rattle.elf_model.specs.Listing.{ListingItem, VERSIONS, fault_of}
 use Rattle.elf_model.specs.Names.{shown}
@@ -81,10 +82,10 @@ FirstListNamesFirst =
     (file : List ℕ) (number : ℕ) (first second : List Met) (met : Met)
     → named_by file number first ≡ Some met → named_by file number (first ++ second) ≡ Some met
 
--- one row for each symbol, and where these have no entry any more one that says so; entries past the last symbol have none
+-- where every row is shown, one row for each symbol, and where these have no entry any more one that says so; entries past the last symbol have none
 abbrev pub RowsAreSymbols : Type 0
 RowsAreSymbols =
-    (file : List ℕ) (style : Style) (section at : ℕ) → (sh_size file at == 0) ≡ false
+    (file : List ℕ) (style : Style) (section at : ℕ) → style.choice ≡ EveryRow → (sh_size file at == 0) ≡ false
     → length (symbol_version_rows file style section at)
     ≡ (if nat_lt (entry_count file at VERSYM_SIZE) (versioned_symbols file at) then entry_count file at VERSYM_SIZE + 1
     else versioned_symbols file at)

@@ -8,7 +8,7 @@ use Rattle.elf_model.specs.Listing.{ListingItem, Fault, VERSIONS, each}
 use Rattle.elf_model.specs.Names.{shown, name_bytes}
 use Rattle.elf_model.specs.Numbers.{SHT_GNU_VERDEF, SHT_GNU_VERNEED, SHT_GNU_VERSYM}
 use Rattle.elf_model.specs.Records.{sh_type, sh_offset, sh_size, sh_link, section_at, versym}
-use Rattle.elf_model.specs.Rows.{named_row, no_name, refused_row}
+use Rattle.elf_model.specs.Rows.{chosen_row, no_name, refused_row}
 use Rattle.elf_model.specs.Style.{Style}
 use Rattle.elf_model.specs.Tables.{SYMBOL_SIZE, TableChecks, section_table, linked_at, strings_of, entry_count, entry_at, has_symbols, symbol_table_checks}
 use Rattle.elf_model.specs.VersionCost.{versioned_cost}
@@ -45,7 +45,7 @@ version_front format kind section number flags hash =
 -- the row of a met record, with its name in a string table
 unfoldable pub version_row : List ℕ → Style → (section : ℕ) → (strings : List ℕ) → Met → List ListingItem
 version_row file style section strings met =
-    named_row (version_front style.format met.kind section (number_word file met) (flags_word file met) (hash_word file met))
+    chosen_row style.choice (version_front style.format met.kind section (number_word file met) (flags_word file met) (hash_word file met))
     (named_at file met) (shown strings (name_index file met) style.cap)
 
 -- the rows of met records
@@ -118,10 +118,10 @@ symbol_version_front format section index word = front format (codes "name") (sy
 -- none, and any other is refused at the entry
 unfoldable pub numbered_row : List ℕ → Style → (front : LineFront) → (entry_at number : ℕ) → List ListingItem
 numbered_row file style front entry_at number =
-    if nat_lt number 2 then named_row front entry_at no_name
+    if nat_lt number 2 then chosen_row style.choice front entry_at no_name
     else elim (version_named file number) [
       | None ↦ refused_row entry_at VersionIndex
-      | Some met ↦ named_row front (named_at file met) (shown (version_strings file met.kind) (name_index file met) style.cap)
+      | Some met ↦ chosen_row style.choice front (named_at file met) (shown (version_strings file met.kind) (name_index file met) style.cap)
     ]
 
 -- the row of a symbol's version in the section whose header stands at an offset

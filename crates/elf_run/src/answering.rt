@@ -73,7 +73,7 @@ fn list<S: Source, W: Sink>(
 ) -> Result<u8, Stop>
     requires { (store.old.slots ≡ caps.limits.headers) × (src.old.asked ≤ 2 ^ 127) }
     ensures slots { store.new.slots ≡ store.old.slots }
-    ensures runs { RunsShow caps parts.0 src.old src.new out.old out.new result }
+    ensures runs { RunsShow caps.entry parts.0 src.old src.new out.old out.new result }
 {
     show(src, store, caps, parts, out)?;
     Ok(0)

@@ -1,2 +1,3 @@
 pub mod Wants
 pub mod Names
+pub mod Chosen

@@ -42,7 +42,7 @@ pub struct Checking<'a> {
     /// The parts of a listing that count.
     pub parts: Parts,
     /// How rows are shown in such a listing.
-    pub style: Style,
+    pub style: Style<'static>,
 }
 
 impl<'a> Checking<'a> {
@@ -69,7 +69,7 @@ pub struct Archiving<'a> {
     /// The parts of a listing.
     pub parts: Parts,
     /// How rows are shown.
-    pub style: Style,
+    pub style: Style<'a>,
 }
 
 impl<'a> Archiving<'a> {

@@ -28,7 +28,7 @@ pub enum Task<'a> {
         /// The parts.
         parts: Parts,
         /// How rows are shown.
-        style: Style,
+        style: Style<'a>,
     },
     /// A name is looked up in it.
     Find {

@@ -3,6 +3,7 @@ use Rattle.std.specs.Prelude.{ℕ, ◌≡◌, ◌≤◌, ◌==◌, if◌then◌e
 use Rattle.std.specs.Int.RustNames.{bit_and}
 use Rattle.elf_model.specs.Archive.{are_all}
 use Rattle.elf_model.specs.Bytes.{field}
+use Rattle.elf_model.specs.Choice.{EveryRow}
 use Rattle.elf_model.specs.Listing.{all_parts, has}
 use Rattle.elf_model.specs.Style.{Style}
 use Rattle.elf_model.specs.declared.formats.Format.{Format}
@@ -21,13 +22,14 @@ abbrev pub format_in : ℕ → Format
 format_in flags = if has flags 8 then Object else Columns
 
 -- HOW ROWS ARE SHOWN, with so many bytes of a name: a flag of 4 asks for the names of the GNU system, one of 1 for tables by the
--- program headers
+-- program headers; every row is
 abbrev pub style_in : List ℕ → ℕ → Style
 style_in asked cap = record {
   cap = cap;
   gnu = has (flags_in asked) 4;
   by_segments = has (flags_in asked) 1;
   format = format_in (flags_in asked);
+  choice = EveryRow;
 }
 
 -- THE BYTES ASK FOR A LISTING: parts and flags are there, and behind them zeros alone, which ask for nothing that this version
@@ -40,7 +42,7 @@ AsksListing asked =
 -- how rows of a listing are shown, with so many bytes of a name
 abbrev pub caller_style : CallerListing → ℕ → Style
 caller_style listing cap =
-    record { cap = cap; gnu = listing.gnu; by_segments = listing.by_segments; format = listing.format }
+    record { cap = cap; gnu = listing.gnu; by_segments = listing.by_segments; format = listing.format; choice = EveryRow }
 
 -- the listing is given that is asked for, and none where none is
 abbrev pub GivesListing : List ℕ → Option CallerListing → Type 0

@@ -8,6 +8,7 @@ ghost use Rattle.elfsee_c.specs.Asked.{GivesListing, format_in, caller_style};
 use elf_headers::{Cap, Style};
 use elf_model::Format;
 use elf_record::{Parts, u16_at};
+use elf_wanted::RowChoice;
 
 /// The bytes of the struct that says it, as far as this version of the library knows it.
 const KNOWN_BYTES: usize = 4;
@@ -36,7 +37,7 @@ pub(crate) struct CallerListing {
 
 impl CallerListing {
     /// How its rows are shown, with so many bytes of a name.
-    pub(crate) fn style(self, cap: Cap) -> Style
+    pub(crate) fn style(self, cap: Cap) -> Style<'static>
         ensures { style_of result ≡ caller_style self cap.bytes }
     {
         Style {
@@ -44,6 +45,7 @@ impl CallerListing {
             gnu: self.gnu,
             by_segments: self.by_segments,
             format: self.format,
+            choice: RowChoice::every_row(),
         }
     }
 }

@@ -44,7 +44,11 @@ pub(crate) fn limits_of(limits: &CallerLimits, room: usize) -> Option<elf_header
 }
 
 /// The same for a listing that is asked for; None also where so many bytes of a name are not permitted.
-pub(crate) fn caps_of(limits: &CallerLimits, room: usize, listing: CallerListing) -> Option<Caps>
+pub(crate) fn caps_of(
+    limits: &CallerLimits,
+    room: usize,
+    listing: CallerListing,
+) -> Option<Caps<'static>>
     ensures { GivesCaps limits.now room listing result }
 {
     let style = listing.style(Cap::new(limits.name)?);

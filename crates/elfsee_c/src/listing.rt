@@ -30,10 +30,10 @@ pub(crate) fn list(
 ) -> usize
     requires { store.old.slots ≡ caps.limits.headers }
     ensures within { result ≤ length out.new }
-    ensures text { ListsInMemory file.now caps parts.0 out.new result outcome.new.told }
+    ensures text { ListsInMemory file.now caps.entry parts.0 out.new result outcome.new.told }
     ensures cost { outcome.new.asked
-        ≤ listing_cost file.now caps.limits.headers (style_of caps.style) parts.0 }
-    ensures budget { IfSome caps.limits.budget (λ bytes. outcome.new.asked ≤ bytes) }
+        ≤ listing_cost file.now caps.entry.limits.headers (style_of caps.entry.style) parts.0 }
+    ensures budget { IfSome caps.entry.limits.budget (λ bytes. outcome.new.asked ≤ bytes) }
 {
     let LentSink {
         buffer: _buffer,
@@ -55,11 +55,11 @@ fn list_to_sink<'a>(
 ) -> LentSink<'a>
     requires { store.old.slots ≡ caps.limits.headers }
     ensures same { result.buffer.ghost_name ≡ out.entry.ghost_name }
-    ensures text { ListsInMemory file.now caps parts.0 result.buffer.now result.len
+    ensures text { ListsInMemory file.now caps.entry parts.0 result.buffer.now result.len
         outcome.new.told }
     ensures cost { outcome.new.asked
-        ≤ listing_cost file.now caps.limits.headers (style_of caps.style) parts.0 }
-    ensures budget { IfSome caps.limits.budget (λ bytes. outcome.new.asked ≤ bytes) }
+        ≤ listing_cost file.now caps.entry.limits.headers (style_of caps.entry.style) parts.0 }
+    ensures budget { IfSome caps.entry.limits.budget (λ bytes. outcome.new.asked ≤ bytes) }
 {
     let mut src = Counted::new(MemorySource::new(file));
     let mut out = Out::new(LentSink::new(out));

@@ -157,6 +157,9 @@ row-requires g c =
 pub row-requires-in-rows-clause-format : goal.row-requires-in-rows-clause-format
 row-requires-in-rows-clause-format g c = rw c.rows.invariant.keeps.same_style c.requires.format
 
+pub row-requires-in-rows-clause-rows : goal.row-requires-in-rows-clause-rows
+row-requires-in-rows-clause-rows g c = rw c.rows.invariant.keeps.same_style c.requires.rows
+
 pub row-requires-in-rows-clause-row : goal.row-requires-in-rows-clause-row
 row-requires-in-rows-clause-row g c =
     let known = c.rows.invariant in

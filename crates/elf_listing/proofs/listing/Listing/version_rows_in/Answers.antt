@@ -16,7 +16,7 @@ use Rattle.elf_listing.proofs.LoopLaws.{at_most, spent_unread, step_more, step_s
 use Rattle.elf_listing.proofs.NotesShown.{before_all}
 use Rattle.elf_listing.proofs.VersionsShown.{record_more, record_pays, record_stopped, records_account, records_end, records_fault, step_given}
 use Rattle.elf_listing.proofs.ViewedLaws.{still_viewed}
-use Rattle.elf_listing.proofs.listing.Listing.version_rows.Goals as goal
+use Rattle.elf_listing.proofs.listing.Listing.version_rows_in.Goals as goal
 
 pub records-init : goal.records-init
 records-init g c = record {

@@ -8,7 +8,7 @@ use Rattle.elf_versions.specs.Reading.{IsCursorOf, versions_left}
 use Rattle.elf_listing.specs.Notes.{WrittenBefore}
 use Rattle.elf_listing.specs.Shows.{SameFile}
 use Rattle.elf_listing.specs.Versions.{records_cost, versions_items}
-use Rattle.elf_listing.proofs.listing.Listing.version_rows.Given as goal
+use Rattle.elf_listing.proofs.listing.Listing.version_rows_in.Given as goal
 
 abbrev pub invariant-records : goal.invariant-records
 invariant-records g l =
