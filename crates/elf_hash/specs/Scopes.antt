@@ -18,7 +18,7 @@ use Rattle.elf_hash.specs.declared.place.HashPlace.{HashPlace}
 use Rattle.elf_hash.specs.declared.table.HashTable.{HashTable}
 use Rattle.elf_hash.specs.declared.table.HashTable.TheVariants.{Gnu, Sysv}
 
--- it is the place of the table that a lookup is made in
+-- it is the place of the table that a lookup searches
 pub record IsPlaceIn (scope : Scope) (p : HashPlace) : Type 0 where
   pub kind : hash_kind_of p.kind ≡ scope.kind
   pub head : p.head ≡ scope.head
@@ -33,7 +33,7 @@ abbrev pub place_of_table : HashTable → HashPlace
 place_of_table (Gnu t) = t.place
 place_of_table (Sysv t) = t.place
 
--- it is the table that a lookup is made in, with its counts
+-- it is the table that a lookup searches, with its counts
 abbrev pub IsTable : List ℕ → Scope → HashTable → Type 0
 IsTable file scope (Gnu t) = (scope.kind ≡ GnuTable) × IsGnu file scope.table t
 IsTable file scope (Sysv t) = (scope.kind ≡ SysvTable) × IsSysv file scope.table t

@@ -22,7 +22,7 @@ use elf_source::{Counted, Source};
 /// of the gABI (5, Hash Table). The table ends at or below the source's length.
 ///
 /// # Errors
-/// `HashShape` at what tells of the table where there is no bucket, or where the words before the
+/// `HashShape` at the entry of the table where there is no bucket, or where the words before the
 /// chains, or in a table of the gABI all words that the counts tell of, do not fit into its size; in
 /// a table of the GNU system also where its filter's words are not as many as a power of two tells,
 /// or where its shift leaves no bits of a hash. Else a fault of a read.
