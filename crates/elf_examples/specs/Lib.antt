@@ -14,3 +14,4 @@ pub mod ListedSections
 pub mod ListedSegments
 pub mod ListedSymbols
 pub mod ListedTags
+pub mod ListedFiles

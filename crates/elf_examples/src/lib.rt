@@ -9,6 +9,7 @@ mod listed_bsd_names;
 mod listed_budgets;
 mod listed_checks;
 mod listed_costs;
+mod listed_files;
 mod listed_headers;
 mod listed_members;
 mod listed_objects;

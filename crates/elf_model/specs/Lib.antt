@@ -67,6 +67,7 @@ pub mod LoaderLaws
 pub mod ApplyLaws
 pub mod ValueLaws
 pub mod Checking
+pub mod FileLists
 pub mod Versions
 pub mod VersionLaws
 pub mod FixturesVersions

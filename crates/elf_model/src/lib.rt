@@ -33,6 +33,6 @@ pub use causes::{Cause, Refusal};
 pub use formats::Format;
 pub use missing::{LayoutAddress, Missing};
 pub use relocation_types::{Base, Formula, Range, RelocationType};
-pub use states::FileState;
+pub use states::{FileSort, FileState};
 pub use traits::{ProgramKind, Relro, SearchPath, SegmentTraits, TraitColumn, Traits};
 pub use versions::VersionKind;

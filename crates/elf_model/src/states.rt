@@ -17,3 +17,14 @@ pub enum FileState {
     /// There was no memory for opening it.
     Memory,
 }
+
+/// What a file among many is, by its first bytes.
+#[derive(Clone, Copy)]
+pub enum FileSort {
+    /// An ELF file.
+    Elf,
+    /// An archive, where archives are gone into.
+    Archive,
+    /// Of another kind.
+    Foreign,
+}

@@ -1,0 +1,63 @@
+-- Many files listed, and archives checked: the line of a path, what a file is by its first bytes, and the fault of an archive.
+use Rattle.std.specs.Prelude.{ℕ, ◌≡◌, ◌^◌, ◌-◌, List, [], ◌∷◌, ◌++◌, codes, true, false, take, Option, None, Some}
+use Rattle.elf_model.specs.declared.formats.Format.TheVariants.{Columns, Object}
+use Rattle.elf_model.specs.Bytes.{little}
+use Rattle.elf_model.specs.FileLists.{archive_fault, budget_behind, file_sort, path_line, placed_behind}
+use Rattle.elf_model.specs.Fixtures.{bare_header, one_symbol_table, with_bytes}
+use Rattle.elf_model.specs.FixturesArchive.{archive_of, library, member}
+use Rattle.elf_model.specs.Listing.{SYMBOLS}
+use Rattle.elf_model.specs.Style.{standard}
+use Rattle.elf_model.specs.declared.causes.Cause.{Cause}
+use Rattle.elf_model.specs.declared.causes.Cause.TheVariants.{MemberCut, NameOutside, NotArchive, Short, Thin}
+use Rattle.elf_model.specs.declared.causes.Refusal.{Refusal}
+use Rattle.elf_model.specs.declared.states.FileSort.TheVariants.{Archive, Elf, Foreign}
+
+-- the line of a path: spelt as names are, empty, and as an object
+abbrev pub PathLines : Type 0
+PathLines =
+    (path_line Columns (codes "/bin/ls") ≡ codes "@ /bin/ls\n")
+    × (path_line Columns (codes "a \\" ++ 10 ∷ []) ≡ codes "@ a \\\\\\x0a\n")
+    × (path_line Columns [] ≡ codes "@ \n")
+    × (path_line Object (codes "a\"b") ≡ codes "{\"line\":\"@\",\"path\":\"a\\\"b\"}\n")
+
+abbrev magic : List ℕ
+magic = 127 ∷ 69 ∷ 76 ∷ 70 ∷ []
+
+-- ELF files, archives, and others; the budget has room for the first bytes, or for one less
+abbrev pub FileSorts : Type 0
+FileSorts =
+    (file_sort false None [] ≡ Foreign) × (file_sort false (Some 0) (127 ∷ 69 ∷ 76 ∷ []) ≡ Foreign)
+    × (file_sort false None magic ≡ Elf) × (file_sort true (Some 4) magic ≡ Elf)
+    × (file_sort false None (codes "text") ≡ Foreign) × (file_sort false (Some 4) (codes "text") ≡ Foreign)
+    × (file_sort false (Some 3) (codes "text") ≡ Elf)
+    × (file_sort false None (archive_of []) ≡ Foreign) × (file_sort true None (archive_of []) ≡ Archive)
+    × (file_sort true (Some 8) (archive_of []) ≡ Archive) × (file_sort true (Some 7) (archive_of []) ≡ Elf)
+    × (file_sort true None (codes "!<arch>") ≡ Foreign) × (file_sort true (Some 4) (codes "!<arch>") ≡ Foreign)
+    × (file_sort true None (codes "!<thin>\n") ≡ Foreign)
+
+-- what is left of a budget behind them
+abbrev pub BudgetsBehind : Type 0
+BudgetsBehind =
+    (budget_behind None 4 ≡ None) × (budget_behind (Some 100) 4 ≡ Some 96) × (budget_behind (Some 4) 4 ≡ Some 0)
+    × (budget_behind (Some 3) 4 ≡ Some 3)
+
+-- the fault of an archive of some members, with three headers permitted
+abbrev FaultIs : List ℕ → Option Refusal → Type 0
+FaultIs file fault = archive_fault file 3 (standard 63) SYMBOLS ≡ fault
+
+abbrev at_fault : ℕ → Cause → Option Refusal
+at_fault at cause = Some (record { at = at; cause = cause })
+
+abbrev faulty : List ℕ
+faulty = with_bytes 0x40 (little 4 9) one_symbol_table
+
+-- none; what is no archive; the first fault in order, of a member from the archive's first byte on, then that of the walk
+abbrev pub ArchiveFaults : Type 0
+ArchiveFaults =
+    FaultIs library None × FaultIs (archive_of []) None
+    × FaultIs (codes "!<arch>") (at_fault 0 Short) × FaultIs (codes "!<thin>\n") (at_fault 0 Thin) × FaultIs (codes "no file of it") (at_fault 0 NotArchive)
+    × FaultIs (archive_of (member (codes "a.o/") bare_header ++ member (codes "b.o/") faulty)) (at_fault 0x100 NameOutside)
+    × FaultIs (archive_of (member (codes "a.o/") bare_header ++ member (codes "b.o/") faulty ++ codes "x")) (at_fault 0x100 NameOutside)
+    × FaultIs (archive_of (member (codes "a.o/") bare_header ++ codes "x")) (at_fault 0x84 MemberCut)
+    × FaultIs (archive_of (member (codes "a.o/") faulty ++ member (codes "b.o/") (take 70 faulty))) (at_fault 0x84 NameOutside)
+    × (placed_behind 8 (record { at = 2 ^ 64 - 4; cause = Short }) ≡ record { at = 2 ^ 64 - 1; cause = Short })

@@ -1,0 +1,26 @@
+//! Many files listed, and archives checked, each example computed by the prover.
+ghost use Rattle.elf_examples.specs.ListedFiles.{ArchiveFaults, BudgetsBehind, FileSorts, PathLines};
+
+/// The line of a path.
+#[tactic(auto, unfolding(elf_model::proofs::OnLiterals::on_literals))]
+pub fn path_lines()
+    ensures { PathLines }
+{}
+
+/// What a file is, by its first bytes.
+#[tactic(auto, unfolding(elf_model::proofs::OnLiterals::on_literals))]
+pub fn file_sorts()
+    ensures { FileSorts }
+{}
+
+/// What is left of a budget behind the bytes that tell what a file is.
+#[tactic(auto, unfolding(elf_model::proofs::OnLiterals::on_literals))]
+pub fn budgets_behind()
+    ensures { BudgetsBehind }
+{}
+
+/// The fault of an archive: the first of its members' and of its own.
+#[tactic(auto, unfolding(elf_model::proofs::OnLiterals::on_literals))]
+pub fn archive_faults()
+    ensures { ArchiveFaults }
+{}

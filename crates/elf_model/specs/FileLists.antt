@@ -1,0 +1,79 @@
+-- MANY FILES LISTED, or checked with the members of archives: what is told of one among them.
+use Rattle.std.specs.Prelude.{ℕ, ◌+◌, ◌-◌, ◌^◌, ◌==◌, ◌&&◌, nat_le, nat_lt, not, min, Bool, true, false, if◌then◌else◌, List, [], ◌∷◌, ◌++◌, length, option_map, Option, None, Some, codes}
+use Rattle.elf_model.specs.Archive.{ARCHIVE_MAGIC, MAGIC_SIZE, Member, archive_checks, member_listing, members_of}
+use Rattle.elf_model.specs.Bytes.{field}
+use Rattle.elf_model.specs.Checks.{first_refusal}
+use Rattle.elf_model.specs.Fields.{Fields, LineFront, front}
+use Rattle.elf_model.specs.Lines.{named_line}
+use Rattle.elf_model.specs.Listing.{fault_of}
+use Rattle.elf_model.specs.Names.Shown.{Whole}
+use Rattle.elf_model.specs.Records.{ELF_MAGIC_SIZE, begins_as_elf}
+use Rattle.elf_model.specs.Style.{Style}
+use Rattle.elf_model.specs.declared.causes.Refusal.{Refusal}
+use Rattle.elf_model.specs.declared.formats.Format.{Format}
+use Rattle.elf_model.specs.declared.states.FileSort.{FileSort}
+use Rattle.elf_model.specs.declared.states.FileSort.TheVariants as sort
+
+-- the line before what is listed of a file: its path
+abbrev pub path_fields : Fields
+path_fields = record { letter = codes "@"; fields = [] }
+
+unfoldable pub path_front : Format → LineFront
+path_front format = front format (codes "path") path_fields
+
+abbrev pub path_line : Format → List ℕ → List ℕ
+path_line format path = named_line (path_front format) (Whole path)
+
+-- how many of its first bytes tell what a file of so many bytes is: where archives are gone into, those of their magic string
+abbrev pub front_size : Bool → ℕ → ℕ
+front_size true size = if nat_lt size MAGIC_SIZE then ELF_MAGIC_SIZE else MAGIC_SIZE
+front_size false size = ELF_MAGIC_SIZE
+
+-- a budget has so many bytes
+abbrev pub has_bytes : Option ℕ → ℕ → Bool
+has_bytes None n = true
+has_bytes (Some budget) n = not (nat_lt budget n)
+
+-- a file begins with the magic string of an archive
+abbrev pub begins_as_archive : List ℕ → Bool
+begins_as_archive file = nat_le MAGIC_SIZE (length file) && field file 0 8 == ARCHIVE_MAGIC
+
+-- WHAT A FILE IS, by its first bytes. One that has fewer than a magic number is of another kind; one whose first bytes the budget
+-- has no room for is taken as an ELF file, whose listing then tells so
+unfoldable pub file_sort : (members : Bool) → Option ℕ → List ℕ → FileSort
+file_sort members budget file =
+    if nat_lt (length file) ELF_MAGIC_SIZE then sort.Foreign
+    else if not (has_bytes budget (front_size members (length file))) then sort.Elf
+    else if begins_as_elf file then sort.Elf
+    else if members && begins_as_archive file then sort.Archive
+    else sort.Foreign
+
+-- what is left of a budget behind those bytes; of one that has no room for them all
+abbrev pub budget_behind : Option ℕ → ℕ → Option ℕ
+budget_behind None n = None
+budget_behind (Some budget) n = Some (if nat_lt budget n then budget else budget - n)
+
+-- ARCHIVES CHECKED. A refusal of a member whose data begin at an offset, counted from the archive's first byte, as far as 64 bits go
+abbrev pub placed_behind : ℕ → Refusal → Refusal
+placed_behind start refusal = record { at = min (start + refusal.at) (2 ^ 64 - 1); cause = refusal.cause }
+
+-- the fault of a member's listing
+abbrev pub member_fault : List ℕ → ℕ → Style → ℕ → Member → Option Refusal
+member_fault file headers style parts m = option_map (placed_behind m.extent.at) (fault_of (member_listing file headers style parts m))
+
+-- the first of members, or that of the walk
+unfoldable pub first_fault : List ℕ → ℕ → Style → ℕ → List Member → Option Refusal → Option Refusal
+first_fault file headers style parts [] walk = walk
+first_fault file headers style parts (m ∷ ms) walk = elim (member_fault file headers style parts m) [
+  | Some refusal ↦ Some refusal
+  | None ↦ first_fault file headers style parts ms walk
+]
+
+-- THE FAULT OF AN ARCHIVE: the first in order of its own checks, of its members' listings, and of the walk over them
+unfoldable pub archive_fault : List ℕ → ℕ → Style → ℕ → Option Refusal
+archive_fault file headers style parts = elim (first_refusal (archive_checks file)) [
+  | Some refusal ↦ Some refusal
+  | None ↦
+      let walk = members_of file style.cap in
+      first_fault file headers style parts walk.members walk.refusal
+]
