@@ -1,5 +1,5 @@
 //! A line of a listing while it is put together, field by field.
-ghost use Rattle.std.specs.Prelude.{◌≡◌, ◌+◌, ◌<◌, ◌≤◌, ◌++◌, ◌∷◌, [], if◌then◌else◌, decimal, length, max, take};
+ghost use Rattle.std.specs.Prelude.{◌≡◌, ◌+◌, ◌-◌, ◌<◌, ◌≤◌, ◌++◌, ◌∷◌, [], if◌then◌else◌, decimal, length, max, take};
 ghost use Rattle.arrayvec.specs.ArrayVec.{array_vec_len};
 ghost use Rattle.elf_model.specs.Text.{digit, hex, spaces, left_in, right_in};
 ghost use Rattle.elf_model.specs.NameTables.{number_sign};
@@ -50,6 +50,7 @@ pub fn put_spaces(line: &mut Line, count: usize)
 
 /// Puts a text at the left of a column of this width, and the byte that ends the column. A longer
 /// text is not cut.
+#[inline(always)]
 #[tactic(auto, unfolding(elf_model::specs::Text::left_in))]
 pub(crate) fn put_left(line: &mut Line, width: usize, text: &[u8], end: u8)
     requires { array_vec_len line.old + (max width (length text.now) + 1) ≤ 256 }
@@ -57,9 +58,29 @@ pub(crate) fn put_left(line: &mut Line, width: usize, text: &[u8], end: u8)
     ensures len { array_vec_len line.new
         ≡ array_vec_len line.old + (max width (length text.now) + 1) }
 {
-    put(line, text);
-    put_spaces(line, width.saturating_sub(text.len()));
-    line.push(end);
+    if width < 16 && text.len() <= width {
+        let mut cell = [b' '; 16];
+        fill_cell(&mut cell, width, text, end);
+        put(line, &cell[..width + 1]);
+    } else {
+        put(line, text);
+        put_spaces(line, width.saturating_sub(text.len()));
+        line.push(end);
+    }
+}
+
+/// Fills the front of a cell of spaces: a text, which is no longer than the column, and behind the
+/// column the byte that ends it.
+#[inline(always)]
+fn fill_cell(cell: &mut [u8; 16], width: usize, text: &[u8], end: u8)
+    requires spaces { cell.old ≡ spaces 16 }
+    requires width { width < 16 }
+    requires short { length text.now ≤ width }
+    ensures { take (width + 1) cell.new
+        ≡ text.now ++ spaces (width - length text.now) ++ end ∷ [] }
+{
+    cell[..text.len()].copy_from_slice(text);
+    cell[width] = end;
 }
 
 /// Puts a decimal number at the right of a column of this width, and the byte that ends the column.

@@ -163,6 +163,7 @@ pub fn put_text<R: Render>(line: &mut Line, key: &[u8], width: usize, text: &[u8
 /// Puts a name at the left of a column of this width, or a decimal number that has none at the
 /// right of it, and a space.
 #[tactic(auto, unfolding(elf_model::specs::Fields::with_field, elf_model::specs::Text::right_decimal))]
+#[inline(always)]
 pub fn put_name_or_decimal<R: Render>(
     line: &mut Line,
     key: &[u8],

@@ -259,6 +259,7 @@ fn is_plain(byte: u8) -> bool
 ///
 /// # Errors
 /// A fault of the output, with a front of the line and the name written.
+#[inline(always)]
 fn put_spelt<W: Sink>(
     line: &mut Line,
     format: Format,
