@@ -216,6 +216,19 @@ fn plain_bytes(format: Format, name: &[u8]) -> usize
     ensures stand { (k : ℕ) → k < result →
         byte_text format (slice_index name.now k) ≡ slice_index name.now k ∷ [] }
 {
+    let count = plain_front(format, name);
+    match name.last_chunk::<16>() {
+        Some(last) if name.len() - count < 16 && are_plain(last) => name.len(),
+        _ => plain_from(format, name, count),
+    }
+}
+
+/// How many bytes at the front of a name stand in a line as they are, in whole pieces of sixteen.
+fn plain_front(format: Format, name: &[u8]) -> usize
+    ensures within { result ≤ length name.now }
+    ensures stand { (k : ℕ) → k < result →
+        byte_text format (slice_index name.now k) ≡ slice_index name.now k ∷ [] }
+{
     let mut count = 0;
     while let Some(piece) = name[count..].first_chunk::<16>() {
         if !are_plain(piece) {
@@ -223,6 +236,19 @@ fn plain_bytes(format: Format, name: &[u8]) -> usize
         }
         count += 16;
     }
+    count
+}
+
+/// The same, byte by byte behind so many that do.
+fn plain_from(format: Format, name: &[u8], front: usize) -> usize
+    requires within { front ≤ length name.now }
+    requires stand { (k : ℕ) → k < front →
+        byte_text format (slice_index name.now k) ≡ slice_index name.now k ∷ [] }
+    ensures within { result ≤ length name.now }
+    ensures stand { (k : ℕ) → k < result →
+        byte_text format (slice_index name.now k) ≡ slice_index name.now k ∷ [] }
+{
+    let mut count = front;
     while count < name.len() && is_plain(name[count]) {
         count += 1;
     }

@@ -1,5 +1,5 @@
 -- The number's digits end where the spaces of the cell did, and the byte stands behind them.
-use Rattle.std.proofs.Common.{arith, ◌∙◌, sym, ap, take, drop}
+use Rattle.std.proofs.Common.{arith}
 use Rattle.elf_fields.proofs.Decimals.{cell_text, twenty_digits}
 use Rattle.elf_fields.proofs.columns.write_cell.Goals as goal
 

@@ -1,6 +1,6 @@
 use Rattle.std.proofs.Common.{◌≡◌, ℕ, ◌<◌, ◌≤◌, [], ◌∷◌, get_or, length, ◌-◌}
 use Rattle.elf_fields.specs.Pieces.{byte_text}
-use Rattle.elf_fields.proofs.named.plain_bytes.Given as goal
+use Rattle.elf_fields.proofs.named.plain_front.Given as goal
 
 -- the bytes so far stand as they are
 abbrev pub invariant-loop-piece : goal.invariant-loop-piece
@@ -11,12 +11,3 @@ invariant-loop-piece l = record {
 
 abbrev pub decreases-loop-piece : goal.decreases-loop-piece
 decreases-loop-piece l = length l.name - l.count
-
-abbrev pub invariant-loop-count : goal.invariant-loop-count
-invariant-loop-count l = record {
-  within : l.count ≤ length l.name;
-  stand : (k : ℕ) → k < l.count → byte_text l.fn.format (get_or l.name k 0) ≡ get_or l.name k 0 ∷ [];
-}
-
-abbrev pub decreases-loop-count : goal.decreases-loop-count
-decreases-loop-count l = length l.name - l.count

@@ -1,8 +1,8 @@
 -- The sixteen bytes of the piece stand behind those before.
-use Rattle.std.proofs.Common.{◌≡◌, ◌-◌, drop, take, ◌∙◌, ap, length, length-drop, arith, refl}
+use Rattle.std.proofs.Common.{◌≡◌, ◌-◌, drop, take, ◌∙◌, ap, length, length-drop, arith}
 use Rattle.std.proofs.lemmas.List.{take_all}
 use Rattle.elf_fields.proofs.NameText.{stand_more}
-use Rattle.elf_fields.proofs.named.plain_bytes.Goals as goal
+use Rattle.elf_fields.proofs.named.plain_front.Goals as goal
 
 pub loop-piece-preserved : goal.loop-piece-preserved
 loop-piece-preserved c =
