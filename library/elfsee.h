@@ -14,7 +14,8 @@
  *  - `room` and `out` point to as many writable bytes as is said; these overlap neither each other,
  *    nor the file, nor a struct or a name that is passed. They need not be initialised.
  *  - Each pointer is not NULL and is aligned for its type. Only the arguments `file`, `room`, `out` and
- *    `name` may be NULL, where their lengths are 0 (tested, not proved); a pointer in a struct is not.
+ *    `name`, and the lists of an elfsee_layout, may be NULL, where their lengths are 0 (tested, not
+ *    proved); another pointer in a struct is not.
  *  - Each struct that is passed is initialised, with any values, also one that is only written.
  *  - No call is made from a signal handler.
  *
@@ -256,6 +257,58 @@ uint32_t elfsee_apply(const uint8_t *file, size_t file_len, const struct elfsee_
                       const struct elfsee_job *job, uint8_t *room, size_t room_len, uint8_t *out,
                       size_t out_len, struct elfsee_end *end);
 
+/* A LAYOUT OF ANY SIZE, which the caller lends: a section, and a name of 1 to 255 bytes without NUL,
+ * each with its address. */
+struct elfsee_lent_section {
+    uint16_t index;
+    uint64_t address;
+};
+
+struct elfsee_lent_name {
+    const uint8_t *name;
+    size_t name_len;
+    uint64_t address;
+};
+
+/* Addresses: of sections, by rising index; of symbols that the file does not define; and of symbols'
+ * entries, in the procedure linkage table, in the global offset table, and there those of their offsets
+ * from the thread pointer. Names rise by their bytes, as memcmp has it, a front before what is longer.
+ * Nothing stands twice in a list, and a list of length 0 may be NULL. */
+struct elfsee_layout {
+    const struct elfsee_lent_section *sections;
+    size_t sections_len;
+    const struct elfsee_lent_name *definitions;
+    size_t definitions_len;
+    const struct elfsee_lent_name *linkage;
+    size_t linkage_len;
+    const struct elfsee_lent_name *table;
+    size_t table_len;
+    const struct elfsee_lent_name *thread;
+    size_t thread_len;
+};
+
+/* What a layout lacks where a section is refused in it; all 0 where no address would help. */
+struct elfsee_missing {
+    uint32_t helpful;    /* the sum of 1 << kind, ELFSEE_SECTION to ELFSEE_THREAD, of which one would help */
+    uint32_t section;    /* the index of the section that wants an address, else 0 */
+    uint32_t relocation; /* the type of the relocation entry that is refused */
+    uint32_t name_len;   /* bytes of its symbol's name: all, or the first 255 */
+    uint32_t is_cut;     /* 1: the name has more; else 0 */
+    uint8_t name[256];
+};
+
+/* Writes a section's bytes with its relocations applied, as elfsee_apply does, in a layout that is lent.
+ *  OK, FULL: as of elfsee_apply. REFUSED: too; and `missing` tells what would help, where an address
+ *    would, and the budget has room to find that out: the headers, the entry, its symbol and the name.
+ *  BAD_CALL: limits outside their ranges, room of less than 64 bytes, an index or a name that is not
+ *    above the one before it in its list, a name of none or more than 255 bytes or with a NUL.
+ * No item can name a symbol that has no name, or one that is cut. `asked` is at most the definition's
+ * cost and that of finding out, and the budget. */
+uint32_t elfsee_apply_lent(const uint8_t *file, size_t file_len, const struct elfsee_limits *limits,
+                           uint16_t section, const struct elfsee_layout *layout, uint8_t *room,
+                           size_t room_len, uint8_t *out, size_t out_len,
+                           struct elfsee_missing *missing, struct elfsee_end *end);
+
 /* The file header, field by field (gABI, ELF Header). */
 struct elfsee_header {
     uint64_t entry, phoff, shoff;
@@ -286,6 +339,31 @@ struct elfsee_relocation {
 struct elfsee_dynamic {
     int64_t tag;
     uint64_t value;
+};
+
+/* The version of a symbol (LSB, Symbol Versioning). */
+struct elfsee_version_word {
+    uint16_t number;    /* below 32,768; 0 and 1 have no name */
+    uint16_t is_hidden; /* 1: a name alone does not take the symbol; else 0 */
+};
+
+/* What a record of symbol versions is. */
+enum {
+    ELFSEE_DEFINITION = 1, /* a version that the file defines */
+    ELFSEE_FILE = 2,       /* a file of which it needs versions */
+    ELFSEE_NEED = 3        /* a version that it needs of the file before */
+};
+
+/* A record of version definitions or needs, field by field (LSB, Symbol Versioning). A needed file has no
+ * number, no flags and no hash: these are 0. */
+struct elfsee_version_record {
+    uint64_t at;       /* its file offset */
+    uint64_t named_at; /* that of what holds the index of its name */
+    uint32_t name;     /* its offset in the string table */
+    uint32_t hash;
+    uint16_t number;   /* with 32,768 added where the version is hidden */
+    uint16_t flags;
+    uint32_t kind;     /* ELFSEE_DEFINITION to ELFSEE_NEED */
 };
 
 /* The file header. OK, or REFUSED where its checks fail. */
@@ -329,6 +407,14 @@ uint32_t elfsee_dynamic(const uint8_t *file, size_t file_len, const struct elfse
                         uint16_t section, uint8_t *room, size_t room_len, struct elfsee_rows *rows,
                         struct elfsee_end *end);
 
+/* The words of symbols' versions of a section, as those calls open their rows: one for each symbol of
+ * the table that it links to, as far as it has words, in the same order. `rows` has no string table: the
+ * name of a version is that of the first definition, else of the first needed version, that has its
+ * number (elfsee_version_records). A definition with the flag 1 names the file and no version. */
+uint32_t elfsee_version_words(const uint8_t *file, size_t file_len,
+                              const struct elfsee_limits *limits, uint16_t section, uint8_t *room,
+                              size_t room_len, struct elfsee_rows *rows, struct elfsee_end *end);
+
 /* The dynamic entries of a segment, up to and with the first of tag 0: checks that they are whole
  * entries within the file, and sets `rows` before the first. OK; ABSENT where there is none of that
  * index or its type is not DYNAMIC; REFUSED where elfsee_segment is, and with ELFSEE_SIZE_NOT_WHOLE or
@@ -347,6 +433,39 @@ size_t elfsee_next_relocations(const uint8_t *file, size_t file_len, struct elfs
                                struct elfsee_relocation *out, size_t out_len);
 size_t elfsee_next_dynamic(const uint8_t *file, size_t file_len, struct elfsee_rows *rows,
                            struct elfsee_dynamic *out, size_t out_len);
+
+size_t elfsee_next_version_words(const uint8_t *file, size_t file_len, struct elfsee_rows *rows,
+                                 struct elfsee_version_word *out, size_t out_len);
+
+/* A place in a walk over the records of version definitions or needs: plain numbers, as those of
+ * elfsee_rows. */
+struct elfsee_version_records {
+    uint64_t at, size;    /* of the table */
+    uint64_t place;       /* of the next record, in the table */
+    uint64_t from;        /* the file offset of what led there, which a refusal names */
+    uint64_t owner;       /* the place of the needed file, where a version of it is next */
+    uint64_t left;        /* records that may still be met */
+    uint64_t strings_at, strings_len; /* of the string table of their names */
+    uint32_t kind;        /* of the next record; any other number: there is none */
+    uint32_t none;        /* 0 */
+};
+
+/* The version definitions of a section, or its needs: runs the checks that a listing runs before the
+ * first record, and sets `records` before it. Of the limits it looks at `headers` alone. OK, REFUSED,
+ * BAD_CALL; ABSENT where there is no such section or its type is neither GNU_verdef nor GNU_verneed.
+ * `asked` is 0, and nothing is written to `room`. */
+uint32_t elfsee_version_records(const uint8_t *file, size_t file_len,
+                                const struct elfsee_limits *limits, uint16_t section,
+                                const uint8_t *room, size_t room_len,
+                                struct elfsee_version_records *records, struct elfsee_end *end);
+
+/* Reads the next record and steps over it, in the order in which they lead to one another: of the needs
+ * each file, and then its versions. OK; ABSENT behind the last; REFUSED with ELFSEE_VERSION_CUT,
+ * ELFSEE_BAD_VERSION or ELFSEE_VERSION_INDEX where no record stands where one should. Where it is not OK
+ * `records` is as it was. Each OK makes `left` less by one, so that a walk ends. `asked` is 0. */
+uint32_t elfsee_next_version_record(const uint8_t *file, size_t file_len,
+                                    struct elfsee_version_records *records,
+                                    struct elfsee_version_record *record, struct elfsee_end *end);
 
 /* ROWS WITHIN A BUDGET. Many tables may lie at the same bytes, so that the rows of a file are far more than the
  * file has bytes. `asked` is a number of the caller's, which adds up how many bytes all calls that are lent it
@@ -368,9 +487,9 @@ uint32_t elfsee_segment_dynamic_within(const uint8_t *file, size_t file_len,
                                        struct elfsee_end *end);
 
 /* The next rows, as elfsee_next_symbols and its kin read them, and no more than the budget has left: a
- * symbol or a relocation entry counts 24 bytes, a dynamic entry 16. Where the budget ended it, `end` has
- * ELFSEE_BUDGET and the offset of the next row; else its cause is 0. Of the limits the budget is looked at
- * alone. */
+ * symbol or a relocation entry counts 24 bytes, a dynamic entry 16, a word of versions 2. Where the budget
+ * ended it, `end` has ELFSEE_BUDGET and the offset of the next row; else its cause is 0. Of the limits the
+ * budget is looked at alone. */
 size_t elfsee_next_symbols_within(const uint8_t *file, size_t file_len,
                                   const struct elfsee_limits *limits, uint64_t *asked,
                                   struct elfsee_rows *rows, struct elfsee_symbol *out,
@@ -383,6 +502,11 @@ size_t elfsee_next_dynamic_within(const uint8_t *file, size_t file_len,
                                   const struct elfsee_limits *limits, uint64_t *asked,
                                   struct elfsee_rows *rows, struct elfsee_dynamic *out,
                                   size_t out_len, struct elfsee_end *end);
+
+size_t elfsee_next_version_words_within(const uint8_t *file, size_t file_len,
+                                        const struct elfsee_limits *limits, uint64_t *asked,
+                                        struct elfsee_rows *rows, struct elfsee_version_word *out,
+                                        size_t out_len, struct elfsee_end *end);
 
 /* A place in a table of notes: plain numbers, as those of elfsee_rows. */
 struct elfsee_notes {
@@ -484,12 +608,19 @@ typedef struct ::elfsee_found found;
 typedef struct ::elfsee_resolved resolved;
 typedef struct ::elfsee_item item;
 typedef struct ::elfsee_job job;
+typedef struct ::elfsee_lent_section lent_section;
+typedef struct ::elfsee_lent_name lent_name;
+typedef struct ::elfsee_layout layout;
+typedef struct ::elfsee_missing missing;
 typedef struct ::elfsee_header header;
 typedef struct ::elfsee_section section;
 typedef struct ::elfsee_segment segment;
 typedef struct ::elfsee_relocation relocation;
 typedef struct ::elfsee_dynamic dynamic;
+typedef struct ::elfsee_version_word version_word;
+typedef struct ::elfsee_version_record version_record;
 typedef struct ::elfsee_rows rows;
+typedef struct ::elfsee_version_records version_records;
 typedef struct ::elfsee_notes notes;
 typedef struct ::elfsee_note note;
 typedef struct ::elfsee_members members;

@@ -57,6 +57,59 @@ static void calls(void) {
     FIELD(elfsee_job, none);
 }
 
+static void layouts(void) {
+    WHOLE(elfsee_lent_section);
+    FIELD(elfsee_lent_section, index);
+    FIELD(elfsee_lent_section, address);
+    WHOLE(elfsee_lent_name);
+    FIELD(elfsee_lent_name, name);
+    FIELD(elfsee_lent_name, name_len);
+    FIELD(elfsee_lent_name, address);
+    WHOLE(elfsee_layout);
+    FIELD(elfsee_layout, sections);
+    FIELD(elfsee_layout, sections_len);
+    FIELD(elfsee_layout, definitions);
+    FIELD(elfsee_layout, definitions_len);
+    FIELD(elfsee_layout, linkage);
+    FIELD(elfsee_layout, linkage_len);
+    FIELD(elfsee_layout, table);
+    FIELD(elfsee_layout, table_len);
+    FIELD(elfsee_layout, thread);
+    FIELD(elfsee_layout, thread_len);
+    WHOLE(elfsee_missing);
+    FIELD(elfsee_missing, helpful);
+    FIELD(elfsee_missing, section);
+    FIELD(elfsee_missing, relocation);
+    FIELD(elfsee_missing, name_len);
+    FIELD(elfsee_missing, is_cut);
+    FIELD(elfsee_missing, name);
+}
+
+static void versions(void) {
+    WHOLE(elfsee_version_word);
+    FIELD(elfsee_version_word, number);
+    FIELD(elfsee_version_word, is_hidden);
+    WHOLE(elfsee_version_record);
+    FIELD(elfsee_version_record, at);
+    FIELD(elfsee_version_record, named_at);
+    FIELD(elfsee_version_record, name);
+    FIELD(elfsee_version_record, hash);
+    FIELD(elfsee_version_record, number);
+    FIELD(elfsee_version_record, flags);
+    FIELD(elfsee_version_record, kind);
+    WHOLE(elfsee_version_records);
+    FIELD(elfsee_version_records, at);
+    FIELD(elfsee_version_records, size);
+    FIELD(elfsee_version_records, place);
+    FIELD(elfsee_version_records, from);
+    FIELD(elfsee_version_records, owner);
+    FIELD(elfsee_version_records, left);
+    FIELD(elfsee_version_records, strings_at);
+    FIELD(elfsee_version_records, strings_len);
+    FIELD(elfsee_version_records, kind);
+    FIELD(elfsee_version_records, none);
+}
+
 static void headers(void) {
     WHOLE(elfsee_header);
     FIELD(elfsee_header, entry);
@@ -149,6 +202,8 @@ static void rows(void) {
 
 int main(void) {
     calls();
+    layouts();
+    versions();
     headers();
     rows();
     return 0;

@@ -121,6 +121,17 @@ static uint32_t apply(struct elfsee_limits limits, size_t room_len, uint32_t sec
                         end);
 }
 
+static uint32_t place(struct elfsee_limits limits, size_t room_len, uint16_t section,
+                      const struct elfsee_layout *layout, size_t out_len, struct elfsee_missing *missing,
+                      struct elfsee_end *end) {
+    *end = ODD;
+    memset(missing, 77, sizeof *missing);
+    return elfsee_apply_lent(object.bytes, object.len, &limits, section, layout, room.bytes, room_len, out.bytes,
+                             out_len, missing, end);
+}
+
+static const struct elfsee_layout NO_LAYOUT;
+
 typedef uint32_t opens(const uint8_t *, size_t, const struct elfsee_limits *, uint16_t, uint8_t *, size_t,
                        struct elfsee_rows *, struct elfsee_end *);
 static const struct {
@@ -128,7 +139,8 @@ static const struct {
     opens *call;
 } TABLES[] = {{"symbols", elfsee_symbols},
               {"relocations", elfsee_relocations},
-              {"dynamic", elfsee_dynamic}};
+              {"dynamic", elfsee_dynamic},
+              {"version words", elfsee_version_words}};
 enum { TABLE_COUNT = sizeof TABLES / sizeof *TABLES };
 
 /* ------------------------------------------------------------------------- */
@@ -140,6 +152,8 @@ static void bad_limits(void) {
     struct elfsee_resolved resolved;
     struct elfsee_rows rows;
     struct elfsee_range range;
+    struct elfsee_missing missing;
+    struct elfsee_version_records records = {7, 7, 7, 7, 7, 7, 7, 7, 7, 7};
     int shows = 1, finds = 1, applies = 1, opens = 1, unlooked = 1, costs = 1;
     unsigned i, table;
     for (i = 0; i < 3; i += 1) {
@@ -152,6 +166,10 @@ static void bad_limits(void) {
         unlooked &= look_up(other, ROOM, i, "call", 4, "", 0, &resolved, &end) == ELFSEE_OK;
         paint();
         applies &= is_bad(apply(bad, ROOM, 1, 0, 0, OUT, &end), &end);
+        applies &= is_bad(place(bad, ROOM, 1, &NO_LAYOUT, OUT, &missing, &end), &end);
+        applies &= is_zero(&missing, sizeof missing);
+        opens &= is_bad(elfsee_version_records(object.bytes, object.len, &bad, 1, room.bytes, ROOM, &records, &end),
+                        &end) && records.at == 7 && records.none == 7;
         for (table = 0; table < TABLE_COUNT; table += 1) {
             uint32_t status =
                 TABLES[table].call(object.bytes, object.len, &bad, 1, room.bytes, ROOM, &rows, &end);
@@ -176,6 +194,8 @@ static void small_room(void) {
     struct elfsee_rows rows;
     struct elfsee_range range;
     struct elfsee_limits limits = limits_of(4096, 256);
+    struct elfsee_missing missing;
+    struct elfsee_version_records records = {7, 7, 7, 7, 7, 7, 7, 7, 7, 7};
     int all = 1, refused = 1;
     size_t len;
     unsigned table;
@@ -184,6 +204,9 @@ static void small_room(void) {
         all &= is_bad(find(limits, len, "call", 4, &found, &end), &end);
         all &= is_bad(look_up(limits, len, 0, "call", 4, "", 0, &resolved, &end), &end);
         all &= is_bad(apply(limits, len, 1, 0, 0, OUT, &end), &end);
+        all &= is_bad(place(limits, len, 1, &NO_LAYOUT, OUT, &missing, &end), &end) && is_zero(&missing, sizeof missing);
+        all &= is_bad(elfsee_version_records(object.bytes, object.len, &limits, 1, room.bytes, len, &records, &end),
+                      &end) && records.at == 7;
         for (table = 0; table < TABLE_COUNT; table += 1) {
             uint32_t status =
                 TABLES[table].call(object.bytes, object.len, &limits, 1, room.bytes, len, &rows, &end);
@@ -215,6 +238,8 @@ static void short_files(void) {
     struct elfsee_range range;
     struct elfsee_job job = {0, 0, 1, 0};
     struct elfsee_item none = {0, object.bytes, 0, 0, 0};
+    struct elfsee_missing missing;
+    struct elfsee_version_records records = {7, 7, 7, 7, 7, 7, 7, 7, 7, 7};
     int all = 1;
     size_t len;
     job.items = &none;
@@ -235,6 +260,11 @@ static void short_files(void) {
         all &= status == ELFSEE_REFUSED && end.cause == ELFSEE_SHORT && end.at == len;
         status = elfsee_apply(file.bytes, len, &limits, &job, room.bytes, ROOM, out.bytes, 0, &end);
         all &= status == ELFSEE_REFUSED && end.cause == ELFSEE_SHORT && end.at == len;
+        status = elfsee_apply_lent(file.bytes, len, &limits, 1, &NO_LAYOUT, room.bytes, ROOM, out.bytes, 0, &missing,
+                                   &end);
+        all &= status == ELFSEE_REFUSED && end.cause == ELFSEE_SHORT && end.at == len && is_zero(&missing, sizeof missing);
+        status = elfsee_version_records(file.bytes, len, &limits, 1, room.bytes, ROOM, &records, &end);
+        all &= status == ELFSEE_REFUSED && end.cause == ELFSEE_SHORT && end.at == len && records.at == 7;
         status = elfsee_header(file.bytes, len, &header, &end);
         all &= status == ELFSEE_REFUSED && end.cause == ELFSEE_SHORT && end.at == len;
         status = elfsee_symbols(file.bytes, len, &limits, 0, room.bytes, ROOM, &rows, &end);
@@ -493,6 +523,114 @@ static void item_lengths(void) {
     check(nul, "names with a NUL at each place");
 }
 
+/* ------------------------------------------------------------------------- */
+/* Layouts that are lent. */
+
+static struct elfsee_lent_section lent_sections[ITEMS];
+static struct elfsee_lent_name lent_names[5][ITEMS];
+
+/* A layout with so many items of each sort, which rise. */
+static struct elfsee_layout risen(size_t count) {
+    static uint8_t bytes[ITEMS][2];
+    struct elfsee_layout layout = {lent_sections, count, lent_names[1], count, lent_names[2], count,
+                                   lent_names[3], count, lent_names[4], count};
+    size_t at, sort;
+    for (at = 0; at < count; at += 1) {
+        struct elfsee_lent_name name = {bytes[at], 2, 0x1000 * at};
+        bytes[at][0] = (uint8_t)(1 + at / 200);
+        bytes[at][1] = (uint8_t)(1 + at % 200);
+        lent_sections[at].index = (uint16_t)(at + 1);
+        lent_sections[at].address = 0x1000 * at;
+        for (sort = 1; sort < 5; sort += 1) lent_names[sort][at] = name;
+    }
+    return layout;
+}
+
+static int is_bad_layout(const struct elfsee_layout *layout) {
+    struct elfsee_missing missing;
+    struct elfsee_end end;
+    return is_bad(place(limits_of(4096, 0), ROOM, 1, layout, OUT, &missing, &end), &end) &&
+           is_zero(&missing, sizeof missing);
+}
+
+static int is_good_layout(const struct elfsee_layout *layout) {
+    struct elfsee_missing missing;
+    struct elfsee_end end;
+    uint32_t status = place(limits_of(4096, 0), ROOM, 1, layout, OUT, &missing, &end);
+    paint();
+    return (status == ELFSEE_OK || status == ELFSEE_REFUSED) && end.none == 0;
+}
+
+static void lent_layouts(void) {
+    struct elfsee_layout layout = risen(ITEMS), shorter;
+    struct elfsee_missing missing;
+    struct elfsee_end end;
+    uint8_t long_name[300];
+    size_t at, sort;
+    int indices = 1, orders = 1, twice = 1, lengths = 1, nuls = 1;
+    check(is_good_layout(&NO_LAYOUT), "a layout of no items at NULL");
+    check(is_good_layout(&layout), "200 items of each sort");
+    for (at = 1; at < ITEMS; at += 1) {
+        lent_sections[at].index = (uint16_t)at;
+        indices &= is_bad_layout(&layout);
+        lent_sections[at].index = 0;
+        indices &= is_bad_layout(&layout);
+        layout = risen(ITEMS);
+        for (sort = 1; sort < 5; sort += 1) {
+            struct elfsee_lent_name kept = lent_names[sort][at];
+            lent_names[sort][at] = lent_names[sort][at - 1];
+            twice &= is_bad_layout(&layout);
+            lent_names[sort][at - 1] = kept;
+            lent_names[sort][at] = kept;
+            twice &= is_bad_layout(&layout);
+            layout = risen(ITEMS);
+            lent_names[sort][at].name_len = 1;
+            orders &= (at % 200 == 0) == is_good_layout(&layout);
+            lent_names[sort][at].name_len = 0;
+            lengths &= is_bad_layout(&layout);
+            layout = risen(ITEMS);
+        }
+    }
+    check(indices, "sections whose indices do not rise");
+    check(orders, "names that do not rise");
+    check(twice, "names that are there twice");
+    check(lengths, "names of no byte");
+    memset(long_name, 'n', sizeof long_name);
+    lengths = 1;
+    for (sort = 1; sort < 5; sort += 1) {
+        lent_names[sort][ITEMS - 1].name = long_name;
+        lent_names[sort][ITEMS - 1].name_len = 255;
+        lengths &= is_good_layout(&layout);
+        lent_names[sort][ITEMS - 1].name_len = 256;
+        lengths &= is_bad_layout(&layout);
+        lent_names[sort][ITEMS - 1].name_len = 255;
+        for (at = 0; at < 255; at += 1) {
+            long_name[at] = 0;
+            nuls &= is_bad_layout(&layout);
+            long_name[at] = 'n';
+        }
+        layout = risen(ITEMS);
+    }
+    check(lengths, "names of 255 and of 256 bytes");
+    check(nuls, "names with a NUL at each place, in a layout that is lent");
+    shorter = risen(60);
+    shorter.definitions_len = shorter.linkage_len = 0;
+    check(place(limits_of(4096, 0), ROOM, 1, &shorter, OUT, &missing, &end) == ELFSEE_REFUSED &&
+              (missing.helpful == 2 || missing.helpful == 6) && missing.name_len == 5 && missing.is_cut == 0 &&
+              !memcmp(missing.name, "other", 5) && is_zero(missing.name + 5, sizeof missing.name - 5) && end.written == 0,
+          "what a layout lacks");
+    paint();
+    lent_names[1][0].name = (const uint8_t *)"other";
+    lent_names[1][0].name_len = 5;
+    shorter = NO_LAYOUT;
+    shorter.definitions = lent_names[1];
+    shorter.definitions_len = 1;
+    check(place(limits_of(4096, 0), ROOM, 1, &shorter, OUT, &missing, &end) == ELFSEE_REFUSED && missing.helpful == 1 &&
+              missing.section == 1,
+          "the section that a layout lacks");
+    paint();
+}
+
 static void sections(void) {
     static const uint32_t numbers[] = {0, 60000, 65279, 65535, 65536, 65537, UINT32_MAX};
     struct elfsee_end end;
@@ -576,7 +714,13 @@ static int any_steps(void) {
     struct elfsee_rows rows = any_rows(library.len), old = rows;
     struct lent lent = lend(24 * want, 0);
     int all;
-    switch (next() % 3) {
+    switch (next() % 4) {
+    case 3:
+        if (next() & 1) rows.entry = old.entry = 2;
+        count = elfsee_next_version_words(library.bytes, library.len, &rows,
+                                          (struct elfsee_version_word *)(void *)lent.bytes, want);
+        all = lie_inside(&old, &rows, count, 2, library.len);
+        break;
     case 0:
         count = elfsee_next_symbols(library.bytes, library.len, &rows,
                                     (struct elfsee_symbol *)(void *)lent.bytes, want);
@@ -603,7 +747,13 @@ static int any_steps_within(void) {
     struct lent lent = lend(24 * want, 0);
     struct elfsee_end end = ODD;
     uint64_t asked = any(4 * library.len), before = asked, size = 24;
-    switch (next() % 3) {
+    switch (next() % 4) {
+    case 3:
+        size = 2;
+        if (next() & 1) rows.entry = old.entry = 2;
+        count = elfsee_next_version_words_within(library.bytes, library.len, &limits, &asked, &rows,
+                                                 (struct elfsee_version_word *)(void *)lent.bytes, want, &end);
+        break;
     case 0:
         count = elfsee_next_symbols_within(library.bytes, library.len, &limits, &asked, &rows,
                                            (struct elfsee_symbol *)(void *)lent.bytes, want, &end);
@@ -638,6 +788,32 @@ static int any_opening_within(void) {
                                        &end);
     if (!take_back(&lent) || status > ELFSEE_BAD_CALL || status == ELFSEE_FULL) return 0;
     return asked >= before && !(limits.has_budget && before <= limits.budget && asked > limits.budget);
+}
+
+/* Records of versions from any place on: each lies in the file, and they end. */
+static int any_records(void) {
+    struct elfsee_version_records records = {any(library.len), any(library.len), any(library.len), 7, any(library.len),
+                                             next() % 50, 7, 7, (uint32_t)(next() % 5), 7}, old;
+    struct elfsee_version_record row;
+    struct elfsee_end end = ODD;
+    uint32_t status;
+    if (next() & 1) records.at = next() % library.len, records.size = library.len - records.at;
+    if (next() & 1) records.place = 0, records.owner = next() % 40;
+    old = records;
+    memset(&row, 77, sizeof row);
+    while ((status = elfsee_next_version_record(library.bytes, library.len, &records, &row, &end)) == ELFSEE_OK) {
+        if (row.at != old.at + old.place || row.at > library.len || library.len - row.at < 16) return 0;
+        if (row.named_at > library.len || library.len - row.named_at < 4) return 0;
+        if (row.kind != old.kind || (row.number & 32767) > 1023 || records.left + 1 != old.left) return 0;
+        if (records.at != old.at || records.size != old.size || records.none != 7 || records.strings_at != 7) return 0;
+        if (end.asked || end.written || end.cause || end.at) return 0;
+        old = records;
+    }
+    return !memcmp(&old, &records, sizeof old) && end.asked == 0 && end.written == 0 && end.none == 0 &&
+           (status == ELFSEE_ABSENT ? end.cause == 0
+                                    : status == ELFSEE_REFUSED && (end.cause == ELFSEE_VERSION_CUT ||
+                                                                   end.cause == ELFSEE_VERSION_INDEX ||
+                                                                   end.cause == ELFSEE_BAD_VERSION));
 }
 
 /* Notes from any place on: each lies in the file behind the one before, until they end or are cut. */
@@ -931,6 +1107,52 @@ static int any_apply(void) {
     return take_back(&some_room) & take_back(&some_out) & all;
 }
 
+static int any_place(void) {
+    struct lent file = changed(&object), some_room = lend(next() % (64 * 50), next() & 1);
+    struct lent some_out = lend(next() % 200, next() & 1);
+    struct elfsee_limits limits = any_limits();
+    struct elfsee_end end = ODD;
+    struct elfsee_missing missing;
+    struct elfsee_layout layout = risen(next() % ITEMS);
+    unsigned odd;
+    memset(&missing, (int)next(), sizeof missing);
+    if (next() & 1) layout.definitions_len = 0;
+    for (odd = next() % 8 ? 0 : 2; odd && layout.sections_len; odd -= 1) {
+        size_t at = next() % layout.sections_len;
+        lent_sections[at].index = (uint16_t)any(300);
+        lent_names[1 + next() % 4][at].name_len = next() % 3;
+    }
+    uint32_t status = elfsee_apply_lent(file.bytes, file.len, &limits, next() & 1 ? 1 : (uint16_t)any(20), &layout,
+                                        some_room.bytes, some_room.len, some_out.bytes, some_out.len, &missing, &end);
+    int all = is_end(&end, status, &limits, some_out.len) && status != ELFSEE_ABSENT;
+    all &= status == ELFSEE_OK || status == ELFSEE_FULL || end.written == 0;
+    all &= status == ELFSEE_REFUSED || is_zero(&missing, sizeof missing);
+    all &= missing.helpful < 32 && missing.section < 65536 && missing.name_len <= 255 && missing.is_cut <= 1 &&
+           (missing.helpful || is_zero(&missing, sizeof missing));
+    take_back(&file);
+    return take_back(&some_room) & take_back(&some_out) & all;
+}
+
+/* Definitions and needs of a changed file, opened with any limits. */
+static int any_open_records(void) {
+    struct lent file = changed(&library), some_room = lend(next() % (64 * 50), next() & 1);
+    struct elfsee_limits limits = any_limits();
+    struct elfsee_end end = ODD;
+    struct elfsee_version_records records = {77, 77, 77, 77, 77, 77, 77, 77, 77, 77}, old = records;
+    uint32_t status = elfsee_version_records(file.bytes, file.len, &limits, (uint16_t)any(30), some_room.bytes,
+                                             some_room.len, &records, &end);
+    int all = status != ELFSEE_FULL && is_end(&end, status, &limits, 0);
+    if (status == ELFSEE_OK) {
+        all &= records.place == 0 && records.owner == 0 && records.none == 0 && records.kind <= 2 &&
+               records.left <= records.size / 16;
+        all &= records.size == 0 || (records.at <= file.len && records.size <= file.len - records.at);
+    } else {
+        all &= !memcmp(&records, &old, sizeof old);
+    }
+    take_back(&file);
+    return take_back(&some_room) && all;
+}
+
 static int any_open(void) {
     struct lent file = changed(next() & 1 ? &object : &library),
                 some_room = lend(next() % (64 * 50), next() & 1);
@@ -1028,7 +1250,13 @@ static void over_no_file(const uint8_t *file, uint32_t *told, struct elfsee_end 
     struct elfsee_note note;
     struct elfsee_members members = {0, {0, 0}, 0, 0};
     struct elfsee_member member;
+    struct elfsee_missing missing;
+    struct elfsee_version_records records = {0, 100, 0, 0, 0, 9, 0, 0, 1, 0};
+    struct elfsee_version_record record;
     unsigned at = 0, table;
+    told[at++] = elfsee_apply_lent(file, 0, &limits, 1, &NO_LAYOUT, room.bytes, ROOM, out.bytes, OUT, &missing, end);
+    told[at++] = elfsee_next_version_record(file, 0, &records, &record, end);
+    told[at++] = elfsee_version_records(file, 0, &limits, 1, room.bytes, ROOM, &records, end);
     told[at++] = elfsee_show(file, 0, &limits, ELFSEE_ALL, room.bytes, ROOM, out.bytes, OUT, end);
     told[at++] = elfsee_find(file, 0, &limits, room.bytes, ROOM, (const uint8_t *)"call", 4, &found, end);
     told[at++] = elfsee_apply(file, 0, &limits, &job, room.bytes, ROOM, out.bytes, OUT, end);
@@ -1051,7 +1279,7 @@ static void over_no_file(const uint8_t *file, uint32_t *told, struct elfsee_end 
     paint();
 }
 
-enum { TOLD = 20 };
+enum { TOLD = 24 };
 
 /* Where a file, a room, an output or a name has no bytes, NULL is as good an address as another. */
 static void no_memory(void) {
@@ -1112,12 +1340,14 @@ int main(int argc, char **argv) {
     many_items();
     odd_items();
     item_lengths();
+    lent_layouts();
     sections();
     small_section();
     many("next rows, by any numbers", any_steps, tries);
     many("next rows within any budget", any_steps_within, tries);
     many("dynamic entries opened within any budget", any_opening_within, tries);
     many("notes, by any numbers", any_notes, tries);
+    many("records of versions, by any numbers", any_records, tries);
     first_members();
     cut_archives();
     many("members, by any numbers", any_members, tries);
@@ -1130,7 +1360,9 @@ int main(int argc, char **argv) {
     many("a loader's lookups in changed files, with any flags", any_look_up, tries);
     many("the bytes of sections of changed files", any_bytes, tries);
     many("sections of changed files, with any items", any_apply, tries);
+    many("sections of changed files, in any layout that is lent", any_place, tries);
     many("tables of changed files, with any limits", any_open, tries);
+    many("records of versions of changed files, with any limits", any_open_records, tries);
     check(is_whole(&out) && is_whole(&room) && is_whole(&object) && is_whole(&library) && is_whole(&archive),
           "nothing beside was written");
     printf("%u passed, %u failed\n", passed, failed);

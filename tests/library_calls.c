@@ -5,7 +5,10 @@
  *     find HEADERS BUDGET NAME PATH          NAME in hexadecimal digits, or -
  *     resolve HEADERS BUDGET FLAGS NAME VERSION PATH   both in hexadecimal digits, or -
  *     apply HEADERS BUDGET SECTION ITEMS PATH
+ *     place HEADERS BUDGET SECTION ITEMS PATH          the same in a layout that is lent; where it is refused
+ *                                            the bytes tell what that lacks
  *     rows PATH
+ *     versions PATH                          the lines of symbol versions
  *     members PATH                           the lines of the members of an archive
  *     words                                  the words of the causes
  *
@@ -24,7 +27,7 @@
 #include <sys/stat.h>
 #include <unistd.h>
 
-enum { MOST_ITEMS = 200, HEADER_BYTES = 64 };
+enum { MOST_ITEMS = 2000, HEADER_BYTES = 64 };
 
 static unsigned turn; /* lent memory lies at the page behind it and at that before it by turns */
 
@@ -299,6 +302,102 @@ static void apply(const struct lent *file, char **words) {
     take_back(&out);
 }
 
+/* Names in the rising order of their bytes. */
+static int by_name(const void *one, const void *other) {
+    const struct elfsee_lent_name *a = one, *b = other;
+    int order = memcmp(a->name, b->name, a->name_len < b->name_len ? a->name_len : b->name_len);
+    return order ? order : a->name_len < b->name_len ? -1 : a->name_len > b->name_len;
+}
+
+static int by_index(const void *one, const void *other) {
+    const struct elfsee_lent_section *a = one, *b = other;
+    return a->index < b->index ? -1 : a->index > b->index;
+}
+
+/* A layout of items, each list where no byte beside it can be touched; one without items is at NULL by turns. */
+static struct elfsee_layout layout_of(const struct elfsee_item *items, size_t count, struct lent *lists) {
+    static struct elfsee_lent_section sections[MOST_ITEMS];
+    static struct elfsee_lent_name names[5][MOST_ITEMS];
+    size_t counts[5] = {0}, at, kind;
+    for (at = 0; at < count; at += 1) {
+        struct elfsee_lent_name name = {items[at].name, items[at].name_len, items[at].address};
+        if (items[at].kind == ELFSEE_SECTION) {
+            memset(&sections[counts[0]], 7, sizeof *sections);
+            sections[counts[0]].index = (uint16_t)items[at].index;
+            sections[counts[0]++].address = items[at].address;
+        } else {
+            names[items[at].kind][counts[items[at].kind]++] = name;
+        }
+    }
+    qsort(sections, counts[0], sizeof *sections, by_index);
+    lists[0] = lend_copy(sections, counts[0] * sizeof *sections, turn & 1);
+    for (kind = 1; kind < 5; kind += 1) {
+        qsort(names[kind], counts[kind], sizeof **names, by_name);
+        lists[kind] = lend_copy(names[kind], counts[kind] * sizeof **names, turn & 1);
+    }
+    struct elfsee_layout layout = {(void *)lists[0].bytes, counts[0], (void *)lists[1].bytes, counts[1],
+                                   (void *)lists[2].bytes, counts[2], (void *)lists[3].bytes, counts[3],
+                                   (void *)lists[4].bytes, counts[4]};
+    if (turn & 4 && !counts[0]) layout.sections = 0;
+    if (turn & 4 && !counts[1]) layout.definitions = 0;
+    if (turn & 4 && !counts[2]) layout.linkage = 0;
+    if (turn & 4 && !counts[3]) layout.table = 0;
+    if (turn & 4 && !counts[4]) layout.thread = 0;
+    return layout;
+}
+
+/* What a layout lacks, as the numbers and the name in hexadecimal digits. */
+static size_t say_missing(const struct elfsee_missing *missing, char *text, size_t size) {
+    size_t len, i;
+    expect(missing->name_len <= 255 && missing->is_cut <= 1 && missing->helpful < 32, "missing out of its range");
+    for (i = missing->name_len; i < sizeof missing->name; i += 1) expect(missing->name[i] == 0, "a byte behind a name");
+    len = (size_t)snprintf(text, size, "%" PRIu32 " %" PRIu32 " %" PRIu32 " %" PRIu32 " ", missing->helpful,
+                           missing->section, missing->relocation, missing->is_cut);
+    for (i = 0; i < missing->name_len; i += 1) len += (size_t)snprintf(text + len, size - len, "%02x", missing->name[i]);
+    return len;
+}
+
+static void place(const struct lent *file, char **words) {
+    static struct elfsee_item items[MOST_ITEMS];
+    static uint8_t names[MOST_ITEMS * 300];
+    static const struct elfsee_missing nothing;
+    struct elfsee_limits limits = limits_of(words[0], "1", words[1]);
+    struct lent lists[5], room, out;
+    struct elfsee_layout layout = layout_of(items, items_of(words[3], items, names), lists);
+    uint16_t section = (uint16_t)strtoul(words[2], 0, 0);
+    struct elfsee_missing missing;
+    struct elfsee_end end = {7, 7, 7, 7, 7};
+    size_t room_len = (size_t)elfsee_room(file->bytes, file->len, limits.headers), out_len = 64;
+    uint32_t status;
+    char text[1024];
+    for (;; out_len *= 4) {
+        memset(&missing, 7, sizeof missing);
+        out = lend(out_len, turn & 1);
+        room = lend(room_len, turn++ & 2);
+        status = elfsee_apply_lent(file->bytes, file->len, &limits, section, &layout, room.bytes, room.len, out.bytes,
+                                   out_len, &missing, &end);
+        expect(is_whole(&out), "out was written outside");
+        expect(take_back(&room), "room was written outside");
+        if (status != ELFSEE_FULL) break;
+        expect(take_back(&out), "out was written outside");
+    }
+    expect(end.written <= out_len && (status == ELFSEE_OK || end.written == 0), "written is wrong");
+    expect(status == ELFSEE_REFUSED || !memcmp(&missing, &nothing, sizeof missing), "missing where nothing is refused");
+    size_t len = say_missing(&missing, text, sizeof text);
+    answer(status, &end, UINT64_MAX, status == ELFSEE_OK ? (char *)out.bytes : text,
+           status == ELFSEE_OK ? (size_t)end.written : len);
+    if (status == ELFSEE_OK && end.written) {
+        struct lent less = lend((size_t)end.written - 1, turn & 1);
+        room = lend(room_len, turn++ & 2);
+        expect(elfsee_apply_lent(file->bytes, file->len, &limits, section, &layout, room.bytes, room.len, less.bytes,
+                                 less.len, &missing, &end) == ELFSEE_FULL,
+               "a section without room for its last byte");
+        expect(take_back(&less) && take_back(&room), "written outside");
+    }
+    take_back(&out);
+    for (len = 0; len < 5; len += 1) expect(take_back(&lists[len]), "a list was written");
+}
+
 /* ------------------------------------------------------------------------- */
 /* All rows of a file, a line for each, with numbers for names of numbers. */
 
@@ -348,7 +447,7 @@ static int say_name(struct walk *walk, const struct elfsee_range *strings, uint6
 
 /* The rows that were opened, stepped over once more within a budget: each row counts, `size` bytes of the file; with
  * a budget for one row less, the last is what it ends before. `kind` is what they are. */
-enum kind { OF_SYMBOLS, OF_RELOCATIONS, OF_DYNAMIC };
+enum kind { OF_SYMBOLS, OF_RELOCATIONS, OF_DYNAMIC, OF_WORDS };
 
 static size_t step_within(struct walk *walk, enum kind kind, const struct elfsee_limits *limits, uint64_t *asked,
                           struct elfsee_rows *rows, struct elfsee_end *end) {
@@ -356,6 +455,9 @@ static size_t step_within(struct walk *walk, enum kind kind, const struct elfsee
     struct elfsee_symbol symbols[9];
     struct elfsee_relocation relocations[9];
     struct elfsee_dynamic entries[9];
+    struct elfsee_version_word words[9];
+    if (kind == OF_WORDS)
+        return elfsee_next_version_words_within(file->bytes, file->len, limits, asked, rows, words, 9, end);
     if (kind == OF_SYMBOLS)
         return elfsee_next_symbols_within(file->bytes, file->len, limits, asked, rows, symbols, 9, end);
     if (kind == OF_RELOCATIONS)
@@ -364,7 +466,7 @@ static size_t step_within(struct walk *walk, enum kind kind, const struct elfsee
 }
 
 static void try_within(struct walk *walk, enum kind kind, const struct elfsee_rows *opened) {
-    uint64_t size = kind == OF_DYNAMIC ? 16 : 24, less;
+    uint64_t size = kind == OF_DYNAMIC ? 16 : kind == OF_WORDS ? 2 : 24, less;
     for (less = 0; less < 2; less += 1) {
         struct elfsee_limits limits = {1, 1, 1, 0};
         struct elfsee_rows rows = *opened;
@@ -560,6 +662,93 @@ static int say_segment_notes(struct walk *walk, uint16_t segment) {
     return say_notes(walk, status, &notes);
 }
 
+/* The names that numbers of versions have, each in a string table of its own. */
+struct version_names {
+    struct elfsee_range strings[1024];
+    uint32_t names[1024];
+    int has_name[1024], is_read[4]; /* the definitions, and the needs, of the first section of them */
+};
+
+static struct version_names versions_named;
+
+/* The records of a section of definitions, or of needs. */
+static int say_records(struct walk *walk, uint16_t section, uint32_t first) {
+    static const char *const KINDS[] = {"?", "DEF ", "FILE", "NEED"};
+    struct version_names *named = &versions_named;
+    struct elfsee_version_records records, before;
+    struct elfsee_version_record row;
+    struct elfsee_section header;
+    memset(&records, 7, sizeof records);
+    memset(&header, 7, sizeof header);
+    if (elfsee_section(walk->file->bytes, walk->file->len, section, &header, &walk->end)) return 0;
+    if (header.type != (first == ELFSEE_DEFINITION ? 0x6ffffffd : 0x6ffffffe)) return 1;
+    uint32_t status = elfsee_version_records(walk->file->bytes, walk->file->len, &walk->limits, section,
+                                             walk->room.bytes, walk->room.len, &records, &walk->end);
+    if (status != ELFSEE_OK) {
+        expect(status == ELFSEE_REFUSED, "a section without records");
+        return 0;
+    }
+    expect(records.none == 0 && walk->end.asked == 0 && records.kind == (records.size ? first : 0),
+           "an opening of records");
+    for (;;) {
+        struct elfsee_range strings = {records.strings_at, records.strings_len};
+        before = records;
+        memset(&row, 7, sizeof row);
+        status = elfsee_next_version_record(walk->file->bytes, walk->file->len, &records, &row, &walk->end);
+        if (status != ELFSEE_OK) break;
+        expect(records.left + 1 == before.left && row.at == before.at + before.place && row.kind == before.kind,
+               "a record of another place");
+        expect(row.at + 16 <= walk->file->len && row.named_at + 4 <= walk->file->len, "a record outside the file");
+        say(walk, "V %5u %s %5u %04x %08x ", section, KINDS[row.kind], row.number, row.flags, row.hash);
+        if (!say_name(walk, &strings, row.name)) return 0;
+        say(walk, "\n");
+        uint32_t number = row.number & 32767;
+        expect(number < 1024, "a number of a version");
+        int names = row.kind == ELFSEE_NEED || (row.kind == ELFSEE_DEFINITION && !(row.flags & 1));
+        if (!named->is_read[first] && names && !named->has_name[number]) {
+            named->has_name[number] = 1;
+            named->strings[number] = strings;
+            named->names[number] = row.name;
+        }
+    }
+    expect(!memcmp(&before, &records, sizeof before), "a step without a record");
+    named->is_read[first] = 1;
+    return status == ELFSEE_ABSENT;
+}
+
+static int say_definitions(struct walk *walk, uint16_t section) {
+    return say_records(walk, section, ELFSEE_DEFINITION);
+}
+
+static int say_needs(struct walk *walk, uint16_t section) {
+    return say_records(walk, section, ELFSEE_FILE);
+}
+
+/* The versions of symbols of a section. */
+static int say_words(struct walk *walk, uint16_t section) {
+    struct elfsee_rows rows = {7, 7, 7, 7, 7, 7};
+    struct elfsee_version_word some[7];
+    size_t i, count = 7;
+    uint64_t index = 0;
+    uint32_t status = elfsee_version_words(walk->file->bytes, walk->file->len, &walk->limits, section,
+                                           walk->room.bytes, walk->room.len, &rows, &walk->end);
+    if (status != ELFSEE_OK) return status == ELFSEE_ABSENT;
+    expect(rows.entry == 2 && rows.index == 0 && rows.strings_at == 0 && rows.strings_len == 0, "an opening of words");
+    try_within(walk, OF_WORDS, &rows);
+    while (count == 7) {
+        count = elfsee_next_version_words(walk->file->bytes, walk->file->len, &rows, some, 7);
+        for (i = 0; i < count; i += 1, index += 1) {
+            uint16_t number = some[i].number;
+            expect(number < 32768 && some[i].is_hidden <= 1, "a word out of its range");
+            if (number >= 1024 || (number > 1 && !versions_named.has_name[number])) return 0;
+            say(walk, "X %5u %10" PRIu64 " %5u %s ", section, index, number, some[i].is_hidden ? "H" : "-");
+            if (number > 1 && !say_name(walk, &versions_named.strings[number], versions_named.names[number])) return 0;
+            say(walk, "\n");
+        }
+    }
+    return 1;
+}
+
 /* The bytes of a section are those that its header tells, where they lie in the file and it has any there. */
 static void expect_bytes(const struct walk *walk, uint16_t index, const struct elfsee_section *header,
                          uint64_t place) {
@@ -660,6 +849,25 @@ static void rows(const struct lent *file) {
     expect(take_back(&walk.room), "room was written outside");
 }
 
+/* The lines of symbol versions, as the program lists them with 4,096 bytes of a name. */
+static void versions(const struct lent *file) {
+    struct walk walk;
+    struct elfsee_header header;
+    memset(&walk, 0, sizeof walk);
+    memset(&header, 0, sizeof header);
+    memset(&versions_named, 0, sizeof versions_named);
+    walk.file = file;
+    walk.limits.headers = 65279;
+    walk.limits.name = 4096;
+    walk.room = lend((size_t)elfsee_room(file->bytes, file->len, 65279), turn++ & 2);
+    int all = !elfsee_header(file->bytes, file->len, &header, &walk.end) &&
+              say_each(&walk, header.shnum, say_definitions) && say_each(&walk, header.shnum, say_needs) &&
+              say_each(&walk, header.shnum, say_words);
+    answer(all ? ELFSEE_OK : ELFSEE_REFUSED, &walk.end, UINT64_MAX, walk.text, walk.len);
+    free(walk.text);
+    expect(take_back(&walk.room), "room was written outside");
+}
+
 /* The members of an archive, a line for each as the program lists them with 4,096 bytes of a name. */
 static void members(const struct lent *file) {
     struct walk walk;
@@ -727,6 +935,7 @@ static void answer_line(char *line) {
                    : !strncmp(line, "find ", 5)    ? 4
                    : !strncmp(line, "resolve ", 8) ? 6
                    : !strncmp(line, "apply ", 6)   ? 5
+                   : !strncmp(line, "place ", 6)   ? 5
                                                    : 1;
     if (!strcmp(line, "words")) {
         words_of_causes();
@@ -739,7 +948,9 @@ static void answer_line(char *line) {
     if (!strcmp(words[0], "find")) find(&file, words + 1);
     if (!strcmp(words[0], "resolve")) resolve(&file, words + 1);
     if (!strcmp(words[0], "apply")) apply(&file, words + 1);
+    if (!strcmp(words[0], "place")) place(&file, words + 1);
     if (!strcmp(words[0], "rows")) rows(&file);
+    if (!strcmp(words[0], "versions")) versions(&file);
     if (!strcmp(words[0], "members")) members(&file);
     take_back(&file);
 }

@@ -72,6 +72,44 @@ static void call_apply(void) {
     elfsee_apply(file, file_len, &LIMITS, &job, room, ROOM, out, OUT, &end);
 }
 
+/* In a layout that is lent, of which most is missing: so that it is told what would help. */
+static void call_place(void) {
+    static struct elfsee_lent_section sections[300];
+    static struct elfsee_lent_name names[300];
+    static uint8_t bytes[300][255];
+    struct elfsee_layout layout = {sections, 300, names, 300, names, 300, names, 300, names, 300};
+    struct elfsee_missing missing;
+    unsigned i;
+    memset(&missing, 0, sizeof missing);
+    for (i = 0; i < 300; i += 1) {
+        struct elfsee_lent_name name = {bytes[i], 255, 0x400000 + i};
+        memset(bytes[i], 'a', 255);
+        bytes[i][0] = (uint8_t)(1 + i / 250);
+        bytes[i][1] = (uint8_t)(1 + i % 250);
+        names[i] = name;
+        sections[i].index = (uint16_t)(i + 1);
+        sections[i].address = 0x400000 + 0x1000 * i;
+    }
+    elfsee_apply_lent(file, file_len, &LIMITS, section, &layout, room, ROOM, out, OUT, &missing, &end);
+    layout.sections_len = 0;
+    elfsee_apply_lent(file, file_len, &LIMITS, section, &layout, room, ROOM, out, OUT, &missing, &end);
+}
+
+static void call_versions(void) {
+    struct elfsee_version_records records;
+    struct elfsee_version_record record;
+    struct elfsee_version_word word;
+    uint64_t asked = 0;
+    memset(&records, 0, sizeof records);
+    memset(&record, 0, sizeof record);
+    if (elfsee_version_words(file, file_len, &LIMITS, section, room, ROOM, &rows, &end) == ELFSEE_OK) {
+        elfsee_next_version_words(file, file_len, &rows, &word, 1);
+        elfsee_next_version_words_within(file, file_len, &LIMITS, &asked, &rows, &word, 1, &end);
+    }
+    if (elfsee_version_records(file, file_len, &LIMITS, section, room, ROOM, &records, &end) == ELFSEE_OK)
+        elfsee_next_version_record(file, file_len, &records, &record, &end);
+}
+
 static void call_symbols(void) {
     struct elfsee_symbol symbol;
     if (elfsee_symbols(file, file_len, &LIMITS, section, room, ROOM, &rows, &end) == ELFSEE_OK)
@@ -171,7 +209,7 @@ static const struct {
              {"look_up", call_look_up, 0},
              {"apply", call_apply, 1},     {"symbols", call_symbols, 1}, {"relocations", call_relocations, 1},
              {"dynamic", call_dynamic, 1},     {"headers", call_headers, 1},
-             {"within", call_within, 1},
+             {"within", call_within, 1},       {"apply_lent", call_place, 1}, {"versions", call_versions, 1},
              {"notes", call_notes, 1},     {"members", call_members, 0}};
 enum { COUNT = sizeof CALLS / sizeof *CALLS };
 

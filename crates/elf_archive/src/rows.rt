@@ -18,8 +18,8 @@ use crate::magic_strings::magic;
 use crate::member::Extent;
 use crate::names::{LONG_NAME_BYTES, long_length};
 use elf_headers::Fault;
+use elf_memory::{ByteRange, bytes_of, chunk_at};
 use elf_record::{Cause, Refusal};
-use elf_rows::{ByteRange, bytes_of, chunk_at};
 use elf_source::{Counted, MemorySource};
 
 /// The most bytes of a name that a row tells.

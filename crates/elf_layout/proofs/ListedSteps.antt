@@ -1,5 +1,5 @@
 -- Items of lines, one after another, and sorted items of which two have one key.
-use Rattle.std.proofs.Common.{◌≡◌, ◌≢◌, ℕ, zero, suc, ◌+◌, ◌-◌, ◌<◌, ◌≤◌, List, [], ◌∷◌, ◌++◌, length, get_or, take, ap₂, drop, take-append-drop, append_assoc, ◌==◌, All, Ordering, Less, Equal, Greater, Option, Some, None, Result, Ok, Err, IfSome, IsNone, MatchBool, Bool, true, false, refl, sym, ap, subst, ◌∙◌, arith, inl, inr, is_lt, nat_cmp}
+use Rattle.std.proofs.Common.{◌≡◌, ◌≢◌, ℕ, zero, suc, ◌+◌, ◌-◌, ◌<◌, ◌≤◌, List, [], ◌∷◌, ◌++◌, length, get_or, take, map, ap₂, drop, take-append-drop, append_assoc, ◌==◌, All, Ordering, Less, Equal, Greater, Option, Some, None, Result, Ok, Err, IfSome, IsNone, MatchBool, Bool, true, false, refl, sym, ap, subst, ◌∙◌, arith, inl, inr, is_lt, nat_cmp}
 use Rattle.std.specs.Borrow.{Bor}
 use Rattle.std.specs.Cmp.{IsTotalOrder}
 use Rattle.std.specs.List.{AllZip}
@@ -19,13 +19,14 @@ use Rattle.std.proofs.lemmas.List.Elements.{All-nil, All-push}
 use Rattle.elf_model.specs.Placing.{Layout}
 use Rattle.elf_layout.specs.Listed.{AreAlike, GiveItems, HasTwice, IsFaulty, IsLastAlike, NeverFalls, SpellsAlike, with_item, with_items}
 use Rattle.elf_layout.specs.Layouts.{HaveNames, IsName}
-use Rattle.elf_layout.specs.Lent.{Follows, LentItem as Lent, MayFollow, lent_name, name_order, named}
+use Rattle.elf_layout.specs.Lent.{Follows, MayFollow, lent_name, name_order, named}
 use Rattle.elf_layout.specs.Spelled.{Spells}
+use Rattle.elf_layout.specs.declared.lent.LentName.{LentName}
 use Rattle.elf_layout.specs.declared.layout.Item.{Item}
 use Rattle.elf_layout.specs.declared.layout.Item.TheVariants.{Section, Define, Entry, Table, Thread}
 use Rattle.elf_layout.proofs.ItemLaws.{SameItem, one_item}
 use Rattle.elf_layout.proofs.LayoutSteps.{drop-at}
-use Rattle.elf_layout.proofs.NameSteps.{order_same, some_item}
+use Rattle.elf_layout.proofs.NameSteps.{order_same}
 
 zip_push : (lines : List (List ℕ)) (items : List Item) (line : List ℕ) (item : Item) → AllZip Spells lines items → Spells line item → AllZip Spells (lines ++ line ∷ []) (items ++ item ∷ [])
 zip_push [] [] line item zip spells = (spells, tt)
@@ -118,41 +119,56 @@ module _ {K : Type 0} {order : K → K → Ordering} (total : IsTotalOrder order
     | inr none ↦ absurd (not (λ d above. absurd (omega (arith, above, none))))
   ]
 
--- the same of names that are lent
-abbrev as_named : Lent → List ℕ × ℕ
-as_named item = (lent_name item, item.1)
-
-named_at : (items : List Lent) (i : ℕ) (d : Lent) (e : List ℕ × ℕ) → i < length items → get_or (named items) i e ≡ as_named (get_or items i d)
-named_at items i d e within = get_or-map as_named items i d e within
-
-long : (items : List Lent) → length (named items) ≡ length items
-long items = length-map items as_named
-
-pub names_twice : (items : List Lent) (i : ℕ) (e : Lent) → i < length items → NeverFalls name_order (named items) → (MayFollow items i → ⊥) → IsName (lent_name (get_or items i e))
-    → HasTwice (named items) (lent_name (get_or items i e))
-names_twice items i e within sorted not is_name =
-    let inside : i < length (named items) = omega (arith, within, long items) in
-    subst (HasTwice (named items)) (ap (λ x. x.0) (named_at items i e (as_named e) within)) (has_twice nat_list_cmp_total order_same (named items) sorted i (as_named e) inside (λ follows. not (
-      (λ d. subst (λ x. IsName (lent_name x)) (get_or_default items i e d within) is_name),
-      λ d some.
-          let before : i - 1 < length items = omega (arith, within) in
-          subst (λ x. name_order x (lent_name (get_or items i d)) ≡ Less) (ap (λ x. x.0) (named_at items (i - 1) d (as_named d) before)) (subst (λ x. name_order (get_or (named items) (i - 1) (as_named d)).0 x ≡ Less) (ap (λ x. x.0) (named_at items i d (as_named d) within)) (follows (as_named d) some)),
-    )))
-
--- the name of an item that is lent, of which each has one that it may have
-pub name_there : (items : List Lent) (i : ℕ) (e : Lent) → i < length items → HaveNames (named items) → IsName (lent_name (get_or items i e))
-name_there items i e within names = subst (λ (x : List ℕ × ℕ). IsName x.0) (named_at items i e (as_named e) within) (names i (as_named e) (omega (arith, within, long items)))
-
 -- sorted pairs have sorted keys
 then_falls : (a b : Ordering) → is_lt (ordering_then a b) ≡ false → a ≡ Less → ⊥
 then_falls Less b falls less = cc
 then_falls Equal b falls less = cc
 then_falls Greater b falls less = cc
 
-pub names_sorted : (items : List Lent) → IsSorted (λ (x y : Lent). ordering_then (slice_cmp nat_cmp x.0.now y.0.now) (nat_cmp x.1 y.1)) items → NeverFalls name_order (named items)
-names_sorted items sorted i e within less =
-    let inside : i + 1 < length items = omega (arith, within, long items) in
-    let before : i < length items = omega (arith, inside) in
-    let d = some_item items (omega (arith, inside)) in
-    then_falls (name_order (lent_name (get_or items (i + 1) d)) (lent_name (get_or items i d))) (nat_cmp (get_or items (i + 1) d).1 (get_or items i d).1) (sorted i d (omega arith) inside)
-    (subst (λ x. name_order x (lent_name (get_or items i d)) ≡ Less) (ap (λ x. x.0) (named_at items (i + 1) d e inside)) (subst (λ x. name_order (get_or (named items) (i + 1) e).0 x ≡ Less) (ap (λ x. x.0) (named_at items i d e before)) less))
+first_of : {X : Type 0} (items : List X) → 0 < length items → X
+first_of [] some = absurd (omega (arith, some))
+first_of (item ∷ items) some = item
+
+-- items that are lent, as pairs of their keys and addresses
+module _ {X K : Type 0} (key : X → K) (address : X → ℕ) (items : List X) where
+  abbrev pub pair : X → K × ℕ
+  pair item = (key item, address item)
+
+  abbrev pub pairs : List (K × ℕ)
+  pairs = map pair items
+
+  pair_at : (i : ℕ) (d : X) (e : K × ℕ) → i < length items → get_or pairs i e ≡ pair (get_or items i d)
+  pair_at i d e within = get_or-map pair items i d e within
+
+  long : length pairs ≡ length items
+  long = length-map items pair
+
+  -- one that does not follow the one before it
+  pub key_twice : {order : K → K → Ordering} (total : IsTotalOrder order) (equal : (a b : K) → order a b ≡ Equal → a ≡ b) (i : ℕ) (e : X) → i < length items → NeverFalls order pairs
+      → (Follows order key items i → ⊥) → HasTwice pairs (key (get_or items i e))
+  key_twice {order} total equal i e within sorted not =
+      let inside : i < length pairs = omega (arith, within, long) in
+      subst (HasTwice pairs) (ap (λ (x : K × ℕ). x.0) (pair_at i e (pair e) within)) (has_twice total equal pairs sorted i (pair e) inside (λ follows. not (λ d some.
+      let before : i - 1 < length items = omega (arith, within) in
+      subst (λ x. order x (key (get_or items i d)) ≡ Less) (ap (λ (x : K × ℕ). x.0) (pair_at (i - 1) d (pair d) before)) (subst (λ x. order (get_or pairs (i - 1) (pair d)).0 x ≡ Less) (ap (λ (x : K × ℕ). x.0) (pair_at i d (pair d) within)) (follows (pair d) some)))))
+
+  -- sorted by their keys, and then by their addresses
+  pub keys_sorted : (order : K → K → Ordering) → IsSorted (λ (x y : X). ordering_then (order (key x) (key y)) (nat_cmp (address x) (address y))) items → NeverFalls order pairs
+  keys_sorted order sorted i e within less =
+      let inside : i + 1 < length items = omega (arith, within, long) in
+      let before : i < length items = omega (arith, inside) in
+      let d = first_of items (omega (arith, inside)) in
+      then_falls (order (key (get_or items (i + 1) d)) (key (get_or items i d))) (nat_cmp (address (get_or items (i + 1) d)) (address (get_or items i d))) (sorted i d (omega arith) inside)
+      (subst (λ x. order x (key (get_or items i d)) ≡ Less) (ap (λ (x : K × ℕ). x.0) (pair_at (i + 1) d e inside)) (subst (λ x. order (get_or pairs (i + 1) e).0 x ≡ Less) (ap (λ (x : K × ℕ). x.0) (pair_at i d e before)) less))
+
+-- names that are lent
+pub names_twice : (items : List LentName) (i : ℕ) (e : LentName) → i < length items → NeverFalls name_order (named items) → (MayFollow items i → ⊥) → IsName (lent_name (get_or items i e))
+    → HasTwice (named items) (lent_name (get_or items i e))
+names_twice items i e within sorted not is_name =
+    key_twice lent_name (λ item. item.address) items nat_list_cmp_total order_same i e within sorted (λ follows. not ((λ d. subst (λ x. IsName (lent_name x)) (get_or_default items i e d within) is_name), follows))
+
+-- the name of an item that is lent, of which each has one that it may have
+pub name_there : (items : List LentName) (i : ℕ) (e : LentName) → i < length items → HaveNames (named items) → IsName (lent_name (get_or items i e))
+name_there items i e within names =
+    let its : LentName → List ℕ × ℕ = λ item. (lent_name item, item.address) in
+    subst (λ (x : List ℕ × ℕ). IsName x.0) (get_or-map its items i e (its e) within) (names i (its e) (omega (arith, within, length-map items its)))

@@ -13,8 +13,9 @@ use Rattle.elf_model.specs.Names.{begins, same}
 use Rattle.elf_model.specs.Placing.{address_named}
 use Rattle.elf_model.specs.declared.causes.Cause.{Cause}
 use Rattle.elf_model.specs.declared.causes.Cause.TheVariants.{NameUnended}
-use Rattle.elf_layout.specs.Lent.{LentItem, MayFollow, lent_name, named, name_order, MayLend, FindsKey, BeginsWith, BeginsAt, IsAddressAt, search_end}
+use Rattle.elf_layout.specs.Lent.{MayFollow, lent_name, named, name_order, MayLend, FindsKey, BeginsWith, BeginsAt, IsAddressAt, search_end}
 use Rattle.elf_layout.specs.Layouts.{IsName}
+use Rattle.elf_layout.specs.declared.lent.LentName.{LentName}
 use Rattle.std.specs.Cmp.Lexicographic.{pointwise}
 use Rattle.std.specs.Ordering.{ord_max}
 use Rattle.elf_layout.proofs.LentSteps.{front_falls}
@@ -95,21 +96,21 @@ begins_between (x ∷ key) (y ∷ name) rest above below =
     ]
 
 -- one of the names is at most as long as the longest
-as_long : (items : List LentItem) (k : ℕ) (d : LentItem) → k < length items → length (lent_name (get_or items k d)) ≤ longest (named items)
+as_long : (items : List LentName) (k : ℕ) (d : LentName) → k < length items → length (lent_name (get_or items k d)) ≤ longest (named items)
 unfolding longest
 as_long [] k d below = absurd (omega (arith, below))
 as_long (item ∷ items) zero d below = omega arith
 as_long (item ∷ items) (suc k) d below = let more = as_long items k d (omega (arith, below)) in omega (arith, more)
 
 -- with one more
-pub longest_more : (items : List LentItem) (i : ℕ) (d : LentItem) → i < length items → longest (named (take (suc i) items)) ≡ max (longest (named (take i items))) (length (lent_name (get_or items i d)))
+pub longest_more : (items : List LentName) (i : ℕ) (d : LentName) → i < length items → longest (named (take (suc i) items)) ≡ max (longest (named (take i items))) (length (lent_name (get_or items i d)))
 unfolding longest
 longest_more [] i d below = absurd (omega (arith, below))
 longest_more (item ∷ items) zero d below = omega arith
 longest_more (item ∷ items) (suc i) d below = let more = longest_more items i d (omega (arith, below)) in omega (arith, more)
 
 -- names that may be lent are short
-pub few_bytes : (items : List LentItem) → All (λ item. IsName (lent_name item)) items → longest (named items) ≤ 255
+pub few_bytes : (items : List LentName) → All (λ item. IsName (lent_name item)) items → longest (named items) ≤ 255
 unfolding longest
 few_bytes [] names = omega arith
 few_bytes (item ∷ items) names =
@@ -117,7 +118,7 @@ few_bytes (item ∷ items) names =
     let more = few_bytes items (λ k d below. names (suc k) d (omega (arith, below))) in omega (arith, first, more)
 
 -- the names of a front
-pub lends_front : (items : List LentItem) (i : ℕ) → i < length items → MayLend (take (i + 1) items) → MayFollow items i
+pub lends_front : (items : List LentName) (i : ℕ) → i < length items → MayLend (take (i + 1) items) → MayFollow items i
 lends_front items i within lend =
     (λ d. subst (λ x. IsName (lent_name x)) (get_or-take (i + 1) items i d (omega arith)) (lend.names i d (omega (arith, within, length-take (i + 1) items))), front_falls nat_list_cmp_total lent_name items i within lend.rise)
 
@@ -127,51 +128,51 @@ begins_said name front true is = (drop (length front) name, (starts_is Decides-e
 begins_said name front false is = λ b. absurd (false≢true ((starts_is Decides-eqb name front false is).1 b.0 b.1))
 
 -- whether a name may follow, from its tests
-pub some_item : (items : List LentItem) → 0 < length items → LentItem
+pub some_item : (items : List LentName) → 0 < length items → LentName
 some_item [] some = absurd (omega (arith, some))
 some_item (item ∷ items) some = item
 
-module _ (items : List LentItem) (i : ℕ) (name : List ℕ) (within : i < length items) (here : (d : LentItem) → name ≡ lent_name (get_or items i d)) where
+module _ (items : List LentName) (i : ℕ) (name : List ℕ) (within : i < length items) (here : (d : LentName) → name ≡ lent_name (get_or items i d)) where
   pub follows_no_name : (IsName name → ⊥) → MayFollow items i → ⊥
   follows_no_name not may =
-      let d : LentItem = some_item items (omega (arith, within)) in not (subst IsName (sym (here d)) (may.0 d))
+      let d : LentName = some_item items (omega (arith, within)) in not (subst IsName (sym (here d)) (may.0 d))
 
   pub follows_first : IsName name → i ≡ 0 → MayFollow items i
   follows_first is first = (λ d. subst IsName (here d) is, λ d some. absurd (omega (arith, first, some)))
 
   pub follows_said :
-      IsName name → 0 < i → (before : List ℕ) → ((d : LentItem) → before ≡ lent_name (get_or items (i - 1) d)) → (r : Bool) → MatchBool r (name_order before name ≡ Less) (name_order before name ≢ Less)
+      IsName name → 0 < i → (before : List ℕ) → ((d : LentName) → before ≡ lent_name (get_or items (i - 1) d)) → (r : Bool) → MatchBool r (name_order before name ≡ Less) (name_order before name ≢ Less)
       → MatchBool r (MayFollow items i) (MayFollow items i → ⊥)
   follows_said is some before at true less = (λ d. subst IsName (here d) is, λ d _. subst (λ n. name_order n (lent_name (get_or items i d)) ≡ Less) (at d) (subst (λ n. name_order before n ≡ Less) (here d) less))
   follows_said is some before at false not = λ may.
-      let d : LentItem = some_item items (omega (arith, within)) in
+      let d : LentName = some_item items (omega (arith, within)) in
       not (subst (λ n. name_order before n ≡ Less) (sym (here d)) (subst (λ n. name_order n (lent_name (get_or items i d)) ≡ Less) (sym (at d)) (may.1 d some)))
 
 -- whether the name at a place begins with some bytes, from its test
-pub begins_there : (items : List LentItem) (i : ℕ) (front name : List ℕ) → i < length items → ((d : LentItem) → name ≡ lent_name (get_or items i d)) → (r : Bool)
+pub begins_there : (items : List LentName) (i : ℕ) (front name : List ℕ) → i < length items → ((d : LentName) → name ≡ lent_name (get_or items i d)) → (r : Bool)
     → MatchBool r (BeginsWith name front) (BeginsWith name front → ⊥) → MatchBool r (BeginsAt items i front) (BeginsAt items i front → ⊥)
 begins_there items i front name within here true b =
-    let item : LentItem = get_or items i (some_item items (omega (arith, within))) in
+    let item : LentName = get_or items i (some_item items (omega (arith, within))) in
     (within, (item, get_or_default items i (some_item items (omega (arith, within))) item within, (b.0, sym (here (some_item items (omega (arith, within)))) ∙ b.1)))
 begins_there items i front name within here false not = λ at. not (at.1.2.0, here at.1.0 ∙ sym (ap lent_name at.1.1) ∙ at.1.2.1)
 
 -- the names one after another, compared with what stands at an index
 module _ (strings : List ℕ) (index : ℕ) where
-  abbrev compared : LentItem → Result Bool Cause
+  abbrev compared : LentName → Result Bool Cause
   compared item = same strings index (lent_name item)
 
-  skip : (items : List LentItem) (i : ℕ) → i ≤ length items → ((k : ℕ) (d : LentItem) → k < i → compared (get_or items k d) ≡ Ok false)
+  skip : (items : List LentName) (i : ℕ) → i ≤ length items → ((k : ℕ) (d : LentName) → k < i → compared (get_or items k d) ≡ Ok false)
       → address_named strings index (named items) ≡ address_named strings index (named (drop i items))
   unfolding address_named
   skip items zero within none = refl
   skip [] (suc i) within none = absurd (omega (arith, within))
   skip (item ∷ items) (suc i) within none = rw (address_named, none 0 item (omega arith)) (skip items i (omega (arith, within)) (λ k d below. none (suc k) d (omega (arith, below))))
 
-  at_hit : (items : List LentItem) (item : LentItem) → compared item ≡ Ok true → address_named strings index (named (item ∷ items)) ≡ Ok (Some item.1)
+  at_hit : (items : List LentName) (item : LentName) → compared item ≡ Ok true → address_named strings index (named (item ∷ items)) ≡ Ok (Some item.address)
   unfolding address_named
   at_hit items item e = rw (address_named, e) refl
 
-  at_stop : (items : List LentItem) (item : LentItem) (cause : Cause) → compared item ≡ Err cause → address_named strings index (named (item ∷ items)) ≡ Err cause
+  at_stop : (items : List LentName) (item : LentName) (cause : Cause) → compared item ≡ Err cause → address_named strings index (named (item ∷ items)) ≡ Err cause
   unfolding address_named
   at_stop items item cause e = rw (address_named, e) refl
 
@@ -237,8 +238,8 @@ module _ (strings : List ℕ) (index end most : ℕ) (front : List ℕ) (inside 
         compared_is name ∙ (ap₂ begins all_of (ap (λ l. l ++ 0 ∷ []) b.1) ∙ unended_begins key b.0)
 
     -- names in rising order
-    module _ (items : List LentItem) (lend : MayLend items) (longest_is : most ≡ longest (named items)) where
-      no_nul : (k : ℕ) (d : LentItem) → k < length items → NoNul (lent_name (get_or items k d))
+    module _ (items : List LentName) (lend : MayLend items) (longest_is : most ≡ longest (named items)) where
+      no_nul : (k : ℕ) (d : LentName) → k < length items → NoNul (lent_name (get_or items k d))
       no_nul k d below = (lend.names k d below).2
 
       less_other : (name : List ℕ) → name_order name key ≡ Less → key ≢ name
@@ -247,15 +248,15 @@ module _ (strings : List ℕ) (index end most : ℕ) (front : List ℕ) (inside 
       greater_other : (name : List ℕ) → name_order name key ≡ Greater → key ≢ name
       greater_other name e same = order_other name key Greater e greater_not_equal (sym same)
 
-      from : (i : ℕ) (item : LentItem) → i < length items → item ≡ get_or items i item → ((k : ℕ) (d : LentItem) → k < i → same strings index (lent_name (get_or items k d)) ≡ Ok false)
+      from : (i : ℕ) (item : LentName) → i < length items → item ≡ get_or items i item → ((k : ℕ) (d : LentName) → k < i → same strings index (lent_name (get_or items k d)) ≡ Ok false)
           → address_named strings index (named items) ≡ address_named strings index (named (item ∷ drop (i + 1) items))
       from i item within here none = skip strings index items i (omega (arith, within)) none ∙ ap (λ l. address_named strings index (named l)) (drop-at items i item item within here)
 
-      none_of : ((k : ℕ) (d : LentItem) → k < length items → same strings index (lent_name (get_or items k d)) ≡ Ok false) → address_named strings index (named items) ≡ Ok None
+      none_of : ((k : ℕ) (d : LentName) → k < length items → same strings index (lent_name (get_or items k d)) ≡ Ok false) → address_named strings index (named items) ≡ Ok None
       none_of none = skip strings index items (length items) (omega arith) none ∙ (ap (λ l. address_named strings index (named l)) (drop-all items (length items) (omega arith)) ∙ at_end strings index)
 
-      pub found : get_or front end 0 ≡ 0 → end < length front → (i : ℕ) → FindsKey name_order lent_name items key (Ok i) → (item : LentItem) → item ≡ get_or items i item
-          → address_named strings index (named items) ≡ Ok (Some item.1)
+      pub found : get_or front end 0 ≡ 0 → end < length front → (i : ℕ) → FindsKey name_order lent_name items key (Ok i) → (item : LentName) → item ≡ get_or items i item
+          → address_named strings index (named items) ≡ Ok (Some item.address)
       found ends short i finds item here =
           from i item finds.0 here (λ k d below. miss ends short (lent_name (get_or items k d)) (no_nul k d (omega (arith, below, finds.0))) (less_other (lent_name (get_or items k d)) (finds.2 k d below)))
           ∙ at_hit strings index (drop (i + 1) items) item (hit ends short (lent_name item) (sym (ap lent_name here ∙ order_same (lent_name (get_or items i item)) key (finds.1 item))))
@@ -266,10 +267,10 @@ module _ (strings : List ℕ) (index end most : ℕ) (front : List ℕ) (inside 
         | inr later ↦ greater_other (lent_name (get_or items k d)) (finds.2 k d later below)
       ]))
 
-      not_begun : (k : ℕ) (d : LentItem) → name_order (lent_name (get_or items k d)) key ≡ Less → BeginsWith (lent_name (get_or items k d)) key → ⊥
+      not_begun : (k : ℕ) (d : LentName) → name_order (lent_name (get_or items k d)) key ≡ Less → BeginsWith (lent_name (get_or items k d)) key → ⊥
       not_begun k d e b = begins_not_less key b.0 (ap (λ l. name_order l key) (sym b.1) ∙ e)
 
-      before_place : (r : Result ℕ ℕ) → FindsKey name_order lent_name items key r → (k : ℕ) (d : LentItem) → k < search_end r → name_order (lent_name (get_or items k d)) key ≡ Less
+      before_place : (r : Result ℕ ℕ) → FindsKey name_order lent_name items key r → (k : ℕ) (d : LentName) → k < search_end r → name_order (lent_name (get_or items k d)) key ≡ Less
       before_place (Ok i) finds k d below = finds.2 k d below
       before_place (Err i) finds k d below = finds.1 k d below
 
@@ -277,9 +278,9 @@ module _ (strings : List ℕ) (index end most : ℕ) (front : List ℕ) (inside 
           → address_named strings index (named items) ≡ Err NameUnended
       stopped all r finds at =
           from (search_end r) at.1.0 at.0 at.1.1 (λ k d below. other all (lent_name (get_or items k d)) (not_begun k d (before_place r finds k d below)))
-          ∙ at_stop strings index (drop (search_end r + 1) items) at.1.0 NameUnended (stop all (lent_name at.1.0) (omega (arith, longest_is, as_long items (search_end r) at.1.0 at.0, ap (λ (x : LentItem). length (lent_name x)) at.1.1)) at.1.2)
+          ∙ at_stop strings index (drop (search_end r + 1) items) at.1.0 NameUnended (stop all (lent_name at.1.0) (omega (arith, longest_is, as_long items (search_end r) at.1.0 at.0, ap (λ (x : LentName). length (lent_name x)) at.1.1)) at.1.2)
 
-      begun_at : (i k : ℕ) (d : LentItem) → i ≤ k → k < length items → name_order (lent_name (get_or items i d)) key ≡ Greater → BeginsWith (lent_name (get_or items k d)) key → BeginsAt items i key
+      begun_at : (i k : ℕ) (d : LentName) → i ≤ k → k < length items → name_order (lent_name (get_or items i d)) key ≡ Greater → BeginsWith (lent_name (get_or items k d)) key → BeginsAt items i key
       begun_at i k d up within above b = (
         omega (arith, up, within),
         (
@@ -292,7 +293,7 @@ module _ (strings : List ℕ) (index end most : ℕ) (front : List ℕ) (inside 
         ),
       )
 
-      never_begun : (r : Result ℕ ℕ) → FindsKey name_order lent_name items key r → (BeginsAt items (search_end r) key → ⊥) → (k : ℕ) (d : LentItem) → k < length items
+      never_begun : (r : Result ℕ ℕ) → FindsKey name_order lent_name items key r → (BeginsAt items (search_end r) key → ⊥) → (k : ℕ) (d : LentName) → k < length items
           → BeginsWith (lent_name (get_or items k d)) key → ⊥
       never_begun (Ok i) finds not k d within b =
           not (finds.0, (get_or items i d, get_or_default items i d (get_or items i d) finds.0, ([], order_same (lent_name (get_or items i d)) key (finds.1 d) ∙ sym (append-nil key))))

@@ -1,34 +1,38 @@
 -- Layouts that a caller lends: sections and names in rising order.
 use Rattle.std.specs.Prelude.{ℕ, ◌≡◌, ◌+◌, ◌-◌, ◌<◌, ◌≤◌, List, length, map, slice_index_or, take, ◌++◌, All, Option, None, Some, Result, Ok, Err}
-use Rattle.std.specs.Borrow.{Bor}
 use Rattle.std.specs.Cmp.Lexicographic.{slice_cmp}
 use Rattle.std.specs.Ordering.{nat_cmp}
 use Rattle.std.specs.declared.cmp.Ordering.{Ordering}
 use Rattle.std.specs.declared.cmp.Ordering.TheVariants.{Less, Equal, Greater}
 use Rattle.elf_layout.specs.Layouts.{IsName}
+use Rattle.elf_layout.specs.declared.lent.LentName.{LentName}
+use Rattle.elf_layout.specs.declared.lent.LentSection.{LentSection}
 
 -- the keys of some items rise, so that none comes twice
 abbrev pub KeysRise : {X K : Type 0} → (K → K → Ordering) → (X → K) → List X → Type 0
 KeysRise {X} order key items = (i j : ℕ) (d : X) → i < j → j < length items → order (key (slice_index_or items i d)) (key (slice_index_or items j d)) ≡ Less
 
--- an item that is lent: a name with its address
-abbrev pub LentItem : Type 0
-LentItem = Bor (List ℕ) × ℕ
+-- the name of an item that is lent
+abbrev pub lent_name : LentName → List ℕ
+lent_name item = item.name.now
 
--- its name
-abbrev pub lent_name : LentItem → List ℕ
-lent_name item = item.0.now
+-- the index of a section that is lent
+abbrev pub lent_index : LentSection → ℕ
+lent_index item = item.index
 
--- the items as a layout has them
-abbrev pub named : List LentItem → List (List ℕ × ℕ)
-named items = map (λ item. (lent_name item, item.1)) items
+-- names and sections as a layout has them
+abbrev pub named : List LentName → List (List ℕ × ℕ)
+named items = map (λ item. (lent_name item, item.address)) items
+
+abbrev pub placed : List LentSection → List (ℕ × ℕ)
+placed items = map (λ item. (lent_index item, item.address)) items
 
 -- the order of names, by their bytes as numbers, from the first on
 abbrev pub name_order : List ℕ → List ℕ → Ordering
 name_order = slice_cmp nat_cmp
 
 -- items may be lent: each has a name, and the names rise
-pub record MayLend (items : List LentItem) : Type 0 where
+pub record MayLend (items : List LentName) : Type 0 where
   pub rise : KeysRise name_order lent_name items
   pub names : All (λ item. IsName (lent_name item)) items
 
@@ -37,8 +41,8 @@ abbrev pub Follows : {X K : Type 0} → (K → K → Ordering) → (X → K) →
 Follows {X} order key items i = (d : X) → 0 < i → order (key (slice_index_or items (i - 1) d)) (key (slice_index_or items i d)) ≡ Less
 
 -- there is a name at a place, and it is above the one before it
-abbrev pub MayFollow : List LentItem → ℕ → Type 0
-MayFollow items i = ((d : LentItem) → IsName (lent_name (slice_index_or items i d))) × Follows name_order lent_name items i
+abbrev pub MayFollow : List LentName → ℕ → Type 0
+MayFollow items i = ((d : LentName) → IsName (lent_name (slice_index_or items i d))) × Follows name_order lent_name items i
 
 -- what a search for a key finds: the item that has it, or the place between those below it and those above it
 abbrev pub FindsKey : {X K : Type 0} → (K → K → Ordering) → (X → K) → List X → K → Result ℕ ℕ → Type 0
@@ -55,8 +59,8 @@ search_end (Ok i) = i
 search_end (Err i) = i
 
 -- the address of what a search found
-abbrev pub IsAddressAt : List LentItem → Result ℕ ℕ → Option ℕ → Type 0
-IsAddressAt items (Ok i) address = (item : LentItem) × (item ≡ slice_index_or items i item) × (address ≡ Some item.1)
+abbrev pub IsAddressAt : List LentName → Result ℕ ℕ → Option ℕ → Type 0
+IsAddressAt items (Ok i) address = (item : LentName) × (item ≡ slice_index_or items i item) × (address ≡ Some item.address)
 IsAddressAt items (Err i) address = address ≡ None
 
 -- a name begins with some bytes
@@ -64,5 +68,5 @@ abbrev pub BeginsWith : List ℕ → List ℕ → Type 0
 BeginsWith name front = (rest : List ℕ) × (name ≡ front ++ rest)
 
 -- there is an item at a place, whose name begins with some bytes
-abbrev pub BeginsAt : List LentItem → ℕ → List ℕ → Type 0
-BeginsAt items i front = (i < length items) × ((item : LentItem) × (item ≡ slice_index_or items i item) × BeginsWith (lent_name item) front)
+abbrev pub BeginsAt : List LentName → ℕ → List ℕ → Type 0
+BeginsAt items i front = (i < length items) × ((item : LentName) × (item ≡ slice_index_or items i item) × BeginsWith (lent_name item) front)

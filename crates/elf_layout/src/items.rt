@@ -7,7 +7,7 @@ ghost use Rattle.std.specs.Str.Lines.{lines};
 ghost use Rattle.elf_model.specs.Placing.{Searched};
 ghost use Rattle.elf_layout.specs.Kept.{lent_as};
 ghost use Rattle.elf_layout.specs.Layouts.{HaveNames, IsName, OnName};
-ghost use Rattle.elf_layout.specs.Lent.{named, name_order};
+ghost use Rattle.elf_layout.specs.Lent.{named, name_order, placed};
 ghost use Rattle.elf_layout.specs.Listed.{AreAlike, AreReordered, AreSorted, Gathers, GiveItems};
 ghost use Rattle.elf_layout.specs.Listed.{HasTwice, IsLastAlike, IsRefused, IsRepeated, Lends};
 ghost use Rattle.elf_layout.specs.Listed.{NeverFalls, SpellsAlike, with_item, with_layout};
@@ -15,15 +15,12 @@ ghost use Rattle.elf_layout.specs.declared.texts.TextEnd.TheVariants.{Whole};
 
 use crate::addresses::LentLayout;
 use crate::layout::{Item, Layout};
-use crate::lent::{SortedNames, SortedSections};
+use crate::lent::{LentName, LentSection, SortedNames, SortedSections};
 use crate::named::NamedAddress;
 use crate::spelled::item;
 use crate::texts::TextEnd;
 use std::alloc::{AllocError, Global};
 use std::marker::Model;
-
-/// A name with its address.
-type Placed<'a> = (&'a [u8], u64);
 
 /// Why a file gives no items.
 pub enum ItemsFault {
@@ -43,23 +40,23 @@ pub enum ItemsFault {
 /// Items of a layout, as many as there is memory for, of each sort one behind the other.
 #[derive(Drop)]
 pub struct Items<'a> {
-    sections: Vec<(u16, u64)>,
-    definitions: Vec<Placed<'a>>,
-    linkage: Vec<Placed<'a>>,
-    table: Vec<Placed<'a>>,
-    thread: Vec<Placed<'a>>,
+    sections: Vec<LentSection>,
+    definitions: Vec<LentName<'a>>,
+    linkage: Vec<LentName<'a>>,
+    table: Vec<LentName<'a>>,
+    thread: Vec<LentName<'a>>,
 }
 
 impl<'a> Model for Items<'a> {
     ghost use Rattle.elf_layout.specs.Layouts.{HaveNames};
-    ghost use Rattle.elf_layout.specs.Lent.{named};
+    ghost use Rattle.elf_layout.specs.Lent.{named, placed};
     ghost use Rattle.elf_model.specs.Placing.{Layout, Searched};
 
     ghost Value = { Layout };
 
     ghost view = { λ i. record {
       lookup = Searched;
-      sections = i.sections.items;
+      sections = placed i.sections.items;
       definitions = named i.definitions.items;
       linkage = named i.linkage.items;
       table = named i.table.items;
@@ -200,25 +197,37 @@ impl<'a> Items<'a> {
         let sections = match SortedSections::new(self.sections.as_slice()) {
             Ok(sections) => sections,
             Err(i) => {
-                let (index, address) = self.sections[i];
+                let LentSection { index, address } = self.sections[i];
                 return Err(Item::Section { index, address });
             }
         };
         let definitions = match names(self.definitions.as_slice()) {
             Ok(names) => names,
-            Err((name, address)) => return Err(Item::Define { name, address }),
+            Err(item) => {
+                let LentName { name, address } = item;
+                return Err(Item::Define { name, address });
+            }
         };
         let linkage = match names(self.linkage.as_slice()) {
             Ok(names) => names,
-            Err((name, address)) => return Err(Item::Entry { name, address }),
+            Err(item) => {
+                let LentName { name, address } = item;
+                return Err(Item::Entry { name, address });
+            }
         };
         let table = match names(self.table.as_slice()) {
             Ok(names) => names,
-            Err((name, address)) => return Err(Item::Table { name, address }),
+            Err(item) => {
+                let LentName { name, address } = item;
+                return Err(Item::Table { name, address });
+            }
         };
         let thread = match names(self.thread.as_slice()) {
             Ok(names) => names,
-            Err((name, address)) => return Err(Item::Thread { name, address }),
+            Err(item) => {
+                let LentName { name, address } = item;
+                return Err(Item::Thread { name, address });
+            }
         };
         Ok(LentLayout {
             sections,
@@ -231,10 +240,11 @@ impl<'a> Items<'a> {
 }
 
 /// Puts a section behind others.
-fn push_section(items: &mut Vec<(u16, u64)>, index: u16, address: u64) -> Result<(), AllocError>
-    ensures { IfOk result (λ _. items.new.items ≡ items.old.items ++ (index, address) ∷ []) }
+fn push_section(items: &mut Vec<LentSection>, index: u16, address: u64) -> Result<(), AllocError>
+    ensures { IfOk result (λ _.
+        placed items.new.items ≡ placed items.old.items ++ (index, address) ∷ []) }
 {
-    match items.push((index, address)) {
+    match items.push(LentSection { index, address }) {
         Ok(()) => Ok(()),
         Err(_) => Err(AllocError),
     }
@@ -242,7 +252,7 @@ fn push_section(items: &mut Vec<(u16, u64)>, index: u16, address: u64) -> Result
 
 /// Puts a name behind others.
 fn push_name<'a>(
-    items: &mut Vec<Placed<'a>>,
+    items: &mut Vec<LentName<'a>>,
     name: &'a [u8],
     address: u64,
 ) -> Result<(), AllocError>
@@ -251,15 +261,15 @@ fn push_name<'a>(
         named items.new.items ≡ named items.old.items ++ (name.now, address) ∷ []) }
     ensures names { HaveNames (named items.old.items) → HaveNames (named items.new.items) }
 {
-    match items.push((name, address)) {
+    match items.push(LentName { name, address }) {
         Ok(()) => Ok(()),
         Err(_) => Err(AllocError),
     }
 }
 
 /// Puts sections behind others.
-fn push_sections(items: &mut Vec<(u16, u64)>, sections: &[(u16, u64)]) -> Result<(), AllocError>
-    ensures { IfOk result (λ _. items.new.items ≡ items.old.items ++ sections.now) }
+fn push_sections(items: &mut Vec<LentSection>, sections: &[(u16, u64)]) -> Result<(), AllocError>
+    ensures { IfOk result (λ _. placed items.new.items ≡ placed items.old.items ++ sections.now) }
 {
     for (index, address) in sections {
         push_section(items, *index, *address)?;
@@ -268,7 +278,10 @@ fn push_sections(items: &mut Vec<(u16, u64)>, sections: &[(u16, u64)]) -> Result
 }
 
 /// Puts names behind others.
-fn push_names<'a>(items: &mut Vec<Placed<'a>>, names: &'a [NamedAddress]) -> Result<(), AllocError>
+fn push_names<'a>(
+    items: &mut Vec<LentName<'a>>,
+    names: &'a [NamedAddress],
+) -> Result<(), AllocError>
     requires { HaveNames names.now }
     ensures put { IfOk result (λ _. named items.new.items ≡ named items.old.items ++ names.now) }
     ensures names { HaveNames (named items.old.items) → HaveNames (named items.new.items) }
@@ -280,15 +293,15 @@ fn push_names<'a>(items: &mut Vec<Placed<'a>>, names: &'a [NamedAddress]) -> Res
 }
 
 /// Sorts sections by rising index.
-fn sort_sections(items: &mut Vec<(u16, u64)>)
-    ensures same { IsPermutation items.old.items items.new.items }
-    ensures sorted { NeverFalls nat_cmp items.new.items }
+fn sort_sections(items: &mut Vec<LentSection>)
+    ensures same { IsPermutation (placed items.old.items) (placed items.new.items) }
+    ensures sorted { NeverFalls nat_cmp (placed items.new.items) }
 {
     items.sort_unstable();
 }
 
 /// Sorts names in the rising order of their bytes.
-fn sort_names(items: &mut Vec<Placed<'_>>)
+fn sort_names(items: &mut Vec<LentName<'_>>)
     ensures same { IsPermutation (named items.old.items) (named items.new.items) }
     ensures sorted { NeverFalls name_order (named items.new.items) }
     ensures names { HaveNames (named items.old.items) → HaveNames (named items.new.items) }
@@ -297,11 +310,11 @@ fn sort_names(items: &mut Vec<Placed<'_>>)
 }
 
 /// Names in rising order, or one that two have.
-fn names<'a>(items: &'a [Placed<'a>]) -> Result<SortedNames<'a>, Placed<'a>>
+fn names<'a>(items: &'a [LentName<'a>]) -> Result<SortedNames<'a>, LentName<'a>>
     requires sorted { NeverFalls name_order (named items.now) }
     requires named { HaveNames (named items.now) }
     ensures names { IfOk result (λ names. names ≡ named items.now) }
-    ensures refused { IfErr result (λ item. HasTwice (named items.now) item.0.now) }
+    ensures refused { IfErr result (λ item. HasTwice (named items.now) item.name.now) }
 {
     match SortedNames::new(items) {
         Ok(names) => Ok(names),

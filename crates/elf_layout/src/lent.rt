@@ -9,31 +9,52 @@ ghost use Rattle.elf_model.specs.Names.{pad64};
 ghost use Rattle.elf_model.specs.Placing.{Searched, address_in, address_named};
 ghost use Rattle.elf_model.specs.declared.causes.Cause.TheVariants.{NameUnended};
 ghost use Rattle.elf_layout.specs.Layouts.{IsName};
-ghost use Rattle.elf_layout.specs.Lent.{BeginsWith, BeginsAt, FindsKey, Follows, IsAddressAt, LentItem};
+ghost use Rattle.elf_layout.specs.Lent.{BeginsWith, BeginsAt, FindsKey, Follows, IsAddressAt};
 ghost use Rattle.elf_layout.specs.Lent.{MayFollow, MayLend, KeysRise};
-ghost use Rattle.elf_layout.specs.Lent.{lent_name, name_order, named, search_end};
+ghost use Rattle.elf_layout.specs.Lent.{lent_index, lent_name, name_order, named, placed, search_end};
+ghost use Rattle.elf_layout.specs.declared.lent.LentName.{LentName as IsLentName};
 
 use crate::named::ITEM_NAME_BYTES;
 use elf_model::Cause;
 use std::cmp::Ordering;
 use std::marker::Model;
 
+/// A section of a layout that a caller lends.
+#[repr(C)]
+#[derive(Clone, Copy, PartialEq, Eq, PartialOrd, Ord)]
+pub struct LentSection {
+    /// The section's index.
+    pub index: u16,
+    /// The address of its first byte.
+    pub address: u64,
+}
+
+/// A name of a layout that a caller lends.
+#[repr(C)]
+#[derive(Clone, Copy, PartialEq, Eq, PartialOrd, Ord)]
+pub struct LentName<'a> {
+    /// The symbol's name: 1 to 255 bytes without a NUL.
+    pub name: &'a [u8],
+    /// The symbol's value, or the address of its entry.
+    pub address: u64,
+}
+
 /// Sections with their addresses, by rising index.
 #[derive(Drop)]
 pub struct SortedSections<'a> {
-    items: &'a [(u16, u64)],
+    items: &'a [LentSection],
 }
 
 impl<'a> Model for SortedSections<'a> {
     ghost use Rattle.std.specs.Prelude.{List, ℕ};
     ghost use Rattle.std.specs.Ordering.{nat_cmp};
-    ghost use Rattle.elf_layout.specs.Lent.{KeysRise};
+    ghost use Rattle.elf_layout.specs.Lent.{KeysRise, lent_index, placed};
 
     ghost Value = { List (ℕ × ℕ) };
 
-    ghost view = { λ s. s.items.now };
+    ghost view = { λ s. placed s.items.now };
 
-    ghost invariant = { λ s. KeysRise nat_cmp (λ item. item.0) s.items.now };
+    ghost invariant = { λ s. KeysRise nat_cmp lent_index s.items.now };
 }
 
 impl<'a> SortedSections<'a> {
@@ -41,12 +62,12 @@ impl<'a> SortedSections<'a> {
     ///
     /// # Errors
     /// The place of the first item whose index is not above the index of the item before it.
-    pub fn new(items: &'a [(u16, u64)]) -> Result<SortedSections<'a>, usize>
-        ensures sorted { IfOk result (λ sections. sections ≡ items.now) }
-        ensures rise { IfOk result (λ _. KeysRise nat_cmp (λ item. item.0) items.now) }
+    pub fn new(items: &'a [LentSection]) -> Result<SortedSections<'a>, usize>
+        ensures sorted { IfOk result (λ sections. sections ≡ placed items.now) }
+        ensures rise { IfOk result (λ _. KeysRise nat_cmp lent_index items.now) }
         ensures refused { IfErr result (λ i. (i < length items.now)
-            × (KeysRise nat_cmp (λ item. item.0) (take (i + 1) items.now) → ⊥)) }
-        ensures falls { IfErr result (λ i. Follows nat_cmp (λ item. item.0) items.now i → ⊥) }
+            × (KeysRise nat_cmp lent_index (take (i + 1) items.now) → ⊥)) }
+        ensures falls { IfErr result (λ i. Follows nat_cmp lent_index items.now i → ⊥) }
     {
         let mut i = 0;
         while i < items.len() {
@@ -63,33 +84,33 @@ impl<'a> SortedSections<'a> {
         ensures { result ≡ address_in self.now section }
     {
         match search_section(self.items, section) {
-            Ok(i) => Some(self.items[i].1),
+            Ok(i) => Some(self.items[i].address),
             Err(_) => None,
         }
     }
 }
 
 /// Whether the index at a place is above the one before it.
-fn section_follows(items: &[(u16, u64)], i: usize) -> bool
+fn section_follows(items: &[LentSection], i: usize) -> bool
     requires { i < length items.now }
-    ensures { MatchBool result (Follows nat_cmp (λ item. item.0) items.now i)
-        (Follows nat_cmp (λ item. item.0) items.now i → ⊥) }
+    ensures { MatchBool result (Follows nat_cmp lent_index items.now i)
+        (Follows nat_cmp lent_index items.now i → ⊥) }
 {
-    i == 0 || items[i - 1].0 < items[i].0
+    i == 0 || items[i - 1].index < items[i].index
 }
 
 /// Where a section is among some, or would be.
-fn search_section(items: &[(u16, u64)], section: u16) -> Result<usize, usize>
-    requires { KeysRise nat_cmp (λ item. item.0) items.now }
-    ensures { FindsKey nat_cmp (λ item. item.0) items.now section result }
+fn search_section(items: &[LentSection], section: u16) -> Result<usize, usize>
+    requires { KeysRise nat_cmp lent_index items.now }
+    ensures { FindsKey nat_cmp lent_index items.now section result }
 {
-    items.binary_search_by_key(&section, |item| item.0)
+    items.binary_search_by_key(&section, |item| item.index)
 }
 
 /// Names with their addresses, in the rising order of their bytes.
 #[derive(Drop)]
 pub struct SortedNames<'a> {
-    items: &'a [(&'a [u8], u64)],
+    items: &'a [LentName<'a>],
     most: usize,
 }
 
@@ -111,7 +132,7 @@ impl<'a> SortedNames<'a> {
     /// # Errors
     /// The place of the first item that has no such name, or whose name is not above the name of the
     /// item before it.
-    pub fn new(items: &'a [(&'a [u8], u64)]) -> Result<SortedNames<'a>, usize>
+    pub fn new(items: &'a [LentName<'a>]) -> Result<SortedNames<'a>, usize>
         ensures sorted { IfOk result (λ names. names ≡ named items.now) }
         ensures lent { IfOk result (λ _. MayLend items.now) }
         ensures refused { IfErr result (λ i. (i < length items.now)
@@ -185,15 +206,15 @@ impl<'a> SortedNames<'a> {
 }
 
 /// Where a name is among some, or would be.
-fn search_name(items: &[(&[u8], u64)], name: &[u8]) -> Result<usize, usize>
+fn search_name(items: &[LentName<'_>], name: &[u8]) -> Result<usize, usize>
     requires { KeysRise name_order lent_name items.now }
     ensures { FindsKey name_order lent_name items.now name.now result }
 {
-    items.binary_search_by_key(&name, |item| item.0)
+    items.binary_search_by_key(&name, |item| item.name)
 }
 
 /// Whether there is a name at a place, and it is above the one before it.
-fn name_follows(items: &[(&[u8], u64)], i: usize) -> bool
+fn name_follows(items: &[LentName<'_>], i: usize) -> bool
     requires { i < length items.now }
     ensures { MatchBool result (MayFollow items.now i) (MayFollow items.now i → ⊥) }
 {
@@ -202,11 +223,11 @@ fn name_follows(items: &[(&[u8], u64)], i: usize) -> bool
 }
 
 /// The name of the item at a place.
-fn name_at<'a>(items: &[(&'a [u8], u64)], i: usize) -> &'a [u8]
+fn name_at<'a>(items: &[LentName<'a>], i: usize) -> &'a [u8]
     requires { i < length items.now }
-    ensures { (d : LentItem) → result.now ≡ lent_name (slice_index_or items.now i d) }
+    ensures { (d : IsLentName) → result.now ≡ lent_name (slice_index_or items.now i d) }
 {
-    items[i].0
+    items[i].name
 }
 
 /// Whether bytes may be a name in a layout.
@@ -238,12 +259,12 @@ fn name_end(bytes: &[u8]) -> usize
 }
 
 /// The address of what a search found.
-fn address_at(items: &[(&[u8], u64)], place: Result<usize, usize>) -> Option<u64>
+fn address_at(items: &[LentName<'_>], place: Result<usize, usize>) -> Option<u64>
     requires { IfOk place (λ i. i < length items.now) }
     ensures { IsAddressAt items.now place result }
 {
     match place {
-        Ok(i) => Some(items[i].1),
+        Ok(i) => Some(items[i].address),
         Err(_) => None,
     }
 }
@@ -257,7 +278,7 @@ fn place_of(place: Result<usize, usize>) -> usize
 }
 
 /// Whether there is a name at a place that begins with some bytes.
-fn begins_at(items: &[(&[u8], u64)], place: usize, front: &[u8]) -> bool
+fn begins_at(items: &[LentName<'_>], place: usize, front: &[u8]) -> bool
     ensures { MatchBool result (BeginsAt items.now place front.now)
         (BeginsAt items.now place front.now → ⊥) }
 {

@@ -14,7 +14,7 @@ mod texts;
 pub use addresses::{Addresses, Among, LentLayout};
 pub use items::{Items, ItemsFault};
 pub use layout::{Item, Layout, LayoutFault};
-pub use lent::{SortedNames, SortedSections};
+pub use lent::{LentName, LentSection, SortedNames, SortedSections};
 pub use named::NamedAddress;
 pub use spelled::item;
 pub use texts::{TextEnd, read_text};

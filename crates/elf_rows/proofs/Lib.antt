@@ -1,4 +1,3 @@
-pub mod CheckedLaws
-pub mod FoundNames
 pub mod ListedLaws
-pub mod NoteSteps
+pub mod RecordLaws
+pub mod RecordTables

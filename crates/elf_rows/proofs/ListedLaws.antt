@@ -9,7 +9,8 @@ use Rattle.elf_model.proofs.DynamicLaws.{counted_is_listed}
 use Rattle.elf_table.specs.Tables.{Rows as Table, Strings}
 use Rattle.elf_rows.specs.DynamicTables.{IsDynamicTable}
 use Rattle.elf_rows.specs.ListedEntries.{ListsWithin, ReadsListed, all_listed}
-use Rattle.elf_rows.specs.Openings.{ReadsRows, holds, load_refused}
+use Rattle.elf_rows.specs.LoadRefused.{load_refused}
+use Rattle.elf_rows.specs.Openings.{ReadsRows, holds}
 use Rattle.elf_rows.specs.Rows.{rows_from_first}
 use Rattle.elf_rows.specs.declared.kind.RowKind.TheVariants.{Dynamic}
 use Rattle.elf_rows.specs.declared.rows.RowsLeft.{RowsLeft}

@@ -1,14 +1,9 @@
-pub mod Checked
 pub mod DynamicTables
 pub mod Entries
-pub mod Headers
 pub mod ListedEntries
-pub mod MappedBytes
-pub mod Names
-pub mod NoteRows
+pub mod LoadRefused
 pub mod Openings
-pub mod Rooms
 pub mod Rows
-pub mod SectionBytes
 pub mod SegmentDynamic
 pub mod Symbols
+pub mod VersionRecords

@@ -1,26 +1,26 @@
 -- What opening a table of a file in memory answers.
-use Rattle.std.specs.Prelude.{ℕ, ◌≡◌, ◌<◌, ◌≤◌, ◌==◌, ◌⊎◌, Bool, true, false, List, ◌++◌, Option, None, Some, Result, Ok, Err, option_map}
-use Rattle.elf_model.specs.Checks.{first_refusal, header_checks, load_checks, section_name_checks, is_symbol_table}
-use Rattle.elf_model.specs.Numbers.{SHT_RELA, SHT_DYNAMIC}
+use Rattle.std.specs.Prelude.{ℕ, ◌≡◌, ◌<◌, ◌≤◌, ◌==◌, ◌⊎◌, Bool, true, false, List, Option, None, Some, Result, Ok, Err, option_map}
+use Rattle.elf_model.specs.Checks.{first_refusal, section_name_checks, is_symbol_table}
+use Rattle.elf_model.specs.Numbers.{SHT_RELA, SHT_DYNAMIC, SHT_GNU_VERSYM}
 use Rattle.elf_model.specs.Records.{e_shnum, sh_type, section_at}
+use Rattle.elf_model.specs.Tables.{all_checks}
+use Rattle.elf_model.specs.VersionRows.{symbol_versions}
 use Rattle.elf_model.specs.declared.causes.Refusal.{Refusal}
 use Rattle.elf_headers.specs.declared.fault.Fault.{Fault}
 use Rattle.elf_headers.specs.declared.fault.Fault.TheVariants.{Refused}
-use Rattle.elf_table.specs.Relocations.{AreRelocations, Relocates}
+use Rattle.elf_table.specs.Relocations.{AreRelocations, RefusedBy, Relocates}
 use Rattle.elf_table.specs.Sections.{symbols_at, section_names}
 use Rattle.elf_table.specs.Tables.{Rows as Table, Strings}
 use Rattle.elf_rows.specs.DynamicTables.{IsDynamicTable}
 use Rattle.elf_rows.specs.ListedEntries.{all_listed}
+use Rattle.elf_rows.specs.LoadRefused.{load_refused}
 use Rattle.elf_rows.specs.Rows.{rows_from_first}
+use Rattle.elf_rows.specs.VersionRecords.{version_words}
 use Rattle.elf_rows.specs.declared.held.HeldFile.{HeldFile}
 use Rattle.elf_rows.specs.declared.kind.RowKind.{RowKind}
-use Rattle.elf_rows.specs.declared.kind.RowKind.TheVariants.{Symbols, Relocations, Dynamic}
-use Rattle.elf_rows.specs.declared.name.ByteRange.{ByteRange}
+use Rattle.elf_rows.specs.declared.kind.RowKind.TheVariants.{Symbols, Relocations, Dynamic, VersionWords}
+use Rattle.elf_memory.specs.declared.name.ByteRange.{ByteRange}
 use Rattle.elf_rows.specs.declared.rows.RowsLeft.{RowsLeft}
-
--- the first check that fails until a file's section headers are loaded, where so many headers are permitted
-abbrev pub load_refused : List ℕ → ℕ → Option Refusal
-load_refused file headers = first_refusal (header_checks file ++ load_checks file headers)
 
 -- a file passes those checks, or the first of them that fails
 abbrev pub LoadsFile : List ℕ → ℕ → Result HeldFile Refusal → Type 0
@@ -37,6 +37,7 @@ abbrev pub holds : RowKind → List ℕ → ℕ → Bool
 holds Symbols file at = is_symbol_table file at
 holds Relocations file at = sh_type file at == SHT_RELA
 holds Dynamic file at = sh_type file at == SHT_DYNAMIC
+holds VersionWords file at = sh_type file at == SHT_GNU_VERSYM
 
 -- the string table of the symbols that relocation entries refer to; no bytes where they refer to none
 abbrev pub linked_names : Option (Table × Strings) → Strings
@@ -44,19 +45,21 @@ linked_names None = record { at = 0; size = 0 }
 linked_names (Some symbols) = symbols.1
 
 -- the rows of a kind of the section with this header, whose checks pass: symbols with their string table; relocation entries with
--- the string table of the symbols that they refer to; dynamic entries up to and with the first DT_NULL, with their string table
+-- the string table of the symbols that they refer to; dynamic entries up to and with the first DT_NULL, with their string table; words of symbols' versions
 abbrev pub AreOpenedRows : RowKind → List ℕ → ℕ → RowsLeft → Type 0
 AreOpenedRows Symbols file at rows = (table : Table) × (names : Strings) × (symbols_at file at ≡ Ok (table, names)) × (rows ≡ rows_from_first table names)
 AreOpenedRows Relocations file at rows =
     (table : Table) × (linked : Option (Table × Strings)) × (table.entry ≡ 24) × AreRelocations file at table linked × (rows ≡ rows_from_first table (linked_names linked))
 AreOpenedRows Dynamic file at rows =
     (table : Table) × (names : Strings) × IsDynamicTable file at (Ok (table, names)) × (rows ≡ all_listed file (rows_from_first table names))
+AreOpenedRows VersionWords file at rows = (first_refusal (all_checks symbol_versions.checks file at) ≡ None) × (rows ≡ version_words file at)
 
 -- the first check of such a table that fails
 abbrev pub RefusesRows : RowKind → List ℕ → ℕ → Fault → Type 0
 RefusesRows Symbols file at fault = symbols_at file at ≡ Err fault
 RefusesRows Relocations file at fault = Relocates file at (Err fault)
 RefusesRows Dynamic file at fault = IsDynamicTable file at (Err fault)
+RefusesRows VersionWords file at fault = RefusedBy (all_checks symbol_versions.checks file at) fault
 
 -- those rows, or that check
 abbrev pub OpensTable : RowKind → List ℕ → ℕ → Result RowsLeft Fault → Type 0

@@ -5,7 +5,7 @@ use Rattle.elf_model.specs.Numbers.{PT_DYNAMIC}
 use Rattle.elf_model.specs.Records.{e_phnum, p_type, p_offset, p_filesz, segment_at}
 use Rattle.elf_model.specs.Tables.{segment_dynamic_checks}
 use Rattle.elf_model.specs.declared.causes.Refusal.{Refusal}
-use Rattle.elf_rows.specs.Checked.{first_refused}
+use Rattle.elf_memory.specs.Checked.{first_refused}
 use Rattle.elf_rows.specs.ListedEntries.{all_listed}
 use Rattle.elf_rows.specs.declared.rows.RowsLeft.{RowsLeft}
 

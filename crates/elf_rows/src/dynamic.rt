@@ -5,8 +5,8 @@ ghost use Rattle.elf_rows.specs.Entries.{IsDynamic};
 ghost use Rattle.elf_rows.specs.Rows.{StepsRows, next_at};
 ghost use Rattle.elf_rows.specs.declared.dynamic.Dynamic.{Dynamic as IsOne};
 
-use crate::bytes::chunk_at;
 use crate::rows::RowsLeft;
+use elf_memory::chunk_at;
 use elf_record::Dyn;
 
 /// A dynamic entry, field by field (gABI 5, Dynamic Section).

@@ -4,8 +4,8 @@ ghost use Rattle.elf_model.specs.Numbers.{DT_NULL};
 ghost use Rattle.elf_model.specs.Records.{d_tag};
 ghost use Rattle.elf_rows.specs.ListedEntries.{CountsListed, ListsWithin, all_listed};
 
-use crate::bytes::chunk_at;
 use crate::rows::RowsLeft;
+use elf_memory::chunk_at;
 use elf_record::numbers::DT_NULL;
 use elf_record::{Cause, Dyn, Refusal};
 

@@ -6,7 +6,7 @@ ghost use Rattle.elf_record.specs.Shdr.{IsShdr};
 ghost use Rattle.elf_headers.specs.Load.{Passes};
 ghost use Rattle.elf_table.specs.Sections.{section_names};
 
-use crate::bytes::chunk_at;
+use elf_memory::chunk_at;
 use elf_record::sizes::SECTION_HEADER_BYTES;
 use elf_record::{Ehdr, Shdr};
 use elf_table::Names;

@@ -6,12 +6,14 @@ ghost use Rattle.elf_headers.specs.Faults.{IsOfCheck};
 ghost use Rattle.elf_table.specs.Relocations.{Links, Relocates};
 ghost use Rattle.elf_table.specs.Sections.{string_table_at, symbols_at, table_at};
 ghost use Rattle.elf_table.specs.Tables.{RowsWithin};
+ghost use Rattle.elf_table.specs.Versions.{Versioned};
 ghost use Rattle.elf_rows.specs.DynamicTables.{IsDynamicTable};
+ghost use Rattle.elf_rows.specs.VersionRecords.{FindsRecords, SymbolsLink};
 
 use crate::held::HeldFile;
-use elf_headers::{Fault, refused};
+use elf_headers::{Fault, ends_outside, refused};
 use elf_record::Cause;
-use elf_record::sizes::{DYNAMIC_BYTES, RELOCATION_BYTES, SYMBOL_BYTES};
+use elf_record::sizes::{DYNAMIC_BYTES, RELOCATION_BYTES, SYMBOL_BYTES, SYMBOL_VERSION_BYTES};
 use elf_table::{Names, Table, checked_strings, checked_table, holds_symbols};
 
 impl HeldFile<'_> {
@@ -116,6 +118,70 @@ impl HeldFile<'_> {
         }
         let linked = self.linked(section)?;
         Ok((table, linked))
+    }
+
+    /// The words of symbols' versions of a section, and how many symbols there are in the table that it
+    /// links to; none of an empty section (Linux Standard Base Core, Symbol Versioning).
+    ///
+    /// # Errors
+    /// The first check that fails: of the table; `BadLink` at the section's header where its link is 0
+    /// or names no section of symbols; then those of [`HeldFile::symbols`] at the linked section.
+    pub(crate) fn version_words(&self, section: u16) -> Result<(Table, u64), Fault>
+        requires { section < self.now.header.e_shnum }
+        ensures value { let file = self.now.bytes.now in
+            Versioned file (section_at file section) result }
+        ensures entry { IfOk result (λ found. found.0.entry ≡ 2) }
+        ensures refusal { IfErr result IsOfCheck }
+    {
+        let table = self.table(section, SYMBOL_VERSION_BYTES)?;
+        if self.section(section).sh_size == 0 {
+            return Ok((table, 0));
+        }
+        let Some(link) = self.symbols_link(section) else {
+            return refused(self.place(section), Cause::BadLink);
+        };
+        let symbols = self.symbols(link)?;
+        Ok((table, symbols.0.len()))
+    }
+
+    /// The section of symbols, not the first section, that a section links to; None where it links to
+    /// none.
+    fn symbols_link(&self, section: u16) -> Option<u16>
+        requires { section < self.now.header.e_shnum }
+        ensures { let file = self.now.bytes.now in
+            SymbolsLink file (section_at file section) result }
+    {
+        let link = self.section(section).sh_link;
+        if link == 0 || link >= u32::from(self.sections()) {
+            return None;
+        }
+        let link = link as u16;
+        if holds_symbols(&self.section(link)) {
+            Some(link)
+        } else {
+            None
+        }
+    }
+
+    /// The string table of the definitions or needs of a section, whose bytes lie in the file; no bytes
+    /// where the section is empty (Linux Standard Base Core, Symbol Versioning).
+    ///
+    /// # Errors
+    /// The first check that fails: `TableOutside` at the section's header; then of the string table.
+    pub(crate) fn record_names(&self, section: u16) -> Result<Names, Fault>
+        requires { section < self.now.header.e_shnum }
+        ensures value { let file = self.now.bytes.now in
+            FindsRecords file (section_at file section) result }
+        ensures refusal { IfErr result IsOfCheck }
+    {
+        let header = self.section(section);
+        if header.sh_size == 0 {
+            return Ok(Names::new(0, 0));
+        }
+        if ends_outside(self.size(), header.sh_offset, header.sh_size) {
+            return refused(self.place(section), Cause::TableOutside);
+        }
+        self.strings(section)
     }
 
     /// The dynamic entries of a section with their string table; no bytes of an empty one (gABI 5,

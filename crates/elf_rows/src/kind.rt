@@ -4,6 +4,7 @@ ghost use Rattle.elf_record.specs.Shdr.{IsShdr};
 ghost use Rattle.elf_rows.specs.Openings.{holds};
 
 use elf_record::Shdr;
+use elf_record::gnu_numbers::SHT_GNU_VERSYM;
 use elf_record::numbers::{SHT_DYNAMIC, SHT_RELA};
 use elf_table::holds_symbols;
 
@@ -16,6 +17,9 @@ pub enum RowKind {
     Relocations,
     /// Dynamic entries, of one of type DYNAMIC (gABI 5, Dynamic Section).
     Dynamic,
+    /// Words of symbols' versions, of one of type GNU_versym (Linux Standard Base Core, Symbol
+    /// Versioning).
+    VersionWords,
 }
 
 /// Whether a section holds rows of a kind, by its type.
@@ -27,5 +31,6 @@ pub(crate) fn holds(header: &Shdr, kind: RowKind) -> bool
         RowKind::Symbols => holds_symbols(header),
         RowKind::Relocations => header.sh_type == SHT_RELA,
         RowKind::Dynamic => header.sh_type == SHT_DYNAMIC,
+        RowKind::VersionWords => header.sh_type == SHT_GNU_VERSYM,
     }
 }

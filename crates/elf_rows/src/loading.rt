@@ -4,9 +4,9 @@ ghost use Rattle.elf_record.specs.Ehdr.{IsEhdr};
 ghost use Rattle.elf_headers.specs.Load.{Passes};
 ghost use Rattle.elf_rows.specs.Openings.{LoadsFile, NamesSections};
 
-use crate::checked::checked_header;
 use crate::held::{HeldFile, section_header};
 use elf_headers::{Fault, refused_early};
+use elf_memory::checked_header;
 use elf_record::sizes::SECTION_HEADER_BYTES;
 use elf_record::{Ehdr, Refusal};
 use elf_table::{Names, checked_strings};

@@ -2,7 +2,7 @@
 ghost use Rattle.elf_rows.specs.Openings.{ReadsSectionNames};
 
 use crate::loading::held_file;
-use crate::name::ByteRange;
+use elf_memory::ByteRange;
 use elf_record::Refusal;
 
 /// Where the string table of the section names of a file that lies in memory lies; None where there is

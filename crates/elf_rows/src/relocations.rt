@@ -5,8 +5,8 @@ ghost use Rattle.elf_rows.specs.Entries.{IsRelocation};
 ghost use Rattle.elf_rows.specs.Rows.{StepsRows, next_at};
 ghost use Rattle.elf_rows.specs.declared.relocations.Relocation.{Relocation as IsOne};
 
-use crate::bytes::chunk_at;
 use crate::rows::RowsLeft;
+use elf_memory::chunk_at;
 use elf_record::Rela;
 
 /// A relocation entry with an addend, field by field (gABI 4, Relocation).

@@ -2,19 +2,19 @@
 ghost use Rattle.std.specs.Prelude.{ℕ};
 ghost use Rattle.elf_rows.specs.ListedEntries.{ReadsListed};
 ghost use Rattle.elf_rows.specs.SegmentDynamic.{AreSegmentEntries, FindsEntries, ReadsSegmentDynamic};
-ghost use Rattle.elf_rows.specs.declared.segment.Segment.{Segment as IsOne};
+ghost use Rattle.elf_memory.specs.declared.segment.Segment.{Segment as IsOne};
 
 use crate::dynamic_table::{listed_rows, listed_within};
 use crate::rows::RowsLeft;
-use crate::segment::{Segment, segment_at, segment_place};
 use elf_headers::ends_outside;
+use elf_memory::{Segment, segment_at, segment_place};
 use elf_record::numbers::PT_DYNAMIC;
 use elf_record::sizes::DYNAMIC_BYTES;
 use elf_record::{Cause, Refusal};
 
 /// A place before the first dynamic entry of a segment of a file that lies in memory, with as many as
 /// up to and with the first DT_NULL; None where it has no such segment, or one of another type than
-/// DYNAMIC. The place has no string table: [`find_mapped`](crate::find_mapped) tells where the one lies whose
+/// DYNAMIC. The place has no string table: [`find_mapped`](elf_memory::find_mapped) tells where the one lies whose
 /// address and size the entries have (gABI 5, Dynamic Section).
 ///
 /// # Errors

@@ -4,9 +4,9 @@ ghost use Rattle.elf_rows.specs.Rows.{StepsRows, next_at};
 ghost use Rattle.elf_rows.specs.Symbols.{IsSymbol};
 ghost use Rattle.elf_rows.specs.declared.symbol.Symbol.{Symbol as IsOne};
 
-use crate::bytes::chunk_at;
 use crate::rows::RowsLeft;
 use crate::symbol::Symbol;
+use elf_memory::chunk_at;
 use elf_record::Sym;
 
 /// Reads the next symbols to the front of `out`, as many as there are and as it has room for, steps

@@ -1,5 +1,5 @@
 //! The rows of a section, behind the checks of its table.
-ghost use Rattle.std.specs.Prelude.{◌≡◌, ◌<◌, IfErr};
+ghost use Rattle.std.specs.Prelude.{◌≡◌, ◌<◌, IfErr, min};
 ghost use Rattle.elf_model.specs.Records.{section_at};
 ghost use Rattle.elf_headers.specs.Faults.{IsOfCheck};
 ghost use Rattle.elf_rows.specs.declared.kind.RowKind.TheVariants.{Dynamic};
@@ -101,7 +101,27 @@ fn opened(held: &HeldFile<'_>, section: u16, kind: RowKind) -> Result<RowsLeft, 
             let (table, names) = held.dynamic(section)?;
             Ok(listed_rows(held.bytes, RowsLeft::of(table, names)))
         }
+        RowKind::VersionWords => {
+            let (table, symbols) = held.version_words(section)?;
+            Ok(words_of(table, symbols))
+        }
     }
+}
+
+/// The words of the versions of so many symbols, as far as there are some.
+fn words_of(words: Table, symbols: u64) -> RowsLeft
+    ensures { result ≡ record {
+      at = words.at;
+      count = min words.count symbols;
+      index = 0;
+      entry = words.entry;
+      strings_at = 0;
+      strings_len = 0;
+    } }
+{
+    let mut rows = RowsLeft::of(words, Names::new(0, 0));
+    rows.count = rows.count.min(symbols);
+    rows
 }
 
 /// The string table of symbols; no bytes where there are no symbols.

@@ -1,12 +1,12 @@
 //! A cursor over the records of symbol versions.
-ghost use Rattle.std.specs.Prelude.{◌≡◌, ℕ, ◌+◌, ◌-◌, ◌*◌, ◌^◌, ◌<◌, ◌≤◌, List, false, Some, None, Err, IfOk, IfErr};
+ghost use Rattle.std.specs.Prelude.{◌≡◌, ℕ, ◌+◌, ◌-◌, ◌*◌, ◌^◌, ◌<◌, ◌≤◌, List, false, Some, None, Err, IfOk, IfErr, IfSome};
 ghost use Rattle.elf_headers.specs.Faults.{IsOfRead};
 ghost use Rattle.elf_headers.specs.Ledger.{Did, why_stopped};
 ghost use Rattle.elf_headers.specs.declared.fault.Fault.{Fault};
 ghost use Rattle.elf_table.specs.Tables.{RowsWithin};
 ghost use Rattle.elf_model.specs.Versions.{most_records};
 ghost use Rattle.elf_model.specs.declared.versions.VersionKind.TheVariants.{Need};
-ghost use Rattle.elf_versions.specs.Reading.{IsCursorOf, KeepsWalk, LeavesMet, LeavesWalk, MeetsIn};
+ghost use Rattle.elf_versions.specs.Reading.{Fits, IsCursorOf, KeepsWalk, LeavesMet, LeavesWalk, MeetsIn};
 ghost use Rattle.elf_versions.specs.Reading.{StartsVersions, StepsIn, bytes_each, unread, why_stopped_now};
 
 use crate::reading::read_record;
@@ -14,6 +14,7 @@ use crate::record::VersionRecord;
 use crate::stepping::{Standing, bytes_each, first, record_bytes};
 use crate::table_bytes::TableBytes;
 use elf_headers::{Fault, refused};
+use elf_record::sizes::{VERSION_DEFINITION_BYTES, VERSION_NAME_BYTES};
 use elf_record::{Cause, VersionKind};
 use elf_source::{Counted, Source};
 use elf_table::Table;
@@ -106,6 +107,34 @@ impl VersionCursor {
             each: bytes_each(kind),
             failed: None,
         }
+    }
+
+    /// A cursor that reads each record alone, and goes on where another walk stood over `table`, whose
+    /// rows are single bytes: no more than `left` records are met.
+    pub fn resumed(table: Table, standing: Option<Standing>, left: u64) -> VersionCursor
+        requires bytes { table.entry ≡ 1 }
+        requires fits { IfSome standing (Fits table.count 28) }
+        ensures its_table { result.held.table ≡ table }
+        ensures alone { result.held.whole ≡ false }
+        ensures stands { result.standing ≡ standing }
+        ensures left { result.left ≡ left }
+        ensures going { result.failed ≡ None }
+    {
+        VersionCursor {
+            held: TableBytes::unread(table),
+            standing,
+            left,
+            each: VERSION_DEFINITION_BYTES + VERSION_NAME_BYTES,
+            failed: None,
+        }
+    }
+
+    /// Where the walk stands; None behind the last record.
+    pub fn standing(&self) -> Option<Standing>
+        ensures is { result ≡ self.now.standing }
+        ensures fits { IfSome result (Fits self.now.held.table.count self.now.each) }
+    {
+        self.standing
     }
 
     /// Goes to the next record, or answers None behind the last. All calls together ask for no more

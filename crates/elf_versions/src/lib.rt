@@ -13,4 +13,5 @@ mod words;
 pub use cursor::VersionCursor;
 pub use number_names::{NUMBER_NAMES_BYTES, NameAt, NumberNames};
 pub use record::VersionRecord;
+pub use stepping::{Standing, record_bytes};
 pub use table_bytes::VERSIONS_BUFFER_BYTES;

@@ -16,21 +16,21 @@ pub(crate) const VERSION_NUMBERS: u16 = 1024;
 
 /// Where a walk stands.
 #[derive(Clone, Copy)]
-pub(crate) struct Standing {
+pub struct Standing {
     /// The kind of the record that is to come.
-    pub(crate) kind: VersionKind,
+    pub kind: VersionKind,
     /// Its place in the table, or behind it.
-    pub(crate) place: u128,
+    pub place: u128,
     /// The file offset of what led there.
-    pub(crate) from: u64,
+    pub from: u64,
     /// Of a needed version, the place of its file.
-    pub(crate) owner: u64,
+    pub owner: u64,
     /// Of a needed version, the distance from its file to the next.
-    pub(crate) files: u32,
+    pub files: u32,
 }
 
 /// The size of a record of a kind, in bytes.
-pub(crate) fn record_bytes(kind: VersionKind) -> u64
+pub fn record_bytes(kind: VersionKind) -> u64
     ensures value { result ≡ record_size kind }
     ensures small { result ≤ 20 }
     ensures some { 16 ≤ result }

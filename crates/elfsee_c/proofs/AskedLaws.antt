@@ -3,14 +3,14 @@ use Rattle.std.proofs.Common.{◌≡◌, ◌≤◌, ℕ, List, Some, subst}
 use Rattle.elf_model.specs.Budget.{IsBudgeted}
 use Rattle.elf_model.specs.Cost.{listing_cost}
 use Rattle.elf_model.specs.Style.{Style}
-use Rattle.elfsee_c.specs.Asked.{AsksListing, GivesListing, caller_style, parts_in, style_in}
-use Rattle.elfsee_c.specs.Limits.{AreCaps, budget_of, headers_of}
-use Rattle.elfsee_c.specs.Shown.{FillsMemory, ShowsInMemory}
-use Rattle.elfsee_c.specs.declared.asked.CallerListing.{CallerListing}
-use Rattle.elfsee_c.specs.declared.end.End.{End}
-use Rattle.elfsee_c.specs.declared.limits.CallerLimits.{CallerLimits}
-use Rattle.elfsee_c.specs.declared.told.Told.{Told}
-use Rattle.elfsee_c.specs.declared.told.Told.TheVariants.{Done, Refused, Full, BadCall}
+use Rattle.elf_calls.specs.Asked.{AsksListing, GivesListing, caller_style, parts_in, style_in}
+use Rattle.elf_calls.specs.Limits.{AreCaps, budget_of, headers_of}
+use Rattle.elf_calls.specs.Shown.{FillsMemory, ShowsInMemory}
+use Rattle.elf_calls.specs.declared.asked.CallerListing.{CallerListing}
+use Rattle.elf_calls.specs.declared.end.End.{End}
+use Rattle.elf_calls.specs.declared.limits.CallerLimits.{CallerLimits}
+use Rattle.elf_calls.specs.declared.told.Told.{Told}
+use Rattle.elf_calls.specs.declared.told.Told.TheVariants.{Done, Refused, Full, BadCall}
 
 module _ (file : List ℕ) (limits : CallerLimits) (room : ℕ) (asked : List ℕ) (listing : CallerListing) (gives : GivesListing asked (Some listing)) where
   -- what fills the memory

@@ -1,31 +1,16 @@
 //! The export that writes a section of a file in memory with its relocations applied.
 ghost use Rattle.std.specs.Prelude.{◌≡◌, ◌≤◌, length};
-ghost use Rattle.elfsee_c.specs.Applied.{AppliesInMemory, IsApplied};
+ghost use Rattle.elf_calls.specs.Applied.{AppliesInMemory, IsApplied};
 
-use crate::applied::{WantedSection, write_section};
-use crate::counts::short;
-use crate::end::End;
-use crate::items::{CallerItem, lay_out};
-use crate::limits::{CallerLimits, limits_of};
-use crate::listing::CallOutcome;
-use crate::told::{Told, tell};
+use elf_calls::{
+    CallOutcome, CallerLimits, End, Job, Told, WantedSection, lay_out, limits_of, short, tell_told,
+    write_section,
+};
 use elf_headers::HeaderStore;
-use elf_layout::Layout;
+use elf_layout::{Addresses, Layout};
 
 /// The largest index of a section.
 const LAST_INDEX: u32 = 65_535;
-
-/// A section, and the addresses at which it and what it refers to are to lie, as a caller says it.
-#[repr(C)]
-#[derive(Clone, Copy)]
-pub struct Job<'a> {
-    /// The addresses: of at most 64 sections, 32 definitions and 32 entries of each kind, none twice.
-    pub items: &'a [CallerItem<'a>],
-    /// The index of the section, up to 65,535.
-    pub section: u32,
-    /// It is not looked at.
-    pub none: u32,
-}
 
 /// Writes the bytes of a section of a file that lies in memory, with its relocations applied, into
 /// memory of the caller. `room` is where the file's headers lie meanwhile.
@@ -46,7 +31,7 @@ pub extern "C" fn elfsee_apply(
         end.new }
 {
     let told = apply_to(file, limits, job, room, out, end);
-    tell(told, end)
+    tell_told(told, end)
 }
 
 /// Writes the section, and answers how that ended. The counts are written to `end`.
@@ -72,9 +57,10 @@ fn apply_to(
         return Told::BadCall;
     }
     let mut store = HeaderStore::over(room, limits.headers);
+    let addresses = Addresses::fixed(&layout);
     let wanted = WantedSection {
         section: job.section as u16,
-        layout: &layout,
+        layout: &addresses,
         budget: limits.budget,
     };
     let mut outcome = CallOutcome {

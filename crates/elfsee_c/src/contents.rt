@@ -1,10 +1,9 @@
 //! The export that tells where a section's bytes lie in a file in memory.
-ghost use Rattle.elf_rows.specs.SectionBytes.{ReadsSectionBytes};
-ghost use Rattle.elfsee_c.specs.Ends.{TellsRead};
+ghost use Rattle.elf_memory.specs.SectionBytes.{ReadsSectionBytes};
+ghost use Rattle.elf_calls.specs.Ends.{TellsRead};
 
-use crate::end::End;
-use crate::tell::tell;
-use elf_rows::{ByteRange, section_bytes};
+use elf_calls::{End, tell};
+use elf_memory::{ByteRange, section_bytes};
 
 /// Tells where the bytes of a section lie in a file that lies in memory. No other section header is
 /// looked at (gABI 4, Section Header).

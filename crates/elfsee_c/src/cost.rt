@@ -1,10 +1,9 @@
 //! The export that tells how much of a file a listing asks for at most.
 ghost use Rattle.std.specs.Prelude.{◌≡◌};
 ghost use Rattle.elf_model.specs.Cost.{ceiling};
-ghost use Rattle.elfsee_c.specs.Costs.{IsCost};
+ghost use Rattle.elf_calls.specs.Costs.{IsCost};
 
-use crate::counts::short;
-use crate::limits::CallerLimits;
+use elf_calls::{CallerLimits, short};
 use elf_headers::Caps;
 
 /// How many bytes of a file of `file_len` bytes a listing asks for at most, whatever the bytes are:

@@ -1,18 +1,11 @@
 //! The export that looks a name up in a file in memory.
 ghost use Rattle.std.specs.Prelude.{◌≡◌, ◌≤◌, IfSome, length};
 ghost use Rattle.elf_model.specs.Find.{find_cost};
-ghost use Rattle.elfsee_c.specs.Found.{HasLookup, CallLooks, LooksIn, TellsLooked, nothing_behind};
-ghost use Rattle.elfsee_c.specs.Ends.{TellsNone};
-ghost use Rattle.elfsee_c.specs.Limits.{budget_of, headers_of};
+ghost use Rattle.elf_calls.specs.Found.{CallLooks, HasLookup};
+ghost use Rattle.elf_calls.specs.Limits.{budget_of, headers_of};
 
-use crate::counts::short;
-use crate::end::End;
-use crate::found::{Looked, LookupNumbers};
-use crate::limits::{CallerLimits, limits_of};
-use elf_hash::{Lookup, find};
-use elf_headers::{Fault, HeaderStore};
-use elf_rows::Symbol;
-use elf_source::{Counted, MemorySource};
+use elf_calls::{CallerLimits, End, Looked, LookupNumbers, limits_of, look_in, tell_found};
+use elf_headers::HeaderStore;
 
 /// The most bytes of a name that is looked up.
 const WANTED_NAME_BYTES: usize = 4_096;
@@ -65,65 +58,4 @@ fn look_up(
     }
     let mut store = HeaderStore::over(room, limits.headers);
     look_in(file, &mut store, limits.budget, name, &mut end.asked)
-}
-
-/// Looks a name of at most 4,096 bytes up within a read budget, where there is one.
-fn look_in(
-    file: &[u8],
-    store: &mut HeaderStore,
-    budget: Option<u64>,
-    name: &[u8],
-    asked: &mut u64,
-) -> Looked
-    requires { length name.now ≤ 4096 }
-    ensures looks { LooksIn file.now store.old.slots budget name.now result }
-    ensures cost { asked.new ≤ find_cost file.now store.old.slots name.now }
-    ensures budget { IfSome budget (λ bytes. asked.new ≤ bytes) }
-{
-    let mut src = Counted::new(MemorySource::new(file));
-    src.limit(budget);
-    let found = find(&mut src, store, name);
-    *asked = short(src.asked());
-    let _ = src.into_inner();
-    match found {
-        Ok(lookup) => Looked::Answered(lookup),
-        Err(Fault::Refused(refusal)) => Looked::Refused(refusal),
-        Err(Fault::Source { .. }) => unreachable!(),
-    }
-}
-
-/// Tells what was found as numbers, and answers the status.
-fn tell_found(looked: &Looked, found: &mut LookupNumbers, end: &mut End) -> u32
-    requires nothing { found.old ≡ nothing_behind 0 }
-    requires none { TellsNone end.old }
-    ensures tells { TellsLooked result found.new end.new looked.now }
-    ensures written { end.new.written ≡ end.old.written }
-    ensures asked { end.new.asked ≡ end.old.asked }
-    ensures none { end.new.none ≡ end.old.none }
-{
-    match looked {
-        Looked::Answered(
-            Lookup::Found {
-                section,
-                index,
-                symbol,
-                steps,
-            },
-        ) => {
-            found.symbol = Symbol::of(symbol);
-            found.section = *section;
-            found.index = *index;
-            found.steps = *steps;
-            0
-        }
-        Looked::Refused(refusal) => {
-            end.refuse(*refusal);
-            1
-        }
-        Looked::Answered(Lookup::Absent { steps }) => {
-            found.steps = *steps;
-            2
-        }
-        Looked::BadCall => 4,
-    }
 }

@@ -1,11 +1,11 @@
 //! The exports that go by the program headers of a file in memory, with no section headers.
-ghost use Rattle.elf_rows.specs.MappedBytes.{ReadsMapped};
+ghost use Rattle.elf_memory.specs.MappedBytes.{ReadsMapped};
 ghost use Rattle.elf_rows.specs.SegmentDynamic.{ReadsSegmentDynamic};
-ghost use Rattle.elfsee_c.specs.Ends.{TellsRead};
+ghost use Rattle.elf_calls.specs.Ends.{TellsRead};
 
-use crate::end::End;
-use crate::tell::tell;
-use elf_rows::{ByteRange, RowsLeft, find_mapped, segment_dynamic};
+use elf_calls::{End, tell};
+use elf_memory::{ByteRange, find_mapped};
+use elf_rows::{RowsLeft, segment_dynamic};
 
 /// Checks the dynamic entries of a segment, and sets `rows` before the first: as many as up to and
 /// with the first DT_NULL, without a string table (gABI 5, Dynamic Section).

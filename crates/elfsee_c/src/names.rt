@@ -1,15 +1,13 @@
 //! The exports that tell where names in string tables lie.
 ghost use Rattle.std.specs.Prelude.{length};
-ghost use Rattle.elf_rows.specs.Names.{FindsName};
-ghost use Rattle.elfsee_c.specs.Ends.{TellsRead};
-ghost use Rattle.elfsee_c.specs.Openings.{OpensNames, TellsOpened};
+ghost use Rattle.elf_memory.specs.Names.{FindsName};
+ghost use Rattle.elf_calls.specs.Ends.{TellsRead};
+ghost use Rattle.elf_calls.specs.Openings.{OpensNames, TellsOpened};
 
-use crate::end::End;
-use crate::limits::{CallerLimits, limits_of};
-use crate::opening::tell_opened;
-use crate::tell::tell;
+use elf_calls::{CallerLimits, End, limits_of, tell, tell_opened};
+use elf_memory::{ByteRange, find_name};
 use elf_record::Refusal;
-use elf_rows::{ByteRange, find_name, names_in};
+use elf_rows::names_in;
 
 /// Finds where the name at an offset in a string table lies, without its NUL. The string table is
 /// the bytes of `strings`, as far as they lie within the file (gABI 4, String Table).

@@ -1,10 +1,9 @@
 //! The exports that go over the notes of a file in memory.
-ghost use Rattle.elf_rows.specs.NoteRows.{ReadsSectionNotes, ReadsSegmentNotes, TakesNote};
-ghost use Rattle.elfsee_c.specs.Ends.{TellsRead};
+ghost use Rattle.elf_memory.specs.NoteRows.{ReadsSectionNotes, ReadsSegmentNotes, TakesNote};
+ghost use Rattle.elf_calls.specs.Ends.{TellsRead};
 
-use crate::end::End;
-use crate::tell::tell;
-use elf_rows::{Note, NotesLeft, next_note, section_notes, segment_notes};
+use elf_calls::{End, tell};
+use elf_memory::{Note, NotesLeft, next_note, section_notes, segment_notes};
 
 /// Checks that the notes of a section lie within the file, and sets `notes` before the first. No
 /// other section header is looked at (gABI 5, Note Section).

@@ -1,19 +1,15 @@
 //! The export that looks a name up in a file in memory as a loader does.
 ghost use Rattle.std.specs.Prelude.{◌≡◌, ◌≤◌, IfSome, length};
 ghost use Rattle.elf_model.specs.LoaderFind.{loader_cost};
-ghost use Rattle.elfsee_c.specs.Ends.{TellsNone};
-ghost use Rattle.elfsee_c.specs.Limits.{budget_of, headers_of};
-ghost use Rattle.elfsee_c.specs.Queries.{IsPermitted, asks_of, wanted_by};
-ghost use Rattle.elfsee_c.specs.Resolved.{IsResolved, Resolves, ResolvesIn, TellsResolved, file_of, nothing_resolved};
+ghost use Rattle.elf_calls.specs.Ends.{TellsNone};
+ghost use Rattle.elf_calls.specs.Limits.{budget_of, headers_of};
+ghost use Rattle.elf_calls.specs.Queries.{IsPermitted, asks_of, wanted_by};
+ghost use Rattle.elf_calls.specs.Resolved.{IsResolved, Resolves, ResolvesIn, TellsResolved, file_of, nothing_resolved};
 
-use crate::counts::short;
-use crate::end::End;
-use crate::limits::{CallerLimits, limits_of};
-use crate::query::Query;
-use crate::resolved::{Resolution, Resolved};
-use elf_headers::{Fault, HeaderStore};
-use elf_loader::{SymbolLookup, look_up};
-use elf_source::{Counted, MemorySource};
+use elf_calls::{
+    CallerLimits, End, Query, Resolution, Resolved, limits_of, resolve_in, tell_resolved,
+};
+use elf_headers::HeaderStore;
 use elf_table::NameBuf;
 
 /// Looks a name up in a file that lies in memory, alone or with a version, as a loader of the GNU
@@ -82,60 +78,4 @@ fn resolve(
     }
     let mut store = HeaderStore::over(room, limits.headers);
     resolve_in(file, &mut store, limits.budget, query, told, &mut end.asked)
-}
-
-/// Looks it up within a read budget, where there is one.
-fn resolve_in(
-    file: &[u8],
-    store: &mut HeaderStore,
-    budget: Option<u64>,
-    query: &Query<'_>,
-    told: &mut NameBuf,
-    asked: &mut u64,
-) -> Resolution
-    requires { IsPermitted (asks_of query.now) }
-    ensures resolves { ResolvesIn (file_of (asks_of query.now) file.now) store.old.slots budget
-        (length file.now) (wanted_by (asks_of query.now)) told.new result }
-    ensures cost { asked.new ≤ loader_cost (file_of (asks_of query.now) file.now) store.old.slots
-        (wanted_by (asks_of query.now)) }
-    ensures budget { IfSome budget (λ bytes. asked.new ≤ bytes) }
-{
-    let wanted = query.wanted();
-    let mut src = Counted::new(MemorySource::new(file));
-    src.limit(budget);
-    let found = look_up(&mut src, store, &wanted, query.by_segments(), told);
-    *asked = short(src.asked());
-    let _ = src.into_inner();
-    match found {
-        Ok(lookup) => Resolution::Answered(lookup),
-        Err(Fault::Refused(refusal)) => Resolution::Refused(refusal),
-        Err(Fault::Source { .. }) => unreachable!(),
-    }
-}
-
-/// Tells what was found as numbers, and answers the status. Of the name of a version `told` bytes
-/// are held.
-fn tell_resolved(resolution: &Resolution, told: u64, resolved: &mut Resolved, end: &mut End) -> u32
-    requires nothing { resolved.old ≡ nothing_resolved 0 }
-    requires none { TellsNone end.old }
-    ensures tells { TellsResolved result resolved.new end.new told resolution.now }
-    ensures written { end.new.written ≡ end.old.written }
-    ensures asked { end.new.asked ≡ end.old.asked }
-    ensures none { end.new.none ≡ end.old.none }
-{
-    match resolution {
-        Resolution::Answered(SymbolLookup::Found(found)) => {
-            resolved.tell(found, told);
-            0
-        }
-        Resolution::Answered(SymbolLookup::Absent { tried }) => {
-            resolved.tried = *tried;
-            2
-        }
-        Resolution::Refused(refusal) => {
-            end.refuse(*refusal);
-            1
-        }
-        Resolution::BadCall => 4,
-    }
 }

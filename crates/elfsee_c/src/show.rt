@@ -1,16 +1,14 @@
 //! The exports that list a file in memory.
 ghost use Rattle.std.specs.Prelude.{◌≡◌, ◌≤◌, IfSome, length};
 ghost use Rattle.elf_model.specs.Cost.{listing_cost};
-ghost use Rattle.elfsee_c.specs.Asked.{AsksListing, caller_style, parts_in, style_in};
-ghost use Rattle.elfsee_c.specs.Limits.{AreCaps, budget_of, headers_of};
-ghost use Rattle.elfsee_c.specs.Shown.{HasAskedListing, HasListing, ShowsInMemory};
+ghost use Rattle.elf_calls.specs.Asked.{AsksListing, caller_style, parts_in, style_in};
+ghost use Rattle.elf_calls.specs.Limits.{AreCaps, budget_of, headers_of};
+ghost use Rattle.elf_calls.specs.Shown.{HasAskedListing, HasListing, ShowsInMemory};
 
-use crate::asked::{CallerListing, listing_of};
-use crate::counts::short;
-use crate::end::End;
-use crate::limits::{CallerLimits, caps_of};
-use crate::listing::{CallOutcome, list};
-use crate::told::{Told, tell};
+use elf_calls::{
+    CallOutcome, CallerLimits, CallerListing, End, Told, caps_of, list, listing_of, short,
+    tell_told,
+};
 use elf_headers::HeaderStore;
 use elf_model::Format;
 use elf_record::Parts;
@@ -39,7 +37,7 @@ pub extern "C" fn elfsee_show(
         format: Format::Columns,
     };
     let told = show_to(file, limits, listing, room, out, end);
-    tell(told, end)
+    tell_told(told, end)
 }
 
 /// Lists a file that lies in memory into memory of the caller, as `asked` says: the bytes of a struct
@@ -65,7 +63,7 @@ pub extern "C" fn elfsee_list(
         (length room.old) asked.now result out.old out.new end.new }
 {
     let told = list_to(file, limits, asked, room, out, end);
-    tell(told, end)
+    tell_told(told, end)
 }
 
 /// Lists the file as the bytes of a struct ask for, and answers how that ended. The counts are written

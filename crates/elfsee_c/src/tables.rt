@@ -1,11 +1,9 @@
 //! The exports that open the rows of a section of a file in memory.
 ghost use Rattle.std.specs.Prelude.{length};
-ghost use Rattle.elf_rows.specs.declared.kind.RowKind.TheVariants.{Symbols, Relocations, Dynamic};
-ghost use Rattle.elfsee_c.specs.Openings.{OpensRows, TellsOpened};
+ghost use Rattle.elf_rows.specs.declared.kind.RowKind.TheVariants.{Symbols, Relocations, Dynamic, VersionWords};
+ghost use Rattle.elf_calls.specs.Openings.{OpensRows, TellsOpened};
 
-use crate::end::End;
-use crate::limits::{CallerLimits, limits_of};
-use crate::opening::tell_opened;
+use elf_calls::{CallerLimits, End, limits_of, tell_opened};
 use elf_record::Refusal;
 use elf_rows::{RowKind, RowsLeft, rows_in};
 
@@ -75,6 +73,28 @@ pub extern "C" fn elfsee_dynamic(
 {
     tell_opened(
         open_rows(file, limits, section, room.len(), RowKind::Dynamic),
+        rows,
+        end,
+    )
+}
+
+/// Checks the table of words of symbols' versions that a section of a file is, as [`elfsee_symbols`] does
+/// symbols; its type is GNU_versym. There is one for each symbol of the table that it links to, as far as
+/// it has words, and no string table with them (Linux Standard Base Core, Symbol Versioning).
+#[unsafe(no_mangle)]
+pub extern "C" fn elfsee_version_words(
+    file: &[u8],
+    limits: &CallerLimits,
+    section: u16,
+    room: &[u8],
+    rows: &mut RowsLeft,
+    end: &mut End,
+) -> u32
+    ensures { TellsOpened (OpensRows VersionWords file.now limits.now (length room.now) section)
+        result rows.old rows.new end.new }
+{
+    tell_opened(
+        open_rows(file, limits, section, room.len(), RowKind::VersionWords),
         rows,
         end,
     )

@@ -8,14 +8,14 @@ ghost use Rattle.elf_rows.specs.declared.dynamic.Dynamic.{Dynamic as OneDynamic}
 ghost use Rattle.elf_rows.specs.declared.kind.RowKind.TheVariants.{Dynamic as DynamicRows};
 ghost use Rattle.elf_rows.specs.declared.relocations.Relocation.{Relocation as OneRelocation};
 ghost use Rattle.elf_rows.specs.declared.symbol.Symbol.{Symbol as OneSymbol};
-ghost use Rattle.elfsee_c.specs.Limits.{budget_of};
-ghost use Rattle.elfsee_c.specs.Openings.{OpensRows};
-ghost use Rattle.elfsee_c.specs.Within.{OpensAlways, OpensEntries, StepsBudgeted, TellsEntries};
+ghost use Rattle.elf_calls.specs.Limits.{budget_of};
+ghost use Rattle.elf_calls.specs.Openings.{OpensRows};
+ghost use Rattle.elf_calls.specs.Within.{OpensAlways, OpensEntries, StepsBudgeted, TellsEntries};
 
-use crate::end::End;
-use crate::limits::{CallerLimits, limits_of};
-use crate::opening::tell_opened;
-use crate::spent::{count_bytes, count_entries, entries_left, room_left, tell_rest};
+use elf_calls::{
+    CallerLimits, End, count_bytes, count_entries, entries_left, limits_of, room_left, tell_opened,
+    tell_rest,
+};
 use elf_record::Refusal;
 use elf_rows::{
     Dynamic, Relocation, RowsLeft, Symbol, dynamic_within, next_dynamic, next_relocations,

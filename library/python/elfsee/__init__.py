@@ -52,9 +52,9 @@ if TYPE_CHECKING:
 
 __all__ = [
     "ALL", "DYNAMIC", "HEADER", "NOTES", "RELOCS", "SECTIONS", "SEGMENTS", "SYMBOLS", "VERSIONS",
-    "Absent", "Cause", "Dynamic", "File", "Full", "Header", "Layout", "Listing", "Lookup", "Member",
-    "Note", "Refused", "Relocation", "Resolved", "Section", "Segment", "Symbol", "SymbolVersion", "VERSION",
-    "spelt",
+    "Absent", "Cause", "Dynamic", "File", "Full", "Header", "Layout", "Listing", "Lookup", "Member", "Missing",
+    "Note", "Refused", "Relocation", "Resolved", "Section", "Segment", "Symbol", "SymbolVersion", "Unapplied",
+    "VERSION", "Version", "VersionOfSymbol", "spelt",
 ]
 # The numbers of the standards, and what is told of a cause.
 __all__ += [
@@ -72,6 +72,7 @@ MOST_HEADERS, MOST_NAME, MOST_NUMBER = 65279, 4096, (1 << 64) - 1
 DEFAULT_HEADERS, DEFAULT_NAME = 4096, 256
 # Section types, and the tags of dynamic entries whose value is a string (gABI).
 SHT_SYMTAB, SHT_RELA, SHT_DYNAMIC, SHT_NOBITS, SHT_DYNSYM = 2, 4, 6, 8, 11
+SHT_GNU_VERDEF, SHT_GNU_VERNEED, SHT_GNU_VERSYM = 0x6ffffffd, 0x6ffffffe, 0x6fffffff
 DT_NULL, DT_NEEDED, DT_STRTAB, DT_STRSZ, DT_SONAME, DT_RPATH, DT_RUNPATH = 0, 1, 5, 10, 14, 15, 29
 STRING_TAGS = frozenset((DT_NEEDED, DT_SONAME, DT_RPATH, DT_RUNPATH))
 # So many rows are fetched by one call of the library.
@@ -156,6 +157,12 @@ _Item = _struct("elfsee_item", (_U64, "address"), (ctypes.c_char_p, "name"),
                 (ctypes.c_size_t, "name_len"), (_U32, "kind index"))
 _Job = _struct("elfsee_job", (ctypes.POINTER(_Item), "items"), (ctypes.c_size_t, "items_len"),
                (_U32, "section none"))
+_LentSection = _struct("elfsee_lent_section", (_U16, "index"), (_U64, "address"))
+_LentName = _struct("elfsee_lent_name", (ctypes.c_char_p, "name"), (ctypes.c_size_t, "name_len"), (_U64, "address"))
+_Layout = _struct("elfsee_layout", (ctypes.POINTER(_LentSection), "sections"), (ctypes.c_size_t, "sections_len"),
+                  *(pair for sort in ("definitions", "linkage", "table", "thread")
+                    for pair in ((ctypes.POINTER(_LentName), sort), (ctypes.c_size_t, sort + "_len"))))
+_Missing = _struct("elfsee_missing", (_U32, "helpful section relocation name_len is_cut"), (_U8 * 256, "name"))
 _Header = _struct("elfsee_header", (_U64, "entry phoff shoff"), (_U32, "version flags"),
                   (_U16, "type machine ehsize phentsize phnum shentsize shnum shstrndx"),
                   (_U8 * 16, "ident"))
@@ -165,16 +172,22 @@ _Segment = _struct("elfsee_segment", (_U64, "offset vaddr paddr filesz memsz ali
                    (_U32, "type flags"))
 _Relocation = _struct("elfsee_relocation", (_U64, "offset info"), (_I64, "addend"))
 _Dynamic = _struct("elfsee_dynamic", (_I64, "tag"), (_U64, "value"))
+_VersionWord = _struct("elfsee_version_word", (_U16, "number is_hidden"))
+_VersionRecord = _struct("elfsee_version_record", (_U64, "at named_at"), (_U32, "name hash"), (_U16, "number flags"),
+                         (_U32, "kind"))
+_VersionRecords = _struct("elfsee_version_records", (_U64, "at size place from owner left strings_at strings_len"),
+                          (_U32, "kind none"))
 _Rows = _struct("elfsee_rows", (_U64, "at count index entry strings_at strings_len"))
 _Notes = _struct("elfsee_notes", (_U64, "at left align"), (_U32, "header none"))
 _Note = _struct("elfsee_note", (_U64, "at name_at desc_at"), (_U32, "namesz descsz type header"))
 _Members = _struct("elfsee_members", (_U64, "at"), (_Range, "names"), (_U32, "has_names none"))
 _Member = _struct("elfsee_member", (_U64, "at"), (_Range, "content name"), (_U32, "is_cut none"))
-STRUCTS = (_Limits, _End, _Listing, _Symbol, _Range, _Found, _Resolved, _Item, _Job, _Header, _Section, _Segment,
-           _Relocation, _Dynamic, _Rows, _Notes, _Note, _Members, _Member)
+STRUCTS = (_Limits, _End, _Listing, _Symbol, _Range, _Found, _Resolved, _Item, _Job, _LentSection, _LentName, _Layout,
+           _Missing, _Header, _Section, _Segment, _Relocation, _Dynamic, _VersionWord, _VersionRecord,
+           _VersionRecords, _Rows, _Notes, _Note, _Members, _Member)
 
 # The same as forms of `struct`, of the rows that are read in batches.
-_SYMBOL_FORM, _RELOCATION_FORM, _DYNAMIC_FORM = "=QQIHBB", "=QQq", "=qQ"
+_SYMBOL_FORM, _RELOCATION_FORM, _DYNAMIC_FORM, _WORD_FORM = "=QQIHBB", "=QQq", "=qQ", "=HH"
 
 # A c_char_p lends the bytes of a `bytes` object, which never change and are never at NULL.
 _FILE = (ctypes.c_char_p, ctypes.c_size_t)
@@ -196,7 +209,7 @@ _CALLS: Mapping[str, Tuple[Any, ...]] = {
     "list": (_U32, *_FILE, _to(_Limits), _to(_Listing), ctypes.c_size_t, *_ROOM, *_OUT, _to(_End)),
     "find": (_U32, *_FILE, _to(_Limits), *_ROOM, *_FILE, _to(_Found), _to(_End)),
     "look_up": (_U32, *_FILE, _to(_Limits), _U32, *_FILE, *_FILE, *_ROOM, _to(_Resolved), _to(_End)),
-    "apply": (_U32, *_FILE, _to(_Limits), _to(_Job), *_ROOM, *_OUT, _to(_End)),
+    "apply_lent": (_U32, *_FILE, _to(_Limits), _U16, _to(_Layout), *_ROOM, *_OUT, _to(_Missing), _to(_End)),
     "header": (_U32, *_FILE, _to(_Header), _to(_End)),
     "section": (_U32, *_FILE, _U16, _to(_Section), _to(_End)),
     "section_bytes": (_U32, *_FILE, _U16, _to(_Range), _to(_End)),
@@ -204,10 +217,14 @@ _CALLS: Mapping[str, Tuple[Any, ...]] = {
     "section_names": (_U32, *_FILE, _to(_Limits), *_ROOM, _to(_Range), _to(_End)),
     "symbols": (_U32, *_TABLE),
     "relocations": (_U32, *_TABLE),
+    "version_words": (_U32, *_TABLE),
+    "version_records": (_U32, *_FILE, _to(_Limits), _U16, *_ROOM, _to(_VersionRecords), _to(_End)),
+    "next_version_record": (_U32, *_FILE, _to(_VersionRecords), _to(_VersionRecord), _to(_End)),
     "dynamic_within": (_U32, *_FILE, _to(_Limits), _U16, *_ROOM, _to(_U64), _to(_Rows), _to(_End)),
     "next_symbols_within": (ctypes.c_size_t, *_STEP),
     "next_relocations_within": (ctypes.c_size_t, *_STEP),
     "next_dynamic_within": (ctypes.c_size_t, *_STEP),
+    "next_version_words_within": (ctypes.c_size_t, *_STEP),
     "name": (_U32, *_FILE, _to(_Range), _U64, _to(_Range), _to(_End)),
     "notes": (_U32, *_FILE, _U16, _to(_Notes), _to(_End)),
     "segment_notes": (_U32, *_FILE, _U16, _to(_Notes), _to(_End)),
@@ -296,6 +313,28 @@ class Refused(Exception):
 
     def __str__(self) -> str:
         return "%s at 0x%x" % (self.word or "cause %d" % self.cause, self.offset)
+
+
+class Missing(NamedTuple):
+    """What a layout lacks: the relocation type of the entry that was refused, and the name of its symbol, or the
+    first 255 bytes of it where `is_cut` tells that it has more. One of the items in `helpful` would help:
+    "sections", for the section of index `section`, or a field of `Layout` for that name. No item can have a name
+    of no bytes, or one that is cut."""
+
+    helpful: Tuple[str, ...]
+    section: Optional[int]
+    relocation: int
+    name: bytes
+    is_cut: bool
+
+
+class Unapplied(Refused):
+    """A section is refused, as by `Refused`; `missing` is what its layout lacks, or None where no address would
+    help, or the budget has no room to find that out."""
+
+    def __init__(self, cause: int, offset: int, missing: Optional[Missing] = None) -> None:
+        super().__init__(cause, offset)
+        self.missing: Optional[Missing] = missing
 
 
 class Full(Exception):
@@ -425,6 +464,33 @@ class Dynamic(NamedTuple):
     index: int  # type: ignore[assignment]
 
 
+class Version(NamedTuple):
+    """A version that the file defines, a file of which it needs versions, or a version that it needs of the file
+    before: `kind` is 1, 2 or 3. `number` is below 32,768, and `is_hidden` its highest bit; of a file it is 0,
+    as its flags and its hash. `table` is its section."""
+
+    name: bytes
+    kind: int
+    number: int
+    is_hidden: bool
+    flags: int
+    hash: int
+    table: int
+
+
+class VersionOfSymbol(NamedTuple):
+    """The version of a symbol: its number, below 32,768, and its name, which is empty for 0 and 1. `is_hidden` tells
+    that a name alone does not take the symbol. `table` is the section of symbols' versions, `symbols` that of the
+    symbols, and `index` the symbol's there."""
+
+    name: bytes
+    number: int
+    is_hidden: bool
+    table: int
+    symbols: int
+    index: int  # type: ignore[assignment]
+
+
 class Member(NamedTuple):
     """A member of an archive. `at` is the offset of its header, `offset` that of its data, and `content`
     are these bytes of the archive, not copied: `File(member.content)` is the file that they are. Where the
@@ -485,8 +551,8 @@ _NOTHING: Mapping[Any, int] = types.MappingProxyType({})
 class Layout(NamedTuple):
     """Addresses for `File.apply`: of sections by their index; by the symbol's name, of symbols that
     the file does not define, and of symbols' entries: in the procedure linkage table, in the global
-    offset table, and there those of their offsets from the thread pointer. At most 64 sections, 32
-    definitions and 32 entries of each kind; names of 1 to 255 bytes."""
+    offset table, and there those of their offsets from the thread pointer. As many as there are; names
+    have 1 to 255 bytes."""
 
     sections: Mapping[int, int] = _NOTHING
     define: Named = _NOTHING
@@ -526,17 +592,31 @@ def _limits_of(headers: int, name_cap: int, budget: Optional[int]) -> Any:
     return _Limits(headers, name_cap, budget is not None, budget or 0)
 
 
-def _items_of(layout: Layout) -> List[Any]:
-    """A layout's items. A field that no kind of item needs is an empty name or 0, never NULL."""
-    items = [_Item(_within("an address", address, 0, MOST_NUMBER), b"", 0, 0,
-                   _within("a section", index, 0, 65535))
-             for index, address in layout.sections.items()]
+def _layout_of(layout: Layout) -> Any:
+    """A layout as it is lent: each list in rising order."""
+    numbers = sorted((_within("a section", index, 0, 65535), _within("an address", address, 0, MOST_NUMBER))
+                     for index, address in layout.sections.items())
+    lists: List[Any] = [(_LentSection * max(1, len(numbers)))(*numbers), len(numbers)]
     named: Sequence[Named] = (layout.define, layout.entries, layout.table, layout.thread)
-    for kind, addresses in enumerate(named, 1):
-        for name, address in addresses.items():
-            text = _name_bytes(name, 255)
-            items.append(_Item(_within("an address", address, 0, MOST_NUMBER), text, len(text), kind, 0))
-    return items
+    for addresses in named:
+        names = sorted((_name_bytes(name, 255), _within("an address", address, 0, MOST_NUMBER))
+                       for name, address in addresses.items())
+        rows = [(name, len(name), address) for name, address in names]
+        lists += [(_LentName * max(1, len(rows)))(*rows), len(rows)]
+    return _Layout(*lists)
+
+
+# The fields of a layout, in the order of the bits of what would help.
+_SORTS = ("sections", "define", "entries", "table", "thread")
+
+
+def _missing_of(told: Any) -> Optional[Missing]:
+    """What a layout lacks, or None where no address would help."""
+    if not told.helpful:
+        return None
+    helpful = tuple(sort for bit, sort in enumerate(_SORTS) if told.helpful >> bit & 1)
+    return Missing(helpful, told.section if told.helpful == 1 else None, told.relocation,
+                   bytes(told.name[:told.name_len]), told.is_cut != 0)
 
 
 def _always(strings: Places) -> Callable[[int], Places]:
@@ -721,14 +801,16 @@ class File:
 
     def apply(self, section: int, layout: Layout = Layout()) -> bytes:
         """The bytes of a section of a relocatable file for x86-64, with its relocations applied for
-        these addresses. ValueError where the layout is outside its bounds."""
-        items = _items_of(layout)
-        array = (_Item * max(1, len(items)))(*items)
-        job = _Job(array, len(items), _within("section", section, 0, 65535), 0)
+        these addresses. Unapplied is raised where it is refused, with what the layout lacks; ValueError
+        where a name or a number of the layout is outside its range, or two names are the same."""
+        lent, missing = _layout_of(layout), _Missing()
         # A section that is longer than the file is refused, so that this is room enough.
-        length = self._size_in_file(section)
+        length = self._size_in_file(_within("section", section, 0, 65535))
         out = ctypes.create_string_buffer(max(1, length))
-        status, end = self._call("apply", self._limits, job, *self._lent(), out, length)
+        try:
+            status, end = self._call("apply_lent", self._limits, section, lent, *self._lent(), out, length, missing)
+        except Refused as refused:
+            raise Unapplied(refused.cause, refused.offset, _missing_of(missing)) from None
         if status == _FULL:
             raise Full("the section has more than %d bytes" % length)
         return ctypes.string_at(out, end.written)
@@ -932,6 +1014,63 @@ class File:
             return self._name(strings, unpack(content, at)[0], at)
 
         return name_of
+
+    def versions(self, section: Optional[int] = None) -> Iterator[Version]:
+        """The version definitions of a section, or its needs; or the definitions of all sections, and then all
+        needs, as the lines V of a listing. Absent where that section holds neither."""
+        asked = _Asked(self._budget)
+        if section is not None:
+            yield from self._versions_of(_within("section", section, 0, 65535), asked)
+            return
+        for kind in (SHT_GNU_VERDEF, SHT_GNU_VERNEED):
+            for table in self._tables(None, (kind,), asked):
+                yield from self._versions_of(table, asked)
+
+    def _versions_of(self, table: int, asked: _Asked) -> Iterator[Version]:
+        records, row = _VersionRecords(), _VersionRecord()
+        status, _ = self._call("version_records", self._limits, table, *self._unwritten(), records)
+        if status == _ABSENT:
+            raise Absent("%d holds no versions" % table)
+        strings = (records.strings_at, records.strings_at + records.strings_len)
+        while self._call("next_version_record", records, row)[0] == _OK:
+            name = self._name(strings, row.name, row.named_at)
+            asked.take((28 if row.kind == 1 else 16) + len(name) + 1, row.at)
+            yield Version(name, row.kind, row.number & 32767, row.number > 32767, row.flags, row.hash, table)
+
+    def symbol_versions(self, section: Optional[int] = None) -> Iterator[VersionOfSymbol]:
+        """The versions of the symbols of a section, in their order, or of all sections of them, as the lines X of
+        a listing. The name of a version is that of the first definition with its number, else of the first need:
+        of the first section of each. Absent where that section holds none."""
+        asked = _Asked(self._budget)
+        tables = self._tables(section, (SHT_GNU_VERSYM,), asked)
+        names = self._version_names(asked) if tables else {}
+        for table in tables:
+            rows, index, link = self._opened("version_words", table), 0, self._section_rows(asked)[table][6]
+            for batch in self._batches("next_version_words", rows, _WORD_FORM, asked):
+                for number, hidden in batch:
+                    if number > 1 and number not in names:
+                        raise Refused(Cause.VERSION_INDEX, rows.at + 2 * index)
+                    yield VersionOfSymbol(names.get(number, b"") if number > 1 else b"", number, hidden != 0, table, link,
+                                          index)
+                    index += 1
+            self._all_have_words(table, link, index)
+
+    def _version_names(self, asked: _Asked) -> Dict[int, bytes]:
+        """The names of the numbers of versions."""
+        names: Dict[int, bytes] = {}
+        for kind in (SHT_GNU_VERDEF, SHT_GNU_VERNEED):
+            for table in self._tables(None, (kind,), asked)[:1]:
+                for version in self._versions_of(table, asked):
+                    if version.kind == 3 or (version.kind == 1 and not version.flags & 1):
+                        names.setdefault(version.number, version.name)
+        return names
+
+    def _all_have_words(self, table: int, link: int, count: int) -> None:
+        """Refuses a table of symbols' versions that has fewer than there are symbols; an empty one has none."""
+        header = _Section()
+        self._call("section", table, header)
+        if header.size and self._opened("symbols", link).count > count:
+            raise Refused(Cause.VERSION_CUT, self.header.shoff + 64 * table)
 
     def notes(self) -> Iterator[Note]:
         """The notes of all sections, or in a file without sections of all segments."""

@@ -6,6 +6,9 @@
 //!     calls find FILE NAME        the symbol and the steps
 //!     calls resolve FILE NAME[@[@]VERSION] [by-segments]
 //!                                 the symbol as a loader takes it, and its version
+//!     calls place FILE SECTION ITEM..
+//!                                 the section in a layout that is lent, or what that lacks
+//!     calls versions FILE         the version definitions, the needs, and the versions of symbols
 //!     calls contents FILE         how many bytes each section has in the file, and their sum
 //!     calls rows FILE..           all rows, as numbers; names in hexadecimal digits
 //!     calls named FILE PART       the sections, the symbols or the dynamic entries with their names, as a listing
@@ -247,6 +250,76 @@ fn entries_named(table: u16, rows: elfsee::Named<elfsee::Dynamic>) -> Result<(),
     Ok(())
 }
 
+/// A section in the layout of some items.
+fn place(file: &File, words: &[String]) {
+    use elfsee::{Layout, NameAddress, SectionAddress};
+    let (mut sections, mut names) = (Vec::new(), [(); 4].map(|_| Vec::new()));
+    for word in &words[1..] {
+        let (key, address) = word.rsplit_once('=').expect("an address");
+        let address = u64::from_str_radix(&address[2..], 16).expect("an address");
+        let (kind, key) = key.split_once(':').expect("a kind");
+        match ["def", "plt", "got", "tpgot"].iter().position(|one| *one == kind) {
+            Some(sort) => names[sort].push(NameAddress::new(key.as_bytes(), address)),
+            None => sections.push(SectionAddress::new(key.parse().expect("an index"), address)),
+        }
+    }
+    sections.sort();
+    names.iter_mut().for_each(|list| list.sort());
+    let [definitions, linkage, table, thread] = &names;
+    let layout = Layout { sections: &sections, definitions, linkage, table, thread };
+    let section = words[0].parse().expect("an index");
+    let mut out = vec![0; file.bytes().len()];
+    match file.apply_lent(section, &layout, &mut vec![0; file.room()], &mut out) {
+        Ok(bytes) => println!("{}", hex(bytes)),
+        Err(unapplied) => match unapplied.missing {
+            None => println!("! {unapplied}, nothing"),
+            Some(missing) => {
+                let index = missing.section().map_or("none".to_string(), |index| index.to_string());
+                let helps: String = [
+                    missing.definition_helps(),
+                    missing.linkage_helps(),
+                    missing.table_helps(),
+                    missing.thread_helps(),
+                ]
+                .map(|helps| if helps { '1' } else { '0' })
+                .iter()
+                .collect();
+                let (kind, name, is_cut) =
+                    (missing.relocation(), hex(missing.name()), u8::from(missing.is_cut()));
+                println!("! {unapplied}, {index} {helps} {kind} {name} {is_cut}");
+            }
+        },
+    }
+}
+
+/// The version definitions, the needs, and the versions of symbols.
+fn versions(file: &File) -> Result<(), Error> {
+    use elfsee::{abi, VersionKind};
+    let mut room = vec![0; file.room()];
+    for kind in [abi::SHT_GNU_VERDEF, abi::SHT_GNU_VERNEED] {
+        for (index, section) in file.sections(&mut room)? {
+            let Some(records) = file.version_records(index, &mut room)? else { continue };
+            for record in records.take_while(|_| section.kind == kind) {
+                let record = record?;
+                let kind = match record.kind {
+                    VersionKind::Definition => 1,
+                    VersionKind::File => 2,
+                    VersionKind::Need => 3,
+                };
+                let (number, is_hidden) = (record.number, u8::from(record.is_hidden));
+                let name = hex(record.name);
+                println!("V {index} {kind} {number} {is_hidden} {} {} {name}", record.flags, record.hash);
+            }
+        }
+    }
+    for (index, _) in file.sections(&mut room)? {
+        for word in file.version_words(index, &mut room)?.into_iter().flatten() {
+            println!("X {index} {} {}", word.number, word.is_hidden);
+        }
+    }
+    Ok(())
+}
+
 /// The members of an archive: where each lies, and what of its listing is the file header.
 fn members(file: &File) -> Result<(), Error> {
     for member in file.members()? {
@@ -274,6 +347,11 @@ fn main() {
             "find" => find(&file, words[2].as_bytes()),
             "resolve" => resolve(&file, &wanted(&words[2], words.len() > 3)),
             "contents" => contents(&file),
+            "versions" => versions(&file),
+            "place" => {
+                place(&file, &words[2..]);
+                Ok(())
+            }
             "members" => members(&file),
             "named" => named(&file, &words[2]),
             _ => rows(&file),

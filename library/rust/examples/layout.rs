@@ -5,9 +5,9 @@ use elfsee::raw;
 use std::mem::{size_of, size_of_val, MaybeUninit};
 use std::ptr::addr_of;
 
-/// The name in C of a field: `kind` is its `type`, but for an item's, which is so in both.
+/// The name in C of a field: `kind` is its `type`, but for an item's and a version's, which is so in both.
 fn name_in_c<'a>(of: &str, field: &'a str) -> &'a str {
-    if field == "kind" && of != "elfsee_item" {
+    if field == "kind" && !["elfsee_item", "elfsee_version_record", "elfsee_version_records"].contains(&of) {
         "type"
     } else {
         field
@@ -37,6 +37,14 @@ fn main() {
         words number none none_behind);
     tell!("elfsee_item", raw::Item, address name name_len kind index);
     tell!("elfsee_job", raw::Job, items items_len section none);
+    tell!("elfsee_lent_section", raw::LentSection, index address);
+    tell!("elfsee_lent_name", raw::LentName, name name_len address);
+    tell!("elfsee_layout", raw::Layout, sections sections_len definitions definitions_len linkage linkage_len
+        table table_len thread thread_len);
+    tell!("elfsee_missing", raw::Missing, helpful section relocation name_len is_cut name);
+    tell!("elfsee_version_word", raw::VersionWord, number is_hidden);
+    tell!("elfsee_version_record", raw::VersionRecord, at named_at name hash number flags kind);
+    tell!("elfsee_version_records", raw::VersionRecords, at size place from owner left strings_at strings_len kind none);
     tell!("elfsee_header", raw::Header, entry phoff shoff version flags kind machine ehsize phentsize
         phnum shentsize shnum shstrndx ident);
     tell!("elfsee_section", raw::Section, flags addr offset size addralign entsize name kind link info);

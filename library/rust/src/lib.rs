@@ -36,19 +36,23 @@
 pub mod abi;
 mod error;
 mod headers;
+mod layouts;
 mod members;
 mod names;
 mod notes;
 pub mod raw;
 mod rows;
+mod versions;
 
 pub use error::{Cause, Error, Refused};
 pub use headers::{NamedSections, Sections, Segments};
+pub use layouts::{Layout, Missing, NameAddress, SectionAddress, Unapplied};
 pub use members::{Member, Members};
 pub use names::{spelt, HasName, Named, Names, Spelt};
 pub use notes::{Note, Notes};
-pub use raw::{Dynamic, Header, Range, Relocation, Section, Segment, Symbol};
-pub use rows::{DynamicEntries, Relocations, Rows, Symbols, Within};
+pub use raw::{Dynamic, Header, Range, Relocation, Section, Segment, Symbol, VersionWord};
+pub use rows::{DynamicEntries, Relocations, Rows, Symbols, VersionWords, Within};
+pub use versions::{VersionKind, VersionRecord, VersionRecords};
 
 use core::cell::Cell;
 use core::marker::PhantomData;
@@ -545,6 +549,57 @@ impl<'a> File<'a> {
         }
     }
 
+    /// Writes a section's bytes with its relocations applied, as [`File::apply`] does, for a layout of any size. Where
+    /// the section is refused for want of an address, the error tells which.
+    ///
+    /// ```
+    /// use elfsee::{File, Layout, NameAddress, SectionAddress};
+    ///
+    /// # fn main() -> Result<(), Box<dyn std::error::Error>> {
+    /// let bytes = std::fs::read("/proc/self/exe")?;
+    /// let file = File::new(&bytes);
+    /// let sections: Vec<_> = (1..100).map(|index| SectionAddress::new(index, 0x401000)).collect();
+    /// let mut names = vec![NameAddress::new(b"called", 0x500000), NameAddress::new(b"a", 0x600000)];
+    /// names.sort();
+    /// let layout = Layout { sections: &sections, definitions: &names, ..Layout::default() };
+    /// match file.apply_lent(1, &layout, &mut vec![0; file.room()], &mut [0; 64]) {
+    ///     Ok(section) => println!("{section:x?}"),
+    ///     Err(unapplied) => println!("{unapplied}, for want of {:?}", unapplied.missing),
+    /// }
+    /// # Ok(())
+    /// # }
+    /// ```
+    pub fn apply_lent<'o>(
+        &self,
+        section: u16,
+        layout: &Layout<'_>,
+        room: &mut [u8],
+        out: &'o mut [u8],
+    ) -> Result<&'o [u8], Unapplied> {
+        let (mut missing, mut end) = (raw::Missing::default(), raw::End::default());
+        let lent = layout.raw();
+        // SAFETY: as in `show`; the layout's lists are slices' own pointers and lengths, and so are their names.
+        let status = unsafe {
+            raw::elfsee_apply_lent(
+                self.bytes.as_ptr(),
+                self.bytes.len(),
+                &self.limits,
+                section,
+                &lent,
+                room.as_mut_ptr(),
+                room.len(),
+                out.as_mut_ptr(),
+                out.len(),
+                &mut missing,
+                &mut end,
+            )
+        };
+        match status {
+            raw::OK => Ok(written(out, &end)),
+            _ => Err(Unapplied { error: error_of(status, &end), missing: Missing::of(missing) }),
+        }
+    }
+
     /// The file header.
     ///
     /// ```
@@ -722,6 +777,64 @@ impl<'a> File<'a> {
     pub fn dynamic(&self, section: u16, room: &mut [u8]) -> Result<Option<DynamicEntries<'a>>, Error> {
         let rows = self.open(raw::elfsee_dynamic, section, room)?;
         Ok(rows.map(|rows| Rows::new(self.bytes, rows)))
+    }
+
+    /// The words of symbols' versions of a section, one for each symbol of the table that it links to; none where it
+    /// holds none. [`File::version_records`] has the names of their numbers.
+    ///
+    /// ```
+    /// # fn main() -> Result<(), Box<dyn std::error::Error>> {
+    /// let bytes = std::fs::read("/proc/self/exe")?;
+    /// let file = elfsee::File::new(&bytes);
+    /// let mut room = vec![0; file.room()];
+    /// // The name of a number is that of the first definition with it, else of the first need.
+    /// let mut names = std::collections::HashMap::new();
+    /// for kind in [elfsee::abi::SHT_GNU_VERDEF, elfsee::abi::SHT_GNU_VERNEED] {
+    ///     let first = file.sections(&mut room)?.find(|(_, section)| section.kind == kind);
+    ///     let Some((index, _)) = first else { continue };
+    ///     for record in file.version_records(index, &mut room)?.into_iter().flatten() {
+    ///         let record = record?;
+    ///         if record.names_version() {
+    ///             names.entry(record.number).or_insert(record.name);
+    ///         }
+    ///     }
+    /// }
+    /// assert!(names.values().any(|name| name.starts_with(b"GLIBC_")));
+    /// for (index, section) in file.sections(&mut room)? {
+    ///     let Some(words) = file.version_words(index, &mut room)? else { continue };
+    ///     let symbols = file.symbols(section.link as u16, &mut room)?.ok_or("no symbols")?;
+    ///     for (word, symbol) in words.zip(symbols.named()) {
+    ///         if let (Some(version), (_, name)) = (names.get(&word.number), symbol?) {
+    ///             println!("{}@{}", elfsee::spelt(name), elfsee::spelt(version));
+    ///         }
+    ///     }
+    /// }
+    /// # Ok(())
+    /// # }
+    /// ```
+    pub fn version_words(&self, section: u16, room: &mut [u8]) -> Result<Option<VersionWords<'a>>, Error> {
+        let rows = self.open(raw::elfsee_version_words, section, room)?;
+        Ok(rows.map(|rows| Rows::new(self.bytes, rows)))
+    }
+
+    /// The version definitions of a section, or its needs, each with its name; none where it holds neither.
+    pub fn version_records(&self, section: u16, room: &mut [u8]) -> Result<Option<VersionRecords<'a>>, Error> {
+        let (mut records, mut end) = (raw::VersionRecords::default(), raw::End::default());
+        // SAFETY: as in `show`.
+        let status = unsafe {
+            raw::elfsee_version_records(
+                self.bytes.as_ptr(),
+                self.bytes.len(),
+                &self.limits,
+                section,
+                room.as_ptr(),
+                room.len(),
+                &mut records,
+                &mut end,
+            )
+        };
+        let records = table_of(status, records, &end)?;
+        Ok(records.map(|records| VersionRecords::new(self.bytes, records)))
     }
 
     /// The dynamic entries of a segment, up to and with the first of tag NULL; none where it holds none.

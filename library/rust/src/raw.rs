@@ -108,6 +108,96 @@ pub struct Job {
     pub none: u32,
 }
 
+/// A section of a layout that is lent. Their order is that of their indices.
+#[repr(C)]
+#[derive(Clone, Copy, Debug, Default, PartialEq, Eq, PartialOrd, Ord)]
+pub struct LentSection {
+    pub index: u16,
+    pub address: u64,
+}
+
+#[repr(C)]
+#[derive(Clone, Copy, Debug)]
+pub struct LentName {
+    pub name: *const u8,
+    pub name_len: usize,
+    pub address: u64,
+}
+
+#[repr(C)]
+#[derive(Clone, Copy, Debug)]
+pub struct Layout {
+    pub sections: *const LentSection,
+    pub sections_len: usize,
+    pub definitions: *const LentName,
+    pub definitions_len: usize,
+    pub linkage: *const LentName,
+    pub linkage_len: usize,
+    pub table: *const LentName,
+    pub table_len: usize,
+    pub thread: *const LentName,
+    pub thread_len: usize,
+}
+
+/// What a layout lacks; all 0 where no address would help.
+#[repr(C)]
+#[derive(Clone, Copy, Debug, PartialEq, Eq)]
+pub struct Missing {
+    pub helpful: u32,
+    pub section: u32,
+    pub relocation: u32,
+    pub name_len: u32,
+    pub is_cut: u32,
+    pub name: [u8; 256],
+}
+
+impl Default for Missing {
+    fn default() -> Missing {
+        Missing { helpful: 0, section: 0, relocation: 0, name_len: 0, is_cut: 0, name: [0; 256] }
+    }
+}
+
+/// The version of a symbol: its number, and 1 where a name alone does not take the symbol.
+#[repr(C)]
+#[derive(Clone, Copy, Debug, Default, PartialEq, Eq)]
+pub struct VersionWord {
+    pub number: u16,
+    pub is_hidden: u16,
+}
+
+pub const DEFINITION: u32 = 1;
+pub const FILE: u32 = 2;
+pub const NEED: u32 = 3;
+
+/// A record of version definitions or needs, field by field.
+#[repr(C)]
+#[derive(Clone, Copy, Debug, Default, PartialEq, Eq)]
+pub struct VersionRecord {
+    pub at: u64,
+    pub named_at: u64,
+    pub name: u32,
+    pub hash: u32,
+    pub number: u16,
+    pub flags: u16,
+    pub kind: u32,
+}
+
+/// A place in a walk over such records: plain numbers.
+#[repr(C)]
+#[derive(Clone, Copy, Debug, Default, PartialEq, Eq)]
+pub struct VersionRecords {
+    pub at: u64,
+    pub size: u64,
+    pub place: u64,
+    pub from: u64,
+    pub owner: u64,
+    pub left: u64,
+    pub strings_at: u64,
+    pub strings_len: u64,
+    pub kind: u32,
+    pub none: u32,
+}
+
 /// The file header, field by field (gABI, ELF Header).
 #[repr(C)]
 #[derive(Clone, Copy, Debug, Default, PartialEq, Eq)]
@@ -308,6 +398,63 @@ extern "C" {
         room_len: usize,
         out: *mut u8,
         out_len: usize,
+        end: *mut End,
+    ) -> u32;
+    pub fn elfsee_apply_lent(
+        file: *const u8,
+        file_len: usize,
+        limits: *const Limits,
+        section: u16,
+        layout: *const Layout,
+        room: *mut u8,
+        room_len: usize,
+        out: *mut u8,
+        out_len: usize,
+        missing: *mut Missing,
+        end: *mut End,
+    ) -> u32;
+    pub fn elfsee_version_words(
+        file: *const u8,
+        file_len: usize,
+        limits: *const Limits,
+        section: u16,
+        room: *mut u8,
+        room_len: usize,
+        rows: *mut Rows,
+        end: *mut End,
+    ) -> u32;
+    pub fn elfsee_next_version_words(
+        file: *const u8,
+        file_len: usize,
+        rows: *mut Rows,
+        out: *mut VersionWord,
+        out_len: usize,
+    ) -> usize;
+    pub fn elfsee_next_version_words_within(
+        file: *const u8,
+        file_len: usize,
+        limits: *const Limits,
+        asked: *mut u64,
+        rows: *mut Rows,
+        out: *mut VersionWord,
+        out_len: usize,
+        end: *mut End,
+    ) -> usize;
+    pub fn elfsee_version_records(
+        file: *const u8,
+        file_len: usize,
+        limits: *const Limits,
+        section: u16,
+        room: *const u8,
+        room_len: usize,
+        records: *mut VersionRecords,
+        end: *mut End,
+    ) -> u32;
+    pub fn elfsee_next_version_record(
+        file: *const u8,
+        file_len: usize,
+        records: *mut VersionRecords,
+        record: *mut VersionRecord,
         end: *mut End,
     ) -> u32;
     pub fn elfsee_header(file: *const u8, file_len: usize, header: *mut Header, end: *mut End) -> u32;

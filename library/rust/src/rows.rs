@@ -57,8 +57,9 @@ macro_rules! fetched {
 fetched!(raw::Symbol, raw::elfsee_next_symbols, raw::elfsee_next_symbols_within);
 fetched!(raw::Relocation, raw::elfsee_next_relocations, raw::elfsee_next_relocations_within);
 fetched!(raw::Dynamic, raw::elfsee_next_dynamic, raw::elfsee_next_dynamic_within);
+fetched!(raw::VersionWord, raw::elfsee_next_version_words, raw::elfsee_next_version_words_within);
 
-/// The rows of a table of symbols, relocation entries or dynamic entries: an iterator. Its rows are numbers, and hold
+/// The rows of a table of symbols, relocation entries, dynamic entries or versions: an iterator. Its rows are numbers, and hold
 /// no borrow of it; [`Rows::names`] and [`Rows::named`] have their names.
 #[derive(Clone, Debug)]
 pub struct Rows<'a, R> {
@@ -75,6 +76,8 @@ pub type Symbols<'a> = Rows<'a, raw::Symbol>;
 pub type Relocations<'a> = Rows<'a, raw::Relocation>;
 /// The dynamic entries of a section.
 pub type DynamicEntries<'a> = Rows<'a, raw::Dynamic>;
+/// The words of symbols' versions of a section.
+pub type VersionWords<'a> = Rows<'a, raw::VersionWord>;
 
 impl<'a, R: Fetch> Rows<'a, R> {
     pub(crate) fn new(file: &'a [u8], rows: raw::Rows) -> Self {

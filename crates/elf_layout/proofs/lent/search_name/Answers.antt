@@ -8,5 +8,5 @@ use Rattle.elf_layout.proofs.lent.search_name.Goals as goal
 pub returns : goal.returns
 returns c =
     let facts = c.binary_search_by_key.ensures in
-    let by_key = facts.position (λ item. item.0) (answers_always _ _ _ (λ f a r g called. search rules)) in
+    let by_key = facts.position (λ item. item.name) (answers_always _ _ _ (λ f a r g called. search rules)) in
     searched nat_list_cmp_total lent_name c.args.items.now c.requires c.args.name.now _ facts.bound by_key

@@ -1,29 +1,30 @@
 use Rattle.std.proofs.Common.{◌≡◌, ℕ, ap, sym, subst, ◌∙◌, Equal, nat_cmp, get_or}
 use Rattle.std.proofs.lemmas.Cmp.{nat_cmp_total, ranked}
-use Rattle.elf_layout.specs.Lent.{named}
+use Rattle.elf_layout.specs.Lent.{lent_index, named, placed}
 use Rattle.elf_layout.specs.Listed.{HasTwice, NeverFalls}
-use Rattle.elf_layout.proofs.ListedSteps.{has_twice}
+use Rattle.elf_layout.proofs.ListedSteps.{key_twice}
 use Rattle.elf_layout.proofs.items.Items.lent.Goals as goal
 
 pub returns-in-Err-clause-refused : goal.returns-in-Err-clause-refused
 returns-in-Err-clause-refused c =
-    let is = c.as_slice.ensures.value ∙ ap (λ l. l.sections) c.self.view_is in
-    let twice = has_twice nat_cmp_total (λ a b e. ranked a b Equal (sym e)) c.as_slice.result.now (subst (NeverFalls nat_cmp) (sym is) c.requires.sections) c.in-Err.i c.index.result.now c.in-Err.ensures.refused.0 c.in-Err.ensures.falls in
-    let key = ap (λ x. x.0) (ap (λ l. get_or l c.in-Err.i c.index.result.now) c.as_slice.ensures.value ∙ sym c.index.ensures) in
-    subst (λ l. HasTwice l c.index.result.now.0) is (subst (HasTwice c.as_slice.result.now) key twice)
+    let is = ap placed c.as_slice.ensures.value ∙ ap (λ l. l.sections) c.self.view_is in
+    let items = c.as_slice.result.now in
+    let twice = key_twice lent_index (λ item. item.address) items nat_cmp_total (λ a b e. ranked a b Equal (sym e)) c.in-Err.i c.index.result.now c.in-Err.ensures.refused.0 (subst (NeverFalls nat_cmp) (sym is) c.requires.sections) c.in-Err.ensures.falls in
+    let key = ap lent_index (ap (λ l. get_or l c.in-Err.i c.index.result.now) c.as_slice.ensures.value ∙ sym c.index.ensures) in
+    subst (λ l. HasTwice l (lent_index c.index.result.now)) is (subst (HasTwice (placed items)) key twice)
 
 pub returns-in-Err-names-clause-refused : goal.returns-in-Err-names-clause-refused
 returns-in-Err-names-clause-refused c =
-    subst (λ l. HasTwice l c.in-Err-names.name.now) (ap named c.as_slice-2.ensures.value ∙ ap (λ l. l.definitions) c.self.view_is) (c.in-Err-names.ensures.refused)
+    subst (λ l. HasTwice l c.in-Err-names.item.name.now) (ap named c.as_slice-2.ensures.value ∙ ap (λ l. l.definitions) c.self.view_is) (c.in-Err-names.ensures.refused)
 
 pub returns-in-Err-names-2-clause-refused : goal.returns-in-Err-names-2-clause-refused
 returns-in-Err-names-2-clause-refused c =
-    subst (λ l. HasTwice l c.in-Err-names-2.name.now) (ap named c.as_slice-3.ensures.value ∙ ap (λ l. l.linkage) c.self.view_is) (c.in-Err-names-2.ensures.refused)
+    subst (λ l. HasTwice l c.in-Err-names-2.item.name.now) (ap named c.as_slice-3.ensures.value ∙ ap (λ l. l.linkage) c.self.view_is) (c.in-Err-names-2.ensures.refused)
 
 pub returns-in-Err-names-3-clause-refused : goal.returns-in-Err-names-3-clause-refused
 returns-in-Err-names-3-clause-refused c =
-    subst (λ l. HasTwice l c.in-Err-names-3.name.now) (ap named c.as_slice-4.ensures.value ∙ ap (λ l. l.table) c.self.view_is) (c.in-Err-names-3.ensures.refused)
+    subst (λ l. HasTwice l c.in-Err-names-3.item.name.now) (ap named c.as_slice-4.ensures.value ∙ ap (λ l. l.table) c.self.view_is) (c.in-Err-names-3.ensures.refused)
 
 pub returns-in-Err-names-4-clause-refused : goal.returns-in-Err-names-4-clause-refused
 returns-in-Err-names-4-clause-refused c =
-    subst (λ l. HasTwice l c.in-Err-names-4.name.now) (ap named c.as_slice-5.ensures.value ∙ ap (λ l. l.thread) c.self.view_is) (c.in-Err-names-4.ensures.refused)
+    subst (λ l. HasTwice l c.in-Err-names-4.item.name.now) (ap named c.as_slice-5.ensures.value ∙ ap (λ l. l.thread) c.self.view_is) (c.in-Err-names-4.ensures.refused)

@@ -3,7 +3,8 @@ use Rattle.std.proofs.lemmas.Bool.{cases_lt}
 use Rattle.std.proofs.lemmas.Cmp.{nat_list_cmp_total}
 use Rattle.elf_model.specs.ApplyCost.{longest}
 use Rattle.elf_layout.specs.Layouts.{IsName}
-use Rattle.elf_layout.specs.Lent.{LentItem, lent_name, named}
+use Rattle.elf_layout.specs.Lent.{lent_name, named}
+use Rattle.elf_layout.specs.declared.lent.LentName.{LentName}
 use Rattle.elf_layout.proofs.LentSteps.{below_more}
 use Rattle.elf_layout.proofs.NameSteps.{greater_is, longest_more, lends_front, some_item}
 use Rattle.elf_layout.proofs.lent.SortedNames.new.Goals as goal
@@ -21,7 +22,7 @@ loop-i-preserved c =
     let items = c.args.items.now in
     let i = c.loop-i.i in
     let follows = c.if-not-name_follows.ensures in
-    let d : LentItem = some_item items (omega (arith, c.loop-i-test.true)) in
+    let d : LentName = some_item items (omega (arith, c.loop-i-test.true)) in
     let more = longest_more items i d c.loop-i-test.true in
     let long = ap length (c.name_at.ensures d) in
     record {

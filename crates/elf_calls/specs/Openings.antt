@@ -1,0 +1,38 @@
+-- What opening a table of a file in memory answers, as numbers.
+use Rattle.std.specs.Prelude.{ℕ, ◌≡◌, List, Option, None, Some, Result}
+use Rattle.elf_model.specs.declared.causes.Refusal.{Refusal}
+use Rattle.elf_rows.specs.Openings.{ReadsSectionNames, ReadsRows}
+use Rattle.elf_rows.specs.VersionRecords.{ReadsRecords}
+use Rattle.elf_rows.specs.declared.kind.RowKind.{RowKind}
+use Rattle.elf_memory.specs.declared.name.ByteRange.{ByteRange}
+use Rattle.elf_rows.specs.declared.records.RecordsLeft.{RecordsLeft}
+use Rattle.elf_rows.specs.declared.rows.RowsLeft.{RowsLeft}
+use Rattle.elf_calls.specs.Ends.{IsTold, no_end}
+use Rattle.elf_calls.specs.Limits.{AreInRange, headers_of}
+use Rattle.elf_calls.specs.declared.end.End.{End}
+use Rattle.elf_calls.specs.declared.limits.CallerLimits.{CallerLimits}
+
+-- AN OPENED TABLE AS NUMBERS: as a row that is read; status 4, with nothing changed, where a number of the call is outside
+-- its range
+abbrev pub IsOpenedTable : {A : Type 0} → ℕ → A → A → End → Option (Result (Option A) Refusal) → Type 0
+IsOpenedTable status old new end (Some read) = IsTold status old new end read
+IsOpenedTable status old new end None = (status ≡ 4) × (new ≡ old) × (end ≡ no_end)
+
+-- WHAT A CALL OPENS, AS NUMBERS: an answer of that opening, told so
+abbrev pub TellsOpened : {A : Type 0} → (Option (Result (Option A) Refusal) → Type 0) → ℕ → A → A → End → Type 0
+TellsOpened {A} opens status old new end = (opened : Option (Result (Option A) Refusal)) × opens opened × IsOpenedTable status old new end opened
+
+-- what a call has of a section of rows of a kind: limits in their range, and room for a header
+abbrev pub OpensRows : RowKind → List ℕ → CallerLimits → ℕ → ℕ → Option (Result (Option RowsLeft) Refusal) → Type 0
+OpensRows kind file limits room section (Some read) = AreInRange limits room × ReadsRows kind file (headers_of limits room) section read
+OpensRows kind file limits room section None = AreInRange limits room → ⊥
+
+-- the same of the section names
+abbrev pub OpensNames : List ℕ → CallerLimits → ℕ → Option (Result (Option ByteRange) Refusal) → Type 0
+OpensNames file limits room (Some read) = AreInRange limits room × ReadsSectionNames file (headers_of limits room) read
+OpensNames file limits room None = AreInRange limits room → ⊥
+
+-- the same of a section of version definitions or needs
+abbrev pub OpensRecords : List ℕ → CallerLimits → ℕ → ℕ → Option (Result (Option RecordsLeft) Refusal) → Type 0
+OpensRecords file limits room section (Some read) = AreInRange limits room × ReadsRecords file (headers_of limits room) section read
+OpensRecords file limits room section None = AreInRange limits room → ⊥

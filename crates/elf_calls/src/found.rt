@@ -1,0 +1,66 @@
+//! What a lookup answers, as C sees it.
+ghost use Rattle.std.specs.Prelude.{◌≡◌};
+ghost use Rattle.elf_calls.specs.Found.{no_symbol, nothing_behind};
+
+use elf_hash::Lookup;
+use elf_record::Refusal;
+use elf_rows::Symbol;
+
+/// What a lookup found; all 0 where it found nothing, but for the steps.
+#[repr(C)]
+#[derive(Clone, Copy)]
+pub struct LookupNumbers {
+    /// The symbol.
+    pub symbol: Symbol,
+    /// Its index in its section.
+    pub index: u32,
+    /// How many names were compared.
+    pub steps: u32,
+    /// The index of the section that has the symbol.
+    pub section: u16,
+    /// 0.
+    pub none: u16,
+    /// 0.
+    pub none_behind: u32,
+}
+
+impl LookupNumbers {
+    /// Nothing was found, and no name compared.
+    pub fn clear(&mut self)
+        ensures { self.new ≡ nothing_behind 0 }
+    {
+        *self = LookupNumbers {
+            symbol: no_symbol(),
+            index: 0,
+            steps: 0,
+            section: 0,
+            none: 0,
+            none_behind: 0,
+        };
+    }
+}
+
+/// A symbol of zeros, where none was found.
+pub fn no_symbol() -> Symbol
+    ensures { result ≡ no_symbol }
+{
+    Symbol {
+        value: 0,
+        size: 0,
+        name: 0,
+        section: 0,
+        info: 0,
+        other: 0,
+    }
+}
+
+/// What a caller is told of a lookup.
+#[derive(Clone, Copy)]
+pub enum Looked {
+    /// The name was found, or there is none.
+    Answered(Lookup),
+    /// The file is refused, or the read budget is used up.
+    Refused(Refusal),
+    /// The limits, the room or the length of the name are outside their ranges.
+    BadCall,
+}

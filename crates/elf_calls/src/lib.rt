@@ -1,0 +1,45 @@
+//! What the calls of the library do, over memory that a caller lends, in the numbers that C has: limits,
+//! items and listings as a caller says them, what is written into lent memory, and how a call ends.
+#![tactic(auto)]
+
+mod applied;
+mod asked;
+mod causes;
+mod counts;
+mod end;
+mod found;
+mod items;
+mod lent_layout;
+mod lent_sink;
+mod limits;
+mod listing;
+mod loader_lookup;
+mod looking;
+mod missing;
+mod opening;
+mod placing;
+mod query;
+mod resolved;
+mod spent;
+mod telling;
+mod told;
+
+pub use applied::{WantedSection, write_section};
+pub use asked::{CallerListing, listing_of};
+pub use counts::short;
+pub use end::End;
+pub use found::{Looked, LookupNumbers};
+pub use items::{CallerItem, Job, lay_out};
+pub use lent_layout::CallerLayout;
+pub use limits::{CallerLimits, caps_of, limits_of};
+pub use listing::{CallOutcome, list};
+pub use loader_lookup::{resolve_in, tell_resolved};
+pub use looking::{look_in, tell_found};
+pub use missing::CallerMissing;
+pub use opening::tell_opened;
+pub use placing::place_section;
+pub use query::Query;
+pub use resolved::{Resolution, Resolved};
+pub use spent::{count_bytes, count_entries, entries_left, room_left, tell_rest};
+pub use telling::tell;
+pub use told::{Told, tell_told};

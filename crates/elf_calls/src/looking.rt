@@ -1,0 +1,74 @@
+//! A name looked up in a file in memory, and what a caller is told of it.
+ghost use Rattle.std.specs.Prelude.{◌≡◌, ◌≤◌, IfSome, length};
+ghost use Rattle.elf_model.specs.Find.{find_cost};
+ghost use Rattle.elf_calls.specs.Ends.{TellsNone};
+ghost use Rattle.elf_calls.specs.Found.{LooksIn, TellsLooked, nothing_behind};
+
+use crate::counts::short;
+use crate::end::End;
+use crate::found::{Looked, LookupNumbers};
+use elf_hash::{Lookup, find};
+use elf_headers::{Fault, HeaderStore};
+use elf_rows::Symbol;
+use elf_source::{Counted, MemorySource};
+
+/// Looks a name of at most 4,096 bytes up within a read budget, where there is one.
+pub fn look_in(
+    file: &[u8],
+    store: &mut HeaderStore,
+    budget: Option<u64>,
+    name: &[u8],
+    asked: &mut u64,
+) -> Looked
+    requires { length name.now ≤ 4096 }
+    ensures looks { LooksIn file.now store.old.slots budget name.now result }
+    ensures cost { asked.new ≤ find_cost file.now store.old.slots name.now }
+    ensures budget { IfSome budget (λ bytes. asked.new ≤ bytes) }
+{
+    let mut src = Counted::new(MemorySource::new(file));
+    src.limit(budget);
+    let found = find(&mut src, store, name);
+    *asked = short(src.asked());
+    let _ = src.into_inner();
+    match found {
+        Ok(lookup) => Looked::Answered(lookup),
+        Err(Fault::Refused(refusal)) => Looked::Refused(refusal),
+        Err(Fault::Source { .. }) => unreachable!(),
+    }
+}
+
+/// Tells what was found as numbers, and answers the status.
+pub fn tell_found(looked: &Looked, found: &mut LookupNumbers, end: &mut End) -> u32
+    requires nothing { found.old ≡ nothing_behind 0 }
+    requires none { TellsNone end.old }
+    ensures tells { TellsLooked result found.new end.new looked.now }
+    ensures written { end.new.written ≡ end.old.written }
+    ensures asked { end.new.asked ≡ end.old.asked }
+    ensures none { end.new.none ≡ end.old.none }
+{
+    match looked {
+        Looked::Answered(
+            Lookup::Found {
+                section,
+                index,
+                symbol,
+                steps,
+            },
+        ) => {
+            found.symbol = Symbol::of(symbol);
+            found.section = *section;
+            found.index = *index;
+            found.steps = *steps;
+            0
+        }
+        Looked::Refused(refusal) => {
+            end.refuse(*refusal);
+            1
+        }
+        Looked::Answered(Lookup::Absent { steps }) => {
+            found.steps = *steps;
+            2
+        }
+        Looked::BadCall => 4,
+    }
+}

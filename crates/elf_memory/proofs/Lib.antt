@@ -1,0 +1,3 @@
+pub mod CheckedLaws
+pub mod FoundNames
+pub mod NoteSteps

@@ -1,0 +1,29 @@
+-- Where the bytes at an address lie in a file in memory.
+use Rattle.std.specs.Prelude.{ℕ, ◌≡◌, ◌+◌, ◌≤◌, ◌⊎◌, true, false, List, length, Option, None, Some, Result, Ok, Err}
+use Rattle.elf_model.specs.Checks.{is_outside}
+use Rattle.elf_model.specs.Mapped.{mapped_at, mapped_offset}
+use Rattle.elf_model.specs.Records.{p_vaddr}
+use Rattle.elf_model.specs.declared.causes.Cause.TheVariants.{TableOutside}
+use Rattle.elf_model.specs.declared.causes.Refusal.{Refusal}
+use Rattle.elf_memory.specs.Checked.{first_refused}
+use Rattle.elf_memory.specs.declared.name.ByteRange.{ByteRange}
+
+-- the place of the first program header that holds so many bytes from an address on, within the file and not above the address;
+-- or there is none
+abbrev pub FindsMapping : List ℕ → ℕ → ℕ → Option ℕ → Type 0
+FindsMapping file address size (Some at) = (mapped_at file address size ≡ Some at) × (at + 56 ≤ length file) × (p_vaddr file at ≤ address)
+FindsMapping file address size None = mapped_at file address size ≡ None
+
+-- WHAT A CALLER HAS of an address: where so many bytes from it on lie in the file, by the first program header that holds them;
+-- that none does; or the first check that fails, at the last that they end past the end of the file
+abbrev pub ReadsMapped : List ℕ → ℕ → ℕ → Result (Option ByteRange) Refusal → Type 0
+ReadsMapped file address size (Ok (Some range)) =
+    (first_refused file ≡ None)
+    × ((at : ℕ) × (mapped_at file address size ≡ Some at) × (is_outside (length file) (mapped_offset file at address) size ≡ false)
+    × (range ≡ record { at = mapped_offset file at address; len = size }))
+ReadsMapped file address size (Ok None) = (first_refused file ≡ None) × (mapped_at file address size ≡ None)
+ReadsMapped file address size (Err refusal) =
+    (first_refused file ≡ Some refusal)
+    ⊎ ((first_refused file ≡ None)
+    × ((at : ℕ) × (mapped_at file address size ≡ Some at) × (is_outside (length file) (mapped_offset file at address) size ≡ true)
+    × (refusal ≡ record { at = at; cause = TableOutside })))

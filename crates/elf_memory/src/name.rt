@@ -1,0 +1,64 @@
+//! Where a name in a string table lies.
+ghost use Rattle.std.specs.Prelude.{◌≡◌, ◌+◌, ◌<◌, ◌≤◌, length};
+ghost use Rattle.elf_model.specs.Bytes.{slice};
+ghost use Rattle.elf_memory.specs.Names.{FindsName};
+
+use elf_record::{Cause, Refusal};
+use elf_table::find_nul;
+
+/// Bytes of a file.
+#[repr(C)]
+#[derive(Clone, Copy)]
+pub struct ByteRange {
+    /// The file offset of the first.
+    pub at: u64,
+    /// How many there are.
+    pub len: u64,
+}
+
+/// Where the name at an offset in a string table lies, without its NUL; there is always one, or a
+/// refusal. The string table is the bytes of `strings`, as far as they lie within the file (gABI 4,
+/// String Table).
+///
+/// # Errors
+/// `NameOutside` where the offset is not below the table's size, `NameUnended` where no NUL is
+/// behind it. The offset that is named is that where the name was to begin, at most 2^64 - 1.
+pub fn find_name(file: &[u8], strings: ByteRange, offset: u64) -> Result<Option<ByteRange>, Refusal>
+    ensures { FindsName file.now strings offset result }
+{
+    let table = bytes_of(file, strings);
+    if table.is_empty() && offset == 0 {
+        return Ok(Some(ByteRange {
+            at: strings.at,
+            len: 0,
+        }));
+    }
+    let at = strings.at.saturating_add(offset);
+    if offset >= table.len() as u64 {
+        return Err(Refusal {
+            at,
+            cause: Cause::NameOutside,
+        });
+    }
+    match find_nul(&table[offset as usize..]) {
+        Some(len) => Ok(Some(ByteRange {
+            at: strings.at + offset,
+            len: len as u64,
+        })),
+        None => Err(Refusal {
+            at,
+            cause: Cause::NameUnended,
+        }),
+    }
+}
+
+/// The bytes of a range, as far as they lie within the file.
+pub fn bytes_of(file: &[u8], range: ByteRange) -> &[u8]
+    ensures bytes { result.now ≡ slice file.now range.at range.len }
+    ensures within { 0 < length result.now → range.at + length result.now ≤ length file.now }
+{
+    let size = file.len() as u64;
+    let from = range.at.min(size);
+    let count = range.len.min(size - from);
+    &file[from as usize..(from + count) as usize]
+}

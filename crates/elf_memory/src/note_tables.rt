@@ -1,0 +1,74 @@
+//! The tables of notes that headers tell of.
+ghost use Rattle.std.specs.Prelude.{◌≡◌};
+ghost use Rattle.elf_memory.specs.NoteRows.{InFile, ReadsSectionNotes, ReadsSegmentNotes};
+
+use crate::notes::NotesLeft;
+use crate::section::{section_at, section_place};
+use crate::segment::{segment_at, segment_place};
+use elf_headers::ends_outside;
+use elf_record::numbers::{PT_NOTE, SHT_NOTE};
+use elf_record::{Cause, Refusal};
+
+/// The notes of a section of a file that lies in memory; None where it has no such section, or one
+/// of another type than NOTE (gABI 5, Note Section).
+///
+/// # Errors
+/// The first check that fails of those that a listing makes before it reads the headers, as many of
+/// them permitted as can be; then `TableOutside` at the section header where the section ends past
+/// the end of the file.
+pub fn section_notes(file: &[u8], section: u16) -> Result<Option<NotesLeft>, Refusal>
+    ensures { ReadsSectionNotes file.now section result }
+{
+    let Some(place) = section_place(file, section)? else {
+        return Ok(None);
+    };
+    let header = section_at(file, place);
+    if header.kind != SHT_NOTE {
+        return Ok(None);
+    }
+    let notes = NotesLeft {
+        at: header.offset,
+        left: header.size,
+        align: header.addralign,
+        header: u32::from(section),
+        none: 0,
+    };
+    within(file.len() as u64, place as u64, notes)
+}
+
+/// The notes of a segment, as [`section_notes`] gives those of a section.
+///
+/// # Errors
+/// As for [`section_notes`], at the program header.
+pub fn segment_notes(file: &[u8], segment: u16) -> Result<Option<NotesLeft>, Refusal>
+    ensures { ReadsSegmentNotes file.now segment result }
+{
+    let Some(place) = segment_place(file, segment)? else {
+        return Ok(None);
+    };
+    let header = segment_at(file, place);
+    if header.kind != PT_NOTE {
+        return Ok(None);
+    }
+    let notes = NotesLeft {
+        at: header.offset,
+        left: header.filesz,
+        align: header.align,
+        header: u32::from(segment),
+        none: 0,
+    };
+    within(file.len() as u64, place as u64, notes)
+}
+
+/// The notes, where their table lies within a file of `size` bytes; one of no bytes is not checked.
+fn within(size: u64, place: u64, notes: NotesLeft) -> Result<Option<NotesLeft>, Refusal>
+    ensures { InFile size place notes result }
+{
+    if notes.left != 0 && ends_outside(size, notes.at, notes.left) {
+        return Err(Refusal {
+            at: place,
+            cause: Cause::TableOutside,
+        });
+    }
+    Ok(Some(notes))
+}
