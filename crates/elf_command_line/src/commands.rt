@@ -11,7 +11,7 @@ ghost use Rattle.elf_command_line.specs.CommandLine.{needs_command, sample_comma
 ghost use Rattle.elf_command_line.specs.CommandLine.{with_files, with_many, with_many_files, with_one_file, without_command};
 
 use crate::adding::{Described, command_of, new_command, with_command, with_commands};
-use crate::texts::{ABOUT, CHECKED, FOUND, HARDENED, ITEMS, MEMBERS, MORE, NEEDED};
+use crate::texts::{ABOUT, CHECKED, FOUND, HARDENED, ITEMS, MEMBERS, MORE, NEEDED, SHOWN};
 use crate::words::{Word, WordKind};
 use clap::Command;
 use clap::builder::ValueParser;
@@ -127,6 +127,18 @@ const REQUIRE: Word = Word {
     help: "Tell of each program and library which of these words it lacks, as in stack=nx,relro=full",
 };
 
+const ROW_NAME: Word = Word {
+    name: "name",
+    kind: WordKind::Repeated("NAME"),
+    help: "Show the rows of this name alone; at most 64 times",
+};
+
+const NAME_LIST: Word = Word {
+    name: "name-list",
+    kind: WordKind::Value("LIST"),
+    help: "Show the rows of the names in the file LIST too, one a line",
+};
+
 const LIBRARY_PATH: Word = Word {
     name: "library-path",
     kind: WordKind::Value("DIRS"),
@@ -148,8 +160,19 @@ const ROOT: Word = Word {
 const SHOW: Described = Described {
     name: "show",
     about: "List a file, whole or one part of it",
-    more: "Example: elfsee show --only symbols /bin/ls",
-    words: &[HEADERS, NAMES, MAX_READ, ONLY, GNU, BY_SEGMENTS, JSON, FILE],
+    more: SHOWN,
+    words: &[
+        HEADERS,
+        NAMES,
+        MAX_READ,
+        ONLY,
+        GNU,
+        BY_SEGMENTS,
+        JSON,
+        ROW_NAME,
+        NAME_LIST,
+        FILE,
+    ],
 };
 
 const SAMPLE: Described = Described {
@@ -208,7 +231,18 @@ const ARCHIVE: Described = Described {
     name: "archive",
     about: "List the members of an archive, such as a static library, and what is in each",
     more: MEMBERS,
-    words: &[HEADERS, NAMES, MAX_READ, ONLY, GNU, BY_SEGMENTS, JSON, FILE],
+    words: &[
+        HEADERS,
+        NAMES,
+        MAX_READ,
+        ONLY,
+        GNU,
+        BY_SEGMENTS,
+        JSON,
+        ROW_NAME,
+        NAME_LIST,
+        FILE,
+    ],
 };
 
 const VERSION: Described = Described {

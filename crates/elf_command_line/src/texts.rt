@@ -8,6 +8,7 @@ pub(crate) const MORE: &str = "\
 Examples:
   elfsee show /bin/ls
   elfsee show --only symbols --names 64 /bin/ls
+  elfsee show --name main --name printf /bin/ls
   elfsee sample --only header
   elfsee find /lib/libexample.so printf
   elfsee find --gnu /lib/libexample.so printf@GLIBC_2.2.5
@@ -38,6 +39,9 @@ traits also --json, --require and --files0-from, needs also --json and those for
                 there are
   --explain     for apply only: where an address is missing, tell on standard error the type of
                 the relocation, the name of its symbol, and the item that would help
+  --name NAME   for show and archive only: show the rows of this name alone; at most 64 times
+  --name-list LIST
+                for show and archive only: show the rows of the names in LIST, one a line
   --require WORDS
                 for traits only: tell of each program and library which of these words it lacks,
                 as relro=full,stack=nx
@@ -62,14 +66,17 @@ Exit status:
   2  the words are wrong, or ask for help, and no file is opened: standard error tells which
      word is wrong and why, or has the help, or one of these lines:
        elfsee: words are not UTF-8
-       elfsee: bad name       NAME is empty, or longer than 4096 bytes; with --gnu also where it
-                              has an empty name or an empty version
+       elfsee: bad name       a NAME is empty, or longer than 4096 bytes; of find --gnu also where
+                              it has an empty name or an empty version
+       elfsee: too many names
+                              --name stands there more than 64 times
        elfsee: bad item       an item has another form, or its index or name is out of range
        elfsee: layout-full    there are too many items of one sort
        elfsee: layout-repeat  two items of one sort have the same INDEX or NAME
        elfsee: bad trait      a word of --require is not COLUMN=WORD with a word of that column
      of LIST: 'in line N' stands behind bad item and layout-repeat; or
-       elfsee: cannot read layout, elfsee: layout too large
+       elfsee: cannot read layout, elfsee: layout too large,
+       elfsee: cannot read names, elfsee: names too large
   3  check and traits: some files could not be read or named; else, and for their list and their
      output, a read or write fault, a file that cannot be opened, or no memory: standard
      error has one of these lines:
@@ -115,6 +122,15 @@ Exit status: 0 all are ok or no-elf, 1 some are refused, 3 some are unread, memo
 Examples:
   elfsee check --only header /usr/lib
   find /opt -name '*.so' -print0 | elfsee check --files0-from -";
+
+pub(crate) const SHOWN: &str = "\
+With --name or --name-list the parts are symbols alone, or the one that --only tells: symbols,
+relocs, or with --gnu versions. Of them those rows are shown whose name is one of the names.
+--names stands beside neither: as many bytes of a name are looked at as the longest NAME has.
+
+Examples:
+  elfsee show --only symbols /bin/ls
+  elfsee show --name main --name printf /bin/ls";
 
 pub(crate) const HARDENED: &str = "\
 Each ELF file has one line: T, its kind, eight traits, and its path. They are told as a loader
@@ -163,7 +179,10 @@ is an ELF file, its listing follows, with offsets from the first byte of its dat
 is refused, the next member follows.
   --only PART  the members and one part of each listing; --only members: the members only
   --max-read N read at most N bytes of the archive
+  --name NAME  of the members' symbols, or of the part of --only, those of this name
 
 Exit status: 1 where the archive or a member is refused.
 
-Example: elfsee archive --only symbols /usr/lib/x86_64-linux-gnu/libc.a";
+Examples:
+  elfsee archive --only symbols /usr/lib/x86_64-linux-gnu/libc.a
+  elfsee archive --name printf /usr/lib/x86_64-linux-gnu/libc.a";

@@ -3,7 +3,7 @@ use Rattle.std.proofs.lemmas.Bool.Decides.{nat_tests}
 use Rattle.memchr.specs.Find.{IsFirstByte, is_byte}
 use Rattle.elf_model.specs.Names.{nul_in}
 use Rattle.elf_model.proofs.NameLoops.{nul_in-first, nul_in-nowhere}
-use Rattle.elf_words.proofs.names.has_nul.Goals as goal
+use Rattle.elf_name_lists.proofs.gathering.has_nul.Goals as goal
 
 -- a search that finds a NUL tells that there is one
 nul_found : (word : List ℕ) (found : Option ℕ) → IsFirstByte (is_byte 0) word found → is_some found ≡ is_some (nul_in word)
