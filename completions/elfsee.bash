@@ -9,7 +9,7 @@ _elfsee_options() {
     check) set -- --headers --names --max-read --only --gnu --by-segments --json --files0-from ;;
     find) set -- --headers --max-read --gnu --by-segments --json ;;
     apply) set -- --headers --max-read --layout --explain ;;
-    needs) set -- --headers --max-read --library-path --default --root --json ;;
+    needs) set -- --headers --max-read --library-path --default --root --symbols --json ;;
     traits) set -- --headers --max-read --require --json --files0-from ;;
     *) set -- ;;
     esac

@@ -142,10 +142,14 @@ default_option = record (new_rule (codes "default")) { long = Some (codes "defau
 abbrev pub root_option : Rule
 root_option = record (new_rule (codes "root")) { long = Some (codes "root"); value_names = 1 }
 
+-- whether it is told from where each symbol comes
+abbrev pub symbols_option : Rule
+symbols_option = flag (codes "symbols")
+
 abbrev pub needs_command : App
 needs_command =
-    with_rule (with_rule (with_rule (with_rule (with_rule (with_reading_options (new_app (codes "needs"))) library_path_option) default_option) root_option)
-    json_option) file_argument
+    with_rule (with_rule (with_rule (with_rule (with_rule (with_rule (with_reading_options (new_app (codes "needs"))) library_path_option) default_option) root_option)
+    symbols_option) json_option) file_argument
 
 -- a program, with the commands that read many files
 abbrev pub with_many_files : Words → App → App

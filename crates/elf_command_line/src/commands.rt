@@ -157,6 +157,12 @@ const ROOT: Word = Word {
     help: "Look below DIR for each path that begins with a slash",
 };
 
+const SYMBOLS: Word = Word {
+    name: "symbols",
+    kind: WordKind::Flag,
+    help: "Tell from which object each symbol comes, too",
+};
+
 const SHOW: Described = Described {
     name: "show",
     about: "List a file, whole or one part of it",
@@ -224,7 +230,16 @@ const NEEDS: Described = Described {
     name: "needs",
     about: "Tell which libraries a program needs, and where they are",
     more: NEEDED,
-    words: &[HEADERS, MAX_READ, LIBRARY_PATH, DEFAULT, ROOT, JSON, FILE],
+    words: &[
+        HEADERS,
+        MAX_READ,
+        LIBRARY_PATH,
+        DEFAULT,
+        ROOT,
+        SYMBOLS,
+        JSON,
+        FILE,
+    ],
 };
 
 const ARCHIVE: Described = Described {

@@ -50,6 +50,7 @@ traits also --json, --require and --files0-from, needs also --json and those for
   --default DIRS
                 for needs only: look in these folders last, not in those of a system
   --root DIR    for needs only: look below DIR for each path that begins with a slash
+  --symbols     for needs only: tell from which object each symbol comes, too
   --files0-from FILE
                 for check and traits: take the paths in FILE too, each ended by NUL
   --            end the options, so that FILE, PATH or NAME may begin with a hyphen
@@ -57,12 +58,12 @@ FILE or PATH may be - for the file on standard input.
 
 Exit status:
   0  listed, found or applied; check: no file is at fault; traits: no file is refused, and none
-     lacks what is required; needs: each library is found
+     lacks what is required; needs: each library is found, and each symbol bound or weak
   1  refused, or more to read than permitted: the last line is '!', an offset and the cause;
      or there is no such name: the line 'F absent' with the number of names compared;
      check: some files are refused; archive: the archive or a member is refused;
      traits: some files are refused, or lack what is required; needs: a library is missing or
-     refused
+     refused, or a symbol comes from none
   2  the words are wrong, or ask for help, and no file is opened: standard error tells which
      word is wrong and why, or has the help, or one of these lines:
        elfsee: words are not UTF-8
@@ -167,10 +168,19 @@ A library is looked for in RPATH, --library-path, RUNPATH and --default, as a lo
 DIRS are folders, separated by colons; without --default they are
 /lib/x86_64-linux-gnu:/usr/lib/x86_64-linux-gnu:/lib64:/usr/lib64:/lib:/usr/lib
 
-Exit status: 1 where a library is missing or refused.
+With --symbols each symbol that an object needs has a line behind them: B, the object's index,
+the symbol's index, its state, the index of the object that defines it and of the symbol there,
+and its name, with @ and its version where it wants one.
+  bound    the first object that a loader takes it from
+  weak     none has it, and none need have it
+  unbound  none has it
+  nover    none has it, and the library of its version has no such version
+  refused  the lookup ends at a fault of this object
+Exit status: 1 where a library is missing or refused, or a symbol unbound, nover or refused.
 
 Examples:
   elfsee needs /bin/ls
+  elfsee needs --symbols /bin/ls
   elfsee needs --root /srv/other /srv/other/bin/ls";
 
 pub(crate) const MEMBERS: &str = "\

@@ -176,6 +176,8 @@ pub struct NeedsAsked<'a> {
     pub limits: Limits,
     /// How a line is written.
     pub format: Format,
+    /// Whether it is told from where each symbol comes, too.
+    pub symbols: bool,
 }
 
 impl<'a> NeedsAsked<'a> {
