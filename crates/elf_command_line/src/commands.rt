@@ -157,7 +157,7 @@ const ROOT: Word = Word {
     help: "Look below DIR for each path that begins with a slash",
 };
 
-const SYMBOLS: Word = Word {
+const BINDINGS: Word = Word {
     name: "symbols",
     kind: WordKind::Flag,
     help: "Tell from which object each symbol comes, too",
@@ -236,7 +236,7 @@ const NEEDS: Described = Described {
         LIBRARY_PATH,
         DEFAULT,
         ROOT,
-        SYMBOLS,
+        BINDINGS,
         JSON,
         FILE,
     ],
