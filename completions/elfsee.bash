@@ -4,17 +4,18 @@
 _elfsee_options() {
     local option given
     case $1 in
-    show | sample | archive) set -- --headers --names --max-read --only --gnu --by-segments --json ;;
+    show | archive) set -- --headers --names --max-read --only --gnu --by-segments --json --name --name-list ;;
+    sample) set -- --headers --names --max-read --only --gnu --by-segments --json ;;
     check) set -- --headers --names --max-read --only --gnu --by-segments --json --files0-from ;;
     find) set -- --headers --max-read --gnu --by-segments --json ;;
     apply) set -- --headers --max-read --layout --explain ;;
-    needs) set -- --headers --max-read --library-path --default --root --json ;;
+    needs) set -- --headers --max-read --library-path --default --root --symbols --json ;;
     traits) set -- --headers --max-read --require --json --files0-from ;;
     *) set -- ;;
     esac
     for option in "$@" --help; do
         for given in "${words[@]:1:cword-1}"; do
-            [[ $given == "$option" || $given == "$option="* ]] && continue 2
+            [[ $option != --name && ($given == "$option" || $given == "$option="*) ]] && continue 2
         done
         printf '%s\n' "$option"
     done
@@ -61,7 +62,7 @@ _elfsee() {
         else
             case $word in
             --) ended=1 before= ;;
-            --headers | --names | --max-read | --only | --layout | --require | --library-path | --default | --root | --files0-from) skip=1 ;;
+            --headers | --names | --max-read | --only | --name | --name-list | --layout | --require | --library-path | --default | --root | --files0-from) skip=1 ;;
             -*) ;;
             *) if [[ $command ]]; then files=$((files + 1)); else command=$word; fi ;;
             esac
@@ -74,8 +75,8 @@ _elfsee() {
             mapfile -t COMPREPLY < <(compgen -W "$parts" -- "$current")
             return
             ;;
-        --headers | --names | --max-read | --require | --library-path | --default) return ;;
-        --layout | --root | --files0-from)
+        --headers | --names | --max-read | --name | --require | --library-path | --default) return ;;
+        --name-list | --layout | --root | --files0-from)
             _elfsee_files
             return
             ;;

@@ -27,7 +27,7 @@ function __elfsee_plain_words
             set -a plain $word
         else if test "$word" = --
             set ended 1
-        else if contains -- $word --headers --names --max-read --only --layout --require --library-path --default --root --files0-from
+        else if contains -- $word --headers --names --max-read --only --name --name-list --layout --require --library-path --default --root --files0-from
             set skip 1
         else if not string match -q -- '-*' $word
             set -a plain $word
@@ -84,9 +84,12 @@ complete -c elfsee -n '__fish_seen_subcommand_from find; and __elfsee_lacks --gn
 complete -c elfsee -n '__fish_seen_subcommand_from find; and __elfsee_lacks --by-segments' -l by-segments -d 'with --gnu: find the tables by the program headers'
 complete -c elfsee -n "$listing; and __elfsee_lacks --by-segments" -l by-segments -d 'find tables by the program headers'
 complete -c elfsee -n "__fish_seen_subcommand_from show sample find check traits needs archive; and __elfsee_lacks --json" -l json -d 'write each line as a JSON object'
+complete -c elfsee -n '__fish_seen_subcommand_from show archive' -l name -x -d 'show the rows of this name alone'
+complete -c elfsee -n '__fish_seen_subcommand_from show archive; and __elfsee_lacks --name-list' -l name-list -r -F -d 'show the rows of the names in a file too, one a line'
 complete -c elfsee -n '__fish_seen_subcommand_from traits; and __elfsee_lacks --require' -l require -x -d 'tell which of these words a program or a library lacks'
 complete -c elfsee -n '__fish_seen_subcommand_from needs; and __elfsee_lacks --library-path' -l library-path -x -d 'look for libraries in these folders too'
 complete -c elfsee -n '__fish_seen_subcommand_from needs; and __elfsee_lacks --default' -l default -x -d 'look in these folders last'
+complete -c elfsee -n '__fish_seen_subcommand_from needs; and __elfsee_lacks --symbols' -l symbols -d 'tell from which object each symbol comes, too'
 complete -c elfsee -n '__fish_seen_subcommand_from needs; and __elfsee_lacks --root' -l root -r -F -d 'look below a folder for each path that begins with a slash'
 complete -c elfsee -n '__fish_seen_subcommand_from check traits; and __elfsee_lacks --files0-from' -l files0-from -r -F -d 'take the paths in a file too, each ended by NUL'
 complete -c elfsee -n '__fish_seen_subcommand_from apply; and __elfsee_lacks --layout' -l layout -r -F -d 'take the items in a file too, one a line'

@@ -5,6 +5,7 @@ use Rattle.clap.specs.Simple.{App, new_rule}
 use Rattle.clap.specs.Lexer.{usize_max}
 use Rattle.clap.specs.Words.{app_of, rule_of}
 use Rattle.clap.specs.declared.builder.arg.Arg.{Arg}
+use Rattle.clap.specs.declared.builder.action.ArgAction.TheVariants.{Append}
 use Rattle.clap.specs.declared.builder.value_parser.ValueParser.{ValueParser}
 use Rattle.clap.specs.declared.builder.command.Command.{Command}
 use Rattle.clap.specs.declared.builder.command.Command.TheViews.{out-Command as fields_of}
@@ -21,6 +22,10 @@ IsArg rule arg = (rule_of arg ≡ rule) × (arg.global ≡ false)
 -- an option with one value, which help has a name for
 abbrev pub valued : Text → Rule
 valued name = record (new_rule name) { long = Some name; value_names = 1 }
+
+-- one that may stand among the words again, with another value
+abbrev pub repeated : Text → Rule
+repeated name = record (valued name) { action = Some Append }
 
 -- a word that has to be there
 abbrev pub required : Text → Rule

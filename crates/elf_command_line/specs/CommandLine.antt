@@ -4,7 +4,7 @@ use Rattle.std.specs.Borrow.{Bor}
 use Rattle.clap.specs.Walk.{Rule, Text}
 use Rattle.clap.specs.Simple.{App, new_app, new_rule, with_rule, with_subcommand}
 use Rattle.clap.specs.Lexer.{usize_max}
-use Rattle.clap.specs.declared.builder.action.ArgAction.TheVariants.{SetTrue}
+use Rattle.clap.specs.declared.builder.action.ArgAction.TheVariants.{Append, SetTrue}
 use Rattle.clap.specs.declared.builder.value_parser.ValueParser.{ValueParser}
 use Rattle.clap.specs.declared.builder.value_parser.ValueParser.TheVariants.{Signed, Unsigned, Names}
 
@@ -50,8 +50,20 @@ with_listing_options parts command =
     with_rule (with_rule (with_rule (with_rule (with_rule (with_rule (with_rule command headers_option) names_option) max_read_option)
     (only_option parts)) gnu_option) by_segments_option) json_option
 
+-- names of which the rows are shown, one each time it stands among the words
+abbrev pub name_option : Rule
+name_option = record (new_rule (codes "name")) { long = Some (codes "name"); value_names = 1; action = Some Append }
+
+-- a file that has such names, one a line
+abbrev pub name_list_option : Rule
+name_list_option = record (new_rule (codes "name-list")) { long = Some (codes "name-list"); value_names = 1 }
+
+-- a command with the options of a listing of which rows are chosen by their names
+abbrev pub with_chosen_rows : Words → App → App
+with_chosen_rows parts command = with_rule (with_rule (with_listing_options parts command) name_option) name_list_option
+
 abbrev pub show_command : Words → App
-show_command parts = with_rule (with_listing_options parts (new_app (codes "show"))) file_argument
+show_command parts = with_rule (with_chosen_rows parts (new_app (codes "show"))) file_argument
 
 abbrev pub sample_command : Words → App
 sample_command parts = with_listing_options parts (new_app (codes "sample"))
@@ -130,10 +142,14 @@ default_option = record (new_rule (codes "default")) { long = Some (codes "defau
 abbrev pub root_option : Rule
 root_option = record (new_rule (codes "root")) { long = Some (codes "root"); value_names = 1 }
 
+-- whether it is told from where each symbol comes
+abbrev pub symbols_option : Rule
+symbols_option = flag (codes "symbols")
+
 abbrev pub needs_command : App
 needs_command =
-    with_rule (with_rule (with_rule (with_rule (with_rule (with_reading_options (new_app (codes "needs"))) library_path_option) default_option) root_option)
-    json_option) file_argument
+    with_rule (with_rule (with_rule (with_rule (with_rule (with_rule (with_reading_options (new_app (codes "needs"))) library_path_option) default_option) root_option)
+    symbols_option) json_option) file_argument
 
 -- a program, with the commands that read many files
 abbrev pub with_many_files : Words → App → App
@@ -150,7 +166,7 @@ pub record PartWords : Type 0 where
   pub archived : Words
 
 abbrev pub archive_command : Words → App
-archive_command parts = with_rule (with_listing_options parts (new_app (codes "archive"))) file_argument
+archive_command parts = with_rule (with_chosen_rows parts (new_app (codes "archive"))) file_argument
 
 -- the program, with the commands that read files
 abbrev pub with_files : PartWords → App

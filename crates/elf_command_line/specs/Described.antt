@@ -3,17 +3,18 @@ use Rattle.std.specs.Prelude.{List, [], ◌∷◌}
 use Rattle.clap.specs.Walk.{Rule, Text}
 use Rattle.clap.specs.Simple.{App, new_app, with_rule, with_subcommand}
 use Rattle.clap.specs.declared.builder.value_parser.ValueParser.{ValueParser}
-use Rattle.elf_command_line.specs.Building.{any_words, numbered_option, indexed, required, valued}
+use Rattle.elf_command_line.specs.Building.{any_words, numbered_option, indexed, repeated, required, valued}
 use Rattle.elf_command_line.specs.CommandLine.{flag, option}
 use Rattle.elf_command_line.specs.declared.adding.Described.{Described}
 use Rattle.elf_command_line.specs.declared.words.Word.{Word}
 use Rattle.elf_command_line.specs.declared.words.WordKind.{WordKind}
-use Rattle.elf_command_line.specs.declared.words.WordKind.TheVariants.{Flag, Value, Number, Count, Part, Needed, Index, Any}
+use Rattle.elf_command_line.specs.declared.words.WordKind.TheVariants.{Flag, Value, Repeated, Number, Count, Part, Needed, Index, Any}
 
 -- the rule of a word of this name and kind, where a parser takes the name of a part
 abbrev pub rule_of_kind : ValueParser → Text → WordKind → Rule
 rule_of_kind part name Flag = flag name
 rule_of_kind part name (Value value) = valued name
+rule_of_kind part name (Repeated value) = repeated name
 rule_of_kind part name (Number parser) = option name parser
 rule_of_kind part name (Count parser default) = numbered_option name parser default.now
 rule_of_kind part name Part = option name part

@@ -11,7 +11,7 @@ ghost use Rattle.elf_command_line.specs.CommandLine.{needs_command, sample_comma
 ghost use Rattle.elf_command_line.specs.CommandLine.{with_files, with_many, with_many_files, with_one_file, without_command};
 
 use crate::adding::{Described, command_of, new_command, with_command, with_commands};
-use crate::texts::{ABOUT, CHECKED, FOUND, HARDENED, ITEMS, MEMBERS, MORE, NEEDED};
+use crate::texts::{ABOUT, CHECKED, FOUND, HARDENED, ITEMS, MEMBERS, MORE, NEEDED, SHOWN};
 use crate::words::{Word, WordKind};
 use clap::Command;
 use clap::builder::ValueParser;
@@ -127,6 +127,18 @@ const REQUIRE: Word = Word {
     help: "Tell of each program and library which of these words it lacks, as in stack=nx,relro=full",
 };
 
+const ROW_NAME: Word = Word {
+    name: "name",
+    kind: WordKind::Repeated("NAME"),
+    help: "Show the rows of this name alone; at most 64 times",
+};
+
+const NAME_LIST: Word = Word {
+    name: "name-list",
+    kind: WordKind::Value("LIST"),
+    help: "Show the rows of the names in the file LIST too, one a line",
+};
+
 const LIBRARY_PATH: Word = Word {
     name: "library-path",
     kind: WordKind::Value("DIRS"),
@@ -145,11 +157,28 @@ const ROOT: Word = Word {
     help: "Look below DIR for each path that begins with a slash",
 };
 
+const BINDINGS: Word = Word {
+    name: "symbols",
+    kind: WordKind::Flag,
+    help: "Tell from which object each symbol comes, too",
+};
+
 const SHOW: Described = Described {
     name: "show",
     about: "List a file, whole or one part of it",
-    more: "Example: elfsee show --only symbols /bin/ls",
-    words: &[HEADERS, NAMES, MAX_READ, ONLY, GNU, BY_SEGMENTS, JSON, FILE],
+    more: SHOWN,
+    words: &[
+        HEADERS,
+        NAMES,
+        MAX_READ,
+        ONLY,
+        GNU,
+        BY_SEGMENTS,
+        JSON,
+        ROW_NAME,
+        NAME_LIST,
+        FILE,
+    ],
 };
 
 const SAMPLE: Described = Described {
@@ -201,14 +230,34 @@ const NEEDS: Described = Described {
     name: "needs",
     about: "Tell which libraries a program needs, and where they are",
     more: NEEDED,
-    words: &[HEADERS, MAX_READ, LIBRARY_PATH, DEFAULT, ROOT, JSON, FILE],
+    words: &[
+        HEADERS,
+        MAX_READ,
+        LIBRARY_PATH,
+        DEFAULT,
+        ROOT,
+        BINDINGS,
+        JSON,
+        FILE,
+    ],
 };
 
 const ARCHIVE: Described = Described {
     name: "archive",
     about: "List the members of an archive, such as a static library, and what is in each",
     more: MEMBERS,
-    words: &[HEADERS, NAMES, MAX_READ, ONLY, GNU, BY_SEGMENTS, JSON, FILE],
+    words: &[
+        HEADERS,
+        NAMES,
+        MAX_READ,
+        ONLY,
+        GNU,
+        BY_SEGMENTS,
+        JSON,
+        ROW_NAME,
+        NAME_LIST,
+        FILE,
+    ],
 };
 
 const VERSION: Described = Described {

@@ -8,6 +8,7 @@ pub(crate) const MORE: &str = "\
 Examples:
   elfsee show /bin/ls
   elfsee show --only symbols --names 64 /bin/ls
+  elfsee show --name main --name printf /bin/ls
   elfsee sample --only header
   elfsee find /lib/libexample.so printf
   elfsee find --gnu /lib/libexample.so printf@GLIBC_2.2.5
@@ -38,6 +39,9 @@ traits also --json, --require and --files0-from, needs also --json and those for
                 there are
   --explain     for apply only: where an address is missing, tell on standard error the type of
                 the relocation, the name of its symbol, and the item that would help
+  --name NAME   for show and archive only: show the rows of this name alone; at most 64 times
+  --name-list LIST
+                for show and archive only: show the rows of the names in LIST, one a line
   --require WORDS
                 for traits only: tell of each program and library which of these words it lacks,
                 as relro=full,stack=nx
@@ -46,6 +50,7 @@ traits also --json, --require and --files0-from, needs also --json and those for
   --default DIRS
                 for needs only: look in these folders last, not in those of a system
   --root DIR    for needs only: look below DIR for each path that begins with a slash
+  --symbols     for needs only: tell from which object each symbol comes, too
   --files0-from FILE
                 for check and traits: take the paths in FILE too, each ended by NUL
   --            end the options, so that FILE, PATH or NAME may begin with a hyphen
@@ -53,23 +58,26 @@ FILE or PATH may be - for the file on standard input.
 
 Exit status:
   0  listed, found or applied; check: no file is at fault; traits: no file is refused, and none
-     lacks what is required; needs: each library is found
+     lacks what is required; needs: each library is found, and each symbol bound or weak
   1  refused, or more to read than permitted: the last line is '!', an offset and the cause;
      or there is no such name: the line 'F absent' with the number of names compared;
      check: some files are refused; archive: the archive or a member is refused;
      traits: some files are refused, or lack what is required; needs: a library is missing or
-     refused
+     refused, or a symbol comes from none
   2  the words are wrong, or ask for help, and no file is opened: standard error tells which
      word is wrong and why, or has the help, or one of these lines:
        elfsee: words are not UTF-8
-       elfsee: bad name       NAME is empty, or longer than 4096 bytes; with --gnu also where it
-                              has an empty name or an empty version
+       elfsee: bad name       a NAME is empty, or longer than 4096 bytes; of find --gnu also where
+                              it has an empty name or an empty version
+       elfsee: too many names
+                              --name stands there more than 64 times
        elfsee: bad item       an item has another form, or its index or name is out of range
        elfsee: layout-full    there are too many items of one sort
        elfsee: layout-repeat  two items of one sort have the same INDEX or NAME
        elfsee: bad trait      a word of --require is not COLUMN=WORD with a word of that column
      of LIST: 'in line N' stands behind bad item and layout-repeat; or
-       elfsee: cannot read layout, elfsee: layout too large
+       elfsee: cannot read layout, elfsee: layout too large,
+       elfsee: cannot read names, elfsee: names too large
   3  check and traits: some files could not be read or named; else, and for their list and their
      output, a read or write fault, a file that cannot be opened, or no memory: standard
      error has one of these lines:
@@ -116,6 +124,15 @@ Examples:
   elfsee check --only header /usr/lib
   find /opt -name '*.so' -print0 | elfsee check --files0-from -";
 
+pub(crate) const SHOWN: &str = "\
+With --name or --name-list the parts are symbols alone, or the one that --only tells: symbols,
+relocs, or with --gnu versions. Of them those rows are shown whose name is one of the names.
+--names stands beside neither: as many bytes of a name are looked at as the longest NAME has.
+
+Examples:
+  elfsee show --only symbols /bin/ls
+  elfsee show --name main --name printf /bin/ls";
+
 pub(crate) const HARDENED: &str = "\
 Each ELF file has one line: T, its kind, eight traits, and its path. They are told as a loader
 sees the file, by its program headers and dynamic entries.
@@ -151,10 +168,19 @@ A library is looked for in RPATH, --library-path, RUNPATH and --default, as a lo
 DIRS are folders, separated by colons; without --default they are
 /lib/x86_64-linux-gnu:/usr/lib/x86_64-linux-gnu:/lib64:/usr/lib64:/lib:/usr/lib
 
-Exit status: 1 where a library is missing or refused.
+With --symbols each symbol that an object needs has a line behind them: B, the object's index,
+the symbol's index, its state, the index of the object that defines it and of the symbol there,
+and its name, with @ and its version where it wants one.
+  bound    the first object that a loader takes it from
+  weak     none has it, and none need have it
+  unbound  none has it
+  nover    none has it, and the library of its version has no such version
+  refused  the lookup ends at a fault of this object
+Exit status: 1 where a library is missing or refused, or a symbol unbound, nover or refused.
 
 Examples:
   elfsee needs /bin/ls
+  elfsee needs --symbols /bin/ls
   elfsee needs --root /srv/other /srv/other/bin/ls";
 
 pub(crate) const MEMBERS: &str = "\
@@ -163,7 +189,10 @@ is an ELF file, its listing follows, with offsets from the first byte of its dat
 is refused, the next member follows.
   --only PART  the members and one part of each listing; --only members: the members only
   --max-read N read at most N bytes of the archive
+  --name NAME  of the members' symbols, or of the part of --only, those of this name
 
 Exit status: 1 where the archive or a member is refused.
 
-Example: elfsee archive --only symbols /usr/lib/x86_64-linux-gnu/libc.a";
+Examples:
+  elfsee archive --only symbols /usr/lib/x86_64-linux-gnu/libc.a
+  elfsee archive --name printf /usr/lib/x86_64-linux-gnu/libc.a";

@@ -1,6 +1,6 @@
 //! What commands take among their words, as data, and the arguments that are made of it.
 ghost use Rattle.elf_command_line.specs.Building.{IsArg, any_words, numbered_option, indexed};
-ghost use Rattle.elf_command_line.specs.Building.{required, valued};
+ghost use Rattle.elf_command_line.specs.Building.{repeated, required, valued};
 ghost use Rattle.elf_command_line.specs.CommandLine.{flag, option};
 ghost use Rattle.elf_command_line.specs.Described.{rule_by};
 
@@ -21,6 +21,8 @@ pub(crate) enum WordKind {
     Flag,
     /// An option with a value, which help has this name for.
     Value(&'static str),
+    /// An option with a value, which may stand there again, with another.
+    Repeated(&'static str),
     /// An option with a number, as the parser has it.
     Number(ValueParser<'static>),
     /// An option with a number, and what it is where the option is not there.
@@ -42,6 +44,7 @@ pub(crate) fn arg_of<'a>(alloc: Global, word: &Word, part: ValueParser<'a>) -> A
     match word.kind {
         WordKind::Flag => flag(alloc, word),
         WordKind::Value(value) => valued(alloc, word, value),
+        WordKind::Repeated(value) => repeated(alloc, word, value),
         WordKind::Number(parser) => parsed(alloc, word, "N", parser),
         WordKind::Count(parser, default) => count(alloc, word, parser, default),
         WordKind::Part => parsed(alloc, word, "PART", part),
@@ -69,6 +72,13 @@ fn valued<'a>(alloc: Global, word: &Word, value: &'static str) -> Arg<'a>
         .long(word.name)
         .value_name(value)
         .help(word.help)
+}
+
+/// An option with a value, which may stand there again, with another.
+fn repeated<'a>(alloc: Global, word: &Word, value: &'static str) -> Arg<'a>
+    ensures { IsArg (repeated word.now.name.now) result }
+{
+    valued(alloc, word, value).action(ArgAction::Append)
 }
 
 /// An option with one value, which the parser takes.

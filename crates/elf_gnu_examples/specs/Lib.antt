@@ -13,3 +13,4 @@ pub mod ExamplesWanted
 pub mod ExamplesRecords
 pub mod ExamplesWords
 pub mod ExamplesViews
+pub mod ExamplesBindings

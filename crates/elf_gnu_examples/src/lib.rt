@@ -3,6 +3,7 @@
 #![tactic(auto)]
 
 mod before_rows;
+mod binding_rows;
 mod chain_rows;
 mod choice_rows;
 mod hash_rows;

@@ -1,2 +1,3 @@
 pub mod FaultLaws
 pub mod ReadLaws
+pub mod RowNameLaws

@@ -2,3 +2,4 @@ pub mod Faults
 pub mod Listings
 pub mod Options
 pub mod Reading
+pub mod RowNames

@@ -1,9 +1,10 @@
 -- The listings of one file that words ask for, and the version of the program.
-use Rattle.std.specs.Prelude.{◌≡◌, ◌⊎◌, List, codes, Option, None, Some}
+use Rattle.std.specs.Prelude.{◌≡◌, false, ◌⊎◌, List, codes, Option, None, Some}
 use Rattle.std.specs.Borrow.{Bor}
 use Rattle.clap.specs.Walk.{Row, Text, first_of}
 use Rattle.elf_listing_words.specs.Faults.{IsUnasked}
 use Rattle.elf_listing_words.specs.Options.{AreLimitOptions, AreParts, IsStyle}
+use Rattle.elf_listing_words.specs.RowNames.{asks_names}
 use Rattle.elf_listing_words.specs.Reading.{AreRead, AreRefused}
 use Rattle.elf_listing_words.specs.declared.faults.WordsFault.{WordsFault}
 use Rattle.elf_listing_words.specs.declared.listings.ListingAsked.{ListingAsked}
@@ -15,12 +16,13 @@ abbrev pub IsOfFile : Text → List Row → Option (Bor Text) → Type 0
 IsOfFile command rows (Some path) = (command ≡ codes "show") × (first_of (codes "FILE") rows ≡ Some path.now)
 IsOfFile command rows None = command ≡ codes "sample"
 
--- a command with the values of its arguments asks for just this listing
+-- a command with the values of its arguments asks for just this listing, of every row
 pub record IsListing (command : Text) (rows : List Row) (asked : ListingAsked) : Type 0 where
   pub of_file : IsOfFile command rows asked.file
   pub limits : AreLimitOptions rows asked.limits
   pub style : IsStyle rows asked.style
   pub parts : AreParts rows asked.parts
+  pub every : asks_names rows ≡ false
 
 abbrev pub ListsBy : Option (Text × List Row) → ListingAsked → Type 0
 ListsBy None asked = ⊥

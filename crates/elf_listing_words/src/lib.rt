@@ -6,6 +6,7 @@ mod listings;
 mod nothing;
 mod options;
 mod reading;
+mod row_names;
 
 pub use faults::WordsFault;
 pub use listings::{ListingAsked, ShowRequest, listing_of, shown_asked};
@@ -15,3 +16,4 @@ pub use options::{
     text_of, whole,
 };
 pub use reading::matches_of;
+pub use row_names::{asks_names, chosen_parts_of, is_given};

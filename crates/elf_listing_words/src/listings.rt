@@ -1,5 +1,5 @@
 //! The words that ask for a listing of one file, or for the version.
-ghost use Rattle.std.specs.Prelude.{◌≡◌, IfErr, IfOk, IfSome, None, Option, Some, map};
+ghost use Rattle.std.specs.Prelude.{◌≡◌, IfErr, IfOk, IfSome, None, Option, Some, false, map};
 ghost use Rattle.clap.specs.Walk.{rows_of};
 ghost use Rattle.clap.specs.Words.{found_of, subcommand_rows_of};
 ghost use Rattle.elf_headers.specs.declared.caps.Limits.{Limits};
@@ -9,12 +9,14 @@ ghost use Rattle.elf_listing_words.specs.Listings.{IsListing, NothingShown, Show
 ghost use Rattle.elf_listing_words.specs.Listings.{ShowsNothing, WordsShow};
 ghost use Rattle.elf_listing_words.specs.declared.listings.ListingAsked.{ListingAsked};
 ghost use Rattle.elf_listing_words.specs.Options.{AreLimitOptions, AreParts, IsStyle};
+ghost use Rattle.elf_listing_words.specs.RowNames.{asks_names};
 ghost use Rattle.elf_record.specs.declared.parts.Parts.{Parts};
 
 use crate::faults::WordsFault;
 use crate::nothing::unasked;
 use crate::options::{limits_of, parts_of, style_of, text_of};
 use crate::reading::matches_of;
+use crate::row_names::asks_names;
 use clap::ArgMatches;
 use elf_headers::{Limits, Style};
 use elf_record::Parts;
@@ -119,11 +121,16 @@ fn options_of<'a>(file: Option<&'a str>, options: &ArgMatches<'a>) -> Option<Lis
         IsStyle (rows_of (found_of options.now)) listing.style) }
     ensures parts { IfSome result (λ listing.
         AreParts (rows_of (found_of options.now)) listing.parts) }
+    ensures every { IfSome result (λ _. asks_names (rows_of (found_of options.now)) ≡ false) }
     ensures none { result ≡ None → (limits : Limits) (style : Style) (parts : Parts)
+        → asks_names (rows_of (found_of options.now)) ≡ false
         → AreLimitOptions (rows_of (found_of options.now)) limits
         → IsStyle (rows_of (found_of options.now)) style
         → AreParts (rows_of (found_of options.now)) parts → ⊥ }
 {
+    if asks_names(options) {
+        return None;
+    }
     let limits = limits_of(options)?;
     let style = style_of(options)?;
     let parts = parts_of(options)?;

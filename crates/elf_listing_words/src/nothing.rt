@@ -7,6 +7,7 @@ ghost use Rattle.elf_listing_words.specs.Faults.{IsUnasked};
 use crate::faults::WordsFault;
 use crate::options::{asks_gnu, find_lacks_gnu, text_of};
 use crate::reading::{MEMBER_PARTS, PARTS};
+use crate::row_names::{asks_names, chosen_parts_of, is_given};
 use clap::error::ErrorKind;
 use clap::{ArgMatches, Command, Error};
 use elf_command_line::{archive, check, find, sample, show, traits};
@@ -22,7 +23,13 @@ const NO_GNU: &str = "the following required arguments were not provided:\n  --g
 
 /// What other commands are told where only listings of one file are read.
 const NO_LISTING: &str =
-    "of this program there are as yet only the commands show, sample and version";
+    "of this program there are as yet only the commands show, sample and version, without '--name'";
+
+/// What a command is told that chooses rows by names, and is to show so many bytes of a name.
+const NO_WIDTH: &str = "the argument '--names <N>' cannot be used with '--name <NAME>'";
+
+/// What a command is told that chooses rows by names in a part that has no such rows.
+const NO_ROWS: &str = "with '--name <NAME>' the part is symbols, relocs or, with '--gnu', versions";
 
 /// The answer to words that the command line lets through though they ask for nothing: to the
 /// symbol versions alone where the listing is not of the GNU system, to a command of many files where
@@ -52,10 +59,22 @@ fn missing(alloc: Global, matches: &ArgMatches<'_>) -> Result<Error, AllocError>
 fn lacking<'m>(matches: &'m ArgMatches<'_>) -> (&'m str, &'static str) {
     match matches.subcommand() {
         Some((command, options)) if lacks_gnu(options) => (command, NO_GNU),
+        Some((command, options)) if asks_names(options) => (command, lacking_rows(options)),
         Some(("find", options)) if find_lacks_gnu(options) => ("find", NO_GNU),
         Some(("check", _)) => ("check", NO_PATH),
         Some(("traits", _)) => ("traits", NO_PATH),
         _ => ("show", NO_LISTING),
+    }
+}
+
+/// What is told where rows are chosen by names.
+fn lacking_rows(options: &ArgMatches<'_>) -> &'static str {
+    if is_given(options, "names") {
+        return NO_WIDTH;
+    }
+    match chosen_parts_of(options) {
+        Some(_) => NO_LISTING,
+        None => NO_ROWS,
     }
 }
 

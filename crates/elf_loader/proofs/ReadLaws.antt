@@ -39,7 +39,7 @@ most_in None size within = omega arith
 most_in (Some records) size within =
     most_one records.kind records.table.count size records.first (count_low records.table.at records.table.count records.table.entry size records.bytes within.table)
 
-most_all : (symbols : Symbols) (size : ℕ) → SymbolsLie size symbols → most_versions symbols ≤ size / 8
+pub most_all : (symbols : Symbols) (size : ℕ) → SymbolsLie size symbols → most_versions symbols ≤ size / 8
 most_all symbols size lies = omega (arith, most_in symbols.definitions size lies.definitions, most_in symbols.needs size lies.needs)
 
 -- they are read to be compared or to tell a version

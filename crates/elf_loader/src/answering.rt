@@ -20,13 +20,13 @@ use elf_wanted::Wanted;
 /// The trial of symbols by what is wanted of them, where the numbers of the version by its name are
 /// told.
 #[derive(Clone, Copy)]
-pub(crate) struct WantedTrial<'a> {
+pub struct WantedTrial<'a> {
     /// The symbols.
-    pub(crate) symbols: &'a Symbols,
+    pub symbols: &'a Symbols,
     /// What is wanted.
-    pub(crate) wanted: &'a Wanted<'a>,
+    pub wanted: &'a Wanted<'a>,
     /// The numbers of the wanted version.
-    pub(crate) numbers: &'a NumberSet,
+    pub numbers: &'a NumberSet,
 }
 
 impl<'a> Trial for WantedTrial<'a> {

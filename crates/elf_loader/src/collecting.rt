@@ -56,7 +56,7 @@ fn compare_all<S: Source>(
 /// # Errors
 /// The first record that is refused, as [`elf_versions::VersionCursor::advance`] has it, or whose
 /// name has a fault, at what holds the name: of the definitions and then of the needs.
-pub(crate) fn wanted_numbers<S: Source>(
+pub fn wanted_numbers<S: Source>(
     src: &mut Counted<S>,
     symbols: &Symbols,
     asked: &Asked<'_>,

@@ -82,7 +82,7 @@ fn fits(asked: &Asked<'_>, numbers: &NumberSet, word: u16) -> bool
 ///
 /// # Errors
 /// A fault of the read, or a refusal for want of budget, at the offset.
-pub(crate) fn read_half<S: Source>(src: &mut Counted<S>, at: u64) -> Result<u16, Fault>
+pub fn read_half<S: Source>(src: &mut Counted<S>, at: u64) -> Result<u16, Fault>
     requires { at + 2 ≤ src.old.seen.size }
     ensures { Did src.old src.new (why_stopped result) 2 (λ file. IsRead result (field file at 2)) }
 {

@@ -7,6 +7,7 @@ ghost use Rattle.elf_scope.specs.Symbols.{RecordsWithin, SymbolsLie};
 ghost use Rattle.elf_versions.specs.Reading.{IsVersion};
 
 use elf_headers::Fault;
+use elf_record::VersionKind;
 use elf_scope::{RecordTable, Symbols};
 use elf_source::{Counted, Source};
 use elf_table::Names;
@@ -14,11 +15,13 @@ use elf_versions::{VersionCursor, VersionRecord};
 
 /// A record that names the version of a number, with the strings of its name.
 #[derive(Clone, Copy)]
-pub(crate) struct NamedBy {
+pub struct NamedBy {
     /// The record.
-    pub(crate) record: VersionRecord,
+    pub record: VersionRecord,
     /// The strings of its name.
-    pub(crate) names: Names,
+    pub names: Names,
+    /// The record of the needed file that it is a version of; none of a definition.
+    pub file: Option<VersionRecord>,
 }
 
 /// The first record of a table that names the version of a number, if one does, with the strings of
@@ -37,15 +40,26 @@ pub(crate) fn name_in_table<S: Source>(
     ensures lies { IfOk result (NamedLies src.old.seen.size) }
 {
     let mut cursor = VersionCursor::one_by_one(records.kind, records.head, records.table);
+    let mut file = None;
     'records: while let Some(given) = cursor.advance(src)? {
         if names_number(&given, number) {
             return Ok(Some(NamedBy {
                 record: given,
                 names: records.names,
+                file,
             }));
         }
+        file = file_of(&given, file);
     }
     Ok(None)
+}
+
+/// The record of the needed file that the next record is a version of, behind one more record.
+fn file_of(given: &VersionRecord, before: Option<VersionRecord>) -> Option<VersionRecord> {
+    match given.kind {
+        VersionKind::File => Some(*given),
+        _ => before,
+    }
 }
 
 /// The first record of the definitions, and else of the needs, that names the version of a number, if
@@ -53,7 +67,7 @@ pub(crate) fn name_in_table<S: Source>(
 ///
 /// # Errors
 /// As for [`VersionCursor::advance`], of what comes before.
-pub(crate) fn name_of<S: Source>(
+pub fn name_of<S: Source>(
     src: &mut Counted<S>,
     symbols: &Symbols,
     number: u16,

@@ -11,7 +11,7 @@ const WORDS: usize = 16;
 
 /// A set of numbers of versions, of which each is below 1,024: a bit for each.
 #[derive(Drop)]
-pub(crate) struct NumberSet {
+pub struct NumberSet {
     words: [u64; WORDS],
 }
 
@@ -27,14 +27,14 @@ impl Model for NumberSet {
 
 impl NumberSet {
     /// No number.
-    pub(crate) fn new() -> NumberSet
+    pub fn new() -> NumberSet
         ensures { (number : ℕ) → has_number result number ≡ false }
     {
         NumberSet { words: [0; WORDS] }
     }
 
     /// Whether a number is in the set.
-    pub(crate) fn contains(&self, number: u16) -> bool
+    pub fn contains(&self, number: u16) -> bool
         ensures { result ≡ has_number self.now number }
     {
         number < NUMBERS && self.words[usize::from(number / 64)] >> (number % 64) & 1 == 1

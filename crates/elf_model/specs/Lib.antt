@@ -76,3 +76,4 @@ pub mod TraitNumbers
 pub mod Traits
 pub mod TraitWords
 pub mod TraitCost
+pub mod Bindings

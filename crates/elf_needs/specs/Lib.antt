@@ -1,1 +1,2 @@
 pub mod ObjectLines
+pub mod BindingLines

@@ -67,8 +67,13 @@ where
 
 /// Takes off what is left of a budget what was asked of a source.
 pub(crate) fn take_off<S: Source>(left: &mut Option<u64>, source: &Counted<S>) {
+    take_off_bytes(left, source.asked());
+}
+
+/// Takes off what is left of a budget so many bytes.
+pub(crate) fn take_off_bytes(left: &mut Option<u64>, asked: u128) {
     if let Some(bytes) = *left {
-        let asked = u64::try_from(source.asked()).unwrap_or(u64::MAX);
+        let asked = u64::try_from(asked).unwrap_or(u64::MAX);
         *left = Some(bytes.saturating_sub(asked));
     }
 }

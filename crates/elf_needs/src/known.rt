@@ -118,6 +118,16 @@ impl Objects {
         false
     }
 
+    /// The index of the first object that has a name.
+    pub(crate) fn called(&self, name: &[u8]) -> Option<u16> {
+        for (index, known) in self.known.iter().enumerate() {
+            if self.is_called(known, name) {
+                return u16::try_from(index).ok();
+            }
+        }
+        None
+    }
+
     /// Whether one object has a name.
     fn is_called(&self, known: &Known, name: &[u8]) -> bool {
         is_text(self.text(known.name), name) || is_text(self.text(known.links.soname), name)

@@ -1,19 +1,26 @@
 //! What a program needs: its objects in the order of a loader of the GNU system, each looked for in the
-//! folders that the loader would search, and a line for each. Nothing is run or loaded. The memory is taken
+//! folders that the loader would search, and a line for each; and from where each symbol comes that they ask
+//! others for. Nothing is run or loaded. The memory is taken
 //! once.
 #![tactic(auto)]
 
+mod binding_rows;
+mod bindings;
 mod candidates;
 mod known;
 mod object_rows;
+mod open_objects;
 mod room;
 mod search;
+mod sought_names;
 mod states;
 mod walk;
 
+pub use binding_rows::show_binding;
 pub use known::MOST_OBJECTS;
 pub use object_rows::{show_object, show_too_many};
+pub use open_objects::OpenObjects;
 pub use room::NeedsRoom;
 pub use search::SearchedFolders;
-pub use states::ObjectState;
-pub use walk::{NeedsFault, NeedsSettings, ObjectWalk};
+pub use states::{BindingState, ObjectState};
+pub use walk::{NeedsFault, NeedsSettings, ObjectWalk, OpenFiles};

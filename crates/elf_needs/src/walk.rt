@@ -1,7 +1,8 @@
 //! The objects of a program, in a loader's order.
-use crate::candidates::take_off;
+use crate::candidates::{FileSource, take_off};
 use crate::known::{Known, MOST_OBJECTS, Objects};
 use crate::object_rows::{show_object, show_too_many};
+use crate::open_objects::OpenObjects;
 use crate::room::NeedsRoom;
 use crate::search::{Search, SearchedFolders};
 use crate::states::ObjectState;
@@ -9,9 +10,12 @@ use elf_headers::{Fault, HeaderStore};
 use elf_links::{FileLinks, Need, machine_of, read_links};
 use elf_model::Format;
 use elf_search::TriedPath;
-use elf_source::{Counted, Out, OutFault, Sink, Source};
+use elf_source::{Counted, OffsetReader, Out, OutFault, Sink, Source, StreamSource};
 use std::os::unix::fs::FileExt;
 use std::rt::Files;
+
+/// Objects whose files are kept open, files of the system.
+pub type OpenFiles<F> = OpenObjects<StreamSource<OffsetReader<F>>>;
 
 /// Why a walk came to no end.
 #[derive(Clone, Copy)]
@@ -54,12 +58,12 @@ enum Onward {
 /// A walk over the objects of a program: what it uses for each, and what has come of them so far.
 #[derive(Drop)]
 pub struct ObjectWalk<'w, 's, W: Sink> {
-    search: Search<'s>,
-    objects: Objects,
+    pub(crate) search: Search<'s>,
+    pub(crate) objects: Objects,
     store: HeaderStore<'w>,
-    format: Format,
-    out: Out<W>,
-    status: u8,
+    pub(crate) format: Format,
+    pub(crate) out: Out<W>,
+    pub(crate) status: u8,
 }
 
 impl<'w, 's, W: Sink> ObjectWalk<'w, 's, W> {
@@ -98,26 +102,28 @@ impl<W: Sink> ObjectWalk<'_, '_, W> {
     /// order each library that it needs and that is none of those before. A line for each. Answers the exit
     /// status: 1 where one is missing or refused, or there are more than 512. No more is asked for, of all
     /// files together, than the budget has, where there is one. `path` is the program's as it is shown, and
-    /// the folder of `real` stands for `$ORIGIN`.
+    /// the folder of `real` stands for `$ORIGIN`. The files of those that are found are kept open, as far as
+    /// there is room for them.
     ///
     /// # Errors
     /// A read or the output failed.
-    pub fn list<R: Files, S: Source>(
+    pub fn list<R: Files>(
         &mut self,
         rt: &R,
-        source: &mut Counted<S>,
+        source: FileSource<R::File>,
         path: &[u8],
         real: &[u8],
+        opened: &mut OpenFiles<R::File>,
     ) -> Result<u8, NeedsFault>
     where
         R::File: FileExt,
     {
-        self.program(source, path, real)?;
+        self.program(source, path, real, opened)?;
         for index in 0..MOST_OBJECTS {
             let Some(known) = self.objects.get(index) else {
                 return Ok(self.status);
             };
-            if self.needs_of(rt, index, &known)? == Onward::TooMany {
+            if self.needs_of(rt, index, &known, opened)? == Onward::TooMany {
                 return Ok(self.status);
             }
         }
@@ -125,20 +131,23 @@ impl<W: Sink> ObjectWalk<'_, '_, W> {
     }
 
     /// Reads the program, and writes its line.
-    fn program<S: Source>(
+    fn program<S: Source + Drop>(
         &mut self,
-        source: &mut Counted<S>,
+        source: Counted<S>,
         path: &[u8],
         real: &[u8],
+        opened: &mut OpenObjects<S>,
     ) -> Result<(), NeedsFault> {
+        let mut source = source;
         source.limit(self.search.left);
-        match machine_of(source) {
+        match machine_of(&mut source) {
             Ok(Some(machine)) => self.search.machine = machine,
             // That is told of the program where it is read.
             Ok(None) | Err(Fault::Refused(_)) => {}
             Err(Fault::Source { .. }) => return Err(NeedsFault::Read),
         }
-        let told = self.read(source)?;
+        let told = self.read(&mut source)?;
+        let told = self.keep(source, told, opened)?;
         let kept = self.objects.keep_path(real);
         self.add(None, None, kept, &told);
         show_object(0, None, told.state, path, self.format, &mut self.out).map_err(NeedsFault::Out)
@@ -150,6 +159,7 @@ impl<W: Sink> ObjectWalk<'_, '_, W> {
         rt: &R,
         index: usize,
         known: &Known,
+        opened: &mut OpenFiles<R::File>,
     ) -> Result<Onward, NeedsFault>
     where
         R::File: FileExt,
@@ -167,7 +177,7 @@ impl<W: Sink> ObjectWalk<'_, '_, W> {
                 show_too_many(need.at, self.format, &mut self.out).map_err(NeedsFault::Out)?;
                 return Ok(Onward::TooMany);
             }
-            self.take(rt, index, known, need)?;
+            self.take(rt, index, known, need, opened)?;
         }
         Ok(Onward::Yes)
     }
@@ -179,6 +189,7 @@ impl<W: Sink> ObjectWalk<'_, '_, W> {
         index: usize,
         needer: &Known,
         need: Need,
+        opened: &mut OpenFiles<R::File>,
     ) -> Result<(), NeedsFault>
     where
         R::File: FileExt,
@@ -189,7 +200,7 @@ impl<W: Sink> ObjectWalk<'_, '_, W> {
         let by = u16::try_from(index).ok();
         match found {
             None => self.add_missing(by, need.name),
-            Some(source) => self.add_found(by, need.name, source),
+            Some(source) => self.add_found(by, need.name, source, opened),
         }
     }
 
@@ -214,9 +225,11 @@ impl<W: Sink> ObjectWalk<'_, '_, W> {
         by: Option<u16>,
         name: u32,
         source: Counted<S>,
+        opened: &mut OpenObjects<S>,
     ) -> Result<(), NeedsFault> {
         let mut source = source;
         let told = self.read(&mut source)?;
+        let told = self.keep(source, told, opened)?;
         let path = self.objects.keep_path(&self.search.path);
         let index = self.add(by, Some(name), path, &told);
         show_object(
@@ -247,6 +260,31 @@ impl<W: Sink> ObjectWalk<'_, '_, W> {
                 links: NO_LINKS,
                 needs,
                 needs_end: needs,
+            }),
+            Err(Fault::Source { .. }) => Err(NeedsFault::Read),
+        }
+    }
+
+    /// Keeps the file of the next object open, if it is found and there is room for it.
+    fn keep<S: Source + Drop>(
+        &mut self,
+        source: Counted<S>,
+        told: Told,
+        opened: &mut OpenObjects<S>,
+    ) -> Result<Told, NeedsFault> {
+        let Ok(index) = u16::try_from(self.objects.len()) else {
+            return Ok(told);
+        };
+        if !matches!(told.state, ObjectState::Found) {
+            return Ok(told);
+        }
+        match opened.keep(index, source, &mut self.store, &mut self.search.left) {
+            Ok(()) => Ok(told),
+            Err(Fault::Refused(refusal)) => Ok(Told {
+                state: ObjectState::Refused(refusal),
+                links: NO_LINKS,
+                needs: told.needs,
+                needs_end: told.needs,
             }),
             Err(Fault::Source { .. }) => Err(NeedsFault::Read),
         }

@@ -10,7 +10,7 @@ use Rattle.elf_source.specs.Output.{Written, Takes, TakesFront}
 use Rattle.elf_headers.specs.declared.stop.Stop.{Stop}
 use Rattle.elf_headers.specs.declared.stop.Stop.TheVariants.{Refused, Source, Out}
 use Rattle.elf_words.specs.declared.requests.RequestFault.{RequestFault}
-use Rattle.elf_words.specs.declared.requests.RequestFault.TheVariants.{Words, BadName, BadItem, LayoutFull, LayoutRepeat, BadTrait, Memory}
+use Rattle.elf_words.specs.declared.requests.RequestFault.TheVariants.{Words, BadName, NamesFull, BadItem, LayoutFull, LayoutRepeat, BadTrait, Memory}
 
 -- a text ends in the line of a refusal
 abbrev pub EndsInRefusal : Refusal → List ℕ → Type 0
@@ -47,6 +47,7 @@ pub record Answers (old new : Written) (result : Result ℕ Stop) (Permits Holds
 abbrev pub refused_status : RequestFault → ℕ
 refused_status (Words error) = 2
 refused_status BadName = 2
+refused_status NamesFull = 2
 refused_status BadItem = 2
 refused_status LayoutFull = 2
 refused_status LayoutRepeat = 2
@@ -56,6 +57,7 @@ refused_status Memory = 3
 abbrev pub refused_line : RequestFault → List ℕ
 refused_line (Words error) = []
 refused_line BadName = codes "elfsee: bad name"
+refused_line NamesFull = codes "elfsee: too many names"
 refused_line BadItem = codes "elfsee: bad item"
 refused_line LayoutFull = codes "elfsee: layout-full"
 refused_line LayoutRepeat = codes "elfsee: layout-repeat"

@@ -19,6 +19,9 @@ pub const LAYOUT_FULL: Ending = (2, "elfsee: layout-full");
 /// There is an item of the same sort with the same index or name.
 pub const LAYOUT_REPEAT: Ending = (2, "elfsee: layout-repeat");
 
+/// There are more names among the words than may stand there.
+pub const NAMES_FULL: Ending = (2, "elfsee: too many names");
+
 /// A word that is required of traits is none.
 pub const BAD_TRAIT: Ending = (2, "elfsee: bad trait");
 
@@ -44,6 +47,7 @@ pub fn refused(fault: &RequestFault) -> Ending
     match fault {
         RequestFault::Words(_) => BAD_WORDS,
         RequestFault::BadName => BAD_NAME,
+        RequestFault::NamesFull => NAMES_FULL,
         RequestFault::BadItem => BAD_ITEM,
         RequestFault::LayoutFull => LAYOUT_FULL,
         RequestFault::LayoutRepeat => LAYOUT_REPEAT,

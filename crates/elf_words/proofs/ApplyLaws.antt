@@ -27,8 +27,8 @@ faultless rows layout lays fault (inr badly) = laid (item_words rows) no_items l
 -- only an applying is asked for by `apply`
 only_applying : (rows : List Row) (file : Option (Bor Text)) (task : Task) → IsTask (codes "apply") rows file task
     → (section : ℕ) × (layout : Layout) × (explain : Bool) × IsApplying (codes "apply") rows file section layout explain
-only_applying rows None (Show parts name) (are, parts_are, is) = cc
-only_applying rows (Some path) (Show parts name) (are, parts_are, is) = let e = is.0 in cc
+only_applying rows None (Show parts name) (are, parts_are, is, every) = cc
+only_applying rows (Some path) (Show parts name) (are, parts_are, is, every) = let e = is.0 in cc
 only_applying rows file (Find wanted format) is = let e = is.find in cc
 only_applying rows file (Resolve wanted by_segments format) is = let e = is.lookup.find in cc
 only_applying rows file (Apply section layout explain) is = (section, layout.now, explain, is)

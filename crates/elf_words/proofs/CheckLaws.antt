@@ -1,6 +1,6 @@
 -- What the words for other things than one file come to.
 use Rattle.std.proofs.Common.{◌≡◌, ◌≢◌, ◌∙◌, Bool, true, false, List, [], ◌∷◌, Option, None, Some, codes, refl, subst, sym, inl, inr}
-use Rattle.std.specs.Prelude.{bytes_eq}
+use Rattle.std.specs.Prelude.{◌||◌, bytes_eq}
 use Rattle.std.specs.Borrow.{Bor}
 use Rattle.std.specs.List.{list_any}
 use Rattle.std.proofs.lemmas.Slice.Eq.{bytes_eq-Decides}
@@ -8,10 +8,13 @@ use Rattle.clap.specs.Walk.{Row, Text, first_of}
 use Rattle.elf_words.specs.Archives.{NothingArchived}
 use Rattle.elf_words.specs.Asked.{AsksBy, AsksNothing, HasFault, IsTask}
 use Rattle.elf_words.specs.AskedTraits.{LacksWord, NothingTold}
+use Rattle.elf_listing_words.specs.RowNames.{asks_names}
+use Rattle.elf_words.specs.AskedNames.{AreBadNames, ChoosesBadly, ChosenBy, takes_names}
+use Rattle.elf_words.specs.declared.checks.Choosing.{Choosing}
 use Rattle.elf_words.specs.AskedNeeds.{NothingNeeded}
 use Rattle.elf_words.specs.Checks.{HasAnyFault, IsAsked, NothingAsked, NothingChecked}
 use Rattle.elf_words.specs.declared.checks.AskedCommand.{AskedCommand}
-use Rattle.elf_words.specs.declared.checks.AskedCommand.TheVariants.{File, Laid, Check, Traits, Needs, Archive, Version}
+use Rattle.elf_words.specs.declared.checks.AskedCommand.TheVariants.{File, Laid, Chosen, Check, Traits, Needs, Archive, Version}
 use Rattle.elf_words.specs.declared.requests.Request.{Request}
 use Rattle.elf_words.specs.declared.requests.RequestFault.{RequestFault}
 use Rattle.elf_words.specs.declared.requests.Task.{Task}
@@ -44,18 +47,23 @@ module _ (command : Text) (rows : List Row) (other : is_of_file command ≡ fals
   no_file : (request : Request) → AsksBy (Some (command, rows)) request → ⊥
   no_file request asks = let e : true ≡ false = sym (task_of_file command rows request.file request.task asks.1) ∙ other in cc
 
-  no_fault : (command ≢ codes "traits") → (fault : RequestFault) → HasAnyFault (Some (command, rows)) fault → ⊥
-  no_fault not_traits fault (inl has) = let e : true ≡ false = sym (fault_of_file command rows fault has) ∙ other in cc
-  no_fault not_traits fault (inr has) = not_traits has.1.0
+  fault_free : (command ≢ codes "traits") → ((fault : RequestFault) → ChoosesBadly (Some (command, rows)) fault → ⊥) → (fault : RequestFault) → HasAnyFault (Some (command, rows)) fault → ⊥
+  fault_free not_traits unnamed fault (inl has) = let e : true ≡ false = sym (fault_of_file command rows fault has) ∙ other in cc
+  fault_free not_traits unnamed fault (inr (inl has)) = not_traits has.1.0
+  fault_free not_traits unnamed fault (inr (inr has)) = unnamed fault has
+
+  no_fault : (command ≢ codes "traits") → takes_names command ≡ false → (fault : RequestFault) → HasAnyFault (Some (command, rows)) fault → ⊥
+  no_fault not_traits unnamed = fault_free not_traits (λ fault has. let e : true ≡ false = sym has.0 ∙ unnamed in cc)
 
 -- where no check is asked for by `check`, nothing is
 pub nothing_by_check : (rows : List Row) → NothingChecked (Some (codes "check", rows)) → NothingAsked (Some (codes "check", rows))
 unfolding is_of_file
-nothing_by_check rows none = record { nothing = nothing; faultless = no_fault (codes "check") rows refl (apart (codes "check") (codes "traits") refl) }
+nothing_by_check rows none = record { nothing = nothing; faultless = no_fault (codes "check") rows refl (apart (codes "check") (codes "traits") refl) refl }
   where
     nothing : (asked : AskedCommand) → IsAsked (Some (codes "check", rows)) asked → ⊥
     nothing (File request) is = no_file (codes "check") rows refl request is.0
     nothing (Laid laying) is = no_file (codes "check") rows refl laying.request is.0
+    nothing (Chosen asked) is = apart (codes "check") (codes "show") refl is.show
     nothing (Check asked) is = none asked is
     nothing (Traits asked) is = apart (codes "check") (codes "traits") refl is.traits
     nothing (Needs asked) is = apart (codes "check") (codes "needs") refl is.needs
@@ -70,6 +78,7 @@ nothing_by_traits rows none spelled = record { nothing = nothing; faultless = fa
     nothing : (asked : AskedCommand) → IsAsked (Some (codes "traits", rows)) asked → ⊥
     nothing (File request) is = no_file (codes "traits") rows refl request is.0
     nothing (Laid laying) is = no_file (codes "traits") rows refl laying.request is.0
+    nothing (Chosen asked) is = apart (codes "traits") (codes "show") refl is.show
     nothing (Check asked) is = apart (codes "traits") (codes "check") refl is.check
     nothing (Traits asked) is = none asked is
     nothing (Needs asked) is = apart (codes "traits") (codes "needs") refl is.needs
@@ -78,16 +87,18 @@ nothing_by_traits rows none spelled = record { nothing = nothing; faultless = fa
 
     faultless : (fault : RequestFault) → HasAnyFault (Some (codes "traits", rows)) fault → ⊥
     faultless fault (inl has) = let e : true ≡ false = sym (fault_of_file (codes "traits") rows fault has) in cc
-    faultless fault (inr has) = spelled has.1.1
+    faultless fault (inr (inl has)) = spelled has.1.1
+    faultless fault (inr (inr has)) = let e : true ≡ false = sym has.0 in cc
 
 -- where no needs are asked for by `needs`, nothing is
 pub nothing_by_needs : (rows : List Row) → NothingNeeded (Some (codes "needs", rows)) → NothingAsked (Some (codes "needs", rows))
 unfolding is_of_file
-nothing_by_needs rows none = record { nothing = nothing; faultless = no_fault (codes "needs") rows refl (apart (codes "needs") (codes "traits") refl) }
+nothing_by_needs rows none = record { nothing = nothing; faultless = no_fault (codes "needs") rows refl (apart (codes "needs") (codes "traits") refl) refl }
   where
     nothing : (asked : AskedCommand) → IsAsked (Some (codes "needs", rows)) asked → ⊥
     nothing (File request) is = no_file (codes "needs") rows refl request is.0
     nothing (Laid laying) is = no_file (codes "needs") rows refl laying.request is.0
+    nothing (Chosen asked) is = apart (codes "needs") (codes "show") refl is.show
     nothing (Check asked) is = apart (codes "needs") (codes "check") refl is.check
     nothing (Traits asked) is = apart (codes "needs") (codes "traits") refl is.traits
     nothing (Needs asked) is = none asked is
@@ -95,39 +106,80 @@ nothing_by_needs rows none = record { nothing = nothing; faultless = no_fault (c
     nothing Version is = apart (codes "needs") (codes "version") refl is
 
 -- where no archive is asked for by `archive`, nothing is
-pub nothing_by_archive : (rows : List Row) → NothingArchived (Some (codes "archive", rows)) → NothingAsked (Some (codes "archive", rows))
+pub nothing_by_archive : (rows : List Row) → NothingArchived (Some (codes "archive", rows)) → ((fault : RequestFault) → AreBadNames rows fault → ⊥) → NothingAsked (Some (codes "archive", rows))
 unfolding is_of_file
-nothing_by_archive rows none = record { nothing = nothing; faultless = no_fault (codes "archive") rows refl (apart (codes "archive") (codes "traits") refl) }
+nothing_by_archive rows none good = record { nothing = nothing; faultless = fault_free (codes "archive") rows refl (apart (codes "archive") (codes "traits") refl) (λ fault has. good fault has.1) }
   where
     nothing : (asked : AskedCommand) → IsAsked (Some (codes "archive", rows)) asked → ⊥
     nothing (File request) is = no_file (codes "archive") rows refl request is.0
     nothing (Laid laying) is = no_file (codes "archive") rows refl laying.request is.0
+    nothing (Chosen asked) is = apart (codes "archive") (codes "show") refl is.show
     nothing (Check asked) is = apart (codes "archive") (codes "check") refl is.check
     nothing (Traits asked) is = apart (codes "archive") (codes "traits") refl is.traits
     nothing (Needs asked) is = apart (codes "archive") (codes "needs") refl is.needs
     nothing (Archive asked) is = none asked is
     nothing Version is = apart (codes "archive") (codes "version") refl is
 
+-- where nothing is asked for by `show` of every row, nor of the rows of names, nothing is
+pub nothing_by_show : (rows : List Row) → ((request : Request) → AsksBy (Some (codes "show", rows)) request → ⊥)
+    → ((asked : Choosing) → ChosenBy (Some (codes "show", rows)) asked → ⊥) → ((fault : RequestFault) → AreBadNames rows fault → ⊥) → NothingAsked (Some (codes "show", rows))
+nothing_by_show rows none unchosen good = record { nothing = nothing; faultless = faultless }
+  where
+    nothing : (asked : AskedCommand) → IsAsked (Some (codes "show", rows)) asked → ⊥
+    nothing (File request) is = none request is.0
+    nothing (Laid laying) is = none laying.request is.0
+    nothing (Chosen asked) is = unchosen asked is
+    nothing (Check asked) is = apart (codes "show") (codes "check") refl is.check
+    nothing (Traits asked) is = apart (codes "show") (codes "traits") refl is.traits
+    nothing (Needs asked) is = apart (codes "show") (codes "needs") refl is.needs
+    nothing (Archive asked) is = apart (codes "show") (codes "archive") refl is.archive
+    nothing Version is = apart (codes "show") (codes "version") refl is
+
+    faultless : (fault : RequestFault) → HasAnyFault (Some (codes "show", rows)) fault → ⊥
+    faultless fault (inl (inl has)) = apart (codes "show") (codes "find") refl has.1.0
+    faultless fault (inl (inr has)) = apart (codes "show") (codes "apply") refl has.0
+    faultless fault (inr (inl has)) = apart (codes "show") (codes "traits") refl has.1.0
+    faultless fault (inr (inr has)) = good fault has.1
+
+-- where rows of names are asked for, every row is not
+pub not_every : (rows : List Row) → asks_names rows ≡ true → (request : Request) → AsksBy (Some (codes "show", rows)) request → ⊥
+not_every rows named request asks = by_task request.file request.task asks.1
+  where
+    by_task : (file : Option (Bor Text)) (task : Task) → IsTask (codes "show") rows file task → ⊥
+    by_task file (Show parts name) (are, parts_are, of_file, every) = let e : true ≡ false = sym named ∙ every in cc
+    by_task file (Find wanted format) is = apart (codes "show") (codes "find") refl is.find
+    by_task file (Resolve wanted by_segments format) is = apart (codes "show") (codes "find") refl is.lookup.find
+    by_task file (Apply section layout explain) is = apart (codes "show") (codes "apply") refl is.apply
+    by_task file (Place section addresses explain) is = absurd is
+
 -- where another command asks for nothing of one file, nothing is asked for
-pub nothing_by_other : (command : Text) (rows : List Row) → command ≢ codes "check" → command ≢ codes "traits" → command ≢ codes "needs" → command ≢ codes "archive" → command ≢ codes "version"
+pub nothing_by_other : (command : Text) (rows : List Row) → command ≢ codes "show" → command ≢ codes "check" → command ≢ codes "traits" → command ≢ codes "needs" → command ≢ codes "archive" → command ≢ codes "version"
     → AsksNothing (Some (command, rows)) → NothingAsked (Some (command, rows))
-nothing_by_other command rows not_check not_traits not_needs not_archive not_version none = record { nothing = nothing; faultless = faultless }
+nothing_by_other command rows not_show not_check not_traits not_needs not_archive not_version none = record { nothing = nothing; faultless = faultless }
   where
     nothing : (asked : AskedCommand) → IsAsked (Some (command, rows)) asked → ⊥
     nothing (File request) is = none.nothing request is.0
     nothing (Laid laying) is = none.nothing laying.request is.0
+    nothing (Chosen asked) is = not_show is.show
     nothing (Check asked) is = not_check is.check
     nothing (Traits asked) is = not_traits is.traits
     nothing (Needs asked) is = not_needs is.needs
     nothing (Archive asked) is = not_archive is.archive
     nothing Version is = not_version is
 
+    unnamed : (show archive : Bool) → bytes_eq command (codes "show") ≡ show → bytes_eq command (codes "archive") ≡ archive
+        → (show || (archive || false)) ≡ true → ⊥
+    unnamed true archive is other taken = not_show ((bytes_eq-Decides command (codes "show")).0 is)
+    unnamed false true is other taken = not_archive ((bytes_eq-Decides command (codes "archive")).0 other)
+    unnamed false false is other taken = cc
+
     faultless : (fault : RequestFault) → HasAnyFault (Some (command, rows)) fault → ⊥
     faultless fault (inl has) = none.faultless fault has
-    faultless fault (inr has) = not_traits has.1.0
+    faultless fault (inr (inl has)) = not_traits has.1.0
+    faultless fault (inr (inr has)) = unnamed (bytes_eq command (codes "show")) (bytes_eq command (codes "archive")) refl refl has.0
 
 -- where a section is not applied by `apply`, nothing is asked for
 pub nothing_by_apply : (rows : List Row) → AsksNothing (Some (codes "apply", rows)) → NothingAsked (Some (codes "apply", rows))
 nothing_by_apply rows =
-    nothing_by_other (codes "apply") rows (apart (codes "apply") (codes "check") refl) (apart (codes "apply") (codes "traits") refl) (apart (codes "apply") (codes "needs") refl)
+    nothing_by_other (codes "apply") rows (apart (codes "apply") (codes "show") refl) (apart (codes "apply") (codes "check") refl) (apart (codes "apply") (codes "traits") refl) (apart (codes "apply") (codes "needs") refl)
     (apart (codes "apply") (codes "archive") refl) (apart (codes "apply") (codes "version") refl)

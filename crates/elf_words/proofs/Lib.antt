@@ -6,3 +6,4 @@ pub mod LayoutLaws
 pub mod ListingLaws
 pub mod OnceLaws
 pub mod PieceLaws
+pub mod RowLaws

@@ -14,8 +14,8 @@ use Rattle.elf_words.specs.declared.requests.Task.TheVariants.{Show, Find, Resol
 module _ (command : Text) (rows : List Row) (not_apply : command ≢ codes "apply") (not_find : command ≢ codes "find") where
   no_task : ((listing : ListingAsked) → IsListing command rows listing → ⊥) → (file : Option (Bor Text)) (limits : Limits) (task : Task)
       → AreLimitOptions rows limits → IsTask command rows file task → ⊥
-  no_task none file limits (Show parts style) are (styled, parted, of_file) =
-      none (record { file = file; limits = limits; parts = parts; style = style }) record { of_file = of_file; limits = are; style = styled; parts = parted }
+  no_task none file limits (Show parts style) are (styled, parted, of_file, every) =
+      none (record { file = file; limits = limits; parts = parts; style = style }) record { of_file = of_file; limits = are; style = styled; parts = parted; every = every }
   no_task none file limits (Find wanted format) are is = not_find is.find
   no_task none file limits (Resolve wanted by_segments format) are is = not_find is.lookup.find
   no_task none file limits (Apply section layout explain) are is = not_apply is.apply

@@ -10,7 +10,7 @@ use Rattle.elf_layout.specs.Spelled.{Spells}
 use Rattle.elf_layout.proofs.ItemLaws.{SameItem, one_item}
 use Rattle.elf_words.specs.Layouts.{LaysWords, RefusesItem}
 use Rattle.elf_words.specs.declared.requests.RequestFault.{RequestFault}
-use Rattle.elf_words.specs.declared.requests.RequestFault.TheVariants.{Memory, BadName, BadItem, BadTrait, LayoutFull, LayoutRepeat, Words as Told}
+use Rattle.elf_words.specs.declared.requests.RequestFault.TheVariants.{Memory, BadName, BadItem, BadTrait, LayoutFull, LayoutRepeat, NamesFull, Words as Told}
 
 lacks_none : {K : Type 0} (items : List (K × ℕ)) (key other : K) → key ≡ other → LacksKey items key → HasKey items other → ⊥
 lacks_none items key other same lacks (k, x, within, here, has) = lacks k x within (ap (λ i. i.0) here ∙ has ∙ sym same)
@@ -83,6 +83,7 @@ not_refused word x old new BadItem spells put refuses = refuses x spells
 not_refused word x old new LayoutFull spells put (y, other, is, full) = has_room x y old new other (one_item word x y spells is) put full
 not_refused word x old new LayoutRepeat spells put (y, other, is, there) = is_new x y old new other (one_item word x y spells is) put there
 not_refused word x old new BadName spells put refuses = refuses
+not_refused word x old new NamesFull spells put refuses = refuses
 not_refused word x old new BadTrait spells put refuses = refuses
 not_refused word x old new Memory spells put refuses = refuses
 not_refused word x old new (Told told) spells put refuses = refuses

@@ -6,6 +6,7 @@ use Rattle.elf_model.specs.Listing.{all_parts}
 use Rattle.elf_model.specs.Text.{name_of as name_in_table}
 use Rattle.elf_record.specs.declared.parts.Parts.{Parts}
 use Rattle.elf_listing_words.specs.Options.{AreLimitOptions, IsStyle, asks_gnu, member_part_names}
+use Rattle.elf_words.specs.AskedNames.{AreRows}
 use Rattle.elf_words.specs.declared.checks.Archiving.{Archiving}
 
 -- whether a text is the name of a part of an archive
@@ -27,7 +28,7 @@ pub record IsArchiving (command : Text) (rows : List Row) (asked : Archiving) : 
   pub path : first_of (codes "FILE") rows ≡ Some asked.file.now
   pub limits : AreLimitOptions rows asked.limits
   pub style : IsStyle rows asked.style
-  pub parts : AreMemberParts rows asked.parts
+  pub shown : AreRows (AreMemberParts rows asked.parts) rows asked.parts asked.names
 
 -- a command with the values of its arguments asks for this listing
 abbrev pub ArchivesBy : Option (Text × List Row) → Archiving → Type 0

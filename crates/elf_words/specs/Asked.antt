@@ -8,6 +8,7 @@ use Rattle.elf_model.specs.NameLaws.{IsWanted}
 use Rattle.elf_model.specs.Placing.{Layout, no_items}
 use Rattle.elf_listing_words.specs.Listings.{IsOfFile}
 use Rattle.elf_listing_words.specs.Options.{AreLimitOptions, AreParts, HasNumber, IsStyle, asked_format, asks_gnu, is_option_set, lacks_gnu}
+use Rattle.elf_listing_words.specs.RowNames.{asks_names}
 use Rattle.elf_words.specs.Layouts.{LaysWords}
 use Rattle.elf_words.specs.declared.requests.Request.{Request}
 use Rattle.elf_words.specs.declared.requests.RequestFault.{RequestFault}
@@ -73,7 +74,7 @@ pub record IsApplying (command : Text) (rows : List Row) (file : Option (Bor Tex
 -- a task with its file, by the values of the options; no words give addresses that are kept otherwise
 abbrev pub IsTask : Text → List Row → Option (Bor Text) → Task → Type 0
 IsTask command rows file (Show parts style) =
-    IsStyle rows style × AreParts rows parts × IsOfFile command rows file
+    IsStyle rows style × AreParts rows parts × IsOfFile command rows file × (asks_names rows ≡ false)
 IsTask command rows file (Find wanted format) = IsFinding command rows file wanted format
 IsTask command rows file (Resolve wanted by_segments format) = IsResolving command rows file wanted by_segments format
 IsTask command rows file (Apply section layout explain) = IsApplying command rows file section layout.now explain

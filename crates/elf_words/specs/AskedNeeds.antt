@@ -1,7 +1,7 @@
 -- What the words of a command line ask for, of what a program needs.
 use Rattle.std.specs.Prelude.{◌≡◌, List, [], codes, Option, None, Some, unwrap_or}
 use Rattle.clap.specs.Walk.{Row, Text, first_of}
-use Rattle.elf_listing_words.specs.Options.{AreLimitOptions, asked_format}
+use Rattle.elf_listing_words.specs.Options.{AreLimitOptions, asked_format, is_option_set}
 use Rattle.elf_words.specs.declared.checks.NeedsAsked.{NeedsAsked}
 
 -- the folders that libraries are looked for in last, where no others are given
@@ -17,6 +17,7 @@ pub record IsNeedsAsked (command : Text) (rows : List Row) (asked : NeedsAsked) 
   pub root : asked.root.now ≡ unwrap_or (first_of (codes "root") rows) []
   pub limits : AreLimitOptions rows asked.limits
   pub format : asked.format ≡ asked_format rows
+  pub symbols : asked.symbols ≡ is_option_set (first_of (codes "symbols") rows)
 
 -- a command with the values of its arguments asks for these needs
 abbrev pub NeedsBy : Option (Text × List Row) → NeedsAsked → Type 0

@@ -4,11 +4,12 @@ use Rattle.clap.specs.Walk.{Row, Text, first_of}
 use Rattle.elf_listing_words.specs.Listings.{AsksVersion}
 use Rattle.elf_listing_words.specs.Options.{AreLimitOptions, AreParts, IsStyle}
 use Rattle.elf_words.specs.Asked.{AsksBy, HasFault}
+use Rattle.elf_words.specs.AskedNames.{ChoosesBadly, ChosenBy}
 use Rattle.elf_words.specs.AskedNeeds.{NeedsBy}
 use Rattle.elf_words.specs.AskedTraits.{RequiresBadly, TellsBy}
 use Rattle.elf_words.specs.Files.{AreFiles}
 use Rattle.elf_words.specs.declared.checks.AskedCommand.{AskedCommand}
-use Rattle.elf_words.specs.declared.checks.AskedCommand.TheVariants.{File, Laid, Check, Traits, Needs, Archive, Version}
+use Rattle.elf_words.specs.declared.checks.AskedCommand.TheVariants.{File, Laid, Chosen, Check, Traits, Needs, Archive, Version}
 use Rattle.elf_words.specs.Archives.{ArchivesBy}
 use Rattle.elf_words.specs.declared.checks.Checking.{Checking}
 use Rattle.elf_words.specs.declared.requests.RequestFault.{RequestFault}
@@ -41,6 +42,7 @@ HasList (Some (command, rows)) list = (command ≡ codes "apply") × (first_of (
 abbrev pub IsAsked : Option (Text × List Row) → AskedCommand → Type 0
 IsAsked matches (File request) = AsksBy matches request × LacksList matches
 IsAsked matches (Laid laying) = AsksBy matches laying.request × HasList matches laying.list.now
+IsAsked matches (Chosen asked) = ChosenBy matches asked
 IsAsked matches (Check asked) = ChecksBy matches asked
 IsAsked matches (Traits asked) = TellsBy matches asked
 IsAsked matches (Needs asked) = NeedsBy matches asked
@@ -53,7 +55,7 @@ NothingChecked matches = (asked : Checking) → ChecksBy matches asked → ⊥
 
 -- a command with the values of its arguments asks for something, and has this fault in its words for it
 abbrev pub HasAnyFault : Option (Text × List Row) → RequestFault → Type 0
-HasAnyFault matches fault = HasFault matches fault ⊎ ((fault ≡ BadTrait) × RequiresBadly matches)
+HasAnyFault matches fault = HasFault matches fault ⊎ (((fault ≡ BadTrait) × RequiresBadly matches) ⊎ ChoosesBadly matches fault)
 
 -- nothing is asked for, not even with a fault in the words for it
 pub record NothingAsked (matches : Option (Text × List Row)) : Type 0 where

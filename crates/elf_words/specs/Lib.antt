@@ -1,4 +1,5 @@
 pub mod Asked
+pub mod AskedNames
 pub mod AskedNeeds
 pub mod AskedTraits
 pub mod Answered

@@ -1,5 +1,5 @@
 //! The words that ask for a listing of an archive.
-ghost use Rattle.std.specs.Prelude.{◌≡◌, IfSome, None, Some, Ok, codes, false};
+ghost use Rattle.std.specs.Prelude.{◌≡◌, IfSome, None, Option, Some, Ok, codes, false};
 ghost use Rattle.clap.specs.Walk.{rows_of};
 ghost use Rattle.clap.specs.Words.{found_of};
 ghost use Rattle.elf_model.specs.Text.{name_of};
@@ -7,42 +7,88 @@ ghost use Rattle.elf_record.specs.declared.parts.Parts.{Parts};
 ghost use Rattle.elf_words.specs.Archives.{AreMemberParts, IsArchiving, NothingArchived};
 ghost use Rattle.elf_listing_words.specs.Options.{member_part_names};
 ghost use Rattle.elf_words.specs.Archives.{is_member_part};
+ghost use Rattle.elf_words.specs.AskedNames.{AreNamesIf, AreRows};
 ghost use Rattle.elf_words.specs.Checks.{Becomes};
+ghost use Rattle.elf_words.specs.declared.checks.NamesAsked.{NamesAsked};
 
-use crate::checks::{Archiving, AskedCommand};
+use crate::checks::{Archiving, AskedCommand, NamesAsked};
+use crate::name_words::names_of;
+use crate::requests::RequestFault;
 use clap::ArgMatches;
-use elf_listing_words::{asks_gnu, limits_of, style_of, text_of, whole};
+use elf_listing_words::{asks_gnu, chosen_parts_of, limits_of, style_of, text_of, whole};
 use elf_record::Parts;
+use std::alloc::Global;
 
 /// No part of a listing.
 const NO_PART: Parts = Parts(0);
 
 /// What `archive` with these arguments asks for, or None where they ask for nothing.
-pub(crate) fn archive_asked<'a>(options: &ArgMatches<'a>) -> Option<AskedCommand<'a>>
+///
+/// # Errors
+/// What is wrong with the names of which the rows are asked for; there is no memory for them.
+pub(crate) fn archive_asked<'a>(
+    alloc: Global,
+    options: &ArgMatches<'a>,
+) -> Result<Option<AskedCommand<'a>>, RequestFault>
+    ensures { Becomes (Some (codes "archive", rows_of (found_of options.now))) result }
+{
+    match names_of(alloc, options) {
+        Ok(names) => Ok(archive_of(options, names)),
+        Err(fault) => Err(fault),
+    }
+}
+
+/// What `archive` asks for, of the rows of these names.
+fn archive_of<'a>(
+    options: &ArgMatches<'a>,
+    names: Option<NamesAsked<'a>>,
+) -> Option<AskedCommand<'a>>
+    requires { AreNamesIf (rows_of (found_of options.now)) names }
     ensures { Becomes (Some (codes "archive", rows_of (found_of options.now))) (Ok result) }
 {
-    match archiving_of(options) {
+    match archiving_of(options, names) {
         Some(asked) => Some(AskedCommand::Archive(asked)),
         None => None,
     }
 }
 
 /// The listing of the archive whose path is among the arguments.
-fn archiving_of<'a>(options: &ArgMatches<'a>) -> Option<Archiving<'a>>
+fn archiving_of<'a>(
+    options: &ArgMatches<'a>,
+    names: Option<NamesAsked<'a>>,
+) -> Option<Archiving<'a>>
+    requires { AreNamesIf (rows_of (found_of options.now)) names }
     ensures none { result ≡ None →
         NothingArchived (Some (codes "archive", rows_of (found_of options.now))) }
     ensures some { IfSome result (IsArchiving (codes "archive") (rows_of (found_of options.now))) }
 {
+    let parts = archived_parts_of(options, &names)?;
     let file = text_of(options, "FILE")?;
     let limits = limits_of(options)?;
     let style = style_of(options)?;
-    let parts = member_parts_of(options)?;
     Some(Archiving {
         file,
         limits,
         parts,
         style,
+        names,
     })
+}
+
+/// The parts that the options ask for, by whether rows are chosen by names.
+fn archived_parts_of(options: &ArgMatches<'_>, names: &Option<NamesAsked<'_>>) -> Option<Parts>
+    requires { AreNamesIf (rows_of (found_of options.now)) names.now }
+    ensures some { IfSome result (λ parts. AreRows
+        (AreMemberParts (rows_of (found_of options.now)) parts)
+        (rows_of (found_of options.now)) parts names.now) }
+    ensures none { result ≡ None → (parts : Parts) (asked : Option NamesAsked)
+        → AreRows (AreMemberParts (rows_of (found_of options.now)) parts)
+        (rows_of (found_of options.now)) parts asked → ⊥ }
+{
+    match names {
+        Some(_) => chosen_parts_of(options),
+        None => member_parts_of(options),
+    }
 }
 
 /// The parts that the options ask for.

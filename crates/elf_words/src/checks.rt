@@ -3,6 +3,7 @@ ghost use Rattle.std.specs.Prelude.{◌≡◌, ◌≤◌};
 
 use crate::requests::Request;
 use elf_headers::{Limits, Style};
+use elf_listing_words::ListingAsked;
 use elf_model::Format;
 use elf_record::Parts;
 use elf_trait_words::RequiredWord;
@@ -14,6 +15,8 @@ pub enum AskedCommand<'a> {
     File(Request<'a>),
     /// A section is applied, with the items of a file too.
     Laid(Laying<'a>),
+    /// Those rows of one file are listed that have one of some names.
+    Chosen(Choosing<'a>),
     /// Many files are checked.
     Check(Checking<'a>),
     /// How many files are hardened is told.
@@ -33,6 +36,37 @@ pub struct Laying<'a> {
     pub request: Request<'a>,
     /// The path of the file, which has one item a line.
     pub list: &'a str,
+}
+
+/// Names of which the rows are asked for. There is one, or a file that has some.
+#[derive(Drop)]
+pub struct NamesAsked<'a> {
+    /// At most 64 names, each of 1 to 4,096 bytes, none of them NUL.
+    pub names: Vec<&'a str>,
+    /// The path of a file that has more names, one a line.
+    pub list: Option<&'a str>,
+}
+
+/// A listing of those rows of one file that have one of some names.
+#[derive(Drop)]
+pub struct Choosing<'a> {
+    /// The listing, whose style chooses no rows yet.
+    pub listing: ListingAsked<'a>,
+    /// The names.
+    pub names: NamesAsked<'a>,
+}
+
+impl<'a> Choosing<'a> {
+    ghost use Rattle.std.specs.Prelude.{◌≤◌};
+
+    /// How many slots the header store needs, 1 to 65,279.
+    pub fn headers(&self) -> u16
+        ensures value { result ≡ self.now.listing.limits.headers }
+        ensures some { 1 ≤ result }
+        ensures few { result ≤ 65279 }
+    {
+        self.listing.limits.headers
+    }
 }
 
 /// The files that are asked for, where there are many.
@@ -109,6 +143,8 @@ pub struct Archiving<'a> {
     pub parts: Parts,
     /// How rows are shown.
     pub style: Style<'a>,
+    /// The names of which the rows alone are listed, where that is asked for.
+    pub names: Option<NamesAsked<'a>>,
 }
 
 impl<'a> Archiving<'a> {
@@ -140,6 +176,8 @@ pub struct NeedsAsked<'a> {
     pub limits: Limits,
     /// How a line is written.
     pub format: Format,
+    /// Whether it is told from where each symbol comes, too.
+    pub symbols: bool,
 }
 
 impl<'a> NeedsAsked<'a> {

@@ -1,5 +1,5 @@
 //! The words that name many files.
-ghost use Rattle.std.specs.Prelude.{◌≡◌, IfOk, IfSome, None, Ok, codes, unwrap_or};
+ghost use Rattle.std.specs.Prelude.{◌≡◌, IfOk, IfSome, None, Ok, [], codes, unwrap_or};
 ghost use Rattle.clap.specs.Walk.{all_of, rows_of, texts};
 ghost use Rattle.clap.specs.Words.{found_of};
 ghost use Rattle.elf_words.specs.Files.{AreFiles, path_words};
@@ -22,7 +22,7 @@ pub(crate) fn files_of<'a>(
     ensures none { result ≡ Ok None → (files : ManyFiles)
         → AreFiles (rows_of (found_of options.now)) files → ⊥ }
 {
-    match paths_of(alloc, options) {
+    match words_of(alloc, options, "PATH") {
         Ok(paths) => Ok(files_with(options, paths)),
         Err(AllocError) => Err(AllocError),
     }
@@ -42,12 +42,16 @@ fn files_with<'a>(options: &ArgMatches<'a>, paths: Vec<&'a str>) -> Option<ManyF
     Some(ManyFiles { paths, list })
 }
 
-/// The paths that are asked for.
-fn paths_of<'a>(alloc: Global, options: &ArgMatches<'a>) -> Result<Vec<&'a str>, AllocError>
-    ensures { IfOk result
-        (λ paths. texts paths.items ≡ path_words (rows_of (found_of options.now))) }
+/// The values of an argument.
+pub(crate) fn words_of<'a>(
+    alloc: Global,
+    options: &ArgMatches<'a>,
+    argument: &str,
+) -> Result<Vec<&'a str>, AllocError>
+    ensures { IfOk result (λ words. texts words.items
+        ≡ unwrap_or (all_of argument.now (rows_of (found_of options.now))) []) }
 {
-    match options.get_strs("PATH") {
+    match options.get_strs(argument) {
         Some(words) => copied_words(alloc, words),
         None => Ok(Vec::new(alloc)),
     }

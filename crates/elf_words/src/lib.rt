@@ -6,13 +6,18 @@ mod check_words;
 mod checks;
 mod file_words;
 mod items;
+mod name_words;
 mod names;
 mod need_words;
 mod requests;
+mod show_words;
 mod trait_words;
 mod words;
 
-pub use checks::{Archiving, AskedCommand, Checking, Laying, ManyFiles, NeedsAsked, TraitsAsked};
+pub use checks::{
+    Archiving, AskedCommand, Checking, Choosing, Laying, ManyFiles, NamesAsked, NeedsAsked,
+    TraitsAsked,
+};
 pub use names::{checked_name, checked_symbol};
 pub use requests::{Request, RequestFault, Task, WantedName, WantedSymbol};
 pub use words::request;

@@ -1,15 +1,11 @@
 //! Names that can be looked for.
-ghost use Rattle.std.specs.Prelude.{◌≡◌, ◌≤◌, IsNone, IfSome, is_some, length, true};
-ghost use Rattle.elf_model.specs.Names.{nul_in};
+ghost use Rattle.std.specs.Prelude.{◌≡◌, ◌≤◌, IsNone, IfSome, length, true};
 ghost use Rattle.elf_model.specs.NameLaws.{IsWanted};
 ghost use Rattle.elf_words.specs.Asked.{IsText};
 
 use crate::requests::{WantedName, WantedSymbol};
+use elf_name_lists::is_row_name;
 use elf_wanted::wanted_of;
-use memchr::memchr;
-
-/// The most bytes of a name that is looked for.
-const MOST_BYTES: usize = 4_096;
 
 /// A name that can be looked for: a word of 1 to 4,096 bytes, none of them NUL. None for another
 /// word.
@@ -44,15 +40,8 @@ fn name_bytes(word: &str) -> Option<&[u8]>
     ensures unnamed { IsNone result → IsWanted word.now → length word.now ≤ 4096 → ⊥ }
 {
     let name = word.as_bytes();
-    if name.is_empty() || name.len() > MOST_BYTES || has_nul(name) {
-        return None;
+    if is_row_name(name) {
+        return Some(name);
     }
-    Some(name)
-}
-
-/// Whether one of these bytes is NUL.
-pub(crate) fn has_nul(bytes: &[u8]) -> bool
-    ensures { result ≡ is_some (nul_in bytes.now) }
-{
-    memchr(0, bytes).is_some()
+    None
 }

@@ -7,7 +7,7 @@ ghost use Rattle.elf_words.specs.Checks.{Becomes};
 
 use crate::checks::{AskedCommand, NeedsAsked};
 use clap::ArgMatches;
-use elf_listing_words::{format_of, limits_of, text_of};
+use elf_listing_words::{format_of, is_set, limits_of, text_of};
 
 /// The folders that libraries are looked for in last, where the words give none.
 const DEFAULT_FOLDERS: &str =
@@ -38,6 +38,7 @@ fn needs_of<'a>(options: &ArgMatches<'a>) -> Option<NeedsAsked<'a>>
         root: text_or(options, "root", ""),
         limits,
         format: format_of(options),
+        symbols: is_set(options, "symbols"),
     })
 }
 

@@ -108,6 +108,9 @@ pub enum RequestFault {
     /// The words ask for a name that can't be looked for.
     #[error("bad name")]
     BadName,
+    /// The words ask for the rows of more than 64 names.
+    #[error("too many names")]
+    NamesFull,
     /// The first word for an item of a layout that is refused spells none.
     #[error("bad item")]
     BadItem,

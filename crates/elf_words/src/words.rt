@@ -19,6 +19,7 @@ use crate::items::lay;
 use crate::names::{checked_name, checked_symbol};
 use crate::need_words::needs_asked;
 use crate::requests::{Request, RequestFault, Task};
+use crate::show_words::show_asked;
 use crate::trait_words::traits_asked;
 use clap::ArgMatches;
 use elf_layout::Layout;
@@ -34,7 +35,8 @@ use std::convert::AsStr;
 ///
 /// # Errors
 /// `Words` for words that ask for nothing that there is, or for help; `BadName` where they ask for
-/// a name that is not of 1 to 4,096 bytes without NUL; `BadItem`, `LayoutRepeat` and `LayoutFull`
+/// a name that is not of 1 to 4,096 bytes without NUL; `NamesFull` where they ask for the rows of more
+/// than 64 names; `BadItem`, `LayoutRepeat` and `LayoutFull`
 /// for the first word that is no item of a layout, gives an item again, or gives one more of a sort
 /// than a layout holds; `BadTrait` where a word that is required of traits is none; `Memory` where there is none for reading them.
 pub fn request<'a, S: AsStr>(
@@ -101,10 +103,11 @@ fn asked_by<'a>(
     ensures { Becomes (Some (command.now, rows_of (found_of options.now))) result }
 {
     match command {
+        "show" => show_asked(alloc, options),
         "check" => check_asked(alloc, options),
         "traits" => traits_asked(alloc, options),
         "needs" => Ok(needs_asked(options)),
-        "archive" => Ok(archive_asked(options)),
+        "archive" => archive_asked(alloc, options),
         "apply" => apply_asked(options, layout),
         "version" => Ok(Some(AskedCommand::Version)),
         _ => file_asked(command, options),
@@ -142,9 +145,10 @@ fn file_asked<'a>(
     command: &str,
     options: &ArgMatches<'a>,
 ) -> Result<Option<AskedCommand<'a>>, RequestFault>
-    requires { (command.now ≢ codes "check") × (command.now ≢ codes "traits")
-        × (command.now ≢ codes "needs") × (command.now ≢ codes "archive")
-        × (command.now ≢ codes "version") × (command.now ≢ codes "apply") }
+    requires { (command.now ≢ codes "show") × (command.now ≢ codes "check")
+        × (command.now ≢ codes "traits") × (command.now ≢ codes "needs")
+        × (command.now ≢ codes "archive") × (command.now ≢ codes "version")
+        × (command.now ≢ codes "apply") }
     ensures { Becomes (Some (command.now, rows_of (found_of options.now))) result }
 {
     match of_file(command, options) {
@@ -166,7 +170,7 @@ fn of_file<'a>(command: &str, options: &ArgMatches<'a>) -> Result<Option<Request
 }
 
 /// A listing, which is asked for as the programs that list read it.
-fn listing_asked<'a>(command: &str, options: &ArgMatches<'a>) -> Option<Request<'a>>
+pub(crate) fn listing_asked<'a>(command: &str, options: &ArgMatches<'a>) -> Option<Request<'a>>
     requires { (command.now ≢ codes "apply") × (command.now ≢ codes "find") }
     ensures { ComesTo (Some (command.now, rows_of (found_of options.now))) (Ok result) }
 {

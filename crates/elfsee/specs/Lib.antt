@@ -1,3 +1,4 @@
 pub mod Ends
 pub mod Explaining
 pub mod Layouts
+pub mod Naming

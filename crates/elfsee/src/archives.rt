@@ -1,10 +1,17 @@
 //! The listing of an archive.
 ghost use Rattle.std.specs.Prelude.{◌≡◌, ◌⊎◌, IfErr};
 ghost use Rattle.elfsee.specs.Ends.{EndsRunOver, LacksFile, LacksMemory, RunsArchive};
+ghost use Rattle.elf_headers.specs.Permitted.{style_of};
+ghost use Rattle.elf_name_lists.specs.NamedRows.{named_style};
+ghost use Rattle.elf_wanted.specs.Names.{NeverFall, texts_of};
+ghost use Rattle.elfsee.specs.Naming.{LacksNames};
 
+use crate::names::{read_list, sorted_names};
 use elf_archive::show_archive;
-use elf_headers::{Caps, HeaderRoom, HeaderStore};
+use elf_headers::{Caps, HeaderRoom, HeaderStore, Limits, Style};
+use elf_name_lists::style_by_names;
 use elf_program::{Ending, OUT_OF_MEMORY, OUTPUT_BYTES, end_answer, open};
+use elf_record::Parts;
 use elf_run::archive_status;
 use elf_source::{Counted, Out, RangeSource, Source, WriteSink};
 use elf_words::Archiving;
@@ -12,10 +19,11 @@ use std::io::{self, BufWriter, Write};
 use std::os::unix::fs::FileExt;
 use std::rt::Files;
 
-/// Makes what memory is needed, opens the archive, and lists it.
+/// Lists the archive that is asked for, or those of its rows that have one of some names. The names are
+/// read and sorted before it is opened.
 ///
 /// # Errors
-/// There is no memory, or the archive can't be opened.
+/// There is no memory, the archive can't be opened, or its names can't be read.
 #[inline(never)]
 pub fn list_archive<R: Files + Print + AllocGlobal>(
     rt: &R,
@@ -23,44 +31,98 @@ pub fn list_archive<R: Files + Print + AllocGlobal>(
 ) -> Result<Ending, Ending>
 where
     R::File: FileExt,
+    ensures { IfErr result (λ ending. LacksNames ending.0 ending.1.now
+        ⊎ (LacksMemory ending.0 ending.1.now ⊎ LacksFile ending.0 ending.1.now)) }
+{
+    let Some(names) = &asked.names else {
+        return list_with(
+            rt,
+            asked.file,
+            asked.parts,
+            &caps_of(asked.limits, asked.style),
+        );
+    };
+    let mut list = Vec::new(rt.alloc());
+    if let Err(ending) = read_list(rt, names, &mut list) {
+        return Err(ending);
+    }
+    match sorted_names(rt.alloc(), names, &list) {
+        Ok(texts) => list_with(
+            rt,
+            asked.file,
+            asked.parts,
+            &caps_by_names(asked.limits, asked.style, &texts),
+        ),
+        Err(ending) => Err(ending),
+    }
+}
+
+/// The caps of these limits and of this style.
+fn caps_of<'a>(limits: Limits, style: Style<'a>) -> Caps<'a>
+    ensures { result ≡ record { limits = limits; style = style.entry } }
+{
+    Caps { limits, style }
+}
+
+/// The caps of these limits, with the rows of these names, which are in the rising order of their
+/// bytes, and else of this style.
+fn caps_by_names<'n>(limits: Limits, style: Style<'_>, names: &'n [&'n [u8]]) -> Caps<'n>
+    requires { NeverFall names.now }
+    ensures limits { result.limits ≡ limits }
+    ensures style { style_of result.style
+        ≡ named_style (texts_of names.now) (style_of style.entry) }
+{
+    Caps {
+        limits,
+        style: style_by_names(style, names),
+    }
+}
+
+/// Makes what memory is needed, opens the archive, and lists parts of it by these caps.
+///
+/// # Errors
+/// There is no memory, or the archive can't be opened.
+fn list_with<R: Files + Print + AllocGlobal>(
+    rt: &R,
+    file: &str,
+    parts: Parts,
+    caps: &Caps<'_>,
+) -> Result<Ending, Ending>
+where
+    R::File: FileExt,
     ensures { IfErr result (λ ending.
         LacksMemory ending.0 ending.1.now ⊎ LacksFile ending.0 ending.1.now) }
 {
-    let Ok(mut room) = HeaderRoom::new(rt.alloc(), asked.headers()) else {
+    let Ok(mut room) = HeaderRoom::new(rt.alloc(), caps.limits.headers) else {
         return Err(OUT_OF_MEMORY);
     };
     let Ok(output) = BufWriter::with_capacity(rt.alloc(), OUTPUT_BYTES, io::writer(rt)) else {
         return Err(OUT_OF_MEMORY);
     };
-    match open(rt, asked.file) {
+    match open(rt, file) {
         Ok(source) => {
-            let (ending, _output) = write_archive(asked, source, room.store(), output);
+            let (ending, _output) = write_archive(*caps, parts, source, room.store(), output);
             Ok(ending)
         }
         Err(ending) => Err(ending),
     }
 }
 
-/// Lists an archive by what is asked for, and writes what is left of the output. Answers how the program
-/// ends, and gives what took the output.
+/// Lists parts of an archive by these caps, and writes what is left of the output. Answers how the
+/// program ends, and gives what took the output.
 fn write_archive<S: Source + Drop, W: Write + Drop>(
-    asked: &Archiving<'_>,
+    caps: Caps<'_>,
+    parts: Parts,
     source: S,
     mut store: HeaderStore<'_>,
     output: BufWriter<W>,
 ) -> (Ending, WriteSink<W>)
-    requires { store.slots ≡ asked.now.limits.headers }
-    ensures { EndsRunOver W.contents
-        (RunsArchive (record { limits = asked.now.limits; style = asked.now.style })
-        asked.now.parts.0)
+    requires { store.slots ≡ caps.limits.headers }
+    ensures { EndsRunOver W.contents (RunsArchive caps.entry parts.0)
         (S.seen source) output result.0.0 result.0.1.now result.1 }
 {
     let mut src = Counted::new(RangeSource::new(source));
     let mut out = Out::new(WriteSink::new(output));
-    let caps = Caps {
-        limits: asked.limits,
-        style: asked.style,
-    };
-    let listed = show_archive(&mut src, &mut store, caps, asked.parts, &mut out);
+    let listed = show_archive(&mut src, &mut store, caps, parts, &mut out);
     end_answer(&archive_status(listed), out.into_inner().into_inner())
 }

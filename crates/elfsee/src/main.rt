@@ -5,6 +5,7 @@ mod archives;
 mod explaining;
 mod layouts;
 mod many;
+mod names;
 mod needs;
 
 ghost use Rattle.std.specs.Prelude.{◌≡◌, ◌⊎◌, IfErr, IfOk, map, string_bytes};
@@ -29,6 +30,7 @@ use elf_words::{AskedCommand, Request, RequestFault, request};
 use explaining::tell_why;
 use layouts::apply_laid;
 use many::{check_many, tell_traits};
+use names::show_chosen;
 use needs::tell_needs;
 use std::alloc::Global;
 use std::io::{self, BufWriter, Input, IsTerminal, Stderr, Write};
@@ -85,6 +87,7 @@ where
     match asked {
         AskedCommand::File(request) => answer_request(rt, request, errors),
         AskedCommand::Laid(laying) => apply_laid(rt, laying, errors),
+        AskedCommand::Chosen(choosing) => show_chosen(rt, choosing, errors),
         AskedCommand::Check(checking) => check_many(rt, checking, terminal),
         AskedCommand::Traits(traits) => tell_traits(rt, traits, terminal),
         AskedCommand::Needs(asked) => tell_needs(rt, asked),

@@ -1,7 +1,10 @@
 //! What a program needs.
 
 use elf_headers::{HeaderRoom, HeaderStore};
-use elf_needs::{NeedsFault, NeedsRoom, NeedsSettings, ObjectWalk, SearchedFolders};
+use elf_needs::{
+    MOST_OBJECTS, NeedsFault, NeedsRoom, NeedsSettings, ObjectWalk, OpenFiles, OpenObjects,
+    SearchedFolders,
+};
 use elf_program::{
     CANNOT_OPEN, Ended, Ending, OUT_OF_MEMORY, OUTPUT_BYTES, READ_FAULT, end_run, open,
 };
@@ -11,7 +14,7 @@ use std::io::{self, BufWriter, ErrorKind, Write};
 use std::os::unix::fs::FileExt;
 use std::rt::Files;
 
-/// Lists the objects that a program needs.
+/// Lists the objects that a program needs, and where that is asked for from where their symbols come.
 ///
 /// # Errors
 /// There is no memory, or the program can't be opened.
@@ -29,10 +32,14 @@ where
     let Ok(room) = NeedsRoom::new(rt.alloc()) else {
         return Err(OUT_OF_MEMORY);
     };
+    let most = if asked.symbols { MOST_OBJECTS } else { 0 };
+    let Ok(opened) = OpenObjects::new(rt.alloc(), most) else {
+        return Err(OUT_OF_MEMORY);
+    };
     let Ok(output) = BufWriter::with_capacity(rt.alloc(), OUTPUT_BYTES, io::writer(rt)) else {
         return Err(OUT_OF_MEMORY);
     };
-    needs_into(rt, asked, headers.store(), room, output)
+    needs_into(rt, asked, headers.store(), (room, opened), output)
 }
 
 /// Opens the program, and lists the objects that it needs to an output. The folder of the program is told
@@ -44,13 +51,15 @@ fn needs_into<R: Files + AllocGlobal, W: Write + Drop>(
     rt: &R,
     asked: &NeedsAsked<'_>,
     store: HeaderStore<'_>,
-    room: NeedsRoom,
+    rooms: (NeedsRoom, OpenFiles<R::File>),
     output: BufWriter<W>,
 ) -> Result<Ending, Ending>
 where
     R::File: FileExt,
 {
-    let mut source = match open(rt, asked.file) {
+    let (room, opened) = rooms;
+    let mut opened = opened;
+    let source = match open(rt, asked.file) {
         Ok(source) => Counted::new(source),
         Err(ending) => return Err(ending),
     };
@@ -61,12 +70,16 @@ where
     };
     let out = Out::new(WriteSink::new(output));
     let mut walk = ObjectWalk::new(&settings(asked), store, room, out);
-    let listed = walk.list(
+    let mut listed = walk.list(
         rt,
-        &mut source,
+        source,
         asked.file.as_bytes(),
         real.as_str().as_bytes(),
+        &mut opened,
     );
+    if asked.symbols && listed.is_ok() {
+        listed = walk.bind(&mut opened);
+    }
     let (ending, _output) = end_run(ended(listed), walk.into_out().into_inner().into_inner());
     Ok(ending)
 }

@@ -7,7 +7,7 @@ use Rattle.elf_words.proofs.words.listing_asked.Goals as goal
 pub returns-in-Some : goal.returns-in-Some
 returns-in-Some c =
     let is = c.in-Some.ensures.some in
-    (is.limits, (is.style, is.parts, is.of_file))
+    (is.limits, (is.style, is.parts, is.of_file, is.every))
 
 pub returns-in-None : goal.returns-in-None
 returns-in-None c =

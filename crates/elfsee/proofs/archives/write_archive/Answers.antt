@@ -23,7 +23,7 @@ returns g c =
       after = listed.new.out;
       answer = c.archive_status.result;
       begins = c.new-out.ensures.taken ∙ ap (writer_contents g.W.Write.contents) c.new-2.ensures.writer;
-      did = archive_runs (record { limits = c.args.asked.now.limits; style = c.args.asked.now.style }) c.args.asked.now.parts.0 c.new-src.result listed.new.src c.new-out.result listed.new.out listed.result c.archive_status.result
+      did = archive_runs c.args.caps c.args.parts.0 c.new-src.result listed.new.src c.new-out.result listed.new.out listed.result c.archive_status.result
           c.archive_status.ensures.refused c.archive_status.ensures.status listed.ensures.grows listed.ensures.leaves listed.ensures.says listed.ensures.text listed.ensures.cost listed.ensures.asks;
       last = c.into_inner-2.result;
       stands = sym (ap (writer_contents g.W.Write.contents) c.into_inner-2.ensures ∙ c.into_inner.ensures.taken);

@@ -1,0 +1,26 @@
+-- What is kept of a file.
+use Rattle.std.proofs.Common.{ℕ, List, None, Ok, Err, sym, subst, ◌∙◌}
+use Rattle.elf_model.specs.LoaderScope.{scope_of}
+use Rattle.elf_source.specs.Source.{Counting}
+use Rattle.elf_headers.specs.Ledger.{Did}
+use Rattle.elf_headers.specs.declared.fault.Fault.{Fault}
+use Rattle.elf_headers.specs.declared.fault.Fault.TheVariants.{Refused, Source}
+use Rattle.elf_scope.specs.Finding.{FindsScope}
+use Rattle.elf_scope.specs.Scopes.{IsScopeFound, ScopeLies}
+use Rattle.elf_scope.specs.declared.scope.Scope.{Scope}
+use Rattle.elf_binding.specs.Kept.{IsKept, TellsKept}
+
+-- what was found in a source is what is kept of it
+pub kept_of : (old new : Counting) (headers : ℕ) (scope : Scope) (n : ℕ) → Did old new None n (λ file. FindsScope file headers old new (Ok scope)) → ScopeLies old.seen.size scope
+    → IsKept new.seen headers scope
+kept_of old new headers scope n did lies = record {
+  lies = subst (λ (size : ℕ). ScopeLies size scope) (sym did.costs.reads.keeps.same_size) lies;
+  known = λ file held.
+      let found = (did.known file (sym did.costs.reads.keeps.same_file ∙ held)).finds in
+      record { told = found.0; found = found.1; is = found.2 };
+}
+
+-- what is told where the source is given back
+pub back_tells : (file : List ℕ) (headers : ℕ) (src : Counting) (fault : Fault) → IsScopeFound file (scope_of file headers) (Err fault) → TellsKept file headers (Err (src, fault))
+back_tells file headers src (Refused refusal) finds = finds
+back_tells file headers src (Source fault at) finds = tt

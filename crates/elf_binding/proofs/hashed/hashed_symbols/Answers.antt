@@ -1,0 +1,27 @@
+-- The counts of the table, and what its words tell.
+use Rattle.std.proofs.Common.{◌≡◌, ap, arith}
+use Rattle.std.proofs.lemmas.Result.{err_from_is_err_and}
+use Rattle.elf_hash.specs.Scopes.{place_of_table}
+use Rattle.elf_hash.specs.declared.place.HashPlace.{HashPlace}
+use Rattle.elf_headers.proofs.LedgerLaws.{Did-as, Did-then}
+use Rattle.elf_binding.proofs.DefinerLaws.{few_counts}
+use Rattle.elf_binding.proofs.SoughtLaws.{extends, uncounted}
+use Rattle.elf_binding.proofs.hashed.hashed_symbols.Goals as goal
+
+pub returns-in_err-table : goal.returns-in_err-table
+returns-in_err-table g c =
+    let p = err_from_is_err_and c.from_residual.result c.from_residual.ensures.1 in
+    let few = few_counts c.args.place.now.kind in
+    rw (p.1, p.2)
+    (Did-as _ (omega (arith, few)) c.in_err-table.ensures.did
+    (λ file counts costs told is. uncounted file told _ (counts told is)))
+
+pub returns : goal.returns
+returns g c =
+    let few = few_counts c.args.place.now.kind in
+    let table : place_of_table c.in_ok-table.table ≡ c.args.place.now = c.in_ok-table.ensures.same in
+    let same = ap (λ (p : HashPlace). p.size) table in
+    Did-as _ (omega (arith, few, same)) (Did-then c.in_ok-table.ensures.did c.symbol_extent.ensures.did)
+    (λ file read costs told is.
+    let counts = read.0 told is in
+    extends file told _ counts.0 (read.1 told counts.1).tells)

@@ -1,0 +1,27 @@
+-- The count between a limit that is set and taken away.
+use Rattle.std.proofs.Common.{◌≡◌, ◌+◌, ◌≤◌, refl, arith}
+use Rattle.elf_headers.proofs.LedgerLaws.{Charges-more}
+use Rattle.elf_binding.proofs.DefinerLaws.{place_of}
+use Rattle.elf_binding.proofs.SpendLaws.{spent_off}
+use Rattle.elf_binding.proofs.object.Object.symbol_count.Goals as goal
+
+pub returns : goal.returns
+returns g c =
+    let source = c.self.inside.source in
+    let scope = c.self.inside.scope in
+    let kept = c.self.invariant in
+    let set = c.limit.ensures in
+    let did = c.hashed_symbols-count.ensures in
+    let within : scope.hash.size ≤ source.seen.size = omega (arith, kept.lies.table) in
+    let spent = spent_off c.args.left.now c.take_off.new.left set (Charges-more (16 + source.seen.size) (omega (arith, within)) did.costs) c.limit-2.ensures
+    (rw (c.asked.ensures, c.asked-asked.ensures) at c.take_off.ensures) in
+    rw (← c.self.view_is)
+    (record {
+      costs = spent.0;
+      same_headers = refl;
+      pays = spent.1;
+      known = λ file told held found.
+          let is = kept.known file held in
+          let same : is.told ≡ told = let e = is.found in let f = found in cc in
+          did.known file (rw set.seen held) told (place_of file told scope (rw same at is.is));
+    })

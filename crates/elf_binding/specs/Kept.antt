@@ -1,0 +1,47 @@
+-- What is kept of a file in which names are looked up.
+use Rattle.std.specs.Prelude.{ℕ, ◌≡◌, List, Option, None, Some, Result, Ok, Err}
+use Rattle.elf_model.specs.Budget.{IsBudget}
+use Rattle.elf_model.specs.LoaderScope.{Scope as IsScopeOf, scope_of}
+use Rattle.elf_source.specs.Source.{Counting, Seen}
+use Rattle.elf_headers.specs.Ledger.{Charges}
+use Rattle.elf_headers.specs.declared.fault.Fault.{Fault}
+use Rattle.elf_headers.specs.declared.fault.Fault.TheVariants.{Refused, Source}
+use Rattle.elf_scope.specs.Finding.{scope_cost}
+use Rattle.elf_scope.specs.Scopes.{IsScope, ScopeLies}
+use Rattle.elf_scope.specs.declared.scope.Scope.{Scope}
+
+-- its source, and how many headers were permitted where what a lookup is made in was found
+pub record KeptObject : Type 0 where
+  pub src : Counting
+  pub headers : ℕ
+
+-- what a lookup is made in is what the definitions find in a file
+pub record IsScopeIn (file : List ℕ) (headers : ℕ) (scope : Scope) : Type 0 where
+  pub told : IsScopeOf
+  pub found : scope_of file headers ≡ Ok told
+  pub is : IsScope file told scope
+
+-- WHAT IS KEPT is what a lookup in the source's file is made in, and lies within the source
+pub record IsKept (seen : Seen) (headers : ℕ) (scope : Scope) : Type 0 where
+  pub lies : ScopeLies seen.size scope
+  pub known : (file : List ℕ) → seen.file ≡ Some file → IsScopeIn file headers scope
+
+-- the source, kept or given back, and why it is given back
+abbrev pub source_of : Result KeptObject (Counting × Fault) → Counting
+source_of (Ok kept) = kept.src
+source_of (Err back) = back.0
+
+abbrev pub why_back : Result KeptObject (Counting × Fault) → Option Fault
+why_back (Ok kept) = None
+why_back (Err back) = Some back.1
+
+-- where it is given back it is for the definition's refusal, unless that is for want of budget
+abbrev pub TellsKept : List ℕ → (headers : ℕ) → Result KeptObject (Counting × Fault) → Type 0
+TellsKept file headers (Ok kept) = kept.headers ≡ headers
+TellsKept file headers (Err (src, Refused refusal)) = (IsBudget refusal → ⊥) → scope_of file headers ≡ Err refusal
+TellsKept file headers (Err (src, Source fault at)) = Unit {0}
+
+-- WHAT A LOOKUP IS MADE IN IS FOUND ONCE, in a known file
+pub record KeepsScope (file : List ℕ) (headers : ℕ) (old : Counting) (result : Result KeptObject (Counting × Fault)) : Type 0 where
+  pub costs : Charges old (source_of result) (why_back result) (scope_cost file headers)
+  pub tells : TellsKept file headers result

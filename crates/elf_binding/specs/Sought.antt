@@ -1,0 +1,89 @@
+-- What a symbol of a file asks others for, as it is read.
+use Rattle.std.specs.Prelude.{ℕ, ◌≡◌, ◌+◌, ◌*◌, ◌/◌, ◌<◌, Bool, true, false, List, Option, None, Some, Result, Ok, Err}
+use Rattle.elf_model.specs.Bindings.{SOUGHT_BYTES, is_weak, sought_at, symbols_hashed, whole_name}
+use Rattle.elf_model.specs.Budget.{IsBudget}
+use Rattle.elf_model.specs.Loader.{Asked, NoVersion, Version, Wanted, symbol_offset}
+use Rattle.elf_model.specs.LoaderFind.{record_cost}
+use Rattle.elf_model.specs.LoaderScope.{Scope as IsScopeOf, scope_of}
+use Rattle.elf_model.specs.Names.{name_bytes}
+use Rattle.elf_model.specs.declared.causes.Refusal.{Refusal}
+use Rattle.elf_headers.specs.Ledger.{why_stopped}
+use Rattle.elf_headers.specs.declared.fault.Fault.{Fault}
+use Rattle.elf_headers.specs.declared.fault.Fault.TheVariants.{Refused, Source}
+use Rattle.elf_binding.specs.Kept.{KeptObject}
+use Rattle.elf_binding.specs.Looks.{Pays, Spends}
+use Rattle.elf_binding.specs.declared.sought.SoughtSymbol.{SoughtSymbol}
+use Rattle.elf_binding.specs.declared.sought.SoughtVersion.{SoughtVersion}
+
+-- the refusal is the definition's, unless that is for want of budget
+abbrev pub RefusesAs : {X : Type 0} → Result X Refusal → Fault → Type 0
+RefusesAs told (Refused refusal) = (IsBudget refusal → ⊥) → told ≡ Err refusal
+RefusesAs told (Source fault at) = Unit {0}
+
+-- a whole name is read
+abbrev pub TellsWhole : Result (List ℕ) Refusal → List ℕ → Result (Unit {0}) Fault → Type 0
+TellsWhole told name (Ok x) = told ≡ Ok name
+TellsWhole told name (Err fault) = RefusesAs told fault
+
+-- the version by its number is read
+abbrev pub TellsAsked : {X : Type 0} → Result Asked Refusal → List ℕ → Result X Fault → Type 0
+TellsAsked told version (Ok x) = told ≡ Ok (Version version)
+TellsAsked told version (Err fault) = RefusesAs told fault
+
+-- a version, or none
+abbrev pub asked_if : Bool → List ℕ → Asked
+asked_if true version = Version version
+asked_if false version = NoVersion
+
+abbrev pub TellsVersionIf : Result Asked Refusal → List ℕ → Result SoughtVersion Fault → Type 0
+TellsVersionIf told version (Ok asked) = told ≡ Ok (asked_if asked.versioned version)
+TellsVersionIf told version (Err fault) = RefusesAs told fault
+
+-- what a symbol asks others for is read: nothing, or the name with the version, and whether it is weak
+abbrev pub TellsSought : Result (Option Wanted) Refusal → (weak : Bool) → (name version : List ℕ) → Result (Option SoughtSymbol) Fault → Type 0
+TellsSought told weak name version (Ok None) = told ≡ Ok None
+TellsSought told weak name version (Ok (Some sought)) =
+    (told ≡ Ok (Some (record { name = name; asked = asked_if sought.versioned version }))) × (sought.weak ≡ weak)
+TellsSought told weak name version (Err fault) = RefusesAs told fault
+
+-- how many bytes that may ask for in a source of this size, whatever its bytes are: the symbol, its name, the word of its version,
+-- the records of versions and the name of one
+abbrev pub sought_bytes : ℕ → ℕ
+sought_bytes size = 24 + name_bytes SOUGHT_BYTES + (2 + size / 8 * 28 + name_bytes SOUGHT_BYTES)
+
+-- WHAT LOOKING AT ONE SYMBOL OF A FILE DID: no more than that is asked for, what is left of the budget falls by it, and in a known
+-- file the answer is the definition's, of a symbol that there is
+pub record Seeks (index : ℕ) (name version : List ℕ) (old new : KeptObject) (left_old left_new : Option ℕ) (result : Result (Option SoughtSymbol) Fault) : Type 0 where
+  pub costs : Spends old.src new.src left_old (why_stopped result) (sought_bytes old.src.seen.size)
+  pub same_headers : new.headers ≡ old.headers
+  pub pays : Pays left_old left_new old.src.asked new.src.asked
+  pub known :
+      (file : List ℕ) (told : IsScopeOf) → old.src.seen.file ≡ Some file → scope_of file old.headers ≡ Ok told → index < told.table.symbols
+      → TellsSought (sought_at file told.symbols index) (is_weak file (symbol_offset told.symbols index)) name version result
+
+-- a number of symbols is told, or the refusal of the table's counts, unless that is for want of budget
+abbrev pub TellsHashed : Result ℕ Refusal → Result ℕ Fault → Type 0
+TellsHashed told (Ok count) = told ≡ Ok count
+TellsHashed told (Err fault) = RefusesAs told fault
+
+-- WHAT COUNTING THE SYMBOLS OF A FILE DID: no more is asked for than the counts and the words of the table
+pub record CountsHashed (old new : KeptObject) (left_old left_new : Option ℕ) (result : Result ℕ Fault) : Type 0 where
+  pub costs : Spends old.src new.src left_old (why_stopped result) (16 + old.src.seen.size)
+  pub same_headers : new.headers ≡ old.headers
+  pub pays : Pays left_old left_new old.src.asked new.src.asked
+  pub known : (file : List ℕ) (told : IsScopeOf) → old.src.seen.file ≡ Some file → scope_of file old.headers ≡ Ok told → TellsHashed (symbols_hashed file told) result
+
+-- WHAT A READ OF THE NAME OF A NEEDED FILE DID, which stands at an index of the symbols' strings
+pub record ReadsFileName (index at : ℕ) (name : List ℕ) (old new : KeptObject) (left_old left_new : Option ℕ) (result : Result (Unit {0}) Fault) : Type 0 where
+  pub costs : Spends old.src new.src left_old (why_stopped result) (name_bytes SOUGHT_BYTES)
+  pub same_headers : new.headers ≡ old.headers
+  pub pays : Pays left_old left_new old.src.asked new.src.asked
+  pub known :
+      (file : List ℕ) (told : IsScopeOf) → old.src.seen.file ≡ Some file → scope_of file old.headers ≡ Ok told → 0 < told.table.symbols
+      → TellsWhole (whole_name told.symbols.strings index at) name result
+
+-- WHAT A LOOK FOR A VERSION AMONG THE DEFINITIONS DID: no more is asked for than the records and as many names
+pub record LooksForVersion (version : List ℕ) (old new : KeptObject) (left_old left_new : Option ℕ) (result : Result Bool Fault) : Type 0 where
+  pub costs : Spends old.src new.src left_old (why_stopped result) (old.src.seen.size / 8 * record_cost (Version version))
+  pub same_headers : new.headers ≡ old.headers
+  pub pays : Pays left_old left_new old.src.asked new.src.asked

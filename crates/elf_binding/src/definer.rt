@@ -1,0 +1,146 @@
+//! The symbol of a file that defines a name.
+ghost use Rattle.std.specs.Prelude.{◌≡◌, ℕ, ◌+◌, ◌*◌, ◌/◌, ◌≤◌, length};
+ghost use Rattle.elf_binding.specs.Definers.{DefinesOn, SaysDefines, definer_with, the_defined};
+ghost use Rattle.elf_hash.specs.Scopes.{IsTable, place_of_table};
+ghost use Rattle.elf_hash.specs.Walks.{index_of, walk_bytes};
+ghost use Rattle.elf_loader.specs.Answering.{StandsAs};
+ghost use Rattle.elf_loader.specs.Lookups.{MayLookOn, lookup_bytes, trial_bytes};
+ghost use Rattle.elf_loader.specs.NumberSets.{has_number};
+ghost use Rattle.elf_model.specs.Bindings.{definer_by, definer_in, definer_walk};
+ghost use Rattle.elf_model.specs.LoaderFind.{record_cost, wanted_numbers};
+ghost use Rattle.elf_model.specs.Names.{pad64};
+ghost use Rattle.elf_scope.specs.Symbols.{SymbolsLie};
+ghost use Rattle.elf_wanted.specs.Wants.{the_wanted};
+
+use elf_hash::{HashTable, Trial, TrialAnswer, Walked, counts, walk};
+use elf_headers::Fault;
+use elf_loader::{NumberSet, WantedTrial, wanted_numbers};
+use elf_record::numbers::SHN_UNDEF;
+use elf_scope::Scope;
+use elf_source::{Counted, Source};
+use elf_wanted::Wanted;
+
+/// The trial of symbols by what is wanted of them, of which those that are undefined don't answer.
+#[derive(Clone, Copy)]
+struct DefinerTrial<'a> {
+    /// The trial of all.
+    offered: WantedTrial<'a>,
+}
+
+impl<'a> Trial for DefinerTrial<'a> {
+    ghost symbols = { λ t. t.offered.symbols.now.table.count };
+
+    ghost cost = { λ t. 26 + pad64 (length t.offered.wanted.now.name.now + 1) };
+
+    ghost stands = { λ t file. StandsAs file t.offered.symbols.now };
+
+    ghost lies = { λ t size.
+        SymbolsLie size t.offered.symbols.now
+        × (length t.offered.wanted.now.name.now ≤ 4096) };
+
+    ghost is_of = { λ t file says.
+        SaysDefines file t.offered.symbols.now (the_wanted t.offered.wanted.now)
+        (has_number t.offered.numbers.now) says };
+
+    fn tried<S: Source>(
+        &self,
+        src: &mut Counted<S>,
+        index: u64,
+    ) -> Result<Option<TrialAnswer>, Fault> {
+        Ok(if_defined(self.offered.tried(src, index)?))
+    }
+}
+
+/// The answer of a trial, unless its symbol is undefined.
+fn if_defined(answer: Option<TrialAnswer>) -> Option<TrialAnswer>
+    ensures { result ≡ the_defined answer }
+{
+    match answer {
+        Some(answer) if answer.symbol.st_shndx != SHN_UNDEF => Some(answer),
+        _ => None,
+    }
+}
+
+/// Looks for the symbol that defines what is wanted, in what a lookup is made in, as a loader of the
+/// GNU system does: the first of the name's chain that has the name, is offered to others, is not
+/// undefined and whose version fits. Answers its index.
+///
+/// # Errors
+/// Those of [`elf_loader::look_up`] behind what it is made in, but for those of telling the name of the
+/// symbol's version, which is not told.
+pub(crate) fn find_definer<S: Source>(
+    src: &mut Counted<S>,
+    scope: &Scope,
+    wanted: &Wanted<'_>,
+) -> Result<Option<u64>, Fault>
+    requires { MayLookOn src.old scope.now (the_wanted wanted.now) }
+    ensures { DefinesOn src.old src.new scope.now (the_wanted wanted.now) result 28
+        (lookup_bytes 28 src.old.seen.size (the_wanted wanted.now))
+        (λ file told leaves. leaves 0 (definer_in file told (the_wanted wanted.now))) }
+{
+    let table = counts(src, &scope.hash)?;
+    definer_in_table(src, scope, &table, wanted)
+}
+
+/// Looks in a hash table with its counts: tells the numbers of the version that is asked for, and goes
+/// along the chain.
+///
+/// # Errors
+/// Those of [`wanted_numbers`], and of [`definer_along`].
+fn definer_in_table<S: Source>(
+    src: &mut Counted<S>,
+    scope: &Scope,
+    table: &HashTable,
+    wanted: &Wanted<'_>,
+) -> Result<Option<u64>, Fault>
+    requires may { MayLookOn src.old scope.now (the_wanted wanted.now) }
+    requires place { place_of_table table.now ≡ scope.now.hash }
+    ensures { DefinesOn src.old src.new scope.now (the_wanted wanted.now) result 12
+        (lookup_bytes 12 src.old.seen.size (the_wanted wanted.now)) (λ file told leaves.
+        IsTable file told table.now → leaves 0 (definer_with file told (the_wanted wanted.now)
+        (wanted_numbers file told (the_wanted wanted.now).asked))) }
+{
+    let numbers = wanted_numbers(src, &scope.symbols, &wanted.asked)?;
+    definer_along(src, scope, table, wanted, &numbers)
+}
+
+/// Goes along the chain of the wanted name for the symbol that defines it.
+///
+/// # Errors
+/// Those of [`walk`].
+fn definer_along<S: Source>(
+    src: &mut Counted<S>,
+    scope: &Scope,
+    table: &HashTable,
+    wanted: &Wanted<'_>,
+    numbers: &NumberSet,
+) -> Result<Option<u64>, Fault>
+    requires may { MayLookOn src.old scope.now (the_wanted wanted.now) }
+    requires place { place_of_table table.now ≡ scope.now.hash }
+    ensures { DefinesOn src.old src.new scope.now (the_wanted wanted.now) result 12
+        (walk_bytes 12 (scope.now.hash.size / 4) (scope.now.hash.size / 4)
+        (trial_bytes (the_wanted wanted.now))) (λ file told leaves. (before : ℕ) →
+        IsTable file told table.now → leaves (before * record_cost (the_wanted wanted.now).asked)
+        (definer_by before (definer_walk file told (the_wanted wanted.now)
+        (has_number numbers.now)))) }
+{
+    let trial = DefinerTrial {
+        offered: WantedTrial {
+            symbols: &scope.symbols,
+            wanted,
+            numbers,
+        },
+    };
+    let walked = walk(src, table, wanted.name, &trial)?;
+    Ok(index_found(&walked))
+}
+
+/// The index of the symbol that a walk finds.
+fn index_found(walked: &Walked) -> Option<u64>
+    ensures { result ≡ index_of walked.now.found }
+{
+    match walked.found {
+        Some(found) => Some(found.index),
+        None => None,
+    }
+}

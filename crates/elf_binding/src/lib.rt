@@ -1,0 +1,16 @@
+//! From where the symbols come that a file asks others for: names looked for over several files in
+//! order, as a loader of the GNU system does. What a lookup in each file is made in is found once and
+//! kept. No call takes memory.
+#![tactic(auto)]
+
+mod binding;
+mod definer;
+mod hashed;
+mod lacking;
+mod object;
+mod sought;
+mod spending;
+
+pub use binding::{Blame, BoundName, bind};
+pub use object::Object;
+pub use sought::SoughtSymbol;

@@ -1,0 +1,180 @@
+//! A file that names are looked for in.
+ghost use Rattle.std.specs.Prelude.{◌≡◌, ◌≤◌, ◌+◌, ◌*◌, length};
+ghost use Rattle.elf_headers.specs.Ledger.{Did};
+ghost use Rattle.elf_binding.specs.Kept.{KeepsScope, source_of, why_back};
+ghost use Rattle.elf_binding.specs.Looks.{Looks};
+ghost use Rattle.elf_binding.specs.Sought.{CountsHashed, LooksForVersion, ReadsFileName, Seeks};
+ghost use Rattle.elf_loader.specs.Lookups.{AreShort};
+ghost use Rattle.elf_wanted.specs.Wants.{the_wanted};
+
+use crate::definer::find_definer;
+use crate::hashed::hashed_symbols;
+use crate::lacking::lacks_version;
+use crate::sought::{SoughtSymbol, sought_of, whole_name};
+use crate::spending::take_off;
+use elf_headers::{Fault, HeaderStore};
+use elf_scope::{Scope, find_scope};
+use elf_source::{Counted, Source};
+use elf_table::NameBuf;
+use elf_versions::VersionRecord;
+use elf_wanted::Wanted;
+use std::marker::Model;
+
+/// A file that names are looked for in: its source, and what a lookup in it is made in.
+#[derive(Drop)]
+pub struct Object<S: Source> {
+    source: Counted<S>,
+    scope: Scope,
+    headers: u16,
+}
+
+impl<S: Source> Model for Object<S> {
+    ghost use Rattle.elf_binding.specs.Kept.{IsKept, KeptObject};
+
+    ghost Value = { KeptObject };
+
+    ghost view = { λ o. record { src = o.source; headers = o.headers } };
+
+    ghost invariant = { λ o. IsKept o.source.seen o.headers o.scope };
+}
+
+impl<S: Source> Object<S> {
+    /// Finds what a lookup in a file is made in, as [`find_scope`] does, once, and keeps it. The headers
+    /// are loaded into the store, which is free again afterwards.
+    ///
+    /// # Errors
+    /// Those of [`find_scope`]; the source is given back.
+    pub fn open(
+        source: Counted<S>,
+        store: &mut HeaderStore,
+    ) -> Result<Object<S>, (Counted<S>, Fault)>
+        ensures did { Did source (source_of result) (why_back result)
+            (64 + 64 * store.old.slots + source.seen.size)
+            (λ file. KeepsScope file store.old.slots source result) }
+        ensures slots { store.new.slots ≡ store.old.slots }
+    {
+        let mut source = source;
+        match find_scope(&mut source, store) {
+            Ok(scope) => Ok(Object {
+                source,
+                scope,
+                headers: store.slots(),
+            }),
+            Err(fault) => Err((source, fault)),
+        }
+    }
+
+    /// How many bytes were asked of its source.
+    pub fn asked(&self) -> u128
+        ensures { result ≡ self.now.src.asked }
+    {
+        self.source.asked()
+    }
+
+    /// Looks for the symbol that defines a name, and asks for no more than what is left of a budget,
+    /// where there is one. What was asked for is taken off. Afterwards no limit is set.
+    ///
+    /// # Errors
+    /// Those of [`find_definer`].
+    pub(crate) fn look(
+        &mut self,
+        left: &mut Option<u64>,
+        wanted: &Wanted<'_>,
+    ) -> Result<Option<u64>, Fault>
+        requires { AreShort (the_wanted wanted.now) }
+        ensures { Looks (the_wanted wanted.now) self.old self.new left.old left.new result }
+    {
+        let asked = self.source.asked();
+        self.source.limit(*left);
+        let found = find_definer(&mut self.source, &self.scope, wanted);
+        self.source.limit(None);
+        take_off(left, self.source.asked() - asked);
+        found
+    }
+
+    /// How many symbols it has, by its hash table alone: the first is none (gABI 4, Symbol Table). No more
+    /// is asked for than what is left of a budget, where there is one; what was asked for is taken off.
+    /// Afterwards no limit is set.
+    ///
+    /// # Errors
+    /// Those of [`hashed_symbols`].
+    pub fn symbol_count(&mut self, left: &mut Option<u64>) -> Result<u64, Fault>
+        ensures { CountsHashed self.old self.new left.old left.new result }
+    {
+        let asked = self.source.asked();
+        self.source.limit(*left);
+        let count = hashed_symbols(&mut self.source, &self.scope.hash);
+        self.source.limit(None);
+        take_off(left, self.source.asked() - asked);
+        count
+    }
+
+    /// What the symbol of an index asks others for: its name, into `name`, and the version that it asks
+    /// for, into `version`; None where it asks for nothing, and behind the last symbol that there is room
+    /// for. No more is asked for than what is left of a budget, where there is one; what was asked for is
+    /// taken off. Afterwards no limit is set.
+    ///
+    /// # Errors
+    /// Those of [`sought_symbol`].
+    pub fn sought(
+        &mut self,
+        left: &mut Option<u64>,
+        index: u64,
+        name: &mut NameBuf,
+        version: &mut NameBuf,
+    ) -> Result<Option<SoughtSymbol>, Fault>
+        ensures { Seeks index name.new version.new self.old self.new left.old left.new result }
+    {
+        let asked = self.source.asked();
+        self.source.limit(*left);
+        let sought = sought_of(&mut self.source, &self.scope.symbols, index, name, version);
+        self.source.limit(None);
+        take_off(left, self.source.asked() - asked);
+        sought
+    }
+
+    /// Reads the name of the needed file whose record is told by [`Object::sought`]. No more is asked for
+    /// than what is left of a budget, where there is one; what was asked for is taken off. Afterwards no
+    /// limit is set.
+    ///
+    /// # Errors
+    /// Those of the name, at the record: `NameOutside`, `NameUnended`, and `TooLong` where it has more than
+    /// 4,096 bytes. Else a fault of a read, or a refusal for want of budget.
+    pub fn needed_file(
+        &mut self,
+        left: &mut Option<u64>,
+        file: &VersionRecord,
+        name: &mut NameBuf,
+    ) -> Result<(), Fault>
+        ensures { ReadsFileName file.now.name file.now.named_at name.new self.old self.new left.old
+            left.new result }
+    {
+        let asked = self.source.asked();
+        self.source.limit(*left);
+        let off = u64::from(file.name);
+        let names = self.scope.symbols.names;
+        let read = whole_name(&mut self.source, names, off, file.named_at, name);
+        self.source.limit(None);
+        take_off(left, self.source.asked() - asked);
+        read
+    }
+
+    /// Whether it defines versions, and none by a name of at most 4,096 bytes. No more is asked for than
+    /// what is left of a budget, where there is one; what was asked for is taken off. Afterwards no limit
+    /// is set.
+    ///
+    /// # Errors
+    /// The first record of its definitions that is refused, or whose name has a fault, at what holds the
+    /// name. Else a fault of a read, or a refusal for want of budget.
+    pub fn lacks_version(&mut self, left: &mut Option<u64>, version: &[u8]) -> Result<bool, Fault>
+        requires { length version.now ≤ 4096 }
+        ensures { LooksForVersion version.now self.old self.new left.old left.new result }
+    {
+        let asked = self.source.asked();
+        self.source.limit(*left);
+        let lacks = lacks_version(&mut self.source, &self.scope.symbols, version);
+        self.source.limit(None);
+        take_off(left, self.source.asked() - asked);
+        lacks
+    }
+}

@@ -1,0 +1,217 @@
+//! What a symbol of a file asks others for.
+ghost use Rattle.std.specs.Prelude.{◌≡◌, ℕ, ◌+◌, ◌*◌, ◌<◌, ◌∷◌, [], List};
+ghost use Rattle.elf_binding.specs.Sought.{TellsAsked, TellsSought, TellsVersionIf, TellsWhole};
+ghost use Rattle.elf_headers.specs.Ledger.{Did, why_stopped};
+ghost use Rattle.elf_loader.specs.Tables.{most_versions};
+ghost use Rattle.elf_model.specs.Bindings.{SOUGHT_BYTES, is_sought, is_weak, sought_at, sought_by_number, sought_version, whole_name};
+ghost use Rattle.elf_model.specs.Loader.{Symbols as AreSymbolsOf, is_among, symbol_offset};
+ghost use Rattle.elf_model.specs.Names.{name_bytes};
+ghost use Rattle.elf_model.specs.Numbers.{STB_GLOBAL, STB_WEAK, STB_GNU_UNIQUE};
+ghost use Rattle.elf_record.specs.Sym.{IsSym};
+ghost use Rattle.elf_scope.specs.Symbols.{IsSymbols, SymbolsLie};
+ghost use Rattle.elf_table.specs.Tables.{StringsWithin, strings_in};
+
+use elf_headers::{Cap, Fault, refused};
+use elf_loader::{name_of, read_half};
+use elf_record::gnu_numbers::STB_GNU_UNIQUE;
+use elf_record::numbers::{SHN_UNDEF, STB_GLOBAL, STB_WEAK};
+use elf_record::{Cause, Sym};
+use elf_scope::Symbols;
+use elf_source::{Counted, Source};
+use elf_table::{NameBuf, NameEnd, Names};
+use elf_versions::VersionRecord;
+
+/// How many bytes a name of a symbol or a version has at most that is asked for.
+const SOUGHT_CAP: Cap = Cap { bytes: 4096 };
+
+/// A symbol that others are asked for.
+#[derive(Clone, Copy)]
+pub struct SoughtSymbol {
+    /// Whether it is weak: it may be defined by none.
+    pub weak: bool,
+    /// Whether it asks for a version.
+    pub versioned: bool,
+    /// The record of the needed file of which it asks for that version, if it is of one.
+    pub file: Option<VersionRecord>,
+}
+
+/// The version that a symbol asks for.
+#[derive(Clone, Copy)]
+struct SoughtVersion {
+    /// Whether it asks for one.
+    versioned: bool,
+    /// The record of the needed file that it is of, if it is of one.
+    file: Option<VersionRecord>,
+}
+
+/// No version.
+const NO_VERSION: SoughtVersion = SoughtVersion {
+    versioned: false,
+    file: None,
+};
+
+/// What the symbol of an index asks others for: its name, into `name`, and where it asks for a version
+/// that, into `version`. None where it asks for nothing: it is defined, or local, or has no name. After
+/// a fault they hold any bytes.
+///
+/// # Errors
+/// At the symbol: those of its name, as [`Names::read`] has them, and `TooLong` where that has more than
+/// 4,096 bytes. `VersionCut` at what tells of the words of versions where it has none. Those of the
+/// records up to the first that has the number of its version; `VersionIndex` at the word where none
+/// has; at what holds the name of the version the same as of the symbol's. Else a fault of a read.
+pub(crate) fn sought_symbol<S: Source>(
+    src: &mut Counted<S>,
+    symbols: &Symbols,
+    index: u64,
+    name: &mut NameBuf,
+    version: &mut NameBuf,
+) -> Result<Option<SoughtSymbol>, Fault>
+    requires below { index < symbols.now.table.count }
+    requires lies { SymbolsLie src.old.seen.size symbols.now }
+    ensures { Did src.old src.new (why_stopped result) (24 + name_bytes SOUGHT_BYTES
+        + (2 + most_versions symbols.now * 28 + name_bytes SOUGHT_BYTES))
+        (λ file. (told : AreSymbolsOf) → IsSymbols file told symbols.now →
+        TellsSought (sought_at file told index) (is_weak file (symbol_offset told index))
+        name.new version.new result) }
+{
+    let symbol = symbols.table.symbol(src, index)?;
+    if !is_sought(&symbol) {
+        return Ok(None);
+    }
+    let place = symbols.table.place(index);
+    whole_name(src, symbols.names, u64::from(symbol.st_name), place, name)?;
+    let asked = sought_version(src, symbols, index, version)?;
+    Ok(Some(SoughtSymbol {
+        weak: is_weak(&symbol),
+        versioned: asked.versioned,
+        file: asked.file,
+    }))
+}
+
+/// The same, and None behind the last symbol that there is room for.
+///
+/// # Errors
+/// Those of [`sought_symbol`].
+pub(crate) fn sought_of<S: Source>(
+    src: &mut Counted<S>,
+    symbols: &Symbols,
+    index: u64,
+    name: &mut NameBuf,
+    version: &mut NameBuf,
+) -> Result<Option<SoughtSymbol>, Fault>
+    requires lies { SymbolsLie src.old.seen.size symbols.now }
+    ensures { Did src.old src.new (why_stopped result) (24 + name_bytes SOUGHT_BYTES
+        + (2 + most_versions symbols.now * 28 + name_bytes SOUGHT_BYTES))
+        (λ file. (told : AreSymbolsOf) → IsSymbols file told symbols.now →
+        index < symbols.now.table.count →
+        TellsSought (sought_at file told index) (is_weak file (symbol_offset told index))
+        name.new version.new result) }
+{
+    if index >= symbols.table.len() {
+        return Ok(None);
+    }
+    sought_symbol(src, symbols, index, name, version)
+}
+
+/// Whether a symbol asks others for something: it is undefined, global, weak or unique, and has a name.
+#[tactic(auto, unfolding(elf_model::specs::Bindings::is_sought))]
+fn is_sought(symbol: &Sym) -> bool
+    ensures { (file : List ℕ) (at : ℕ) → IsSym file at symbol.now → result ≡ is_sought file at }
+{
+    symbol.st_shndx == SHN_UNDEF && has_sought_binding(symbol.binding()) && symbol.st_name != 0
+}
+
+// Whether a binding is one of symbols that others are asked for.
+fn has_sought_binding(binding: u8) -> bool
+    ensures { result ≡ is_among binding (STB_GLOBAL ∷ STB_WEAK ∷ STB_GNU_UNIQUE ∷ []) }
+{
+    binding == STB_GLOBAL || binding == STB_WEAK || binding == STB_GNU_UNIQUE
+}
+
+/// Whether a symbol may be defined by none.
+fn is_weak(symbol: &Sym) -> bool
+    ensures { (file : List ℕ) (at : ℕ) → IsSym file at symbol.now → result ≡ is_weak file at }
+{
+    symbol.binding() == STB_WEAK
+}
+
+/// Reads a whole name of at most 4,096 bytes.
+///
+/// # Errors
+/// At `at`: those of [`Names::read`], and `TooLong`.
+pub(crate) fn whole_name<S: Source>(
+    src: &mut Counted<S>,
+    names: Names,
+    off: u64,
+    at: u64,
+    name: &mut NameBuf,
+) -> Result<(), Fault>
+    requires { StringsWithin src.old.seen.size names }
+    ensures { Did src.old src.new (why_stopped result) (name_bytes SOUGHT_BYTES)
+        (λ file. TellsWhole (whole_name (strings_in file names) off at) name.new result) }
+{
+    match names.read(src, off, at, SOUGHT_CAP, name)? {
+        NameEnd::Whole => Ok(()),
+        NameEnd::Cut => refused(at, Cause::TooLong),
+    }
+}
+
+/// Whether the symbol of an index asks for a version, which is read.
+///
+/// # Errors
+/// Those of [`sought_symbol`] behind its name.
+fn sought_version<S: Source>(
+    src: &mut Counted<S>,
+    symbols: &Symbols,
+    index: u64,
+    version: &mut NameBuf,
+) -> Result<SoughtVersion, Fault>
+    requires lies { SymbolsLie src.old.seen.size symbols.now }
+    ensures { Did src.old src.new (why_stopped result)
+        (2 + most_versions symbols.now * 28 + name_bytes SOUGHT_BYTES)
+        (λ file. (told : AreSymbolsOf) → IsSymbols file told symbols.now →
+        TellsVersionIf (sought_version file told index) version.new result) }
+{
+    let Some(words) = &symbols.words else {
+        return Ok(NO_VERSION);
+    };
+    if index >= words.words.len() {
+        return refused(words.head, Cause::VersionCut);
+    }
+    let place = words.words.place(index);
+    let number = read_half(src, place)? % (1 << 15);
+    if number < 2 {
+        return Ok(NO_VERSION);
+    }
+    let file = by_number(src, symbols, number, place, version)?;
+    Ok(SoughtVersion {
+        versioned: true,
+        file,
+    })
+}
+
+/// Reads the name of the version of a number, which a word at a file offset has. Answers the record of
+/// the needed file that it is of, if it is of one.
+///
+/// # Errors
+/// Those of [`sought_symbol`] behind the word.
+fn by_number<S: Source>(
+    src: &mut Counted<S>,
+    symbols: &Symbols,
+    number: u16,
+    at: u64,
+    version: &mut NameBuf,
+) -> Result<Option<VersionRecord>, Fault>
+    requires lies { SymbolsLie src.old.seen.size symbols.now }
+    ensures { Did src.old src.new (why_stopped result)
+        (most_versions symbols.now * 28 + name_bytes SOUGHT_BYTES)
+        (λ file. (told : AreSymbolsOf) → IsSymbols file told symbols.now →
+        TellsAsked (sought_by_number file told.records number at) version.new result) }
+{
+    let Some(named) = name_of(src, symbols, number)? else {
+        return refused(at, Cause::VersionIndex);
+    };
+    let off = u64::from(named.record.name);
+    whole_name(src, named.names, off, named.record.named_at, version)?;
+    Ok(named.file)
+}

@@ -1,0 +1,98 @@
+-- Worked examples of the binding of names over two files, and of what a symbol asks others for.
+use Rattle.std.specs.Prelude.{ℕ, ◌≡◌, ◌+◌, ◌*◌, List, [], ◌∷◌, codes, Option, None, Some, Result, Ok, Err}
+use Rattle.elf_model.specs.Bindings.{Binding, BoundTo, BoundToNone, StoppedIn, bound_in, definer_asks, definer_looked, sought_at, symbols_hashed}
+use Rattle.elf_model.specs.Bytes.{little}
+use Rattle.elf_model.specs.Fixtures.{with_bytes}
+use Rattle.elf_model.specs.FixturesVersions.{hostile_library, versioned_without_sections}
+use Rattle.elf_model.specs.Loader.{Asked, NoVersion, Version, Wanted}
+use Rattle.elf_model.specs.LoaderScope.{scope_of}
+use Rattle.elf_model.specs.Style.{without_sections}
+use Rattle.elf_model.specs.declared.causes.Cause.TheVariants.{HashShape, NameOutside, VersionCut, VersionIndex}
+use Rattle.elf_model.specs.declared.causes.Refusal.{Refusal}
+
+-- a library that defines two versions of `f` and needs one of `puts`, and a hostile one
+abbrev library : List ℕ
+library = versioned_without_sections
+
+abbrev hostile : List ℕ
+hostile = without_sections hostile_library
+
+-- its last symbol `f`, V2, without a value; and undefined with one
+abbrev valueless : List ℕ
+valueless = with_bytes 0x148 (little 8 0) library
+
+abbrev undefined : List ℕ
+undefined = with_bytes 0x146 (little 2 0) library
+
+abbrev BindsTo : List ℕ → Asked → List (List ℕ) → Binding → Type 0
+BindsTo name asked files binding = bound_in 8 (record { name = name; asked = asked }) files ≡ binding
+
+-- the first file defines it, whatever the second has, and `f@V1` is another symbol there; where the first does not, the second
+-- does: also where the first has it undefined, with an address for it
+abbrev pub FirstDefines : Type 0
+FirstDefines =
+    BindsTo (codes "f") NoVersion (library ∷ hostile ∷ []) (BoundTo 0 4)
+    × BindsTo (codes "f") (Version (codes "V1")) (library ∷ hostile ∷ []) (BoundTo 0 3)
+    × BindsTo (codes "f") NoVersion (valueless ∷ library ∷ []) (BoundTo 1 4)
+    × BindsTo (codes "f") NoVersion (undefined ∷ library ∷ []) (BoundTo 1 4)
+    × BindsTo (codes "f") (Version (codes "V2")) (undefined ∷ undefined ∷ library ∷ library ∷ []) (BoundTo 2 4)
+
+-- a name that none has, and a version that none has
+abbrev pub NoneDefines : Type 0
+NoneDefines =
+    BindsTo (codes "puts") NoVersion (library ∷ library ∷ []) BoundToNone
+    × BindsTo (codes "f") (Version (codes "V3")) (library ∷ library ∷ []) BoundToNone
+    × BindsTo (codes "f") NoVersion [] BoundToNone
+
+-- the library with a hash table that has no bucket
+abbrev shapeless : List ℕ
+shapeless = with_bytes 0xb0 (little 4 0) library
+
+-- the lookup in a file is refused: at what tells of the hash table, and at a definition of versions; those behind are not asked
+abbrev pub RefusalsStop : Type 0
+RefusalsStop =
+    BindsTo (codes "nope") NoVersion (library ∷ shapeless ∷ library ∷ []) (StoppedIn 1 (record { at = 0x250; cause = HashShape }))
+    × BindsTo (codes "f") NoVersion (library ∷ shapeless ∷ []) (BoundTo 0 4)
+    × BindsTo (codes "f") (Version (codes "V1")) (hostile ∷ library ∷ []) (StoppedIn 0 (record { at = 0x1e8; cause = VersionCut }))
+
+-- what it reads: nothing where the filter tells that there is none, but the records of versions where one is asked for
+abbrev asks_for : List ℕ → Asked → List ℕ → ℕ
+asks_for name asked file =
+    let wanted : Wanted = record { name = name; asked = asked } in
+    definer_asks wanted (definer_looked file 8 wanted)
+
+abbrev pub LookupsAsk : Type 0
+LookupsAsk =
+    (asks_for (codes "puts") NoVersion library ≡ 0)
+    × (asks_for (codes "puts") (Version (codes "V1")) library ≡ 5 * (28 + 64))
+    × (asks_for (codes "f") NoVersion library ≡ 2 * (4 + 26 + 64))
+
+-- what the symbol of an index asks others for, and how many symbols there are
+abbrev SeeksAt : List ℕ → ℕ → Result (Option Wanted) Refusal → Type 0
+SeeksAt file index sought = elim (scope_of file 8) [ Ok scope ↦ sought_at file scope.symbols index ≡ sought | Err refusal ↦ ⊥ ]
+
+abbrev puts : Option Wanted
+puts = Some (record { name = codes "puts"; asked = Version (codes "GLIBC_2.2.5") })
+
+-- the first symbol asks for nothing, nor does one that is defined; one that is undefined asks for its name, with the version of
+-- its number; without one by the number 1; local it does not, and not without a name
+abbrev pub SymbolsAsk : Type 0
+SymbolsAsk =
+    SeeksAt library 0 (Ok None) × SeeksAt library 1 (Ok puts) × SeeksAt library 2 (Ok None) × SeeksAt library 4 (Ok None)
+    × SeeksAt (with_bytes 0x1a2 (little 2 1) library) 1 (Ok (Some (record { name = codes "puts"; asked = NoVersion })))
+    × SeeksAt (with_bytes 0xfc (little 1 0x22) library) 1 (Ok puts)
+    × SeeksAt (with_bytes 0xfc (little 1 0x02) library) 1 (Ok None)
+    × SeeksAt (with_bytes 0xf8 (little 4 0) library) 1 (Ok None)
+
+-- its refusals: of its name, of a number that no record has, and of the records before
+abbrev pub SymbolsAreRefused : Type 0
+SymbolsAreRefused =
+    SeeksAt (with_bytes 0xf8 (little 4 0x30) library) 1 (Err (record { at = 0xf8; cause = NameOutside }))
+    × SeeksAt (with_bytes 0x1a2 (little 2 9) library) 1 (Err (record { at = 0x1a2; cause = VersionIndex }))
+    × SeeksAt hostile 1 (Err (record { at = 0x1e8; cause = VersionCut }))
+
+abbrev CountIs : List ℕ → Result ℕ Refusal → Type 0
+CountIs file count = elim (scope_of file 8) [ Ok scope ↦ symbols_hashed file scope ≡ count | Err refusal ↦ ⊥ ]
+
+abbrev pub SymbolsAreCounted : Type 0
+SymbolsAreCounted = CountIs library (Ok 6)

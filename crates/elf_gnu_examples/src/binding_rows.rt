@@ -1,0 +1,44 @@
+//! Worked bindings of names over files, each computed by the prover.
+ghost use Rattle.elf_gnu_examples.specs.ExamplesBindings.{FirstDefines, LookupsAsk, NoneDefines, RefusalsStop, SymbolsAreCounted, SymbolsAreRefused, SymbolsAsk};
+
+/// The first file that defines a name is its definer.
+#[tactic(auto, unfolding(elf_model::proofs::OnLiterals::on_literals, elf_model::proofs::OnLoader::on_loader, elf_model::specs::Bindings::defines, elf_model::specs::Bindings::definer_walk, elf_model::specs::Bindings::definer_in, elf_model::specs::Bindings::definer_looked, elf_model::specs::Bindings::definer_asks, elf_model::specs::Bindings::bound_from, elf_model::specs::Bindings::is_sought, elf_model::specs::Bindings::whole_name, elf_model::specs::Bindings::sought_by_number, elf_model::specs::Bindings::sought_version, elf_model::specs::Bindings::sought_at, elf_model::specs::Bindings::symbols_hashed, elf_model::specs::Traits::hashed_symbol_count, elf_model::specs::Traits::gnu_symbols, elf_model::specs::Traits::highest_start))]
+pub fn first_defines()
+    ensures { FirstDefines }
+{}
+
+/// A name, or a version, that no file has.
+#[tactic(auto, unfolding(elf_model::proofs::OnLiterals::on_literals, elf_model::proofs::OnLoader::on_loader, elf_model::specs::Bindings::defines, elf_model::specs::Bindings::definer_walk, elf_model::specs::Bindings::definer_in, elf_model::specs::Bindings::definer_looked, elf_model::specs::Bindings::definer_asks, elf_model::specs::Bindings::bound_from, elf_model::specs::Bindings::is_sought, elf_model::specs::Bindings::whole_name, elf_model::specs::Bindings::sought_by_number, elf_model::specs::Bindings::sought_version, elf_model::specs::Bindings::sought_at, elf_model::specs::Bindings::symbols_hashed, elf_model::specs::Traits::hashed_symbol_count, elf_model::specs::Traits::gnu_symbols, elf_model::specs::Traits::highest_start))]
+pub fn none_defines()
+    ensures { NoneDefines }
+{}
+
+/// The first refusal ends a lookup over files.
+#[tactic(auto, unfolding(elf_model::proofs::OnLiterals::on_literals, elf_model::proofs::OnLoader::on_loader, elf_model::specs::Bindings::defines, elf_model::specs::Bindings::definer_walk, elf_model::specs::Bindings::definer_in, elf_model::specs::Bindings::definer_looked, elf_model::specs::Bindings::definer_asks, elf_model::specs::Bindings::bound_from, elf_model::specs::Bindings::is_sought, elf_model::specs::Bindings::whole_name, elf_model::specs::Bindings::sought_by_number, elf_model::specs::Bindings::sought_version, elf_model::specs::Bindings::sought_at, elf_model::specs::Bindings::symbols_hashed, elf_model::specs::Traits::hashed_symbol_count, elf_model::specs::Traits::gnu_symbols, elf_model::specs::Traits::highest_start))]
+pub fn refusals_stop()
+    ensures { RefusalsStop }
+{}
+
+/// How many bytes looking for a definer asks for.
+#[tactic(auto, unfolding(elf_model::proofs::OnLiterals::on_literals, elf_model::proofs::OnLoader::on_loader, elf_model::specs::Bindings::defines, elf_model::specs::Bindings::definer_walk, elf_model::specs::Bindings::definer_in, elf_model::specs::Bindings::definer_looked, elf_model::specs::Bindings::definer_asks, elf_model::specs::Bindings::bound_from, elf_model::specs::Bindings::is_sought, elf_model::specs::Bindings::whole_name, elf_model::specs::Bindings::sought_by_number, elf_model::specs::Bindings::sought_version, elf_model::specs::Bindings::sought_at, elf_model::specs::Bindings::symbols_hashed, elf_model::specs::Traits::hashed_symbol_count, elf_model::specs::Traits::gnu_symbols, elf_model::specs::Traits::highest_start))]
+pub fn lookups_ask()
+    ensures { LookupsAsk }
+{}
+
+/// What symbols ask others for.
+#[tactic(auto, unfolding(elf_model::proofs::OnLiterals::on_literals, elf_model::proofs::OnLoader::on_loader, elf_model::specs::Bindings::defines, elf_model::specs::Bindings::definer_walk, elf_model::specs::Bindings::definer_in, elf_model::specs::Bindings::definer_looked, elf_model::specs::Bindings::definer_asks, elf_model::specs::Bindings::bound_from, elf_model::specs::Bindings::is_sought, elf_model::specs::Bindings::whole_name, elf_model::specs::Bindings::sought_by_number, elf_model::specs::Bindings::sought_version, elf_model::specs::Bindings::sought_at, elf_model::specs::Bindings::symbols_hashed, elf_model::specs::Traits::hashed_symbol_count, elf_model::specs::Traits::gnu_symbols, elf_model::specs::Traits::highest_start))]
+pub fn symbols_ask()
+    ensures { SymbolsAsk }
+{}
+
+/// What is refused of a symbol that asks others for something.
+#[tactic(auto, unfolding(elf_model::proofs::OnLiterals::on_literals, elf_model::proofs::OnLoader::on_loader, elf_model::specs::Bindings::defines, elf_model::specs::Bindings::definer_walk, elf_model::specs::Bindings::definer_in, elf_model::specs::Bindings::definer_looked, elf_model::specs::Bindings::definer_asks, elf_model::specs::Bindings::bound_from, elf_model::specs::Bindings::is_sought, elf_model::specs::Bindings::whole_name, elf_model::specs::Bindings::sought_by_number, elf_model::specs::Bindings::sought_version, elf_model::specs::Bindings::sought_at, elf_model::specs::Bindings::symbols_hashed, elf_model::specs::Traits::hashed_symbol_count, elf_model::specs::Traits::gnu_symbols, elf_model::specs::Traits::highest_start))]
+pub fn symbols_are_refused()
+    ensures { SymbolsAreRefused }
+{}
+
+/// How many symbols a file has.
+#[tactic(auto, unfolding(elf_model::proofs::OnLiterals::on_literals, elf_model::proofs::OnLoader::on_loader, elf_model::specs::Bindings::defines, elf_model::specs::Bindings::definer_walk, elf_model::specs::Bindings::definer_in, elf_model::specs::Bindings::definer_looked, elf_model::specs::Bindings::definer_asks, elf_model::specs::Bindings::bound_from, elf_model::specs::Bindings::is_sought, elf_model::specs::Bindings::whole_name, elf_model::specs::Bindings::sought_by_number, elf_model::specs::Bindings::sought_version, elf_model::specs::Bindings::sought_at, elf_model::specs::Bindings::symbols_hashed, elf_model::specs::Traits::hashed_symbol_count, elf_model::specs::Traits::gnu_symbols, elf_model::specs::Traits::highest_start))]
+pub fn symbols_are_counted()
+    ensures { SymbolsAreCounted }
+{}

@@ -1,0 +1,177 @@
+-- From where a symbol comes that a file asks others for, as a loader of the GNU system binds it: some files are looked in, one
+-- after another, and the first that defines the name is the definer (gABI 5, Shared Object Dependencies and Hash Table; Linux
+-- Standard Base Core, Symbol Versioning). The files are those that are shown to a lookup: by their program headers, where no
+-- section headers are told of.
+use Rattle.std.specs.Prelude.{ℕ, suc, ◌+◌, ◌*◌, ◌==◌, ◌&&◌, nat_lt, not, if◌then◌else◌, Bool, true, false, List, [], ◌∷◌, length, Option, None, Some, Result, Ok, Err}
+use Rattle.elf_model.specs.Chains.{Walked}
+use Rattle.elf_model.specs.Checks.{first_refusal}
+use Rattle.elf_model.specs.GnuHash.{gnu_hash, gnu_looked_up}
+use Rattle.elf_model.specs.Hash.{sysv_hash}
+use Rattle.elf_model.specs.Loader.{Asked, NoVersion, Version, Wanted, VersionWords, RecordTable, Symbols, answers, is_among, naming_of, readings, symbol_offset, version_word_at}
+use Rattle.elf_model.specs.LoaderFind.{counts_check, record_cost, wanted_numbers}
+use Rattle.elf_model.specs.LoaderScope.{GnuTable, SysvTable, Scope, scope_of}
+use Rattle.elf_model.specs.Names.{pad64, shown}
+use Rattle.elf_model.specs.Names.Shown.{Whole, Cut}
+use Rattle.elf_model.specs.Numbers.{SHN_UNDEF, STB_GLOBAL, STB_WEAK, STB_GNU_UNIQUE}
+use Rattle.elf_model.specs.Records.{st_name, st_shndx, st_bind, versym}
+use Rattle.elf_model.specs.SysvWalk.{sysv_walked}
+use Rattle.elf_model.specs.Tables.{SYMBOL_SIZE}
+use Rattle.elf_model.specs.Traits.{hashed_symbol_count}
+use Rattle.elf_model.specs.Versions.{VERSYM_SIZE, name_index, named_at, number_in}
+use Rattle.elf_model.specs.declared.causes.Cause.TheVariants.{TooLong, VersionCut, VersionIndex}
+use Rattle.elf_model.specs.declared.causes.Refusal.{Refusal}
+
+-- A SYMBOL DEFINES what is wanted: it answers a lookup, and it is not undefined. An undefined one that has a value answers too: it
+-- stands for the address of a function, and calls of that go to another file
+unfoldable pub defines : List ℕ → Symbols → Wanted → (ℕ → Bool) → ℕ → Result Bool Refusal
+defines file symbols wanted is_wanted y = elim (answers file symbols wanted is_wanted y) [
+  | Err refusal ↦ Err refusal
+  | Ok false ↦ Ok false
+  | Ok true ↦ Ok (not (st_shndx file (symbol_offset symbols y) == SHN_UNDEF))
+]
+
+-- the walk for the symbol that defines it, where the numbers of the version by its name are told
+unfoldable pub definer_walk : List ℕ → Scope → Wanted → (ℕ → Bool) → Walked
+definer_walk file scope wanted is_wanted = elim scope.kind [
+  | GnuTable ↦ gnu_looked_up file scope.table (gnu_hash wanted.name) (defines file scope.symbols wanted is_wanted)
+  | SysvTable ↦ sysv_walked file scope.table (sysv_hash wanted.name) (defines file scope.symbols wanted is_wanted)
+]
+
+-- WHAT LOOKING FOR A DEFINER IN ONE FILE GIVES: the index of the symbol, or none, or the refusal; how many symbols are tried, and
+-- how many chain words and records of versions are read
+pub record DefinerLookup : Type 0 where
+  pub answer : Result (Option ℕ) Refusal
+  pub tried : ℕ
+  pub chain_words : ℕ
+  pub records : ℕ
+
+-- a refusal before the walk, once so many records are read
+abbrev pub unwalked : (records : ℕ) → Refusal → DefinerLookup
+unwalked records refusal = record { answer = Err refusal; tried = 0; chain_words = 0; records = records }
+
+-- by the walk, before which so many records are read
+abbrev pub definer_by : (records : ℕ) → Walked → DefinerLookup
+definer_by records walked = record { answer = walked.answer; tried = walked.tried; chain_words = walked.read; records = records }
+
+-- once the checks of what a lookup is made in pass: the table's counts, the numbers of the version, the walk. What the symbol's
+-- version is called is not asked, as its line does not tell it
+unfoldable pub definer_in : List ℕ → Scope → Wanted → DefinerLookup
+definer_in file scope wanted = elim (first_refusal (counts_check file scope ∷ [])) [
+  | Some refusal ↦ unwalked 0 refusal
+  | None ↦
+      let compared = wanted_numbers file scope wanted.asked in
+      elim compared.refused [
+        | Some refusal ↦ unwalked compared.read refusal
+        | None ↦ definer_by compared.read (definer_walk file scope wanted (λ number. is_among number compared.numbers))
+      ]
+]
+
+-- in a file, with so many headers permitted
+unfoldable pub definer_looked : List ℕ → ℕ → Wanted → DefinerLookup
+definer_looked file headers wanted = elim (scope_of file headers) [
+  | Err refusal ↦ unwalked 0 refusal
+  | Ok scope ↦ definer_in file scope wanted
+]
+
+-- HOW MANY BYTES IT MAY ASK FOR once what it is made in is known: four counts, a word of a filter and one of a bucket; the chain
+-- words; a symbol, the word of its version and its name for each that is tried; the records of versions
+unfoldable pub definer_asks : Wanted → DefinerLookup → ℕ
+definer_asks wanted looked =
+    4 * looked.chain_words
+    + looked.tried * (SYMBOL_SIZE + VERSYM_SIZE + pad64 (length wanted.name + 1))
+    + looked.records * record_cost wanted.asked
+
+-- WHAT LOOKING OVER FILES GIVES: the index of the first file that defines the name, with that of the symbol there; or that of the
+-- first in which the lookup is refused, with its refusal; or that none defines it
+pub data Binding : Type 0 where
+  BoundTo : (file symbol : ℕ) → Binding
+  StoppedIn : (file : ℕ) → Refusal → Binding
+  BoundToNone : Binding
+
+-- by the lookup in one file, or else what the others give
+abbrev pub bound_or : ℕ → Result (Option ℕ) Refusal → Binding → Binding
+bound_or index (Ok (Some symbol)) others = BoundTo index symbol
+bound_or index (Ok None) others = others
+bound_or index (Err refusal) others = StoppedIn index refusal
+
+-- in the files from an index on, with so many headers permitted in each
+unfoldable pub bound_from : ℕ → (headers : ℕ) → Wanted → List (List ℕ) → Binding
+bound_from index headers wanted [] = BoundToNone
+bound_from index headers wanted (file ∷ files) =
+    bound_or index (definer_looked file headers wanted).answer (bound_from (suc index) headers wanted files)
+
+-- in all of them
+abbrev pub bound_in : (headers : ℕ) → Wanted → List (List ℕ) → Binding
+bound_in headers wanted files = bound_from 0 headers wanted files
+
+-- WHAT A SYMBOL ASKS OTHERS FOR. It is undefined, global, weak or unique, and has a name (gABI 4, Symbol Table: an index of 0 is
+-- none)
+unfoldable pub is_sought : List ℕ → ℕ → Bool
+is_sought file at =
+    (st_shndx file at == SHN_UNDEF)
+    && is_among (st_bind file at) (STB_GLOBAL ∷ STB_WEAK ∷ STB_GNU_UNIQUE ∷ [])
+    && not (st_name file at == 0)
+
+-- it may be defined by no file: then it stands for 0 (gABI 4, Symbol Table, STB_WEAK)
+abbrev pub is_weak : List ℕ → ℕ → Bool
+is_weak file at = st_bind file at == STB_WEAK
+
+-- how many bytes a name of a symbol or a version has at most that is asked for: a longer one is refused
+abbrev pub SOUGHT_BYTES : ℕ
+SOUGHT_BYTES = 4096
+
+-- a whole name in strings, or the refusal at what holds its index
+unfoldable pub whole_name : (strings : List ℕ) → (index at : ℕ) → Result (List ℕ) Refusal
+whole_name strings index at = elim (shown strings index SOUGHT_BYTES) [
+  | Ok (Whole name) ↦ Ok name
+  | Ok (Cut front) ↦ Err (record { at = at; cause = TooLong })
+  | Err cause ↦ Err (record { at = at; cause = cause })
+]
+
+-- the version of a number: the name of the first record that has it; a fault of the name is at what holds its index, and where
+-- none has the number at the word
+unfoldable pub sought_by_number : List ℕ → List RecordTable → (number word_at : ℕ) → Result Asked Refusal
+sought_by_number file records number word_at =
+    let naming = naming_of file number (readings file records) in
+    elim naming.found [
+      | Some found ↦ elim (whole_name found.0 (name_index file found.1) (named_at file found.1)) [
+        | Ok name ↦ Ok (Version name)
+        | Err refusal ↦ Err refusal
+      ]
+      | None ↦ elim naming.refused [
+        | Some refusal ↦ Err refusal
+        | None ↦ Err (record { at = word_at; cause = VersionIndex })
+      ]
+    ]
+
+-- the version that a symbol asks for: none where there are no words of versions, and by the numbers 0 and 1
+unfoldable pub sought_version : List ℕ → Symbols → ℕ → Result Asked Refusal
+sought_version file symbols y = elim symbols.words [
+  | None ↦ Ok NoVersion
+  | Some words ↦
+      if not (nat_lt y words.count) then Err (record { at = words.head; cause = VersionCut })
+      else
+        (let number = number_in (versym file (version_word_at words y)) in
+        if nat_lt number 2 then Ok NoVersion
+        else sought_by_number file symbols.records number (version_word_at words y))
+]
+
+-- nothing; or its name and the version; a fault of the name is at the symbol
+unfoldable pub sought_at : List ℕ → Symbols → ℕ → Result (Option Wanted) Refusal
+sought_at file symbols y =
+    let at = symbol_offset symbols y in
+    if not (is_sought file at) then Ok None
+    else elim (whole_name symbols.strings (st_name file at) at) [
+      | Err refusal ↦ Err refusal
+      | Ok name ↦ elim (sought_version file symbols y) [
+        | Err refusal ↦ Err refusal
+        | Ok asked ↦ Ok (Some (record { name = name; asked = asked }))
+      ]
+    ]
+
+-- HOW MANY SYMBOLS a file has, by its hash table alone, or the refusal of the table's counts
+unfoldable pub symbols_hashed : List ℕ → Scope → Result ℕ Refusal
+symbols_hashed file scope = elim (first_refusal (counts_check file scope ∷ [])) [
+  | Some refusal ↦ Err refusal
+  | None ↦ Ok (hashed_symbol_count file scope)
+]

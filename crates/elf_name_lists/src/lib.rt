@@ -1,0 +1,25 @@
+//! The names of which rows are shown: those among the words, and those of a list, which has one a line;
+//! and how rows are shown by them.
+#![tactic(auto)]
+
+mod gathering;
+mod lines;
+mod reading;
+mod styles;
+
+pub use gathering::{gather_names, is_row_name};
+pub use reading::read_names;
+pub use styles::style_by_names;
+
+/// Why there are no names.
+#[derive(Clone, Copy, PartialEq)]
+pub enum NamesFault {
+    /// The list can't be read.
+    Read,
+    /// The list has too many bytes.
+    TooLarge,
+    /// A line of the list is no name that can be looked for.
+    BadName,
+    /// There was no memory.
+    Memory,
+}

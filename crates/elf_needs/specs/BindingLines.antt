@@ -1,0 +1,65 @@
+-- The lines of the symbols that the objects of a program ask others for.
+use Rattle.std.specs.Prelude.{ℕ, [], ◌∷◌, ◌++◌, List, codes, Bool, true, false, Option, None, Some}
+use Rattle.elf_model.specs.Fields.{Field, Fields, LineFront, front}
+use Rattle.elf_model.specs.Fields.Field.{Decimal, NameOrDecimal, Word}
+use Rattle.elf_model.specs.Lines.{named_line}
+use Rattle.elf_model.specs.Loader.{AT_SIGN}
+use Rattle.elf_model.specs.Names.Shown.{Whole}
+use Rattle.elf_model.specs.declared.formats.Format.{Format}
+use Rattle.elf_needs.specs.declared.states.BindingState.{BindingState}
+use Rattle.elf_needs.specs.declared.states.BindingState.TheVariants as state
+
+-- the word of a state
+unfoldable pub binding_word : BindingState → List ℕ
+binding_word (state.Bound object symbol) = codes "bound"
+binding_word state.Weak = codes "weak"
+binding_word state.Unbound = codes "unbound"
+binding_word state.NoVersion = codes "nover"
+binding_word (state.Refused object) = codes "refused"
+
+-- the state of a symbol that no object defines, where the object of which it asks for a version lacks that one, or not
+abbrev pub unbound_state : (weak lacks : Bool) → BindingState
+unbound_state true lacks = state.Weak
+unbound_state false true = state.NoVersion
+unbound_state false false = state.Unbound
+
+-- a symbol is missing, so that the program does not start, or cannot be told
+abbrev pub is_unbound : BindingState → Bool
+is_unbound (state.Bound object symbol) = false
+is_unbound state.Weak = false
+is_unbound _ = true
+
+-- an object or a symbol by its index, or a hyphen
+abbrev pub object_field : Option ℕ → Field
+object_field None = NameOrDecimal (codes "definer") 5 (Some (codes "-")) 0
+object_field (Some object) = NameOrDecimal (codes "definer") 5 None object
+
+abbrev pub definition_field : Option ℕ → Field
+definition_field None = NameOrDecimal (codes "definition") 10 (Some (codes "-")) 0
+definition_field (Some symbol) = NameOrDecimal (codes "definition") 10 None symbol
+
+-- the object that defines it, or in which the lookup is refused, and the symbol there
+abbrev pub definer_fields : BindingState → List Field
+definer_fields (state.Bound object symbol) = object_field (Some object) ∷ definition_field (Some symbol) ∷ []
+definer_fields (state.Refused object) = object_field (Some object) ∷ definition_field None ∷ []
+definer_fields _ = object_field None ∷ definition_field None ∷ []
+
+-- a symbol that an object asks others for: both by their indexes, its state, and what defines it
+abbrev pub binding_fields : (object symbol : ℕ) → BindingState → Fields
+binding_fields object symbol found = record {
+  letter = codes "B";
+  fields = Decimal (codes "object") 5 object ∷ Decimal (codes "symbol") 10 symbol ∷ Word (codes "state") 8 (binding_word found) ∷ definer_fields found;
+}
+
+-- its line up to its name
+unfoldable pub binding_front : Format → (object symbol : ℕ) → BindingState → LineFront
+binding_front format object symbol found = front format (codes "name") (binding_fields object symbol found)
+
+-- its name, with the version that it asks for
+abbrev pub sought_name : (name : List ℕ) → Option (List ℕ) → List ℕ
+sought_name name None = name
+sought_name name (Some version) = name ++ AT_SIGN ∷ version
+
+-- THE LINE OF A SYMBOL that an object asks others for
+abbrev pub binding_line : Format → (object symbol : ℕ) → BindingState → List ℕ → List ℕ
+binding_line format object symbol found name = named_line (binding_front format object symbol found) (Whole name)

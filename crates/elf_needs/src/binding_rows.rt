@@ -1,0 +1,91 @@
+//! The lines of the symbols that the objects of a program ask others for.
+ghost use Rattle.std.specs.Prelude.{◌≡◌, ◌≤◌, length};
+ghost use Rattle.arrayvec.specs.ArrayVec.{array_vec_len};
+ghost use Rattle.elf_model.specs.Fields.{with_fields};
+ghost use Rattle.elf_source.specs.Output.{Puts};
+ghost use Rattle.elf_fields.specs.Fronts.{front_of};
+ghost use Rattle.elf_needs.specs.BindingLines.{binding_front, binding_line, binding_word, definer_fields};
+
+use crate::states::BindingState;
+use elf_fields::{
+    Columns, Line, LineFront, Object, Render, begin_named, put_decimal, put_name_or_decimal,
+    put_text, show_named,
+};
+use elf_model::Format;
+use elf_source::{Out, OutFault, Sink};
+
+/// The `B` line of a symbol up to its name.
+#[tactic(auto, unfolding(crate::specs::BindingLines::binding_front))]
+fn binding_row<R: Render>(front: &mut LineFront, object: u16, symbol: u64, state: BindingState)
+    ensures front { front_of front.new ≡ binding_front R.FORMAT object symbol state }
+    ensures key { length front.new.key.now ≤ 16 }
+{
+    begin_named::<R>(front, b"B", b"name");
+    let line = &mut front.line;
+    put_decimal::<R>(line, b"object", 5, u64::from(object), b' ');
+    put_decimal::<R>(line, b"symbol", 10, symbol, b' ');
+    put_text::<R>(line, b"state", 8, binding_word(state).as_bytes(), b' ');
+    put_definer::<R>(line, state);
+}
+
+/// Puts the object that defines a symbol, or in which the lookup is refused, and the symbol there;
+/// hyphens for what there is not.
+#[tactic(auto, unfolding(elf_model::specs::Fields::with_field))]
+fn put_definer<R: Render>(line: &mut Line, state: BindingState)
+    requires { array_vec_len line.old ≤ 150 }
+    ensures items { line.new.items ≡ with_fields R.FORMAT line.old.items (definer_fields state) }
+{
+    match state {
+        BindingState::Bound { object, symbol } => {
+            put_name_or_decimal::<R>(line, b"definer", 5, None, u64::from(object));
+            put_name_or_decimal::<R>(line, b"definition", 10, None, symbol);
+        }
+        BindingState::Refused { object } => {
+            put_name_or_decimal::<R>(line, b"definer", 5, None, u64::from(object));
+            put_name_or_decimal::<R>(line, b"definition", 10, Some("-"), 0);
+        }
+        BindingState::Weak | BindingState::Unbound | BindingState::NoVersion => {
+            put_name_or_decimal::<R>(line, b"definer", 5, Some("-"), 0);
+            put_name_or_decimal::<R>(line, b"definition", 10, Some("-"), 0);
+        }
+    }
+}
+
+/// The word of a state in a symbol's line.
+#[tactic(auto, unfolding(crate::specs::BindingLines::binding_word))]
+fn binding_word(state: BindingState) -> &'static str
+    ensures word { result.now ≡ binding_word state }
+    ensures short { length result.now ≤ 8 }
+{
+    match state {
+        BindingState::Bound { .. } => "bound",
+        BindingState::Weak => "weak",
+        BindingState::Unbound => "unbound",
+        BindingState::NoVersion => "nover",
+        BindingState::Refused { .. } => "refused",
+    }
+}
+
+/// Writes the line of a symbol that an object asks others for: the object's index and the symbol's, its
+/// state, the index of the object that defines it, or in which the lookup is refused, the index of the
+/// symbol there, and its name, with `@` and the version that it asks for, spelt as names are.
+///
+/// # Errors
+/// A fault of the output, with a front of the line written.
+pub fn show_binding<W: Sink>(
+    object: u16,
+    symbol: u64,
+    state: BindingState,
+    name: &[u8],
+    format: Format,
+    out: &mut Out<W>,
+) -> Result<(), OutFault>
+    ensures puts { Puts out.old out.new result (binding_line format object symbol state name.now) }
+{
+    let mut front = LineFront::new();
+    match format {
+        Format::Columns => binding_row::<Columns>(&mut front, object, symbol, state),
+        Format::Object => binding_row::<Object>(&mut front, object, symbol, state),
+    }
+    show_named(&mut front, name, false, out)
+}

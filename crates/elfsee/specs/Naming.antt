@@ -1,0 +1,27 @@
+-- A listing of the rows of some names.
+use Rattle.std.specs.Prelude.{ℕ, ◌≡◌, List, codes}
+use Rattle.elf_name_lists.specs.NamedRows.{named_style}
+use Rattle.elf_name_lists.specs.declared.NamesFault.{NamesFault}
+use Rattle.elf_name_lists.specs.declared.NamesFault.TheVariants.{Read, TooLarge, BadName, Memory}
+use Rattle.elf_headers.specs.Permitted.{style_of}
+use Rattle.elf_headers.specs.declared.caps.Style.{Style}
+use Rattle.elf_record.specs.declared.parts.Parts.{Parts}
+use Rattle.elf_words.specs.declared.requests.Task.{Task}
+use Rattle.elf_words.specs.declared.requests.Task.TheVariants.{Show}
+use Rattle.elfsee.specs.Ends.{LacksMemory}
+
+-- a task lists these parts, of which the rows of these names alone are shown, in a style that is else this one
+abbrev pub ShowsRowsOf : List (List ℕ) → Parts → Style → Task → Type 0
+ShowsRowsOf names parts style (Show shown styled) = (shown ≡ parts) × (style_of styled ≡ named_style names (style_of style))
+ShowsRowsOf names parts style _ = ⊥
+
+-- how the program ends where there are no names
+abbrev pub EndsNames : NamesFault → ℕ → List ℕ → Type 0
+EndsNames Read status line = (status ≡ 2) × (line ≡ codes "elfsee: cannot read names")
+EndsNames TooLarge status line = (status ≡ 2) × (line ≡ codes "elfsee: names too large")
+EndsNames BadName status line = (status ≡ 2) × (line ≡ codes "elfsee: bad name")
+EndsNames Memory status line = LacksMemory status line
+
+-- there were no names
+abbrev pub LacksNames : ℕ → List ℕ → Type 0
+LacksNames status line = (fault : NamesFault) × EndsNames fault status line

@@ -1,0 +1,115 @@
+//! The names of which the rows are shown, and the listing of a file by them.
+ghost use Rattle.std.specs.Prelude.{◌≡◌, ◌++◌, [], IfErr, IfOk};
+ghost use Rattle.std.specs.List.Sorted.{IsPermutation};
+ghost use Rattle.elf_name_lists.specs.NameLists.{listed_names};
+ghost use Rattle.elf_wanted.specs.Names.{NeverFall, texts_of};
+ghost use Rattle.elfsee.specs.Naming.{EndsNames, LacksNames, ShowsRowsOf};
+
+use crate::answer_request;
+use elf_listing_words::ListingAsked;
+use elf_name_lists::{NamesFault, gather_names, read_names, style_by_names};
+use elf_program::{Ending, OUT_OF_MEMORY};
+use elf_words::{Choosing, NamesAsked, Request, Task};
+use std::alloc::Global;
+use std::fs;
+use std::io::{ErrorKind, Stderr};
+use std::os::unix::fs::FileExt;
+use std::rt::Files;
+
+/// Lists those rows of a file that have one of some names. The names are read and sorted, in memory that
+/// their number and their bytes bound, before the file is opened.
+///
+/// # Errors
+/// The list of names can't be read, or has a line that can't be looked for. Else as [`answer_request`].
+#[inline(never)]
+pub fn show_chosen<R: Files + Print + AllocGlobal>(
+    rt: &R,
+    asked: &Choosing<'_>,
+    errors: Stderr,
+) -> Result<Ending, Ending>
+where
+    R::File: FileExt,
+{
+    let mut list = Vec::new(rt.alloc());
+    if let Err(ending) = read_list(rt, &asked.names, &mut list) {
+        return Err(ending);
+    }
+    match sorted_names(rt.alloc(), &asked.names, &list) {
+        Ok(names) => answer_request(rt, &request_by_names(&asked.listing, &names), errors),
+        Err(ending) => Err(ending),
+    }
+}
+
+/// Reads the text of the list of names, where one is asked for, into `text`, which is empty.
+///
+/// # Errors
+/// The list can't be read, is too large, or there is no memory for it.
+pub fn read_list<R: Files>(rt: &R, asked: &NamesAsked<'_>, text: &mut Vec<u8>) -> Result<(), Ending>
+    requires { text.old.items ≡ [] }
+    ensures { IfErr result (λ ending. LacksNames ending.0 ending.1.now) }
+{
+    let Some(path) = asked.list else {
+        return Ok(());
+    };
+    let mut file = match fs::open(rt, path) {
+        Ok(file) => file,
+        Err(fault) if fault.kind() == ErrorKind::OutOfMemory => return Err(OUT_OF_MEMORY),
+        Err(_) => return Err(lacking(NamesFault::Read)),
+    };
+    match read_names(&mut file, text) {
+        Ok(()) => Ok(()),
+        Err(fault) => Err(lacking(fault)),
+    }
+}
+
+/// The names that are asked for, those of the list's text behind those of the words, in the rising order
+/// of their bytes.
+///
+/// # Errors
+/// A line of the list can't be looked for, or there is no memory for the names.
+pub fn sorted_names<'a>(
+    alloc: Global,
+    asked: &NamesAsked<'a>,
+    text: &'a [u8],
+) -> Result<Vec<&'a [u8]>, Ending>
+    ensures names { IfOk result (λ names.
+        IsPermutation (texts_of asked.now.names.items ++ listed_names text.now)
+        (texts_of names.items)) }
+    ensures sorted { IfOk result (λ names. NeverFall names.items) }
+    ensures refused { IfErr result (λ ending. LacksNames ending.0 ending.1.now) }
+{
+    match gather_names(alloc, &asked.names, text) {
+        Ok(names) => Ok(names),
+        Err(fault) => Err(lacking(fault)),
+    }
+}
+
+/// What is asked for of a file: those rows of a listing that have one of these names, which are in the
+/// rising order of their bytes.
+fn request_by_names<'a>(listing: &ListingAsked<'a>, names: &'a [&'a [u8]]) -> Request<'a>
+    requires { NeverFall names.now }
+    ensures file { result.file ≡ listing.now.file }
+    ensures limits { result.limits ≡ listing.now.limits }
+    ensures task { ShowsRowsOf (texts_of names.now) listing.now.parts listing.now.style result.task }
+{
+    Request {
+        file: listing.file,
+        limits: listing.limits,
+        task: Task::Show {
+            parts: listing.parts,
+            style: style_by_names(listing.style, names),
+        },
+    }
+}
+
+/// How the program ends where there are no names.
+fn lacking(fault: NamesFault) -> Ending
+    ensures { EndsNames fault result.0 result.1.now }
+{
+    match fault {
+        NamesFault::Read => (2, "elfsee: cannot read names"),
+        NamesFault::TooLarge => (2, "elfsee: names too large"),
+        NamesFault::BadName => (2, "elfsee: bad name"),
+        NamesFault::Memory => OUT_OF_MEMORY,
+    }
+}
