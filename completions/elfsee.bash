@@ -7,6 +7,7 @@ _elfsee_options() {
     show | archive) set -- --headers --names --max-read --only --gnu --by-segments --json --name --name-list ;;
     sample) set -- --headers --names --max-read --only --gnu --by-segments --json ;;
     check) set -- --headers --names --max-read --only --gnu --by-segments --json --files0-from ;;
+    list) set -- --headers --names --max-read --only --gnu --by-segments --json --name --name-list --members --files0-from ;;
     find) set -- --headers --max-read --gnu --by-segments --json ;;
     apply) set -- --headers --max-read --layout --explain ;;
     needs) set -- --headers --max-read --library-path --default --root --symbols --json ;;
@@ -94,10 +95,10 @@ _elfsee() {
         esac
     fi
     case $command in
-    '') mapfile -t COMPREPLY < <(compgen -W 'show sample find apply check traits needs archive version help' -- "$current") ;;
-    help) [[ $files != 0 ]] || mapfile -t COMPREPLY < <(compgen -W 'show sample find apply check traits needs archive version' -- "$current") ;;
+    '') mapfile -t COMPREPLY < <(compgen -W 'show sample find apply check list traits needs archive version help' -- "$current") ;;
+    help) [[ $files != 0 ]] || mapfile -t COMPREPLY < <(compgen -W 'show sample find apply check list traits needs archive version' -- "$current") ;;
     show | find | needs | archive) [[ $files != 0 ]] || _elfsee_files ;;
-    check | traits) _elfsee_files ;;
+    check | list | traits) _elfsee_files ;;
     apply)
         case $files in
         0) _elfsee_files ;;

@@ -6,12 +6,12 @@ ghost use Rattle.clap.specs.declared.builder.value_parser.ValueParser.TheVariant
 ghost use Rattle.elf_command_line.specs.Building.{IsBuilt};
 ghost use Rattle.elf_command_line.specs.CommandLine.{Words};
 ghost use Rattle.elf_command_line.specs.Described.{with_commands};
-ghost use Rattle.elf_command_line.specs.CommandLine.{archive_command, check_command, find_command, program};
+ghost use Rattle.elf_command_line.specs.CommandLine.{archive_command, check_command, find_command, list_command, program};
 ghost use Rattle.elf_command_line.specs.CommandLine.{needs_command, sample_command, show_command, traits_command};
 ghost use Rattle.elf_command_line.specs.CommandLine.{with_files, with_many, with_many_files, with_one_file, without_command};
 
 use crate::adding::{Described, command_of, new_command, with_command, with_commands};
-use crate::texts::{ABOUT, CHECKED, FOUND, HARDENED, ITEMS, MEMBERS, MORE, NEEDED, SHOWN};
+use crate::texts::{ABOUT, CHECKED, FOUND, HARDENED, ITEMS, LISTED, MEMBERS, MORE, NEEDED, SHOWN};
 use crate::words::{Word, WordKind};
 use clap::Command;
 use clap::builder::ValueParser;
@@ -113,6 +113,12 @@ const LIST: Word = Word {
     name: "files0-from",
     kind: WordKind::Value("FILE"),
     help: "Take the paths in FILE too, each ended by NUL; - is standard input",
+};
+
+const INSIDE: Word = Word {
+    name: "members",
+    kind: WordKind::Flag,
+    help: "Go into archives too, which are passed over else",
 };
 
 const PATH: Word = Word {
@@ -219,6 +225,26 @@ const CHECK: Described = Described {
     ],
 };
 
+const LIST_FILES: Described = Described {
+    name: "list",
+    about: "List many files, each whole or one part of it",
+    more: LISTED,
+    words: &[
+        HEADERS,
+        NAMES,
+        MAX_READ,
+        ONLY,
+        GNU,
+        BY_SEGMENTS,
+        JSON,
+        ROW_NAME,
+        NAME_LIST,
+        INSIDE,
+        LIST,
+        PATH,
+    ],
+};
+
 const TRAITS: Described = Described {
     name: "traits",
     about: "Tell of many files how each is hardened",
@@ -269,7 +295,7 @@ const VERSION: Described = Described {
 
 static OF_ONE_FILE: [Described; 4] = [SHOW, SAMPLE, FIND, APPLY];
 
-static OF_MANY_FILES: [Described; 3] = [CHECK, TRAITS, NEEDS];
+static OF_MANY_FILES: [Described; 4] = [CHECK, LIST_FILES, TRAITS, NEEDS];
 
 /// The command line, with the names of the parts of a listing, and of those of an archive's: all
 /// commands with their arguments and help, as `clap` reads words by them.
@@ -346,7 +372,7 @@ fn program<'a>(alloc: Global) -> Result<Command<'a>, AllocError>
     ensures { IfOk result (λ command. app_of command ≡ without_command) }
 {
     let program = new_command(alloc, "elfsee", ABOUT, MORE)
-        .subcommand_value_name("show|sample|find|apply|check|traits|needs|archive|version")
+        .subcommand_value_name("show|sample|find|apply|check|list|traits|needs|archive|version")
         .no_binary_name(true)
         .subcommand_required(true)
         .arg_required_else_help(true);
@@ -391,6 +417,16 @@ pub fn check<'a>(alloc: Global, parts: &'a [&'a str]) -> Result<Command<'a>, All
     ensures { IfOk result (IsBuilt (check_command parts.entry)) }
 {
     command_of(alloc, &CHECK, ValueParser::Names(parts))
+}
+
+/// The command that lists many files, with the names of the parts that it can list alone.
+///
+/// # Errors
+/// There is no memory for it; nothing of it is left then.
+pub fn list<'a>(alloc: Global, parts: &'a [&'a str]) -> Result<Command<'a>, AllocError>
+    ensures { IfOk result (IsBuilt (list_command parts.entry)) }
+{
+    command_of(alloc, &LIST_FILES, ValueParser::Names(parts))
 }
 
 /// The command that tells how files are hardened.

@@ -6,4 +6,4 @@ mod commands;
 mod texts;
 mod words;
 
-pub use commands::{archive, check, command_line, find, needs, sample, show, traits};
+pub use commands::{archive, check, command_line, find, list, needs, sample, show, traits};

@@ -14,6 +14,7 @@ Examples:
   elfsee find --gnu /lib/libexample.so printf@GLIBC_2.2.5
   elfsee apply example.o 1 at:1=0x401000 def:main=0x401200
   elfsee check /usr/lib
+  elfsee list --only symbols --members /usr/lib/x86_64-linux-gnu
   elfsee traits --require relro=full,stack=nx,pages=w^x /usr/bin
   elfsee needs /bin/ls
   elfsee archive --only symbols /usr/lib/x86_64-linux-gnu/libc.a
@@ -39,9 +40,10 @@ traits also --json, --require and --files0-from, needs also --json and those for
                 there are
   --explain     for apply only: where an address is missing, tell on standard error the type of
                 the relocation, the name of its symbol, and the item that would help
-  --name NAME   for show and archive only: show the rows of this name alone; at most 64 times
+  --name NAME   for show, archive and list only: show the rows of this name alone; at most 64 times
   --name-list LIST
-                for show and archive only: show the rows of the names in LIST, one a line
+                for show, archive and list only: show the rows of the names in LIST, one a line
+  --members     for list only: go into archives too
   --require WORDS
                 for traits only: tell of each program and library which of these words it lacks,
                 as relro=full,stack=nx
@@ -52,16 +54,16 @@ traits also --json, --require and --files0-from, needs also --json and those for
   --root DIR    for needs only: look below DIR for each path that begins with a slash
   --symbols     for needs only: tell from which object each symbol comes, too
   --files0-from FILE
-                for check and traits: take the paths in FILE too, each ended by NUL
+                for check, list and traits: take the paths in FILE too, each ended by NUL
   --            end the options, so that FILE, PATH or NAME may begin with a hyphen
 FILE or PATH may be - for the file on standard input.
 
 Exit status:
-  0  listed, found or applied; check: no file is at fault; traits: no file is refused, and none
-     lacks what is required; needs: each library is found, and each symbol bound or weak
+  0  listed, found or applied; check and list: no file is at fault; traits: no file is refused,
+     and none lacks what is required; needs: each library is found, and each symbol bound or weak
   1  refused, or more to read than permitted: the last line is '!', an offset and the cause;
      or there is no such name: the line 'F absent' with the number of names compared;
-     check: some files are refused; archive: the archive or a member is refused;
+     check and list: some files are refused; archive: the archive or a member is refused;
      traits: some files are refused, or lack what is required; needs: a library is missing or
      refused, or a symbol comes from none
   2  the words are wrong, or ask for help, and no file is opened: standard error tells which
@@ -78,8 +80,8 @@ Exit status:
      of LIST: 'in line N' stands behind bad item and layout-repeat; or
        elfsee: cannot read layout, elfsee: layout too large,
        elfsee: cannot read names, elfsee: names too large
-  3  check and traits: some files could not be read or named; else, and for their list and their
-     output, a read or write fault, a file that cannot be opened, or no memory: standard
+  3  check, list and traits: some files could not be read or named; else, and for their list and
+     their output, a read or write fault, a file that cannot be opened, or no memory: standard
      error has one of these lines:
        elfsee: read fault, elfsee: write fault, elfsee: cannot open, elfsee: out of memory";
 
@@ -132,6 +134,18 @@ relocs, or with --gnu versions. Of them those rows are shown whose name is one o
 Examples:
   elfsee show --only symbols /bin/ls
   elfsee show --name main --name printf /bin/ls";
+
+pub(crate) const LISTED: &str = "\
+Each ELF file has a line @ with its path, and behind it the listing that 'show' writes with these
+options. With --members an archive has one too, and behind it what 'archive' writes. Of other
+files there is nothing, but for a line C where one is unread, or there is no memory for it.
+Files and folders are gone through as 'check' does it.
+
+Exit status: 0 all is listed, 1 some files are refused, 3 some are unread, memory or unnamed.
+
+Examples:
+  elfsee list --only dynamic /usr/bin
+  elfsee list --only symbols --members /usr/lib/x86_64-linux-gnu";
 
 pub(crate) const HARDENED: &str = "\
 Each ELF file has one line: T, its kind, eight traits, and its path. They are told as a loader

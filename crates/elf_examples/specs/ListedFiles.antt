@@ -2,7 +2,8 @@
 use Rattle.std.specs.Prelude.{ℕ, ◌≡◌, ◌^◌, ◌-◌, List, [], ◌∷◌, ◌++◌, codes, true, false, take, Option, None, Some}
 use Rattle.elf_model.specs.declared.formats.Format.TheVariants.{Columns, Object}
 use Rattle.elf_model.specs.Bytes.{little}
-use Rattle.elf_model.specs.FileLists.{archive_fault, budget_behind, file_sort, path_line, placed_behind}
+use Rattle.elf_model.specs.Choice.{EveryRow, RowsOf}
+use Rattle.elf_model.specs.FileLists.{archive_fault, budget_behind, file_sort, headed, list_status, path_line, placed_behind}
 use Rattle.elf_model.specs.Fixtures.{bare_header, one_symbol_table, with_bytes}
 use Rattle.elf_model.specs.FixturesArchive.{archive_of, library, member}
 use Rattle.elf_model.specs.Listing.{SYMBOLS}
@@ -19,6 +20,17 @@ PathLines =
     × (path_line Columns (codes "a \\" ++ 10 ∷ []) ≡ codes "@ a \\\\\\x0a\n")
     × (path_line Columns [] ≡ codes "@ \n")
     × (path_line Object (codes "a\"b") ≡ codes "{\"line\":\"@\",\"path\":\"a\\\"b\"}\n")
+
+-- what is listed behind the line of a path; of some names, something or nothing
+abbrev pub HeadedListings : Type 0
+HeadedListings =
+    (headed EveryRow (codes "@ a\n") (codes "H\n") ≡ codes "@ a\nH\n") × (headed EveryRow (codes "@ a\n") [] ≡ codes "@ a\n")
+    × (headed (RowsOf []) (codes "@ a\n") (codes "Y\n") ≡ codes "@ a\nY\n") × (headed (RowsOf []) (codes "@ a\n") [] ≡ [])
+
+-- no refusal, that of a member, and one of its own
+abbrev pub ListStatuses : Type 0
+ListStatuses =
+    (list_status None false ≡ 0) × (list_status None true ≡ 1) × (list_status (Some (record { at = 0; cause = Short })) false ≡ 1)
 
 abbrev magic : List ℕ
 magic = 127 ∷ 69 ∷ 76 ∷ 70 ∷ []

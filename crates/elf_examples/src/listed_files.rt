@@ -1,10 +1,22 @@
 //! Many files listed, and archives checked, each example computed by the prover.
-ghost use Rattle.elf_examples.specs.ListedFiles.{ArchiveFaults, BudgetsBehind, FileSorts, PathLines};
+ghost use Rattle.elf_examples.specs.ListedFiles.{ArchiveFaults, BudgetsBehind, FileSorts, HeadedListings, ListStatuses, PathLines};
 
 /// The line of a path.
 #[tactic(auto, unfolding(elf_model::proofs::OnLiterals::on_literals))]
 pub fn path_lines()
     ensures { PathLines }
+{}
+
+/// What is listed behind the line of a path.
+#[tactic(auto, unfolding(elf_model::proofs::OnLiterals::on_literals))]
+pub fn headed_listings()
+    ensures { HeadedListings }
+{}
+
+/// The exit status of a listing that was written.
+#[tactic(auto, unfolding(elf_model::proofs::OnLiterals::on_literals))]
+pub fn list_statuses()
+    ensures { ListStatuses }
 {}
 
 /// What a file is, by its first bytes.

@@ -10,7 +10,7 @@ use crate::reading::{MEMBER_PARTS, PARTS};
 use crate::row_names::{asks_names, chosen_parts_of, is_given};
 use clap::error::ErrorKind;
 use clap::{ArgMatches, Command, Error};
-use elf_command_line::{archive, check, find, sample, show, traits};
+use elf_command_line::{archive, check, find, list, sample, show, traits};
 use std::alloc::{AllocError, Global};
 
 /// What a command of many files is told without a path, as other commands are of their FILE.
@@ -62,6 +62,7 @@ fn lacking<'m>(matches: &'m ArgMatches<'_>) -> (&'m str, &'static str) {
         Some((command, options)) if asks_names(options) => (command, lacking_rows(options)),
         Some(("find", options)) if find_lacks_gnu(options) => ("find", NO_GNU),
         Some(("check", _)) => ("check", NO_PATH),
+        Some(("list", _)) => ("list", NO_PATH),
         Some(("traits", _)) => ("traits", NO_PATH),
         _ => ("show", NO_LISTING),
     }
@@ -93,6 +94,7 @@ fn named<'a>(alloc: Global, command: &str) -> Result<Command<'a>, AllocError> {
         "find" => called(find(alloc), "elfsee find"),
         "sample" => called(sample(alloc, parts), "elfsee sample"),
         "check" => called(check(alloc, parts), "elfsee check"),
+        "list" => called(list(alloc, parts), "elfsee list"),
         "traits" => called(traits(alloc), "elfsee traits"),
         "archive" => called(archive(alloc, MEMBER_PARTS.as_slice()), "elfsee archive"),
         _ => called(show(alloc, parts), "elfsee show"),

@@ -14,7 +14,7 @@ use Rattle.elf_source.specs.declared.faults.OutFault.{OutFault}
 pub record StandsWhole (c : Counting) : Type 0 where
   pub whole : IsWholeRange c.seen
   pub shows : c.hides ≡ false
-  pub few : c.asked ≤ 2 ^ 127
+  pub few : c.asked ≤ 2 ^ 126
 
 -- many files: their output, how lines are written, by which rule each is told of, the status so far, and how many paths could not
 -- be named

@@ -5,7 +5,7 @@ ghost use Rattle.elf_source.specs.Output.{Written};
 ghost use Rattle.elf_source.specs.Source.{Counting};
 ghost use Rattle.elf_source.specs.declared.faults.OutFault.{OutFault};
 
-use elf_source::{Counted, Out, OutFault, RangeSource, Sink, Source};
+use elf_source::{Counted, HoldingSink, Out, OutFault, RangeSource, Sink, Source};
 
 /// Tells of files one after another, by the same rule: what came before a file is of no account.
 pub trait EachFile {
@@ -20,8 +20,8 @@ pub trait EachFile {
     ghost tells: { Self.Rule → List ℕ → Counting → Counting → Written → Written →
         Result ℕ OutFault → Type 0 };
 
-    /// Tells of the file at a path, whose source is a range of all its bytes. At most 2^127 bytes were
-    /// asked of it. Answers the exit status that the file calls for.
+    /// Tells of the file at a path, whose source is a range of all its bytes. At most 2^126 bytes were
+    /// asked of it. The output may hold bytes back within a call, and holds none between two. Answers the exit status that the file calls for.
     ///
     /// # Errors
     /// A fault of the output, with a front of what there is to tell written.
@@ -29,7 +29,7 @@ pub trait EachFile {
         &mut self,
         src: &mut Counted<RangeSource<S>>,
         path: &[u8],
-        out: &mut Out<W>,
+        out: &mut Out<HoldingSink<W>>,
     ) -> Result<u8, OutFault>
         requires { StandsWhole src.old }
         ensures tells { tells (rule self.old) path.now src.old src.new out.old out.new result }

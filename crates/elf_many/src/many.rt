@@ -8,7 +8,7 @@ use crate::each_file::EachFile;
 use crate::statuses::status;
 use elf_lines::{show_check, show_unnamed};
 use elf_model::{FileState, Format};
-use elf_source::{Counted, Out, OutFault, RangeSource, Sink, Source};
+use elf_source::{Counted, HoldingSink, Out, OutFault, RangeSource, Sink, Source};
 use std::io::Write;
 use std::marker::Model;
 
@@ -19,7 +19,7 @@ const TELL_EVERY: u64 = 512;
 #[derive(Drop)]
 pub struct Many<W: Sink, E: Write + Drop, A: EachFile> {
     each: A,
-    out: Out<W>,
+    out: Out<HoldingSink<W>>,
     format: Format,
     status: u8,
     unnamed: u64,
@@ -43,7 +43,7 @@ impl<W: Sink, E: Write + Drop, A: EachFile> Model for Many<W, E, A> {
 
 impl<W: Sink, E: Write + Drop, A: EachFile + Drop> Many<W, E, A> {
     /// No file yet. Where there is a terminal it is told how far it is.
-    pub fn new(out: Out<W>, each: A, format: Format, terminal: Option<E>) -> Self
+    pub fn new(out: Out<HoldingSink<W>>, each: A, format: Format, terminal: Option<E>) -> Self
         ensures out { result.out ≡ out }
         ensures format { result.format ≡ format }
         ensures rule { result.rule ≡ A.rule each }
@@ -158,7 +158,7 @@ impl<W: Sink, E: Write + Drop, A: EachFile + Drop> Many<W, E, A> {
     }
 
     /// Gives the output back.
-    pub fn into_out(self) -> Out<W>
+    pub fn into_out(self) -> Out<HoldingSink<W>>
         ensures { result ≡ self.out }
     {
         let Many { out, .. } = self;

@@ -6,7 +6,7 @@ use elf_headers::{Caps, HeaderStore};
 use elf_lines::show_check;
 use elf_many::{EachFile, status};
 use elf_record::Parts;
-use elf_source::{Counted, Out, OutFault, RangeSource, Sink, Source};
+use elf_source::{Counted, HoldingSink, Out, OutFault, RangeSource, Sink, Source};
 use std::marker::Model;
 
 /// The rule by which files are checked.
@@ -62,7 +62,7 @@ impl<'a> EachFile for Checks<'a> {
         &mut self,
         src: &mut Counted<RangeSource<S>>,
         path: &[u8],
-        out: &mut Out<W>,
+        out: &mut Out<HoldingSink<W>>,
     ) -> Result<u8, OutFault> {
         let state = check(src, &mut self.store, self.rule.caps, self.rule.parts);
         show_check(state, path, self.rule.caps.style.format, out)?;

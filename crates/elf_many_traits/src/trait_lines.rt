@@ -10,7 +10,7 @@ use elf_headers::{HeaderStore, Limits};
 use elf_lines::{show_check, show_lacking, show_traits};
 use elf_many::{EachFile, status};
 use elf_model::{FileState, Format, Traits};
-use elf_source::{Counted, Out, OutFault, RangeSource, Sink, Source};
+use elf_source::{Counted, HoldingSink, Out, OutFault, RangeSource, Sink, Source};
 use elf_trait_words::RequiredWord;
 use std::marker::Model;
 
@@ -66,7 +66,7 @@ impl<'a> EachFile for TraitLines<'a> {
         &mut self,
         src: &mut Counted<RangeSource<S>>,
         path: &[u8],
-        out: &mut Out<W>,
+        out: &mut Out<HoldingSink<W>>,
     ) -> Result<u8, OutFault> {
         match traits_within(src, &mut self.store, self.rule.limits) {
             Ok(traits) => show_lines(traits, &self.rule, path, out),

@@ -151,9 +151,9 @@ sought_version file symbols y = elim symbols.words [
   | Some words ↦
       if not (nat_lt y words.count) then Err (record { at = words.head; cause = VersionCut })
       else
-        (let number = number_in (versym file (version_word_at words y)) in
-        if nat_lt number 2 then Ok NoVersion
-        else sought_by_number file symbols.records number (version_word_at words y))
+      (let number = number_in (versym file (version_word_at words y)) in
+      if nat_lt number 2 then Ok NoVersion
+      else sought_by_number file symbols.records number (version_word_at words y))
 ]
 
 -- nothing; or its name and the version; a fault of the name is at the symbol

@@ -3,6 +3,7 @@ use Rattle.std.specs.Prelude.{ℕ, ◌+◌, ◌-◌, ◌^◌, ◌==◌, ◌&&◌
 use Rattle.elf_model.specs.Archive.{ARCHIVE_MAGIC, MAGIC_SIZE, Member, archive_checks, member_listing, members_of}
 use Rattle.elf_model.specs.Bytes.{field}
 use Rattle.elf_model.specs.Checks.{first_refusal}
+use Rattle.elf_model.specs.Choice.{RowChoice, EveryRow, RowsOf}
 use Rattle.elf_model.specs.Fields.{Fields, LineFront, front}
 use Rattle.elf_model.specs.Lines.{named_line}
 use Rattle.elf_model.specs.Listing.{fault_of}
@@ -24,15 +25,27 @@ path_front format = front format (codes "path") path_fields
 abbrev pub path_line : Format → List ℕ → List ℕ
 path_line format path = named_line (path_front format) (Whole path)
 
+-- WHAT IS WRITTEN OF A FILE: the line of its path, and behind it what is listed of it; where rows are chosen by their names, the
+-- line of the path stands only before something that is listed
+abbrev pub headed : RowChoice → (line text : List ℕ) → List ℕ
+headed EveryRow line text = line ++ text
+headed (RowsOf names) line [] = []
+headed (RowsOf names) line (byte ∷ text) = line ++ (byte ∷ text)
+
+-- the exit status that a listing calls for that was written: 1 where it has the line of a refusal, its own or that of a member
+abbrev pub list_status : Option Refusal → (member_refused : Bool) → ℕ
+list_status None member_refused = if member_refused then 1 else 0
+list_status (Some refusal) member_refused = 1
+
 -- how many of its first bytes tell what a file of so many bytes is: where archives are gone into, those of their magic string
 abbrev pub front_size : Bool → ℕ → ℕ
 front_size true size = if nat_lt size MAGIC_SIZE then ELF_MAGIC_SIZE else MAGIC_SIZE
 front_size false size = ELF_MAGIC_SIZE
 
 -- a budget has so many bytes
-abbrev pub has_bytes : Option ℕ → ℕ → Bool
-has_bytes None n = true
-has_bytes (Some budget) n = not (nat_lt budget n)
+abbrev pub permits_bytes : Option ℕ → ℕ → Bool
+permits_bytes None n = true
+permits_bytes (Some budget) n = not (nat_lt budget n)
 
 -- a file begins with the magic string of an archive
 abbrev pub begins_as_archive : List ℕ → Bool
@@ -43,7 +56,7 @@ begins_as_archive file = nat_le MAGIC_SIZE (length file) && field file 0 8 == AR
 unfoldable pub file_sort : (members : Bool) → Option ℕ → List ℕ → FileSort
 file_sort members budget file =
     if nat_lt (length file) ELF_MAGIC_SIZE then sort.Foreign
-    else if not (has_bytes budget (front_size members (length file))) then sort.Elf
+    else if not (permits_bytes budget (front_size members (length file))) then sort.Elf
     else if begins_as_elf file then sort.Elf
     else if members && begins_as_archive file then sort.Archive
     else sort.Foreign

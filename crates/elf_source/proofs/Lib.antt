@@ -1,5 +1,6 @@
 pub mod GrowthLaws
 pub mod HidingLaws
+mod HoldLaws
 mod Known
 pub mod LimitLaws
 pub mod ReadsLaws

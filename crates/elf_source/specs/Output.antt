@@ -1,6 +1,6 @@
 -- What is given to a sink, and what it took.
-use Rattle.std.specs.Prelude.{◌≡◌, ℕ, ◌+◌, ◌-◌, ◌^◌, ◌<◌, Bool, true, false, List, ◌++◌, Option, Result, Ok, Err, min, length}
-use Rattle.std.specs.Io.KnownBytes.{Appends}
+use Rattle.std.specs.Prelude.{◌≡◌, ℕ, ◌+◌, ◌-◌, ◌^◌, ◌<◌, ◌≤◌, Bool, true, false, List, ◌++◌, Option, None, Some, Result, Ok, Err, min, length, take}
+use Rattle.std.specs.Io.KnownBytes.{Appends, append_known}
 use Rattle.elf_source.specs.declared.faults.OutFault.{OutFault}
 
 -- a slice that is written from its front: the bytes written, how many bytes are free, whether a take failed
@@ -13,6 +13,18 @@ pub record FrontSlice : Type 0 where
 pub record Writing (W : Type 0) : Type 0 where
   pub writer : W
   pub failed : Bool
+
+-- a sink that may hold bytes back: what the sink below it took, the bytes that are held, whether a take failed
+pub record HeldOutput : Type 0 where
+  pub below : Option (List ℕ)
+  pub held : List ℕ
+  pub failed : Bool
+
+-- it holds some of these bytes, behind those that it held; or nothing changed
+abbrev pub KeepsSome : HeldOutput → HeldOutput → Option ℕ → List ℕ → Type 0
+KeepsSome old new None bytes = new ≡ old
+KeepsSome old new (Some count) bytes =
+    (0 < count) × (count ≤ length bytes) × (new.below ≡ old.below) × (new.held ≡ old.held ++ take count bytes)
 
 -- what is seen of an output: the bytes that its sink tells, how many it took, and whether it has failed
 pub record Written : Type 0 where
@@ -42,3 +54,16 @@ pub record OutFails (new : Written) (fault : OutFault) : Type 0 where
 abbrev pub Puts : {X : Type 0} → Written → Written → Result X OutFault → List ℕ → Type 0
 Puts old new (Ok x) bytes = Takes old new bytes × (new.failed ≡ false)
 Puts old new (Err fault) bytes = TakesFront old new bytes × OutFails new fault
+
+-- the last so many bytes that were taken are taken back, and so many are written
+pub record TakesBack (old new : Written) (count written : ℕ) : Type 0 where
+  pub back : List ℕ
+  pub many : length back ≡ count
+  pub bytes : old.taken ≡ append_known new.taken back
+  pub counts : new.written ≡ written
+  pub failed : new.failed ≡ old.failed
+
+-- the same, or nothing changed
+abbrev pub TakesBackIf : Bool → (old new : Written) → (count written : ℕ) → Type 0
+TakesBackIf true old new count written = TakesBack old new count written
+TakesBackIf false old new count written = new ≡ old

@@ -10,8 +10,8 @@ use std::marker::Model;
 /// A sink, and how many bytes it took.
 #[derive(Drop)]
 pub struct Out<W: Sink> {
-    sink: W,
-    written: u128,
+    pub(crate) sink: W,
+    pub(crate) written: u128,
     ghost fits: { written < 2 ^ 128 },
 }
 
@@ -90,7 +90,7 @@ impl<W: Sink> Out<W> {
 
 // Gives `bytes` to the sink until it has taken all or fails, and counts those that it took.
 #[tactic(auto, using(crate::proofs::Known::Appends_turn))]
-fn give<W: Sink>(sink: &mut W, bytes: &[u8]) -> usize
+pub(crate) fn give<W: Sink>(sink: &mut W, bytes: &[u8]) -> usize
     ensures within { result ≤ length bytes.now }
     ensures bytes { Appends (W.taken sink.old) (W.taken sink.new) (take result bytes.now) }
     ensures whole { W.failed sink.new ≡ false → result ≡ length bytes.now }

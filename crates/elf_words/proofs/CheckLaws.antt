@@ -12,9 +12,10 @@ use Rattle.elf_listing_words.specs.RowNames.{asks_names}
 use Rattle.elf_words.specs.AskedNames.{AreBadNames, ChoosesBadly, ChosenBy, takes_names}
 use Rattle.elf_words.specs.declared.checks.Choosing.{Choosing}
 use Rattle.elf_words.specs.AskedNeeds.{NothingNeeded}
+use Rattle.elf_words.specs.Lists.{NothingListed}
 use Rattle.elf_words.specs.Checks.{HasAnyFault, IsAsked, NothingAsked, NothingChecked}
 use Rattle.elf_words.specs.declared.checks.AskedCommand.{AskedCommand}
-use Rattle.elf_words.specs.declared.checks.AskedCommand.TheVariants.{File, Laid, Chosen, Check, Traits, Needs, Archive, Version}
+use Rattle.elf_words.specs.declared.checks.AskedCommand.TheVariants.{File, Laid, Chosen, Check, List as Listings, Traits, Needs, Archive, Version}
 use Rattle.elf_words.specs.declared.requests.Request.{Request}
 use Rattle.elf_words.specs.declared.requests.RequestFault.{RequestFault}
 use Rattle.elf_words.specs.declared.requests.Task.{Task}
@@ -65,10 +66,27 @@ nothing_by_check rows none = record { nothing = nothing; faultless = no_fault (c
     nothing (Laid laying) is = no_file (codes "check") rows refl laying.request is.0
     nothing (Chosen asked) is = apart (codes "check") (codes "show") refl is.show
     nothing (Check asked) is = none asked is
+    nothing (Listings asked) is = apart (codes "check") (codes "list") refl is.list
     nothing (Traits asked) is = apart (codes "check") (codes "traits") refl is.traits
     nothing (Needs asked) is = apart (codes "check") (codes "needs") refl is.needs
     nothing (Archive asked) is = apart (codes "check") (codes "archive") refl is.archive
     nothing Version is = apart (codes "check") (codes "version") refl is
+
+-- where no listings of many files are asked for by `list`, nothing is
+pub nothing_by_list : (rows : List Row) → NothingListed (Some (codes "list", rows)) → ((fault : RequestFault) → AreBadNames rows fault → ⊥) → NothingAsked (Some (codes "list", rows))
+unfolding is_of_file
+nothing_by_list rows none good = record { nothing = nothing; faultless = fault_free (codes "list") rows refl (apart (codes "list") (codes "traits") refl) (λ fault has. good fault has.1) }
+  where
+    nothing : (asked : AskedCommand) → IsAsked (Some (codes "list", rows)) asked → ⊥
+    nothing (File request) is = no_file (codes "list") rows refl request is.0
+    nothing (Laid laying) is = no_file (codes "list") rows refl laying.request is.0
+    nothing (Chosen asked) is = apart (codes "list") (codes "show") refl is.show
+    nothing (Check asked) is = apart (codes "list") (codes "check") refl is.check
+    nothing (Listings asked) is = none asked is
+    nothing (Traits asked) is = apart (codes "list") (codes "traits") refl is.traits
+    nothing (Needs asked) is = apart (codes "list") (codes "needs") refl is.needs
+    nothing (Archive asked) is = apart (codes "list") (codes "archive") refl is.archive
+    nothing Version is = apart (codes "list") (codes "version") refl is
 
 -- where no traits are asked for by `traits`, and no word is missing, nothing is
 pub nothing_by_traits : (rows : List Row) → NothingTold (Some (codes "traits", rows)) → (LacksWord (first_of (codes "require") rows) → ⊥) → NothingAsked (Some (codes "traits", rows))
@@ -80,6 +98,7 @@ nothing_by_traits rows none spelled = record { nothing = nothing; faultless = fa
     nothing (Laid laying) is = no_file (codes "traits") rows refl laying.request is.0
     nothing (Chosen asked) is = apart (codes "traits") (codes "show") refl is.show
     nothing (Check asked) is = apart (codes "traits") (codes "check") refl is.check
+    nothing (Listings asked) is = apart (codes "traits") (codes "list") refl is.list
     nothing (Traits asked) is = none asked is
     nothing (Needs asked) is = apart (codes "traits") (codes "needs") refl is.needs
     nothing (Archive asked) is = apart (codes "traits") (codes "archive") refl is.archive
@@ -100,6 +119,7 @@ nothing_by_needs rows none = record { nothing = nothing; faultless = no_fault (c
     nothing (Laid laying) is = no_file (codes "needs") rows refl laying.request is.0
     nothing (Chosen asked) is = apart (codes "needs") (codes "show") refl is.show
     nothing (Check asked) is = apart (codes "needs") (codes "check") refl is.check
+    nothing (Listings asked) is = apart (codes "needs") (codes "list") refl is.list
     nothing (Traits asked) is = apart (codes "needs") (codes "traits") refl is.traits
     nothing (Needs asked) is = none asked is
     nothing (Archive asked) is = apart (codes "needs") (codes "archive") refl is.archive
@@ -115,6 +135,7 @@ nothing_by_archive rows none good = record { nothing = nothing; faultless = faul
     nothing (Laid laying) is = no_file (codes "archive") rows refl laying.request is.0
     nothing (Chosen asked) is = apart (codes "archive") (codes "show") refl is.show
     nothing (Check asked) is = apart (codes "archive") (codes "check") refl is.check
+    nothing (Listings asked) is = apart (codes "archive") (codes "list") refl is.list
     nothing (Traits asked) is = apart (codes "archive") (codes "traits") refl is.traits
     nothing (Needs asked) is = apart (codes "archive") (codes "needs") refl is.needs
     nothing (Archive asked) is = none asked is
@@ -130,6 +151,7 @@ nothing_by_show rows none unchosen good = record { nothing = nothing; faultless 
     nothing (Laid laying) is = none laying.request is.0
     nothing (Chosen asked) is = unchosen asked is
     nothing (Check asked) is = apart (codes "show") (codes "check") refl is.check
+    nothing (Listings asked) is = apart (codes "show") (codes "list") refl is.list
     nothing (Traits asked) is = apart (codes "show") (codes "traits") refl is.traits
     nothing (Needs asked) is = apart (codes "show") (codes "needs") refl is.needs
     nothing (Archive asked) is = apart (codes "show") (codes "archive") refl is.archive
@@ -153,33 +175,35 @@ not_every rows named request asks = by_task request.file request.task asks.1
     by_task file (Place section addresses explain) is = absurd is
 
 -- where another command asks for nothing of one file, nothing is asked for
-pub nothing_by_other : (command : Text) (rows : List Row) → command ≢ codes "show" → command ≢ codes "check" → command ≢ codes "traits" → command ≢ codes "needs" → command ≢ codes "archive" → command ≢ codes "version"
+pub nothing_by_other : (command : Text) (rows : List Row) → command ≢ codes "show" → command ≢ codes "check" → command ≢ codes "list" → command ≢ codes "traits" → command ≢ codes "needs" → command ≢ codes "archive" → command ≢ codes "version"
     → AsksNothing (Some (command, rows)) → NothingAsked (Some (command, rows))
-nothing_by_other command rows not_show not_check not_traits not_needs not_archive not_version none = record { nothing = nothing; faultless = faultless }
+nothing_by_other command rows not_show not_check not_list not_traits not_needs not_archive not_version none = record { nothing = nothing; faultless = faultless }
   where
     nothing : (asked : AskedCommand) → IsAsked (Some (command, rows)) asked → ⊥
     nothing (File request) is = none.nothing request is.0
     nothing (Laid laying) is = none.nothing laying.request is.0
     nothing (Chosen asked) is = not_show is.show
     nothing (Check asked) is = not_check is.check
+    nothing (Listings asked) is = not_list is.list
     nothing (Traits asked) is = not_traits is.traits
     nothing (Needs asked) is = not_needs is.needs
     nothing (Archive asked) is = not_archive is.archive
     nothing Version is = not_version is
 
-    unnamed : (show archive : Bool) → bytes_eq command (codes "show") ≡ show → bytes_eq command (codes "archive") ≡ archive
-        → (show || (archive || false)) ≡ true → ⊥
-    unnamed true archive is other taken = not_show ((bytes_eq-Decides command (codes "show")).0 is)
-    unnamed false true is other taken = not_archive ((bytes_eq-Decides command (codes "archive")).0 other)
-    unnamed false false is other taken = cc
+    unnamed : (show archive list : Bool) → bytes_eq command (codes "show") ≡ show → bytes_eq command (codes "archive") ≡ archive → bytes_eq command (codes "list") ≡ list
+        → (show || (archive || (list || false))) ≡ true → ⊥
+    unnamed true archive list is other third taken = not_show ((bytes_eq-Decides command (codes "show")).0 is)
+    unnamed false true list is other third taken = not_archive ((bytes_eq-Decides command (codes "archive")).0 other)
+    unnamed false false true is other third taken = not_list ((bytes_eq-Decides command (codes "list")).0 third)
+    unnamed false false false is other third taken = cc
 
     faultless : (fault : RequestFault) → HasAnyFault (Some (command, rows)) fault → ⊥
     faultless fault (inl has) = none.faultless fault has
     faultless fault (inr (inl has)) = not_traits has.1.0
-    faultless fault (inr (inr has)) = unnamed (bytes_eq command (codes "show")) (bytes_eq command (codes "archive")) refl refl has.0
+    faultless fault (inr (inr has)) = unnamed (bytes_eq command (codes "show")) (bytes_eq command (codes "archive")) (bytes_eq command (codes "list")) refl refl refl has.0
 
 -- where a section is not applied by `apply`, nothing is asked for
 pub nothing_by_apply : (rows : List Row) → AsksNothing (Some (codes "apply", rows)) → NothingAsked (Some (codes "apply", rows))
 nothing_by_apply rows =
-    nothing_by_other (codes "apply") rows (apart (codes "apply") (codes "show") refl) (apart (codes "apply") (codes "check") refl) (apart (codes "apply") (codes "traits") refl) (apart (codes "apply") (codes "needs") refl)
+    nothing_by_other (codes "apply") rows (apart (codes "apply") (codes "show") refl) (apart (codes "apply") (codes "check") refl) (apart (codes "apply") (codes "list") refl) (apart (codes "apply") (codes "traits") refl) (apart (codes "apply") (codes "needs") refl)
     (apart (codes "apply") (codes "archive") refl) (apart (codes "apply") (codes "version") refl)

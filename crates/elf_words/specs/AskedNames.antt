@@ -66,7 +66,7 @@ IsNameFault rows fault = (fault ≡ Memory) ⊎ AreBadNames rows fault
 
 -- the commands that take such names
 abbrev pub takes_names : Text → Bool
-takes_names command = list_any (bytes_eq command) (codes "show" ∷ codes "archive" ∷ [])
+takes_names command = list_any (bytes_eq command) (codes "show" ∷ codes "archive" ∷ codes "list" ∷ [])
 
 -- rows of names are asked for, with this fault in the words for them
 abbrev pub ChoosesBadly : Option (Text × List Row) → RequestFault → Type 0

@@ -8,8 +8,9 @@ use Rattle.elf_words.specs.AskedNames.{ChoosesBadly, ChosenBy}
 use Rattle.elf_words.specs.AskedNeeds.{NeedsBy}
 use Rattle.elf_words.specs.AskedTraits.{RequiresBadly, TellsBy}
 use Rattle.elf_words.specs.Files.{AreFiles}
+use Rattle.elf_words.specs.Lists.{FilesListedBy}
 use Rattle.elf_words.specs.declared.checks.AskedCommand.{AskedCommand}
-use Rattle.elf_words.specs.declared.checks.AskedCommand.TheVariants.{File, Laid, Chosen, Check, Traits, Needs, Archive, Version}
+use Rattle.elf_words.specs.declared.checks.AskedCommand.TheVariants.{File, Laid, Chosen, Check, List as Listings, Traits, Needs, Archive, Version}
 use Rattle.elf_words.specs.Archives.{ArchivesBy}
 use Rattle.elf_words.specs.declared.checks.Checking.{Checking}
 use Rattle.elf_words.specs.declared.requests.RequestFault.{RequestFault}
@@ -44,6 +45,7 @@ IsAsked matches (File request) = AsksBy matches request × LacksList matches
 IsAsked matches (Laid laying) = AsksBy matches laying.request × HasList matches laying.list.now
 IsAsked matches (Chosen asked) = ChosenBy matches asked
 IsAsked matches (Check asked) = ChecksBy matches asked
+IsAsked matches (Listings asked) = FilesListedBy matches asked
 IsAsked matches (Traits asked) = TellsBy matches asked
 IsAsked matches (Needs asked) = NeedsBy matches asked
 IsAsked matches (Archive asked) = ArchivesBy matches asked

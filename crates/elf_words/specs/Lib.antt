@@ -7,3 +7,4 @@ pub mod Archives
 pub mod Checks
 pub mod Files
 pub mod Layouts
+pub mod Lists

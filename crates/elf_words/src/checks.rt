@@ -19,6 +19,8 @@ pub enum AskedCommand<'a> {
     Chosen(Choosing<'a>),
     /// Many files are checked.
     Check(Checking<'a>),
+    /// Many files are listed.
+    List(ListAsked<'a>),
     /// How many files are hardened is told.
     Traits(TraitsAsked<'a>),
     /// What a program needs is told.
@@ -78,7 +80,8 @@ pub struct ManyFiles<'a> {
     pub list: Option<&'a str>,
 }
 
-/// A check of many files: which, how much of each may be read, and which parts of its listing count.
+/// A check of many files: which, how much of each may be read, which parts of its listing count, and
+/// whether archives are gone into.
 #[derive(Drop)]
 pub struct Checking<'a> {
     /// The files.
@@ -92,6 +95,37 @@ pub struct Checking<'a> {
 }
 
 impl<'a> Checking<'a> {
+    ghost use Rattle.std.specs.Prelude.{◌≤◌};
+
+    /// How many slots the header store needs, 1 to 65,279.
+    pub fn headers(&self) -> u16
+        ensures value { result ≡ self.now.limits.headers }
+        ensures some { 1 ≤ result }
+        ensures few { result ≤ 65279 }
+    {
+        self.limits.headers
+    }
+}
+
+/// Listings of many files: which, how much of each may be read, which parts there are, how rows are
+/// shown, and whether archives are gone into.
+#[derive(Drop)]
+pub struct ListAsked<'a> {
+    /// The files.
+    pub files: ManyFiles<'a>,
+    /// How many headers are permitted, and how many bytes may be read, of each file.
+    pub limits: Limits,
+    /// The parts of a listing.
+    pub parts: Parts,
+    /// How rows are shown.
+    pub style: Style<'a>,
+    /// Whether archives are listed too.
+    pub members: bool,
+    /// The names of which the rows alone are listed, where that is asked for.
+    pub names: Option<NamesAsked<'a>>,
+}
+
+impl<'a> ListAsked<'a> {
     ghost use Rattle.std.specs.Prelude.{◌≤◌};
 
     /// How many slots the header store needs, 1 to 65,279.

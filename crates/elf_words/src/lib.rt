@@ -6,6 +6,7 @@ mod check_words;
 mod checks;
 mod file_words;
 mod items;
+mod list_words;
 mod name_words;
 mod names;
 mod need_words;
@@ -15,8 +16,8 @@ mod trait_words;
 mod words;
 
 pub use checks::{
-    Archiving, AskedCommand, Checking, Choosing, Laying, ManyFiles, NamesAsked, NeedsAsked,
-    TraitsAsked,
+    Archiving, AskedCommand, Checking, Choosing, Laying, ListAsked, ManyFiles, NamesAsked,
+    NeedsAsked, TraitsAsked,
 };
 pub use names::{checked_name, checked_symbol};
 pub use requests::{Request, RequestFault, Task, WantedName, WantedSymbol};

@@ -16,6 +16,7 @@ use crate::archive_words::archive_asked;
 use crate::check_words::check_asked;
 use crate::checks::{AskedCommand, Laying};
 use crate::items::lay;
+use crate::list_words::list_asked;
 use crate::names::{checked_name, checked_symbol};
 use crate::need_words::needs_asked;
 use crate::requests::{Request, RequestFault, Task};
@@ -105,6 +106,7 @@ fn asked_by<'a>(
     match command {
         "show" => show_asked(alloc, options),
         "check" => check_asked(alloc, options),
+        "list" => list_asked(alloc, options),
         "traits" => traits_asked(alloc, options),
         "needs" => Ok(needs_asked(options)),
         "archive" => archive_asked(alloc, options),
@@ -145,7 +147,7 @@ fn file_asked<'a>(
     command: &str,
     options: &ArgMatches<'a>,
 ) -> Result<Option<AskedCommand<'a>>, RequestFault>
-    requires { (command.now ≢ codes "show") × (command.now ≢ codes "check")
+    requires { (command.now ≢ codes "show") × (command.now ≢ codes "check") × (command.now ≢ codes "list")
         × (command.now ≢ codes "traits") × (command.now ≢ codes "needs")
         × (command.now ≢ codes "archive") × (command.now ≢ codes "version")
         × (command.now ≢ codes "apply") }

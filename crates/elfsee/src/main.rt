@@ -4,6 +4,7 @@
 mod archives;
 mod explaining;
 mod layouts;
+mod lists;
 mod many;
 mod names;
 mod needs;
@@ -29,6 +30,7 @@ use elf_source::{Counted, MemorySource, Out, Sink, Source, WriteSink};
 use elf_words::{AskedCommand, Request, RequestFault, request};
 use explaining::tell_why;
 use layouts::apply_laid;
+use lists::list_files;
 use many::{check_many, tell_traits};
 use names::show_chosen;
 use needs::tell_needs;
@@ -89,6 +91,7 @@ where
         AskedCommand::Laid(laying) => apply_laid(rt, laying, errors),
         AskedCommand::Chosen(choosing) => show_chosen(rt, choosing, errors),
         AskedCommand::Check(checking) => check_many(rt, checking, terminal),
+        AskedCommand::List(asked) => list_files(rt, asked, terminal),
         AskedCommand::Traits(traits) => tell_traits(rt, traits, terminal),
         AskedCommand::Needs(asked) => tell_needs(rt, asked),
         AskedCommand::Archive(archiving) => list_archive(rt, archiving),

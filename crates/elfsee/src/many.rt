@@ -8,7 +8,7 @@ use elf_many_checks::Checks;
 use elf_many_traits::{TraitLines, TraitRule};
 use elf_model::Format;
 use elf_program::{CANNOT_OPEN, Ended, Ending, OUT_OF_MEMORY, OUTPUT_BYTES, READ_FAULT, end_run};
-use elf_source::{Out, OutFault, Sink, WriteSink};
+use elf_source::{HoldingSink, Out, OutFault, Sink, WriteSink};
 use elf_words::{Checking, ManyFiles, TraitsAsked};
 use std::fs;
 use std::io::{self, BufWriter, Input, Stderr, Write};
@@ -37,7 +37,8 @@ where
         return Err(OUT_OF_MEMORY);
     };
     let checks = new_checks(asked, room.store());
-    visit_files(rt, &asked.files, checks, asked.style.format, terminal)
+    let held = Vec::new(rt.alloc());
+    visit_files(rt, &asked.files, checks, held, asked.style.format, terminal)
 }
 
 /// Tells how all files that are asked for are hardened. Where there is a terminal it is told how far it is.
@@ -58,7 +59,8 @@ where
         return Err(OUT_OF_MEMORY);
     };
     let lines = new_trait_lines(asked, room.store());
-    visit_files(rt, &asked.files, lines, asked.format, terminal)
+    let held = Vec::new(rt.alloc());
+    visit_files(rt, &asked.files, lines, held, asked.format, terminal)
 }
 
 /// A check by what is asked for.
@@ -89,14 +91,16 @@ fn new_trait_lines<'a>(asked: &'a TraitsAsked<'a>, store: HeaderStore<'a>) -> Tr
     TraitLines::new(store, rule)
 }
 
-/// Makes what memory is needed beside that for headers, and tells of all files that are asked for.
+/// Makes what memory is needed beside that for headers, and tells of all files that are asked for. `held`
+/// is where bytes of the output may be held back.
 ///
 /// # Errors
 /// There is no memory.
-fn visit_files<R: Files + Print + Input + AllocGlobal, A: EachFile + Drop>(
+pub fn visit_files<R: Files + Print + Input + AllocGlobal, A: EachFile + Drop>(
     rt: &R,
     files: &ManyFiles<'_>,
     each: A,
+    held: Vec<u8>,
     format: Format,
     terminal: Option<Stderr>,
 ) -> Result<Ending, Ending>
@@ -113,7 +117,12 @@ where
     let Ok(output) = BufWriter::with_capacity(rt.alloc(), OUTPUT_BYTES, io::writer(rt)) else {
         return Err(OUT_OF_MEMORY);
     };
-    let mut many = Many::new(Out::new(WriteSink::new(output)), each, format, terminal);
+    let mut many = Many::new(
+        Out::new(HoldingSink::new(WriteSink::new(output), held)),
+        each,
+        format,
+        terminal,
+    );
     let ended = visit_all(rt, files, &mut many, &mut walk, &mut entries);
     Ok(end_many(ended, many))
 }
@@ -127,7 +136,8 @@ fn end_many<W: Write + Drop, A: EachFile + Drop>(
         Ok(status) => Ended::Status(status),
         Err(ended) => ended,
     };
-    let (ending, _output) = end_run(ended, many.into_out().into_inner().into_inner());
+    let output = many.into_out().into_inner().into_inner();
+    let (ending, _output) = end_run(ended, output.into_inner());
     ending
 }
 

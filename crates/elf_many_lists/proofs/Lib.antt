@@ -1,0 +1,4 @@
+pub mod FrontLaws
+pub mod HeadedLaws
+pub mod HeldLaws
+pub mod ToldLaws

@@ -1,0 +1,81 @@
+-- What is listed of one file among many, by its sort.
+use Rattle.std.specs.Prelude.{ℕ, ◌≡◌, ◌+◌, ◌≤◌, ◌⊎◌, List, [], ◌++◌, Option, None, Some, Bool, true, false, Result, Ok, Err, IfErr, IfSome}
+use Rattle.elf_model.specs.ArchiveCost.{IsArchiveBudgeted, any_refused, archive_ceiling, archive_cost}
+use Rattle.elf_model.specs.Budget.{IsBudgeted}
+use Rattle.elf_model.specs.Choice.{RowChoice}
+use Rattle.elf_model.specs.Cost.{ceiling, listing_cost}
+use Rattle.elf_model.specs.FileLists.{headed}
+use Rattle.elf_model.specs.Style.{Style}
+use Rattle.elf_model.specs.declared.causes.Refusal.{Refusal}
+use Rattle.elf_model.specs.declared.states.FileSort.{FileSort}
+use Rattle.elf_model.specs.declared.states.FileSort.TheVariants as sort
+use Rattle.elf_source.specs.Source.{Counting, Faults}
+use Rattle.elf_source.specs.Output.{Written, Takes, TakesFront, OutFails}
+use Rattle.elf_headers.specs.declared.caps.Caps.{Caps}
+use Rattle.elf_headers.specs.declared.caps.Limits.{Limits}
+use Rattle.elf_headers.specs.declared.stop.Stop.{Stop}
+use Rattle.elf_headers.specs.declared.stop.Stop.TheVariants.{Refused, Source, Out}
+use Rattle.elf_listing.specs.Reports.{Wrote}
+
+-- a text with this fault is what is listed of a file of a sort within a budget: its listing, or that of an archive
+abbrev pub IsListedText : FileSort → Option ℕ → List ℕ → ℕ → Style → ℕ → List ℕ → Option Refusal → Type 0
+IsListedText sort.Elf = IsBudgeted
+IsListedText sort.Archive = IsArchiveBudgeted
+IsListedText sort.Foreign = λ budget file headers style parts text fault. (text ≡ []) × (fault ≡ None)
+
+-- the listing of a member is refused
+abbrev pub lists_refused : FileSort → List ℕ → ℕ → Style → ℕ → Bool
+lists_refused sort.Archive = any_refused
+lists_refused _ = λ file headers style parts. false
+
+-- how many bytes it asks for at most
+abbrev pub sort_cost : FileSort → List ℕ → ℕ → Style → ℕ → ℕ
+sort_cost sort.Elf = listing_cost
+sort_cost sort.Archive = archive_cost
+sort_cost sort.Foreign = λ file headers style parts. 0
+
+-- the same of every source
+abbrev pub sort_ceiling : FileSort → (size headers cap : ℕ) → ℕ
+sort_ceiling sort.Elf = ceiling
+sort_ceiling sort.Archive = archive_ceiling
+sort_ceiling sort.Foreign = λ size headers cap. 0
+
+-- the answer is whether the listing of a member was refused
+abbrev pub TellsRefused : Result Bool Stop → Bool → Type 0
+TellsRefused (Ok refused) any = refused ≡ any
+TellsRefused (Err stop) any = Unit {0}
+
+-- WHAT WAS LISTED of a file of a sort: a text with a fault was written, whole where the answer tells that it is, else a front of it
+pub record ListsSort (kind : FileSort) (file : List ℕ) (limits : Limits) (style : Style) (parts : ℕ) (old new : Written) (result : Result Bool Stop) : Type 0 where
+  pub text : List ℕ
+  pub fault : Option Refusal
+  pub listed : IsListedText kind limits.budget file limits.headers style parts text fault
+  pub wrote : Wrote old new result text fault
+  pub refused : TellsRefused result (lists_refused kind file limits.headers style parts)
+
+-- what a stop says of the source and the output
+abbrev pub SortSays : Counting → Counting → Written → Stop → Type 0
+SortSays old new out (Refused refusal) = Unit {0}
+SortSays old new out (Source fault at) = Faults old.seen new.seen fault
+SortSays old new out (Out fault) = OutFails out fault
+
+-- what it asks for, for every source: no more than the ceiling, and no more than the budget
+pub record AsksForSort (kind : FileSort) (caps : Caps) (old new : Counting) : Type 0 where
+  pub ceiling : new.asked ≤ old.asked + sort_ceiling kind old.seen.size caps.limits.headers caps.style.cap.bytes
+  pub budget : IfSome caps.limits.budget (λ bytes. new.asked ≤ old.asked + bytes)
+
+-- THE SAME BEHIND THE LINE of a path, which stands as the choice of rows has it. At a fault of the output a front of the line and
+-- the text was written
+abbrev pub WroteHeaded : RowChoice → List ℕ → Written → Written → Result Bool Stop → List ℕ → Option Refusal → Type 0
+WroteHeaded choice line old new (Ok refused) text fault = Takes old new (headed choice line text) × (None ≡ fault)
+WroteHeaded choice line old new (Err (Refused refusal)) text fault = Takes old new (headed choice line text) × (Some refusal ≡ fault)
+WroteHeaded choice line old new (Err (Source cause at)) text fault =
+    (front : List ℕ) × (rest : List ℕ) × (text ≡ front ++ rest) × Takes old new (headed choice line front)
+WroteHeaded choice line old new (Err (Out cause)) text fault = TakesFront old new (line ++ text)
+
+pub record ListsHeaded (kind : FileSort) (line file : List ℕ) (limits : Limits) (style : Style) (parts : ℕ) (old new : Written) (result : Result Bool Stop) : Type 0 where
+  pub text : List ℕ
+  pub fault : Option Refusal
+  pub listed : IsListedText kind limits.budget file limits.headers style parts text fault
+  pub wrote : WroteHeaded style.choice line old new result text fault
+  pub refused : TellsRefused result (lists_refused kind file limits.headers style parts)

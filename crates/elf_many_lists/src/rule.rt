@@ -1,0 +1,14 @@
+//! The rule by which files are listed.
+use elf_headers::Caps;
+use elf_record::Parts;
+
+/// The rule by which files are listed.
+#[derive(Clone, Copy)]
+pub struct ListRule<'n> {
+    /// How much of the file may be read, and how rows of its listing are shown.
+    pub caps: Caps<'n>,
+    /// The parts of its listing.
+    pub parts: Parts,
+    /// Whether archives are gone into.
+    pub members: bool,
+}

@@ -1,0 +1,108 @@
+//! The listings of many files.
+ghost use Rattle.std.specs.Prelude.{◌≡◌, ◌⊎◌, IfErr};
+ghost use Rattle.elf_headers.specs.Permitted.{style_of};
+ghost use Rattle.elf_name_lists.specs.NamedRows.{named_style};
+ghost use Rattle.elf_wanted.specs.Names.{NeverFall, texts_of};
+ghost use Rattle.elfsee.specs.Ends.{LacksMemory};
+ghost use Rattle.elfsee.specs.Naming.{LacksNames};
+
+use crate::many::visit_files;
+use crate::names::{read_list, sorted_names};
+use elf_headers::{Caps, HeaderRoom};
+use elf_many_lists::{FileLists, HELD_BYTES, ListRule};
+use elf_name_lists::style_by_names;
+use elf_program::{Ending, OUT_OF_MEMORY};
+use elf_words::{ListAsked, ManyFiles};
+use std::io::{Input, Stderr};
+use std::os::unix::fs::FileExt;
+use std::rt::Files;
+
+/// Lists all files that are asked for, or those of their rows that have one of some names. The names are
+/// read and sorted before the first file is opened. Where there is a terminal it is told how far it is.
+///
+/// # Errors
+/// There is no memory, or the names can't be read.
+#[inline(never)]
+pub fn list_files<R: Files + Print + Input + AllocGlobal>(
+    rt: &R,
+    asked: &ListAsked<'_>,
+    terminal: Option<Stderr>,
+) -> Result<Ending, Ending>
+where
+    R::File: FileExt,
+    ensures { IfErr result (λ ending. LacksNames ending.0 ending.1.now
+        ⊎ LacksMemory ending.0 ending.1.now) }
+{
+    let Some(names) = &asked.names else {
+        return list_with(rt, &asked.files, &rule_of(asked), terminal);
+    };
+    let mut list = Vec::new(rt.alloc());
+    if let Err(ending) = read_list(rt, names, &mut list) {
+        return Err(ending);
+    }
+    match sorted_names(rt.alloc(), names, &list) {
+        Ok(texts) => list_with(rt, &asked.files, &rule_by_names(asked, &texts), terminal),
+        Err(ending) => Err(ending),
+    }
+}
+
+/// The rule of what is asked for.
+fn rule_of<'a>(asked: &ListAsked<'a>) -> ListRule<'a>
+    ensures caps { result.caps ≡ record { limits = asked.now.limits; style = asked.now.style } }
+    ensures parts { result.parts ≡ asked.now.parts }
+    ensures members { result.members ≡ asked.now.members }
+{
+    let caps = Caps {
+        limits: asked.limits,
+        style: asked.style,
+    };
+    ListRule {
+        caps,
+        parts: asked.parts,
+        members: asked.members,
+    }
+}
+
+/// The rule of what is asked for, of the rows of these names, which are in the rising order of their bytes.
+fn rule_by_names<'n>(asked: &ListAsked<'_>, names: &'n [&'n [u8]]) -> ListRule<'n>
+    requires { NeverFall names.now }
+    ensures limits { result.caps.limits ≡ asked.now.limits }
+    ensures style { style_of result.caps.style
+        ≡ named_style (texts_of names.now) (style_of asked.now.style) }
+    ensures parts { result.parts ≡ asked.now.parts }
+    ensures members { result.members ≡ asked.now.members }
+{
+    let caps = Caps {
+        limits: asked.limits,
+        style: style_by_names(asked.style, names),
+    };
+    ListRule {
+        caps,
+        parts: asked.parts,
+        members: asked.members,
+    }
+}
+
+/// Makes what memory is needed, and lists files by a rule.
+///
+/// # Errors
+/// There is no memory.
+fn list_with<R: Files + Print + Input + AllocGlobal>(
+    rt: &R,
+    files: &ManyFiles<'_>,
+    rule: &ListRule<'_>,
+    terminal: Option<Stderr>,
+) -> Result<Ending, Ending>
+where
+    R::File: FileExt,
+    ensures { IfErr result (λ ending. LacksMemory ending.0 ending.1.now) }
+{
+    let Ok(mut room) = HeaderRoom::new(rt.alloc(), rule.caps.limits.headers) else {
+        return Err(OUT_OF_MEMORY);
+    };
+    let Ok(held) = vec![in rt.alloc(); 0u8; HELD_BYTES] else {
+        return Err(OUT_OF_MEMORY);
+    };
+    let lists = FileLists::new(room.store(), *rule);
+    visit_files(rt, files, lists, held, rule.caps.style.format, terminal)
+}
