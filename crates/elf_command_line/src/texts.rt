@@ -98,8 +98,7 @@ NAME has 1 to 255 bytes, and the last '=' ends it; ADDR is 0x and 1 to 16 hexade
 Example: elfsee apply example.o 1 at:1=0x401000 def:main=0x401200";
 
 pub(crate) const FOUND: &str = "\
-The answer is the first symbol of that name in its chain in the file's SysV hash table,
-whatever its version and place; a loader may take another.
+The answer is the first match in the file's SysV hash chain; a loader may choose differently.
 
 With --gnu it is the symbol that a loader of the GNU system takes, of the GNU hash table or,
 where there is none, of the SysV one. NAME may then ask for a version: NAME@VERSION, or
