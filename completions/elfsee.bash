@@ -6,7 +6,7 @@ _elfsee_options() {
     case $1 in
     show | archive) set -- --headers --names --max-read --only --gnu --by-segments --json --name --name-list ;;
     sample) set -- --headers --names --max-read --only --gnu --by-segments --json ;;
-    check) set -- --headers --names --max-read --only --gnu --by-segments --json --files0-from ;;
+    check) set -- --headers --names --max-read --only --gnu --by-segments --json --members --files0-from ;;
     list) set -- --headers --names --max-read --only --gnu --by-segments --json --name --name-list --members --files0-from ;;
     find) set -- --headers --max-read --gnu --by-segments --json ;;
     apply) set -- --headers --max-read --layout --explain ;;

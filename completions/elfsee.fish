@@ -92,7 +92,7 @@ complete -c elfsee -n '__fish_seen_subcommand_from needs; and __elfsee_lacks --l
 complete -c elfsee -n '__fish_seen_subcommand_from needs; and __elfsee_lacks --default' -l default -x -d 'look in these folders last'
 complete -c elfsee -n '__fish_seen_subcommand_from needs; and __elfsee_lacks --symbols' -l symbols -d 'tell from which object each symbol comes, too'
 complete -c elfsee -n '__fish_seen_subcommand_from needs; and __elfsee_lacks --root' -l root -r -F -d 'look below a folder for each path that begins with a slash'
-complete -c elfsee -n '__fish_seen_subcommand_from list; and __elfsee_lacks --members' -l members -d 'go into archives too'
+complete -c elfsee -n '__fish_seen_subcommand_from check list; and __elfsee_lacks --members' -l members -d 'go into archives too'
 complete -c elfsee -n '__fish_seen_subcommand_from check list traits; and __elfsee_lacks --files0-from' -l files0-from -r -F -d 'take the paths in a file too, each ended by NUL'
 complete -c elfsee -n '__fish_seen_subcommand_from apply; and __elfsee_lacks --layout' -l layout -r -F -d 'take the items in a file too, one a line'
 complete -c elfsee -n '__fish_seen_subcommand_from apply; and __elfsee_lacks --explain' -l explain -d 'tell which item would help where an address is missing'

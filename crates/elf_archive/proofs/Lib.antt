@@ -1,13 +1,13 @@
 mod FieldLaws
 mod MagicLaws
-mod MemberLaws
+pub mod MemberLaws
 mod NameLaws
 mod RowLaws
 mod AskLaws
-mod ConsumeLaws
-mod NarrowLaws
+pub mod ConsumeLaws
+pub mod NarrowLaws
 mod ToldLaws
-mod WalkLaws
-mod ListingLaws
-mod ArchiveLaws
+pub mod WalkLaws
+pub mod ListingLaws
+pub mod ArchiveLaws
 mod ReportLaws

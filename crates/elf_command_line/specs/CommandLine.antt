@@ -120,19 +120,19 @@ list_option = record (new_rule (codes "files0-from")) { long = Some (codes "file
 abbrev pub path_argument : Rule
 path_argument = record (new_rule (codes "PATH")) { range = Some (record { start_inclusive = 0; end_inclusive = usize_max }) }
 
--- a command that goes over many files
-abbrev pub over_files : App → App
-over_files command = with_rule (with_rule command list_option) path_argument
-
-abbrev pub check_command : Words → App
-check_command parts = over_files (with_listing_options parts (new_app (codes "check")))
-
 -- whether archives are gone into
 abbrev pub members_option : Rule
 members_option = flag (codes "members")
 
+-- a command that goes over many files, and perhaps into archives
+abbrev pub over_files : App → App
+over_files command = with_rule (with_rule (with_rule command members_option) list_option) path_argument
+
+abbrev pub check_command : Words → App
+check_command parts = over_files (with_listing_options parts (new_app (codes "check")))
+
 abbrev pub list_command : Words → App
-list_command parts = over_files (with_rule (with_chosen_rows parts (new_app (codes "list"))) members_option)
+list_command parts = over_files (with_chosen_rows parts (new_app (codes "list")))
 
 -- words that are required, which commas part
 abbrev pub require_option : Rule

@@ -220,6 +220,7 @@ const CHECK: Described = Described {
         GNU,
         BY_SEGMENTS,
         JSON,
+        INSIDE,
         LIST,
         PATH,
     ],

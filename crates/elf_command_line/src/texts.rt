@@ -43,7 +43,7 @@ traits also --json, --require and --files0-from, needs also --json and those for
   --name NAME   for show, archive and list only: show the rows of this name alone; at most 64 times
   --name-list LIST
                 for show, archive and list only: show the rows of the names in LIST, one a line
-  --members     for list only: go into archives too
+  --members     for check and list only: go into archives too
   --require WORDS
                 for traits only: tell of each program and library which of these words it lacks,
                 as relro=full,stack=nx
@@ -113,7 +113,9 @@ pub(crate) const CHECKED: &str = "\
 Each file has one line: C, its state, where it is at fault and why, and its path.
   ok       'show' with these options ends with status 0
   refused  it ends with status 1: an offset in the file and the cause follow the state
-  no-elf   it does not begin with the magic number
+  no-elf   it does not begin with the magic number; an archive is such a file without --members,
+           and with it has the state of its members' listings: the first fault, at its offset in
+           the archive
   unread   it cannot be opened or read, or lies more than 64 folders deep
   memory   there was no memory for it
 If a PATH is a folder, all files in it are checked, in the order of their names; links in it are

@@ -1,1 +1,4 @@
+pub mod MemberLaws
+pub mod SortedLaws
 pub mod StateLaws
+pub mod WalkLaws

@@ -1,15 +1,14 @@
 -- The state of a file, by what is known of its listing.
 use Rattle.elf_model.specs.Style.{Style}
 use Rattle.elf_headers.specs.Permitted.{style_of}
-use Rattle.std.proofs.Common.{◌≡◌, ℕ, ◌<◌, ◌≤◌, Bool, true, false, not, if◌then◌else◌, List, length, Option, None, Some, inl, refl, sym, ap, ◌∙◌, nat_lt, arith, ◌^◌}
+use Rattle.std.proofs.Common.{◌≡◌, ℕ, ◌<◌, ◌≤◌, true, if◌then◌else◌, List, length, Option, None, Some, inl, refl, sym, ap, ◌∙◌, nat_lt, arith, ◌^◌}
 use Rattle.std.specs.Prelude.{Ok, Err}
 use Rattle.std.proofs.lemmas.Bool.Decides.{nat_tests}
 use Rattle.elf_model.specs.Budget.{IsBudgeted}
-use Rattle.elf_model.specs.Checking.{IsStateOf, is_not_elf, permits_magic, state_of}
+use Rattle.elf_model.specs.Checking.{IsStateOf, is_not_elf, state_of}
 use Rattle.elf_model.specs.Checks.{first_refusal, header_checks}
 use Rattle.elf_model.specs.Listing.{report_of}
 use Rattle.elf_model.specs.Report.{listing}
-use Rattle.elf_model.specs.declared.causes.Cause.TheVariants.{Short}
 use Rattle.elf_model.specs.declared.causes.Refusal.{Refusal}
 use Rattle.elf_model.specs.declared.states.FileState.{FileState}
 use Rattle.elf_model.specs.declared.states.FileState.TheVariants as state

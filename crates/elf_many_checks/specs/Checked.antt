@@ -1,18 +1,14 @@
 -- What the check of one file did.
-use Rattle.std.specs.Prelude.{ℕ, ◌≡◌, ◌+◌, ◌≤◌, nat_lt, if◌then◌else◌, List, length, Some, Result, IfOk, IfSome, ⊤}
-use Rattle.elf_model.specs.Checking.{IsStateOf, check_line}
+use Rattle.std.specs.Prelude.{ℕ, ◌+◌, ◌≤◌, nat_lt, if◌then◌else◌, List, length, IfSome, ⊤}
+use Rattle.elf_model.specs.Checking.{IsStateOf}
 use Rattle.elf_model.specs.Cost.{ceiling, listing_cost}
 use Rattle.elf_model.specs.Records.{FILE_HEADER_SIZE, ELF_MAGIC_SIZE}
 use Rattle.elf_model.specs.Style.{Style}
 use Rattle.elf_model.specs.declared.states.FileState.{FileState}
 use Rattle.elf_model.specs.declared.states.FileState.TheVariants as state
-use Rattle.elf_source.specs.Output.{Puts, Written}
 use Rattle.elf_source.specs.Source.{Counting}
-use Rattle.elf_source.specs.declared.faults.OutFault.{OutFault}
 use Rattle.elf_headers.specs.Permitted.{style_of}
 use Rattle.elf_headers.specs.declared.caps.Caps.{Caps}
-use Rattle.elf_many.specs.Checked.{FailsRead}
-use Rattle.elf_many.specs.Statuses.{state_status}
 
 -- THE STATE that is found of a file: that of its listing within the budget, unless a read failed
 abbrev pub FindsState : Caps → ℕ → List ℕ → FileState → Type 0
@@ -32,15 +28,3 @@ check_ceiling size headers cap = if nat_lt size FILE_HEADER_SIZE then ELF_MAGIC_
 pub record AsksFor (caps : Caps) (old new : Counting) : Type 0 where
   pub ceiling : new.asked ≤ old.asked + check_ceiling old.seen.size caps.limits.headers caps.style.cap.bytes
   pub budget : IfSome caps.limits.budget (λ bytes. new.asked ≤ old.asked + bytes)
-
--- THE CHECK of a file among many, by its source and the output before and after: the line of the state that its own listing
--- has where the file is known, unread only where a read failed, and the status that this calls for; no more is asked of the
--- source than the listing's cost, and than the budget of a file
-pub record TellsState (caps : Caps) (parts : ℕ) (path : List ℕ) (before after : Counting) (old new : Written) (answer : Result ℕ OutFault) : Type 0 where
-  pub state : FileState
-  pub found : (file : List ℕ) → before.seen.file ≡ Some file → FindsState caps parts file state
-  pub read : FailsRead before after state
-  pub puts : Puts old new answer (check_line caps.style.format state path)
-  pub status : IfOk answer (λ status. status ≡ state_status state)
-  pub cost : (file : List ℕ) → before.seen.file ≡ Some file → after.asked ≤ before.asked + check_cost file caps.limits.headers (style_of caps.style) parts
-  pub asks : AsksFor caps before after

@@ -4,6 +4,10 @@
 
 mod checking;
 mod checks;
+mod members;
+mod sorted;
 
 pub use checking::check;
 pub use checks::{CheckRule, Checks};
+pub use members::check_archive;
+pub use sorted::check_sorted;

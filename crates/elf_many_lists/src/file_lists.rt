@@ -106,7 +106,7 @@ fn behind<'n>(rule: &ListRule<'n>, size: u64) -> ListRule<'n>
 }
 
 /// What is left of a budget behind so many bytes; of one that has no room for them all of it.
-fn budget_behind(budget: Option<u64>, count: u64) -> Option<u64>
+pub fn budget_behind(budget: Option<u64>, count: u64) -> Option<u64>
     ensures { result ≡ budget_behind budget count }
 {
     match budget {

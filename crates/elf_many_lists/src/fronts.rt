@@ -60,7 +60,7 @@ pub fn find_sort<S: Source>(
 }
 
 /// How many of its first bytes tell what a file of so many bytes is.
-pub(crate) fn front_bytes(members: bool, size: u64) -> u64
+pub fn front_bytes(members: bool, size: u64) -> u64
     ensures { result ≡ front_size members size }
 {
     if members && size >= ARCHIVE_MAGIC_BYTES {

@@ -9,8 +9,8 @@ mod path_lines;
 mod rule;
 mod sorts;
 
-pub use file_lists::FileLists;
-pub use fronts::find_sort;
+pub use file_lists::{FileLists, budget_behind};
+pub use fronts::{find_sort, front_bytes};
 pub use headed::list_headed;
 pub use path_lines::{HELD_BYTES, show_path};
 pub use rule::ListRule;

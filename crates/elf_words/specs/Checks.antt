@@ -2,7 +2,7 @@
 use Rattle.std.specs.Prelude.{⊤, ◌≡◌, ◌⊎◌, List, Result, Ok, Err, codes, Option, None, Some}
 use Rattle.clap.specs.Walk.{Row, Text, first_of}
 use Rattle.elf_listing_words.specs.Listings.{AsksVersion}
-use Rattle.elf_listing_words.specs.Options.{AreLimitOptions, AreParts, IsStyle}
+use Rattle.elf_listing_words.specs.Options.{AreLimitOptions, AreParts, IsStyle, is_option_set}
 use Rattle.elf_words.specs.Asked.{AsksBy, HasFault}
 use Rattle.elf_words.specs.AskedNames.{ChoosesBadly, ChosenBy}
 use Rattle.elf_words.specs.AskedNeeds.{NeedsBy}
@@ -23,6 +23,7 @@ pub record IsChecking (command : Text) (rows : List Row) (asked : Checking) : Ty
   pub limits : AreLimitOptions rows asked.limits
   pub style : IsStyle rows asked.style
   pub parts : AreParts rows asked.parts
+  pub members : asked.members ≡ is_option_set (first_of (codes "members") rows)
 
 -- a command with the values of its arguments asks for this check
 abbrev pub ChecksBy : Option (Text × List Row) → Checking → Type 0

@@ -9,7 +9,7 @@ use crate::checks::{AskedCommand, Checking, ManyFiles};
 use crate::file_words::files_of;
 use crate::requests::RequestFault;
 use clap::ArgMatches;
-use elf_listing_words::{limits_of, parts_of, style_of};
+use elf_listing_words::{is_set, limits_of, parts_of, style_of};
 use std::alloc::{AllocError, Global};
 
 /// What `check` with these arguments asks for, or None where there is neither a path nor a file with
@@ -56,5 +56,6 @@ fn checking_of<'a>(options: &ArgMatches<'a>, files: ManyFiles<'a>) -> Option<Che
         limits,
         parts,
         style,
+        members: is_set(options, "members"),
     })
 }

@@ -92,6 +92,8 @@ pub struct Checking<'a> {
     pub parts: Parts,
     /// How rows are shown in such a listing.
     pub style: Style<'static>,
+    /// Whether an archive has the state of its members' listings.
+    pub members: bool,
 }
 
 impl<'a> Checking<'a> {

@@ -4,7 +4,7 @@ ghost use Rattle.elfsee.specs.Ends.{EndsList, LacksMemory, StopsCheck};
 
 use elf_headers::{Caps, HeaderRoom, HeaderStore};
 use elf_many::{EachFile, FolderWalk, ListFault, Many, visit_list, visit_path};
-use elf_many_checks::Checks;
+use elf_many_checks::{CheckRule, Checks};
 use elf_many_traits::{TraitLines, TraitRule};
 use elf_model::Format;
 use elf_program::{CANNOT_OPEN, Ended, Ending, OUT_OF_MEMORY, OUTPUT_BYTES, READ_FAULT, end_run};
@@ -68,12 +68,17 @@ fn new_checks<'a>(asked: &Checking<'_>, store: HeaderStore<'a>) -> Checks<'a>
     requires { store.slots ≡ asked.now.limits.headers }
     ensures caps { result.caps ≡ record { limits = asked.now.limits; style = asked.now.style } }
     ensures parts { result.parts ≡ asked.now.parts }
+    ensures members { result.members ≡ asked.now.members }
 {
-    let caps = Caps {
-        limits: asked.limits,
-        style: asked.style,
+    let rule = CheckRule {
+        caps: Caps {
+            limits: asked.limits,
+            style: asked.style,
+        },
+        parts: asked.parts,
+        members: asked.members,
     };
-    Checks::new(store, caps, asked.parts)
+    Checks::new(store, rule)
 }
 
 /// The lines of traits by what is asked for.
