@@ -94,7 +94,7 @@ whole_within size offset table place entry_size h =
     range_within size offset table place
     (pass-second (not (table % entry_size == 0)) (record { at = place; cause = SizeNotWhole }) (range_checks_of size offset table place) h)
 
-table_within : (bytes : List ℕ) (at size place entry_size : ℕ) → pass (table_checks_of bytes at size place entry_size) ≡ true → sh_size bytes at ≤ size
+pub table_within : (bytes : List ℕ) (at size place entry_size : ℕ) → pass (table_checks_of bytes at size place entry_size) ≡ true → sh_size bytes at ≤ size
 table_within bytes at size place entry_size h =
     whole_within size (sh_offset bytes at) (sh_size bytes at) place entry_size
     (pass-second (not (sh_entsize bytes at == entry_size)) (record { at = place; cause = EntrySize }) (whole_checks_of size (sh_offset bytes at) (sh_size bytes at) place entry_size) h)
@@ -124,7 +124,7 @@ records_within entry each cap size table e f t =
     let m : table / entry * each ≤ size / 16 * (32 + cap) = mul-le-mul (fewer entry size table e t) f in omega arith
 
 -- one walk over records in a file of so many bytes
-walk_within : (headers : HeaderTable) (size type entry bytes : ℕ) → 16 ≤ entry → walk_cost headers size type entry bytes ≤ size / entry * bytes
+pub walk_within : (headers : HeaderTable) (size type entry bytes : ℕ) → 16 ≤ entry → walk_cost headers size type entry bytes ≤ size / entry * bytes
 unfolding walk_cost
 walk_within headers size type entry bytes e = by_found (first_typed headers type)
   where
