@@ -1,5 +1,5 @@
 -- What holds of the versions behind the names of symbols.
-use Rattle.std.specs.Prelude.{ℕ, ◌≡◌, ◌+◌, ◌≤◌, Bool, true, false, List, None, Ok}
+use Rattle.std.specs.Prelude.{ℕ, ◌≡◌, ◌+◌, ◌≤◌, Bool, false, List, None, Ok}
 use Rattle.elf_model.specs.Choice.{Suffixed}
 use Rattle.elf_model.specs.Cost.{kinds_cost}
 use Rattle.elf_model.specs.HeaderTables.{HeaderTable}
