@@ -8,7 +8,7 @@ use Rattle.elf_model.specs.Report.{table_rows}
 use Rattle.elf_model.specs.Rows.{no_name, section_row, segment_row}
 use Rattle.elf_model.specs.Style.{Style}
 use Rattle.elf_model.specs.HeaderTables.{HeaderTable, TableKind, held_headers}
-use Rattle.elf_model.specs.TableKinds.{symbols, relocations, section_notes, segment_notes, section_dynamic, segment_dynamic}
+use Rattle.elf_model.specs.TableKinds.{suffixed_relocations, suffixed_symbols, symbols, relocations, section_notes, segment_notes, section_dynamic, segment_dynamic}
 use Rattle.elf_model.specs.VersionLaws.{records_rows}
 use Rattle.elf_model.specs.VersionRows.{symbol_versions, version_definitions, version_needs}
 use Rattle.elf_model.specs.declared.causes.Cause.{Cause}
@@ -16,7 +16,7 @@ use Rattle.elf_headers.specs.Load.{Opened}
 use Rattle.elf_headers.specs.Store.{Stored, row, segment_bytes}
 use Rattle.elf_table.specs.Tables.{Strings, strings_in}
 use Rattle.elf_listing.specs.declared.parts.Part.{Part}
-use Rattle.elf_listing.specs.declared.parts.Part.TheVariants.{Headers, Segments, Symbols, Relocations, SectionNotes, SegmentNotes, SectionDynamic, SegmentDynamic, Definitions, Needs, SymbolVersions}
+use Rattle.elf_listing.specs.declared.parts.Part.TheVariants.{Headers, Segments, Symbols, Relocations, SectionNotes, SegmentNotes, SectionDynamic, SegmentDynamic, Definitions, Needs, SymbolVersions, SuffixedSymbols, SuffixedRelocations}
 
 -- WHAT A PART LISTS: its bit among the parts of a listing; how many headers it goes over, those in the store; the items of the
 -- header of an index, in a file; and how many bytes it asks for at most with its table, by the store
@@ -80,6 +80,8 @@ listed_by SegmentDynamic = of_segments segment_dynamic
 listed_by Definitions = of_sections version_definitions
 listed_by Needs = of_sections version_needs
 listed_by SymbolVersions = of_sections symbol_versions
+listed_by SuffixedSymbols = of_sections suffixed_symbols
+listed_by SuffixedRelocations = of_sections suffixed_relocations
 
 -- what is so before a part is listed of a file that is known, in a style: the versions of symbols are named by definitions and
 -- needs whose own rows had no fault

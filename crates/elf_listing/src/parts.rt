@@ -39,6 +39,10 @@ pub enum Part {
     Needs,
     /// The versions of symbols, of sections.
     SymbolVersions,
+    /// The symbols of sections, with their versions.
+    SuffixedSymbols,
+    /// The relocation entries of sections, with the versions of their symbols.
+    SuffixedRelocations,
 }
 
 impl<S: Source, W: Sink> Listing<'_, '_, '_, '_, S, W> {
@@ -105,8 +109,8 @@ fn bit(part: Part) -> Parts
     match part {
         Part::Headers => Parts::SECTIONS,
         Part::Segments => Parts::SEGMENTS,
-        Part::Symbols => Parts::SYMBOLS,
-        Part::Relocations => Parts::RELOCS,
+        Part::Symbols | Part::SuffixedSymbols => Parts::SYMBOLS,
+        Part::Relocations | Part::SuffixedRelocations => Parts::RELOCS,
         Part::SectionNotes | Part::SegmentNotes => Parts::NOTES,
         Part::SectionDynamic | Part::SegmentDynamic => Parts::DYNAMIC,
         Part::Definitions | Part::Needs | Part::SymbolVersions => Parts::VERSIONS,
