@@ -53,7 +53,10 @@ impl<S: Source, W: Sink> Listing<'_, '_, '_, '_, S, W> {
         }
         let entries = self.file.relocations(section)?;
         let (table, linked) = entries;
-        let found = self.linked_suffixes(header.sh_link, linked)?;
+        if table.is_empty() {
+            return Ok(());
+        }
+        let found = self.linked_suffixes(header.sh_link, &linked)?;
         match &found {
             None => self.rows(table, &ListedAs::Relocations { section, linked }),
             Some(suffixes) => self.rows(
@@ -71,14 +74,13 @@ impl<S: Source, W: Sink> Listing<'_, '_, '_, '_, S, W> {
     fn linked_suffixes(
         &mut self,
         table: u32,
-        linked: Option<(Table, Names)>,
+        linked: &Option<(Table, Names)>,
     ) -> Result<Option<Suffixes>, Fault>
-        ensures { FetchesOfLinked self.old self.new result table linked }
+        ensures { FetchesOfLinked self.old self.new result table linked.now }
     {
-        let Some(found) = linked else {
-            return Ok(None);
-        };
-        let (symbols, _) = found;
-        self.suffixes(table, symbols.len())
+        match linked {
+            None => Ok(None),
+            Some((symbols, _)) => self.suffixes(table, symbols.len()),
+        }
     }
 }
