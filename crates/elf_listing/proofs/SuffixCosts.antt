@@ -1,5 +1,5 @@
 -- What the rows of a table ask for with the versions behind their names, and what finds those.
-use Rattle.std.proofs.Common.{◌≡◌, ℕ, ◌+◌, ◌*◌, ◌/◌, ◌≤◌, ◌==◌, if◌then◌else◌, Bool, true, false, Option, None, Some, Result, Ok, refl, sym, ap, ◌∙◌, arith}
+use Rattle.std.proofs.Common.{◌≡◌, ℕ, ◌+◌, ◌*◌, ◌/◌, ◌≤◌, ◌==◌, if◌then◌else◌, Bool, true, false, Option, None, Some, Result, Ok, refl, sym, ap, ◌∙◌, subst, arith}
 use Rattle.std.proofs.Math.Nat.{mul-add}
 use Rattle.std.specs.Prelude.{is_none}
 use Rattle.elf_model.specs.Checks.{pass, table_checks_of}
@@ -59,3 +59,19 @@ walks_fewer headers table names entries size some = rw some (by_empty (names == 
         ≤ (elim (first_numbers headers table) as (λ _. ℕ) [ None ↦ 0 | Some i ↦ walks_cost headers size ])
     by_empty true = omega arith
     by_empty false = omega arith
+
+-- parts of a cost that is within another
+pub front_within : {a n k : ℕ} → a + n ≤ k → a ≤ k
+front_within within = omega arith
+
+pub fewer_within : {a b n k : ℕ} → a + n ≤ k → b ≤ a → b + n ≤ k
+fewer_within within fewer = omega arith
+
+-- rows without their versions, and rows with them
+pub plain_within : {a count each bytes k : ℕ} → a + count * (each + bytes) ≤ k → a + count * each ≤ k
+plain_within {a} {count} {each} {bytes} within = let split = mul-add count each bytes in omega (arith, within, split)
+
+pub rows_within : {a count own name behind bytes k : ℕ} → a + count * (own + name + bytes) ≤ k → bytes ≡ behind → a + count * (own + (name + behind)) ≤ k
+rows_within {a} {count} {own} {name} {behind} {bytes} {k} within is =
+    let same : own + name + bytes ≡ own + (name + behind) = omega (arith, is) in
+    subst (λ (n : ℕ). a + count * n ≤ k) same within

@@ -26,11 +26,12 @@ use Rattle.elf_headers.specs.declared.stop.Stop.{Stop}
 use Rattle.elf_source.specs.Output.{Written}
 use Rattle.elf_source.specs.declared.source.Source.{Ghosts as Sources}
 use Rattle.elf_source.specs.declared.sink.Sink.{Ghosts as Sinks}
-use Rattle.elf_table.specs.Relocations.{AreRelocations, AreSymbols}
+use Rattle.elf_table.specs.Relocations.{AreRelocations, RefersTo}
 use Rattle.elf_table.specs.Tables.{Rows, Strings}
 use Rattle.elf_listing.specs.Shows.{Fetches, Lists, Stopped, WroteItems}
-use Rattle.elf_listing.specs.Suffixed.{LinkedOr, SuffixesOr}
+use Rattle.elf_listing.specs.Suffixed.{AreSuffixes, LinkedOr, SuffixesOr}
 use Rattle.elf_listing.specs.declared.listing.Listing.{Listing}
+use Rattle.elf_listing.specs.declared.suffixes.Suffixes.{Suffixes}
 use Rattle.elf_listing.proofs.ListsLaws.{SameFile-then}
 use Rattle.elf_listing.proofs.RowLaws.{Ends-first, Front-none}
 use Rattle.elf_listing.proofs.SectionShown.{table_passes}
@@ -92,6 +93,12 @@ either_fails false true false place some or = (record { at = place; cause = Symb
 either_fails false true true place some (inl unlinked) = absurd cc
 either_fails false true true place some (inr none) = absurd cc
 
+named_by : (zero : Bool) (first : Option Refusal) (refusal : Refusal) (none some : ℕ × Result Shown Cause) → zero ≡ false → first ≡ Some refusal
+    → (if zero then none else elim first as (λ _. ℕ × Result Shown Cause) [ Some r ↦ (r.at, Err r.cause) | None ↦ some ]) ≡ (refusal.at, Err refusal.cause)
+named_by true first refusal none some zero is = absurd cc
+named_by false first refusal none some zero is =
+    ap (λ (f : Option Refusal). elim f as (λ _. ℕ × Result Shown Cause) [ Some r ↦ (r.at, Err r.cause) | None ↦ some ]) is
+
 module _ (file : List ℕ) (at rela_at : ℕ) (unnamed : (has_symbols file at ≡ false) ⊎ (entry_count file (linked_at file at) 24 ≡ 0)) (symbol : ℕ) (some : (symbol == 0) ≡ false) where
   symbol_fails : (refusal : Refusal) × (first_refusal (symbol_checks_of file at rela_at symbol) ≡ Some refusal)
   symbol_fails =
@@ -99,9 +106,9 @@ module _ (file : List ℕ) (at rela_at : ℕ) (unnamed : (has_symbols file at �
       either_fails (symbol == 0) (has_symbols file at) (nat_lt symbol few) rela_at some
       (elim unnamed [ inl unlinked ↦ inl unlinked | inr none ↦ inr (le-ltb symbol few (omega (arith, none))) ])
 
-  named_fails : (cap : ℕ) → symbol_named file cap at rela_at symbol ≡ (symbol_fails.0.at, Err symbol_fails.0.cause)
+  named_fails : (limit : ℕ) → symbol_named file limit at rela_at symbol ≡ (symbol_fails.0.at, Err symbol_fails.0.cause)
   unfolding symbol_named
-  named_fails cap = rw (some, symbol_fails.1) refl
+  named_fails limit = named_by (symbol == 0) (first_refusal (symbol_checks_of file at rela_at symbol)) symbol_fails.0 _ _ some symbol_fails.1
 
 -- a name that is refused stands before its version
 refused_name : (choice : RowChoice) (front : LineFront) (named : ℕ × Result Shown Cause) (at : ℕ) (cause : Cause) (suffix : Result Suffix Refusal) → named ≡ (at, Err cause)
@@ -152,6 +159,15 @@ module _ (file : List ℕ) (style : Style) (section : ℕ) (kind : (sh_type file
       (linked_none (has_symbols file (section_at file section)) (table.count == 0) (suffixes_refusal file (sh_link file (section_at file section))) none)
 
   -- of one whose symbols have none, or which refers to no symbols
+  found_plain : (linked : Option (Rows × Strings)) → AreRelocations file (section_at file section) table linked
+      → SuffixesOr file (sh_link file (section_at file section)) (Ok None)
+      → table_rows suffixed_relocations file style section (section_at file section) ≡ each (relocation_row file style section (section_at file section)) 0 table.count
+  unfolding suffixed_relocations relocations
+  found_plain linked are (none, inl empty) = entries_shown linked are none ∙ each_same _ _ 0 table.count (λ i. unnamed_entry file style section (section_at file section) i (inr empty))
+  found_plain linked are (none, inr unnumbered) =
+      table_passes suffixed_relocations file style section (section_at file section) kind are.pass
+      ∙ (unversioned_entries file style section (section_at file section) unnumbered ∙ ap (each (relocation_row file style section (section_at file section)) 0) (sym are.counted))
+
   pub entries_plain : (linked : Option (Rows × Strings)) → 0 < table.count → AreRelocations file (section_at file section) table linked
       → LinkedOr file (sh_link file (section_at file section)) linked (Ok None)
       → table_rows suffixed_relocations file style section (section_at file section) ≡ each (relocation_row file style section (section_at file section)) 0 table.count
@@ -162,18 +178,7 @@ module _ (file : List ℕ) (style : Style) (section : ℕ) (kind : (sh_type file
       entries_are None are
       ∙ (ap (λ (has : Bool). behind_refusal (linked_refusal has (table.count == 0) (suffixes_refusal file (sh_link file at))) rows) unlinked
       ∙ each_same _ _ 0 table.count (λ i. unnamed_entry file style section at i (inl unlinked)))
-  entries_plain (Some found) some are or =
-      let at = section_at file section in
-      let linked = are.refers some in
-      plain (or linked.1.counted)
-    where
-      plain : (suffixes_refusal file (sh_link file (section_at file section)) ≡ None) × ((entry_count file (linked_at file (section_at file section)) 24 ≡ 0) ⊎ (numbers_of file (sh_link file (section_at file section)) ≡ None))
-          → table_rows suffixed_relocations file style section (section_at file section) ≡ each (relocation_row file style section (section_at file section)) 0 table.count
-      unfolding suffixed_relocations relocations
-      plain (none, inl empty) = entries_shown (Some found) are none ∙ each_same _ _ 0 table.count (λ i. unnamed_entry file style section (section_at file section) i (inr empty))
-      plain (none, inr unnumbered) =
-          table_passes suffixed_relocations file style section (section_at file section) kind are.pass
-          ∙ (unversioned_entries file style section (section_at file section) unnumbered ∙ ap (each (relocation_row file style section (section_at file section)) 0) (sym are.counted))
+  entries_plain (Some found) some are or = let linked = are.refers some in found_plain (Some found) are (or linked.1.counted)
 
   -- and of one whose versions are refused
   pub entries_refused : (a : Written) (linked : Option (Rows × Strings)) → 0 < table.count → AreRelocations file (section_at file section) table linked
@@ -204,3 +209,9 @@ module _ (file : List ℕ) (style : Style) (section : ℕ) (kind : (sh_type file
       by_link : (has : Bool) (first : Option Refusal) → linked_refusal has true first ≡ None
       by_link true first = refl
       by_link false first = refl
+
+-- what is found is of the symbols that are referred to
+pub linked_found : (file : List ℕ) (at : ℕ) (linked : Option (Rows × Strings)) {suffixes : Suffixes} → RefersTo file at linked → LinkedOr file (sh_link file at) linked (Ok (Some suffixes))
+    → (suffixes_refusal file (sh_link file at) ≡ None) × AreSuffixes file (sh_link file at) suffixes
+linked_found file at None refers or = absurd cc
+linked_found file at (Some found) refers or = or refers.1.counted

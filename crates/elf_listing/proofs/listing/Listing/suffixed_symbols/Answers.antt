@@ -16,7 +16,7 @@ use Rattle.elf_listing.specs.Suffixed.{suffix_bytes, walks_asked}
 use Rattle.elf_listing.proofs.ListsLaws.{Lists-nothing, Lists-refused, Lists-unread}
 use Rattle.elf_listing.proofs.RowLaws.{Writes-as}
 use Rattle.elf_listing.proofs.SectionShown.{no_table, table_fails, table_passes}
-use Rattle.elf_listing.proofs.SuffixCosts.{suffixed_within}
+use Rattle.elf_listing.proofs.SuffixCosts.{front_within, plain_within, rows_within, suffixed_within}
 use Rattle.elf_listing.proofs.SuffixTables.{Lists-behind, symbols_plain, symbols_refused, symbols_shown}
 use Rattle.elf_listing.proofs.listing.Listing.suffixed_symbols.Goals as goal
 
@@ -48,7 +48,7 @@ returns-in_err-found g c =
     let within = suffixed_within suffixed_symbols f.store.now c.args.section c.args.section f.loaded.size _ cap 24 (24 + name_bytes cap) _ kind refl refl c.in_ok-symbols.ensures.table in
     let same = c.len.ensures in
     let fetches = rw same at c.in_err-found.ensures.fetches in
-    rw (p.1, p.2) (Lists-unread _ _ _ _ _ _ (omega (arith, within)) fetches (λ file held.
+    rw (p.1, p.2) (Lists-unread _ _ _ _ _ _ (front_within within) fetches (λ file held.
     let belongs = c.args.self.now.loaded.belongs file held in
     let at = section_at file c.args.section in
     let kind : is_symbol_table file at ≡ true = let is = c.holds_symbols.ensures file at (c.section.ensures.stands file belongs) in cc in
@@ -66,7 +66,7 @@ returns-in-None g c =
     let within = suffixed_within suffixed_symbols f.store.now c.args.section c.args.section f.loaded.size _ cap 24 (24 + name_bytes cap) _ kind refl refl c.in_ok-symbols.ensures.table in
     let same = c.len.ensures in
     let fetches = rw same at c.in_ok-found.ensures.fetches in
-    Lists-behind _ _ _ _ _ _ _ _ _ (rw fetches.0.same_style (omega (arith, within))) fetches c.rows.ensures (λ file held.
+    Lists-behind _ _ _ _ _ _ _ _ _ (rw fetches.0.same_style (plain_within {each = 24 + name_bytes cap} within)) fetches c.rows.ensures (λ file held.
     let belongs = c.args.self.now.loaded.belongs file held in
     let at = section_at file c.args.section in
     let kind : is_symbol_table file at ≡ true = let is = c.holds_symbols.ensures file at (c.section.ensures.stands file belongs) in cc in
@@ -86,8 +86,7 @@ returns-in-Some g c =
     let same = c.len.ensures in
     let fetches = rw same at c.in_ok-found.ensures.fetches in
     let pays = (rw c.in-Some.is at c.in_ok-found.ensures.pays) cap in
-    let within = rw pays at within in
-    Lists-behind _ _ _ _ _ _ _ _ _ (rw fetches.0.same_style (omega (arith, within))) fetches c.rows-in-Some.ensures (λ file held.
+    Lists-behind _ _ _ _ _ _ _ _ _ (rw fetches.0.same_style (rows_within within pays)) fetches c.rows-in-Some.ensures (λ file held.
     let belongs = c.args.self.now.loaded.belongs file held in
     let at = section_at file c.args.section in
     let kind : is_symbol_table file at ≡ true = let is = c.holds_symbols.ensures file at (c.section.ensures.stands file belongs) in cc in
