@@ -60,18 +60,30 @@ walks_fewer headers table names entries size some = rw some (by_empty (names == 
     by_empty true = omega arith
     by_empty false = omega arith
 
--- parts of a cost that is within another
-pub front_within : {a n k : ℕ} → a + n ≤ k → a ≤ k
-front_within within = omega arith
+-- fewer than a part of a sum, and with less beside it
+less : (a b n k : ℕ) → b ≤ a → a + n ≤ k → b ≤ k
+less a b n k fewer within = omega arith
 
-pub fewer_within : {a b n k : ℕ} → a + n ≤ k → b ≤ a → b + n ≤ k
-fewer_within within fewer = omega arith
+less_and : (a b count each bytes k : ℕ) → b ≤ a → a + count * (each + bytes) ≤ k → b + count * each ≤ k
+less_and a b count each bytes k fewer within = let split = mul-add count each bytes in omega (arith, fewer, within, split)
 
--- rows without their versions, and rows with them
-pub plain_within : {a count each bytes k : ℕ} → a + count * (each + bytes) ≤ k → a + count * each ≤ k
-plain_within {a} {count} {each} {bytes} within = let split = mul-add count each bytes in omega (arith, within, split)
-
-pub rows_within : {a count own name behind bytes k : ℕ} → a + count * (own + name + bytes) ≤ k → bytes ≡ behind → a + count * (own + (name + behind)) ≤ k
-rows_within {a} {count} {own} {name} {behind} {bytes} {k} within is =
+less_with : (a b count own name bytes behind k : ℕ) → b ≤ a → a + count * (own + name + bytes) ≤ k → bytes ≡ behind → b + count * (own + (name + behind)) ≤ k
+less_with a b count own name bytes behind k fewer within is =
     let same : own + name + bytes ≡ own + (name + behind) = omega (arith, is) in
-    subst (λ (n : ℕ). a + count * n ≤ k) same within
+    let more : a + count * (own + (name + behind)) ≤ k = subst (λ (n : ℕ). a + count * n ≤ k) same within in
+    omega (arith, fewer, more)
+
+-- what finds the versions of some names, alone, with rows that have none, and with rows that have them
+module _ (headers : HeaderTable) (table size cap own name names count k : ℕ) (fewer : walks_asked headers table names size ≤ walks_asked headers table count size)
+    (within : walks_asked headers table count size + count * (own + name + suffix_bytes headers table cap) ≤ k) where
+  pub walks_within : walks_asked headers table names size ≤ k
+  walks_within = less (walks_asked headers table count size) (walks_asked headers table names size) (count * (own + name + suffix_bytes headers table cap)) k fewer within
+
+  pub plain_within : walks_asked headers table names size + count * (own + name) ≤ k
+  plain_within = less_and (walks_asked headers table count size) (walks_asked headers table names size) count (own + name) (suffix_bytes headers table cap) k fewer within
+
+  pub rows_within : (behind : ℕ) → suffix_bytes headers table cap ≡ behind → walks_asked headers table names size + count * (own + (name + behind)) ≤ k
+  rows_within behind is = less_with (walks_asked headers table count size) (walks_asked headers table names size) count own name (suffix_bytes headers table cap) behind k fewer within is
+
+pub no_fewer : (n : ℕ) → n ≤ n
+no_fewer n = omega arith

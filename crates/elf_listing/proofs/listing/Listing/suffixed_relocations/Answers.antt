@@ -1,6 +1,6 @@
 -- The table's checks, those of the symbols that it refers to, and then what finds the versions stand before its rows.
-use Rattle.std.proofs.Common.{rules, ◌≡◌, ℕ, ◌+◌, ◌*◌, ◌<◌, ◌≤◌, ◌==◌, false, true, None, Ok, Err, refl, sym, ap, ◌∙◌, arith}
-use Rattle.std.proofs.lemmas.Bool.{eq-eqb, ne_eqb}
+use Rattle.std.proofs.Common.{rules, ◌≡◌, ℕ, ◌+◌, ◌*◌, ◌<◌, ◌≤◌, ◌==◌, false, true, Option, None, Ok, Err, refl, sym, ap, ◌∙◌, arith}
+use Rattle.std.proofs.lemmas.Bool.{eq-eqb, false≢true, ne_eqb}
 use Rattle.std.proofs.lemmas.Result.{err_from_is_err_and}
 use Rattle.elf_headers.specs.Permitted.{style_of}
 use Rattle.elf_headers.specs.Store.{row}
@@ -9,10 +9,11 @@ use Rattle.elf_model.specs.Records.{section_at, sh_link}
 use Rattle.elf_model.specs.TableKinds.{relocations, suffixed_relocations}
 use Rattle.elf_listing.specs.Parts.{store_sections}
 use Rattle.elf_listing.specs.Suffixed.{linked_count, suffix_bytes, walks_asked}
+use Rattle.elf_listing.specs.declared.suffixes.Suffixes.{Suffixes}
 use Rattle.elf_listing.proofs.ListsLaws.{Lists-nothing, Lists-refused, Lists-unread}
 use Rattle.elf_listing.proofs.RowLaws.{Writes-as}
 use Rattle.elf_listing.proofs.SectionShown.{no_table, table_fails}
-use Rattle.elf_listing.proofs.SuffixCosts.{fewer_within, front_within, plain_within, rows_within, suffixed_within, walks_fewer}
+use Rattle.elf_listing.proofs.SuffixCosts.{plain_within, rows_within, suffixed_within, walks_fewer, walks_within}
 use Rattle.elf_listing.proofs.SuffixTables.{Lists-behind, entries_plain, entries_refused, entries_shown, linked_found, no_entries}
 use Rattle.elf_listing.proofs.listing.Listing.suffixed_relocations.Goals as goal
 
@@ -48,11 +49,11 @@ returns-in_err-found g c =
     let link = c.section-header.ensures.fields.sh_link in
     let headers = store_sections f.store.now in
     let count = c.in_ok-entries.entries.0.count in
-    let some : (count == 0) ≡ false = ne_eqb _ 0 (λ zero. c.if-is_empty.false (c.is_empty.ensures.1 zero)) in
+    let some : (count == 0) ≡ false = ne_eqb _ 0 (λ zero. false≢true (sym c.if-is_empty.false ∙ c.is_empty.ensures.1 zero)) in
     let within = suffixed_within suffixed_relocations f.store.now c.args.section (sh_link (row f.store.now c.args.section) 0) f.loaded.size _ cap 24 (24 + (24 + name_bytes cap)) _ (eq-eqb _ _ kind) refl refl c.in_ok-entries.ensures.table in
     let fetches = rw link at c.in_err-found.ensures.fetches in
     let fewer = walks_fewer headers (sh_link (row f.store.now c.args.section) 0) (linked_count c.in_ok-entries.entries.1) count f.loaded.size some in
-    rw (p.1, p.2) (Lists-unread _ _ _ _ _ _ (front_within (fewer_within within fewer)) fetches (λ file held.
+    rw (p.1, p.2) (Lists-unread _ _ _ _ _ _ (walks_within headers (sh_link (row f.store.now c.args.section) 0) f.loaded.size cap 24 (24 + name_bytes cap) (linked_count c.in_ok-entries.entries.1) count _ fewer within) fetches (λ file held.
     let belongs = c.args.self.now.loaded.belongs file held in
     let stands = c.section-header.ensures.stands file belongs in
     let kind = sym stands.sh_type ∙ c.if-header-ne-SHT_RELA.false in
@@ -69,11 +70,11 @@ returns-in-None g c =
     let link = c.section-header.ensures.fields.sh_link in
     let headers = store_sections f.store.now in
     let count = c.in_ok-entries.entries.0.count in
-    let some : (count == 0) ≡ false = ne_eqb _ 0 (λ zero. c.if-is_empty.false (c.is_empty.ensures.1 zero)) in
+    let some : (count == 0) ≡ false = ne_eqb _ 0 (λ zero. false≢true (sym c.if-is_empty.false ∙ c.is_empty.ensures.1 zero)) in
     let within = suffixed_within suffixed_relocations f.store.now c.args.section (sh_link (row f.store.now c.args.section) 0) f.loaded.size _ cap 24 (24 + (24 + name_bytes cap)) _ (eq-eqb _ _ kind) refl refl c.in_ok-entries.ensures.table in
     let fetches = rw link at c.in_ok-found.ensures.fetches in
     let fewer = walks_fewer headers (sh_link (row f.store.now c.args.section) 0) (linked_count c.in_ok-entries.entries.1) count f.loaded.size some in
-    Lists-behind _ _ _ _ _ _ _ _ _ (rw fetches.0.same_style (plain_within {each = 24 + (24 + name_bytes cap)} (fewer_within within fewer))) fetches c.rows.ensures (λ file held.
+    Lists-behind {Y = Option Suffixes} _ _ _ None _ _ _ _ _ (rw fetches.0.same_style (plain_within headers (sh_link (row f.store.now c.args.section) 0) f.loaded.size cap 24 (24 + name_bytes cap) (linked_count c.in_ok-entries.entries.1) count _ fewer within)) fetches c.rows.ensures (λ file held.
     let belongs = c.args.self.now.loaded.belongs file held in
     let stands = c.section-header.ensures.stands file belongs in
     let kind = sym stands.sh_type ∙ c.if-header-ne-SHT_RELA.false in
@@ -92,17 +93,17 @@ returns-in-Some g c =
     let link = c.section-header.ensures.fields.sh_link in
     let headers = store_sections f.store.now in
     let count = c.in_ok-entries.entries.0.count in
-    let some : (count == 0) ≡ false = ne_eqb _ 0 (λ zero. c.if-is_empty.false (c.is_empty.ensures.1 zero)) in
+    let some : (count == 0) ≡ false = ne_eqb _ 0 (λ zero. false≢true (sym c.if-is_empty.false ∙ c.is_empty.ensures.1 zero)) in
     let within = suffixed_within suffixed_relocations f.store.now c.args.section (sh_link (row f.store.now c.args.section) 0) f.loaded.size _ cap 24 (24 + (24 + name_bytes cap)) _ (eq-eqb _ _ kind) refl refl c.in_ok-entries.ensures.table in
     let fetches = rw link at c.in_ok-found.ensures.fetches in
     let fewer = walks_fewer headers (sh_link (row f.store.now c.args.section) 0) (linked_count c.in_ok-entries.entries.1) count f.loaded.size some in
     let pays = (rw (c.in-Some.is, link) at c.in_ok-found.ensures.pays) cap in
-    Lists-behind _ _ _ _ _ _ _ _ _ (rw fetches.0.same_style (rows_within (fewer_within within fewer) pays)) fetches c.rows-in-Some.ensures (λ file held.
+    Lists-behind _ _ _ _ _ _ _ _ _ (rw fetches.0.same_style (rows_within headers (sh_link (row f.store.now c.args.section) 0) f.loaded.size cap 24 (24 + name_bytes cap) (linked_count c.in_ok-entries.entries.1) count _ fewer within (2 + name_bytes cap) pays)) fetches c.rows-in-Some.ensures (λ file held.
     let belongs = c.args.self.now.loaded.belongs file held in
     let stands = c.section-header.ensures.stands file belongs in
     let kind = sym stands.sh_type ∙ c.if-header-ne-SHT_RELA.false in
     let filled : 0 < count = grind (arith, some) in
     let found = c.in_ok-entries.ensures.held file belongs in
     let some = linked_found _ _ _ (found.refers filled) (rw (c.in-Some.is, stands.sh_link) at (c.in_ok-found.ensures.read file held)) in
-    let shown = rw (fetches.0.same_style, fetches.1) at (c.rows-in-Some.ensures.shows file (fetches.2.reads.keeps.same_file ∙ held) (λ rows. (found.refers rows, (found.placed, some.1)))) in
+    let shown = rw (fetches.0.same_style, fetches.1) at (c.rows-in-Some.ensures.shows file (fetches.2.reads.keeps.same_file ∙ held) (λ rows. (found.refers rows, found.placed, some.1))) in
     Writes-as _ _ _ (entries_shown file (style_of c.args.self.now.style) c.args.section (eq-eqb _ _ kind) _ _ found some.0) shown)

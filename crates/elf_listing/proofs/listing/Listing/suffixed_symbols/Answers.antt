@@ -1,5 +1,5 @@
 -- The table's checks and its string table's, and then what finds the versions, stand before its rows.
-use Rattle.std.proofs.Common.{rules, ◌≡◌, ℕ, ◌+◌, ◌*◌, ◌≤◌, false, true, None, Ok, Err, refl, sym, ap, ◌∙◌, arith}
+use Rattle.std.proofs.Common.{rules, ◌≡◌, ℕ, ◌+◌, ◌*◌, ◌≤◌, false, true, None, Some, Ok, Err, refl, sym, ap, ◌∙◌, subst, arith}
 use Rattle.std.proofs.lemmas.Result.{err_from_is_err_and}
 use Rattle.elf_headers.specs.Permitted.{style_of}
 use Rattle.elf_headers.specs.Store.{row}
@@ -12,11 +12,11 @@ use Rattle.elf_model.specs.TableKinds.{suffixed_symbols, symbols}
 use Rattle.elf_table.specs.Tables.{Strings}
 use Rattle.elf_table.proofs.RelocationLaws.{symbols-fail, symbols-pass}
 use Rattle.elf_listing.specs.Parts.{store_sections}
-use Rattle.elf_listing.specs.Suffixed.{suffix_bytes, walks_asked}
+use Rattle.elf_listing.specs.Suffixed.{SuffixesOr, suffix_bytes, walks_asked}
 use Rattle.elf_listing.proofs.ListsLaws.{Lists-nothing, Lists-refused, Lists-unread}
 use Rattle.elf_listing.proofs.RowLaws.{Writes-as}
 use Rattle.elf_listing.proofs.SectionShown.{no_table, table_fails, table_passes}
-use Rattle.elf_listing.proofs.SuffixCosts.{front_within, plain_within, rows_within, suffixed_within}
+use Rattle.elf_listing.proofs.SuffixCosts.{no_fewer, plain_within, rows_within, suffixed_within, walks_within}
 use Rattle.elf_listing.proofs.SuffixTables.{Lists-behind, symbols_plain, symbols_refused, symbols_shown}
 use Rattle.elf_listing.proofs.listing.Listing.suffixed_symbols.Goals as goal
 
@@ -47,14 +47,16 @@ returns-in_err-found g c =
     let cap = c.args.self.now.style.cap.bytes in
     let within = suffixed_within suffixed_symbols f.store.now c.args.section c.args.section f.loaded.size _ cap 24 (24 + name_bytes cap) _ kind refl refl c.in_ok-symbols.ensures.table in
     let same = c.len.ensures in
-    let fetches = rw same at c.in_err-found.ensures.fetches in
-    rw (p.1, p.2) (Lists-unread _ _ _ _ _ _ (front_within within) fetches (λ file held.
+    let section = c.from.ensures in
+    let fetches = rw (same, section) at c.in_err-found.ensures.fetches in
+    let cost = walks_within (store_sections f.store.now) c.args.section f.loaded.size cap 24 (name_bytes cap) c.in_ok-symbols.symbols.0.count c.in_ok-symbols.symbols.0.count _ (no_fewer _) within in
+    rw (p.1, p.2) (Lists-unread _ _ _ _ _ _ cost fetches (λ file held.
     let belongs = c.args.self.now.loaded.belongs file held in
     let at = section_at file c.args.section in
     let kind : is_symbol_table file at ≡ true = let is = c.holds_symbols.ensures file at (c.section.ensures.stands file belongs) in cc in
     let found = symbols-pass file at _ (sym (c.in_ok-symbols.ensures.held file belongs)) in
     rw fetches.1
-    (symbols_refused _ file (style_of c.args.self.now.style) c.args.section kind found.0 _ (c.in_err-found.ensures.read file held (same ∙ found.1.counted)))))
+    (symbols_refused _ file (style_of c.args.self.now.style) c.args.section kind found.0 _ (subst (λ (t : ℕ). SuffixesOr file t (Err c.in_err-found.field-0.0)) section (c.in_err-found.ensures.read file held (rw section (same ∙ found.1.counted)))))))
 
 pub returns-in-None : goal.returns-in-None
 unfolding suffixed_symbols symbols
@@ -65,13 +67,15 @@ returns-in-None g c =
     let cap = c.args.self.now.style.cap.bytes in
     let within = suffixed_within suffixed_symbols f.store.now c.args.section c.args.section f.loaded.size _ cap 24 (24 + name_bytes cap) _ kind refl refl c.in_ok-symbols.ensures.table in
     let same = c.len.ensures in
-    let fetches = rw same at c.in_ok-found.ensures.fetches in
-    Lists-behind _ _ _ _ _ _ _ _ _ (rw fetches.0.same_style (plain_within {each = 24 + name_bytes cap} within)) fetches c.rows.ensures (λ file held.
+    let section = c.from.ensures in
+    let fetches = rw (same, section) at c.in_ok-found.ensures.fetches in
+    let cost = plain_within (store_sections f.store.now) c.args.section f.loaded.size cap 24 (name_bytes cap) c.in_ok-symbols.symbols.0.count c.in_ok-symbols.symbols.0.count _ (no_fewer _) within in
+    Lists-behind _ _ _ _ _ _ _ _ _ (rw fetches.0.same_style cost) fetches c.rows.ensures (λ file held.
     let belongs = c.args.self.now.loaded.belongs file held in
     let at = section_at file c.args.section in
     let kind : is_symbol_table file at ≡ true = let is = c.holds_symbols.ensures file at (c.section.ensures.stands file belongs) in cc in
     let found = symbols-pass file at _ (sym (c.in_ok-symbols.ensures.held file belongs)) in
-    let none = rw c.in-None.is at (c.in_ok-found.ensures.read file held (same ∙ found.1.counted)) in
+    let none = subst (λ (t : ℕ). SuffixesOr file t (Ok None)) section (rw c.in-None.is at (c.in_ok-found.ensures.read file held (rw section (same ∙ found.1.counted)))) in
     let shown = rw (fetches.0.same_style, fetches.1) at (c.rows.ensures.shows file (fetches.2.reads.keeps.same_file ∙ held) (λ some. (ap (λ (n : Strings). slice file n.at n.size) (found.1.named some), found.1.placed))) in
     Writes-as _ _ _ (symbols_plain file (style_of c.args.self.now.style) c.args.section kind found.0 _ found.1.counted none) shown)
 
@@ -84,13 +88,15 @@ returns-in-Some g c =
     let cap = c.args.self.now.style.cap.bytes in
     let within = suffixed_within suffixed_symbols f.store.now c.args.section c.args.section f.loaded.size _ cap 24 (24 + name_bytes cap) _ kind refl refl c.in_ok-symbols.ensures.table in
     let same = c.len.ensures in
-    let fetches = rw same at c.in_ok-found.ensures.fetches in
-    let pays = (rw c.in-Some.is at c.in_ok-found.ensures.pays) cap in
-    Lists-behind _ _ _ _ _ _ _ _ _ (rw fetches.0.same_style (rows_within within pays)) fetches c.rows-in-Some.ensures (λ file held.
+    let section = c.from.ensures in
+    let fetches = rw (same, section) at c.in_ok-found.ensures.fetches in
+    let pays = (rw (c.in-Some.is, section) at c.in_ok-found.ensures.pays) cap in
+    let cost = rows_within (store_sections f.store.now) c.args.section f.loaded.size cap 24 (name_bytes cap) c.in_ok-symbols.symbols.0.count c.in_ok-symbols.symbols.0.count _ (no_fewer _) within (2 + name_bytes cap) pays in
+    Lists-behind _ _ _ _ _ _ _ _ _ (rw fetches.0.same_style cost) fetches c.rows-in-Some.ensures (λ file held.
     let belongs = c.args.self.now.loaded.belongs file held in
     let at = section_at file c.args.section in
     let kind : is_symbol_table file at ≡ true = let is = c.holds_symbols.ensures file at (c.section.ensures.stands file belongs) in cc in
     let found = symbols-pass file at _ (sym (c.in_ok-symbols.ensures.held file belongs)) in
-    let some = rw c.in-Some.is at (c.in_ok-found.ensures.read file held (same ∙ found.1.counted)) in
-    let shown = rw (fetches.0.same_style, fetches.1) at (c.rows-in-Some.ensures.shows file (fetches.2.reads.keeps.same_file ∙ held) (λ rows. (ap (λ (n : Strings). slice file n.at n.size) (found.1.named rows), (found.1.placed, some.1)))) in
+    let some = subst (λ (t : ℕ). SuffixesOr file t (Ok (Some c.in-Some.suffixes))) section (rw c.in-Some.is at (c.in_ok-found.ensures.read file held (rw section (same ∙ found.1.counted)))) in
+    let shown = rw (fetches.0.same_style, fetches.1) at (c.rows-in-Some.ensures.shows file (fetches.2.reads.keeps.same_file ∙ held) (λ rows. (ap (λ (n : Strings). slice file n.at n.size) (found.1.named rows), found.1.placed, some.1))) in
     Writes-as _ _ _ (symbols_shown file (style_of c.args.self.now.style) c.args.section kind found.0 _ found.1.counted some.0) shown)
