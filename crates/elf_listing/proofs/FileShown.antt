@@ -171,21 +171,44 @@ kinds_are file style parts loaded store belongs view =
 behind : (a b c d e f : List ListingItem) → a ++ ((((b ++ c) ++ d) ++ e) ++ f) ≡ ((((a ++ b) ++ c) ++ d) ++ e) ++ f
 behind a b c d e f = simp append_assoc
 
--- the tables of a loaded file, by the headers in the store
-pub tables_are : (file : List ℕ) (style : Style) (parts : ℕ) (loaded : Opened) (store : Stored) → Belongs file loaded store → store.segments ≡ viewed_headers parts loaded
-    → table_items file style parts
-    ≡ (((((of_headers file style parts Headers store.loaded ++ segment_part file style parts)
-    ++ (of_headers file style parts (symbols_part style.versions) store.loaded ++ of_headers file style parts (relocations_part style.versions) store.loaded))
+-- how many headers the symbols and the relocation entries go over
+symbols_counted : (versions : Bool) (store : Stored) → (listed_by (symbols_part versions)).count store ≡ store.loaded
+symbols_counted true store = refl
+symbols_counted false store = refl
+
+relocations_counted : (versions : Bool) (store : Stored) → (listed_by (relocations_part versions)).count store ≡ store.loaded
+relocations_counted true store = refl
+relocations_counted false store = refl
+
+-- the tables of the headers in the store, so many of which have symbols, and relocation entries
+abbrev pub by_counts : List ℕ → Style → ℕ → Stored → (symbols entries : ℕ) → List ListingItem
+by_counts file style parts store n m =
+    (((((of_headers file style parts Headers store.loaded ++ segment_part file style parts)
+    ++ (of_headers file style parts (symbols_part style.versions) n ++ of_headers file style parts (relocations_part style.versions) m))
     ++ (of_headers file style parts SectionNotes store.loaded ++ of_headers file style parts SegmentNotes store.segments))
     ++ (of_headers file style parts SectionDynamic store.loaded ++ of_headers file style parts SegmentDynamic store.segments))
     ++ (of_headers file style parts Definitions store.loaded ++ of_headers file style parts Needs store.loaded))
     ++ of_headers file style parts SymbolVersions store.loaded
+
+tables_loaded : (file : List ℕ) (style : Style) (parts : ℕ) (loaded : Opened) (store : Stored) → Belongs file loaded store → store.segments ≡ viewed_headers parts loaded
+    → table_items file style parts ≡ by_counts file style parts store store.loaded store.loaded
 unfolding table_items
-tables_are file style parts loaded store belongs view =
+tables_loaded file style parts loaded store belongs view =
     let count : e_shnum file ≡ store.loaded = sym (belongs.count ∙ belongs.header.e_shnum) in
     let first : List ListingItem = of_headers file style parts Headers store.loaded ++ segment_part file style parts in
     ap (λ n. (of_headers file style parts Headers n ++ segment_part file style parts) ++ kinds_rows (table_headers style.versions file).kinds (table_headers style.versions file).headers file style parts) count
     ∙ (ap (λ rest. first ++ rest) (kinds_are file style parts loaded store belongs view) ∙ behind first _ _ _ _ _)
+
+-- the tables of a loaded file, by the headers in the store
+pub tables_are : (file : List ℕ) (style : Style) (parts : ℕ) (loaded : Opened) (store : Stored) → Belongs file loaded store → store.segments ≡ viewed_headers parts loaded
+    → table_items file style parts
+    ≡ by_counts file style parts store ((listed_by (symbols_part style.versions)).count store) ((listed_by (relocations_part style.versions)).count store)
+tables_are file style parts loaded store belongs view =
+    let n = symbols_counted style.versions store in
+    let m = relocations_counted style.versions store in
+    tables_loaded file style parts loaded store belongs view
+    ∙ (ap (λ (k : ℕ). by_counts file style parts store k store.loaded) (sym n)
+    ∙ ap (by_counts file style parts store ((listed_by (symbols_part style.versions)).count store)) (sym m))
 
 -- where the rows of definitions and needs are asked for and have no fault, they have none at all
 pub versions_none : (file : List ℕ) (style : Style) (parts : ℕ) (loaded : Opened) (store : Stored) → Belongs file loaded store

@@ -98,7 +98,7 @@ returns-in-Some g c =
     let fetches = rw link at c.in_ok-found.ensures.fetches in
     let fewer = walks_fewer headers (sh_link (row f.store.now c.args.section) 0) (linked_count c.in_ok-entries.entries.1) count f.loaded.size some in
     let pays = (rw (c.in-Some.is, link) at c.in_ok-found.ensures.pays) cap in
-    Lists-behind _ _ _ _ _ _ _ _ _ (rw fetches.0.same_style (rows_within headers (sh_link (row f.store.now c.args.section) 0) f.loaded.size cap 24 (24 + name_bytes cap) (linked_count c.in_ok-entries.entries.1) count _ fewer within (2 + name_bytes cap) pays)) fetches c.rows-in-Some.ensures (λ file held.
+    Lists-behind {Y = Option Suffixes} _ _ _ None _ _ _ _ _ (rw fetches.0.same_style (rows_within headers (sh_link (row f.store.now c.args.section) 0) f.loaded.size cap 24 (24 + name_bytes cap) (linked_count c.in_ok-entries.entries.1) count _ fewer within (2 + name_bytes cap) pays)) fetches c.rows-in-Some.ensures (λ file held.
     let belongs = c.args.self.now.loaded.belongs file held in
     let stands = c.section-header.ensures.stands file belongs in
     let kind = sym stands.sh_type ∙ c.if-header-ne-SHT_RELA.false in

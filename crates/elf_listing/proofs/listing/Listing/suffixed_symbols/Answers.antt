@@ -1,5 +1,5 @@
 -- The table's checks and its string table's, and then what finds the versions, stand before its rows.
-use Rattle.std.proofs.Common.{rules, ◌≡◌, ℕ, ◌+◌, ◌*◌, ◌≤◌, false, true, None, Some, Ok, Err, refl, sym, ap, ◌∙◌, subst, arith}
+use Rattle.std.proofs.Common.{rules, ◌≡◌, ℕ, ◌+◌, ◌*◌, ◌≤◌, false, true, Option, None, Some, Ok, Err, refl, sym, ap, ◌∙◌, subst, arith}
 use Rattle.std.proofs.lemmas.Result.{err_from_is_err_and}
 use Rattle.elf_headers.specs.Permitted.{style_of}
 use Rattle.elf_headers.specs.Store.{row}
@@ -13,6 +13,7 @@ use Rattle.elf_table.specs.Tables.{Strings}
 use Rattle.elf_table.proofs.RelocationLaws.{symbols-fail, symbols-pass}
 use Rattle.elf_listing.specs.Parts.{store_sections}
 use Rattle.elf_listing.specs.Suffixed.{SuffixesOr, suffix_bytes, walks_asked}
+use Rattle.elf_listing.specs.declared.suffixes.Suffixes.{Suffixes}
 use Rattle.elf_listing.proofs.ListsLaws.{Lists-nothing, Lists-refused, Lists-unread}
 use Rattle.elf_listing.proofs.RowLaws.{Writes-as}
 use Rattle.elf_listing.proofs.SectionShown.{no_table, table_fails, table_passes}
@@ -70,7 +71,7 @@ returns-in-None g c =
     let section = c.from.ensures in
     let fetches = rw (same, section) at c.in_ok-found.ensures.fetches in
     let cost = plain_within (store_sections f.store.now) c.args.section f.loaded.size cap 24 (name_bytes cap) c.in_ok-symbols.symbols.0.count c.in_ok-symbols.symbols.0.count _ (no_fewer _) within in
-    Lists-behind _ _ _ _ _ _ _ _ _ (rw fetches.0.same_style cost) fetches c.rows.ensures (λ file held.
+    Lists-behind {Y = Option Suffixes} _ _ _ None _ _ _ _ _ (rw fetches.0.same_style cost) fetches c.rows.ensures (λ file held.
     let belongs = c.args.self.now.loaded.belongs file held in
     let at = section_at file c.args.section in
     let kind : is_symbol_table file at ≡ true = let is = c.holds_symbols.ensures file at (c.section.ensures.stands file belongs) in cc in
@@ -92,7 +93,7 @@ returns-in-Some g c =
     let fetches = rw (same, section) at c.in_ok-found.ensures.fetches in
     let pays = (rw (c.in-Some.is, section) at c.in_ok-found.ensures.pays) cap in
     let cost = rows_within (store_sections f.store.now) c.args.section f.loaded.size cap 24 (name_bytes cap) c.in_ok-symbols.symbols.0.count c.in_ok-symbols.symbols.0.count _ (no_fewer _) within (2 + name_bytes cap) pays in
-    Lists-behind _ _ _ _ _ _ _ _ _ (rw fetches.0.same_style cost) fetches c.rows-in-Some.ensures (λ file held.
+    Lists-behind {Y = Option Suffixes} _ _ _ None _ _ _ _ _ (rw fetches.0.same_style cost) fetches c.rows-in-Some.ensures (λ file held.
     let belongs = c.args.self.now.loaded.belongs file held in
     let at = section_at file c.args.section in
     let kind : is_symbol_table file at ≡ true = let is = c.holds_symbols.ensures file at (c.section.ensures.stands file belongs) in cc in
