@@ -3,6 +3,7 @@ use Rattle.std.proofs.Common.{ap, arith}
 use Rattle.elf_model.specs.Archive.{bytes_in}
 use Rattle.elf_model.specs.Cost.{style_ceiling}
 use Rattle.elf_source.proofs.GrowthLaws.{grows_then}
+use Rattle.elf_headers.specs.Permitted.{style_of}
 use Rattle.elf_archive.specs.Members.{extent_of}
 use Rattle.elf_archive.proofs.ConsumeLaws.{Consumes-to}
 use Rattle.elf_archive.proofs.NarrowLaws.{part_consumes, part_file}
