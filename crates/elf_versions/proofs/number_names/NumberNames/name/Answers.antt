@@ -14,4 +14,4 @@ returns-else-from-lt-NUMBERS-clause-is c = rw (← c.self.view_is) (sym (get_or_
 pub returns-else-from-lt-NUMBERS-clause-named : goal.returns-else-from-lt-NUMBERS-clause-named
 returns-else-from-lt-NUMBERS-clause-named c =
     rw (← c.self.view_is)
-    (λ file records names. behind-last file (named_by file c.args.number records) c.self.inside.names c.args.number (far c) (names c.args.number))
+    (λ file records places names. behind-last file (named_by file c.args.number records) c.self.inside.names c.args.number (far c) (names.named c.args.number))
