@@ -13,9 +13,9 @@ use Rattle.elf_headers.specs.declared.fault.Fault.{Fault}
 use Rattle.elf_headers.specs.declared.fault.Fault.TheVariants.{Refused}
 use Rattle.elf_archive.specs.Archives.{MagicRead}
 
-pub magic_within : (size headers cap : ℕ) → 8 ≤ archive_ceiling size headers cap
+pub magic_within : (size headers : ℕ) (style : Style) → 8 ≤ archive_ceiling size headers style
 unfolding archive_ceiling
-magic_within size headers cap = omega arith
+magic_within size headers style = omega arith
 
 pub magic_cost : (file : List ℕ) (headers : ℕ) (style : Style) (parts : ℕ) → 8 ≤ archive_cost file headers style parts
 unfolding archive_cost

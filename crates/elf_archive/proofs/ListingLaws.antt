@@ -4,7 +4,7 @@ use Rattle.std.proofs.lemmas.Bool.Decides.{nat_tests}
 use Rattle.elf_model.specs.Archive.{Extent, Member, Next, Ends, Broken, OneMember, Progress, bytes_in, is_elf, lists_members, next_member}
 use Rattle.elf_model.specs.ArchiveCost.{allowance, header_cost, long_name_bytes, member_cost}
 use Rattle.elf_model.specs.Budget.{IsBudget}
-use Rattle.elf_model.specs.Cost.{ceiling, cost_where, listing_cost}
+use Rattle.elf_model.specs.Cost.{cost_where, listing_cost, style_ceiling}
 use Rattle.elf_model.specs.Listing.{Fault as FaultItem}
 use Rattle.elf_model.specs.Style.{Style}
 use Rattle.elf_model.specs.declared.causes.Refusal.{Refusal}
@@ -29,22 +29,22 @@ member_elf file headers style parts m extent asked is elf =
     ∙ ap (λ t. 4 + cost_where t (listing_cost (bytes_in file extent) headers style parts)) elf)
 
 -- a step takes no more than is allowed
-pub step_allowed : (size headers cap : ℕ) (p : Progress) → step_cost size cap p ≤ allowance (size - p.at) headers cap
-step_allowed size headers cap p = by_room (nat_le (p.at + 60) size) refl
+pub step_allowed : (size headers : ℕ) (style : Style) (p : Progress) → step_cost size style.cap p ≤ allowance (size - p.at) headers style
+step_allowed size headers style p = by_room (nat_le (p.at + 60) size) refl
   where
-    by_room : (t : Bool) → nat_le (p.at + 60) size ≡ t → step_cost size cap p ≤ allowance (size - p.at) headers cap
+    by_room : (t : Bool) → nat_le (p.at + 60) size ≡ t → step_cost size style.cap p ≤ allowance (size - p.at) headers style
     by_room true e =
         let room : p.at + 60 ≤ size = grind (arith, nat_tests) in
-        let most = header_allowed (size - p.at) headers cap (omega (arith, room)) in
-        omega (arith, where_room p.at size (60 + long_name_bytes cap) room, most)
-    by_room false e = let none : step_cost size cap p ≡ 0 = ap (λ t. cost_where t (60 + long_name_bytes cap)) e in omega (arith, none)
+        let most = header_allowed (size - p.at) headers style (omega (arith, room)) in
+        omega (arith, where_room p.at size (60 + long_name_bytes style.cap) room, most)
+    by_room false e = let none : step_cost size style.cap p ≡ 0 = ap (λ t. cost_where t (60 + long_name_bytes style.cap)) e in omega (arith, none)
 
 -- a member, and the steps behind it
-pub member_allowed : (size headers cap bytes : ℕ) (p q : Progress) → p.at + 60 + bytes ≤ size → p.at + 60 + bytes ≤ q.at
-    → step_cost size cap p + (4 + ceiling bytes headers cap) + allowance (size - q.at) headers cap ≤ allowance (size - p.at) headers cap
-member_allowed size headers cap bytes p q within behind =
-    let all = allowed (size - p.at) (size - q.at) bytes headers cap (omega (arith, within, behind)) in
-    omega (arith, where_room p.at size (60 + long_name_bytes cap) (omega (arith, within)), all)
+pub member_allowed : (size headers : ℕ) (style : Style) (bytes : ℕ) (p q : Progress) → p.at + 60 + bytes ≤ size → p.at + 60 + bytes ≤ q.at
+    → step_cost size style.cap p + (4 + style_ceiling bytes headers style) + allowance (size - q.at) headers style ≤ allowance (size - p.at) headers style
+member_allowed size headers style bytes p q within behind =
+    let all = allowed (size - p.at) (size - q.at) bytes headers style (omega (arith, within, behind)) in
+    omega (arith, where_room p.at size (60 + long_name_bytes style.cap) (omega (arith, within)), all)
 
 -- what is next costs its header at least
 pub header_first : (file : List ℕ) (headers : ℕ) (style : Style) (parts : ℕ) (p : Progress) (next : Next) → header_cost file style.cap p ≤ next_cost file headers style parts p next
@@ -61,19 +61,19 @@ unread_next file headers style parts old new name (Refused first) tells refusal 
 unread_next file headers style parts old new name (Source fault at) tells refusal is other = cc
 
 -- a step more, within what is allowed
-pub step_within : (size now headers slots cap bytes more total : ℕ) (p q : Progress) → now ≡ size → slots ≡ headers → bytes + allowance (size - p.at) headers cap ≤ total
-    → more + allowance (now - q.at) slots cap ≤ allowance (now - p.at) slots cap → (bytes + more) + allowance (size - q.at) headers cap ≤ total
-step_within size now headers slots cap bytes more total p q same_size same_slots so_far step =
-    let behind : allowance (now - q.at) slots cap ≡ allowance (size - q.at) headers cap =
-    ap (λ n. allowance (n - q.at) slots cap) same_size ∙ ap (λ h. allowance (size - q.at) h cap) same_slots in
-    let before : allowance (now - p.at) slots cap ≡ allowance (size - p.at) headers cap =
-    ap (λ n. allowance (n - p.at) slots cap) same_size ∙ ap (λ h. allowance (size - p.at) h cap) same_slots in
+pub step_within : (size now headers slots : ℕ) (style : Style) (bytes more total : ℕ) (p q : Progress) → now ≡ size → slots ≡ headers → bytes + allowance (size - p.at) headers style ≤ total
+    → more + allowance (now - q.at) slots style ≤ allowance (now - p.at) slots style → (bytes + more) + allowance (size - q.at) headers style ≤ total
+step_within size now headers slots style bytes more total p q same_size same_slots so_far step =
+    let behind : allowance (now - q.at) slots style ≡ allowance (size - q.at) headers style =
+    ap (λ n. allowance (n - q.at) slots style) same_size ∙ ap (λ h. allowance (size - q.at) h style) same_slots in
+    let before : allowance (now - p.at) slots style ≡ allowance (size - p.at) headers style =
+    ap (λ n. allowance (n - p.at) slots style) same_size ∙ ap (λ h. allowance (size - p.at) h style) same_slots in
     omega (arith, so_far, step, behind, before)
 
 -- the last step, within what is allowed
-pub step_ends : (size now headers slots cap bytes more total : ℕ) (p : Progress) → now ≡ size → slots ≡ headers → bytes + allowance (size - p.at) headers cap ≤ total
-    → more + 0 ≤ allowance (now - p.at) slots cap → bytes + more ≤ total
-step_ends size now headers slots cap bytes more total p same_size same_slots so_far step =
-    let before : allowance (now - p.at) slots cap ≡ allowance (size - p.at) headers cap =
-    ap (λ n. allowance (n - p.at) slots cap) same_size ∙ ap (λ h. allowance (size - p.at) h cap) same_slots in
+pub step_ends : (size now headers slots : ℕ) (style : Style) (bytes more total : ℕ) (p : Progress) → now ≡ size → slots ≡ headers → bytes + allowance (size - p.at) headers style ≤ total
+    → more + 0 ≤ allowance (now - p.at) slots style → bytes + more ≤ total
+step_ends size now headers slots style bytes more total p same_size same_slots so_far step =
+    let before : allowance (now - p.at) slots style ≡ allowance (size - p.at) headers style =
+    ap (λ n. allowance (n - p.at) slots style) same_size ∙ ap (λ h. allowance (size - p.at) h style) same_slots in
     omega (arith, so_far, step, before)

@@ -164,11 +164,11 @@ stopped_archive b file caps parts (Out cause) told before limited after out smal
 
 -- what is asked for within a budget
 pub asks_in_archive : (caps : Caps) (s0 s1 s2 s3 : Counting) (n : ℕ) (result : Result Bool Stop) → s0.asked ≤ 2 ^ 127 → SetsLimit s0 s1 caps.limits.budget
-    → Reads s1 s2 (archive_ceiling s1.seen.size caps.limits.headers caps.style.cap.bytes) → SetsLimit s2 s3 None
+    → Reads s1 s2 (archive_ceiling s1.seen.size caps.limits.headers (style_of caps.style)) → SetsLimit s2 s3 None
     → ((refusal : Refusal) → first_refusal (archive_length_checks s1.seen.size) ≡ Some refusal → s2 ≡ s1)
     → ((refusal : Refusal) → result ≡ Err (Refused refusal) → BudgetSays s1 s2 n refusal) → AsksInArchive caps s0 s3 result
 asks_in_archive caps s0 s1 s2 s3 n result small set reads unset unread late =
-    let same = ap (λ (seen : Seen). archive_ceiling seen.size caps.limits.headers caps.style.cap.bytes) set.seen in
+    let same = ap (λ (seen : Seen). archive_ceiling seen.size caps.limits.headers (style_of caps.style)) set.seen in
     let size : s1.seen.size ≡ s0.seen.size = ap (λ (seen : Seen). seen.size) set.seen in
     let within : IfSome caps.limits.budget (λ bytes. s2.asked ≤ s0.asked + bytes) = within_budget caps.limits.budget s0 s1 s2 set reads.same_limit in
     record {

@@ -92,15 +92,15 @@ pub record WalksMembers (file : List ℕ) (headers : ℕ) (style : Style) (parts
   pub refused : IfOk result (λ any. any ≡ list_any (is_refused file headers style parts) (members_from most file style.cap p).members)
 
 -- what is kept of an allowance for the members behind a step
-abbrev pub kept_for : ℕ → ℕ → ℕ → Progress → Result (Option Bool) Stop → ℕ
-kept_for size headers cap new (Ok None) = 0
-kept_for size headers cap new (Ok (Some refused)) = allowance (size - new.at) headers cap
-kept_for size headers cap new (Err stop) = 0
+abbrev pub kept_for : ℕ → ℕ → Style → Progress → Result (Option Bool) Stop → ℕ
+kept_for size headers style new (Ok None) = 0
+kept_for size headers style new (Ok (Some refused)) = allowance (size - new.at) headers style
+kept_for size headers style new (Err stop) = 0
 
 -- what a step takes for every source
-pub record StepsWithin (headers cap : ℕ) (old new : Progress) (a b : Counting) (out : Written) (result : Result (Option Bool) Stop) : Type 0 where
+pub record StepsWithin (headers : ℕ) (style : Style) (old new : Progress) (a b : Counting) (out : Written) (result : Result (Option Bool) Stop) : Type 0 where
   pub bytes : ℕ
-  pub within : bytes + kept_for a.seen.size headers cap new result ≤ allowance (a.seen.size - old.at) headers cap
+  pub within : bytes + kept_for a.seen.size headers style new result ≤ allowance (a.seen.size - old.at) headers style
   pub takes : Consumes a b out result bytes
 
 -- the walk behind a member stands in the source still, and further on
@@ -129,7 +129,7 @@ ArchiveSays old new out (Out fault) = OutFails out fault
 -- the budget; and where the answer is that the budget is used up, fewer than 4,096 bytes of it are left, and the answer names an
 -- offset of the file
 pub record AsksInArchive (caps : Caps) (old new : Counting) (result : Result Bool Stop) : Type 0 where
-  pub ceiling : new.asked ≤ old.asked + archive_ceiling old.seen.size caps.limits.headers caps.style.cap.bytes
+  pub ceiling : new.asked ≤ old.asked + archive_ceiling old.seen.size caps.limits.headers (style_of caps.style)
   pub unread : (refusal : Refusal) → first_refusal (archive_length_checks old.seen.size) ≡ Some refusal → new.seen ≡ old.seen × new.asked ≡ old.asked
   pub budget : IfSome caps.limits.budget (λ bytes. new.asked ≤ old.asked + bytes)
   pub late : (refusal : Refusal) → result ≡ Err (Refused refusal) → IsBudget refusal

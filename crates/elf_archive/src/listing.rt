@@ -4,7 +4,7 @@ ghost use Rattle.elf_model.specs.Archive.{Extent as Bytes, Member as Listed, arc
 ghost use Rattle.elf_model.specs.Archive.{bytes_in, is_elf, lists_members, member_line, member_listing, members_from, next_member, told, walk_items};
 ghost use Rattle.elf_model.specs.ArchiveCost.{allowance, any_refused, archive_ceiling, archive_cost, member_cost, members_cost};
 ghost use Rattle.elf_model.specs.Checks.{first_refusal};
-ghost use Rattle.elf_model.specs.Cost.{ceiling, cost_where, listing_cost};
+ghost use Rattle.elf_model.specs.Cost.{cost_where, listing_cost, style_ceiling};
 ghost use Rattle.elf_model.specs.Listing.{fault_of};
 ghost use Rattle.elf_model.specs.Report.{listing};
 ghost use Rattle.elf_model.specs.declared.causes.Refusal.{Refusal as Refuses};
@@ -99,7 +99,7 @@ fn list_archive<S: Source, W: Sink>(
     ensures slots { store.new.slots ≡ store.old.slots }
     ensures grows { Grows out.old out.new }
     ensures ceiling { Consumes src.old src.new out.new result
-        (archive_ceiling src.old.seen.size store.old.slots choice.entry.style.cap.bytes) }
+        (archive_ceiling src.old.seen.size store.old.slots (style_of choice.entry.style)) }
     ensures unread { (refusal : Refuses) →
         first_refusal (archive_length_checks src.old.seen.size) ≡ Some refusal →
         src.new ≡ src.old }
@@ -133,7 +133,7 @@ fn list_members<S: Source, W: Sink>(
     ensures slots { store.new.slots ≡ store.old.slots }
     ensures grows { Grows out.old out.new }
     ensures allowed { Consumes src.old src.new out.new result
-        (allowance (src.old.seen.size - 8) store.old.slots choice.entry.style.cap.bytes) }
+        (allowance (src.old.seen.size - 8) store.old.slots (style_of choice.entry.style)) }
     ensures walks { (file : List ℕ) → src.old.seen.file ≡ Some file →
         WalksMembers file store.old.slots (style_of choice.entry.style) choice.entry.parts.0 (length file)
         before_members src.old src.new out.old out.new result }
@@ -174,7 +174,7 @@ fn list_next<S: Source, W: Sink>(
     ensures slots { store.new.slots ≡ store.old.slots }
     ensures grows { Grows out.old out.new }
     ensures stands { StandsBehind src.old.seen.size cursor.old cursor.new result }
-    ensures within { StepsWithin store.old.slots choice.entry.style.cap.bytes cursor.old cursor.new
+    ensures within { StepsWithin store.old.slots (style_of choice.entry.style) cursor.old cursor.new
         src.old src.new out.new result }
     ensures cost { (file : List ℕ) → src.old.seen.file ≡ Some file →
         Consumes src.old src.new out.new result
@@ -214,7 +214,7 @@ fn list_member<S: Source, W: Sink>(
     ensures slots { store.new.slots ≡ store.old.slots }
     ensures grows { Grows out.old out.new }
     ensures ceiling { Consumes src.old src.new out.new result
-        (4 + ceiling extent.size store.old.slots choice.entry.style.cap.bytes) }
+        (4 + style_ceiling extent.size store.old.slots (style_of choice.entry.style)) }
     ensures cost { (file : List ℕ) → src.old.seen.file ≡ Some file → (member : Listed) →
         member.extent ≡ extent_of extent → Consumes src.old src.new out.new result
         (member_cost file store.old.slots (style_of choice.entry.style) choice.entry.parts.0 member) }
@@ -249,7 +249,7 @@ fn list_range<S: Source, W: Sink>(
     ensures slots { store.new.slots ≡ store.old.slots }
     ensures grows { Grows out.old out.new }
     ensures ceiling { Consumes src.old src.new out.new result
-        (ceiling extent.size store.old.slots choice.entry.style.cap.bytes) }
+        (style_ceiling extent.size store.old.slots (style_of choice.entry.style)) }
     ensures cost { (file : List ℕ) → src.old.seen.file ≡ Some file →
         Consumes src.old src.new out.new result
         (listing_cost (bytes_in file (extent_of extent)) store.old.slots

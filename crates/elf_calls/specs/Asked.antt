@@ -30,6 +30,7 @@ style_in asked cap = record {
   by_segments = has (flags_in asked) 1;
   format = format_in (flags_in asked);
   choice = EveryRow;
+  versions = false;
 }
 
 -- THE BYTES ASK FOR A LISTING: parts and flags are there, and behind them zeros alone, which ask for nothing that this version
@@ -42,7 +43,7 @@ AsksListing asked =
 -- how rows of a listing are shown, with so many bytes of a name
 abbrev pub caller_style : CallerListing → ℕ → Style
 caller_style listing cap =
-    record { cap = cap; gnu = listing.gnu; by_segments = listing.by_segments; format = listing.format; choice = EveryRow }
+    record { cap = cap; gnu = listing.gnu; by_segments = listing.by_segments; format = listing.format; choice = EveryRow; versions = false }
 
 -- the listing is given that is asked for, and none where none is
 abbrev pub GivesListing : List ℕ → Option CallerListing → Type 0

@@ -46,6 +46,7 @@ impl CallerListing {
             by_segments: self.by_segments,
             format: self.format,
             choice: RowChoice::every_row(),
+            versions: false,
         }
     }
 }

@@ -73,12 +73,12 @@ of_one content = archive_of (member (codes "a.o/") content)
 abbrev pub StylesAreTheMembers : Type 0
 StylesAreTheMembers =
     (report_of Columns
-    (archive_items (of_one (with_bytes 0xbc (little 4 0x6ffffff6) one_symbol_table)) 3 (record { cap = 63; gnu = true; by_segments = false; format = Columns; choice = EveryRow }) SECTIONS)
+    (archive_items (of_one (with_bytes 0xbc (little 4 0x6ffffff6) one_symbol_table)) 3 (record { cap = 63; gnu = true; by_segments = false; format = Columns; choice = EveryRow; versions = false }) SECTIONS)
     ≡ codes "A     0 0000000000000044 0000000000000138 a.o\n"
     ++ codes "S     0 NULL                       0000000000000000 0000000000000000 0000000000000000 00000000 00000000 \n"
     ++ codes "S     1 GNU_HASH                   0000000000000000 0000000000000040 0000000000000030 00000002 00000001 \n"
     ++ codes "S     2 STRTAB                     0000000000000000 0000000000000070 0000000000000006 00000000 00000000 \n")
-    × (report_of Columns (archive_items (of_one one_symbol_table) 3 (record { cap = 63; gnu = false; by_segments = true; format = Columns; choice = EveryRow }) SYMBOLS)
+    × (report_of Columns (archive_items (of_one one_symbol_table) 3 (record { cap = 63; gnu = false; by_segments = true; format = Columns; choice = EveryRow; versions = false }) SYMBOLS)
     ≡ codes "A     0 0000000000000044 0000000000000138 a.o\n")
 
 -- as many headers as are permitted are a member's too

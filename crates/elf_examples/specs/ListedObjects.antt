@@ -19,7 +19,7 @@ use Rattle.elf_model.specs.declared.versions.VersionKind.TheVariants.{Definition
 
 -- objects, with so many bytes of a name
 abbrev pub objects : ℕ → Style
-objects cap = record { cap = cap; gnu = false; by_segments = false; format = Object; choice = EveryRow }
+objects cap = record { cap = cap; gnu = false; by_segments = false; format = Object; choice = EveryRow; versions = false }
 
 -- a whole listing: the file header, the section headers and the symbols
 abbrev pub ObjectsOfAFile : Type 0

@@ -12,7 +12,7 @@ use Rattle.elf_model.specs.FixturesTables.{program_header}
 use Rattle.elf_model.specs.FixturesSegments.{object, object_with}
 
 abbrev by_segments : Style
-by_segments = record { cap = 63; gnu = false; by_segments = true; format = Columns; choice = EveryRow }
+by_segments = record { cap = 63; gnu = false; by_segments = true; format = Columns; choice = EveryRow; versions = false }
 
 -- a segment that is loaded at an address, of so many bytes in memory, with none of them in the file
 abbrev load : (address size : ℕ) → List ℕ

@@ -334,7 +334,7 @@ abbrev hidden : List ℕ
 hidden = with_bytes 0x28 (little 8 0x1000) (with_bytes 0x3c (little 2 3 ++ little 2 7) library_without_sections)
 
 abbrev by_segments : Style
-by_segments = record { cap = 63; gnu = false; by_segments = true; format = Columns; choice = EveryRow }
+by_segments = record { cap = 63; gnu = false; by_segments = true; format = Columns; choice = EveryRow; versions = false }
 
 abbrev pub SegmentsDespiteSections : Type 0
 SegmentsDespiteSections =

@@ -21,6 +21,7 @@ rows_named names = record {
   by_segments = false;
   format = Columns;
   choice = RowsOf (map (wanted_text false) names);
+  versions = false;
 }
 
 -- the rows of some names in some parts of a file, with eight headers permitted
@@ -83,7 +84,7 @@ FaultsAreListed =
 abbrev pub OtherRowsStand : Type 0
 OtherRowsStand =
     named_listed SECTIONS (codes "main" ∷ []) one_symbol_table
-    ≡ report_of Columns (listing one_symbol_table 8 (record { cap = 4; gnu = true; by_segments = false; format = Columns; choice = (standard 4).choice }) SECTIONS)
+    ≡ report_of Columns (listing one_symbol_table 8 (record { cap = 4; gnu = true; by_segments = false; format = Columns; choice = (standard 4).choice; versions = false }) SECTIONS)
 
 -- of an archive the line of each member stands, its name cut as every name is, and behind it the rows of the names
 abbrev pub MembersStand : Type 0

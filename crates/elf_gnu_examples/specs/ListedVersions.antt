@@ -14,7 +14,7 @@ use Rattle.elf_model.specs.Style.{Style, standard}
 
 -- how rows are shown here: 63 bytes of a name, and the names of the GNU system's numbers
 abbrev pub standard_style : Style
-standard_style = record { cap = 63; gnu = true; by_segments = false; format = Columns; choice = EveryRow }
+standard_style = record { cap = 63; gnu = true; by_segments = false; format = Columns; choice = EveryRow; versions = false }
 
 -- the listing of some parts of a file, with eight headers permitted, and of its symbol versions alone
 unfoldable pub parts_listed : ℕ → List ℕ → List ℕ

@@ -14,6 +14,7 @@ mod offered_rows;
 mod overlap_rows;
 mod record_rows;
 mod rest_rows;
+mod suffix_rows;
 mod view_rows;
 mod wanted_rows;
 mod word_rows;

@@ -33,8 +33,9 @@ impl Cap {
 }
 
 /// How rows are shown: how many bytes of a name, whether numbers of the GNU system have names beside
-/// those of the standards, by which headers tables are found, how a line is written, and which rows
-/// that end in the name of a symbol or of a version are shown.
+/// those of the standards, by which headers tables are found, how a line is written, which rows
+/// that end in the name of a symbol or of a version are shown, and whether the version of a symbol
+/// stands behind its name.
 #[derive(Clone, Copy)]
 pub struct Style<'n> {
     /// How many bytes of a name are shown.
@@ -47,6 +48,8 @@ pub struct Style<'n> {
     pub format: Format,
     /// Which rows that end in the name of a symbol or of a version are shown.
     pub choice: RowChoice<'n>,
+    /// Whether the version of a symbol stands behind its name.
+    pub versions: bool,
 }
 
 impl Style<'_> {
@@ -55,7 +58,7 @@ impl Style<'_> {
     ghost use Rattle.elf_headers.specs.Permitted.{style_of};
 
     /// So many bytes of a name, the names of the standards alone, tables found by the section headers
-    /// where there are some, lines in columns, and every row.
+    /// where there are some, lines in columns, every row, and no versions behind names.
     pub fn standard(cap: Cap) -> Style<'static>
         ensures same { result.cap ≡ cap }
         ensures style { style_of result ≡ standard cap.bytes }
@@ -66,6 +69,7 @@ impl Style<'_> {
             by_segments: false,
             format: Format::Columns,
             choice: RowChoice::every_row(),
+            versions: false,
         }
     }
 }

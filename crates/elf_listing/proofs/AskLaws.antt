@@ -3,7 +3,7 @@ use Rattle.std.proofs.Common.{subst, ◌≡◌, ℕ, ◌+◌, ◌^◌, ◌<◌, 
 use Rattle.std.specs.Prelude.{IfSome}
 use Rattle.elf_model.specs.declared.formats.Format.{Format}
 use Rattle.elf_model.specs.Checks.{first_refusal, length_checks}
-use Rattle.elf_model.specs.Cost.{ceiling}
+use Rattle.elf_model.specs.Cost.{style_ceiling}
 use Rattle.elf_model.specs.Listing.{has_tables, known_parts}
 use Rattle.elf_model.specs.declared.causes.Refusal.{Refusal}
 use Rattle.elf_source.specs.Source.{Seen, Counting, Reads, SetsLimit, OverLimit, counted}
@@ -18,11 +18,11 @@ use Rattle.elf_listing.specs.Reports.{AsksWithin, FaultSays, TellsStop}
 use Rattle.elf_listing.specs.Shows.{StopSays}
 
 pub asks_within : {X : Type 0} (caps : Caps) (parts : ℕ) (s0 s1 s2 s3 : Counting) (n : ℕ) (result : Result X Stop) → s0.asked ≤ 2 ^ 127 → SetsLimit s0 s1 caps.limits.budget
-    → Reads s1 s2 (ceiling s1.seen.size caps.limits.headers caps.style.cap.bytes) → SetsLimit s2 s3 None
+    → Reads s1 s2 (style_ceiling s1.seen.size caps.limits.headers (style_of caps.style)) → SetsLimit s2 s3 None
     → ((refusal : Refusal) → first_refusal (length_checks s1.seen.size) ≡ Some refusal → s2 ≡ s1) → (has_tables (known_parts (style_of caps.style) parts) ≡ false → s2.asked ≤ s1.asked + 64)
     → ((refusal : Refusal) → result ≡ Err (Refused refusal) → RefusalSays s1 s2 n refusal) → AsksWithin caps parts s0 s3 result
 asks_within caps parts s0 s1 s2 s3 n result small set reads unset unread alone late =
-    let same = ap (λ (seen : Seen). ceiling seen.size caps.limits.headers caps.style.cap.bytes) set.seen in
+    let same = ap (λ (seen : Seen). style_ceiling seen.size caps.limits.headers (style_of caps.style)) set.seen in
     let within : IfSome caps.limits.budget (λ bytes. s2.asked ≤ s0.asked + bytes) = within_budget caps.limits.budget s0 s1 s2 set reads.same_limit in
     record {
       ceiling = omega (arith, reads.at_most, set.asked, unset.asked, same);

@@ -1,6 +1,6 @@
 -- The items of a whole listing: the file header's, and what stands behind it.
 use Rattle.std.proofs.lemmas.Bool.{cases_Bool, eqb-true, or_left, or_right}
-use Rattle.std.proofs.Common.{◌≡◌, ℕ, ◌==◌, ◌||◌, inl, inr, true, List, [], ◌∷◌, ◌++◌, None, Err, false, sym, ap, ◌∙◌, refl, append-nil, append_assoc}
+use Rattle.std.proofs.Common.{◌≡◌, ℕ, ◌==◌, ◌||◌, inl, inr, Bool, true, List, [], ◌∷◌, ◌++◌, None, Err, false, sym, ap, ◌∙◌, refl, append-nil, append_assoc}
 use Rattle.elf_model.specs.Budget.{IsBudget}
 use Rattle.elf_model.specs.Checks.{first_refusal, header_checks, load_checks}
 use Rattle.elf_model.specs.Lines.{header_line}
@@ -9,7 +9,7 @@ use Rattle.elf_model.specs.Records.{e_shnum, e_phnum}
 use Rattle.elf_model.specs.Style.{Style, viewed as view_of}
 use Rattle.elf_model.specs.Report.{listing, load_items, loaded_items, table_items, kinds_rows, view_checks}
 use Rattle.elf_model.specs.HeaderTables.{file_sections, file_segments}
-use Rattle.elf_model.specs.TableKinds.{TableHeaders, symbols, relocations, section_notes, section_dynamic, segment_notes, segment_dynamic, section_kinds, segment_kinds, table_headers}
+use Rattle.elf_model.specs.TableKinds.{TableHeaders, symbols, relocations, suffixed_symbols, suffixed_relocations, section_notes, section_dynamic, segment_notes, segment_dynamic, section_kinds, segment_kinds, table_headers}
 use Rattle.elf_model.specs.VersionLaws.{records_rows}
 use Rattle.elf_model.specs.VersionRows.{version_definitions, version_needs, symbol_versions}
 use Rattle.elf_model.proofs.VersionNameLaws.{back-none, front-none, records-none}
@@ -23,10 +23,10 @@ use Rattle.elf_headers.specs.Faults.{HeaderRead}
 use Rattle.elf_headers.specs.Store.{Stored}
 use Rattle.elf_headers.specs.declared.fault.Fault.{Fault as TableFault}
 use Rattle.elf_headers.specs.declared.fault.Fault.TheVariants.{Refused}
-use Rattle.elf_listing.specs.Parts.{listed_by, part_items}
+use Rattle.elf_listing.specs.Parts.{listed_by, part_items, relocations_part, symbols_part}
 use Rattle.elf_listing.specs.Viewed.{ChecksView, viewed_headers}
 use Rattle.elf_listing.specs.declared.parts.Part.{Part}
-use Rattle.elf_listing.specs.declared.parts.Part.TheVariants.{Headers, Symbols, Relocations, SectionNotes, SegmentNotes, SectionDynamic, SegmentDynamic, Definitions, Needs, SymbolVersions}
+use Rattle.elf_listing.specs.declared.parts.Part.TheVariants.{Headers, SectionNotes, SegmentNotes, SectionDynamic, SegmentDynamic, Definitions, Needs, SymbolVersions}
 
 -- the file header's part
 abbrev pub header_part : Format → List ℕ → ℕ → List ListingItem
@@ -99,13 +99,14 @@ asked_same parts part items n m same = elim (cases_Bool (has parts part)) [
   | inr other ↦ rw (other, where_asked) refl
 ]
 
-kinds_of_sections : (file : List ℕ) (style : Style) (parts : ℕ) → kinds_rows section_kinds (file_sections file) file style parts
-    ≡ of_headers file style parts Symbols (e_shnum file) ++ (of_headers file style parts Relocations (e_shnum file)
+kinds_of_sections : (versions : Bool) (file : List ℕ) (style : Style) (parts : ℕ) → kinds_rows (section_kinds versions) (file_sections file) file style parts
+    ≡ of_headers file style parts (symbols_part versions) (e_shnum file) ++ (of_headers file style parts (relocations_part versions) (e_shnum file)
     ++ (of_headers file style parts SectionNotes (e_shnum file) ++ (of_headers file style parts SectionDynamic (e_shnum file)
     ++ (of_headers file style parts Definitions (e_shnum file) ++ (of_headers file style parts Needs (e_shnum file)
     ++ (of_headers file style parts SymbolVersions (e_shnum file) ++ []))))))
-unfolding kinds_rows symbols relocations section_notes section_dynamic version_definitions version_needs symbol_versions
-kinds_of_sections file style parts = refl
+unfolding kinds_rows symbols relocations suffixed_symbols suffixed_relocations section_notes section_dynamic version_definitions version_needs symbol_versions
+kinds_of_sections true file style parts = refl
+kinds_of_sections false file style parts = refl
 
 kinds_of_segments : (file : List ℕ) (style : Style) (parts : ℕ) → kinds_rows segment_kinds (file_segments file) file style parts
     ≡ of_headers file style parts SegmentNotes (e_phnum file) ++ (of_headers file style parts SegmentDynamic (e_phnum file) ++ [])
@@ -133,7 +134,7 @@ viewed_segments parts loaded none asked = rw (none, asked) refl
 -- the parts of all kinds of tables, by so many section headers and program headers
 abbrev of_kinds : List ℕ → Style → ℕ → (sections segments : ℕ) → List ListingItem
 of_kinds file style parts sections segments =
-    ((((of_headers file style parts Symbols sections ++ of_headers file style parts Relocations sections)
+    ((((of_headers file style parts (symbols_part style.versions) sections ++ of_headers file style parts (relocations_part style.versions) sections)
     ++ (of_headers file style parts SectionNotes sections ++ of_headers file style parts SegmentNotes segments))
     ++ (of_headers file style parts SectionDynamic sections ++ of_headers file style parts SegmentDynamic segments))
     ++ (of_headers file style parts Definitions sections ++ of_headers file style parts Needs sections))
@@ -141,7 +142,7 @@ of_kinds file style parts sections segments =
 
 -- the tables of all kinds are those of the headers in the store
 kinds_are : (file : List ℕ) (style : Style) (parts : ℕ) (loaded : Opened) (store : Stored) → Belongs file loaded store → store.segments ≡ viewed_headers parts loaded
-    → kinds_rows (table_headers file).kinds (table_headers file).headers file style parts ≡ of_kinds file style parts store.loaded store.segments
+    → kinds_rows (table_headers style.versions file).kinds (table_headers style.versions file).headers file style parts ≡ of_kinds file style parts store.loaded store.segments
 unfolding segment_notes segment_dynamic
 kinds_are file style parts loaded store belongs view =
     let count : store.loaded ≡ e_shnum file = belongs.count ∙ belongs.header.e_shnum in
@@ -154,37 +155,60 @@ kinds_are file style parts loaded store belongs view =
           let dynamic = asked_same parts DYNAMIC (λ n. part_items SegmentDynamic style n file) (e_phnum file) store.segments
           (λ asked. sym (view ∙ (all (or_right _ _ (or_right _ _ asked)) ∙ belongs.header.e_phnum))) in
           let none_by = λ (part : Part). none_of file style parts part store.loaded zero in
-          ap (λ (tables : TableHeaders). kinds_rows tables.kinds tables.headers file style parts) (headers_none file none)
+          ap (λ (tables : TableHeaders). kinds_rows tables.kinds tables.headers file style parts) (headers_none style.versions file none)
           ∙ (kinds_of_segments file style parts
-          ∙ rw (notes, dynamic, none_by Symbols, none_by Relocations, none_by SectionNotes, none_by SectionDynamic, none_by Definitions, none_by Needs, none_by SymbolVersions)
+          ∙ rw (notes, dynamic, none_by (symbols_part style.versions), none_by (relocations_part style.versions), none_by SectionNotes, none_by SectionDynamic, none_by Definitions, none_by Needs, none_by SymbolVersions)
           (segments_alone (of_headers file style parts SegmentNotes store.segments) (of_headers file style parts SegmentDynamic store.segments)))
       | inr some ↦
           let zero : store.segments ≡ 0 = view ∙ viewed_none parts loaded (ap (λ n. n == 0) belongs.header.e_shnum ∙ some) in
           let rows = λ (part : Part). of_headers file style parts part (e_shnum file) in
-          ap (λ (tables : TableHeaders). kinds_rows tables.kinds tables.headers file style parts) (headers_some file some)
-          ∙ (kinds_of_sections file style parts
+          ap (λ (tables : TableHeaders). kinds_rows tables.kinds tables.headers file style parts) (headers_some style.versions file some)
+          ∙ (kinds_of_sections style.versions file style parts
           ∙ rw (count, none_of file style parts SegmentNotes store.segments zero, none_of file style parts SegmentDynamic store.segments zero)
-          (sections_alone (rows Symbols) (rows Relocations) (rows SectionNotes) (rows SectionDynamic) (rows Definitions) (rows Needs) (rows SymbolVersions)))
+          (sections_alone (rows (symbols_part style.versions)) (rows (relocations_part style.versions)) (rows SectionNotes) (rows SectionDynamic) (rows Definitions) (rows Needs) (rows SymbolVersions)))
     ]
 
 behind : (a b c d e f : List ListingItem) → a ++ ((((b ++ c) ++ d) ++ e) ++ f) ≡ ((((a ++ b) ++ c) ++ d) ++ e) ++ f
 behind a b c d e f = simp append_assoc
 
--- the tables of a loaded file, by the headers in the store
-pub tables_are : (file : List ℕ) (style : Style) (parts : ℕ) (loaded : Opened) (store : Stored) → Belongs file loaded store → store.segments ≡ viewed_headers parts loaded
-    → table_items file style parts
-    ≡ (((((of_headers file style parts Headers store.loaded ++ segment_part file style parts)
-    ++ (of_headers file style parts Symbols store.loaded ++ of_headers file style parts Relocations store.loaded))
+-- how many headers the symbols and the relocation entries go over
+symbols_counted : (versions : Bool) (store : Stored) → (listed_by (symbols_part versions)).count store ≡ store.loaded
+symbols_counted true store = refl
+symbols_counted false store = refl
+
+relocations_counted : (versions : Bool) (store : Stored) → (listed_by (relocations_part versions)).count store ≡ store.loaded
+relocations_counted true store = refl
+relocations_counted false store = refl
+
+-- the tables of the headers in the store, so many of which have symbols, and relocation entries
+abbrev pub by_counts : List ℕ → Style → ℕ → Stored → (symbols entries : ℕ) → List ListingItem
+by_counts file style parts store n m =
+    (((((of_headers file style parts Headers store.loaded ++ segment_part file style parts)
+    ++ (of_headers file style parts (symbols_part style.versions) n ++ of_headers file style parts (relocations_part style.versions) m))
     ++ (of_headers file style parts SectionNotes store.loaded ++ of_headers file style parts SegmentNotes store.segments))
     ++ (of_headers file style parts SectionDynamic store.loaded ++ of_headers file style parts SegmentDynamic store.segments))
     ++ (of_headers file style parts Definitions store.loaded ++ of_headers file style parts Needs store.loaded))
     ++ of_headers file style parts SymbolVersions store.loaded
+
+tables_loaded : (file : List ℕ) (style : Style) (parts : ℕ) (loaded : Opened) (store : Stored) → Belongs file loaded store → store.segments ≡ viewed_headers parts loaded
+    → table_items file style parts ≡ by_counts file style parts store store.loaded store.loaded
 unfolding table_items
-tables_are file style parts loaded store belongs view =
+tables_loaded file style parts loaded store belongs view =
     let count : e_shnum file ≡ store.loaded = sym (belongs.count ∙ belongs.header.e_shnum) in
     let first : List ListingItem = of_headers file style parts Headers store.loaded ++ segment_part file style parts in
-    ap (λ n. (of_headers file style parts Headers n ++ segment_part file style parts) ++ kinds_rows (table_headers file).kinds (table_headers file).headers file style parts) count
+    ap (λ n. (of_headers file style parts Headers n ++ segment_part file style parts) ++ kinds_rows (table_headers style.versions file).kinds (table_headers style.versions file).headers file style parts) count
     ∙ (ap (λ rest. first ++ rest) (kinds_are file style parts loaded store belongs view) ∙ behind first _ _ _ _ _)
+
+-- the tables of a loaded file, by the headers in the store
+pub tables_are : (file : List ℕ) (style : Style) (parts : ℕ) (loaded : Opened) (store : Stored) → Belongs file loaded store → store.segments ≡ viewed_headers parts loaded
+    → table_items file style parts
+    ≡ by_counts file style parts store ((listed_by (symbols_part style.versions)).count store) ((listed_by (relocations_part style.versions)).count store)
+tables_are file style parts loaded store belongs view =
+    let n = symbols_counted style.versions store in
+    let m = relocations_counted style.versions store in
+    tables_loaded file style parts loaded store belongs view
+    ∙ (ap (λ (k : ℕ). by_counts file style parts store k store.loaded) (sym n)
+    ∙ ap (by_counts file style parts store ((listed_by (symbols_part style.versions)).count store)) (sym m))
 
 -- where the rows of definitions and needs are asked for and have no fault, they have none at all
 pub versions_none : (file : List ℕ) (style : Style) (parts : ℕ) (loaded : Opened) (store : Stored) → Belongs file loaded store

@@ -2,11 +2,13 @@
 use Rattle.std.proofs.Common.{◌≡◌, ℕ, ◌+◌, ◌*◌, ◌/◌, ◌≤◌, ◌==◌, not, true, false, List, [], ◌++◌, length, Option, None, Some, Result, Ok, Err, refl, sym, ap, ◌∙◌, subst, arith, append-nil}
 use Rattle.elf_model.specs.Checks.{Check, first_refusal}
 use Rattle.elf_model.specs.Records.{sh_offset, sh_size, section_at}
+use Rattle.elf_model.specs.Suffixes.{or_refusal, walk_refusal}
 use Rattle.elf_model.specs.Tables.{all_checks, strings_of}
 use Rattle.elf_model.specs.VersionRows.{first_of_type, first_strings, first_versions, section_versions, version_table}
 use Rattle.elf_model.specs.Versions.{Met, met_from, versions_in}
 use Rattle.elf_model.specs.declared.causes.Refusal.{Refusal}
 use Rattle.elf_model.specs.declared.versions.VersionKind.{VersionKind}
+use Rattle.elf_model.specs.declared.versions.VersionKind.TheVariants.{Definition, File}
 use Rattle.elf_headers.specs.Faults.{IsOfCheck, IsOfRead, Says}
 use Rattle.elf_headers.specs.declared.fault.Fault.{Fault}
 use Rattle.elf_headers.specs.declared.fault.Fault.TheVariants.{Refused, Source}
@@ -17,16 +19,50 @@ use Rattle.elf_table.specs.Tables.{Rows, Strings, strings_in}
 use Rattle.elf_versions.specs.NumberNames.{NamesNumbers, ReadsNumberNames}
 use Rattle.elf_versions.specs.Reading.{StartsVersions, Walking, versions_left}
 use Rattle.elf_versions.specs.declared.number_names.NameAt.{NameAt}
-use Rattle.elf_listing.specs.SymbolVersions.{IsNoCheck, AreRecordsWhole, TakenIn}
+use Rattle.elf_listing.specs.SymbolVersions.{AreRecordsWhole, NumberedOr, NumbersTaken, TakenIn, TakenOr}
 use Rattle.elf_listing.specs.Versions.{kind_type}
 use Rattle.elf_listing.proofs.VersionSections.{left_all}
 
+-- what a found section refuses
+abbrev refusal_of : VersionKind → List ℕ → Option ℕ → Option Refusal
+refusal_of kind file found = elim found [
+  | None ↦ None
+  | Some i ↦ or_refusal (first_refusal (all_checks version_table file (section_at file i))) (section_versions kind file (section_at file i)).cut
+]
+
+walk-none : (kind : VersionKind) (type : ℕ) (file : List ℕ) → first_of_type file type ≡ None → walk_refusal kind type file ≡ None
+unfolding walk_refusal
+walk-none kind type file none = ap (refusal_of kind file) none
+
+walk-some : (kind : VersionKind) (type : ℕ) (file : List ℕ) (i : ℕ) → first_of_type file type ≡ Some i
+    → walk_refusal kind type file ≡ or_refusal (first_refusal (all_checks version_table file (section_at file i))) (section_versions kind file (section_at file i)).cut
+unfolding walk_refusal
+walk-some kind type file i first = ap (refusal_of kind file) first
+
+or-some : (a b : Option Refusal) (refusal : Refusal) → a ≡ Some refusal → or_refusal a b ≡ Some refusal
+or-some a b refusal is = rw is refl
+
+pub or-none : (a b c : Option Refusal) → a ≡ None → b ≡ c → or_refusal a b ≡ c
+or-none a b c none is = rw (none, is) refl
+
+-- of the first section of a type: no record of it is refused
+pub walk-whole : (kind : VersionKind) (type : ℕ) (file : List ℕ)
+    → ((i : ℕ) → first_of_type file type ≡ Some i → (first_refusal (all_checks version_table file (section_at file i)) ≡ None) × ((section_versions kind file (section_at file i)).cut ≡ None))
+    → walk_refusal kind type file ≡ None
+walk-whole kind type file whole = by_found (first_of_type file type) refl
+  where
+    by_found : (found : Option ℕ) → first_of_type file type ≡ found → walk_refusal kind type file ≡ None
+    by_found None first = walk-none kind type file first
+    by_found (Some i) first = let both = whole i first in walk-some kind type file i first ∙ or-none _ _ None both.0 both.1
+
 -- where there is no record, nothing is taken in
-pub taken-none : (file : List ℕ) (kind : VersionKind) (records : List Met) (names : List NameAt) (strings : Strings) → first_versions kind (kind_type kind) file ≡ []
-    → NamesNumbers file records names → TakenIn file kind records names strings
-taken-none file kind records names strings none is = record {
-  names = subst (λ (all : List Met). NamesNumbers file all names) (sym (ap (λ (x : List Met). records ++ x) none ∙ append-nil records)) is;
-  named = λ some. absurd (some none);
+pub taken-none : (file : List ℕ) (kind : VersionKind) (records : List Met) (names : List NameAt) (places : List ℕ) (strings : Strings)
+    → (first_versions kind (kind_type kind) file ≡ []) × AreRecordsWhole file kind → NamesNumbers file records names places
+    → TakenIn file kind records (NumbersTaken names places) strings
+taken-none file kind records names places strings none is = record {
+  whole = none.1;
+  names = subst (λ (all : List Met). NamesNumbers file all names places) (sym (ap (λ (x : List Met). records ++ x) none.0 ∙ append-nil records)) is;
+  named = λ some. absurd (some none.0);
 }
 
 -- what a found section gives
@@ -36,51 +72,75 @@ records_of kind file found = elim found [ None ↦ [] | Some i ↦ (section_vers
 abbrev strings_found : List ℕ → Option ℕ → List ℕ
 strings_found file found = elim found [ None ↦ [] | Some i ↦ strings_of file (section_at file i) ]
 
-pub no-section : (file : List ℕ) (kind : VersionKind) → first_of_type file (kind_type kind) ≡ None → first_versions kind (kind_type kind) file ≡ []
-no-section file kind none = ap (records_of kind file) none
+pub no-section : (file : List ℕ) (kind : VersionKind) → first_of_type file (kind_type kind) ≡ None
+    → (first_versions kind (kind_type kind) file ≡ []) × AreRecordsWhole file kind
+no-section file kind none = (ap (records_of kind file) none, walk-none kind (kind_type kind) file none)
 
 pub empty-section : (file : List ℕ) (kind : VersionKind) (i : ℕ) → first_of_type file (kind_type kind) ≡ Some i → sh_size file (section_at file i) ≡ 0
-    → first_versions kind (kind_type kind) file ≡ []
+    → (first_versions kind (kind_type kind) file ≡ []) × AreRecordsWhole file kind
 unfolding versions_in met_from
 empty-section file kind i first none =
     let at = section_at file i in
-    ap (records_of kind file) first ∙ subst (λ (n : ℕ). (versions_in kind file at (sh_offset file at) n).met ≡ []) (sym none) refl
+    let checks : first_refusal (all_checks version_table file at) ≡ None = rw none refl in
+    let cut = subst (λ (n : ℕ). (versions_in kind file at (sh_offset file at) n).cut ≡ None) (sym none) refl in (
+      ap (records_of kind file) first ∙ subst (λ (n : ℕ). (versions_in kind file at (sh_offset file at) n).met ≡ []) (sym none) refl,
+      walk-some kind (kind_type kind) file i first ∙ or-none _ _ None checks cut,
+    )
 
 -- all of its records are
-pub taken-all : (file : List ℕ) (kind : VersionKind) (i : ℕ) (records : List Met) (after : List NameAt) (table : Rows) (c : Walking) (strings : Strings)
-    → first_of_type file (kind_type kind) ≡ Some i → table ≡ rows (sh_offset file (section_at file i)) (sh_size file (section_at file i)) 1
-    → StartsVersions kind (section_at file i) table c → NamesNumbers file (records ++ (versions_left file c).met) after
-    → strings_of file (section_at file i) ≡ strings_in file strings → TakenIn file kind records after strings
-taken-all file kind i records after table c strings first same starts names is =
+pub taken-all : (file : List ℕ) (kind : VersionKind) (i : ℕ) (records : List Met) (after : List NameAt) (places : List ℕ) (table : Rows) (c : Walking) (strings : Strings)
+    → first_of_type file (kind_type kind) ≡ Some i → first_refusal (all_checks version_table file (section_at file i)) ≡ None
+    → table ≡ rows (sh_offset file (section_at file i)) (sh_size file (section_at file i)) 1
+    → StartsVersions kind (section_at file i) table c → ((versions_left file c).cut ≡ None) × NamesNumbers file (records ++ (versions_left file c).met) after places
+    → strings_of file (section_at file i) ≡ strings_in file strings → TakenIn file kind records (NumbersTaken after places) strings
+taken-all file kind i records after places table c strings first passes same starts read is =
     let at = section_at file i in
     let left : versions_left file c ≡ versions_in kind file at (sh_offset file at) (sh_size file at) =
     left_all kind file at table c starts ∙ ap (λ (t : Rows). versions_in kind file at t.at t.count) same in
-    let all = rw left at names in
+    let all = rw left at read.1 in
+    let cut = rw left at read.0 in
     record {
-      names = subst (λ (rs : List Met). NamesNumbers file (records ++ rs) after) (sym (ap (records_of kind file) first)) all;
+      whole = walk-some kind (kind_type kind) file i first ∙ or-none _ _ None passes cut;
+      names = subst (λ (rs : List Met). NamesNumbers file (records ++ rs) after places) (sym (ap (records_of kind file) first)) all;
       named = λ some. sym is ∙ sym (ap (strings_found file) first);
     }
 
--- a walk over a whole section is not cut
-pub not-cut : (file : List ℕ) (kind : VersionKind) (i : ℕ) (records : List Met) (after : List NameAt) (table : Rows) (c : Walking) (fault : Fault)
-    → first_of_type file (kind_type kind) ≡ Some i → AreRecordsWhole file kind → table ≡ rows (sh_offset file (section_at file i)) (sh_size file (section_at file i)) 1
-    → StartsVersions kind (section_at file i) table c → ReadsNumberNames file records (versions_left file c) after (Err fault) → IsNoCheck fault
-not-cut file kind i records after table c (Refused refusal) first whole same starts reads = λ other.
+-- a walk that is cut
+pub taken-cut : (file : List ℕ) (kind : VersionKind) (i : ℕ) (records : List Met) (after : List NameAt) (places : List ℕ) (table : Rows) (c : Walking) (fault : Fault)
+    → first_of_type file (kind_type kind) ≡ Some i → first_refusal (all_checks version_table file (section_at file i)) ≡ None
+    → table ≡ rows (sh_offset file (section_at file i)) (sh_size file (section_at file i)) 1
+    → StartsVersions kind (section_at file i) table c → ReadsNumberNames file records (versions_left file c) after places (Err fault)
+    → TakenOr file kind records (NumbersTaken after places) (Err fault)
+taken-cut file kind i records after places table c (Refused refusal) first passes same starts reads = λ other.
     let at = section_at file i in
     let left : versions_left file c ≡ versions_in kind file at (sh_offset file at) (sh_size file at) =
     left_all kind file at table c starts ∙ ap (λ (t : Rows). versions_in kind file at t.at t.count) same in
     let cut = rw left at (reads other) in
-    let none = (whole i first).1 in cc
-not-cut file kind i records after table c (Source fault offset) first whole same starts reads = tt
+    walk-some kind (kind_type kind) file i first ∙ or-none _ _ (Some refusal) passes cut
+taken-cut file kind i records after places table c (Source fault offset) first passes same starts reads = tt
 
--- checks that pass refuse nothing
-pub not-refused : (checks : List Check) (fault : Fault) → first_refusal checks ≡ None → RefusedBy checks fault → IsNoCheck fault
-not-refused checks (Refused refusal) none by = cc
-not-refused checks (Source fault offset) none by = absurd by
+-- checks that refuse
+pub taken-refused : (file : List ℕ) (kind : VersionKind) (i : ℕ) (records : List Met) (after : List ℕ → List Met → Type 0) (fault : Fault)
+    → first_of_type file (kind_type kind) ≡ Some i → RefusedBy (all_checks version_table file (section_at file i)) fault
+    → TakenOr file kind records after (Err fault)
+taken-refused file kind i records after (Refused refusal) first by = λ other. walk-some kind (kind_type kind) file i first ∙ or-some _ _ refusal by
+taken-refused file kind i records after (Source fault offset) first by = absurd by
 
-pub of-read : (fault : Fault) → IsOfRead fault → IsNoCheck fault
-of-read (Refused refusal) is = λ other. other is
-of-read (Source fault offset) is = tt
+pub of-read : (file : List ℕ) (kind : VersionKind) (records : List Met) (after : List ℕ → List Met → Type 0) (fault : Fault) → IsOfRead fault
+    → TakenOr file kind records after (Err fault)
+of-read file kind records after (Refused refusal) is = λ other. absurd (other is)
+of-read file kind records after (Source fault offset) is = tt
+
+-- the definitions are refused, or the needs behind definitions that are not
+pub numbered-cut : (file : List ℕ) (records : List Met) (after : List ℕ → List Met → Type 0) (places : List ℕ) (fault : Fault)
+    → TakenOr file Definition records after (Err fault) → NumberedOr file places (Err fault)
+numbered-cut file records after places (Refused refusal) taken = λ other. or-some _ _ refusal (taken other)
+numbered-cut file records after places (Source fault offset) taken = tt
+
+pub numbered-later : (file : List ℕ) (records : List Met) (after : List ℕ → List Met → Type 0) (places : List ℕ) (fault : Fault)
+    → AreRecordsWhole file Definition → TakenOr file File records after (Err fault) → NumberedOr file places (Err fault)
+numbered-later file records after places (Refused refusal) whole taken = λ other. or-none _ _ (Some refusal) whole (taken other)
+numbered-later file records after places (Source fault offset) whole taken = tt
 
 -- a refusal of a check says nothing of the source
 pub check-says : (a b : Counting) (n : ℕ) (fault : Fault) → IsOfCheck fault → Says a b n fault

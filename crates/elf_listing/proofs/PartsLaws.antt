@@ -1,6 +1,6 @@
 -- What calls of a listing did one behind another.
 use Rattle.elf_headers.specs.Permitted.{style_of}
-use Rattle.std.proofs.Common.{◌≡◌, ℕ, ◌+◌, ◌-◌, ◌<◌, List, ◌++◌, Some, Result, Ok, Err, sym, ap, ◌∙◌, arith, zero-add}
+use Rattle.std.proofs.Common.{◌≡◌, ℕ, ◌+◌, ◌-◌, ◌<◌, Bool, List, ◌++◌, Some, Result, Ok, Err, sym, ap, ◌∙◌, subst, arith, zero-add}
 use Rattle.elf_model.specs.Cost.{sum_over}
 use Rattle.elf_model.specs.Listing.{ListingItem, each}
 use Rattle.elf_model.specs.VersionRows.{symbol_versions}
@@ -11,8 +11,8 @@ use Rattle.elf_source.specs.declared.sink.Sink.{Ghosts as Sinks}
 use Rattle.elf_source.proofs.GrowthLaws.{grows_then}
 use Rattle.elf_headers.specs.declared.caps.Style.{Style}
 use Rattle.elf_table.specs.declared.file.File.{File}
-use Rattle.elf_listing.specs.HeadersListed.{asked_items}
-use Rattle.elf_listing.specs.Parts.{AwaitsAsked, asked_cost}
+use Rattle.elf_listing.specs.HeadersListed.{ListsPair, asked_items}
+use Rattle.elf_listing.specs.Parts.{AwaitsAsked, asked_cost, relocations_part, symbols_part}
 use Rattle.elf_listing.specs.Shows.{Lists, Shows}
 use Rattle.elf_listing.specs.declared.listing.Listing.{Listing}
 use Rattle.elf_listing.specs.declared.parts.Part.{Part}
@@ -72,6 +72,13 @@ module _ {S W X : Type 0} {s : Sources S} {w : Sinks W} where
   headers_stopped amount row i count below p =
       let all : count ≡ i + 1 + (count - (i + 1)) = omega arith in
       rw (all, sums_split amount 0 (i + 1) (count - (i + 1))) (Parts-as (λ file held. rows_split (row file) 0 (i + 1) (count - (i + 1))) (Parts-more _ _ _ p))
+
+  -- two parts that the style chooses
+  pub Pair-as : {a b : Listing S W s w} {result : Result X Stop} (parts : ℕ) (versions : Bool) → a.style.versions ≡ versions
+      → ListsPair parts (symbols_part versions) (relocations_part versions) a b result
+      → ListsPair parts (symbols_part a.style.versions) (relocations_part a.style.versions) a b result
+  Pair-as {a = a} {b = b} {result = result} parts versions is pair =
+      subst (λ (v : Bool). ListsPair parts (symbols_part v) (relocations_part v) a b result) (sym is) pair
 
   -- the rows of definitions and needs were shown, and then the versions of symbols may be
   pub versions_await : {a b : Listing S W s w} {x : X} {n : ℕ} (parts : ℕ)

@@ -4,13 +4,13 @@ use Rattle.std.proofs.Common.{◌≡◌, ℕ, ◌+◌, ◌-◌, ◌*◌, ◌/◌
 use Rattle.std.proofs.lemmas.Bool.{cases_Bool, eqb-true}
 use Rattle.std.specs.Prelude.{is_none}
 use Rattle.elf_model.specs.Checks.{Check, first_refusal, pass, refuse, is_outside, header_checks, early_checks, section_name_checks, range_checks_of, table_checks_of, whole_checks_of}
-use Rattle.elf_model.specs.Cost.{sum_over, cost_where, table_cost, kinds_cost, is_loadable, sections_cost, segments_cost, tables_cost, behind_header, listing_cost, ceiling}
+use Rattle.elf_model.specs.Cost.{sum_over, cost_where, table_cost, kinds_cost, is_loadable, sections_cost, segments_cost, tables_cost, behind_header, listing_cost, ceiling, style_ceiling, suffixes_most}
 use Rattle.elf_model.specs.Listing.{has, has_tables, known_parts, SECTIONS, SEGMENTS, NOTES, DYNAMIC}
 use Rattle.elf_model.specs.CostLaws.{kind_by_kind}
 use Rattle.elf_model.specs.Names.{name_bytes}
 use Rattle.elf_model.specs.HeaderTables.{HeaderTable, TableKind, file_segments, held_headers}
 use Rattle.elf_model.specs.VersionRows.{version_definitions, version_needs, symbol_versions}
-use Rattle.elf_model.specs.TableKinds.{symbols, relocations, section_notes, section_dynamic, segment_notes, segment_dynamic, section_kinds, segment_kinds}
+use Rattle.elf_model.specs.TableKinds.{symbols, relocations, suffixed_symbols, suffixed_relocations, section_notes, section_dynamic, segment_notes, segment_dynamic, section_kinds, segment_kinds}
 use Rattle.elf_model.specs.Numbers.{PT_DYNAMIC}
 use Rattle.elf_model.specs.Records.{e_shnum, e_phnum, sh_offset, sh_size, p_type, p_offset, p_filesz, section_at, segment_at}
 use Rattle.elf_model.specs.declared.causes.Cause.TheVariants.{SizeNotWhole, TableOutside}
@@ -28,7 +28,7 @@ use Rattle.elf_table.specs.Views.{dynamic_of}
 use Rattle.elf_headers.specs.declared.fault.Fault.{Fault}
 use Rattle.elf_listing.specs.Parts.{asked_cost, name_cost, segments_listed, store_sections, store_segments, tables_listed}
 use Rattle.elf_listing.specs.Viewed.{needs_view, viewed_headers, view_cost}
-use Rattle.elf_listing.specs.declared.parts.Part.TheVariants.{Headers, Symbols, Relocations, SectionNotes, SegmentNotes, SectionDynamic, SegmentDynamic}
+use Rattle.elf_listing.specs.declared.parts.Part.TheVariants.{Headers, SectionNotes, SegmentNotes, SectionDynamic, SegmentDynamic}
 use Rattle.elf_listing.proofs.FileShown.{viewed_none}
 use Rattle.elf_headers.proofs.LoadLaws.{early_is}
 
@@ -46,7 +46,7 @@ pub name_within : (names : Option Strings) (index cap : ℕ) → (index ≡ 0 �
 name_within names index cap is = name_where names (index == 0) cap (λ e. is (eqb-true index 0 e))
 
 -- what a table asks for that was answered, behind checks or empty, is within what is counted by its header
-within_kind : (kind : TableKind) (headers : HeaderTable) (i size cap n : ℕ) (amount : ℕ → ℕ) (checks : List Check) (none some table : Rows)
+pub within_kind : (kind : TableKind) (headers : HeaderTable) (i size cap n : ℕ) (amount : ℕ → ℕ) (checks : List Check) (none some table : Rows)
     → kind.has_table (headers.bytes i) (headers.at i) ≡ true
     → (first_refusal checks ≡ None → pass (kind.checks.own (headers.bytes i) (headers.at i) size) ≡ true)
     → ((n == 0) ≡ true → amount none.count ≡ 0) → amount some.count ≤ kind.asks headers i size cap
@@ -109,8 +109,9 @@ segment_within store i size place cap table kind h =
     unless_by_cases false checks all = refl
 
 -- what the tables ask for that the headers in the store describe
-abbrev pub sections_sum : Opened → Stored → ℕ → ℕ → ℕ
-sections_sum loaded store most parts = sum_over (λ i. kinds_cost section_kinds (store_sections store) i loaded.size most parts) 0 store.loaded
+abbrev pub sections_sum : Bool → Opened → Stored → ℕ → ℕ → ℕ
+sections_sum versions loaded store most parts =
+    sum_over (λ i. kinds_cost (section_kinds versions) (store_sections store) i loaded.size most parts) 0 store.loaded
 
 abbrev pub segments_sum : Opened → Stored → ℕ → ℕ → ℕ
 segments_sum loaded store most parts = sum_over (λ i. kinds_cost segment_kinds (store_segments store) i loaded.size most parts) 0 store.segments
@@ -144,14 +145,20 @@ unfolding sum_over
 sum_of_none amount count none = rw none refl
 
 -- what is listed asks for the names, the program headers, and the tables of all kinds
-listed_parts : (loaded : Opened) (store : Stored) (most parts : ℕ)
-    → view_cost parts loaded + tables_listed parts loaded store most
-    ≤ names_asked loaded store.loaded most parts + segments_asked loaded parts + sections_sum loaded store most parts + segments_sum loaded store most parts
-unfolding kind_by_kind symbols relocations section_notes section_dynamic version_definitions version_needs symbol_versions segment_notes segment_dynamic
-listed_parts loaded store most parts =
+listed_parts : (versions : Bool) (loaded : Opened) (store : Stored) (most parts : ℕ)
+    → view_cost parts loaded + tables_listed parts loaded store most versions
+    ≤ names_asked loaded store.loaded most parts + segments_asked loaded parts + sections_sum versions loaded store most parts + segments_sum loaded store most parts
+unfolding kind_by_kind symbols relocations suffixed_symbols suffixed_relocations section_notes section_dynamic version_definitions version_needs symbol_versions segment_notes segment_dynamic
+listed_parts true loaded store most parts =
     let names = names_listed (has parts SECTIONS) (not (loaded.header.e_shstrndx == 0)) (name_bytes most) store.loaded in
     let once = segments_once (loaded.header.e_shnum == 0) (has parts SEGMENTS) (has parts NOTES) (has parts DYNAMIC) (56 * loaded.header.e_phnum) in
-    let sections = by_kind section_kinds (store_sections store) loaded.size most parts store.loaded in
+    let sections = by_kind (section_kinds true) (store_sections store) loaded.size most parts store.loaded in
+    let segments = by_kind segment_kinds (store_segments store) loaded.size most parts store.segments in
+    omega (arith, names, once, sections, segments)
+listed_parts false loaded store most parts =
+    let names = names_listed (has parts SECTIONS) (not (loaded.header.e_shstrndx == 0)) (name_bytes most) store.loaded in
+    let once = segments_once (loaded.header.e_shnum == 0) (has parts SEGMENTS) (has parts NOTES) (has parts DYNAMIC) (56 * loaded.header.e_phnum) in
+    let sections = by_kind (section_kinds false) (store_sections store) loaded.size most parts store.loaded in
     let segments = by_kind segment_kinds (store_segments store) loaded.size most parts store.segments in
     omega (arith, names, once, sections, segments)
 
@@ -167,40 +174,49 @@ pub viewed_all : (parts : ℕ) (loaded : Opened) (store : Stored) → store.segm
 viewed_all parts loaded store view some = elim (viewed_is parts loaded) [ inl none ↦ absurd (omega arith) | inr all ↦ view ∙ all ]
 
 -- the tables of the headers in the store are those of the file
-module _ (file : List ℕ) (loaded : Opened) (store : Stored) (most parts : ℕ) (belongs : Belongs file loaded store) (held : HoldsSegments file store)
+module _ (file : List ℕ) (loaded : Opened) (store : Stored) (style : Style) (parts : ℕ) (belongs : Belongs file loaded store) (held : HoldsSegments file store)
     (view : store.segments ≡ viewed_headers parts loaded) where
-  few_segments : segments_sum loaded store most parts ≤ sum_over (λ i. kinds_cost segment_kinds (file_segments file) i (length file) most parts) 0 (e_phnum file)
+  few_segments : segments_sum loaded store style.cap parts ≤ sum_over (λ i. kinds_cost segment_kinds (file_segments file) i (length file) style.cap parts) 0 (e_phnum file)
   few_segments = elim (viewed_is parts loaded) [
     | inl none ↦
-        let zero = sum_of_none (λ i. kinds_cost segment_kinds (store_segments store) i loaded.size most parts) store.segments (view ∙ none) in
+        let zero = sum_of_none (λ i. kinds_cost segment_kinds (store_segments store) i loaded.size style.cap parts) store.segments (view ∙ none) in
         omega (arith, zero)
     | inr all ↦
         let count : store.segments ≡ e_phnum file = view ∙ (all ∙ belongs.header.e_phnum) in
-        let tables = segments_cost_rows file (segment_bytes store) most parts (λ i below. held i (omega (arith, count))) in
-        let same : segments_sum loaded store most parts ≡ sum_over (λ i. kinds_cost segment_kinds (file_segments file) i (length file) most parts) 0 (e_phnum file) = rw (count, belongs.size) tables in
+        let tables = segments_cost_rows file (segment_bytes store) style.cap parts (λ i below. held i (omega (arith, count))) in
+        let same : segments_sum loaded store style.cap parts ≡ sum_over (λ i. kinds_cost segment_kinds (file_segments file) i (length file) style.cap parts) 0 (e_phnum file) = rw (count, belongs.size) tables in
         omega (arith, same)
   ]
 
-  tables_within : sections_sum loaded store most parts + segments_sum loaded store most parts ≤ tables_cost file most parts
+  tables_within : sections_sum style.versions loaded store style.cap parts + segments_sum loaded store style.cap parts ≤ tables_cost file style parts
   unfolding tables_cost
   tables_within =
       let count : store.loaded ≡ e_shnum file = belongs.count ∙ belongs.header.e_shnum in
       elim (cases_Bool (e_shnum file == 0)) [
         | inl none ↦
-            let zero = sum_of_none (λ i. kinds_cost section_kinds (store_sections store) i loaded.size most parts) store.loaded (count ∙ eqb-true (e_shnum file) 0 none) in
-            let same = ap (tables_by file most parts) (headers_none file none) in
+            let zero = sum_of_none (λ i. kinds_cost (section_kinds style.versions) (store_sections store) i loaded.size style.cap parts) store.loaded (count ∙ eqb-true (e_shnum file) 0 none) in
+            let same = ap (tables_by file style.cap parts) (headers_none style.versions file none) in
             omega (arith, zero, same, few_segments)
         | inr some ↦
             let unviewed = view ∙ viewed_none parts loaded (ap (λ n. n == 0) belongs.header.e_shnum ∙ some) in
-            let zero = sum_of_none (λ i. kinds_cost segment_kinds (store_segments store) i loaded.size most parts) store.segments unviewed in
-            let tables = rows_cost file (row store) most parts (λ i below. belongs.rows i (omega (arith, count))) in
-            let same : sections_sum loaded store most parts ≡ sum_over (λ i. kinds_cost section_kinds (held_headers (e_shnum file) (row store)) i (length file) most parts) 0 (e_shnum file) = rw (count, belongs.size) refl in
-            omega (arith, zero, same, tables, sections_counted file most parts)
+            let zero = sum_of_none (λ i. kinds_cost segment_kinds (store_segments store) i loaded.size style.cap parts) store.segments unviewed in
+            let tables = rows_cost file (row store) style.versions style.cap parts (λ i below. belongs.rows i (omega (arith, count))) in
+            let same : sections_sum style.versions loaded store style.cap parts ≡ sum_over (λ i. kinds_cost (section_kinds style.versions) (held_headers (e_shnum file) (row store)) i (length file) style.cap parts) 0 (e_shnum file) = rw (count, belongs.size) refl in
+            omega (arith, zero, same, tables, sections_counted file style parts)
       ]
 
-pub slots_below : (size headers cap : ℕ) → 64 + 64 * headers ≤ ceiling size headers cap
-slots_below size headers cap =
-    let all = any_rows (held_headers 0 (λ i. [])) size headers cap 0 headers 0 (omega arith) (omega arith) in omega arith
+pub slots_below : (size headers : ℕ) (style : Style) → 64 + 64 * headers ≤ style_ceiling size headers style
+slots_below size headers style =
+    let all = any_rows (held_headers 0 (λ i. [])) style size headers 0 headers 0 (omega arith) (omega arith) in omega arith
+
+-- versions behind the names of symbols lower no ceiling
+ceiling_below : (size headers : ℕ) (style : Style) → ceiling size headers style.cap ≤ style_ceiling size headers style
+unfolding style_ceiling
+ceiling_below size headers style = by_cases style.versions
+  where
+    by_cases : (versions : Bool) → ceiling size headers style.cap ≤ (if versions then ceiling size headers style.cap + headers * suffixes_most size style.cap else ceiling size headers style.cap)
+    by_cases true = omega arith
+    by_cases false = omega arith
 
 -- the section headers with their names, and the program headers
 headers_within : (file : List ℕ) (loaded : Opened) (most parts : ℕ) → IsEhdr file 0 loaded.header
@@ -214,65 +230,65 @@ unfolding is_loadable
 loadable file headers passed early = ap is_none (first_refusal-none (header_checks file) (early_checks file headers) passed) ∙ early
 
 -- a load asks for the section headers where the checks before them pass, and for nothing else
-pub load_within : (file : List ℕ) (header : Ehdr) (size slots cap parts : ℕ) → IsEhdr file 0 header → size ≡ length file → first_refusal (header_checks file) ≡ None → has_tables parts ≡ true
-    → load_cost header size slots ≤ behind_header file slots cap parts
-load_within file header size slots cap parts is same passed tables =
+pub load_within : (file : List ℕ) (header : Ehdr) (size slots : ℕ) (style : Style) (parts : ℕ) → IsEhdr file 0 header → size ≡ length file → first_refusal (header_checks file) ≡ None → has_tables parts ≡ true
+    → load_cost header size slots ≤ behind_header file slots style parts
+load_within file header size slots style parts is same passed tables =
     cost_where-within (pass (early_of header size slots)) (64 * header.e_shnum) _ (λ early.
-    let headers = headers_within file (record { size = size; header = header }) cap parts is in
+    let headers = headers_within file (record { size = size; header = header }) style.cap parts is in
     rw (tables, loadable file slots passed (ap is_none (sym (early_is file header size slots is same)) ∙ early)) (omega (arith, headers)))
 
-pub load_below : (header : Ehdr) (size slots cap : ℕ) → 64 + load_cost header size slots ≤ ceiling size slots cap
-load_below header size slots cap = let few : load_cost header size slots ≤ 64 * slots = grind arith in omega (arith, few, slots_below size slots cap)
+pub load_below : (header : Ehdr) (size slots : ℕ) (style : Style) → 64 + load_cost header size slots ≤ style_ceiling size slots style
+load_below header size slots style = let few : load_cost header size slots ≤ 64 * slots = grind arith in omega (arith, few, slots_below size slots style)
 
 -- a file that was loaded is listed within its cost, and its headers alone are read within it
-module _ (file : List ℕ) (loaded : Opened) (store : Stored) (slots cap parts : ℕ) (belongs : Belongs file loaded store)
+module _ (file : List ℕ) (loaded : Opened) (store : Stored) (slots : ℕ) (style : Style) (parts : ℕ) (belongs : Belongs file loaded store)
     (same : store.slots ≡ slots) where
   loads : first_refusal (header_checks file) ≡ None → is_loadable file slots ≡ true
   loads passed = rw (← same) (loadable file store.slots passed (ap is_none (passes_front (early_checks file store.slots) (section_name_checks file) belongs.passes)))
 
   pub loaded_within : HoldsSegments file store → store.segments ≡ viewed_headers parts loaded → first_refusal (header_checks file) ≡ None → has_tables parts ≡ true
-      → 64 * loaded.header.e_shnum + (view_cost parts loaded + tables_listed parts loaded store cap) ≤ behind_header file slots cap parts
+      → 64 * loaded.header.e_shnum + (view_cost parts loaded + tables_listed parts loaded store style.cap style.versions) ≤ behind_header file slots style parts
   loaded_within held view passed tables =
-      let within = tables_within file loaded store cap parts belongs held view in
-      let headers = headers_within file loaded cap parts belongs.header in
-      let listed = listed_parts loaded store cap parts in
-      let names = ap (λ n. names_asked loaded n cap parts) belongs.count in
+      let within = tables_within file loaded store style parts belongs held view in
+      let headers = headers_within file loaded style.cap parts belongs.header in
+      let listed = listed_parts style.versions loaded store style.cap parts in
+      let names = ap (λ n. names_asked loaded n style.cap parts) belongs.count in
       rw (tables, loads passed) (omega (arith, within, headers, listed, names))
 
-  pub view_within : first_refusal (header_checks file) ≡ None → has_tables parts ≡ true → 64 * loaded.header.e_shnum + view_cost parts loaded ≤ behind_header file slots cap parts
+  pub view_within : first_refusal (header_checks file) ≡ None → has_tables parts ≡ true → 64 * loaded.header.e_shnum + view_cost parts loaded ≤ behind_header file slots style parts
   view_within passed tables =
       let once = segments_once (loaded.header.e_shnum == 0) (has parts SEGMENTS) (has parts NOTES) (has parts DYNAMIC) (56 * loaded.header.e_phnum) in
-      let headers = headers_within file loaded cap parts belongs.header in
+      let headers = headers_within file loaded style.cap parts belongs.header in
       rw (tables, loads passed) (omega (arith, once, headers))
 
 -- and within the ceiling, whatever the source is
-pub loaded_below : (loaded : Opened) (store : Stored) (size slots cap parts : ℕ) → loaded.size ≡ size → store.slots ≡ slots → store.loaded ≡ loaded.header.e_shnum
+pub loaded_below : (loaded : Opened) (store : Stored) (size slots : ℕ) (style : Style) (parts : ℕ) → loaded.size ≡ size → store.slots ≡ slots → store.loaded ≡ loaded.header.e_shnum
     → loaded.header.e_shnum ≤ slots → loaded.header.e_phnum ≤ slots → store.segments ≡ viewed_headers parts loaded
-    → 64 + (64 * loaded.header.e_shnum + (view_cost parts loaded + tables_listed parts loaded store cap)) ≤ ceiling size slots cap
-loaded_below loaded store size slots cap parts same slotted count few some view =
-    let listed = listed_parts loaded store cap parts in
-    let names = cost_where-le (has parts SECTIONS && not (loaded.header.e_shstrndx == 0)) (store.loaded * name_bytes cap) in
+    → 64 + (64 * loaded.header.e_shnum + (view_cost parts loaded + tables_listed parts loaded store style.cap style.versions)) ≤ style_ceiling size slots style
+loaded_below loaded store size slots style parts same slotted count few some view =
+    let listed = listed_parts style.versions loaded store style.cap parts in
+    let names = cost_where-le (has parts SECTIONS && not (loaded.header.e_shstrndx == 0)) (store.loaded * name_bytes style.cap) in
     let asked = cost_where-le (has parts SEGMENTS || (loaded.header.e_shnum == 0 && (has parts NOTES || has parts DYNAMIC))) (56 * loaded.header.e_phnum) in
     rw (← same) (elim (cases_Bool (loaded.header.e_shnum == 0)) [
       | inl none ↦
           let zero : store.loaded ≡ 0 = count ∙ eqb-true loaded.header.e_shnum 0 none in
-          let tables = sum_of_none (λ i. kinds_cost section_kinds (store_sections store) i loaded.size cap parts) store.loaded zero in
-          let unnamed : store.loaded * name_bytes cap ≡ 0 = rw zero (omega arith) in
+          let tables = sum_of_none (λ i. kinds_cost (section_kinds style.versions) (store_sections store) i loaded.size style.cap parts) store.loaded zero in
+          let unnamed : store.loaded * name_bytes style.cap ≡ 0 = rw zero (omega arith) in
           let within = cost_where-le (needs_view parts loaded) loaded.header.e_phnum in
-          let more = sums_grow (λ i. kinds_cost segment_kinds (store_segments store) i loaded.size cap parts) 0 store.segments loaded.header.e_phnum (omega (arith, within, view)) in
-          let all = any_segments (store_segments store) loaded.size slots cap parts loaded.header.e_phnum some in
-          omega (arith, zero, count, tables, names, unnamed, listed, asked, more, all)
+          let more = sums_grow (λ i. kinds_cost segment_kinds (store_segments store) i loaded.size style.cap parts) 0 store.segments loaded.header.e_phnum (omega (arith, within, view)) in
+          let all = any_segments (store_segments store) loaded.size slots style.cap parts loaded.header.e_phnum some in
+          omega (arith, zero, count, tables, names, unnamed, listed, asked, more, all, ceiling_below loaded.size slots style)
       | inr sectioned ↦
-          let zero = sum_of_none (λ i. kinds_cost segment_kinds (store_segments store) i loaded.size cap parts) store.segments (view ∙ viewed_none parts loaded sectioned) in
-          let all = any_rows (store_sections store) loaded.size slots cap parts store.loaded loaded.header.e_phnum (omega (arith, count)) some in
+          let zero = sum_of_none (λ i. kinds_cost segment_kinds (store_segments store) i loaded.size style.cap parts) store.segments (view ∙ viewed_none parts loaded sectioned) in
+          let all = any_rows (store_sections store) style loaded.size slots parts store.loaded loaded.header.e_phnum (omega (arith, count)) some in
           omega (arith, zero, count, names, listed, asked, all)
     ])
 
-pub view_below : (loaded : Opened) (size slots cap parts : ℕ) → loaded.header.e_shnum ≤ slots → loaded.header.e_phnum ≤ slots
-    → 64 + (64 * loaded.header.e_shnum + view_cost parts loaded) ≤ ceiling size slots cap
-view_below loaded size slots cap parts few some =
+pub view_below : (loaded : Opened) (size slots : ℕ) (style : Style) (parts : ℕ) → loaded.header.e_shnum ≤ slots → loaded.header.e_phnum ≤ slots
+    → 64 + (64 * loaded.header.e_shnum + view_cost parts loaded) ≤ style_ceiling size slots style
+view_below loaded size slots style parts few some =
     let store : Stored = record { slots = slots; loaded = loaded.header.e_shnum; rows = []; segments = viewed_headers parts loaded; segment_rows = [] } in
-    let below = loaded_below (record { size = size; header = loaded.header }) store size slots cap parts refl refl refl few some refl in
+    let below = loaded_below (record { size = size; header = loaded.header }) store size slots style parts refl refl refl few some refl in
     omega (arith, below)
 
 -- what is asked for behind a load, and behind the program headers that it reads too, is paid where all of it is
@@ -292,6 +308,6 @@ pub few_headers : (loaded : Opened) (header : Ehdr) (size : ℕ) (store : Stored
 few_headers loaded header size store opened same = rw (opened.same_header, ← same) (opened.passes.few, opened.passes.few_segments)
 
 pub cost_is : (file : List ℕ) (headers : ℕ) (style : Style) (parts : ℕ)
-    → listing_cost file headers style parts ≡ 64 + behind_header (view_of style file) headers style.cap (known_parts style parts)
+    → listing_cost file headers style parts ≡ 64 + behind_header (view_of style file) headers style (known_parts style parts)
 unfolding listing_cost
 cost_is file headers style parts = refl

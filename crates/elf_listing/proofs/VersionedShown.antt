@@ -47,7 +47,8 @@ use Rattle.elf_listing.proofs.RowLaws.{Ends-first, Front-none}
 use Rattle.elf_listing.proofs.ShowLaws.{Spent-then, Whole-none}
 use Rattle.elf_listing.proofs.SectionShown.{table_passes}
 use Rattle.elf_listing.specs.Numbered.{told_row, version_told}
-use Rattle.elf_listing.specs.SymbolVersions.{AreNumbered, IsNoCheck, AreRecordsWhole, versioned_items}
+use Rattle.elf_listing.specs.SymbolVersions.{AreNumbered, AreRecordsWhole, NumberedOr, versioned_items, walks_refusal}
+use Rattle.elf_listing.proofs.FirstTaken.{or-none, walk-whole}
 use Rattle.elf_listing.specs.Versions.{kind_type}
 use Rattle.elf_listing.specs.declared.numbered.Numbered.{Numbered}
 
@@ -73,21 +74,21 @@ section-whole kind table file style i at has rows h =
 
 pub definitions-whole : (file : List ℕ) (style : Style) → fault_of (records_rows file style) ≡ None → AreRecordsWhole file Definition
 unfolding kinds_rows version_definitions version_needs
-definitions-whole file style h = λ i first.
+definitions-whole file style h = walk-whole Definition SHT_GNU_VERDEF file (λ i first.
     let rows : List ListingItem = each (λ i. table_rows version_definitions file style i (section_at file i)) 0 (e_shnum file) in
     let others : List ListingItem = each (λ i. table_rows version_needs file style i (section_at file i)) 0 (e_shnum file) in
     let there = first_that-holds (λ i. header_field (file_sections file) sh_type i == SHT_GNU_VERDEF) 0 (e_shnum file) i first in
     let row = each-none (λ i. table_rows version_definitions file style i (section_at file i)) 0 (e_shnum file) i (front-none rows (others ++ []) h) there.1 there.2 in
-    section-whole Definition version_definitions file style i (section_at file i) there.0 refl row
+    section-whole Definition version_definitions file style i (section_at file i) there.0 refl row)
 
 pub needs-whole : (file : List ℕ) (style : Style) → fault_of (records_rows file style) ≡ None → AreRecordsWhole file File
 unfolding kinds_rows version_definitions version_needs
-needs-whole file style h = λ i first.
+needs-whole file style h = walk-whole File SHT_GNU_VERNEED file (λ i first.
     let others : List ListingItem = each (λ i. table_rows version_definitions file style i (section_at file i)) 0 (e_shnum file) in
     let rows : List ListingItem = each (λ i. table_rows version_needs file style i (section_at file i)) 0 (e_shnum file) in
     let there = first_that-holds (λ i. header_field (file_sections file) sh_type i == SHT_GNU_VERNEED) 0 (e_shnum file) i first in
     let row = each-none (λ i. table_rows version_needs file style i (section_at file i)) 0 (e_shnum file) i (front-none rows [] (back-none others (rows ++ []) h)) there.1 there.2 in
-    section-whole File version_needs file style i (section_at file i) there.0 refl row
+    section-whole File version_needs file style i (section_at file i) there.0 refl row)
 
 -- a name that is shown makes one row, wherever its fault would be
 shown-anywhere : (choice : RowChoice) (front : LineFront) (at other : ℕ) (name : Result Shown Cause) → is_ok name ≡ true → chosen_row choice front at name ≡ chosen_row choice front other name
@@ -104,7 +105,7 @@ first-kinds kind type file = by_found (first_of_type file type)
     by_found (Some i) = table-kinds kind file (section_at file i)
 
 -- so a number that a definition names is not one of the needs, nor the other way round
-some-definitions : (file : List ℕ) (number : ℕ) (definitions : List Met) (met : Met) → named_by file number (definitions ++ first_versions File SHT_GNU_VERNEED file) ≡ Some met
+pub some-definitions : (file : List ℕ) (number : ℕ) (definitions : List Met) (met : Met) → named_by file number (definitions ++ first_versions File SHT_GNU_VERNEED file) ≡ Some met
     → met.kind ≡ Definition → definitions ≡ [] → ⊥
 some-definitions file number definitions met named kind none =
     let needs = first_versions File SHT_GNU_VERNEED file in
@@ -112,7 +113,7 @@ some-definitions file number definitions met named kind none =
     let is = named-is file number (λ (m : Met). IsDefinition m.kind ≡ false) needs met (first-kinds File SHT_GNU_VERNEED file) found in
     let other = rw kind at is in cc
 
-some-needs : (file : List ℕ) (number : ℕ) (needs : List Met) (met : Met) → named_by file number (first_versions Definition SHT_GNU_VERDEF file ++ needs) ≡ Some met
+pub some-needs : (file : List ℕ) (number : ℕ) (needs : List Met) (met : Met) → named_by file number (first_versions Definition SHT_GNU_VERDEF file ++ needs) ≡ Some met
     → met.kind ≡ Need → needs ≡ [] → ⊥
 some-needs file number needs met named kind none =
     let definitions = first_versions Definition SHT_GNU_VERDEF file in
@@ -120,15 +121,15 @@ some-needs file number needs met named kind none =
     let is = named-is file number (λ (m : Met). IsDefinition m.kind ≡ true) definitions met (first-kinds Definition SHT_GNU_VERDEF file) found in
     let other = rw kind at is in cc
 
-strings-defined : (file : List ℕ) (kind : VersionKind) → kind ≡ Definition → version_strings file kind ≡ first_strings SHT_GNU_VERDEF file
+pub strings-defined : (file : List ℕ) (kind : VersionKind) → kind ≡ Definition → version_strings file kind ≡ first_strings SHT_GNU_VERDEF file
 unfolding version_strings
 strings-defined file kind is = rw is refl
 
-strings-needed : (file : List ℕ) (kind : VersionKind) → kind ≡ Need → version_strings file kind ≡ first_strings SHT_GNU_VERNEED file
+pub strings-needed : (file : List ℕ) (kind : VersionKind) → kind ≡ Need → version_strings file kind ≡ first_strings SHT_GNU_VERNEED file
 unfolding version_strings
 strings-needed file kind is = rw is refl
 
-module _ (file : List ℕ) (style : Style) (numbered : Numbered) (are : AreNumbered file numbered) (no_fault : fault_of (records_rows file style) ≡ None) (front : LineFront) (entry number : ℕ) where
+module _ (file : List ℕ) (style : Style) (numbered : Numbered) (places : List ℕ) (are : AreNumbered file numbered places) (no_fault : fault_of (records_rows file style) ≡ None) (front : LineFront) (entry number : ℕ) where
   all : List Met
   all = first_versions Definition SHT_GNU_VERDEF file ++ first_versions File SHT_GNU_VERNEED file
 
@@ -166,17 +167,17 @@ module _ (file : List ℕ) (style : Style) (numbered : Numbered) (are : AreNumbe
   unfolding version_told numbered_row version_named version_of all
   number-is = elim (cases_Bool (nat_lt number 2)) [
     | inl few ↦ rw few refl
-    | inr many ↦ rw many (by_name many (named_by file number all) refl (name_at numbered.names number) (are.names number))
+    | inr many ↦ rw many (by_name many (named_by file number all) refl (name_at numbered.names number) (are.names.named number))
   ]
 
 -- the row of an entry
-pub entry-is : (file : List ℕ) (style : Style) (numbered : Numbered) → AreNumbered file numbered → fault_of (records_rows file style) ≡ None → (section at index : ℕ)
+pub entry-is : (file : List ℕ) (style : Style) (numbered : Numbered) (places : List ℕ) → AreNumbered file numbered places → fault_of (records_rows file style) ≡ None → (section at index : ℕ)
     → told_row file style numbered section (sh_offset file at + index * VERSYM_SIZE) index ≡ symbol_version_row file style section at index
 unfolding told_row symbol_version_row
-entry-is file style numbered are no_fault section at index =
+entry-is file style numbered places are no_fault section at index =
     let place : sh_offset file at + index * 2 ≡ sh_offset file at + 2 * index = omega arith in
     rw place
-    (number-is file style numbered are no_fault (symbol_version_front style.format section index (versym file (sh_offset file at + 2 * index))) (sh_offset file at + 2 * index)
+    (number-is file style numbered places are no_fault (symbol_version_front style.format section index (versym file (sh_offset file at + 2 * index))) (sh_offset file at + 2 * index)
     (number_in (versym file (sh_offset file at + 2 * index))))
 
 each-equal : (row other : ℕ → List ListingItem) (first count : ℕ) → ((i : ℕ) → row i ≡ other i) → each row first count ≡ each other first count
@@ -185,16 +186,16 @@ each-equal row other first zero same = refl
 each-equal row other first (suc count) same = let one = same first in let more = each-equal row other (suc first) count same in cc
 
 -- the rows of a section
-pub rows-are : (file : List ℕ) (style : Style) (numbered : Numbered) → AreNumbered file numbered → fault_of (records_rows file style) ≡ None
+pub rows-are : (file : List ℕ) (style : Style) (numbered : Numbered) (places : List ℕ) → AreNumbered file numbered places → fault_of (records_rows file style) ≡ None
     → (section at : ℕ) (table : Rows) (symbols : ℕ) → (sh_size file at == 0) ≡ false → table.at ≡ sh_offset file at → table.count ≡ entry_count file at VERSYM_SIZE
     → symbols ≡ versioned_symbols file at
     → symbol_version_rows file style section at ≡ versioned_items file style numbered section table symbols at
 unfolding symbol_version_rows versioned_items
-rows-are file style numbered are no_fault section at table symbols some place count linked =
+rows-are file style numbered places are no_fault section at table symbols some place count linked =
     rw (some, place, count, linked)
     (ap (λ (rows : List ListingItem). rows ++ (if nat_lt (entry_count file at VERSYM_SIZE) (versioned_symbols file at) then refused_row at VersionCut else []))
     (sym (each-equal (λ i. told_row file style numbered section (sh_offset file at + i * VERSYM_SIZE) i) (symbol_version_row file style section at) 0
-    (min (entry_count file at VERSYM_SIZE) (versioned_symbols file at)) (entry-is file style numbered are no_fault section at))))
+    (min (entry_count file at VERSYM_SIZE) (versioned_symbols file at)) (entry-is file style numbered places are no_fault section at))))
 
 -- a call that writes behind one that reads, in a bound on both
 pub Lists-behind : {S W X Y : Type 0} {s : Sources S} {w : Sinks W} (a b c : Listing S W s w) (y : Y) (result : Result X Stop) (n m k : ℕ) (read shown : Type 0)
@@ -207,9 +208,13 @@ Lists-behind a b c y result n m k read shown within p q is = record {
 }
 
 -- a fault that is no check's stops before all items
-pub Stopped-no-check : (a : Written) (fault : Fault) (all : List ListingItem) → IsNoCheck fault → Stopped a a (stop_of fault) all
-Stopped-no-check a (Refused refusal) all is = Ends-first a refusal all (λ other. absurd (is other))
-Stopped-no-check a (Source fault at) all is = Front-none a all
+pub Stopped-no-check : (file : List ℕ) (places : List ℕ) (a : Written) (fault : Fault) (all : List ListingItem) → walks_refusal file ≡ None
+    → NumberedOr file places (Err fault) → Stopped a a (stop_of fault) all
+Stopped-no-check file places a (Refused refusal) all none is = Ends-first a refusal all (λ other. let some = is other in cc)
+Stopped-no-check file places a (Source fault at) all none is = Front-none a all
+
+pub walks-whole : (file : List ℕ) → AreRecordsWhole file Definition → AreRecordsWhole file File → walks_refusal file ≡ None
+walks-whole file definitions needs = or-none _ _ None definitions needs
 
 -- the refusal behind rows that were written
 pub Ends-behind : (a b : Written) (refusal : Refusal) (rows : List ListingItem) → WroteItems a b rows → EndsRefused a b refusal (rows ++ FaultItem refusal ∷ [])

@@ -1,8 +1,10 @@
 -- What a call did that reads the name that an entry refers to.
-use Rattle.std.specs.Prelude.{ℕ, ◌≡◌, ◌+◌, List, Option, Some, Result}
+use Rattle.std.specs.Prelude.{ℕ, ◌≡◌, ◌+◌, ◌==◌, not, false, List, Option, Some, Result, Ok, Err, IfOk}
 use Rattle.elf_model.specs.Names.{name_bytes}
 use Rattle.elf_model.specs.Rows.{symbol_named}
-use Rattle.elf_model.specs.Tables.{SYMBOL_SIZE}
+use Rattle.elf_model.specs.Numbers.{SHN_UNDEF}
+use Rattle.elf_model.specs.Records.{st_shndx}
+use Rattle.elf_model.specs.Tables.{SYMBOL_SIZE, entry_at, linked_at}
 use Rattle.elf_source.specs.declared.source.Source.{Ghosts as Sources}
 use Rattle.elf_source.specs.declared.sink.Sink.{Ghosts as Sinks}
 use Rattle.elf_record.specs.Dyn.{IsDyn}
@@ -17,6 +19,7 @@ use Rattle.elf_listing.specs.Shows.{Fetches}
 use Rattle.elf_listing.specs.Strings.{AreOf, ToldRead, strings_told, string_told}
 use Rattle.elf_listing.specs.declared.dynamic_row.EntryStrings.{EntryStrings}
 use Rattle.elf_listing.specs.declared.listing.Listing.{Listing}
+use Rattle.elf_listing.specs.declared.suffixed_entries.SymbolRead.{SymbolRead}
 
 -- the name at an index of a string table, for the entry at an offset; without a table it is empty
 pub record FetchesName {S W : Type 0} {s : Sources S} {w : Sinks W} (old new : Listing S W s w) (result : Result NameEnd Fault) (names : Option Strings) (off at : ℕ) : Type 0 where
@@ -29,6 +32,19 @@ pub record FetchesSymbol {S W : Type 0} {s : Sources S} {w : Sinks W} (old new :
   pub unnamed : symbol ≡ 0 → new.src.now ≡ old.src.now
   pub read : (file : List ℕ) (header : ℕ) → old.src.now.seen.file ≡ Some file → RefersTo file header linked
       → NameRead (symbol_named file old.style.cap.bytes header at symbol).0 result new.name (symbol_named file old.style.cap.bytes header at symbol).1
+
+-- how a name ends that was read with whether its symbol is defined
+abbrev pub end_read : Result SymbolRead Fault → Result NameEnd Fault
+end_read (Ok symbol) = Ok symbol.end
+end_read (Err fault) = Err fault
+
+-- the name of the symbol of an index, and whether the symbol is defined; symbol 0 has none
+pub record FetchesLinked {S W : Type 0} {s : Sources S} {w : Sinks W} (old new : Listing S W s w) (result : Result SymbolRead Fault) (linked : Option (Rows × Strings)) (symbol at : ℕ) : Type 0 where
+  pub fetches : Fetches old new result (SYMBOL_SIZE + name_bytes old.style.cap.bytes)
+  pub read : (file : List ℕ) (header : ℕ) → old.src.now.seen.file ≡ Some file → RefersTo file header linked
+      → NameRead (symbol_named file old.style.cap.bytes header at symbol).0 (end_read result) new.name (symbol_named file old.style.cap.bytes header at symbol).1
+  pub defined : (file : List ℕ) (header : ℕ) → old.src.now.seen.file ≡ Some file → RefersTo file header linked → (symbol == 0) ≡ false
+      → IfOk result (λ read. read.is_defined ≡ not (st_shndx file (entry_at file (linked_at file header) SYMBOL_SIZE symbol) == SHN_UNDEF))
 
 -- the string of the dynamic entry at an offset; it is empty where the entry tells of none
 pub record FetchesString {S W : Type 0} {s : Sources S} {w : Sinks W} (old new : Listing S W s w) (result : Result NameEnd Fault) (entry : Dyn) (strings : EntryStrings) (at : ℕ) : Type 0 where

@@ -56,5 +56,5 @@ ListsSegments parts old new result =
 -- all tables that the parts have
 abbrev pub ListsTables : {S W X : Type 0} {s : Sources S} {w : Sinks W} → ℕ → Listing S W s w → Listing S W s w → Result X Stop → Type 0
 ListsTables parts old new result =
-    Lists old new result (tables_listed parts old.file.loaded old.file.store.now old.style.cap.bytes)
+    Lists old new result (tables_listed parts old.file.loaded old.file.store.now old.style.cap.bytes old.style.versions)
     (Shows old new result (λ file. table_items file (style_of old.style) parts))

@@ -2,13 +2,14 @@
 use Rattle.std.specs.Prelude.{ℕ, ◌≡◌, ◌+◌, ◌*◌, ◌^◌, ◌<◌, List, Some, Result, IfSome, length}
 use Rattle.elf_model.specs.Bytes.{slice}
 use Rattle.elf_model.specs.Dynamic.{dynamic_at}
-use Rattle.elf_model.specs.Records.{e_phoff, sh_offset, section_at}
+use Rattle.elf_model.specs.Records.{e_phoff, sh_link, sh_offset, section_at}
 use Rattle.elf_model.specs.Names.{name_bytes}
 use Rattle.elf_model.specs.Style.{Style}
 use Rattle.elf_headers.specs.Permitted.{style_of}
 use Rattle.elf_model.specs.Tables.{SYMBOL_SIZE, RELA_SIZE, DYNAMIC_SIZE, strings_of}
 use Rattle.elf_model.specs.Listing.{ListingItem, each}
 use Rattle.elf_model.specs.Rows.{segment_row, symbol_row, relocation_row, dynamic_row}
+use Rattle.elf_model.specs.Suffixes.{suffixed_relocation_row, suffixed_symbol_row}
 use Rattle.elf_model.specs.Versions.{VERSYM_SIZE}
 use Rattle.elf_source.specs.declared.source.Source.{Ghosts as Sources}
 use Rattle.elf_source.specs.declared.sink.Sink.{Ghosts as Sinks}
@@ -18,10 +19,11 @@ use Rattle.elf_table.specs.declared.row.Row.{Row}
 use Rattle.elf_listing.specs.Numbered.{NumberedWithin, told_row}
 use Rattle.elf_listing.specs.RowCursors.{rows_listed}
 use Rattle.elf_listing.specs.Shows.{Lists, Writes}
+use Rattle.elf_listing.specs.Suffixed.{AreSuffixes, SuffixesWithin}
 use Rattle.elf_listing.specs.Strings.{strings_told, AreWithin, AreOf}
 use Rattle.elf_listing.specs.declared.listing.Listing.{Listing}
 use Rattle.elf_listing.specs.declared.rows.ListedAs.{ListedAs}
-use Rattle.elf_listing.specs.declared.rows.ListedAs.TheVariants.{Segments, Symbols, Relocations, Dynamic, Versions}
+use Rattle.elf_listing.specs.declared.rows.ListedAs.TheVariants.{Segments, Symbols, Relocations, Dynamic, Versions, SuffixedSymbols, SuffixedRelocations}
 use Rattle.elf_headers.specs.declared.stop.Stop.{Stop}
 
 -- the size of a row in bytes
@@ -31,6 +33,8 @@ row_size (Symbols section names) = SYMBOL_SIZE
 row_size (Relocations section linked) = RELA_SIZE
 row_size (Dynamic strings) = DYNAMIC_SIZE
 row_size (Versions section numbered) = VERSYM_SIZE
+row_size (SuffixedSymbols section names suffixes) = SYMBOL_SIZE
+row_size (SuffixedRelocations section linked suffixes) = RELA_SIZE
 
 -- how many bytes a row asks for at most beside its own
 abbrev pub own_cost : ListedAs → ℕ → ℕ
@@ -39,6 +43,8 @@ own_cost (Symbols section names) cap = name_bytes cap
 own_cost (Relocations section linked) cap = SYMBOL_SIZE + name_bytes cap
 own_cost (Dynamic strings) cap = name_bytes cap
 own_cost (Versions section numbered) cap = name_bytes cap
+own_cost (SuffixedSymbols section names suffixes) cap = name_bytes cap + (VERSYM_SIZE + name_bytes cap)
+own_cost (SuffixedRelocations section linked suffixes) cap = SYMBOL_SIZE + name_bytes cap + (VERSYM_SIZE + name_bytes cap)
 
 -- how many bytes the rows of a table ask for at most
 abbrev pub rows_cost : ListedAs → Rows → ℕ → ℕ
@@ -51,6 +57,9 @@ row_items (Symbols section names) file style table_at index = symbol_row file st
 row_items (Relocations section linked) file style table_at index = relocation_row file style section (section_at file section) index
 row_items (Dynamic strings) file style table_at index = dynamic_row file style (strings_told strings file) (dynamic_at table_at index) index
 row_items (Versions section numbered) file style table_at index = told_row file style numbered.now section (table_at + index * VERSYM_SIZE) index
+row_items (SuffixedSymbols section names suffixes) file style table_at index = suffixed_symbol_row file style section (section_at file section) index
+row_items (SuffixedRelocations section linked suffixes) file style table_at index =
+    suffixed_relocation_row file style section (section_at file section) index
 
 -- the tables that a kind's names are read from lie within a source of this size
 abbrev pub KindWithin : ℕ → ListedAs → Type 0
@@ -59,6 +68,8 @@ KindWithin size (Symbols section names) = StringsWithin size names
 KindWithin size (Relocations section linked) = IfSome linked (SymbolsWithin size)
 KindWithin size (Dynamic strings) = AreWithin size strings
 KindWithin size (Versions section numbered) = NumberedWithin size numbered.now
+KindWithin size (SuffixedSymbols section names suffixes) = StringsWithin size names × SuffixesWithin size suffixes.now
+KindWithin size (SuffixedRelocations section linked suffixes) = IfSome linked (SymbolsWithin size) × SuffixesWithin size suffixes.now
 
 -- a table at an offset is one of the file: it stands where the file's header or section tells, the tables that its names
 -- are read from are those that the section refers to
@@ -70,6 +81,12 @@ KindOf file table_at (Relocations section linked) =
     RefersTo file (section_at file section) linked × (table_at ≡ sh_offset file (section_at file section))
 KindOf file table_at (Dynamic strings) = AreOf file strings
 KindOf file table_at (Versions section numbered) = Unit {0}
+KindOf file table_at (SuffixedSymbols section names suffixes) =
+    (strings_in file names ≡ strings_of file (section_at file section)) × (table_at ≡ sh_offset file (section_at file section))
+    × AreSuffixes file section suffixes.now
+KindOf file table_at (SuffixedRelocations section linked suffixes) =
+    RefersTo file (section_at file section) linked × (table_at ≡ sh_offset file (section_at file section))
+    × AreSuffixes file (sh_link file (section_at file section)) suffixes.now
 
 -- an index of a kind's rows fits the column's type
 abbrev pub IndexFits : ListedAs → ℕ → Type 0
@@ -78,6 +95,8 @@ IndexFits (Symbols section names) index = Unit {0}
 IndexFits (Relocations section linked) index = Unit {0}
 IndexFits (Dynamic strings) index = Unit {0}
 IndexFits (Versions section numbered) index = Unit {0}
+IndexFits (SuffixedSymbols section names suffixes) index = Unit {0}
+IndexFits (SuffixedRelocations section linked suffixes) index = Unit {0}
 
 -- a table of the rows of a kind, which lies within a source of this size with what it refers to
 pub record IsTableOf (size : ℕ) (kind : ListedAs) (table : Rows) : Type 0 where

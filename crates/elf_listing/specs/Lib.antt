@@ -9,6 +9,9 @@ pub mod Reports
 pub mod RowCursors
 pub mod Shows
 pub mod Strings
+pub mod Suffixed
+pub mod SuffixNames
+pub mod SuffixTexts
 pub mod SymbolVersions
 pub mod Versions
 pub mod Viewed

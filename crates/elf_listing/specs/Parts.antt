@@ -1,5 +1,5 @@
 -- The parts of a listing behind the file header: what is listed of each section, and what it asks for.
-use Rattle.std.specs.Prelude.{ℕ, ◌+◌, ◌*◌, ◌==◌, ◌&&◌, ◌≡◌, not, true, List, Option, None, Some, Result}
+use Rattle.std.specs.Prelude.{ℕ, ◌+◌, ◌*◌, ◌==◌, ◌&&◌, ◌≡◌, not, Bool, true, false, List, Option, None, Some, Result}
 use Rattle.elf_model.specs.Cost.{sum_over, cost_where, table_cost}
 use Rattle.elf_model.specs.Listing.{ListingItem, each, fault_of, has, SECTIONS, SEGMENTS, SYMBOLS, RELOCS, NOTES, DYNAMIC}
 use Rattle.elf_model.specs.Names.{Shown, shown, name_bytes}
@@ -8,7 +8,7 @@ use Rattle.elf_model.specs.Report.{table_rows}
 use Rattle.elf_model.specs.Rows.{no_name, section_row, segment_row}
 use Rattle.elf_model.specs.Style.{Style}
 use Rattle.elf_model.specs.HeaderTables.{HeaderTable, TableKind, held_headers}
-use Rattle.elf_model.specs.TableKinds.{symbols, relocations, section_notes, segment_notes, section_dynamic, segment_dynamic}
+use Rattle.elf_model.specs.TableKinds.{suffixed_relocations, suffixed_symbols, symbols, relocations, section_notes, segment_notes, section_dynamic, segment_dynamic}
 use Rattle.elf_model.specs.VersionLaws.{records_rows}
 use Rattle.elf_model.specs.VersionRows.{symbol_versions, version_definitions, version_needs}
 use Rattle.elf_model.specs.declared.causes.Cause.{Cause}
@@ -16,7 +16,7 @@ use Rattle.elf_headers.specs.Load.{Opened}
 use Rattle.elf_headers.specs.Store.{Stored, row, segment_bytes}
 use Rattle.elf_table.specs.Tables.{Strings, strings_in}
 use Rattle.elf_listing.specs.declared.parts.Part.{Part}
-use Rattle.elf_listing.specs.declared.parts.Part.TheVariants.{Headers, Segments, Symbols, Relocations, SectionNotes, SegmentNotes, SectionDynamic, SegmentDynamic, Definitions, Needs, SymbolVersions}
+use Rattle.elf_listing.specs.declared.parts.Part.TheVariants.{Headers, Segments, Symbols, Relocations, SectionNotes, SegmentNotes, SectionDynamic, SegmentDynamic, Definitions, Needs, SymbolVersions, SuffixedSymbols, SuffixedRelocations}
 
 -- WHAT A PART LISTS: its bit among the parts of a listing; how many headers it goes over, those in the store; the items of the
 -- header of an index, in a file; and how many bytes it asks for at most with its table, by the store
@@ -80,6 +80,15 @@ listed_by SegmentDynamic = of_segments segment_dynamic
 listed_by Definitions = of_sections version_definitions
 listed_by Needs = of_sections version_needs
 listed_by SymbolVersions = of_sections symbol_versions
+listed_by SuffixedSymbols = of_sections suffixed_symbols
+listed_by SuffixedRelocations = of_sections suffixed_relocations
+
+-- the symbols of sections and their relocation entries, with or without versions behind the names of symbols
+abbrev pub symbols_part : Bool → Part
+symbols_part versions = elim versions [ true ↦ SuffixedSymbols | false ↦ Symbols ]
+
+abbrev pub relocations_part : Bool → Part
+relocations_part versions = elim versions [ true ↦ SuffixedRelocations | false ↦ Relocations ]
 
 -- what is so before a part is listed of a file that is known, in a style: the versions of symbols are named by definitions and
 -- needs whose own rows had no fault
@@ -117,12 +126,13 @@ asked_cost parts part loaded store cap = cost_where (has parts (listed_by part).
 abbrev pub segments_listed : ℕ → Opened → ℕ
 segments_listed parts loaded = cost_where (has parts SEGMENTS && not (loaded.header.e_shnum == 0)) (56 * loaded.header.e_phnum)
 
--- how many bytes the tables of a loaded file ask for at most, as far as the parts have them
-abbrev pub tables_listed : ℕ → Opened → Stored → ℕ → ℕ
-tables_listed parts loaded store cap =
+-- how many bytes the tables of a loaded file ask for at most, as far as the parts have them, with or without versions behind
+-- the names of symbols
+abbrev pub tables_listed : ℕ → Opened → Stored → (cap : ℕ) → (versions : Bool) → ℕ
+tables_listed parts loaded store cap versions =
     asked_cost parts Headers loaded store cap
     + segments_listed parts loaded
-    + (asked_cost parts Symbols loaded store cap + asked_cost parts Relocations loaded store cap)
+    + (asked_cost parts (symbols_part versions) loaded store cap + asked_cost parts (relocations_part versions) loaded store cap)
     + (asked_cost parts SectionNotes loaded store cap + asked_cost parts SegmentNotes loaded store cap)
     + (asked_cost parts SectionDynamic loaded store cap + asked_cost parts SegmentDynamic loaded store cap)
     + (asked_cost parts Definitions loaded store cap + asked_cost parts Needs loaded store cap)

@@ -2,7 +2,7 @@
 use Rattle.std.specs.Prelude.{ℕ, ◌≡◌, ◌<◌, ◌+◌, ◌≤◌, false, List, Option, None, Some, Result, Ok, Err, IfSome}
 use Rattle.elf_model.specs.Budget.{IsBudgeted, IsBudget}
 use Rattle.elf_model.specs.Checks.{first_refusal, length_checks}
-use Rattle.elf_model.specs.Cost.{ceiling}
+use Rattle.elf_model.specs.Cost.{style_ceiling}
 use Rattle.elf_model.specs.Lines.{refusal_line}
 use Rattle.elf_model.specs.Listing.{has_tables, known_parts}
 use Rattle.elf_model.specs.declared.causes.Refusal.{Refusal}
@@ -39,7 +39,7 @@ FaultSays old new out (Out fault) = OutFails out fault
 -- header alone where no table is asked for; never more than the budget; and where the answer is that the budget is used up,
 -- fewer than 4,096 bytes of it are left, and the answer names the read that it had no room for
 pub record AsksWithin {X : Type 0} (caps : Caps) (parts : ℕ) (old new : Counting) (result : Result X Stop) : Type 0 where
-  pub ceiling : new.asked ≤ old.asked + ceiling old.seen.size caps.limits.headers caps.style.cap.bytes
+  pub ceiling : new.asked ≤ old.asked + style_ceiling old.seen.size caps.limits.headers (style_of caps.style)
   pub unread : (refusal : Refusal) → first_refusal (length_checks old.seen.size) ≡ Some refusal → new.seen ≡ old.seen × new.asked ≡ old.asked
   pub alone : has_tables (known_parts (style_of caps.style) parts) ≡ false → new.asked ≤ old.asked + 64
   pub budget : IfSome caps.limits.budget (λ bytes. new.asked ≤ old.asked + bytes)

@@ -8,7 +8,7 @@ use Rattle.elf_headers.specs.declared.fault.Fault.{Fault}
 use Rattle.elf_listing.specs.declared.row_cursor.RowCursor.{RowCursor}
 use Rattle.elf_listing.specs.declared.row_cursor.RowCursor.TheVariants.{All, Entries}
 use Rattle.elf_listing.specs.declared.rows.ListedAs.{ListedAs}
-use Rattle.elf_listing.specs.declared.rows.ListedAs.TheVariants.{Segments, Symbols, Relocations, Dynamic, Versions}
+use Rattle.elf_listing.specs.declared.rows.ListedAs.TheVariants.{Segments, Symbols, Relocations, Dynamic, Versions, SuffixedSymbols, SuffixedRelocations}
 
 -- the cursor over the rows of the table
 abbrev pub reading : RowCursor → Reading
@@ -27,6 +27,8 @@ rows_listed (Symbols section names) file table = table.count
 rows_listed (Relocations section linked) file table = table.count
 rows_listed (Dynamic strings) file table = dynamic_count file table.at table.count
 rows_listed (Versions section numbered) file table = table.count
+rows_listed (SuffixedSymbols section names suffixes) file table = table.count
+rows_listed (SuffixedRelocations section linked suffixes) file table = table.count
 
 -- a cursor before the first row of a table
 pub record BeginsTable (kind : ListedAs) (table : Rows) (cursor : RowCursor) : Type 0 where

@@ -1,5 +1,5 @@
 -- The versions of symbols, shown one after another, and the names of their numbers.
-use Rattle.std.specs.Prelude.{ℕ, ◌≡◌, ◌+◌, ◌*◌, min, nat_lt, if◌then◌else◌, List, [], ◌++◌, None, Some, Result, Ok, Err, IfOk}
+use Rattle.std.specs.Prelude.{ℕ, ◌≡◌, ◌+◌, ◌*◌, min, nat_lt, if◌then◌else◌, List, [], ◌++◌, Option, None, Some, Result, Ok, Err, IfOk}
 use Rattle.elf_model.specs.Checks.{first_refusal}
 use Rattle.elf_model.specs.Listing.{ListingItem, each}
 use Rattle.elf_model.specs.Names.{name_bytes}
@@ -7,11 +7,13 @@ use Rattle.elf_model.specs.Records.{section_at}
 use Rattle.elf_model.specs.Rows.{refused_row}
 use Rattle.elf_model.specs.Numbers.{SHT_GNU_VERDEF, SHT_GNU_VERNEED}
 use Rattle.elf_model.specs.Style.{Style}
+use Rattle.elf_model.specs.Suffixes.{or_refusal, walk_refusal}
 use Rattle.elf_model.specs.Tables.{all_checks}
 use Rattle.elf_model.specs.VersionCost.{walk_cost, walks_cost}
 use Rattle.elf_model.specs.VersionRows.{first_of_type, first_strings, first_versions, section_versions, version_table}
 use Rattle.elf_model.specs.Versions.{VERSYM_SIZE, Met, record_size}
 use Rattle.elf_model.specs.declared.causes.Cause.TheVariants.{VersionCut}
+use Rattle.elf_model.specs.declared.causes.Refusal.{Refusal}
 use Rattle.elf_model.specs.declared.versions.VersionKind.{VersionKind}
 use Rattle.elf_model.specs.declared.versions.VersionKind.TheVariants.{Definition, File}
 use Rattle.elf_headers.specs.Load.{section_place}
@@ -48,43 +50,46 @@ ListsVersioned old new result section table symbols numbered =
 
 -- the checks of the first section that holds records of a kind pass, and no record of it is refused
 abbrev pub AreRecordsWhole : List ℕ → VersionKind → Type 0
-AreRecordsWhole file kind =
-    (i : ℕ) → first_of_type file (kind_type kind) ≡ Some i
-    → (first_refusal (all_checks version_table file (section_at file i)) ≡ None) × ((section_versions kind file (section_at file i)).cut ≡ None)
+AreRecordsWhole file kind = walk_refusal kind (kind_type kind) file ≡ None
 
--- a fault is no refusal of a check: it is one of a read
-abbrev pub IsNoCheck : Fault → Type 0
-IsNoCheck (Refused refusal) = (IsBudget refusal → ⊥) → ⊥
-IsNoCheck (Source fault at) = Unit {0}
+-- the names and the places of some records
+abbrev pub NumbersTaken : List NameAt → List ℕ → List ℕ → List Met → Type 0
+NumbersTaken names places file records = NamesNumbers file records names places
 
 -- the records of that section were taken in behind others, and their names are in these strings
-pub record TakenIn (file : List ℕ) (kind : VersionKind) (records : List Met) (after : List NameAt) (strings : Strings) : Type 0 where
-  pub names : NamesNumbers file (records ++ first_versions kind (kind_type kind) file) after
+pub record TakenIn (file : List ℕ) (kind : VersionKind) (records : List Met) (after : List ℕ → List Met → Type 0) (strings : Strings) : Type 0 where
+  pub whole : AreRecordsWhole file kind
+  pub names : after file (records ++ first_versions kind (kind_type kind) file)
   pub named : (first_versions kind (kind_type kind) file ≡ [] → ⊥) → strings_in file strings ≡ first_strings (kind_type kind) file
 
-abbrev pub TakenOr : List ℕ → VersionKind → List Met → List NameAt → Result Strings Fault → Type 0
+abbrev pub TakenOr : List ℕ → VersionKind → List Met → (List ℕ → List Met → Type 0) → Result Strings Fault → Type 0
 TakenOr file kind records after (Ok strings) = TakenIn file kind records after strings
-TakenOr file kind records after (Err fault) = IsNoCheck fault
+TakenOr file kind records after (Err (Refused refusal)) = (IsBudget refusal → ⊥) → walk_refusal kind (kind_type kind) file ≡ Some refusal
+TakenOr file kind records after (Err (Source fault at)) = Unit {0}
 
--- what a call did that takes them in: where the section is whole they are taken in, unless a read fails
-pub record TakesRecords {S W : Type 0} {s : Sources S} {w : Sinks W} (old new : Listing S W s w) (before after : List NameAt) (result : Result Strings Fault) (kind : VersionKind) : Type 0 where
+-- what a call did that takes them in: they are taken in, or what refuses them is told, unless a read fails
+pub record TakesRecords {S W : Type 0} {s : Sources S} {w : Sinks W} (old new : Listing S W s w) (before after : List ℕ → List Met → Type 0) (result : Result Strings Fault) (kind : VersionKind) : Type 0 where
   pub fetches : Fetches old new result (walk_cost (store_sections old.file.store.now) old.file.loaded.size (kind_type kind) (record_size kind) (bytes_each kind))
   pub within : IfOk result (StringsWithin old.src.now.seen.size)
-  pub taken : (file : List ℕ) → old.src.now.seen.file ≡ Some file → AreRecordsWhole file kind → (records : List Met) → NamesNumbers file records before
-      → TakenOr file kind records after result
+  pub taken : (file : List ℕ) → old.src.now.seen.file ≡ Some file → (records : List Met) → before file records → TakenOr file kind records after result
 
 -- the names of all numbers of a file
-pub record AreNumbered (file : List ℕ) (numbered : Numbered) : Type 0 where
-  pub names : NamesNumbers file (first_versions Definition SHT_GNU_VERDEF file ++ first_versions File SHT_GNU_VERNEED file) numbered.names
+pub record AreNumbered (file : List ℕ) (numbered : Numbered) (places : List ℕ) : Type 0 where
+  pub names : NamesNumbers file (first_versions Definition SHT_GNU_VERDEF file ++ first_versions File SHT_GNU_VERNEED file) numbered.names places
   pub defined : (first_versions Definition SHT_GNU_VERDEF file ≡ [] → ⊥) → strings_in file numbered.defined ≡ first_strings SHT_GNU_VERDEF file
   pub needed : (first_versions File SHT_GNU_VERNEED file ≡ [] → ⊥) → strings_in file numbered.needed ≡ first_strings SHT_GNU_VERNEED file
 
-abbrev pub NumberedOr : List ℕ → Result Numbered Fault → Type 0
-NumberedOr file (Ok numbered) = AreNumbered file numbered
-NumberedOr file (Err fault) = IsNoCheck fault
+-- what refuses them, if anything does: the definitions, else the needs
+abbrev pub walks_refusal : List ℕ → Option Refusal
+walks_refusal file = or_refusal (walk_refusal Definition SHT_GNU_VERDEF file) (walk_refusal File SHT_GNU_VERNEED file)
+
+abbrev pub NumberedOr : List ℕ → List ℕ → Result Numbered Fault → Type 0
+NumberedOr file places (Ok numbered) = (walks_refusal file ≡ None) × AreNumbered file numbered places
+NumberedOr file places (Err (Refused refusal)) = (IsBudget refusal → ⊥) → walks_refusal file ≡ Some refusal
+NumberedOr file places (Err (Source fault at)) = Unit {0}
 
 -- what a call did that finds them
-pub record FetchesNumbers {S W : Type 0} {s : Sources S} {w : Sinks W} (old new : Listing S W s w) (result : Result Numbered Fault) : Type 0 where
+pub record FetchesNumbers {S W : Type 0} {s : Sources S} {w : Sinks W} (old new : Listing S W s w) (places : List ℕ) (result : Result Numbered Fault) : Type 0 where
   pub fetches : Fetches old new result (walks_cost (store_sections old.file.store.now) old.file.loaded.size)
   pub within : IfOk result (NumberedWithin old.src.now.seen.size)
-  pub read : (file : List ℕ) → old.src.now.seen.file ≡ Some file → AreRecordsWhole file Definition → AreRecordsWhole file File → NumberedOr file result
+  pub read : (file : List ℕ) → old.src.now.seen.file ≡ Some file → NumberedOr file places result

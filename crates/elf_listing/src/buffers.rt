@@ -16,3 +16,10 @@ const DESCRIPTOR_TEXT_BYTES: usize = 64;
 /// place of the name of each number, 8,192 at most. The bytes of a table of records are held where
 /// those of a table's rows are else.
 pub const VERSION_BYTES: usize = elf_versions::NUMBER_NAMES_BYTES;
+
+/// The size in bytes of what [`crate::show`] holds beside these where versions stand behind the names
+/// of symbols: where the file tells of each number's name, and the bytes of a version's name.
+pub const SUFFIX_BYTES: usize = 8 * elf_versions::ALL_PLACES + SUFFIX_NAME_BYTES;
+
+/// The size in bytes of the buffer of a version's name.
+const SUFFIX_NAME_BYTES: usize = 4_096;

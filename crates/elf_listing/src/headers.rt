@@ -54,6 +54,8 @@ impl<S: Source, W: Sink> Listing<'_, '_, '_, '_, S, W> {
             Part::Definitions => self.definitions(index),
             Part::Needs => self.needs(index),
             Part::SymbolVersions => self.symbol_versions(index),
+            Part::SuffixedSymbols => self.suffixed_symbols(index),
+            Part::SuffixedRelocations => self.suffixed_relocations(index),
         }
     }
 }

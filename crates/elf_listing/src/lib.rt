@@ -10,6 +10,7 @@ mod names;
 mod notes;
 mod numbered;
 mod parts;
+mod read_suffix;
 mod relocation_row;
 mod row;
 mod row_cursor;
@@ -17,12 +18,17 @@ mod rows;
 mod sections;
 mod segments;
 mod showing;
+mod suffixed_entries;
+mod suffixed_line;
+mod suffixed_rows;
+mod suffixed_tables;
+mod suffixes;
 mod symbol_versions;
 mod telling;
 mod versions;
 mod viewing;
 
-pub use buffers::{FIXED_BYTES, VERSION_BYTES};
+pub use buffers::{FIXED_BYTES, SUFFIX_BYTES, VERSION_BYTES};
 pub use elf_lines::{
     cause_word, dynamic_front, note_front, relocation_front, section_front, segment_row, show_lack,
     show_note, show_refusal, show_steps, show_symbol, symbol_front,

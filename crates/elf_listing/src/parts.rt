@@ -4,6 +4,7 @@ ghost use Rattle.elf_listing.specs.HeadersListed.{ListsAsked, ListsPair};
 ghost use Rattle.elf_listing.specs.HeadersListed.{ListsSegments, ListsTables};
 ghost use Rattle.elf_headers.specs.Permitted.{style_of};
 ghost use Rattle.elf_listing.specs.Parts.{AwaitsAsked, listed_by};
+ghost use Rattle.elf_listing.specs.Parts.{relocations_part, symbols_part};
 ghost use Rattle.elf_listing.specs.Viewed.{viewed_headers};
 
 use crate::listing::Listing;
@@ -39,6 +40,10 @@ pub enum Part {
     Needs,
     /// The versions of symbols, of sections.
     SymbolVersions,
+    /// The symbols of sections, with their versions.
+    SuffixedSymbols,
+    /// The relocation entries of sections, with the versions of their symbols.
+    SuffixedRelocations,
 }
 
 impl<S: Source, W: Sink> Listing<'_, '_, '_, '_, S, W> {
@@ -50,11 +55,23 @@ impl<S: Source, W: Sink> Listing<'_, '_, '_, '_, S, W> {
     {
         self.part(parts, Part::Headers)?;
         self.segments(parts)?;
-        self.pair(parts, Part::Symbols, Part::Relocations)?;
+        self.named(parts)?;
         self.pair(parts, Part::SectionNotes, Part::SegmentNotes)?;
         self.pair(parts, Part::SectionDynamic, Part::SegmentDynamic)?;
         self.pair(parts, Part::Definitions, Part::Needs)?;
         self.part(parts, Part::SymbolVersions)
+    }
+
+    /// Shows the symbols of sections and the relocation entries, with or without the versions of
+    /// symbols as the style has it.
+    fn named(&mut self, parts: Parts) -> Result<(), Stop>
+        ensures { let versions = self.old.style.versions in
+            ListsPair parts.0 (symbols_part versions) (relocations_part versions) self.old self.new result }
+    {
+        if self.style.versions {
+            return self.pair(parts, Part::SuffixedSymbols, Part::SuffixedRelocations);
+        }
+        self.pair(parts, Part::Symbols, Part::Relocations)
     }
 
     /// Shows two parts, one behind the other.
@@ -105,8 +122,8 @@ fn bit(part: Part) -> Parts
     match part {
         Part::Headers => Parts::SECTIONS,
         Part::Segments => Parts::SEGMENTS,
-        Part::Symbols => Parts::SYMBOLS,
-        Part::Relocations => Parts::RELOCS,
+        Part::Symbols | Part::SuffixedSymbols => Parts::SYMBOLS,
+        Part::Relocations | Part::SuffixedRelocations => Parts::RELOCS,
         Part::SectionNotes | Part::SegmentNotes => Parts::NOTES,
         Part::SectionDynamic | Part::SegmentDynamic => Parts::DYNAMIC,
         Part::Definitions | Part::Needs | Part::SymbolVersions => Parts::VERSIONS,

@@ -8,6 +8,7 @@ use crate::dynamic_row::EntryStrings;
 use crate::listing::Listing;
 use crate::numbered::Numbered;
 use crate::row_cursor::RowCursor;
+use crate::suffixes::Suffixes;
 use elf_headers::Stop;
 use elf_lines::{Columns, LineFront, Object, Render};
 use elf_model::Format;
@@ -44,6 +45,24 @@ pub enum ListedAs<'f> {
         section: u16,
         /// Where the names of their numbers are.
         numbered: &'f Numbered,
+    },
+    /// The symbols of a section, a `Y` line each, with their versions.
+    SuffixedSymbols {
+        /// The index of the section.
+        section: u16,
+        /// The string table of their names.
+        names: Names,
+        /// What finds their versions.
+        suffixes: &'f Suffixes,
+    },
+    /// The relocation entries of a section, an `R` line each, with the versions of their symbols.
+    SuffixedRelocations {
+        /// The index of the section.
+        section: u16,
+        /// The symbols that they refer to, with their names.
+        linked: Option<(Table, Names)>,
+        /// What finds their versions.
+        suffixes: &'f Suffixes,
     },
 }
 
@@ -115,6 +134,16 @@ impl<S: Source, W: Sink> Listing<'_, '_, '_, '_, S, W> {
             ListedAs::Versions { section, numbered } => self.version_number::<R, C>(
                 front, row, *section, numbered,
             ),
+            ListedAs::SuffixedSymbols {
+                section,
+                names,
+                suffixes,
+            } => self.suffixed_symbol_row::<R, C>(front, row, *section, names, suffixes),
+            ListedAs::SuffixedRelocations {
+                section,
+                linked,
+                suffixes,
+            } => self.suffixed_relocation_row::<R, C>(front, row, *section, *linked, suffixes),
         }
     }
 }

@@ -4,7 +4,7 @@ ghost use Rattle.std.specs.Prelude.{◌≡◌, ◌+◌, ◌-◌, ◌^◌, ◌≤
 ghost use Rattle.std.specs.Prelude.{Some, None, Ok, IfErr};
 ghost use Rattle.elf_model.specs.Checks.{first_refusal, length_checks};
 ghost use Rattle.elf_model.specs.declared.causes.Refusal.{Refusal as Refuses};
-ghost use Rattle.elf_model.specs.Cost.{listing_cost, ceiling, behind_header};
+ghost use Rattle.elf_model.specs.Cost.{listing_cost, style_ceiling, behind_header};
 ghost use Rattle.elf_model.specs.Lines.{header_line};
 ghost use Rattle.elf_model.specs.Listing.{Line as LineItem, has, has_tables, known_parts, where_asked, HEADER};
 ghost use Rattle.elf_model.specs.Records.{e_shnum};
@@ -94,7 +94,7 @@ pub fn list<S: Source, W: Sink>(
     ensures slots { store.new.slots ≡ store.old.slots }
     ensures grows { Grows out.old out.new }
     ensures ceiling { Costs src.old src.new out.new result
-        (ceiling src.old.seen.size store.old.slots style.entry.cap.bytes) }
+        (style_ceiling src.old.seen.size store.old.slots (style_of style.entry)) }
     ensures unread { (refusal : Refuses) →
         first_refusal (length_checks src.old.seen.size) ≡ Some refusal → src.new ≡ src.old }
     ensures alone { has_tables (known_parts (style_of style.entry) parts.0) ≡ false →
@@ -150,11 +150,11 @@ fn list_viewed<S: Source, W: Sink>(
     ensures slots { store.new.slots ≡ store.old.slots }
     ensures grows { Grows out.old out.new }
     ensures below { Costs src.old src.new out.new result
-        (ceiling src.old.seen.size store.old.slots style.entry.cap.bytes - 64) }
+        (style_ceiling src.old.seen.size store.old.slots (style_of style.entry) - 64) }
     ensures alone { has_tables parts.0 ≡ false → src.new.asked ≡ src.old.asked }
     ensures cost { (file : List ℕ) → src.old.seen.file ≡ Some file →
         Costs src.old src.new out.new result
-        (behind_header (view_of (style_of style.entry) file) store.old.slots style.entry.cap.bytes parts.0) }
+        (behind_header (view_of (style_of style.entry) file) store.old.slots (style_of style.entry) parts.0) }
     ensures text { (file : List ℕ) → src.old.seen.file ≡ Some file →
         Writes out.old out.new result
         (load_items (view_of (style_of style.entry) file) store.old.slots (style_of style.entry) parts.0) }
@@ -187,11 +187,11 @@ fn list_loaded<S: Source, W: Sink>(
     ensures slots { store.new.slots ≡ store.old.slots }
     ensures grows { Grows out.old out.new }
     ensures below { Costs src.old src.new out.new result
-        (ceiling src.old.seen.size store.old.slots style.entry.cap.bytes - 64) }
+        (style_ceiling src.old.seen.size store.old.slots (style_of style.entry) - 64) }
     ensures alone { has_tables parts.0 ≡ false → src.new ≡ src.old }
     ensures cost { (file : List ℕ) → src.old.seen.file ≡ Some file →
         Costs src.old src.new out.new result
-        (behind_header file store.old.slots style.entry.cap.bytes parts.0) }
+        (behind_header file store.old.slots (style_of style.entry) parts.0) }
     ensures text { (file : List ℕ) → src.old.seen.file ≡ Some file →
         Writes out.old out.new result
         (load_items file store.old.slots (style_of style.entry) parts.0) }
@@ -216,7 +216,7 @@ fn list_tables<S: Source, W: Sink>(
     requires { IsReady parts.0 src.old loaded store.now }
     ensures grows { Grows out.old out.new }
     ensures costs { Costs src.old src.new out.new result
-        (tables_listed parts.0 loaded store.now style.entry.cap.bytes) }
+        (tables_listed parts.0 loaded store.now style.entry.cap.bytes style.entry.versions) }
     ensures text { (file : List ℕ) → src.old.seen.file ≡ Some file →
         Writes out.old out.new result (table_items file (style_of style.entry) parts.0) }
 {

@@ -1,12 +1,12 @@
 //! The versions of symbols, shown one after another.
-ghost use Rattle.std.specs.Prelude.{◌≡◌, ◌<◌, min};
+ghost use Rattle.std.specs.Prelude.{◌≡◌, ◌<◌, length, min};
 ghost use Rattle.elf_headers.specs.Permitted.{style_of};
 ghost use Rattle.elf_model.specs.declared.versions.VersionKind.TheVariants.{Need};
 ghost use Rattle.elf_table.specs.Tables.{RowsWithin};
 ghost use Rattle.elf_listing.specs.HeadersListed.{ListsHeader};
 ghost use Rattle.elf_listing.specs.Numbered.{NumberedWithin};
 ghost use Rattle.elf_listing.specs.Parts.{Awaits};
-ghost use Rattle.elf_listing.specs.SymbolVersions.{FetchesNumbers, ListsVersioned, TakesRecords};
+ghost use Rattle.elf_listing.specs.SymbolVersions.{FetchesNumbers, ListsVersioned, NumbersTaken, TakesRecords};
 ghost use Rattle.elf_listing.specs.declared.parts.Part.TheVariants.{SymbolVersions};
 
 use crate::listing::Listing;
@@ -41,7 +41,8 @@ impl<S: Source, W: Sink> Listing<'_, '_, '_, '_, S, W> {
         }
         let found = self.file.symbol_versions(section)?;
         let (table, symbols) = found;
-        let numbered = self.numbered()?;
+        let mut none = [];
+        let numbered = self.numbered(&mut none)?;
         self.versioned(section, table, symbols, &numbered)
     }
 
@@ -73,13 +74,15 @@ impl<S: Source, W: Sink> Listing<'_, '_, '_, '_, S, W> {
     }
 
     /// Where the names of all numbers are: by the first section of definitions, else by the first of
-    /// needs.
-    fn numbered(&mut self) -> Result<Numbered, Fault>
-        ensures { FetchesNumbers self.old self.new result }
+    /// needs. Of the first numbers, as many as there are `places`, it keeps where the file tells of
+    /// the name.
+    pub(crate) fn numbered(&mut self, places: &mut [u64]) -> Result<Numbered, Fault>
+        ensures count { length places.new ≡ length places.old }
+        ensures numbers { FetchesNumbers self.old self.new places.new result }
     {
         let mut names = NumberNames::new();
-        let defined = self.take_first(&mut names, VersionKind::Definition)?;
-        let needed = self.take_first(&mut names, VersionKind::File)?;
+        let defined = self.take_first(&mut names, places, VersionKind::Definition)?;
+        let needed = self.take_first(&mut names, places, VersionKind::File)?;
         Ok(Numbered {
             names,
             defined,
@@ -89,9 +92,17 @@ impl<S: Source, W: Sink> Listing<'_, '_, '_, '_, S, W> {
 
     /// Takes in the records of the first section that holds records of a kind, and answers the string
     /// table of their names; an empty one where there is no record.
-    fn take_first(&mut self, names: &mut NumberNames, kind: VersionKind) -> Result<Names, Fault>
+    fn take_first(
+        &mut self,
+        names: &mut NumberNames,
+        places: &mut [u64],
+        kind: VersionKind,
+    ) -> Result<Names, Fault>
         requires kind { kind ≡ Need → ⊥ }
-        ensures { TakesRecords self.old self.new names.old names.new result kind }
+        ensures count { length places.new ≡ length places.old }
+        ensures records { let before = NumbersTaken names.old places.old in
+            let after = NumbersTaken names.new places.new in
+            TakesRecords self.old self.new before after result kind }
     {
         let Some(section) = self.file.first(section_type(kind)) else {
             return Ok(Names::new(0, 0));
@@ -104,7 +115,7 @@ impl<S: Source, W: Sink> Listing<'_, '_, '_, '_, S, W> {
         let table = self.file.bytes(header.sh_offset, header.sh_size, at)?;
         let strings = self.file.strings(section)?;
         let mut cursor = VersionCursor::new(self.src, kind, at, table)?;
-        names.take_all(self.src, &mut cursor)?;
+        names.take_all(self.src, &mut cursor, places)?;
         Ok(strings)
     }
 }

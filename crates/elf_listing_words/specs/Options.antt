@@ -70,6 +70,7 @@ pub record IsStyle (rows : List Row) (style : Style) : Type 0 where
   pub by_segments : style.by_segments ≡ is_option_set (first_of (codes "by-segments") rows)
   pub format : style.format ≡ asked_format rows
   pub choice : choice_of style.choice ≡ EveryRow
+  pub versions : style.versions ≡ false
 
 -- the part with this name, or without a name all, of listings of the GNU system or of the standards' alone
 abbrev pub ArePartsOf : Bool → Option Text → Parts → Type 0

@@ -29,7 +29,7 @@ pub fn limits_of(options: &ArgMatches<'_>) -> Option<Limits>
     Limits::new(headers, budget)
 }
 
-/// How rows are shown, by the options: every row is.
+/// How rows are shown, by the options: every row is, and no versions behind names.
 pub fn style_of(options: &ArgMatches<'_>) -> Option<Style<'static>>
     ensures some { IfSome result (IsStyle (rows_of (found_of options.now))) }
     ensures none { result ≡ None → (style : Style)
@@ -44,6 +44,7 @@ pub fn style_of(options: &ArgMatches<'_>) -> Option<Style<'static>>
         by_segments,
         format: format_of(options),
         choice: RowChoice::every_row(),
+        versions: false,
     })
 }
 

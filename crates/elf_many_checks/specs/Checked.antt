@@ -1,7 +1,7 @@
 -- What the check of one file did.
 use Rattle.std.specs.Prelude.{ℕ, ◌+◌, ◌≤◌, nat_lt, if◌then◌else◌, List, length, IfSome, ⊤}
 use Rattle.elf_model.specs.Checking.{IsStateOf}
-use Rattle.elf_model.specs.Cost.{ceiling, listing_cost}
+use Rattle.elf_model.specs.Cost.{listing_cost, style_ceiling}
 use Rattle.elf_model.specs.Records.{FILE_HEADER_SIZE, ELF_MAGIC_SIZE}
 use Rattle.elf_model.specs.Style.{Style}
 use Rattle.elf_model.specs.declared.states.FileState.{FileState}
@@ -21,10 +21,10 @@ check_cost file headers style parts =
     if nat_lt (length file) FILE_HEADER_SIZE then ELF_MAGIC_SIZE else listing_cost file headers style parts
 
 -- the same of every source
-abbrev pub check_ceiling : ℕ → (headers cap : ℕ) → ℕ
-check_ceiling size headers cap = if nat_lt size FILE_HEADER_SIZE then ELF_MAGIC_SIZE else ceiling size headers cap
+abbrev pub check_ceiling : (size headers : ℕ) → Style → ℕ
+check_ceiling size headers style = if nat_lt size FILE_HEADER_SIZE then ELF_MAGIC_SIZE else style_ceiling size headers style
 
 -- what is asked for, for every source: no more than the ceiling, and no more than the budget
 pub record AsksFor (caps : Caps) (old new : Counting) : Type 0 where
-  pub ceiling : new.asked ≤ old.asked + check_ceiling old.seen.size caps.limits.headers caps.style.cap.bytes
+  pub ceiling : new.asked ≤ old.asked + check_ceiling old.seen.size caps.limits.headers (style_of caps.style)
   pub budget : IfSome caps.limits.budget (λ bytes. new.asked ≤ old.asked + bytes)

@@ -5,7 +5,7 @@ use Rattle.elf_model.specs.Archive.{Extent, Member, Next, Ends, Broken, OneMembe
 use Rattle.elf_model.specs.ArchiveCost.{allowance, archive_cost, header_cost, is_elsewhere, long_name_bytes, member_cost, members_cost}
 use Rattle.elf_model.specs.ArchiveLaws.{ArchiveCostIsWithinCeiling, DataLieInTheFile}
 use Rattle.elf_model.specs.Checks.{pass}
-use Rattle.elf_model.specs.Cost.{ceiling, cost_where, listing_cost}
+use Rattle.elf_model.specs.Cost.{cost_where, listing_cost, style_ceiling}
 use Rattle.elf_model.specs.Names.{Shown}
 use Rattle.elf_model.specs.Style.{Style}
 use Rattle.elf_model.specs.declared.causes.Cause.{Cause}
@@ -97,22 +97,22 @@ header_none : (file : List ℕ) (cap : ℕ) (p : Progress) → nat_le (p.at + 60
 unfolding header_cost
 header_none file cap p is = rw is refl
 
-header_within : (file : List ℕ) (headers cap : ℕ) (p : Progress) → header_cost file cap p ≤ allowance (length file - p.at) headers cap
-header_within file headers cap p = by_room (nat_le (p.at + 60) (length file)) refl
+header_within : (file : List ℕ) (headers : ℕ) (style : Style) (p : Progress) → header_cost file style.cap p ≤ allowance (length file - p.at) headers style
+header_within file headers style p = by_room (nat_le (p.at + 60) (length file)) refl
   where
-    by_room : (t : Bool) → nat_le (p.at + 60) (length file) ≡ t → header_cost file cap p ≤ allowance (length file - p.at) headers cap
+    by_room : (t : Bool) → nat_le (p.at + 60) (length file) ≡ t → header_cost file style.cap p ≤ allowance (length file - p.at) headers style
     by_room true r =
         let room : 60 ≤ length file - p.at = grind (arith, nat_tests) in
-        omega (arith, header_most file cap p, header_allowed (length file - p.at) headers cap room)
-    by_room false r = omega (arith, header_none file cap p r)
+        omega (arith, header_most file style.cap p, header_allowed (length file - p.at) headers style room)
+    by_room false r = omega (arith, header_none file style.cap p r)
 
 -- a member costs no more than what its data are allowed
 member_most : (file : List ℕ) (headers : ℕ) (style : Style) (parts : ℕ) (m : Member) → m.extent.at + m.extent.size ≤ length file
-    → member_cost file headers style parts m ≤ 4 + ceiling m.extent.size headers style.cap
+    → member_cost file headers style parts m ≤ 4 + style_ceiling m.extent.size headers style
 unfolding member_cost
 member_most file headers style parts m lies =
     let content = bytes_in file m.extent in
-    let same = ap (λ n. ceiling n headers style.cap) (slice-size file m.extent.at m.extent.size lies) in
+    let same = ap (λ n. style_ceiling n headers style) (slice-size file m.extent.at m.extent.size lies) in
     let file_cost = cost_within content headers style parts in
     let shown = where_most (is_elf content) (listing_cost content headers style parts) in
     let all = where_most (lists_members style parts) (4 + cost_where (is_elf content) (listing_cost content headers style parts)) in
@@ -120,26 +120,26 @@ member_most file headers style parts m lies =
 
 -- and the members from a place on no more than the bytes from there on
 members_within : (most : ℕ) (file : List ℕ) (headers : ℕ) (style : Style) (parts : ℕ) (p : Progress)
-    → members_cost most file headers style parts p ≤ allowance (length file - p.at) headers style.cap
+    → members_cost most file headers style parts p ≤ allowance (length file - p.at) headers style
 unfolding members_cost
 members_within zero file headers style parts p = omega arith
 members_within (suc most) file headers style parts p = go (next_member file style.cap p) refl (λ q. members_within most file headers style parts q)
   where
     go : (next : Next) → next_member file style.cap p ≡ next
-        → ((q : Progress) → members_cost most file headers style parts q ≤ allowance (length file - q.at) headers style.cap)
+        → ((q : Progress) → members_cost most file headers style parts q ≤ allowance (length file - q.at) headers style)
         → header_cost file style.cap p
         + elim next [
           | Ends ↦ 0
           | Broken refusal ↦ 0
           | OneMember member ↦ member_cost file headers style parts member + members_cost most file headers style parts (behind file p member)
         ]
-        ≤ allowance (length file - p.at) headers style.cap
-    go Ends is others = omega (arith, header_within file headers style.cap p)
-    go (Broken refusal) is others = omega (arith, header_within file headers style.cap p)
+        ≤ allowance (length file - p.at) headers style
+    go Ends is others = omega (arith, header_within file headers style p)
+    go (Broken refusal) is others = omega (arith, header_within file headers style p)
     go (OneMember m) is others =
         let lies = data_lie file style.cap p m is in
         let rest = others (behind file p m) in
-        let room = allowed (length file - p.at) (length file - (behind file p m).at) m.extent.size headers style.cap (omega (arith, lies.0, lies.1)) in
+        let room = allowed (length file - p.at) (length file - (behind file p m).at) m.extent.size headers style (omega (arith, lies.0, lies.1)) in
         omega (arith, header_most file style.cap p, member_most file headers style parts m lies.1, rest, room)
 
 pub archive_cost_within : ArchiveCostIsWithinCeiling
@@ -147,4 +147,4 @@ unfolding archive_cost
 archive_cost_within file headers style parts =
     let all = members_within (length file) file headers style parts before_members in
     let some = where_most (pass (archive_checks file)) (members_cost (length file) file headers style parts before_members) in
-    omega (arith, all, some, allowance_within (length file) headers style.cap)
+    omega (arith, all, some, allowance_within (length file) headers style)

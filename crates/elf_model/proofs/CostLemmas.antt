@@ -15,11 +15,13 @@ use Rattle.elf_model.specs.VersionCost.{is_inside, links, has_strings, has_symbo
 use Rattle.elf_model.specs.Numbers.{SHT_GNU_VERDEF, SHT_GNU_VERNEED}
 use Rattle.elf_model.specs.Versions.{DEFINITION_SIZE, DEFINED_NAME_SIZE, NEED_SIZE}
 use Rattle.elf_model.specs.VersionRows.{version_definitions, version_needs, symbol_versions}
-use Rattle.elf_model.specs.TableKinds.{TableHeaders, symbols, relocations, section_dynamic, section_notes, segment_notes, segment_dynamic, section_kinds, segment_kinds, by_sections, by_segments, table_headers}
-use Rattle.elf_model.specs.Cost.{sum_over, cost_where, table_cost, kinds_cost, is_loadable, needs_segments, sections_cost, segments_cost, tables_cost, behind_header as asked_behind, listing_cost, ceiling}
-use Rattle.elf_model.specs.Style.{viewed}
+use Rattle.elf_model.specs.TableKinds.{TableHeaders, symbols, relocations, section_dynamic, section_notes, segment_notes, segment_dynamic, section_kinds, segment_kinds, suffixed_relocations, suffixed_symbols, suffixes_cost, by_sections, by_segments, table_headers}
+use Rattle.elf_model.specs.Cost.{sum_over, cost_where, table_cost, kinds_cost, is_loadable, needs_segments, sections_cost, segments_cost, tables_cost, behind_header as asked_behind, listing_cost, ceiling, style_ceiling, suffixes_most}
+use Rattle.elf_model.specs.Style.{Style, viewed}
+use Rattle.elf_model.specs.Suffixes.{first_numbers}
 use Rattle.elf_model.proofs.CheckSteps.{all_pass, pass-behind}
 use Rattle.elf_model.proofs.StyleLemmas.{view_length}
+use Rattle.elf_model.specs.SuffixLaws.{SuffixesAreWithinMost}
 use Rattle.elf_model.specs.CostLaws.{CostIsWithinCeiling, LastCostIsAdded, SumsGrow}
 
 -- sums are put together
@@ -67,6 +69,21 @@ fewer entry size table e t =
     let m : table / entry * 16 ≤ table / entry * entry = mul-le-mul_left (table / entry) e in
     le-div (table / entry) size 16 (omega arith) (omega arith)
 
+-- what the tables of one section header cost at most, with or without versions behind the names of symbols
+abbrev pub most_bound : Bool → (size cap : ℕ) → ℕ
+most_bound versions size cap = table_bound size cap + (if versions then suffixes_most size cap else 0)
+
+-- a cost of more, under the same conditions
+cost_more : (has passes : Bool) (amount other most : ℕ) → (passes ≡ true → other ≤ amount + most)
+    → cost_where (has && passes) other ≤ cost_where (has && passes) amount + cost_where has most
+cost_more true true amount other most h = h refl
+cost_more true false amount other most h = omega arith
+cost_more false passes amount other most h = omega arith
+
+where-more : (condition : Bool) (amount other most : ℕ) → other ≤ amount + most → cost_where condition other ≤ cost_where condition amount + most
+where-more true amount other most h = h
+where-more false amount other most h = omega arith
+
 -- a table's size in entries, each at a cost
 entries_within : (entry further cap size table : ℕ) → 16 ≤ entry → further ≤ 32 + cap → table ≤ size
     → table / entry * (entry + further) ≤ size + size / 16 * (32 + cap)
@@ -109,6 +126,10 @@ one_kind : (type bound : ℕ)
     → cost_where (type == 2 || type == 11) bound + cost_where (type == 4) bound + cost_where (type == 7) bound + cost_where (type == 6) bound
     + (cost_where (type == 0x6ffffffd) bound + cost_where (type == 0x6ffffffe) bound + cost_where (type == 0x6fffffff) bound) ≤ bound
 one_kind type bound = grind (arith, nat_tests)
+
+-- and so it holds symbols or relocation entries, and not both
+two_kinds : (type most : ℕ) → cost_where (type == 2 || type == 11) most + cost_where (type == 4) most ≤ most
+two_kinds type most = grind (arith, nat_tests)
 
 -- a table costs nothing where the header is of another kind
 kind-le : (kind : TableKind) (headers : HeaderTable) (i size cap bound : ℕ)
@@ -233,10 +254,10 @@ module _ (headers : HeaderTable) (i size cap : ℕ) where
       cost_where-within (has_symbol_table headers i size && not (header_field headers sh_size i == 0)) _ bound (λ some.
       rows_fit (and-first (has_symbol_table headers i size) (not (header_field headers sh_size i == 0)) some)))
 
-  -- all of them, whatever the parts
-  pub section_kinds-le : (parts : ℕ) → kinds_cost section_kinds headers i size cap parts ≤ bound
+  -- all of them without versions behind names, whatever the parts
+  plain_kinds-le : (parts : ℕ) → kinds_cost (section_kinds false) headers i size cap parts ≤ bound
   unfolding kinds_cost
-  section_kinds-le parts =
+  plain_kinds-le parts =
       let one = one_kind (header_field headers sh_type i) bound in
       let a = asked parts symbols in
       let b = asked parts relocations in
@@ -249,6 +270,52 @@ module _ (headers : HeaderTable) (i size cap : ℕ) where
     where
       asked : (parts : ℕ) (kind : TableKind) → cost_where (has parts kind.part) (table_cost kind headers i size cap) ≤ table_cost kind headers i size cap
       asked parts kind = cost_where-le (has parts kind.part) (table_cost kind headers i size cap)
+
+  -- the versions behind the names of so many symbols
+  suffixes_fit : (table names : ℕ) → names ≤ size / 24 → suffixes_cost headers table names size cap ≤ suffixes_most size cap
+  unfolding suffixes_cost walks_cost
+  suffixes_fit table names few = by_found (first_numbers headers table)
+    where
+      by_found : (found : Option ℕ)
+          → (elim found as (λ _. ℕ) [ None ↦ 0 | Some i ↦ names * (2 + name_bytes cap) + walks_cost headers size ]) ≤ suffixes_most size cap
+      by_found None = omega arith
+      by_found (Some i) =
+          let first = walk_within headers size SHT_GNU_VERDEF DEFINITION_SIZE (DEFINITION_SIZE + DEFINED_NAME_SIZE) (omega arith) in
+          let second = walk_within headers size SHT_GNU_VERNEED NEED_SIZE NEED_SIZE (omega arith) in
+          let rows : names * (2 + name_bytes cap) ≤ size / 24 * (2 + name_bytes cap) = mul-le-mul_right (2 + name_bytes cap) few in
+          omega (arith, first, second, rows)
+
+  symbols_more : table_cost suffixed_symbols headers i size cap
+      ≤ table_cost symbols headers i size cap + cost_where (header_field headers sh_type i == 2 || header_field headers sh_type i == 11) (suffixes_most size cap)
+  unfolding table_cost suffixed_symbols symbols
+  symbols_more =
+      cost_more (is_symbol_table (headers.bytes i) (headers.at i)) (pass (table_checks_of (headers.bytes i) (headers.at i) size (headers.at i) 24)) _ _
+      (suffixes_most size cap) (λ h.
+      let within = table_fits i 24 h in
+      omega (arith, suffixes_fit i (header_field headers sh_size i / 24) (omega arith)))
+
+  relocations_more : table_cost suffixed_relocations headers i size cap
+      ≤ table_cost relocations headers i size cap + cost_where (header_field headers sh_type i == 4) (suffixes_most size cap)
+  unfolding table_cost suffixed_relocations relocations
+  relocations_more =
+      cost_more (header_field headers sh_type i == 4) (pass (table_checks_of (headers.bytes i) (headers.at i) size (headers.at i) 24)) _ _
+      (suffixes_most size cap) (λ h.
+      let within = table_fits i 24 h in
+      omega (arith, suffixes_fit (header_field headers sh_link i) (header_field headers sh_size i / 24) (omega arith)))
+
+  -- all of them with versions behind names
+  pub suffixed_kinds-le : (parts : ℕ)
+      → kinds_cost (section_kinds true) headers i size cap parts ≤ kinds_cost (section_kinds false) headers i size cap parts + suffixes_most size cap
+  unfolding kinds_cost suffixed_symbols symbols suffixed_relocations relocations
+  suffixed_kinds-le parts =
+      let one = two_kinds (header_field headers sh_type i) (suffixes_most size cap) in
+      let a = where-more (has parts 8) _ _ _ symbols_more in
+      let b = where-more (has parts 16) _ _ _ relocations_more in
+      omega (arith, one, a, b)
+
+  pub section_kinds-le : (versions : Bool) (parts : ℕ) → kinds_cost (section_kinds versions) headers i size cap parts ≤ most_bound versions size cap
+  section_kinds-le true parts = omega (arith, suffixed_kinds-le parts, plain_kinds-le parts)
+  section_kinds-le false parts = omega (arith, plain_kinds-le parts)
 
 -- a segment is of one kind
 one_segment_kind : (type size bound : ℕ) → size ≤ bound → cost_where (type == 4) size + cost_where (type == 2) bound ≤ bound
@@ -301,13 +368,13 @@ loadable-within file headers h =
 abbrev pub tables_by : (file : List ℕ) (cap parts : ℕ) → TableHeaders → ℕ
 tables_by file cap parts tables = sum_over (λ i. kinds_cost tables.kinds tables.headers i (length file) cap parts) 0 tables.headers.count
 
-pub headers_none : (file : List ℕ) → (e_shnum file == 0) ≡ true → table_headers file ≡ by_segments file
+pub headers_none : (versions : Bool) (file : List ℕ) → (e_shnum file == 0) ≡ true → table_headers versions file ≡ by_segments file
 unfolding table_headers
-headers_none file h = rw (h, table_headers) refl
+headers_none versions file h = rw (h, table_headers) refl
 
-pub headers_some : (file : List ℕ) → (e_shnum file == 0) ≡ false → table_headers file ≡ by_sections file
+pub headers_some : (versions : Bool) (file : List ℕ) → (e_shnum file == 0) ≡ false → table_headers versions file ≡ by_sections versions file
 unfolding table_headers
-headers_some file h = rw (h, table_headers) refl
+headers_some versions file h = rw (h, table_headers) refl
 
 -- headers of some size each, with their tables
 pub headers_within : (each_header n bound count headers tables : ℕ) → count ≤ headers → each_header ≤ 120 + n → tables ≤ count * bound
@@ -318,33 +385,37 @@ headers_within each_header n bound count headers tables few small within =
     omega arith
 
 -- where there are no sections all tables are those of the program headers
-without_sections : (file : List ℕ) (cap parts headers : ℕ) → (e_shnum file == 0) ≡ true → e_phnum file ≤ headers
-    → sections_cost file cap parts + segments_cost file parts + tables_cost file cap parts
-    ≤ headers * (120 + name_bytes cap + table_bound (length file) cap)
+without_sections : (file : List ℕ) (style : Style) (parts headers : ℕ) → (e_shnum file == 0) ≡ true → e_phnum file ≤ headers
+    → sections_cost file style.cap parts + segments_cost file parts + tables_cost file style parts
+    ≤ headers * (120 + name_bytes style.cap + most_bound style.versions (length file) style.cap)
 unfolding sections_cost segments_cost tables_cost
-without_sections file cap parts headers z p =
+without_sections file style parts headers z p =
+    let cap : ℕ = style.cap in
     let n : e_shnum file ≡ 0 = eqb-true (e_shnum file) 0 z in
     let bound : ℕ = table_bound (length file) cap in
     let tables = sum_over-le (λ i. kinds_cost segment_kinds (file_segments file) i (length file) cap parts) bound 0 (e_phnum file)
     (λ i. segment_kinds-le (file_segments file) i (length file) cap parts) in
-    let same = ap (tables_by file cap parts) (headers_none file z) in
+    let same = ap (tables_by file cap parts) (headers_none style.versions file z) in
     let a = cost_where-le (needs_segments file parts) (56 * e_phnum file) in
     let c = cost_where-le (has parts 2 && not (e_shstrndx file == 0)) (e_shnum file * name_bytes cap) in
     let d : e_shnum file * name_bytes cap ≡ 0 * name_bytes cap = ap (λ (k : ℕ). k * name_bytes cap) n in
     let all = headers_within 56 (name_bytes cap) bound (e_phnum file) headers _ p (omega arith) tables in
+    let more : headers * (120 + name_bytes cap + bound) ≤ headers * (120 + name_bytes cap + most_bound style.versions (length file) cap) =
+    mul-le-mul_left headers (omega arith) in
     omega arith
 
 -- where there are sections they are those of the section headers
-with_sections : (file : List ℕ) (cap parts headers : ℕ) → (e_shnum file == 0) ≡ false → e_shnum file ≤ headers → e_phnum file ≤ headers
-    → sections_cost file cap parts + segments_cost file parts + tables_cost file cap parts
-    ≤ headers * (120 + name_bytes cap + table_bound (length file) cap)
+with_sections : (file : List ℕ) (style : Style) (parts headers : ℕ) → (e_shnum file == 0) ≡ false → e_shnum file ≤ headers → e_phnum file ≤ headers
+    → sections_cost file style.cap parts + segments_cost file parts + tables_cost file style parts
+    ≤ headers * (120 + name_bytes style.cap + most_bound style.versions (length file) style.cap)
 unfolding sections_cost segments_cost tables_cost
-with_sections file cap parts headers z s p =
+with_sections file style parts headers z s p =
+    let cap : ℕ = style.cap in
     let n : ℕ = name_bytes cap in
-    let bound : ℕ = table_bound (length file) cap in
-    let tables = sum_over-le (λ i. kinds_cost section_kinds (file_sections file) i (length file) cap parts) bound 0 (e_shnum file)
-    (λ i. section_kinds-le (file_sections file) i (length file) cap parts) in
-    let same = ap (tables_by file cap parts) (headers_some file z) in
+    let bound : ℕ = most_bound style.versions (length file) cap in
+    let tables = sum_over-le (λ i. kinds_cost (section_kinds style.versions) (file_sections file) i (length file) cap parts) bound 0 (e_shnum file)
+    (λ i. section_kinds-le (file_sections file) i (length file) cap style.versions parts) in
+    let same = ap (tables_by file cap parts) (headers_some style.versions file z) in
     let a = cost_where-le (needs_segments file parts) (56 * e_phnum file) in
     let c = cost_where-le (has parts 2 && not (e_shstrndx file == 0)) (e_shnum file * n) in
     let m : e_shnum file * (64 + n + bound) ≤ headers * (64 + n + bound) = mul-le-mul_right (64 + n + bound) s in
@@ -355,28 +426,50 @@ with_sections file cap parts headers z s p =
     omega arith
 
 -- what is asked for behind the file header is within the ceiling
-behind_header : (file : List ℕ) (cap parts headers : ℕ) (none : Bool) → (e_shnum file == 0) ≡ none → is_loadable file headers ≡ true
-    → sections_cost file cap parts + segments_cost file parts + tables_cost file cap parts
-    ≤ headers * (120 + name_bytes cap + table_bound (length file) cap)
-behind_header file cap parts headers true z h = without_sections file cap parts headers z (loadable-within file headers h).1
-behind_header file cap parts headers false z h =
+behind_header : (file : List ℕ) (style : Style) (parts headers : ℕ) (none : Bool) → (e_shnum file == 0) ≡ none → is_loadable file headers ≡ true
+    → sections_cost file style.cap parts + segments_cost file parts + tables_cost file style parts
+    ≤ headers * (120 + name_bytes style.cap + most_bound style.versions (length file) style.cap)
+behind_header file style parts headers true z h = without_sections file style parts headers z (loadable-within file headers h).1
+behind_header file style parts headers false z h =
     let l = loadable-within file headers h in
-    with_sections file cap parts headers z l.0 l.1
+    with_sections file style parts headers z l.0 l.1
+
+-- the ceiling of a style, by that of the tables of each header
+pub style_ceiling-is : (size headers : ℕ) (style : Style)
+    → style_ceiling size headers style ≡ 64 + headers * (120 + name_bytes style.cap + most_bound style.versions size style.cap)
+unfolding style_ceiling ceiling
+style_ceiling-is size headers style = by_cases style.versions
+  where
+    by_cases : (versions : Bool) → (if versions then ceiling size headers style.cap + headers * suffixes_most size style.cap else ceiling size headers style.cap)
+        ≡ 64 + headers * (120 + name_bytes style.cap + most_bound versions size style.cap)
+    by_cases true =
+        let n : ℕ = name_bytes style.cap in
+        let plain : ℕ = 120 + n + table_bound size style.cap in
+        let split : headers * (plain + suffixes_most size style.cap) ≡ headers * plain + headers * suffixes_most size style.cap =
+        mul-add headers plain (suffixes_most size style.cap) in
+        let left : headers * (64 + 56 + n + size + size / 16 * (32 + n)) ≡ headers * plain = ap (λ (k : ℕ). headers * k) (omega arith) in
+        let right : headers * (plain + suffixes_most size style.cap) ≡ headers * (120 + n + most_bound true size style.cap) =
+        ap (λ (k : ℕ). headers * k) (omega arith) in
+        omega (arith, split, left, right)
+    by_cases false =
+        let n : ℕ = name_bytes style.cap in
+        let same : headers * (64 + 56 + n + size + size / 16 * (32 + n)) ≡ headers * (120 + n + most_bound false size style.cap) =
+        ap (λ (k : ℕ). headers * k) (omega arith) in
+        omega (arith, same)
 
 -- what a listing asks for is within it
-behind_within : (file : List ℕ) (headers cap parts : ℕ) → 64 + asked_behind file headers cap parts ≤ ceiling (length file) headers cap
-unfolding ceiling
-behind_within file headers cap parts =
-    let n : ℕ = name_bytes cap in
+behind_within : (file : List ℕ) (headers : ℕ) (style : Style) (parts : ℕ) → 64 + asked_behind file headers style parts ≤ style_ceiling (length file) headers style
+behind_within file headers style parts =
     let within = cost_where-within (has_tables parts && is_loadable file headers)
-    (sections_cost file cap parts + segments_cost file parts + tables_cost file cap parts)
-    (headers * (120 + n + table_bound (length file) cap))
-    (λ h. behind_header file cap parts headers (e_shnum file == 0) refl (and-second (has_tables parts) (is_loadable file headers) h)) in
-    let e : 120 + n + table_bound (length file) cap ≡ 120 + n + length file + length file / 16 * (32 + n) = omega arith in
-    let f = ap (λ k. headers * k) e in
-    omega arith
+    (sections_cost file style.cap parts + segments_cost file parts + tables_cost file style parts)
+    (headers * (120 + name_bytes style.cap + most_bound style.versions (length file) style.cap))
+    (λ h. behind_header file style parts headers (e_shnum file == 0) refl (and-second (has_tables parts) (is_loadable file headers) h)) in
+    omega (arith, within, style_ceiling-is (length file) headers style)
+
+pub suffixes_within_most : SuffixesAreWithinMost
+suffixes_within_most headers i size cap parts = suffixed_kinds-le headers i size cap parts
 
 pub cost_within : CostIsWithinCeiling
 unfolding listing_cost
 cost_within file headers style parts =
-    rw (view_length style file) at (behind_within (viewed style file) headers style.cap (known_parts style parts))
+    rw (view_length style file) at (behind_within (viewed style file) headers style (known_parts style parts))

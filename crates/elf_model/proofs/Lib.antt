@@ -38,6 +38,7 @@ pub mod Slices
 pub mod Spellings
 pub mod StoreLemmas
 pub mod StyleLemmas
+pub mod SuffixLaws
 pub mod ChoiceLemmas
 pub mod ValueLaws
 pub mod VersionLaws

@@ -131,7 +131,7 @@ cost_known : (file : List ℕ) (headers : ℕ) (style : Style) (parts : ℕ)
     → listing_cost file headers style (known_parts style parts) ≡ listing_cost file headers style parts
 unfolding listing_cost
 cost_known file headers style parts =
-    ap (λ known. FILE_HEADER_SIZE + behind_header (viewed style file) headers style.cap known) (known_once style parts)
+    ap (λ known. FILE_HEADER_SIZE + behind_header (viewed style file) headers style known) (known_once style parts)
 
 pub other_bits : OtherBitsMeanNothing
 other_bits file headers style parts = (listing_known file headers style parts, cost_known file headers style parts)

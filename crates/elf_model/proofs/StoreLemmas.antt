@@ -11,15 +11,17 @@ use Rattle.elf_model.specs.declared.causes.Cause.TheVariants.{EntrySize, SizeNot
 use Rattle.elf_model.specs.Listing.{has}
 use Rattle.elf_model.specs.Find.{first_that}
 use Rattle.elf_model.specs.HeaderTables.{HeaderTable, TableKind, file_sections, file_segments, held_headers, first_typed, header_field}
-use Rattle.elf_model.specs.Numbers.{SHT_GNU_VERDEF, SHT_GNU_VERNEED}
-use Rattle.elf_model.specs.TableKinds.{symbols, relocations, section_dynamic, section_notes, section_kinds, segment_notes, segment_dynamic, segment_kinds}
+use Rattle.elf_model.specs.Numbers.{SHT_GNU_VERDEF, SHT_GNU_VERNEED, SHT_GNU_VERSYM}
+use Rattle.elf_model.specs.Style.{Style}
+use Rattle.elf_model.specs.Suffixes.{first_numbers}
+use Rattle.elf_model.specs.TableKinds.{symbols, relocations, section_dynamic, section_notes, section_kinds, segment_notes, segment_dynamic, segment_kinds, suffixed_relocations, suffixed_symbols, suffixes_cost}
 use Rattle.elf_model.specs.VersionCost.{is_inside, has_strings, versioned_cost, walk_cost, walks_cost}
 use Rattle.elf_model.specs.VersionRows.{version_definitions, version_needs, symbol_versions}
 use Rattle.elf_model.specs.Versions.{DEFINITION_SIZE, DEFINED_NAME_SIZE, NEED_SIZE}
 use Rattle.elf_model.specs.Cost.{sum_over, cost_where, table_cost, kinds_cost, tables_cost, ceiling}
 use Rattle.elf_model.specs.CostLaws.{PlacesDecideNothing, RowsCostWhatTheFileCosts, SegmentsCostWhatTheFileCosts, kind_by_kind, TablesCostKindByKind, AnyRowsAreWithinCeiling, AnySegmentsAreWithinCeiling}
 use Rattle.elf_model.proofs.LookupSteps.{first_that-holds}
-use Rattle.elf_model.proofs.CostLemmas.{table_bound, section_kinds-le, segment_kinds-le, headers_within, sum_over-le, tables_by, headers_some}
+use Rattle.elf_model.proofs.CostLemmas.{table_bound, most_bound, style_ceiling-is, section_kinds-le, segment_kinds-le, headers_within, sum_over-le, tables_by, headers_some}
 
 -- checks that pass for one place pass for another
 table-pass : (a b c : Bool) (p q : ℕ)
@@ -174,10 +176,42 @@ module _ (file : List ℕ) (row : ℕ → List ℕ) (is : (i : ℕ) → i < e_sh
           let below : link < e_shnum file = ltb-true link (e_shnum file) e in
           rw (table_held link size 24 below, strings_held link size below, symbols_held link below, size_held link below, walks_held size) refl
 
-  kinds_held : (i cap parts : ℕ) → i < e_shnum file
-      → kinds_cost section_kinds held i (length file) cap parts ≡ kinds_cost section_kinds all i (length file) cap parts
+  -- the versions behind the names of symbols
+  suffixes_held : (table names size cap : ℕ) → suffixes_cost held table names size cap ≡ suffixes_cost all table names size cap
+  unfolding suffixes_cost
+  suffixes_held table names size cap =
+      let first : first_numbers held table ≡ first_numbers all table =
+      first_that-equal (λ i. header_field held sh_type i == SHT_GNU_VERSYM && header_field held sh_link i == table)
+      (λ i. header_field all sh_type i == SHT_GNU_VERSYM && header_field all sh_link i == table) 0 (e_shnum file)
+      (λ i _ below. let few : i < e_shnum file = omega arith in rw (type_held i few, link_held i few) refl) in
+      let by : Option ℕ → ℕ → ℕ = λ found walks. elim found as (λ _. ℕ) [ None ↦ 0 | Some i ↦ names * (2 + name_bytes cap) + walks ] in
+      ap₂ by first (walks_held size)
+
+  suffixed_held : (i cap parts : ℕ) → i < e_shnum file
+      → kinds_cost (section_kinds true) held i (length file) cap parts ≡ kinds_cost (section_kinds true) all i (length file) cap parts
+  unfolding kinds_cost symbols relocations suffixed_symbols suffixed_relocations section_notes section_dynamic version_definitions version_needs symbol_versions
+  suffixed_held i cap parts below =
+      let size : ℕ = length file in
+      let type = type_held i below in
+      let more : ℕ → ℕ → ℕ → ℕ = λ table entries each. entries / 24 * each + suffixes_cost all table (entries / 24) size cap in
+      let a = kind-equal suffixed_symbols held all i size cap (symbols_held i below) (table_held i size 24 below)
+      (ap (λ n. header_field held sh_size i / 24 * (24 + name_bytes cap) + n) (suffixes_held i (header_field held sh_size i / 24) size cap)
+      ∙ ap (λ n. more i n (24 + name_bytes cap)) (size_held i below)) in
+      let b = kind-equal suffixed_relocations held all i size cap (ap (λ n. n == 4) type) (table_held i size 24 below)
+      (ap (λ n. header_field held sh_size i / 24 * (24 + (24 + name_bytes cap)) + n) (suffixes_held (header_field held sh_link i) (header_field held sh_size i / 24) size cap)
+      ∙ ap₂ (λ n link. more link n (24 + (24 + name_bytes cap))) (size_held i below) (link_held i below)) in
+      let c = kind-equal section_notes held all i size cap (ap (λ n. n == 7) type) (range_held i size below) (ap (λ n. n * 1) (size_held i below)) in
+      let d = kind-equal section_dynamic held all i size cap (ap (λ n. n == 6) type) (table_held i size 16 below) (ap (λ n. n / 16 * (16 + name_bytes cap)) (size_held i below)) in
+      let e = kind-equal version_definitions held all i size cap (ap (λ n. n == 0x6ffffffd) type) (range_held i size below) (ap (λ n. n / 20 * (28 + name_bytes cap)) (size_held i below)) in
+      let f = kind-equal version_needs held all i size cap (ap (λ n. n == 0x6ffffffe) type) (range_held i size below) (ap (λ n. n / 16 * (16 + name_bytes cap)) (size_held i below)) in
+      let g = kind-equal symbol_versions held all i size cap (ap (λ n. n == 0x6fffffff) type) (table_held i size 2 below) (versions_held i size cap below) in
+      rw (a, b, c, d, e, f, g) refl
+
+  kinds_held : (versions : Bool) (i cap parts : ℕ) → i < e_shnum file
+      → kinds_cost (section_kinds versions) held i (length file) cap parts ≡ kinds_cost (section_kinds versions) all i (length file) cap parts
   unfolding kinds_cost symbols relocations section_notes section_dynamic version_definitions version_needs symbol_versions
-  kinds_held i cap parts below =
+  kinds_held true i cap parts below = suffixed_held i cap parts below
+  kinds_held false i cap parts below =
       let size : ℕ = length file in
       let type = type_held i below in
       let entries : ℕ → ℕ → ℕ = λ entry each. header_field held sh_size i / entry * each in
@@ -191,10 +225,10 @@ module _ (file : List ℕ) (row : ℕ → List ℕ) (is : (i : ℕ) → i < e_sh
       rw (a, b, c, d, e, f, g) refl
 
 pub rows_cost : RowsCostWhatTheFileCosts
-rows_cost file row cap parts is =
-    sum_over-equal (λ i. kinds_cost section_kinds (held_headers (e_shnum file) row) i (length file) cap parts)
-    (λ i. kinds_cost section_kinds (file_sections file) i (length file) cap parts)
-    0 (e_shnum file) (λ i _ below. kinds_held file row is i cap parts (omega arith))
+rows_cost file row versions cap parts is =
+    sum_over-equal (λ i. kinds_cost (section_kinds versions) (held_headers (e_shnum file) row) i (length file) cap parts)
+    (λ i. kinds_cost (section_kinds versions) (file_sections file) i (length file) cap parts)
+    0 (e_shnum file) (λ i _ below. kinds_held file row is versions i cap parts (omega arith))
 
 -- a program header's cost at its own bytes
 whole-pass : (b c : Bool) (p q : ℕ) → pass (refuse b p SizeNotWhole ∷ refuse c p TableOutside ∷ []) ≡ pass (refuse b q SizeNotWhole ∷ refuse c q TableOutside ∷ [])
@@ -228,15 +262,15 @@ segments_cost_rows file row cap parts is =
     0 (e_phnum file) (λ i _ below. segment_held file row (e_phnum file) i (length file) cap parts (is i (omega arith)))
 
 -- what the sections' tables cost is among the costs of all
-pub sections_counted : (file : List ℕ) (cap parts : ℕ)
-    → sum_over (λ i. kinds_cost section_kinds (file_sections file) i (length file) cap parts) 0 (e_shnum file) ≤ tables_cost file cap parts
+pub sections_counted : (file : List ℕ) (style : Style) (parts : ℕ)
+    → sum_over (λ i. kinds_cost (section_kinds style.versions) (file_sections file) i (length file) style.cap parts) 0 (e_shnum file) ≤ tables_cost file style parts
 unfolding tables_cost sum_over
-sections_counted file cap parts = by_cases (e_shnum file == 0) refl
+sections_counted file style parts = by_cases (e_shnum file == 0) refl
   where
     by_cases : (none : Bool) → (e_shnum file == 0) ≡ none
-        → sum_over (λ i. kinds_cost section_kinds (file_sections file) i (length file) cap parts) 0 (e_shnum file) ≤ tables_cost file cap parts
+        → sum_over (λ i. kinds_cost (section_kinds style.versions) (file_sections file) i (length file) style.cap parts) 0 (e_shnum file) ≤ tables_cost file style parts
     by_cases true h = let zero : e_shnum file ≡ 0 = eqb-true (e_shnum file) 0 h in rw zero (omega arith)
-    by_cases false h = let same = ap (tables_by file cap parts) (headers_some file h) in omega arith
+    by_cases false h = let same = ap (tables_by file style.cap parts) (headers_some style.versions file h) in omega arith
 
 -- a sum of sums, and a sum under one condition
 sum_over-add : (amount other : ℕ → ℕ) (first count : ℕ)
@@ -267,16 +301,18 @@ by_kind (kind ∷ kinds) headers size cap parts count =
 
 pub any_rows : AnyRowsAreWithinCeiling
 unfolding ceiling
-any_rows table size headers cap parts sections segments s p =
+any_rows table style size headers parts sections segments s p =
+    let cap : ℕ = style.cap in
     let n : ℕ = name_bytes cap in
-    let bound : ℕ = table_bound size cap in
-    let tables = sum_over-le (λ i. kinds_cost section_kinds table i size cap parts) bound 0 sections (λ i. section_kinds-le table i size cap parts) in
+    let bound : ℕ = most_bound style.versions size cap in
+    let tables = sum_over-le (λ i. kinds_cost (section_kinds style.versions) table i size cap parts) bound 0 sections
+    (λ i. section_kinds-le table i size cap style.versions parts) in
     let m : sections * (64 + n + bound) ≤ headers * (64 + n + bound) = mul-le-mul_right (64 + n + bound) s in
     let e : sections * (64 + n + bound) ≡ sections * 64 + sections * n + sections * bound =
     mul-add sections (64 + n) bound ∙ ap (λ k. k + sections * bound) (mul-add sections 64 n) in
-    let h : headers * (120 + n + size + size / 16 * (32 + n)) ≡ headers * 56 + headers * (64 + n + bound) =
+    let h : headers * (120 + n + bound) ≡ headers * 56 + headers * (64 + n + bound) =
     ap (λ k. headers * k) (omega arith) ∙ mul-add headers 56 (64 + n + bound) in
-    omega arith
+    omega (arith, tables, m, e, h, mul-le-mul_right 56 p, style_ceiling-is size headers style)
 
 pub any_segments : AnySegmentsAreWithinCeiling
 unfolding ceiling

@@ -1,10 +1,10 @@
 -- How many bytes the listing of an archive asks for at most, and what it never passes.
-use Rattle.std.specs.Prelude.{ℕ, zero, suc, ◌<◌, ◌+◌, ◌*◌, ◌/◌, ◌||◌, nat_le, is_some, Bool, List, length, Option, None, Some, ◌⊎◌}
+use Rattle.std.specs.Prelude.{ℕ, zero, suc, ◌<◌, ◌+◌, ◌*◌, ◌/◌, ◌||◌, nat_le, is_some, if◌then◌else◌, Bool, List, length, Option, None, Some, ◌⊎◌}
 use Rattle.std.specs.List.{list_any}
 use Rattle.elf_model.specs.Archive.{Member, Ends, Broken, OneMember, Progress, MAGIC_SIZE, MEMBER_HEADER_SIZE, archive_checks, archive_items, before_members, behind, bsd_name_size, bytes_in, is_elf, is_refused, lists_members, long_offset, members_of, name_field, next_member}
 use Rattle.elf_model.specs.Budget.{IsCut, IsReport}
 use Rattle.elf_model.specs.Checks.{pass}
-use Rattle.elf_model.specs.Cost.{ceiling, cost_where, listing_cost}
+use Rattle.elf_model.specs.Cost.{cost_where, listing_cost, style_ceiling, suffixes_most}
 use Rattle.elf_model.specs.Names.{name_bytes, pad64}
 use Rattle.elf_model.specs.Records.{ELF_MAGIC_SIZE}
 use Rattle.elf_model.specs.Style.{Style}
@@ -48,18 +48,24 @@ archive_cost file headers style parts =
     MAGIC_SIZE
     + cost_where (pass (archive_checks file)) (members_cost (length file) file headers style parts before_members)
 
+-- what the tables in so many bytes may cost that one header describes
+abbrev pub data_most : ℕ → Style → ℕ
+data_most size style =
+    size + size / 16 * (32 + name_bytes style.cap) + (if style.versions then suffixes_most size style.cap else 0)
+
 -- what members in so many bytes may cost: for each 60 bytes a header, a name elsewhere, the four bytes that tell an ELF file and
 -- what an empty file may cost, and what the data may
-abbrev pub allowance : ℕ → ℕ → ℕ → ℕ
-allowance room headers cap =
-    room / MEMBER_HEADER_SIZE * (64 + long_name_bytes cap + ceiling 0 headers cap)
-    + headers * (room + room / 16 * (32 + name_bytes cap))
+abbrev pub allowance : (room headers : ℕ) → Style → ℕ
+allowance room headers style =
+    room / MEMBER_HEADER_SIZE * (64 + long_name_bytes style.cap + style_ceiling 0 headers style) + headers * data_most room style
 
 -- what no listing of an archive of so many bytes passes: for each 60 bytes a member's header, a name elsewhere, the four bytes
 -- that tell an ELF file, and what an empty file may cost; and once what a file of all bytes may
-unfoldable pub archive_ceiling : ℕ → ℕ → ℕ → ℕ
-archive_ceiling size headers cap =
-    MAGIC_SIZE + size / MEMBER_HEADER_SIZE * (64 + long_name_bytes cap + ceiling 0 headers cap) + ceiling size headers cap
+unfoldable pub archive_ceiling : (size headers : ℕ) → Style → ℕ
+archive_ceiling size headers style =
+    MAGIC_SIZE
+    + size / MEMBER_HEADER_SIZE * (64 + long_name_bytes style.cap + style_ceiling 0 headers style)
+    + style_ceiling size headers style
 
 -- what the listing of an archive within a budget writes, and the fault that it answers: the whole, or a front of whole lines
 -- where it costs more than the budget

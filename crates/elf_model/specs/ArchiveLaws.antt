@@ -15,4 +15,4 @@ DataLieInTheFile =
 abbrev pub ArchiveCostIsWithinCeiling : Type 0
 ArchiveCostIsWithinCeiling =
     (file : List ℕ) (headers : ℕ) (style : Style) (parts : ℕ)
-    → archive_cost file headers style parts ≤ archive_ceiling (length file) headers style.cap
+    → archive_cost file headers style parts ≤ archive_ceiling (length file) headers style

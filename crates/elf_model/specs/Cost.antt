@@ -7,6 +7,8 @@ use Rattle.elf_model.specs.HeaderTables.{HeaderTable, TableKind}
 use Rattle.elf_model.specs.Listing.{has, has_tables, known_parts, SECTIONS, SEGMENTS, NOTES, DYNAMIC}
 use Rattle.elf_model.specs.Style.{Style, standard, viewed}
 use Rattle.elf_model.specs.TableKinds.{table_headers}
+use Rattle.elf_model.specs.Tables.{SYMBOL_SIZE}
+use Rattle.elf_model.specs.Versions.{VERSYM_SIZE, DEFINITION_SIZE, DEFINED_NAME_SIZE, NEED_SIZE}
 
 -- the costs of so many rows, or tables, from a first one on
 unfoldable pub sum_over : (ℕ → ℕ) → ℕ → ℕ → ℕ
@@ -48,29 +50,42 @@ unfoldable pub segments_cost : List ℕ → ℕ → ℕ
 segments_cost file parts = cost_where (needs_segments file parts) (PROGRAM_HEADER_SIZE * e_phnum file)
 
 -- the tables of all headers that describe tables, as far as the parts have them
-unfoldable pub tables_cost : List ℕ → ℕ → ℕ → ℕ
-tables_cost file cap parts =
-    let tables = table_headers file in
-    sum_over (λ i. kinds_cost tables.kinds tables.headers i (length file) cap parts) 0 tables.headers.count
+unfoldable pub tables_cost : List ℕ → Style → ℕ → ℕ
+tables_cost file style parts =
+    let tables = table_headers style.versions file in
+    sum_over (λ i. kinds_cost tables.kinds tables.headers i (length file) style.cap parts) 0 tables.headers.count
 
 -- how many bytes are asked for behind the file header at most
-abbrev pub behind_header : List ℕ → ℕ → ℕ → ℕ → ℕ
-behind_header file headers cap parts =
+abbrev pub behind_header : List ℕ → ℕ → Style → ℕ → ℕ
+behind_header file headers style parts =
     cost_where (has_tables parts && is_loadable file headers)
-    (sections_cost file cap parts + segments_cost file parts + tables_cost file cap parts)
+    (sections_cost file style.cap parts + segments_cost file parts + tables_cost file style parts)
 
 -- HOW MANY BYTES THE LISTING OF A FILE ASKS FOR at most: the file header, and what is asked for behind it for the parts that the
 -- style knows
 unfoldable pub listing_cost : List ℕ → ℕ → Style → ℕ → ℕ
 listing_cost file headers style parts =
-    FILE_HEADER_SIZE + behind_header (viewed style file) headers style.cap (known_parts style parts)
+    FILE_HEADER_SIZE + behind_header (viewed style file) headers style (known_parts style parts)
 
 -- that of the listing with so many bytes of a name, in the standards' names, by the section headers where there are some
 abbrev pub cost : List ℕ → ℕ → ℕ → ℕ → ℕ
 cost file headers cap parts = listing_cost file headers (standard cap) parts
 
--- what no listing of a file of so many bytes passes, whatever its bytes are
+-- what no listing of a file of so many bytes passes without versions behind the names of symbols, whatever its bytes are
 unfoldable pub ceiling : ℕ → ℕ → ℕ → ℕ
 ceiling size headers cap =
     FILE_HEADER_SIZE
     + headers * (SECTION_HEADER_SIZE + PROGRAM_HEADER_SIZE + name_bytes cap + size + size / 16 * (32 + name_bytes cap))
+
+-- what the versions behind the names of one table's symbols never pass in a file of so many bytes: a word and a name for each
+-- entry, and one walk over the definitions and the needs
+abbrev pub suffixes_most : (size cap : ℕ) → ℕ
+suffixes_most size cap =
+    size / SYMBOL_SIZE * (VERSYM_SIZE + name_bytes cap)
+    + (size / DEFINITION_SIZE * (DEFINITION_SIZE + DEFINED_NAME_SIZE) + size / NEED_SIZE * NEED_SIZE)
+
+-- what no listing of a style passes: more where versions stand behind the names of symbols
+unfoldable pub style_ceiling : (size headers : ℕ) → Style → ℕ
+style_ceiling size headers style =
+    if style.versions then ceiling size headers style.cap + headers * suffixes_most size style.cap
+    else ceiling size headers style.cap

@@ -1,5 +1,5 @@
 -- What holds of costs.
-use Rattle.std.specs.Prelude.{◌≡◌, ℕ, ◌+◌, ◌*◌, ◌<◌, ◌≤◌, List, [], ◌∷◌, length}
+use Rattle.std.specs.Prelude.{◌≡◌, ℕ, ◌+◌, ◌*◌, ◌<◌, ◌≤◌, Bool, List, [], ◌∷◌, length}
 use Rattle.elf_model.specs.Bytes.{slice}
 use Rattle.elf_model.specs.Records.{FILE_HEADER_SIZE, SECTION_HEADER_SIZE, PROGRAM_HEADER_SIZE, e_shnum, e_phnum, section_at, segment_at}
 use Rattle.elf_model.specs.Names.{name_bytes}
@@ -7,14 +7,14 @@ use Rattle.elf_model.specs.Checks.{pass, table_checks_of}
 use Rattle.elf_model.specs.Listing.{has}
 use Rattle.elf_model.specs.HeaderTables.{HeaderTable, TableKind, file_sections, file_segments, held_headers}
 use Rattle.elf_model.specs.TableKinds.{section_kinds, segment_kinds}
-use Rattle.elf_model.specs.Cost.{sum_over, cost_where, table_cost, kinds_cost, listing_cost, ceiling}
+use Rattle.elf_model.specs.Cost.{sum_over, cost_where, table_cost, kinds_cost, listing_cost, ceiling, style_ceiling}
 use Rattle.elf_model.specs.Style.{Style}
 
 -- no listing costs more than the ceiling of its file's length, whatever the file's bytes are
 abbrev pub CostIsWithinCeiling : Type 0
 CostIsWithinCeiling =
     (file : List ℕ) → (headers : ℕ) → (style : Style) → (parts : ℕ)
-    → listing_cost file headers style parts ≤ ceiling (length file) headers style.cap
+    → listing_cost file headers style parts ≤ style_ceiling (length file) headers style
 
 -- the last cost of so many is added to the others
 abbrev pub LastCostIsAdded : Type 0
@@ -37,10 +37,10 @@ PlacesDecideNothing =
 -- where some rows are the section headers of a file, the tables that they describe cost what the file's tables cost
 abbrev pub RowsCostWhatTheFileCosts : Type 0
 RowsCostWhatTheFileCosts =
-    (file : List ℕ) → (row : ℕ → List ℕ) → (cap parts : ℕ)
+    (file : List ℕ) → (row : ℕ → List ℕ) → (versions : Bool) → (cap parts : ℕ)
     → ((i : ℕ) → i < e_shnum file → row i ≡ slice file (section_at file i) SECTION_HEADER_SIZE)
-    → sum_over (λ i. kinds_cost section_kinds (held_headers (e_shnum file) row) i (length file) cap parts) 0 (e_shnum file)
-    ≡ sum_over (λ i. kinds_cost section_kinds (file_sections file) i (length file) cap parts) 0 (e_shnum file)
+    → sum_over (λ i. kinds_cost (section_kinds versions) (held_headers (e_shnum file) row) i (length file) cap parts) 0 (e_shnum file)
+    ≡ sum_over (λ i. kinds_cost (section_kinds versions) (file_sections file) i (length file) cap parts) 0 (e_shnum file)
 
 -- and where they are its program headers
 abbrev pub SegmentsCostWhatTheFileCosts : Type 0
@@ -67,10 +67,10 @@ TablesCostKindByKind =
 -- whatever headers stand in the place of the section headers: what is asked for is within the ceiling
 abbrev pub AnyRowsAreWithinCeiling : Type 0
 AnyRowsAreWithinCeiling =
-    (table : HeaderTable) → (size headers cap parts sections segments : ℕ) → sections ≤ headers → segments ≤ headers
-    → FILE_HEADER_SIZE + (SECTION_HEADER_SIZE * sections + sections * name_bytes cap + PROGRAM_HEADER_SIZE * segments
-    + sum_over (λ i. kinds_cost section_kinds table i size cap parts) 0 sections)
-    ≤ ceiling size headers cap
+    (table : HeaderTable) → (style : Style) → (size headers parts sections segments : ℕ) → sections ≤ headers → segments ≤ headers
+    → FILE_HEADER_SIZE + (SECTION_HEADER_SIZE * sections + sections * name_bytes style.cap + PROGRAM_HEADER_SIZE * segments
+    + sum_over (λ i. kinds_cost (section_kinds style.versions) table i size style.cap parts) 0 sections)
+    ≤ style_ceiling size headers style
 
 -- and so it is without sections, whatever headers stand in the place of the program headers
 abbrev pub AnySegmentsAreWithinCeiling : Type 0

@@ -22,7 +22,9 @@ pub mod Rows
 pub mod HeaderTables
 pub mod VersionCost
 pub mod VersionRows
+pub mod Suffixes
 pub mod TableKinds
+pub mod SuffixLaws
 pub mod Report
 pub mod ListingLaws
 pub mod StyleLaws

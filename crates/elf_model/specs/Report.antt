@@ -32,7 +32,7 @@ unfoldable pub table_items : List ℕ → Style → ℕ → List ListingItem
 table_items file style parts =
     where_asked parts SECTIONS (each (section_row file style) 0 (e_shnum file))
     ++ where_asked parts SEGMENTS (each (segment_row file style) 0 (e_phnum file))
-    ++ kinds_rows (table_headers file).kinds (table_headers file).headers file style parts
+    ++ kinds_rows (table_headers style.versions file).kinds (table_headers style.versions file).headers file style parts
 
 -- where a style finds tables by the program headers and the parts need these, LOAD segments do not lie over each other
 unfoldable pub view_checks : List ℕ → Style → ℕ → List Check

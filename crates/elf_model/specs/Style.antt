@@ -5,19 +5,20 @@ use Rattle.elf_model.specs.declared.formats.Format.{Format}
 use Rattle.elf_model.specs.declared.formats.Format.TheVariants.{Columns}
 
 -- HOW ROWS ARE SHOWN: how many bytes of a name, whether numbers of the GNU system have names too, whether tables are found by the
--- program headers also where there are section headers, how a line is written, and which rows that end in the name of a symbol
--- or of a version are shown
+-- program headers also where there are section headers, how a line is written, which rows that end in the name of a symbol
+-- or of a version are shown, and whether the version of a symbol stands behind its name
 pub record Style : Type 0 where
   pub cap : ℕ
   pub gnu : Bool
   pub by_segments : Bool
   pub format : Format
   pub choice : RowChoice
+  pub versions : Bool
 
 -- so many bytes of a name, with the standards' names alone, by the section headers where there are some, in columns, and every
 -- row
 abbrev pub standard : ℕ → Style
-standard cap = record { cap = cap; gnu = false; by_segments = false; format = Columns; choice = EveryRow }
+standard cap = record { cap = cap; gnu = false; by_segments = false; format = Columns; choice = EveryRow; versions = false }
 
 -- the places of a file header that tell of section headers: e_shoff, and e_shnum with e_shstrndx behind it
 unfoldable pub tells_of_sections : ℕ → Bool

@@ -1,20 +1,23 @@
 -- The kinds of tables whose rows are listed. A header stands at an offset of some bytes: of the file, or of its own bytes
 -- alone, at 0.
-use Rattle.std.specs.Prelude.{ℕ, ◌+◌, ◌*◌, ◌/◌, ◌==◌, Bool, true, false, List, [], ◌∷◌, Result, Ok}
+use Rattle.std.specs.Prelude.{ℕ, ◌+◌, ◌*◌, ◌/◌, ◌==◌, Bool, true, false, List, [], ◌∷◌, None, Some, Result, Ok}
 use Rattle.elf_model.specs.Bytes.{slice}
 use Rattle.elf_model.specs.Checks.{range_checks_of, is_symbol_table}
 use Rattle.elf_model.specs.Dynamic.{dynamic_count, dynamic_at}
-use Rattle.elf_model.specs.HeaderTables.{HeaderTable, TableKind, each_entry, file_sections, file_segments}
+use Rattle.elf_model.specs.HeaderTables.{HeaderTable, TableKind, each_entry, file_sections, file_segments, header_field}
 use Rattle.elf_model.specs.Listing.{ListingItem, each, SYMBOLS, RELOCS, NOTES, DYNAMIC}
 use Rattle.elf_model.specs.Mapped.{mapped_strings}
 use Rattle.elf_model.specs.Names.{name_bytes}
 use Rattle.elf_model.specs.Style.{Style}
 use Rattle.elf_model.specs.Notes.{note_align, walked}
 use Rattle.elf_model.specs.Numbers.{SHT_RELA, SHT_NOTE, SHT_DYNAMIC, PT_NOTE, PT_DYNAMIC}
-use Rattle.elf_model.specs.Records.{e_shnum, sh_type, sh_offset, sh_size, sh_addralign, p_type, p_offset, p_filesz, p_align}
+use Rattle.elf_model.specs.Records.{e_shnum, sh_type, sh_offset, sh_size, sh_link, sh_addralign, p_type, p_offset, p_filesz, p_align}
 use Rattle.elf_model.specs.Rows.{symbol_row, relocation_row, walk_rows, dynamic_row}
+use Rattle.elf_model.specs.Suffixes.{first_numbers, suffixed_relocation_rows, suffixed_symbol_rows}
 use Rattle.elf_model.specs.Tables.{SYMBOL_SIZE, RELA_SIZE, DYNAMIC_SIZE, nothing_linked, symbol_table, relocation_table, dynamic_table, dynamic_segment, strings_of, entry_count}
+use Rattle.elf_model.specs.VersionCost.{walks_cost}
 use Rattle.elf_model.specs.VersionRows.{version_kinds}
+use Rattle.elf_model.specs.Versions.{VERSYM_SIZE}
 use Rattle.elf_model.specs.declared.causes.Refusal.{Refusal}
 
 -- symbols (gABI 4, Symbol Table): each with its name
@@ -89,9 +92,49 @@ section_notes = notes_of (λ bytes at. sh_type bytes at == SHT_NOTE) sh_offset s
 unfoldable pub segment_notes : TableKind
 segment_notes = notes_of (λ bytes at. p_type bytes at == PT_NOTE) p_offset p_filesz p_align
 
--- the kinds of tables that section headers describe, and those that program headers do, in their order
-abbrev pub section_kinds : List TableKind
-section_kinds = symbols ∷ relocations ∷ section_notes ∷ section_dynamic ∷ version_kinds
+-- what the versions of so many names of symbols cost, of the table of an index: a word and a name each, and what finds the
+-- names; nothing where the table has no section of version numbers
+unfoldable pub suffixes_cost : HeaderTable → (table names file_size cap : ℕ) → ℕ
+suffixes_cost headers table names file_size cap = elim (first_numbers headers table) [
+  | None ↦ 0
+  | Some i ↦ names * (VERSYM_SIZE + name_bytes cap) + walks_cost headers file_size
+]
+
+-- symbols with their versions
+unfoldable pub suffixed_symbols : TableKind
+suffixed_symbols = record {
+  part = SYMBOLS;
+  has_table = is_symbol_table;
+  checks = symbol_table;
+  asks = λ headers i file_size cap.
+      symbols.asks headers i file_size cap
+      + suffixes_cost headers i (header_field headers sh_size i / SYMBOL_SIZE) file_size cap;
+  rows = suffixed_symbol_rows;
+}
+
+-- relocation entries with those of their symbols
+unfoldable pub suffixed_relocations : TableKind
+suffixed_relocations = record {
+  part = RELOCS;
+  has_table = λ bytes at. sh_type bytes at == SHT_RELA;
+  checks = relocation_table;
+  asks = λ headers i file_size cap.
+      relocations.asks headers i file_size cap
+      + suffixes_cost headers (header_field headers sh_link i) (header_field headers sh_size i / RELA_SIZE) file_size cap;
+  rows = suffixed_relocation_rows;
+}
+
+-- symbols, and relocation entries, with or without versions behind the names of symbols
+abbrev pub symbols_kind : Bool → TableKind
+symbols_kind versions = elim versions [ true ↦ suffixed_symbols | false ↦ symbols ]
+
+abbrev pub relocations_kind : Bool → TableKind
+relocations_kind versions = elim versions [ true ↦ suffixed_relocations | false ↦ relocations ]
+
+-- the kinds of tables that section headers describe, with or without versions behind the names of symbols, and those that
+-- program headers do, in their order
+abbrev pub section_kinds : (versions : Bool) → List TableKind
+section_kinds versions = symbols_kind versions ∷ relocations_kind versions ∷ section_notes ∷ section_dynamic ∷ version_kinds
 
 abbrev pub segment_kinds : List TableKind
 segment_kinds = segment_notes ∷ segment_dynamic ∷ []
@@ -101,12 +144,12 @@ pub record TableHeaders : Type 0 where
   pub headers : HeaderTable
   pub kinds : List TableKind
 
-abbrev pub by_sections : List ℕ → TableHeaders
-by_sections file = record { headers = file_sections file; kinds = section_kinds }
+abbrev pub by_sections : (versions : Bool) → List ℕ → TableHeaders
+by_sections versions file = record { headers = file_sections file; kinds = section_kinds versions }
 
 abbrev pub by_segments : List ℕ → TableHeaders
 by_segments file = record { headers = file_segments file; kinds = segment_kinds }
 
 -- the section headers, or where a file has none the program headers
-unfoldable pub table_headers : List ℕ → TableHeaders
-table_headers file = elim (e_shnum file == 0) [ true ↦ by_segments file | false ↦ by_sections file ]
+unfoldable pub table_headers : (versions : Bool) → List ℕ → TableHeaders
+table_headers versions file = elim (e_shnum file == 0) [ true ↦ by_segments file | false ↦ by_sections versions file ]

@@ -23,6 +23,7 @@ mod record_laws;
 mod relocation_types;
 mod states;
 mod style_laws;
+mod suffix_laws;
 mod sysv_walk_laws;
 mod traits;
 mod value_laws;

@@ -1,6 +1,7 @@
 //! The checks of a loaded file's sections.
-ghost use Rattle.std.specs.Prelude.{◌≡◌, ℕ, ◌<◌, ◌≤◌, ◌^◌, ◌==◌, ◌||◌, not, List, true, None, Ok, IfOk, IfErr, IfSome, IsTrue, MatchResult};
+ghost use Rattle.std.specs.Prelude.{◌≡◌, ℕ, ◌<◌, ◌≤◌, ◌^◌, ◌==◌, ◌&&◌, ◌||◌, not, List, true, None, Ok, IfOk, IfErr, IfSome, IsTrue, MatchResult};
 ghost use Rattle.elf_model.specs.Records.{section_at};
+ghost use Rattle.elf_model.specs.Numbers.{SHT_GNU_VERSYM as VERSYM};
 ghost use Rattle.elf_record.specs.Shdr.{IsShdr};
 ghost use Rattle.elf_headers.specs.Load.{Belongs, Passes, section_place};
 ghost use Rattle.elf_headers.specs.Faults.{IsOfCheck};
@@ -11,6 +12,7 @@ ghost use Rattle.elf_table.specs.Relocations.{Links, Relocates};
 ghost use Rattle.elf_table.specs.Versions.{CountsVersions, LinksToSymbols, Versioned, has_names, sections_in};
 ghost use Rattle.elf_model.specs.HeaderTables.{file_sections, first_typed};
 ghost use Rattle.elf_model.specs.Records.{sh_link};
+ghost use Rattle.elf_model.specs.Suffixes.{first_numbers};
 ghost use Rattle.elf_model.specs.Tables.{has_symbols};
 ghost use Rattle.elf_model.specs.VersionCost.{has_strings};
 ghost use Rattle.elf_headers.specs.Store.{row};
@@ -21,6 +23,7 @@ use crate::file::File;
 use crate::names::Names;
 use crate::table::Table;
 use elf_headers::{Fault, ends_outside, refused};
+use elf_record::gnu_numbers::SHT_GNU_VERSYM;
 use elf_record::sizes::{
     PROGRAM_HEADER_BYTES, RELOCATION_BYTES, SECTION_HEADER_BYTES, SYMBOL_BYTES,
     SYMBOL_VERSION_BYTES,
@@ -233,6 +236,22 @@ impl File<'_> {
         None
     }
 
+    /// The first section of version numbers that links to a section, if there is one (Linux Standard
+    /// Base Core, Symbol Versioning).
+    pub fn numbers_of(&self, symbols: u32) -> Option<u16>
+        ensures below { IfSome result (λ section. section < self.now.store.now.loaded) }
+        ensures value { result ≡ first_numbers (sections_in self.now) symbols }
+        ensures held { (file : List ℕ) → Belongs file self.now.loaded self.now.store.now →
+            result ≡ first_numbers (file_sections file) symbols }
+    {
+        for section in 0..self.sections() {
+            if numbers(&self.section(section), symbols) {
+                return Some(section);
+            }
+        }
+        None
+    }
+
     /// The versions of symbols of a section, rows of 2 bytes, and how many symbols there are in the
     /// table that it links to; none of an empty section, with no check. The section's type is not
     /// looked at. No bytes are read (Linux Standard Base Core, Symbol Versioning).
@@ -284,4 +303,11 @@ impl File<'_> {
     {
         self.loaded.header().e_shoff + SECTION_HEADER_BYTES * u64::from(section)
     }
+}
+
+/// Whether a section header is that of version numbers that link to a section.
+fn numbers(header: &Shdr, symbols: u32) -> bool
+    ensures { result ≡ (header.now.sh_type == VERSYM && header.now.sh_link == symbols) }
+{
+    header.sh_type == SHT_GNU_VERSYM && header.sh_link == symbols
 }

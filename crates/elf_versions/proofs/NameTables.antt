@@ -1,12 +1,12 @@
 -- The names of numbers, with a record more.
-use Rattle.std.proofs.Common.{◌≡◌, ◌≢◌, ℕ, ◌<◌, ◌≤◌, ◌==◌, ◌&&◌, Bool, true, false, List, [], ◌∷◌, ◌++◌, length, replicate, inl, inr, Option, None, Some, refl, sym, subst, ◌∙◌, arith}
+use Rattle.std.proofs.Common.{◌≡◌, ◌≢◌, ℕ, ◌<◌, ◌≤◌, ◌==◌, ◌&&◌, Bool, true, false, List, [], ◌∷◌, ◌++◌, length, replicate, inl, inr, Option, None, Some, refl, sym, ap, slice_index_or, subst, ◌∙◌, arith}
 use Rattle.std.proofs.lemmas.Bool.{cases_Bool, cases_eq, cases_lt}
 use Rattle.std.proofs.lemmas.Bool.Decides.{nat_tests}
-use Rattle.std.proofs.lemmas.List.{get_or-replicate, get_or-set_other, get_or-set_same, get_or_past, length-replicate}
+use Rattle.std.proofs.lemmas.List.{get_or-replicate, get_or-set_other, get_or-set_same, get_or_past, length-replicate, length-set}
 use Rattle.std.proofs.Math.ListN.{set}
-use Rattle.elf_model.specs.Versions.{Met, named_by, names_number, names_version, number_in, number_word}
+use Rattle.elf_model.specs.Versions.{Met, named_at, named_by, names_number, names_version, number_in, number_word}
 use Rattle.elf_model.proofs.VersionLaws.{first_list_names_first, named-here, named-later, named-none}
-use Rattle.elf_versions.specs.NumberNames.{GivesName, IsNameOfRecord, NamesNumbers, name_at}
+use Rattle.elf_versions.specs.NumberNames.{GivesName, NameFits, IsNameOfRecord, IsPlaceOfRecord, NamesNumbers, name_at}
 use Rattle.elf_versions.specs.declared.number_names.NameAt.{NameAt}
 use Rattle.elf_versions.specs.declared.number_names.NameAt.TheVariants.{Nowhere, Defined, Needed}
 
@@ -81,11 +81,12 @@ gives-here file number records met name false is own none gives =
     rw (unnamed, gives) tt
 
 -- a record that is taken in where its number has no name
-pub take-new :
+new-names :
     (file : List ℕ) (records : List Met) (met : Met) (names : List NameAt) (own : ℕ) (name : NameAt) → own < length names
     → number_in (number_word file met) ≡ own → name_at names own ≡ Nowhere → GivesName file met (names_version file met) name
-    → NamesNumbers file records names → NamesNumbers file (records ++ met ∷ []) (set names own name)
-take-new file records met names own name inside is nowhere gives before number =
+    → ((number : ℕ) → IsNameOfRecord file (named_by file number records) (name_at names number))
+    → (number : ℕ) → IsNameOfRecord file (named_by file number (records ++ met ∷ [])) (name_at (set names own name) number)
+new-names file records met names own name inside is nowhere gives before number =
     elim (cases_eq own number) [
       | inl same ↦
           let none : named_by file own records ≡ None = nowhere-none file (named_by file own records) (name_at names own) (before own) nowhere in
@@ -98,21 +99,63 @@ take-new file records met names own name inside is nowhere gives before number =
           rw (kept, unnamed) (before number)
     ]
 
--- and one where it has
-pub take-old :
-    (file : List ℕ) (records : List Met) (met : Met) (names : List NameAt) (own : ℕ)
-    → number_in (number_word file met) ≡ own → (name_at names own ≡ Nowhere → ⊥)
-    → NamesNumbers file records names → NamesNumbers file (records ++ met ∷ []) names
-take-old file records met names own is somewhere before number =
+-- a place that is kept of it
+place-here :
+    (file : List ℕ) (number : ℕ) (records : List Met) (met : Met) (version : Bool) → names_version file met ≡ version
+    → number_in (number_word file met) ≡ number → named_by file number records ≡ None
+    → IsPlaceOfRecord file (named_by file number (records ++ met ∷ [])) (named_at file met)
+place-here file number records met true is own none =
+    rw (now-named file number records met none (own-number (names_version file met) _ number own ∙ is)) refl
+place-here file number records met false is own none =
+    rw (not-named file number records met (own-number (names_version file met) _ number own ∙ is) ∙ none) tt
+
+new-places :
+    (file : List ℕ) (records : List Met) (met : Met) (places : List ℕ) (own place : ℕ)
+    → number_in (number_word file met) ≡ own → named_by file own records ≡ None → place ≡ named_at file met
+    → ((number : ℕ) → number < length places → IsPlaceOfRecord file (named_by file number records) (slice_index_or places number 0))
+    → (number : ℕ) → number < length (set places own place) → IsPlaceOfRecord file (named_by file number (records ++ met ∷ [])) (slice_index_or (set places own place) number 0)
+new-places file records met places own place is none here before number few =
+    let inside : number < length places = rw (length-set places own place) at few in
     elim (cases_eq own number) [
       | inl same ↦
-          let first = somewhere-some file (named_by file own records) (name_at names own) (before own) somewhere in
-          let still = still-named file own records met first.0 first.1 in
-          rw (← same) (rw still (before own))
+          let low : own < length places = rw (← same) at inside in
+          let stands : slice_index_or (set places own place) own 0 ≡ place = get_or-set_same places own place 0 low in
+          rw (← same) (rw (stands, here) (place-here file own records met (names_version file met) refl is none))
       | inr other ↦
+          let kept : slice_index_or (set places own place) number 0 ≡ slice_index_or places number 0 = get_or-set_other places own number place 0 (λ e. other (sym e)) in
           let unnamed = not-named file number records met (other-number (names_version file met) (number_in (number_word file met)) number (λ e. other (sym is ∙ e))) in
-          rw unnamed (before number)
+          rw (kept, unnamed) (before number inside)
     ]
+
+pub take-new :
+    (file : List ℕ) (records : List Met) (met : Met) (names : List NameAt) (places : List ℕ) (own place : ℕ) (name : NameAt) → own < length names
+    → number_in (number_word file met) ≡ own → name_at names own ≡ Nowhere → GivesName file met (names_version file met) name → place ≡ named_at file met
+    → NamesNumbers file records names places → NamesNumbers file (records ++ met ∷ []) (set names own name) (set places own place)
+take-new file records met names places own place name inside is nowhere gives here before =
+    let none : named_by file own records ≡ None = nowhere-none file (named_by file own records) (name_at names own) (before.named own) nowhere in
+    record {
+      named = new-names file records met names own name inside is nowhere gives before.named;
+      placed = new-places file records met places own place is none here before.placed;
+    }
+
+-- and one where it has
+pub take-old :
+    (file : List ℕ) (records : List Met) (met : Met) (names : List NameAt) (places : List ℕ) (own : ℕ)
+    → number_in (number_word file met) ≡ own → (name_at names own ≡ Nowhere → ⊥)
+    → NamesNumbers file records names places → NamesNumbers file (records ++ met ∷ []) names places
+take-old file records met names places own is somewhere before = record {
+  named = λ number. rw (still number) (before.named number);
+  placed = λ number few. rw (still number) (before.placed number few);
+}
+  where
+    still : (number : ℕ) → named_by file number (records ++ met ∷ []) ≡ named_by file number records
+    still number =
+        elim (cases_eq own number) [
+          | inl same ↦
+              let first = somewhere-some file (named_by file own records) (name_at names own) (before.named own) somewhere in
+              ap (λ n. named_by file n (records ++ met ∷ [])) (sym same) ∙ still-named file own records met first.0 first.1 ∙ ap (λ n. named_by file n records) same
+          | inr other ↦ not-named file number records met (other-number (names_version file met) (number_in (number_word file met)) number (λ e. other (sym is ∙ e)))
+        ]
 
 -- no number has a name where there is no record
 pub none-names : (file : List ℕ) (count number : ℕ) → IsNameOfRecord file (named_by file number []) (name_at (replicate count Nowhere) number)
@@ -124,6 +167,12 @@ none-names file count number =
           let here : name_at (replicate count Nowhere) number ≡ Nowhere = get_or_past (replicate count Nowhere) number Nowhere (omega (arith, length-replicate count Nowhere)) in
           rw (none, here) tt
     ]
+
+-- a name of a number that is low enough
+pub name-fits : (number : ℕ) (name : NameAt) → number < 1024 → NameFits number name
+name-fits number Nowhere low = tt
+name-fits number (Defined index) low = low
+name-fits number (Needed index) low = low
 
 -- a number behind the last has no name
 pub behind-last :

@@ -29,17 +29,17 @@ abbrev pub behind_all : List Met → Versions → Versions
 behind_all records left = record { met = records ++ left.met; cut = left.cut }
 
 -- before the first step none was met
-pub met-none : (file : List ℕ) (records : List Met) (all : Versions) (names : List NameAt) → NamesNumbers file records names
-    → (seen : List Met) × (all ≡ behind_all seen all) × NamesNumbers file (records ++ seen) names
-met-none file records all names is = ([], refl, subst (λ (met : List Met). NamesNumbers file met names) (sym (append-nil records)) is)
+pub met-none : (file : List ℕ) (records : List Met) (all : Versions) (names : List NameAt) (places : List ℕ) → NamesNumbers file records names places
+    → (seen : List Met) × (all ≡ behind_all seen all) × NamesNumbers file (records ++ seen) names places
+met-none file records all names places is = ([], refl, subst (λ (met : List Met). NamesNumbers file met names places) (sym (append-nil records)) is)
 
 -- a step that is refused refuses all
 pub stops-all :
-    (file : List ℕ) (records seen : List Met) (all left new : Versions) (names : List NameAt) (fault : Fault) → all ≡ behind_all seen left
-    → TellsVersion file left new (Err fault) → ReadsNumberNames file records all names (Err fault)
-stops-all file records seen all left new names (Refused refusal) before tells =
+    (file : List ℕ) (records seen : List Met) (all left new : Versions) (names : List NameAt) (places : List ℕ) (fault : Fault) → all ≡ behind_all seen left
+    → TellsVersion file left new (Err fault) → ReadsNumberNames file records all names places (Err fault)
+stops-all file records seen all left new names places (Refused refusal) before tells =
     λ other. ap (λ (v : Versions). v.cut) (before ∙ ap (behind_all seen) (tells other))
-stops-all file records seen all left new names (Source fault at) before tells = tt
+stops-all file records seen all left new names places (Source fault at) before tells = tt
 
 -- one record more behind those that were met
 pub behind-more :
@@ -51,20 +51,20 @@ behind-more seen met all left new before first =
 
 -- and their names
 pub names-more :
-    (file : List ℕ) (records seen : List Met) (met : Met) (names : List NameAt) → NamesNumbers file ((records ++ seen) ++ met ∷ []) names
-    → NamesNumbers file (records ++ (seen ++ met ∷ [])) names
-names-more file records seen met names is = subst (λ (all : List Met). NamesNumbers file all names) (append_assoc records seen (met ∷ [])) is
+    (file : List ℕ) (records seen : List Met) (met : Met) (names : List NameAt) (places : List ℕ) → NamesNumbers file ((records ++ seen) ++ met ∷ []) names places
+    → NamesNumbers file (records ++ (seen ++ met ∷ [])) names places
+names-more file records seen met names places is = subst (λ (all : List Met). NamesNumbers file all names places) (append_assoc records seen (met ∷ [])) is
 
 -- at the end all were met
 pub end-cut : (seen : List Met) (all left : Versions) → all ≡ behind_all seen left → left ≡ no_versions None → all.cut ≡ None
 end-cut seen all left before none = ap (λ (v : Versions). v.cut) (before ∙ ap (behind_all seen) none)
 
 pub end-names :
-    (file : List ℕ) (records seen : List Met) (all left : Versions) (names : List NameAt) → all ≡ behind_all seen left
-    → left ≡ no_versions None → NamesNumbers file (records ++ seen) names → NamesNumbers file (records ++ all.met) names
-end-names file records seen all left names before none is =
+    (file : List ℕ) (records seen : List Met) (all left : Versions) (names : List NameAt) (places : List ℕ) → all ≡ behind_all seen left
+    → left ≡ no_versions None → NamesNumbers file (records ++ seen) names places → NamesNumbers file (records ++ all.met) names places
+end-names file records seen all left names places before none is =
     let met : all.met ≡ seen = ap (λ (v : Versions). v.met) (before ∙ ap (behind_all seen) none) ∙ append-nil seen in
-    subst (λ (m : List Met). NamesNumbers file (records ++ m) names) (sym met) is
+    subst (λ (m : List Met). NamesNumbers file (records ++ m) names places) (sym met) is
 
 -- a cursor that had not failed read as it says
 pub going-did :

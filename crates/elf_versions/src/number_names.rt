@@ -1,9 +1,9 @@
 //! The names of the numbers of versions.
-ghost use Rattle.std.specs.Prelude.{◌≡◌, ℕ, ◌<◌, List, [], ◌∷◌, ◌++◌, None};
+ghost use Rattle.std.specs.Prelude.{◌≡◌, ℕ, ◌<◌, List, [], ◌∷◌, ◌++◌, None, length, slice_set};
 ghost use Rattle.elf_headers.specs.Ledger.{Did, why_stopped};
 ghost use Rattle.elf_table.specs.Tables.{RowsWithin};
 ghost use Rattle.elf_model.specs.Versions.{Met, VERSION_NUMBERS, named_by, names_version, number_in};
-ghost use Rattle.elf_versions.specs.NumberNames.{GivesName, IsNameOfRecord, NamesNumbers, ReadsNumberNames, name_at};
+ghost use Rattle.elf_versions.specs.NumberNames.{GivesName, IsNameOfRecord, NameFits, NamesNumbers, ReadsNumberNames, name_at};
 ghost use Rattle.elf_versions.specs.Reading.{IsCursorOf, IsVersion, unread, versions_left};
 
 use crate::cursor::VersionCursor;
@@ -18,6 +18,9 @@ const NUMBERS: usize = 1024;
 
 /// The size in bytes of the fixed storage of [`NumberNames`].
 pub const NUMBER_NAMES_BYTES: usize = 8 * NUMBERS;
+
+/// How many places there are where those of all numbers are kept.
+pub const ALL_PLACES: usize = NUMBERS;
 
 /// Where the name of a number is.
 #[derive(Clone, Copy, PartialEq, Eq)]
@@ -52,7 +55,7 @@ impl Model for NumberNames {
 impl NumberNames {
     /// No number has a name.
     pub fn new() -> NumberNames
-        ensures { (file : List ℕ) → NamesNumbers file [] result }
+        ensures { (file : List ℕ) (places : List ℕ) → NamesNumbers file [] result places }
     {
         NumberNames {
             names: [NameAt::Nowhere; NUMBERS],
@@ -62,7 +65,9 @@ impl NumberNames {
     /// Where the name of a number is.
     pub fn name(&self, number: u16) -> NameAt
         ensures is { result ≡ name_at self.now number }
-        ensures named { (file : List ℕ) (records : List Met) → NamesNumbers file records self.now →
+        ensures fits { NameFits number result }
+        ensures named { (file : List ℕ) (records : List Met) (places : List ℕ) →
+            NamesNumbers file records self.now places →
             IsNameOfRecord file (named_by file number records) result }
     {
         if usize::from(number) < NUMBERS {
@@ -73,20 +78,24 @@ impl NumberNames {
     }
 
     /// Takes in a record whose number is below 1,024, behind others: it names its number where none
-    /// of them does.
-    pub fn take(&mut self, given: &VersionRecord)
+    /// of them does. Of the first numbers, as many as there are `places`, it keeps where the file
+    /// tells of the name: the offset of what holds its index.
+    pub fn take(&mut self, given: &VersionRecord, places: &mut [u64])
         requires { number_in given.now.number < VERSION_NUMBERS }
-        ensures { (file : List ℕ) (records : List Met) (met : Met) → IsVersion file met given.now →
-            NamesNumbers file records self.old → NamesNumbers file (records ++ met ∷ []) self.new }
+        ensures names { (file : List ℕ) (records : List Met) (met : Met) →
+            IsVersion file met given.now → NamesNumbers file records self.old places.old →
+            NamesNumbers file (records ++ met ∷ []) self.new places.new }
+        ensures count { length places.new ≡ length places.old }
     {
         let number = usize::from(given.number % (1 << 15));
         if self.names[number] == NameAt::Nowhere {
             self.names[number] = names(given);
+            put_place(places, number, given.named_at);
         }
     }
 
-    /// Takes in all records that a cursor still gives, behind others. What it asks for the cursor may
-    /// no longer ask for.
+    /// Takes in all records that a cursor still gives, behind others, as [`NumberNames::take`] does.
+    /// What it asks for the cursor may no longer ask for.
     ///
     /// # Errors
     /// As for [`VersionCursor::advance`]. Then some of the records were taken in.
@@ -94,18 +103,29 @@ impl NumberNames {
         &mut self,
         src: &mut Counted<S>,
         cursor: &mut VersionCursor,
+        places: &mut [u64],
     ) -> Result<(), Fault>
         requires going { cursor.old.failed ≡ None }
         requires within { RowsWithin src.old.seen.size cursor.old.held.table }
-        ensures { Did src.old src.new (why_stopped result) (unread cursor.old)
+        ensures count { length places.new ≡ length places.old }
+        ensures did { Did src.old src.new (why_stopped result) (unread cursor.old)
             (λ file. IsCursorOf file cursor.old → (records : List Met) →
-            NamesNumbers file records self.old →
-            ReadsNumberNames file records (versions_left file cursor.old) self.new result) }
+            NamesNumbers file records self.old places.old → let left = versions_left file cursor.old in
+            ReadsNumberNames file records left self.new places.new result) }
     {
         'records: while let Some(given) = cursor.advance(src)? {
-            self.take(&given);
+            self.take(&given, places);
         }
         Ok(())
+    }
+}
+
+// Keeps the place of a number, where there is one for it.
+fn put_place(places: &mut [u64], number: usize, at: u64)
+    ensures { places.new ≡ slice_set places.old number at }
+{
+    if number < places.len() {
+        places[number] = at;
     }
 }
 

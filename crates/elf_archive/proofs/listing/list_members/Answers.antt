@@ -44,7 +44,7 @@ members-preserved-then-any g c =
       slots = c.in_ok-refused.ensures.slots ∙ known.slots;
       grows = grows_then known.grows c.in_ok-refused.ensures.grows;
       bytes = known.bytes + step.bytes;
-      within = step_within c.args.src.now.seen.size c.members.src.seen.size c.args.store.now.slots c.members.store.slots c.args.choice.style.cap.bytes known.bytes step.bytes _ c.members.cursor c.list_next.new.cursor
+      within = step_within c.args.src.now.seen.size c.members.src.seen.size c.args.store.now.slots c.members.store.slots (style_of c.args.choice.style) known.bytes step.bytes _ c.members.cursor c.list_next.new.cursor
           known.reads.keeps.same_size known.slots known.within step.within;
       reads = Reads-then known.reads step.takes.0;
       walks = λ file held.
@@ -66,7 +66,7 @@ members-preserved g c =
       slots = c.in_ok-refused.ensures.slots ∙ known.slots;
       grows = grows_then known.grows c.in_ok-refused.ensures.grows;
       bytes = known.bytes + step.bytes;
-      within = step_within c.args.src.now.seen.size c.members.src.seen.size c.args.store.now.slots c.members.store.slots c.args.choice.style.cap.bytes known.bytes step.bytes _ c.members.cursor c.list_next.new.cursor
+      within = step_within c.args.src.now.seen.size c.members.src.seen.size c.args.store.now.slots c.members.store.slots (style_of c.args.choice.style) known.bytes step.bytes _ c.members.cursor c.list_next.new.cursor
           known.reads.keeps.same_size known.slots known.within step.within;
       reads = Reads-then known.reads step.takes.0;
       walks = λ file held.
@@ -102,7 +102,7 @@ returns-in_err-refused-clause-allowed g c =
     let p = err_from_is_err_and c.from_residual.result c.from_residual.ensures.1 in
     let known = c.members.invariant in
     let step = c.in_err-refused.ensures.within in
-    let within = step_ends c.args.src.now.seen.size c.members.src.seen.size c.args.store.now.slots c.members.store.slots c.args.choice.style.cap.bytes known.bytes step.bytes _ c.members.cursor known.reads.keeps.same_size known.slots known.within step.within in
+    let within = step_ends c.args.src.now.seen.size c.members.src.seen.size c.args.store.now.slots c.members.store.slots (style_of c.args.choice.style) known.bytes step.bytes _ c.members.cursor known.reads.keeps.same_size known.slots known.within step.within in
     rw (p.1, p.2) (Consumes-then {X = Unit {0}} _ _ _ c.list_next.new.out (Err c.in_err-refused.field-0.0) known.bytes step.bytes _ within known.reads step.takes)
 
 pub returns-clause-allowed : goal.returns-clause-allowed
@@ -110,7 +110,7 @@ returns-clause-allowed g c =
     let known = c.members.invariant in
     let none : c.in_ok-refused.field-0 ≡ None = search rules in
     let step = rw none at c.in_ok-refused.ensures.within in
-    let within = step_ends c.args.src.now.seen.size c.members.src.seen.size c.args.store.now.slots c.members.store.slots c.args.choice.style.cap.bytes known.bytes step.bytes _ c.members.cursor known.reads.keeps.same_size known.slots known.within step.within in
+    let within = step_ends c.args.src.now.seen.size c.members.src.seen.size c.args.store.now.slots c.members.store.slots (style_of c.args.choice.style) known.bytes step.bytes _ c.members.cursor known.reads.keeps.same_size known.slots known.within step.within in
     Consumes-then {X = Unit {0}} _ _ _ c.list_next.new.out (Ok tt) known.bytes step.bytes _ within known.reads (step.takes.0, tt)
 
 pub members-smaller-then-any : goal.members-smaller-then-any

@@ -3,7 +3,7 @@ use Rattle.std.proofs.Common.{rules, ◌≡◌, ◌+◌, [], ◌∷◌, Ok, Err,
 use Rattle.std.proofs.lemmas.Result.{err_from_is_err_and}
 use Rattle.elf_model.specs.Archive.{Member, member_line, member_listing, told}
 use Rattle.elf_model.specs.ArchiveCost.{header_cost, member_cost}
-use Rattle.elf_model.specs.Cost.{ceiling}
+use Rattle.elf_model.specs.Cost.{style_ceiling}
 use Rattle.elf_model.specs.Listing.{Line}
 use Rattle.elf_source.proofs.GrowthLaws.{grows_front, grows_not, grows_then}
 use Rattle.elf_source.proofs.PutsLaws.{Takes-nothing}
@@ -36,7 +36,7 @@ returns-in_err-member-clause-stands g c =
 pub returns-in_err-member-clause-within : goal.returns-in_err-member-clause-within
 returns-in_err-member-clause-within g c =
     let p = err_from_is_err_and c.from_residual.result c.from_residual.ensures.1 in
-    let most = step_allowed c.args.src.now.seen.size c.args.store.now.slots c.args.choice.style.cap.bytes c.args.cursor.now in
+    let most = step_allowed c.args.src.now.seen.size c.args.store.now.slots (style_of c.args.choice.style) c.args.cursor.now in
     rw (p.1, p.2) (record {
       bytes = step_cost c.args.src.now.seen.size c.args.choice.style.cap.bytes c.args.cursor.now;
       within = omega (arith, most);
@@ -68,7 +68,7 @@ returns-in_err-show_member-clause-stands g c =
 pub returns-in_err-show_member-clause-within : goal.returns-in_err-show_member-clause-within
 returns-in_err-show_member-clause-within g c =
     let p = err_from_is_err_and c.from_residual-in_err-show_member.result c.from_residual-in_err-show_member.ensures.1 in
-    let most = step_allowed c.args.src.now.seen.size c.args.store.now.slots c.args.choice.style.cap.bytes c.args.cursor.now in
+    let most = step_allowed c.args.src.now.seen.size c.args.store.now.slots (style_of c.args.choice.style) c.args.cursor.now in
     rw (p.1, p.2) (record {
       bytes = step_cost c.args.src.now.seen.size c.args.choice.style.cap.bytes c.args.cursor.now;
       within = omega (arith, most);
@@ -98,7 +98,7 @@ returns-in_default-clause-stands g c = tt
 
 pub returns-in_default-clause-within : goal.returns-in_default-clause-within
 returns-in_default-clause-within g c =
-    let most = step_allowed c.args.src.now.seen.size c.args.store.now.slots c.args.choice.style.cap.bytes c.args.cursor.now in
+    let most = step_allowed c.args.src.now.seen.size c.args.store.now.slots (style_of c.args.choice.style) c.args.cursor.now in
     record {
       bytes = step_cost c.args.src.now.seen.size c.args.choice.style.cap.bytes c.args.cursor.now;
       within = omega (arith, most);
@@ -157,14 +157,14 @@ returns-in_err-refused-clause-within g c =
     let p = err_from_is_err_and c.from_residual-in_err-refused.result c.from_residual-in_err-refused.ensures.1 in
     let size = c.args.src.now.seen.size in
     let headers = c.args.store.now.slots in
-    let cap = c.args.choice.style.cap.bytes in
+    let style = style_of c.args.choice.style in
     let passes = rw c.in-Some.is at c.in_ok-member.ensures.steps in
-    let most = member_allowed size headers cap c.in-Some.member.extent.size c.args.cursor.now c.advance.new.self
+    let most = member_allowed size headers style c.in-Some.member.extent.size c.args.cursor.now c.advance.new.self
     (omega (arith, passes.begins, passes.lies)) (omega (arith, passes.begins, passes.ends)) in
     rw (p.1, p.2) (record {
-      bytes = step_cost size cap c.args.cursor.now + (4 + ceiling c.in-Some.member.extent.size headers cap);
+      bytes = step_cost size style.cap c.args.cursor.now + (4 + style_ceiling c.in-Some.member.extent.size headers style);
       within = omega (arith, most);
-      takes = Consumes-then {X = Unit {0}} _ _ _ c.list_member.new.out (Err c.in_err-refused.field-0.0) (step_cost size cap c.args.cursor.now) (4 + ceiling c.in-Some.member.extent.size headers cap) _ (omega arith)
+      takes = Consumes-then {X = Unit {0}} _ _ _ c.list_member.new.out (Err c.in_err-refused.field-0.0) (step_cost size style.cap c.args.cursor.now) (4 + style_ceiling c.in-Some.member.extent.size headers style) _ (omega arith)
           c.in_ok-member.ensures.asks.0 c.in_err-refused.ensures.ceiling;
     })
 
@@ -208,14 +208,14 @@ pub returns-clause-within : goal.returns-clause-within
 returns-clause-within g c =
     let size = c.args.src.now.seen.size in
     let headers = c.args.store.now.slots in
-    let cap = c.args.choice.style.cap.bytes in
+    let style = style_of c.args.choice.style in
     let passes = rw c.in-Some.is at c.in_ok-member.ensures.steps in
-    let most = member_allowed size headers cap c.in-Some.member.extent.size c.args.cursor.now c.advance.new.self
+    let most = member_allowed size headers style c.in-Some.member.extent.size c.args.cursor.now c.advance.new.self
     (omega (arith, passes.begins, passes.lies)) (omega (arith, passes.begins, passes.ends)) in
     record {
-      bytes = step_cost size cap c.args.cursor.now + (4 + ceiling c.in-Some.member.extent.size headers cap);
+      bytes = step_cost size style.cap c.args.cursor.now + (4 + style_ceiling c.in-Some.member.extent.size headers style);
       within = omega (arith, most);
-      takes = Consumes-then {X = Unit {0}} _ _ _ c.list_member.new.out (Ok tt) (step_cost size cap c.args.cursor.now) (4 + ceiling c.in-Some.member.extent.size headers cap) _ (omega arith)
+      takes = Consumes-then {X = Unit {0}} _ _ _ c.list_member.new.out (Ok tt) (step_cost size style.cap c.args.cursor.now) (4 + style_ceiling c.in-Some.member.extent.size headers style) _ (omega arith)
           c.in_ok-member.ensures.asks.0 (c.in_ok-refused.ensures.ceiling.0, tt);
     }
 

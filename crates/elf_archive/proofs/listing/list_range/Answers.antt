@@ -1,8 +1,9 @@
 -- A member's listing is that of a file of its own.
 use Rattle.std.proofs.Common.{ap, arith}
 use Rattle.elf_model.specs.Archive.{bytes_in}
-use Rattle.elf_model.specs.Cost.{ceiling}
+use Rattle.elf_model.specs.Cost.{style_ceiling}
 use Rattle.elf_source.proofs.GrowthLaws.{grows_then}
+use Rattle.elf_headers.specs.Permitted.{style_of}
 use Rattle.elf_archive.specs.Members.{extent_of}
 use Rattle.elf_archive.proofs.ConsumeLaws.{Consumes-to}
 use Rattle.elf_archive.proofs.NarrowLaws.{part_consumes, part_file}
@@ -14,7 +15,7 @@ returns-clause-grows g c = grows_then c.list-listed.ensures.grows c.tell_end.ens
 
 pub returns-clause-ceiling : goal.returns-clause-ceiling
 returns-clause-ceiling g c =
-    let same = ap (λ size. ceiling size c.args.store.now.slots c.args.choice.style.cap.bytes) c.narrow.ensures.size_is in
+    let same = ap (λ size. style_ceiling size c.args.store.now.slots (style_of c.args.choice.style)) c.narrow.ensures.size_is in
     Consumes-to _ _ _ _ _ _ (omega (arith, same))
     (part_consumes _ _ _ _ _ _ _ _ _ _ _ _ c.requires.whole c.requires.lies c.narrow.ensures c.list-listed.ensures.ceiling c.widen.ensures c.tell_end.ensures.tells)
 

@@ -3,6 +3,7 @@ use Rattle.std.proofs.Common.{rules, ◌≡◌, ℕ, ap, sym, ◌∙◌, Err}
 use Rattle.elf_model.specs.ArchiveCost.{archive_ceiling}
 use Rattle.elf_source.specs.Source.{Seen}
 use Rattle.elf_source.proofs.GrowthLaws.{grows_then}
+use Rattle.elf_headers.specs.Permitted.{style_of}
 use Rattle.elf_archive.proofs.ReportLaws.{asks_in_archive, stopped_archive, told_late, told_says, whole_archive}
 use Rattle.elf_archive.proofs.listing.show_archive.Goals as goal
 
@@ -31,7 +32,7 @@ pub returns-in-Err-clause-asks : goal.returns-in-Err-clause-asks
 returns-in-Err-clause-asks g c =
     let end : c.list_archive-listed.result ≡ Err c.in-Err.stop = search rules in
     let says = rw end at c.list_archive-listed.ensures.ceiling.1 in
-    let n : ℕ = archive_ceiling c.limit.new.self.seen.size c.args.store.now.slots c.args.caps.style.cap.bytes in
+    let n : ℕ = archive_ceiling c.limit.new.self.seen.size c.args.store.now.slots (style_of c.args.caps.style) in
     asks_in_archive c.args.caps c.args.src.now c.limit.new.self c.list_archive-listed.new.src c.limit-2.new.self n _ c.requires.small.1 c.limit.ensures
     (rw (c.requires.small.0) at c.list_archive-listed.ensures.ceiling.0) c.limit-2.ensures c.list_archive-listed.ensures.unread
     (λ refusal is. told_late c.args.caps.style.format _ _ _ _ _ n c.in-Err.stop _ c.show_stop.ensures.tells says refusal cc)

@@ -3,7 +3,7 @@ use Rattle.elf_headers.specs.Permitted.{style_of}
 use Rattle.elf_model.specs.Style.{viewed as view_of}
 use Rattle.std.proofs.Common.{◌≡◌, ℕ, Ok, Err, sym, ap, arith, ◌∙◌}
 use Rattle.std.proofs.lemmas.Result.{err_from_is_err_and}
-use Rattle.elf_model.specs.Cost.{ceiling}
+use Rattle.elf_model.specs.Cost.{style_ceiling}
 use Rattle.elf_model.specs.Listing.{known_parts}
 use Rattle.elf_model.specs.Report.{load_items}
 use Rattle.elf_listing.proofs.FileShown.{header_part, items_are, header_alone}
@@ -21,7 +21,7 @@ no_fault same = cc
 pub returns-in_err-header-clause-ceiling : goal.returns-in_err-header-clause-ceiling
 returns-in_err-header-clause-ceiling g c =
     let p = err_from_is_err_and c.from_residual.result c.from_residual.ensures.1 in
-    let below = slots_below c.args.src.now.seen.size c.args.store.now.slots c.args.style.cap.bytes in
+    let below = slots_below c.args.src.now.seen.size c.args.store.now.slots (style_of c.args.style) in
     let most = header_most c.args.src.now.seen.size in
     rw (p.1, p.2) (Costs-fault _ _ _ _ _ _ (omega (arith, below, most)) c.header.ensures.reads c.in_err-header.ensures.says)
 
@@ -40,7 +40,7 @@ returns-in_err-header-clause-text g c = λ file held.
 pub returns-in_err-list_header-clause-ceiling : goal.returns-in_err-list_header-clause-ceiling
 returns-in_err-list_header-clause-ceiling g c =
     let p = err_from_is_err_and c.from_residual-in_err-list_header.result c.from_residual-in_err-list_header.ensures.1 in
-    let below = slots_below c.args.src.now.seen.size c.args.store.now.slots c.args.style.cap.bytes in
+    let below = slots_below c.args.src.now.seen.size c.args.store.now.slots (style_of c.args.style) in
     let most = header_most c.args.src.now.seen.size in
     rw (p.1, p.2) (Costs-out _ _ _ _ _ _ (omega (arith, below, most)) c.header.ensures.reads c.in_err-list_header.ensures.fails)
 
@@ -60,10 +60,10 @@ returns-in_err-list_header-clause-text g c = λ file held.
 
 pub returns-clause-ceiling : goal.returns-clause-ceiling
 returns-clause-ceiling g c =
-    let below = slots_below c.args.src.now.seen.size c.args.store.now.slots c.args.style.cap.bytes in
+    let below = slots_below c.args.src.now.seen.size c.args.store.now.slots (style_of c.args.style) in
     let most = header_most c.args.src.now.seen.size in
     let reads = c.header.ensures.reads in
-    let same = ap (λ (size : ℕ). ceiling size c.args.store.now.slots c.args.style.cap.bytes) reads.keeps.same_size in
+    let same = ap (λ (size : ℕ). style_ceiling size c.args.store.now.slots (style_of c.args.style)) reads.keeps.same_size in
     Costs-then _ _ _ _ _ _ _ _ (omega (arith, below, most, same, reads.at_most)) reads c.list_viewed.ensures.below
 
 pub returns-clause-cost : goal.returns-clause-cost

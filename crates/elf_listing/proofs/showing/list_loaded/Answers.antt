@@ -24,7 +24,7 @@ returns-then-not-intersects-clause-text g c = λ file held.
 pub returns-in_err-loaded-clause-below : goal.returns-in_err-loaded-clause-below
 returns-in_err-loaded-clause-below g c =
     let p = err_from_is_err_and c.from_residual.result c.from_residual.ensures.1 in
-    let below = load_below c.args.header.now c.args.src.now.seen.size c.args.store.now.slots c.args.style.cap.bytes in
+    let below = load_below c.args.header.now c.args.src.now.seen.size c.args.store.now.slots (style_of c.args.style) in
     rw (p.1, p.2) (Costs-fault _ _ _ _ _ _ (rest_pays below) c.load.ensures.reads c.in_err-loaded.ensures.says)
 
 pub returns-in_err-loaded-clause-cost : goal.returns-in_err-loaded-clause-cost
@@ -33,7 +33,7 @@ returns-in_err-loaded-clause-cost g c = λ file held.
     let tables : has_tables c.args.parts.0 ≡ true = sym (c.intersects.ensures tt) ∙ c.if-not-intersects.false in
     let read = c.requires.header file held in
     let sized = sym (c.args.src.now.seen.sized file held) in
-    rw (p.1, p.2) (Costs-fault _ _ _ _ _ _ (load_within file c.args.header.now c.args.src.now.seen.size c.args.store.now.slots c.args.style.cap.bytes c.args.parts.0 read.1 sized read.0 tables) c.load.ensures.reads c.in_err-loaded.ensures.says)
+    rw (p.1, p.2) (Costs-fault _ _ _ _ _ _ (load_within file c.args.header.now c.args.src.now.seen.size c.args.store.now.slots (style_of c.args.style) c.args.parts.0 read.1 sized read.0 tables) c.load.ensures.reads c.in_err-loaded.ensures.says)
 
 pub returns-in_err-loaded-clause-text : goal.returns-in_err-loaded-clause-text
 returns-in_err-loaded-clause-text g c = λ file held.
@@ -57,7 +57,7 @@ returns-in_err-load_view-clause-below g c =
     let opens = c.in_ok-loaded.ensures.opens in
     let size = c.args.src.now.seen.size in
     let few = few_headers c.in_ok-loaded.loaded c.args.header.now size c.load.new.store opens c.load.ensures.slots in
-    let below = view_below c.in_ok-loaded.loaded size c.args.store.now.slots c.args.style.cap.bytes c.args.parts.0 few.0 few.1 in
+    let below = view_below c.in_ok-loaded.loaded size c.args.store.now.slots (style_of c.args.style) c.args.parts.0 few.0 few.1 in
     let most = load_most c.args.header.now size c.args.store.now.slots in
     let same = ap (λ (header : Ehdr). header.e_shnum) opens.same_header in
     let asked = view_cost c.args.parts.0 c.in_ok-loaded.loaded in
@@ -69,7 +69,7 @@ returns-in_err-load_view-clause-cost g c = λ file held.
     let tables : has_tables c.args.parts.0 ≡ true = sym (c.intersects.ensures tt) ∙ c.if-not-intersects.false in
     let read = c.requires.header file held in
     let belongs = c.in_ok-loaded.ensures.held file held read.1 in
-    let within = view_within file c.in_ok-loaded.loaded c.load.new.store c.args.store.now.slots c.args.style.cap.bytes c.args.parts.0 belongs c.load.ensures.slots read.0 tables in
+    let within = view_within file c.in_ok-loaded.loaded c.load.new.store c.args.store.now.slots (style_of c.args.style) c.args.parts.0 belongs c.load.ensures.slots read.0 tables in
     let most = load_most c.args.header.now c.args.src.now.seen.size c.args.store.now.slots in
     let same = ap (λ (header : Ehdr). header.e_shnum) c.in_ok-loaded.ensures.opens.same_header in
     let asked = view_cost c.args.parts.0 c.in_ok-loaded.loaded in
@@ -115,7 +115,7 @@ returns-clause-below g c =
     let few = few_headers c.in_ok-loaded.loaded c.args.header.now size c.load.new.store opens c.load.ensures.slots in
     let same = ap (λ (header : Ehdr). header.e_shnum) opens.same_header in
     let count = c.in_ok-load_view.ensures.loaded ∙ (opens.count ∙ sym same) in
-    let below = loaded_below c.in_ok-loaded.loaded c.load_view.new.store size c.args.store.now.slots c.args.style.cap.bytes c.args.parts.0 opens.same_size
+    let below = loaded_below c.in_ok-loaded.loaded c.load_view.new.store size c.args.store.now.slots (style_of c.args.style) c.args.parts.0 opens.same_size
     (c.load_view.ensures.slots ∙ c.load.ensures.slots) count few.0 few.1 c.in_ok-load_view.ensures.segments in
     let most = load_most c.args.header.now size c.args.store.now.slots in
     let reads = Reads-then c.load.ensures.reads c.load_view.ensures.reads in
@@ -128,7 +128,7 @@ returns-clause-cost g c = λ file held.
     let loaded = c.load.ensures.reads.keeps.same_file ∙ held in
     let both = c.in_ok-load_view.ensures.held file loaded (c.in_ok-loaded.ensures.held file held read.1) in
     let opens = c.in_ok-loaded.ensures.opens in
-    let within = loaded_within file c.in_ok-loaded.loaded c.load_view.new.store c.args.store.now.slots c.args.style.cap.bytes c.args.parts.0 both.0 (c.load_view.ensures.slots ∙ c.load.ensures.slots)
+    let within = loaded_within file c.in_ok-loaded.loaded c.load_view.new.store c.args.store.now.slots (style_of c.args.style) c.args.parts.0 both.0 (c.load_view.ensures.slots ∙ c.load.ensures.slots)
     both.1 c.in_ok-load_view.ensures.segments read.0 tables in
     let most = load_most c.args.header.now c.args.src.now.seen.size c.args.store.now.slots in
     let same = ap (λ (header : Ehdr). header.e_shnum) opens.same_header in

@@ -1,7 +1,8 @@
 -- What stopped the listing is told behind its lines.
 use Rattle.std.proofs.Common.{ℕ, ap, sym, ◌∙◌}
 use Rattle.elf_source.specs.Source.{Seen}
-use Rattle.elf_model.specs.Cost.{ceiling}
+use Rattle.elf_model.specs.Cost.{style_ceiling}
+use Rattle.elf_headers.specs.Permitted.{style_of}
 use Rattle.elf_listing.proofs.AskLaws.{asks_within, told_late, told_says}
 use Rattle.elf_listing.proofs.ReportLaws.{whole_report, stopped_report}
 use Rattle.elf_source.proofs.GrowthLaws.{grows_then}
@@ -31,7 +32,7 @@ pub returns-in-Err-clause-asks : goal.returns-in-Err-clause-asks
 returns-in-Err-clause-asks g c =
     let end = c.in-Err.is in
     let says = rw end at c.list-listed.ensures.ceiling.1 in
-    let n : ℕ = ceiling c.limit.new.self.seen.size c.args.store.now.slots c.args.caps.style.cap.bytes in
+    let n : ℕ = style_ceiling c.limit.new.self.seen.size c.args.store.now.slots (style_of c.args.caps.style) in
     asks_within c.args.caps c.args.parts.0 c.args.src.now c.limit.new.self c.list-listed.new.src c.limit-2.new.self n _ c.requires.1 c.limit.ensures
     (rw (c.requires.0) at c.list-listed.ensures.ceiling.0) c.limit-2.ensures c.list-listed.ensures.unread c.list-listed.ensures.alone
     (λ refusal is. told_late c.args.caps.style.format _ _ _ _ _ n c.in-Err.stop _ c.show_stop.ensures.tells says refusal cc)

@@ -69,3 +69,15 @@ symbol_versions-requires-clause-awaits g c = rw c.in-SymbolVersions.is at c.requ
 
 pub returns-in-SymbolVersions : goal.returns-in-SymbolVersions
 returns-in-SymbolVersions g c = rw c.in-SymbolVersions.is c.symbol_versions.ensures
+
+pub suffixed_symbols-requires : goal.suffixed_symbols-requires
+suffixed_symbols-requires g c = rw c.in-SuffixedSymbols.is at c.requires.below
+
+pub returns-in-SuffixedSymbols : goal.returns-in-SuffixedSymbols
+returns-in-SuffixedSymbols g c = rw c.in-SuffixedSymbols.is c.suffixed_symbols.ensures
+
+pub suffixed_relocations-requires : goal.suffixed_relocations-requires
+suffixed_relocations-requires g c = rw c.in-SuffixedRelocations.is at c.requires.below
+
+pub returns-in-SuffixedRelocations : goal.returns-in-SuffixedRelocations
+returns-in-SuffixedRelocations g c = rw c.in-SuffixedRelocations.is c.suffixed_relocations.ensures

@@ -7,29 +7,30 @@ use Rattle.elf_model.specs.Numbers.{SHT_GNU_VERDEF}
 use Rattle.elf_model.specs.VersionRows.{first_versions}
 use Rattle.elf_names.proofs.SpendsLaws.{Spends-then, Spends-to}
 use Rattle.elf_source.proofs.ReadsLaws.{Reads-none}
+use Rattle.elf_listing.proofs.FirstTaken.{numbered-cut, numbered-later, or-none}
 use Rattle.elf_listing.proofs.ListsLaws.{SameFile-then}
 use Rattle.elf_listing.proofs.VersionedCosts.{Says-account}
 use Rattle.elf_listing.proofs.listing.Listing.numbered.Goals as goal
 
-pub returns-in_err-defined : goal.returns-in_err-defined
+pub returns-in_err-defined-clause-numbers : goal.returns-in_err-defined-clause-numbers
 unfolding walks_cost
-returns-in_err-defined g c =
+returns-in_err-defined-clause-numbers g c =
     let p = err_from_is_err_and c.from_residual.result c.from_residual.ensures.1 in
-    let taken = c.in_err-defined.ensures in
+    let taken = c.in_err-defined.ensures.records in
     let account = taken.fetches.2.account in
     rw (p.1, p.2)
     (record {
       fetches = (taken.fetches.0, taken.fetches.1, Spends-to taken.fetches.2 (omega (arith, account)), Says-account _ _ _ _ 0 _ _ (omega arith) (Reads-none _ 0) taken.fetches.3);
       within = tt;
-      read = λ file held definitions needs. taken.taken file held definitions [] (c.new-names.ensures file);
+      read = λ file held. numbered-cut file [] (λ f r. Unit {0}) [] _ (taken.taken file held [] (c.new-names.ensures file _));
     })
 
-pub returns-in_err-needed : goal.returns-in_err-needed
+pub returns-in_err-needed-clause-numbers : goal.returns-in_err-needed-clause-numbers
 unfolding walks_cost
-returns-in_err-needed g c =
+returns-in_err-needed-clause-numbers g c =
     let p = err_from_is_err_and c.from_residual-in_err-needed.result c.from_residual-in_err-needed.ensures.1 in
-    let first = c.in_ok-defined.ensures in
-    let second = c.in_err-needed.ensures in
+    let first = c.in_ok-defined.ensures.records in
+    let second = c.in_err-needed.ensures.records in
     let same = first.fetches.0.same_file in
     let spends = rw same at second.fetches.2 in
     let one = first.fetches.2.account in
@@ -43,16 +44,17 @@ returns-in_err-needed g c =
         Says-account _ _ _ _ _ _ _ (omega (arith, one)) first.fetches.2.reads (rw same at second.fetches.3),
       );
       within = tt;
-      read = λ file held definitions needs.
-          let taken = first.taken file held definitions [] (c.new-names.ensures file) in
-          second.taken file (first.fetches.2.reads.keeps.same_file ∙ held) needs (first_versions Definition SHT_GNU_VERDEF file) taken.names;
+      read = λ file held.
+          let taken = first.taken file held [] (c.new-names.ensures file _) in
+          numbered-later file [] (λ f r. Unit {0}) [] _ taken.whole
+          (second.taken file (first.fetches.2.reads.keeps.same_file ∙ held) (first_versions Definition SHT_GNU_VERDEF file) taken.names);
     })
 
-pub returns : goal.returns
+pub returns-clause-numbers : goal.returns-clause-numbers
 unfolding walks_cost
-returns g c =
-    let first = c.in_ok-defined.ensures in
-    let second = c.in_ok-needed.ensures in
+returns-clause-numbers g c =
+    let first = c.in_ok-defined.ensures.records in
+    let second = c.in_ok-needed.ensures.records in
     let same = first.fetches.0.same_file in
     let spends = rw same at second.fetches.2 in
     let one = first.fetches.2.account in
@@ -65,8 +67,8 @@ returns g c =
         tt,
       );
       within = (first.within, rw first.fetches.2.reads.keeps.same_size at second.within);
-      read = λ file held definitions needs.
-          let taken = first.taken file held definitions [] (c.new-names.ensures file) in
-          let more = second.taken file (first.fetches.2.reads.keeps.same_file ∙ held) needs (first_versions Definition SHT_GNU_VERDEF file) taken.names in
-          record { names = more.names; defined = taken.named; needed = more.named };
+      read = λ file held.
+          let taken = first.taken file held [] (c.new-names.ensures file _) in
+          let more = second.taken file (first.fetches.2.reads.keeps.same_file ∙ held) (first_versions Definition SHT_GNU_VERDEF file) taken.names in
+          (or-none _ _ _ taken.whole more.whole, record { names = more.names; defined = taken.named; needed = more.named });
     }

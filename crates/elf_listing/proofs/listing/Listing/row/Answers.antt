@@ -30,3 +30,15 @@ version_number-requires-clause-row g c = rw c.in-Versions.is at c.requires.row
 
 pub returns-in-Versions : goal.returns-in-Versions
 returns-in-Versions g c = rw c.in-Versions.is c.version_number.ensures
+
+pub suffixed_symbol_row-requires-clause-row : goal.suffixed_symbol_row-requires-clause-row
+suffixed_symbol_row-requires-clause-row g c = rw c.in-SuffixedSymbols.is at c.requires.row
+
+pub returns-in-SuffixedSymbols : goal.returns-in-SuffixedSymbols
+returns-in-SuffixedSymbols g c = rw c.in-SuffixedSymbols.is c.suffixed_symbol_row.ensures
+
+pub suffixed_relocation_row-requires-clause-row : goal.suffixed_relocation_row-requires-clause-row
+suffixed_relocation_row-requires-clause-row g c = rw c.in-SuffixedRelocations.is at c.requires.row
+
+pub returns-in-SuffixedRelocations : goal.returns-in-SuffixedRelocations
+returns-in-SuffixedRelocations g c = rw c.in-SuffixedRelocations.is c.suffixed_relocation_row.ensures

@@ -1,5 +1,5 @@
 -- The checks of the section stand before its rows, and the names of their numbers are found first.
-use Rattle.std.proofs.Common.{rules, ◌≡◌, ◌+◌, ◌*◌, ◌==◌, true, false, refl, sym, ap, ◌∙◌, arith}
+use Rattle.std.proofs.Common.{rules, ◌≡◌, ◌+◌, ◌*◌, ◌==◌, true, false, [], refl, sym, ap, ◌∙◌, arith}
 use Rattle.std.proofs.lemmas.Bool.{eq-eqb, ne_eqb}
 use Rattle.std.proofs.lemmas.Result.{err_from_is_err_and}
 use Rattle.elf_headers.specs.Load.{section_place}
@@ -10,7 +10,7 @@ use Rattle.elf_listing.proofs.ListsLaws.{Lists-nothing, Lists-refused, Lists-unr
 use Rattle.elf_listing.proofs.SectionShown.{no_table, table_fails, table_passes}
 use Rattle.elf_listing.proofs.VersionedCosts.{versioned-within}
 use Rattle.elf_listing.proofs.RowLaws.{Writes-as}
-use Rattle.elf_listing.proofs.VersionedShown.{Lists-behind, Stopped-no-check, definitions-whole, empty-is, needs-whole, rows-are}
+use Rattle.elf_listing.proofs.VersionedShown.{Lists-behind, Stopped-no-check, definitions-whole, empty-is, needs-whole, rows-are, walks-whole}
 use Rattle.elf_listing.proofs.listing.Listing.symbol_versions.Goals as goal
 
 pub returns-then-header-ne-SHT_GNU_VERSYM : goal.returns-then-header-ne-SHT_GNU_VERSYM
@@ -47,10 +47,11 @@ returns-in_err-numbered g c =
     let some = ne_eqb _ 0 (λ e. c.if-header-eq0.false (fields.sh_size ∙ e)) in
     let counts = c.in_ok-found.ensures.counts in
     let within = versioned-within f.store.now c.args.section f.loaded.size _ cap _ _ typed (sym c.in_ok-found.ensures.table) some (counts.linked some) counts.counted (counts.symbols some) in
-    let fetches = c.in_err-numbered.ensures.fetches in
+    let fetches = c.in_err-numbered.ensures.numbers.fetches in
     rw (p.1, p.2) (Lists-unread _ _ _ _ _ _ (omega (arith, within)) fetches (λ file held.
     let no_fault = c.requires.awaits file held in
-    rw fetches.1 (Stopped-no-check _ _ _ (c.in_err-numbered.ensures.read file held (definitions-whole file style no_fault) (needs-whole file style no_fault)))))
+    rw fetches.1
+    (Stopped-no-check file [] _ _ _ (walks-whole file (definitions-whole file style no_fault) (needs-whole file style no_fault)) (c.in_err-numbered.ensures.numbers.read file held))))
 
 pub returns : goal.returns
 unfolding symbol_versions
@@ -63,7 +64,7 @@ returns g c =
     let some = ne_eqb _ 0 (λ e. c.if-header-eq0.false (fields.sh_size ∙ e)) in
     let counts = c.in_ok-found.ensures.counts in
     let within = versioned-within f.store.now c.args.section f.loaded.size _ cap _ _ typed (sym c.in_ok-found.ensures.table) some (counts.linked some) counts.counted (counts.symbols some) in
-    let fetches = c.in_ok-numbered.ensures.fetches in
+    let fetches = c.in_ok-numbered.ensures.numbers.fetches in
     let same = fetches.0.same_style in
     Lists-behind _ _ _ c.in_ok-numbered.numbered _ _ _ _ _ _ (rw same (omega (arith, within))) fetches c.versioned.ensures (λ file held.
     let belongs = c.args.self.now.loaded.belongs file held in
@@ -73,19 +74,19 @@ returns g c =
     let sized : (sh_size file at == 0) ≡ false = ne_eqb _ 0 (λ e. c.if-header-eq0.false (stands.sh_size ∙ e)) in
     let no_fault = c.requires.awaits file held in
     let found = c.in_ok-found.ensures.held file belongs in
-    let numbered = c.in_ok-numbered.ensures.read file held (definitions-whole file style no_fault) (needs-whole file style no_fault) in
-    let rows = rows-are file style _ numbered no_fault c.args.section at _ _ sized found.placed found.counted (found.symbols sized) in
+    let numbered = (c.in_ok-numbered.ensures.numbers.read file held).1 in
+    let rows = rows-are file style _ _ numbered no_fault c.args.section at _ _ sized found.placed found.counted (found.symbols sized) in
     let place : section_place f.loaded.header c.args.section ≡ at = omega (arith, belongs.header.e_shoff) in
     rw (← fetches.1)
     (Writes-as _ _ _ (table_passes symbol_versions file style c.args.section at kind found.pass ∙ rows)
     (rw (same, fetches.0.same_file, place) at (c.versioned.ensures.shows file (fetches.2.reads.keeps.same_file ∙ held)))))
 
 pub versioned-requires-clause-below : goal.versioned-requires-clause-below
-versioned-requires-clause-below g c = rw c.in_ok-numbered.ensures.fetches.0.same_file c.requires.below
+versioned-requires-clause-below g c = rw c.in_ok-numbered.ensures.numbers.fetches.0.same_file c.requires.below
 
 pub versioned-requires-clause-rows : goal.versioned-requires-clause-rows
 versioned-requires-clause-rows g c =
-    rw c.in_ok-numbered.ensures.fetches.2.reads.keeps.same_size (rw c.args.self.now.loaded.size at c.in_ok-found.ensures.within)
+    rw c.in_ok-numbered.ensures.numbers.fetches.2.reads.keeps.same_size (rw c.args.self.now.loaded.size at c.in_ok-found.ensures.within)
 
 pub versioned-requires-clause-within : goal.versioned-requires-clause-within
-versioned-requires-clause-within g c = rw c.in_ok-numbered.ensures.fetches.2.reads.keeps.same_size c.in_ok-numbered.ensures.within
+versioned-requires-clause-within g c = rw c.in_ok-numbered.ensures.numbers.fetches.2.reads.keeps.same_size c.in_ok-numbered.ensures.numbers.within

@@ -11,9 +11,10 @@ pub records-init : goal.records-init
 records-init g c = record {
   going = c.requires.going;
   same_held = refl;
+  count = refl;
   fewer = omega arith;
   so_far = Did-as _ (omega arith) (Did-none c.args.src.now)
-      (λ file told costs agrees. (agrees, λ records names. met-none file records (versions_left file c.args.cursor.now) c.args.self.now names));
+      (λ file told costs agrees. (agrees, λ records names. met-none file records (versions_left file c.args.cursor.now) c.args.self.now c.args.places.now names));
 }
 
 pub advance-requires : goal.advance-requires
@@ -37,6 +38,7 @@ records-preserved g c =
     record {
       going = leaves.1;
       same_held = a.keeps.same_held ∙ i.same_held;
+      count = c.take.ensures.count ∙ i.count;
       fewer = omega (arith, fewer, i.fewer);
       so_far = Did-as _ (omega (arith, fewer, i.fewer)) (Did-then i.so_far (going-did l.cursor.failed (Ok (Some c.in-Some.given)) i.going did))
           (λ file told costs agrees.
@@ -48,13 +50,13 @@ records-preserved g c =
                 let seen = before.1 records names in (
                   seen.0 ++ gives.met ∷ [],
                   behind-more seen.0 gives.met (versions_left file c.args.cursor.now) (versions_left file l.cursor) (versions_left file new) seen.1 gives.first,
-                  names-more file records seen.0 gives.met c.take.new.self (c.take.ensures file (records ++ seen.0) gives.met gives.is seen.2),
+                  names-more file records seen.0 gives.met c.take.new.self c.take.new.places (c.take.ensures.names file (records ++ seen.0) gives.met gives.is seen.2),
                 ),
           ));
     }
 
-pub returns : goal.returns
-returns g c =
+pub returns-clause-did : goal.returns-clause-did
+returns-clause-did g c =
     let l = c.records in
     let i = l.invariant in
     let a = c.in_ok-given.ensures in
@@ -68,11 +70,17 @@ returns g c =
     let ends = (told.1 before.0).tells i.going in
     let seen = before.1 records names in (
       end-cut seen.0 (versions_left file c.args.cursor.now) (versions_left file l.cursor) seen.1 ends,
-      end-names file records seen.0 (versions_left file c.args.cursor.now) (versions_left file l.cursor) l.self seen.1 ends seen.2,
+      end-names file records seen.0 (versions_left file c.args.cursor.now) (versions_left file l.cursor) l.self l.places seen.1 ends seen.2,
     ))
 
-pub returns-in_err-given : goal.returns-in_err-given
-returns-in_err-given g c =
+pub returns-clause-count : goal.returns-clause-count
+returns-clause-count g c = c.records.invariant.count
+
+pub returns-in_err-given-clause-count : goal.returns-in_err-given-clause-count
+returns-in_err-given-clause-count g c = c.records.invariant.count
+
+pub returns-in_err-given-clause-did : goal.returns-in_err-given-clause-did
+returns-in_err-given-clause-did g c =
     let l = c.records in
     let i = l.invariant in
     let a = c.in_err-given.ensures in
@@ -84,5 +92,5 @@ returns-in_err-given g c =
     (λ file told costs agrees records names.
     let before = told.0 agrees in
     let seen = before.1 records names in
-    stops-all file records seen.0 (versions_left file c.args.cursor.now) (versions_left file l.cursor) (versions_left file new) l.self _ seen.1
+    stops-all file records seen.0 (versions_left file c.args.cursor.now) (versions_left file l.cursor) (versions_left file new) l.self l.places _ seen.1
     ((told.1 before.0).tells i.going)))

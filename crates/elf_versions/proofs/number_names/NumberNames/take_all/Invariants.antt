@@ -1,5 +1,5 @@
 -- The records that were met are taken in, and the others are left.
-use Rattle.std.proofs.Common.{◌≡◌, ◌-◌, ◌≤◌, List, ◌++◌, None}
+use Rattle.std.proofs.Common.{◌≡◌, ◌-◌, ◌≤◌, List, ◌++◌, length, None}
 use Rattle.elf_headers.specs.Ledger.{Did}
 use Rattle.elf_model.specs.Versions.{Met}
 use Rattle.elf_versions.specs.NumberNames.{NamesNumbers}
@@ -11,10 +11,11 @@ abbrev pub invariant-records : goal.invariant-records
 invariant-records g l = record {
   going : l.cursor.failed ≡ None;
   same_held : l.cursor.held ≡ l.fn.cursor.held;
+  count : length l.places ≡ length l.fn.places;
   fewer : unread l.cursor ≤ unread l.fn.cursor;
   so_far : Did l.fn.src l.src None (unread l.fn.cursor - unread l.cursor)
-      (λ file. IsCursorOf file l.fn.cursor → IsCursorOf file l.cursor × ((records : List Met) → NamesNumbers file records l.fn.self
-      → (seen : List Met) × (versions_left file l.fn.cursor ≡ behind_all seen (versions_left file l.cursor)) × NamesNumbers file (records ++ seen) l.self));
+      (λ file. IsCursorOf file l.fn.cursor → IsCursorOf file l.cursor × ((records : List Met) → NamesNumbers file records l.fn.self l.fn.places
+      → (seen : List Met) × (versions_left file l.fn.cursor ≡ behind_all seen (versions_left file l.cursor)) × NamesNumbers file (records ++ seen) l.self l.places));
 }
 
 abbrev pub decreases-records : goal.decreases-records

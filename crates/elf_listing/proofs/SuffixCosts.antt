@@ -1,0 +1,89 @@
+-- What the rows of a table ask for with the versions behind their names, and what finds those.
+use Rattle.std.proofs.Common.{◌≡◌, ℕ, ◌+◌, ◌*◌, ◌/◌, ◌≤◌, ◌==◌, if◌then◌else◌, Bool, true, false, Option, None, Some, Result, Ok, refl, sym, ap, ◌∙◌, subst, arith}
+use Rattle.std.proofs.Math.Nat.{mul-add}
+use Rattle.std.specs.Prelude.{is_none}
+use Rattle.elf_model.specs.Checks.{pass, table_checks_of}
+use Rattle.elf_model.specs.Cost.{table_cost}
+use Rattle.elf_model.specs.HeaderTables.{HeaderTable, TableKind}
+use Rattle.elf_model.specs.Names.{name_bytes}
+use Rattle.elf_model.specs.Records.{sh_offset, sh_size}
+use Rattle.elf_model.specs.Suffixes.{first_numbers}
+use Rattle.elf_model.specs.TableKinds.{suffixes_cost}
+use Rattle.elf_model.specs.VersionCost.{walks_cost}
+use Rattle.elf_model.proofs.StoreLemmas.{places_decide_nothing}
+use Rattle.elf_headers.specs.Store.{Stored, row}
+use Rattle.elf_table.specs.Sections.{rows, table_of}
+use Rattle.elf_table.specs.Tables.{Rows}
+use Rattle.elf_listing.specs.Parts.{store_sections}
+use Rattle.elf_listing.specs.Suffixed.{suffix_bytes, walks_asked}
+use Rattle.elf_listing.proofs.SectionCosts.{within_kind}
+
+-- so many names cost what their rows do, a word and a name each, and what finds them
+pub asked_is : (headers : HeaderTable) (table names size cap each : ℕ)
+    → walks_asked headers table names size + names * (each + suffix_bytes headers table cap) ≤ names * each + suffixes_cost headers table names size cap
+unfolding suffixes_cost
+asked_is headers table names size cap each = by_found (first_numbers headers table) (names == 0)
+  where
+    by_found : (found : Option ℕ) (empty : Bool)
+        → (if empty then 0 else elim found as (λ _. ℕ) [ None ↦ 0 | Some i ↦ walks_cost headers size ])
+        + names * (each + (elim found as (λ _. ℕ) [ None ↦ 0 | Some i ↦ 2 + name_bytes cap ]))
+        ≤ names * each + (elim found as (λ _. ℕ) [ None ↦ 0 | Some i ↦ names * (2 + name_bytes cap) + walks_cost headers size ])
+    by_found None true = omega arith
+    by_found None false = omega arith
+    by_found (Some i) true = omega (arith, mul-add names each (2 + name_bytes cap))
+    by_found (Some i) false = omega (arith, mul-add names each (2 + name_bytes cap))
+
+-- a table of entries with versions, whose symbols' table has an index: what finds them, and the rows
+pub suffixed_within : (kind : TableKind) (store : Stored) (i symbols size place cap entry each : ℕ) (table : Rows) → kind.has_table (row store i) 0 ≡ true
+    → kind.checks.own (row store i) 0 size ≡ table_checks_of (row store i) 0 size 0 entry
+    → (let names : ℕ = sh_size (row store i) 0 / entry in
+    names * each + suffixes_cost (store_sections store) symbols names size cap ≡ kind.asks (store_sections store) i size cap)
+    → Ok table ≡ table_of (row store i) 0 size place entry
+    → walks_asked (store_sections store) symbols table.count size + table.count * (each + suffix_bytes (store_sections store) symbols cap)
+    ≤ table_cost kind (store_sections store) i size cap
+suffixed_within kind store i symbols size place cap entry each table has own asks h =
+    let bytes = row store i in
+    let headers = store_sections store in
+    let amount : ℕ → ℕ = λ n. walks_asked headers symbols n size + n * (each + suffix_bytes headers symbols cap) in
+    let most = asked_is headers symbols (sh_size bytes 0 / entry) size cap each in
+    within_kind kind headers i size cap (sh_size bytes 0) amount (table_checks_of bytes 0 size place entry)
+    (rows (sh_offset bytes 0) 0 entry) (rows (sh_offset bytes 0) (sh_size bytes 0 / entry) entry) table has
+    (λ none. ap pass own ∙ (places_decide_nothing bytes 0 size 0 place entry ∙ ap is_none none)) (λ _. omega arith) (omega (arith, most, asks)) (sym h)
+
+-- what finds the versions of some names costs what it does for others, and nothing for none
+pub walks_fewer : (headers : HeaderTable) (table names entries size : ℕ) → (entries == 0) ≡ false → walks_asked headers table names size ≤ walks_asked headers table entries size
+walks_fewer headers table names entries size some = rw some (by_empty (names == 0))
+  where
+    by_empty : (empty : Bool)
+        → (if empty then 0 else elim (first_numbers headers table) as (λ _. ℕ) [ None ↦ 0 | Some i ↦ walks_cost headers size ])
+        ≤ (elim (first_numbers headers table) as (λ _. ℕ) [ None ↦ 0 | Some i ↦ walks_cost headers size ])
+    by_empty true = omega arith
+    by_empty false = omega arith
+
+-- fewer than a part of a sum, and with less beside it
+less : (a b n k : ℕ) → b ≤ a → a + n ≤ k → b ≤ k
+less a b n k fewer within = omega arith
+
+less_and : (a b count each bytes k : ℕ) → b ≤ a → a + count * (each + bytes) ≤ k → b + count * each ≤ k
+less_and a b count each bytes k fewer within = let split = mul-add count each bytes in omega (arith, fewer, within, split)
+
+less_with : (a b count own name bytes behind k : ℕ) → b ≤ a → a + count * (own + name + bytes) ≤ k → bytes ≡ behind → b + count * (own + (name + behind)) ≤ k
+less_with a b count own name bytes behind k fewer within is =
+    let same : own + name + bytes ≡ own + (name + behind) = omega (arith, is) in
+    let more : a + count * (own + (name + behind)) ≤ k = subst (λ (n : ℕ). a + count * n ≤ k) same within in
+    omega (arith, fewer, more)
+
+-- what finds the versions of some names, alone, with rows that have none, and with rows that have them
+module _ (headers : HeaderTable) (table size cap own name names count k : ℕ) (fewer : walks_asked headers table names size ≤ walks_asked headers table count size)
+    (within : walks_asked headers table count size + count * (own + name + suffix_bytes headers table cap) ≤ k) where
+  pub walks_within : walks_asked headers table names size ≤ k
+  walks_within = less (walks_asked headers table count size) (walks_asked headers table names size) (count * (own + name + suffix_bytes headers table cap)) k fewer within
+
+  pub plain_within : walks_asked headers table names size + count * (own + name) ≤ k
+  plain_within = less_and (walks_asked headers table count size) (walks_asked headers table names size) count (own + name) (suffix_bytes headers table cap) k fewer within
+
+  pub rows_within : (behind : ℕ) → suffix_bytes headers table cap ≡ behind → walks_asked headers table names size + count * (own + (name + behind)) ≤ k
+  rows_within behind is = less_with (walks_asked headers table count size) (walks_asked headers table names size) count own name (suffix_bytes headers table cap) behind k fewer within is
+
+pub no_fewer : (n : ℕ) → n ≤ n
+no_fewer n = omega arith

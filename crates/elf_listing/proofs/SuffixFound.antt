@@ -1,0 +1,78 @@
+-- What finds the versions of a table's symbols, by the checks of its section of version numbers and the walks.
+use Rattle.std.proofs.Common.{◌≡◌, ℕ, ◌+◌, ◌*◌, ◌/◌, ◌==◌, if◌then◌else◌, Bool, true, false, List, Option, None, Some, Result, Ok, Err, ◌⊎◌, inl, inr, refl, sym, ap, ◌∙◌}
+use Rattle.elf_model.specs.Checks.{first_refusal}
+use Rattle.elf_model.specs.HeaderTables.{HeaderTable}
+use Rattle.elf_model.specs.Names.{name_bytes}
+use Rattle.elf_model.specs.Records.{section_at, sh_offset}
+use Rattle.elf_model.specs.Suffixes.{first_numbers, numbers_of, or_refusal, suffixes_refusal}
+use Rattle.elf_model.specs.Tables.{all_checks, entry_count}
+use Rattle.elf_model.specs.VersionCost.{walks_cost}
+use Rattle.elf_model.specs.VersionRows.{symbol_versions}
+use Rattle.elf_model.specs.declared.causes.Refusal.{Refusal}
+use Rattle.elf_headers.specs.declared.fault.Fault.{Fault}
+use Rattle.elf_headers.specs.declared.fault.Fault.TheVariants.{Refused, Source}
+use Rattle.elf_table.specs.Relocations.{RefusedBy}
+use Rattle.elf_table.specs.Versions.{AreVersioned}
+use Rattle.elf_table.specs.Tables.{Rows}
+use Rattle.elf_listing.specs.Suffixed.{AreSuffixes, SuffixesOr, suffix_bytes, walks_asked}
+use Rattle.elf_listing.specs.SymbolVersions.{AreNumbered, NumberedOr, walks_refusal}
+use Rattle.elf_listing.specs.declared.suffixes.Suffixes.{Suffixes}
+use Rattle.elf_listing.proofs.FirstTaken.{or-none}
+
+-- a table of no symbols, and one without version numbers
+pub no_symbols : (file : List ℕ) (table : ℕ) → entry_count file (section_at file table) 24 ≡ 0 → SuffixesOr file table (Ok None)
+unfolding suffixes_refusal
+no_symbols file table none = (rw none refl, inl none)
+
+module _ (file : List ℕ) (table : ℕ) where
+  refusal_by : Bool → Option ℕ → Option Refusal
+  refusal_by empty found =
+      if empty then None
+      else elim found as (λ _. Option Refusal) [
+        | None ↦ None
+        | Some i ↦ or_refusal (first_refusal (all_checks symbol_versions.checks file (section_at file i))) (walks_refusal file)
+      ]
+
+  refusal_is : suffixes_refusal file table ≡ refusal_by (entry_count file (section_at file table) 24 == 0) (numbers_of file table)
+  unfolding suffixes_refusal refusal_by
+  refusal_is = refl
+
+  pub unnumbered : numbers_of file table ≡ None → SuffixesOr file table (Ok None)
+  unfolding refusal_by
+  unnumbered none = (refusal_is ∙ (ap (refusal_by (entry_count file (section_at file table) 24 == 0)) none ∙ either (entry_count file (section_at file table) 24 == 0)), inr none)
+    where
+      either : (empty : Bool) → refusal_by empty None ≡ None
+      either true = refl
+      either false = refl
+
+  -- of a table with symbols: the checks of the numbers, then the walks
+  module _ (section : ℕ) (some : (entry_count file (section_at file table) 24 == 0) ≡ false) (found : numbers_of file table ≡ Some section) where
+    refused : suffixes_refusal file table ≡ or_refusal (first_refusal (all_checks symbol_versions.checks file (section_at file section))) (walks_refusal file)
+    unfolding refusal_by
+    refused = refusal_is ∙ (ap (λ (empty : Bool). refusal_by empty (numbers_of file table)) some ∙ ap (refusal_by false) found)
+
+    pub refused_numbers : (fault : Fault) → RefusedBy (all_checks symbol_versions.checks file (section_at file section)) fault → SuffixesOr file table (Err fault)
+    refused_numbers (Refused refusal) by = λ other. refused ∙ ap (λ (first : Option Refusal). or_refusal first (walks_refusal file)) by
+    refused_numbers (Source fault offset) by = absurd by
+
+    pub refused_walks : (places : List ℕ) (fault : Fault) → first_refusal (all_checks symbol_versions.checks file (section_at file section)) ≡ None
+        → NumberedOr file places (Err fault) → SuffixesOr file table (Err fault)
+    refused_walks places (Refused refusal) passes by = λ other. refused ∙ or-none _ _ (Some refusal) passes (by other)
+    refused_walks places (Source fault offset) passes by = tt
+
+    pub found_all : (suffixes : Suffixes) (count : ℕ) → AreVersioned file (section_at file section) suffixes.words count → suffixes.at ≡ section_at file section
+        → (walks_refusal file ≡ None) × AreNumbered file suffixes.numbered suffixes.places → SuffixesOr file table (Ok (Some suffixes))
+    found_all suffixes count versioned here numbered = (
+      refused ∙ or-none _ _ None versioned.pass numbered.0,
+      record { section = section; found = found; here = here; placed = versioned.placed; counted = versioned.counted; numbered = numbered.1 },
+    )
+
+-- what the walks ask for, of a table with symbols
+pub walks_of : (headers : HeaderTable) (table symbols size section : ℕ) → (symbols == 0) ≡ false → first_numbers headers table ≡ Some section
+    → walks_asked headers table symbols size ≡ walks_cost headers size
+walks_of headers table symbols size section some found =
+    ap (λ (empty : Bool). if empty then 0 else elim (first_numbers headers table) as (λ _. ℕ) [ None ↦ 0 | Some i ↦ walks_cost headers size ]) some
+    ∙ ap (λ (first : Option ℕ). elim first as (λ _. ℕ) [ None ↦ 0 | Some i ↦ walks_cost headers size ]) found
+
+pub bytes_of : (headers : HeaderTable) (table cap section : ℕ) → first_numbers headers table ≡ Some section → suffix_bytes headers table cap ≡ 2 + name_bytes cap
+bytes_of headers table cap section found = ap (λ (first : Option ℕ). elim first as (λ _. ℕ) [ None ↦ 0 | Some i ↦ 2 + name_bytes cap ]) found

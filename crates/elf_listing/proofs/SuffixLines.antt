@@ -1,0 +1,93 @@
+-- A line that was put in pieces ends in the name and its version.
+use Rattle.std.proofs.Common.{◌≡◌, ℕ, Bool, true, false, List, [], ◌∷◌, ◌++◌, Result, Ok, Err, refl, sym, ap, ◌∙◌, append_assoc, subst}
+use Rattle.std.specs.Prelude.{codes, if◌then◌else◌}
+use Rattle.elf_model.specs.Choice.{Suffixed}
+use Rattle.elf_model.specs.Fields.{LineFront, closing, member_key, quoted, string_text}
+use Rattle.elf_model.specs.Lines.{cut_mark, escaped, name_member, name_text}
+use Rattle.elf_model.specs.Names.{Shown}
+use Rattle.elf_model.specs.Suffixes.{line_suffixed, suffix_members, suffix_text, suffixed_line, version_member, version_sign}
+use Rattle.elf_model.specs.Text.{newline}
+use Rattle.elf_model.specs.declared.formats.Format.{Format}
+use Rattle.elf_model.specs.declared.formats.Format.TheVariants.{Columns, Object}
+use Rattle.elf_fields.specs.Named.{line_tailed, spelt_bytes, tailed_line}
+use Rattle.elf_table.specs.NamesRead.{shown_by}
+use Rattle.elf_table.specs.declared.names.NameEnd.{NameEnd}
+use Rattle.elf_table.specs.declared.names.NameEnd.TheVariants.{Whole, Cut}
+use Rattle.elf_model.specs.Choice.{EveryRow}
+use Rattle.elf_model.specs.Listing.{lines_of}
+use Rattle.elf_model.specs.Suffixes.{suffixed_row}
+use Rattle.elf_model.specs.declared.causes.Cause.{Cause}
+use Rattle.elf_fields.specs.Named.{shown_as}
+use Rattle.elf_source.specs.Output.{Takes, TakesFront, Written}
+use Rattle.elf_table.specs.NamesRead.{NameRead}
+use Rattle.elf_listing.specs.Shows.{WroteItems, cut_of}
+use Rattle.elf_listing.proofs.RowLaws.{Stopped-line, Whole-line}
+use Rattle.elf_listing.specs.SuffixTexts.{before_version, behind_version}
+
+-- texts in pieces
+three_is : (name sign version end : List ℕ) → name ++ (sign ++ (version ++ end)) ≡ (name ++ (sign ++ version)) ++ end
+three_is name sign version end = ap (λ (rest : List ℕ). name ++ rest) (sym (append_assoc sign version end)) ∙ sym (append_assoc name (sign ++ version) end)
+
+tail_is : (text a d c : List ℕ) → text ++ (a ++ (d ++ c)) ≡ ((text ++ a) ++ d) ++ c
+tail_is text a d c = sym (append_assoc (text ++ a) d c ∙ append_assoc text a (d ++ c))
+
+longer_is : (text a m d c : List ℕ) → text ++ (a ++ (m ++ (d ++ c))) ≡ (((text ++ a) ++ m) ++ d) ++ c
+longer_is text a m d c = sym (append_assoc text a (m ++ (d ++ c))) ∙ tail_is (text ++ a) m d c
+
+sign_is : (default : Bool) → before_version Columns default ≡ version_sign default
+unfolding before_version
+sign_is true = refl
+sign_is false = refl
+
+-- the lines of an object
+abbrev default_member : Bool → List ℕ
+default_member default = if default then codes ",\"default\":true" else codes ",\"default\":false"
+
+object_is : (key text : List ℕ) (name : Shown) (end : NameEnd) (version : List ℕ) (default : Bool)
+    → text ++ (name_member key name ++ (codes ",\"version\":\"" ++ (string_text (escaped version) ++ behind_version Object (cut_of end) default)))
+    ≡ text ++ ((name_member key name ++ suffix_members (Suffixed default (shown_by end version))) ++ closing Object)
+unfolding suffix_members version_member behind_version closing member_key quoted
+object_is key text name Whole version true = ap (λ (rest : List ℕ). text ++ rest)
+    (ap (λ (rest : List ℕ). name_member key name ++ (codes ",\"version\":\"" ++ rest)) (tail_is (string_text (escaped version)) (codes "\"") (default_member true) (codes "}\n"))
+    ∙ three_is (name_member key name) (codes ",\"version\":\"") ((string_text (escaped version) ++ codes "\"") ++ default_member true) (codes "}\n"))
+object_is key text name Whole version false = ap (λ (rest : List ℕ). text ++ rest)
+    (ap (λ (rest : List ℕ). name_member key name ++ (codes ",\"version\":\"" ++ rest)) (tail_is (string_text (escaped version)) (codes "\"") (default_member false) (codes "}\n"))
+    ∙ three_is (name_member key name) (codes ",\"version\":\"") ((string_text (escaped version) ++ codes "\"") ++ default_member false) (codes "}\n"))
+object_is key text name Cut version true = ap (λ (rest : List ℕ). text ++ rest)
+    (ap (λ (rest : List ℕ). name_member key name ++ (codes ",\"version\":\"" ++ rest)) (longer_is (string_text (escaped version)) (codes "\"") (codes ",\"version_cut\":true") (default_member true) (codes "}\n"))
+    ∙ three_is (name_member key name) (codes ",\"version\":\"") (((string_text (escaped version) ++ codes "\"") ++ codes ",\"version_cut\":true") ++ default_member true) (codes "}\n"))
+object_is key text name Cut version false = ap (λ (rest : List ℕ). text ++ rest)
+    (ap (λ (rest : List ℕ). name_member key name ++ (codes ",\"version\":\"" ++ rest)) (longer_is (string_text (escaped version)) (codes "\"") (codes ",\"version_cut\":true") (default_member false) (codes "}\n"))
+    ∙ three_is (name_member key name) (codes ",\"version\":\"") (((string_text (escaped version) ++ codes "\"") ++ codes ",\"version_cut\":true") ++ default_member false) (codes "}\n"))
+
+pub line_is : (format : Format) (key text : List ℕ) (name : Shown) (end : NameEnd) (version : List ℕ) (default : Bool)
+    → line_tailed format key text name (before_version format default ++ (spelt_bytes format version ++ behind_version format (cut_of end) default))
+    ≡ line_suffixed format key text name (Suffixed default (shown_by end version))
+unfolding line_tailed line_suffixed spelt_bytes suffix_text name_text before_version behind_version
+line_is Columns key text name Whole version default =
+    ap (λ (rest : List ℕ). text ++ rest) (rw (sign_is default) (three_is (name_text name) (version_sign default) (escaped version) newline))
+line_is Columns key text name Cut version default =
+    ap (λ (rest : List ℕ). text ++ rest)
+    (rw (sign_is default)
+    (ap (λ (rest : List ℕ). name_text name ++ (version_sign default ++ rest)) (sym (append_assoc (escaped version) cut_mark newline))
+    ∙ three_is (name_text name) (version_sign default) (escaped version ++ cut_mark) newline))
+line_is Object key text name end version default = object_is key text name end version default
+
+-- the line of a row with its version
+pub Wrote-suffixed : (a b : Written) (front : LineFront) (at : ℕ) (end behind : NameEnd) (name version : List ℕ) (answer : Result Shown Cause) (default : Bool)
+    → NameRead at (Ok end) name answer
+    → Takes a b (tailed_line front (shown_as (cut_of end) name) (before_version front.format default ++ (spelt_bytes front.format version ++ behind_version front.format (cut_of behind) default)))
+    → WroteItems a b (suffixed_row EveryRow front at answer (Ok (Suffixed default (shown_by behind version))))
+Wrote-suffixed a b front at Whole behind name version answer default read takes =
+    rw read (Whole-line _ (subst (λ (line : List ℕ). Takes a b line) (line_is front.format front.key front.text (shown_as false name) behind version default) takes))
+Wrote-suffixed a b front at Cut behind name version answer default read takes =
+    rw read (Whole-line _ (subst (λ (line : List ℕ). Takes a b line) (line_is front.format front.key front.text (shown_as true name) behind version default) takes))
+
+pub Fronts-suffixed : (a b : Written) (front : LineFront) (at : ℕ) (end behind : NameEnd) (name version : List ℕ) (answer : Result Shown Cause) (default : Bool)
+    → NameRead at (Ok end) name answer
+    → TakesFront a b (tailed_line front (shown_as (cut_of end) name) (before_version front.format default ++ (spelt_bytes front.format version ++ behind_version front.format (cut_of behind) default)))
+    → TakesFront a b (lines_of (suffixed_row EveryRow front at answer (Ok (Suffixed default (shown_by behind version)))))
+Fronts-suffixed a b front at Whole behind name version answer default read takes =
+    rw read (Stopped-line _ (subst (λ (line : List ℕ). TakesFront a b line) (line_is front.format front.key front.text (shown_as false name) behind version default) takes))
+Fronts-suffixed a b front at Cut behind name version answer default read takes =
+    rw read (Stopped-line _ (subst (λ (line : List ℕ). TakesFront a b line) (line_is front.format front.key front.text (shown_as true name) behind version default) takes))

@@ -1,0 +1,16 @@
+-- What stands around a version behind a name.
+use Rattle.std.specs.Prelude.{if◌then◌else◌, Bool, List, ℕ, ◌++◌, codes}
+use Rattle.elf_model.specs.declared.formats.Format.{Format}
+use Rattle.elf_model.specs.declared.formats.Format.TheVariants.{Columns, Object}
+
+-- what stands between a name and its version
+unfoldable pub before_version : Format → (is_default : Bool) → List ℕ
+before_version Columns is_default = if is_default then codes "@@" else codes "@"
+before_version Object is_default = codes ",\"version\":\""
+
+-- what stands behind a version, with the line's end
+unfoldable pub behind_version : Format → (is_cut is_default : Bool) → List ℕ
+behind_version Columns is_cut is_default = if is_cut then codes "\\+\n" else codes "\n"
+behind_version Object is_cut is_default =
+    (if is_cut then codes "\",\"version_cut\":true" else codes "\"")
+    ++ (if is_default then codes ",\"default\":true}\n" else codes ",\"default\":false}\n")

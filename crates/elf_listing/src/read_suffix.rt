@@ -1,0 +1,106 @@
+//! The version behind the name of a symbol, read.
+ghost use Rattle.std.specs.Prelude.{◌≡◌, ◌==◌, ◌<◌, ◌≤◌, ◌+◌, not, length};
+ghost use Rattle.elf_listing.specs.Suffixed.{FetchesSuffix, SuffixesWithin};
+ghost use Rattle.elf_listing.specs.SuffixNames.{FetchesNamed, FetchesWord, FetchesInto};
+ghost use Rattle.elf_table.specs.Tables.{StringsWithin};
+
+use crate::listing::Listing;
+use crate::suffixes::Suffixes;
+use elf_headers::{Fault, fill, refused};
+use elf_names::NameIndex;
+use elf_record::{Cause, u16_at};
+use elf_source::{Sink, Source};
+use elf_table::{NameBuf, NameEnd};
+use elf_versions::NameAt;
+
+/// The version behind a name, which was read.
+#[derive(Clone, Copy)]
+pub struct SuffixEnd {
+    /// Whether it is the default one of the name.
+    pub is_default: bool,
+    /// How its name ends.
+    pub end: NameEnd,
+}
+
+impl<S: Source, W: Sink> Listing<'_, '_, '_, '_, S, W> {
+    /// Reads the name of the version of the symbol of an index, which is defined or not, into
+    /// `version`; none for the numbers 0 and 1. The name that was read before stays.
+    ///
+    /// # Errors
+    /// `VersionCut` at the section of the numbers where there is no word for the symbol,
+    /// `VersionIndex` at the word where no record names its number; the fault of the name, at the
+    /// record that holds it; a fault of a read.
+    pub(crate) fn read_suffix(
+        &mut self,
+        suffixes: &Suffixes,
+        index: u64,
+        is_defined: bool,
+        version: &mut NameBuf,
+    ) -> Result<Option<SuffixEnd>, Fault>
+        requires { SuffixesWithin self.old.src.now.seen.size suffixes.now }
+        ensures { FetchesSuffix self.old self.new version.new result suffixes.now index is_defined }
+    {
+        if index >= suffixes.words.len() {
+            return refused(suffixes.at, Cause::VersionCut);
+        }
+        let at = suffixes.words.place(index);
+        let word = self.read_word(at)?;
+        let number = word % (1 << 15);
+        if number < 2 {
+            return Ok(None);
+        }
+        let end = self.read_number(suffixes, number, at, version)?;
+        let is_default = word == number && is_defined;
+        Ok(Some(SuffixEnd { is_default, end }))
+    }
+
+    /// Reads the word at an offset.
+    fn read_word(&mut self, at: u64) -> Result<u16, Fault>
+        requires { at + 2 ≤ self.old.src.now.seen.size }
+        ensures { FetchesWord self.old self.new result at }
+    {
+        let mut bytes = [0; 2];
+        fill(self.src, at, &mut bytes)?;
+        Ok(u16_at(&bytes, 0))
+    }
+
+    /// Reads the name of a number, whose word stands at an offset.
+    fn read_number(
+        &mut self,
+        suffixes: &Suffixes,
+        number: u16,
+        at: u64,
+        version: &mut NameBuf,
+    ) -> Result<NameEnd, Fault>
+        requires { SuffixesWithin self.old.src.now.seen.size suffixes.now }
+        ensures { FetchesNamed self.old self.new version.new result suffixes.now number at }
+    {
+        match suffixes.numbered.names.name(number) {
+            NameAt::Nowhere => refused(at, Cause::VersionIndex),
+            NameAt::Defined(index) => self.read_into(
+                NameIndex {
+                    names: suffixes.numbered.defined,
+                    off: u64::from(index),
+                    at: suffixes.places[usize::from(number)],
+                },
+                version,
+            ),
+            NameAt::Needed(index) => self.read_into(
+                NameIndex {
+                    names: suffixes.numbered.needed,
+                    off: u64::from(index),
+                    at: suffixes.places[usize::from(number)],
+                },
+                version,
+            ),
+        }
+    }
+
+    /// Reads the name at an index of a string table into a buffer.
+    fn read_into(&mut self, index: NameIndex, name: &mut NameBuf) -> Result<NameEnd, Fault>
+        requires { StringsWithin self.old.src.now.seen.size index.names }
+        ensures { FetchesInto self.old self.new name.new result index.names index.off index.at }
+    {
+        self.ahead.name(self.src, index, self.style.cap, name)
+    }
+}

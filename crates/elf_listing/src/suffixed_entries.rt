@@ -1,0 +1,115 @@
+//! Relocation entries with the versions of their symbols, shown.
+ghost use Rattle.std.specs.Prelude.{◌≡◌, IfSome};
+ghost use Rattle.elf_table.specs.Tables.{SymbolsWithin};
+ghost use Rattle.elf_listing.specs.Choosing.{ShowsRows};
+ghost use Rattle.elf_listing.specs.Fetched.{FetchesLinked};
+ghost use Rattle.elf_listing.specs.Kinds.{ListsRow, RowFits};
+ghost use Rattle.elf_listing.specs.Suffixed.{FetchesOfEntry, SuffixesWithin};
+ghost use Rattle.elf_listing.specs.declared.rows.ListedAs.TheVariants.{SuffixedRelocations};
+
+use crate::choosing::Choosing;
+use crate::listing::Listing;
+use crate::read_suffix::SuffixEnd;
+use crate::row::whole_row;
+use crate::suffixes::Suffixes;
+use elf_headers::{Fault, Stop, refused};
+use elf_lines::{LineFront, Render, relocation_front};
+use elf_names::NameIndex;
+use elf_record::{Cause, Rela};
+use elf_source::{Sink, Source};
+use elf_table::{NameBuf, NameEnd, Names, Row, Table};
+
+/// The name of the symbol of an entry, which was read, and whether the symbol is defined.
+#[derive(Clone, Copy)]
+pub struct SymbolRead {
+    /// How the name ends.
+    pub end: NameEnd,
+    /// Whether the symbol is defined.
+    pub is_defined: bool,
+}
+
+impl<S: Source, W: Sink> Listing<'_, '_, '_, '_, S, W> {
+    /// Shows the row of a relocation entry of a section: its `R` line with the name of its symbol and
+    /// the version behind it, where it is one of the rows that are shown; or the refusal of its symbol
+    /// at the entry's offset, of the name at the symbol's, or the version's.
+    pub(crate) fn suffixed_relocation_row<R: Render, C: Choosing>(
+        &mut self,
+        front: &mut LineFront,
+        row: &Row<'_>,
+        section: u16,
+        linked: Option<(Table, Names)>,
+        suffixes: &Suffixes,
+    ) -> Result<(), Stop>
+        requires format { R.FORMAT ≡ self.old.style.format }
+        requires rows { ShowsRows C.BY_NAME self.old.style }
+        requires row { let kind = SuffixedRelocations section linked suffixes in
+            RowFits self.old.src.now.seen.size kind row.now }
+        ensures { let kind = SuffixedRelocations section linked suffixes.entry in
+            ListsRow self.old self.new result kind row.now }
+    {
+        let naming = self.naming();
+        let entry = Rela::decode(whole_row(row));
+        let symbol = entry.symbol();
+        let read = self.read_linked(linked, symbol, row.at)?;
+        let mut version = NameBuf::new();
+        let suffix = self.read_entry(suffixes, symbol, read.is_defined, &mut version)?;
+        if !self.is_shown::<C>(read.end) {
+            return Ok(());
+        }
+        relocation_front::<R>(front, section, &entry, naming);
+        self.suffixed_line(front, read.end, suffix, &version)
+    }
+
+    /// Reads the version of the symbol of an index; none for symbol 0.
+    fn read_entry(
+        &mut self,
+        suffixes: &Suffixes,
+        symbol: u32,
+        is_defined: bool,
+        version: &mut NameBuf,
+    ) -> Result<Option<SuffixEnd>, Fault>
+        requires { SuffixesWithin self.old.src.now.seen.size suffixes.now }
+        ensures { FetchesOfEntry self.old self.new version.new result suffixes.now symbol is_defined }
+    {
+        if symbol == 0 {
+            return Ok(None);
+        }
+        self.read_suffix(suffixes, u64::from(symbol), is_defined, version)
+    }
+
+    /// Reads the name of the symbol of an index as a plain row does, and tells whether the symbol is
+    /// defined; symbol 0 is not.
+    fn read_linked(
+        &mut self,
+        linked: Option<(Table, Names)>,
+        symbol: u32,
+        at: u64,
+    ) -> Result<SymbolRead, Fault>
+        requires { IfSome linked (SymbolsWithin self.old.src.now.seen.size) }
+        ensures { FetchesLinked self.old self.new result linked symbol at }
+    {
+        if symbol == 0 {
+            self.name.clear();
+            return Ok(SymbolRead {
+                end: NameEnd::Whole,
+                is_defined: false,
+            });
+        }
+        let Some(found) = linked else {
+            return refused(at, Cause::BadLink);
+        };
+        let (symbols, names) = found;
+        let index = u64::from(symbol);
+        if index >= symbols.len() {
+            return refused(at, Cause::SymbolIndex);
+        }
+        let entry = self.ahead.symbol(self.src, &symbols, index)?;
+        let end = self.read_name(NameIndex {
+            names,
+            off: u64::from(entry.st_name),
+            at: symbols.place(index),
+        })?;
+        let is_defined = entry.st_shndx != 0;
+        Ok(SymbolRead { end, is_defined })
+    }
+}

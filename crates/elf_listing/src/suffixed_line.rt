@@ -1,0 +1,92 @@
+//! Lines that end in a name with its version.
+ghost use Rattle.std.specs.Prelude.{◌≡◌, ◌≤◌, length};
+ghost use Rattle.elf_fields.specs.Fronts.{front_of};
+ghost use Rattle.elf_listing.specs.Shows.{cut_of};
+ghost use Rattle.elf_listing.specs.Suffixed.{ListsSuffixed, suffix_read};
+ghost use Rattle.elf_listing.specs.SuffixTexts.{before_version, behind_version};
+
+use crate::listing::Listing;
+use crate::read_suffix::SuffixEnd;
+use crate::row::is_cut;
+use elf_headers::Stop;
+use elf_lines::{LineFront, NextName, show_joined};
+use elf_model::Format;
+use elf_source::{Sink, Source};
+use elf_table::{NameBuf, NameEnd};
+
+impl<S: Source, W: Sink> Listing<'_, '_, '_, '_, S, W> {
+    /// Writes a line that ends in the name that was read, with the version behind it. Its front is
+    /// used on the way.
+    pub(crate) fn suffixed_line(
+        &mut self,
+        front: &mut LineFront,
+        end: NameEnd,
+        suffix: Option<SuffixEnd>,
+        version: &NameBuf,
+    ) -> Result<(), Stop>
+        requires { length front.old.key.now ≤ 16 }
+        ensures { let suffix = suffix_read suffix version.now in
+            ListsSuffixed self.old self.new result (front_of front.old) end suffix }
+    {
+        let Some(suffix) = suffix else {
+            return self.named_line(front, end);
+        };
+        self.versioned_line(front, end, suffix, version)
+    }
+
+    /// Writes it where there is one.
+    fn versioned_line(
+        &mut self,
+        front: &mut LineFront,
+        end: NameEnd,
+        suffix: SuffixEnd,
+        version: &NameBuf,
+    ) -> Result<(), Stop>
+        requires { length front.old.key.now ≤ 16 }
+        ensures { let suffix = suffix_read (Some suffix) version.now in
+            ListsSuffixed self.old self.new result (front_of front.old) end suffix }
+    {
+        let next = NextName {
+            between: before_version(front.format, suffix.is_default),
+            name: version.bytes(),
+            tail: behind_version(front.format, is_cut(suffix.end), suffix.is_default),
+        };
+        let shown = show_joined(front, self.name.bytes(), is_cut(end), &next, self.out);
+        let NextName {
+            between: _,
+            name: _,
+            tail: _,
+        } = next;
+        shown?;
+        Ok(())
+    }
+}
+
+/// What stands between a name and its version.
+#[tactic(auto, unfolding(crate::specs::SuffixTexts::before_version))]
+fn before_version(format: Format, is_default: bool) -> &'static [u8]
+    ensures text { result.now ≡ before_version format is_default }
+    ensures short { length result.now ≤ 16 }
+{
+    match (format, is_default) {
+        (Format::Columns, false) => b"@",
+        (Format::Columns, true) => b"@@",
+        (Format::Object, _) => b",\"version\":\"",
+    }
+}
+
+/// What stands behind a version, with the line's end.
+#[tactic(auto, unfolding(crate::specs::SuffixTexts::behind_version))]
+fn behind_version(format: Format, is_cut: bool, is_default: bool) -> &'static [u8]
+    ensures text { result.now ≡ behind_version format is_cut is_default }
+    ensures short { length result.now ≤ 64 }
+{
+    match (format, is_cut, is_default) {
+        (Format::Columns, false, _) => b"\n",
+        (Format::Columns, true, _) => b"\\+\n",
+        (Format::Object, false, false) => b"\",\"default\":false}\n",
+        (Format::Object, false, true) => b"\",\"default\":true}\n",
+        (Format::Object, true, false) => b"\",\"version_cut\":true,\"default\":false}\n",
+        (Format::Object, true, true) => b"\",\"version_cut\":true,\"default\":true}\n",
+    }
+}

@@ -1,0 +1,54 @@
+//! Rows that end in the name of a symbol with its version, shown.
+ghost use Rattle.std.specs.Prelude.{◌≡◌};
+ghost use Rattle.elf_listing.specs.Choosing.{ShowsRows};
+ghost use Rattle.elf_listing.specs.Kinds.{ListsRow, RowFits};
+ghost use Rattle.elf_listing.specs.declared.rows.ListedAs.TheVariants.{SuffixedSymbols};
+
+use crate::choosing::Choosing;
+use crate::listing::Listing;
+use crate::row::whole_row;
+use crate::suffixes::Suffixes;
+use elf_headers::Stop;
+use elf_lines::{LineFront, Render, symbol_front};
+use elf_names::NameIndex;
+use elf_record::Sym;
+use elf_source::{Sink, Source};
+use elf_table::{NameBuf, Names, Row};
+
+impl<S: Source, W: Sink> Listing<'_, '_, '_, '_, S, W> {
+    /// Shows the row of a symbol of a section: its `Y` line with its name and the version behind it,
+    /// where it is one of the rows that are shown; or the name's refusal at the symbol's offset, or
+    /// the version's.
+    pub(crate) fn suffixed_symbol_row<R: Render, C: Choosing>(
+        &mut self,
+        front: &mut LineFront,
+        row: &Row<'_>,
+        section: u16,
+        names: &Names,
+        suffixes: &Suffixes,
+    ) -> Result<(), Stop>
+        requires format { R.FORMAT ≡ self.old.style.format }
+        requires rows { ShowsRows C.BY_NAME self.old.style }
+        requires row { let kind = SuffixedSymbols section names.now suffixes in
+            RowFits self.old.src.now.seen.size kind row.now }
+        ensures { let kind = SuffixedSymbols section names.now suffixes.entry in
+            ListsRow self.old self.new result kind row.now }
+    {
+        let naming = self.naming();
+        let symbol = Sym::decode(whole_row(row));
+        let off = u64::from(symbol.st_name);
+        let end = self.read_name(NameIndex {
+            names: *names,
+            off,
+            at: row.at,
+        })?;
+        let mut version = NameBuf::new();
+        let is_defined = symbol.st_shndx != 0;
+        let suffix = self.read_suffix(suffixes, row.index, is_defined, &mut version)?;
+        if !self.is_shown::<C>(end) {
+            return Ok(());
+        }
+        symbol_front::<R>(front, section, row.index, &symbol, naming);
+        self.suffixed_line(front, end, suffix, &version)
+    }
+}
