@@ -58,15 +58,23 @@ name_option = record (new_rule (codes "name")) { long = Some (codes "name"); val
 abbrev pub name_list_option : Rule
 name_list_option = record (new_rule (codes "name-list")) { long = Some (codes "name-list"); value_names = 1 }
 
+-- whether the version of a symbol stands behind its name
+abbrev pub versions_option : Rule
+versions_option = flag (codes "versions")
+
+-- a command with the options of a listing that is written
+abbrev pub with_written_rows : Words → App → App
+with_written_rows parts command = with_rule (with_listing_options parts command) versions_option
+
 -- a command with the options of a listing of which rows are chosen by their names
 abbrev pub with_chosen_rows : Words → App → App
-with_chosen_rows parts command = with_rule (with_rule (with_listing_options parts command) name_option) name_list_option
+with_chosen_rows parts command = with_rule (with_rule (with_written_rows parts command) name_option) name_list_option
 
 abbrev pub show_command : Words → App
 show_command parts = with_rule (with_chosen_rows parts (new_app (codes "show"))) file_argument
 
 abbrev pub sample_command : Words → App
-sample_command parts = with_listing_options parts (new_app (codes "sample"))
+sample_command parts = with_written_rows parts (new_app (codes "sample"))
 
 abbrev pub name_argument : Rule
 name_argument = record (new_rule (codes "NAME")) { required = true }

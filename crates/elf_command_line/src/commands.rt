@@ -133,6 +133,12 @@ const REQUIRE: Word = Word {
     help: "Tell of each program and library which of these words it lacks, as in stack=nx,relro=full",
 };
 
+const VERSIONS: Word = Word {
+    name: "versions",
+    kind: WordKind::Flag,
+    help: "With --gnu: show behind the name of a symbol its version too, as NAME@VERSION",
+};
+
 const ROW_NAME: Word = Word {
     name: "name",
     kind: WordKind::Repeated("NAME"),
@@ -181,6 +187,7 @@ const SHOW: Described = Described {
         GNU,
         BY_SEGMENTS,
         JSON,
+        VERSIONS,
         ROW_NAME,
         NAME_LIST,
         FILE,
@@ -191,7 +198,7 @@ const SAMPLE: Described = Described {
     name: "sample",
     about: "List a small file that the program carries",
     more: "Example: elfsee sample --only header",
-    words: &[HEADERS, NAMES, MAX_READ, ONLY, GNU, BY_SEGMENTS, JSON],
+    words: &[HEADERS, NAMES, MAX_READ, ONLY, GNU, BY_SEGMENTS, JSON, VERSIONS],
 };
 
 const FIND: Described = Described {
@@ -281,6 +288,7 @@ const ARCHIVE: Described = Described {
         GNU,
         BY_SEGMENTS,
         JSON,
+        VERSIONS,
         ROW_NAME,
         NAME_LIST,
         FILE,

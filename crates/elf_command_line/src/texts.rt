@@ -40,6 +40,9 @@ traits also --json, --require and --files0-from, needs also --json and those for
                 there are
   --explain     for apply only: where an address is missing, tell on standard error the type of
                 the relocation, the name of its symbol, and the item that would help
+  --versions    for show, sample, archive and
+                 list only, with --gnu: show behind the name of a symbol
+                its version too, as NAME@VERSION, or NAME@@VERSION where that is the default one
   --name NAME   for show, archive and list only: show the rows of this name alone; at most 64 times
   --name-list LIST
                 for show, archive and list only: show the rows of the names in LIST, one a line
@@ -69,8 +72,8 @@ Exit status:
   2  the words are wrong, or ask for help, and no file is opened: standard error tells which
      word is wrong and why, or has the help, or one of these lines:
        elfsee: words are not UTF-8
-       elfsee: bad name       a NAME is empty, or longer than 4096 bytes; of find --gnu also where
-                              it has an empty name or an empty version
+       elfsee: bad name       a NAME is empty, or longer than 4096 bytes; of find --gnu, and with
+                              --versions, also where it has an empty name or an empty version
        elfsee: too many names
                               --name stands there more than 64 times
        elfsee: bad item       an item has another form, or its index or name is out of range
@@ -131,10 +134,13 @@ pub(crate) const SHOWN: &str = "\
 With --name or --name-list the parts are symbols alone, or the one that --only tells: symbols,
 relocs, or with --gnu versions. Of them those rows are shown whose name is one of the names.
 --names stands beside neither: as many bytes of a name are looked at as the longest NAME has.
+With --versions NAME fits each version of the name, NAME@VERSION that version, and NAME@@VERSION
+that version where it is the default one.
 
 Examples:
   elfsee show --only symbols /bin/ls
-  elfsee show --name main --name printf /bin/ls";
+  elfsee show --name main --name printf /bin/ls
+  elfsee show --gnu --versions --name memcpy@@GLIBC_2.14 /lib/x86_64-linux-gnu/libc.so.6";
 
 pub(crate) const LISTED: &str = "\
 Each ELF file has a line @ with its path, and behind it the listing that 'show' writes with these

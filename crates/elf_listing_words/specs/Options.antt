@@ -59,6 +59,14 @@ asks_gnu rows = is_option_set (first_of (codes "gnu") rows)
 abbrev pub lacks_gnu : List Row → Bool
 lacks_gnu rows = is_option_set (first_of (codes "by-segments") rows) && not (asks_gnu rows)
 
+-- whether the version of a symbol is to stand behind its name
+abbrev pub asks_versions : List Row → Bool
+asks_versions rows = is_option_set (first_of (codes "versions") rows)
+
+-- whether it is, in a listing that is none of the GNU system
+abbrev pub versions_lack_gnu : List Row → Bool
+versions_lack_gnu rows = asks_versions rows && not (asks_gnu rows)
+
 -- how a line is written, by whether objects are asked for
 abbrev pub asked_format : List Row → Format
 asked_format rows = if is_option_set (first_of (codes "json") rows) then Object else Columns
@@ -70,7 +78,8 @@ pub record IsStyle (rows : List Row) (style : Style) : Type 0 where
   pub by_segments : style.by_segments ≡ is_option_set (first_of (codes "by-segments") rows)
   pub format : style.format ≡ asked_format rows
   pub choice : choice_of style.choice ≡ EveryRow
-  pub versions : style.versions ≡ false
+  pub versions : style.versions ≡ asks_versions rows
+  pub allowed : versions_lack_gnu rows ≡ false
 
 -- the part with this name, or without a name all, of listings of the GNU system or of the standards' alone
 abbrev pub ArePartsOf : Bool → Option Text → Parts → Type 0

@@ -5,7 +5,7 @@ ghost use Rattle.clap.specs.declared.error.kind.ErrorKind.TheVariants.{Format};
 ghost use Rattle.elf_listing_words.specs.Faults.{IsUnasked};
 
 use crate::faults::WordsFault;
-use crate::options::{asks_gnu, find_lacks_gnu, text_of};
+use crate::options::{asks_gnu, find_lacks_gnu, text_of, versions_lack_gnu};
 use crate::reading::{MEMBER_PARTS, PARTS};
 use crate::row_names::{asks_names, chosen_parts_of, is_given};
 use clap::error::ErrorKind;
@@ -59,6 +59,7 @@ fn missing(alloc: Global, matches: &ArgMatches<'_>) -> Result<Error, AllocError>
 fn lacking<'m>(matches: &'m ArgMatches<'_>) -> (&'m str, &'static str) {
     match matches.subcommand() {
         Some((command, options)) if lacks_gnu(options) => (command, NO_GNU),
+        Some((command, options)) if versions_lack_gnu(options) => (command, NO_GNU),
         Some((command, options)) if asks_names(options) => (command, lacking_rows(options)),
         Some(("find", options)) if find_lacks_gnu(options) => ("find", NO_GNU),
         Some(("check", _)) => ("check", NO_PATH),

@@ -7,7 +7,8 @@ ghost use Rattle.elf_model.specs.Listing.{all_parts};
 ghost use Rattle.elf_model.specs.Text.{name_of};
 ghost use Rattle.elf_listing_words.specs.Options.{AreLimitOptions, AreParts, HasNumber, IsStyle};
 ghost use Rattle.elf_listing_words.specs.Options.{asked_format, asks_gnu, is_part, is_option_set};
-ghost use Rattle.elf_listing_words.specs.Options.{lacks_gnu, part_names};
+ghost use Rattle.elf_listing_words.specs.Options.{asks_versions, lacks_gnu, part_names};
+ghost use Rattle.elf_listing_words.specs.Options.{versions_lack_gnu};
 ghost use Rattle.elf_record.specs.declared.parts.Parts.{Parts};
 ghost use Rattle.elf_headers.specs.declared.caps.Limits.{Limits};
 ghost use Rattle.elf_headers.specs.declared.caps.Style.{Style};
@@ -38,13 +39,16 @@ pub fn style_of(options: &ArgMatches<'_>) -> Option<Style<'static>>
     let cap = Cap::new(small_number_of(options, "names")?)?;
     let gnu = asks_gnu(options);
     let by_segments = is_set(options, "by-segments");
+    if versions_lack_gnu(options) {
+        return None;
+    }
     Some(Style {
         cap,
         gnu,
         by_segments,
         format: format_of(options),
         choice: RowChoice::every_row(),
-        versions: false,
+        versions: asks_versions(options),
     })
 }
 
@@ -74,6 +78,20 @@ pub fn asks_gnu(options: &ArgMatches<'_>) -> bool
     ensures { result ≡ asks_gnu (rows_of (found_of options.now)) }
 {
     is_set(options, "gnu")
+}
+
+/// Whether the options ask for the version of a symbol behind its name.
+pub fn asks_versions(options: &ArgMatches<'_>) -> bool
+    ensures { result ≡ asks_versions (rows_of (found_of options.now)) }
+{
+    is_set(options, "versions")
+}
+
+/// Whether they do, of a listing that is none of the GNU system.
+pub fn versions_lack_gnu(options: &ArgMatches<'_>) -> bool
+    ensures { result ≡ versions_lack_gnu (rows_of (found_of options.now)) }
+{
+    asks_versions(options) && !asks_gnu(options)
 }
 
 /// Whether a lookup by the program headers is asked for that is none as a loader does it.

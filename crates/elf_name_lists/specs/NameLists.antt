@@ -1,7 +1,8 @@
 -- The names of a list, which has one a line.
-use Rattle.std.specs.Prelude.{ℕ, ◌≡◌, ◌≤◌, ◌<◌, ◌+◌, ◌==◌, ⊤, nat_lt, List, [], length, filter, All, Option, None, Some, Result, Ok, Err}
+use Rattle.std.specs.Prelude.{ℕ, Bool, true, ◌≡◌, ◌≤◌, ◌<◌, ◌+◌, ◌==◌, ⊤, nat_lt, List, [], length, filter, All, Option, None, Some, Result, Ok, Err}
 use Rattle.std.specs.Borrow.{Bor}
 use Rattle.std.specs.List.{slice_split}
+use Rattle.elf_model.specs.Loader.{is_complete, wanted_of}
 use Rattle.elf_model.specs.NameLaws.{IsWanted}
 use Rattle.elf_name_lists.specs.declared.NamesFault.{NamesFault}
 use Rattle.elf_name_lists.specs.declared.NamesFault.TheVariants.{Read, TooLarge, BadName, Memory}
@@ -18,9 +19,9 @@ line_names lines = filter (λ line. nat_lt 0 (length line)) lines
 abbrev pub listed_names : List ℕ → List (List ℕ)
 listed_names text = line_names (text_lines text)
 
--- bytes are a name that can be looked for: 1 to 4,096 of them, none NUL
-abbrev pub IsRowName : List ℕ → Type 0
-IsRowName bytes = IsWanted bytes × (length bytes ≤ 4096)
+-- bytes are a name that can be looked for: 1 to 4,096 of them, none NUL; and where a name may have a version, neither is empty
+abbrev pub IsRowName : (versions : Bool) → List ℕ → Type 0
+IsRowName versions bytes = IsWanted bytes × (length bytes ≤ 4096) × (versions ≡ true → is_complete (wanted_of bytes) ≡ true)
 
 -- the text of a list is the whole file, which has no more than 67,108,864 bytes
 abbrev pub IsListText : (file text : List ℕ) → Result (Unit {0}) NamesFault → Type 0
@@ -31,10 +32,10 @@ IsListText file text (Err Memory) = ⊤
 IsListText file text (Err BadName) = ⊥
 
 -- why there are none of some names of a list: one is none that can be looked for, or there is no memory
-abbrev pub IsNoNames : List (List ℕ) → NamesFault → Type 0
-IsNoNames names BadName = All IsRowName names → ⊥
-IsNoNames names Memory = ⊤
-IsNoNames names _ = ⊥
+abbrev pub IsNoNames : (versions : Bool) → List (List ℕ) → NamesFault → Type 0
+IsNoNames versions names BadName = All (IsRowName versions) names → ⊥
+IsNoNames versions names Memory = ⊤
+IsNoNames versions names _ = ⊥
 
 -- the lines of what is left of a text; where none is left there is none
 abbrev pub behind_lines : Option (Bor (List ℕ)) → List (List ℕ)

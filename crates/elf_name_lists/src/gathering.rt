@@ -9,7 +9,7 @@ ghost use Rattle.elf_name_lists.specs.declared.NamesFault.TheVariants.{Memory};
 
 use crate::NamesFault;
 use crate::lines::first_line;
-use elf_wanted::sort_texts;
+use elf_wanted::{sort_texts, wanted_of};
 use memchr::memchr;
 use std::alloc::Global;
 
@@ -21,22 +21,23 @@ const MOST_BYTES: usize = 4_096;
 /// carriage return is a byte like others.
 ///
 /// # Errors
-/// `BadName` where a line of the list has more than 4,096 bytes, or a NUL; `Memory` where there is
-/// none for the names.
+/// `BadName` where a line of the list can't be looked for ([`is_row_name`], by whether a name may have a
+/// version); `Memory` where there is none for the names.
 pub fn gather_names<'a>(
     alloc: Global,
     words: &[&'a str],
     list: &'a [u8],
+    versions: bool,
 ) -> Result<Vec<&'a [u8]>, NamesFault>
     ensures names { IfOk result (λ names.
         IsPermutation (texts_of words.now ++ listed_names list.now) (texts_of names.items)) }
     ensures sorted { IfOk result (λ names. NeverFall names.items) }
-    ensures each { IfOk result (λ _. All IsRowName (listed_names list.now)) }
-    ensures refused { IfErr result (IsNoNames (listed_names list.now)) }
+    ensures each { IfOk result (λ _. All (IsRowName versions) (listed_names list.now)) }
+    ensures refused { IfErr result (IsNoNames versions (listed_names list.now)) }
 {
     let mut names = Vec::new(alloc);
     push_words(&mut names, words)?;
-    push_lines(&mut names, list)?;
+    push_lines(&mut names, list, versions)?;
     sort_texts(&mut names);
     Ok(names)
 }
@@ -62,16 +63,20 @@ fn push_words<'a>(names: &mut Vec<&'a [u8]>, words: &[&'a str]) -> Result<(), Na
 ///
 /// # Errors
 /// `BadName` where one can't be looked for; `Memory` where there is none for them.
-fn push_lines<'a>(names: &mut Vec<&'a [u8]>, list: &'a [u8]) -> Result<(), NamesFault>
+fn push_lines<'a>(
+    names: &mut Vec<&'a [u8]>,
+    list: &'a [u8],
+    versions: bool,
+) -> Result<(), NamesFault>
     ensures names { IfOk result (λ _.
         texts_of names.new.items ≡ texts_of names.old.items ++ listed_names list.now) }
-    ensures each { IfOk result (λ _. All IsRowName (listed_names list.now)) }
-    ensures refused { IfErr result (IsNoNames (listed_names list.now)) }
+    ensures each { IfOk result (λ _. All (IsRowName versions) (listed_names list.now)) }
+    ensures refused { IfErr result (IsNoNames versions (listed_names list.now)) }
 {
     let mut left = Some(list);
     while let Some(text) = left {
         let line = first_line(text);
-        match push_line(names, line.text) {
+        match push_line(names, line.text, versions) {
             Ok(()) => left = line.behind,
             Err(fault) => return Err(fault),
         }
@@ -83,16 +88,20 @@ fn push_lines<'a>(names: &mut Vec<&'a [u8]>, list: &'a [u8]) -> Result<(), Names
 ///
 /// # Errors
 /// `BadName` where it can't be looked for; `Memory` where there is none for it.
-fn push_line<'a>(names: &mut Vec<&'a [u8]>, line: &'a [u8]) -> Result<(), NamesFault>
+fn push_line<'a>(
+    names: &mut Vec<&'a [u8]>,
+    line: &'a [u8],
+    versions: bool,
+) -> Result<(), NamesFault>
     ensures names { IfOk result (λ _.
         texts_of names.new.items ≡ texts_of names.old.items ++ line_names (line.now ∷ [])) }
-    ensures each { IfOk result (λ _. All IsRowName (line_names (line.now ∷ []))) }
-    ensures refused { IfErr result (IsNoNames (line_names (line.now ∷ []))) }
+    ensures each { IfOk result (λ _. All (IsRowName versions) (line_names (line.now ∷ []))) }
+    ensures refused { IfErr result (IsNoNames versions (line_names (line.now ∷ []))) }
 {
     if line.is_empty() {
         return Ok(());
     }
-    if !is_row_name(line) {
+    if !is_row_name(line, versions) {
         return Err(NamesFault::BadName);
     }
     match names.push(line) {
@@ -101,12 +110,16 @@ fn push_line<'a>(names: &mut Vec<&'a [u8]>, line: &'a [u8]) -> Result<(), NamesF
     }
 }
 
-/// Whether bytes are a name that can be looked for: 1 to 4,096 of them, none NUL.
-pub fn is_row_name(bytes: &[u8]) -> bool
-    ensures yes { result ≡ true → IsRowName bytes.now }
-    ensures no { result ≡ false → IsRowName bytes.now → ⊥ }
+/// Whether bytes are a name that can be looked for: 1 to 4,096 of them, none NUL; and where a name may
+/// have a version, as NAME@VERSION or NAME@@VERSION, neither of them empty.
+pub fn is_row_name(bytes: &[u8], versions: bool) -> bool
+    ensures yes { result ≡ true → IsRowName versions bytes.now }
+    ensures no { result ≡ false → IsRowName versions bytes.now → ⊥ }
 {
-    !bytes.is_empty() && bytes.len() <= MOST_BYTES && !has_nul(bytes)
+    if bytes.is_empty() || bytes.len() > MOST_BYTES || has_nul(bytes) {
+        return false;
+    }
+    !versions || wanted_of(bytes).is_complete()
 }
 
 /// Whether one of these bytes is NUL.

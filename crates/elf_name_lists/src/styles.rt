@@ -20,6 +20,7 @@ pub fn style_by_names<'n>(style: Style<'_>, names: &'n [&'n [u8]]) -> Style<'n>
         by_segments: style.by_segments,
         format: style.format,
         choice: RowChoice::rows_of(names),
+        versions: style.versions,
     }
 }
 

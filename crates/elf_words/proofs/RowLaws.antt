@@ -2,6 +2,7 @@
 use Rattle.std.proofs.Common.{◌≡◌, ◌∙◌, ◌<◌, Bool, true, false, List, [], ◌∷◌, Option, None, Some, ap, arith, codes, is_some, length, refl, sym, subst, inl, inr, unwrap_or}
 use Rattle.std.specs.Prelude.{◌⊎◌, ◌||◌}
 use Rattle.clap.specs.Walk.{Row, Text, all_of}
+use Rattle.elf_listing_words.specs.Options.{asks_versions}
 use Rattle.elf_listing_words.specs.RowNames.{AreChosenParts, asks_names, name_words}
 use Rattle.elf_record.specs.declared.parts.Parts.{Parts}
 use Rattle.elf_words.specs.Asked.{IsText}
@@ -10,24 +11,24 @@ use Rattle.elf_words.specs.declared.checks.NamesAsked.{NamesAsked}
 use Rattle.elf_words.specs.declared.requests.RequestFault.{RequestFault}
 
 -- words that are names are not bad
-not_bad : (words : List Text) → AreTexts words → HasBadText words → ⊥
-not_bad [] are bad = bad
-not_bad (word ∷ words) are (inl bad) = bad are.0
-not_bad (word ∷ words) are (inr bad) = not_bad words are.1 bad
+not_bad : (versions : Bool) (words : List Text) → AreTexts versions words → HasBadText versions words → ⊥
+not_bad versions [] are bad = bad
+not_bad versions (word ∷ words) are (inl bad) = bad are.0
+not_bad versions (word ∷ words) are (inr bad) = not_bad versions words are.1 bad
 
 no_word : (o : Option (List Text)) (b : Bool) → (is_some o || b) ≡ false → unwrap_or o [] ≡ []
 no_word None b is = refl
 no_word (Some words) b is = cc
 
-none_bad : (words : List Text) → words ≡ [] → (HasBadText words → ⊥) × ((64 < length words) → ⊥)
-none_bad [] is = ((λ bad. bad), (λ more. absurd (omega (arith, more))))
-none_bad (word ∷ words) is = cc
+none_bad : (versions : Bool) (words : List Text) → words ≡ [] → (HasBadText versions words → ⊥) × ((64 < length words) → ⊥)
+none_bad versions [] is = ((λ bad. bad), (λ more. absurd (omega (arith, more))))
+none_bad versions (word ∷ words) is = cc
 
 -- names that are asked for, or none, have no fault
 pub faultless : (rows : List Row) (names : Option NamesAsked) → AreNamesIf rows names → (fault : RequestFault) → AreBadNames rows fault → ⊥
-faultless rows None none fault (inl bad) = (none_bad (name_words rows) (no_word (all_of (codes "name") rows) _ none)).0 bad.1
-faultless rows None none fault (inr bad) = (none_bad (name_words rows) (no_word (all_of (codes "name") rows) _ none)).1 bad.1
-faultless rows (Some asked) are fault (inl bad) = not_bad (name_words rows) are.each bad.1
+faultless rows None none fault (inl bad) = (none_bad (asks_versions rows) (name_words rows) (no_word (all_of (codes "name") rows) _ none)).0 bad.1
+faultless rows None none fault (inr bad) = (none_bad (asks_versions rows) (name_words rows) (no_word (all_of (codes "name") rows) _ none)).1 bad.1
+faultless rows (Some asked) are fault (inl bad) = not_bad (asks_versions rows) (name_words rows) are.each bad.1
 faultless rows (Some asked) are fault (inr bad) = absurd (omega (arith, are.few, bad.1))
 
 asked_and_not : (rows : List Row) → asks_names rows ≡ true → asks_names rows ≡ false → ⊥

@@ -2,7 +2,7 @@
 use Rattle.std.specs.Prelude.{◌≡◌, ◌⊎◌, ◌≤◌, ◌<◌, ⊤, Bool, true, false, bytes_eq, length, List, [], ◌∷◌, codes, Option, None, Some, option_map}
 use Rattle.std.specs.List.{list_any}
 use Rattle.clap.specs.Walk.{Row, Text, first_of, texts}
-use Rattle.elf_listing_words.specs.Options.{AreLimitOptions, IsStyle}
+use Rattle.elf_listing_words.specs.Options.{AreLimitOptions, IsStyle, asks_versions}
 use Rattle.elf_listing_words.specs.RowNames.{AreChosenParts, asks_names, name_words}
 use Rattle.elf_record.specs.declared.parts.Parts.{Parts}
 use Rattle.elf_words.specs.Asked.{IsFileNamed, IsText}
@@ -11,15 +11,15 @@ use Rattle.elf_words.specs.declared.checks.NamesAsked.{NamesAsked}
 use Rattle.elf_words.specs.declared.requests.RequestFault.{RequestFault}
 use Rattle.elf_words.specs.declared.requests.RequestFault.TheVariants.{BadName, Memory, NamesFull}
 
--- each is a name: a text of 1 to 4,096 bytes without NUL
-abbrev pub AreTexts : List Text → Type 0
-AreTexts [] = ⊤
-AreTexts (word ∷ words) = IsText false word × AreTexts words
+-- each is a name: a text of 1 to 4,096 bytes without NUL; and where a name may have a version, neither is empty
+abbrev pub AreTexts : (versions : Bool) → List Text → Type 0
+AreTexts versions [] = ⊤
+AreTexts versions (word ∷ words) = IsText versions word × AreTexts versions words
 
 -- one is none
-abbrev pub HasBadText : List Text → Type 0
-HasBadText [] = ⊥
-HasBadText (word ∷ words) = (IsText false word → ⊥) ⊎ HasBadText words
+abbrev pub HasBadText : (versions : Bool) → List Text → Type 0
+HasBadText versions [] = ⊥
+HasBadText versions (word ∷ words) = (IsText versions word → ⊥) ⊎ HasBadText versions words
 
 -- the names that stand among the values, at most 64, and the path of a file that has more; there is a name, or that file
 pub record AreNamesAsked (rows : List Row) (asked : NamesAsked) : Type 0 where
@@ -27,7 +27,8 @@ pub record AreNamesAsked (rows : List Row) (asked : NamesAsked) : Type 0 where
   pub list : option_map (λ path. path.now) asked.list ≡ first_of (codes "name-list") rows
   pub some : asks_names rows ≡ true
   pub few : length (name_words rows) ≤ 64
-  pub each : AreTexts (name_words rows)
+  pub each : AreTexts (asks_versions rows) (name_words rows)
+  pub versions : asked.versions ≡ asks_versions rows
 
 -- such names where they are asked for, else none
 abbrev pub AreNamesIf : List Row → Option NamesAsked → Type 0
@@ -54,11 +55,11 @@ ChosenBy None asked = ⊥
 ChosenBy (Some (command, rows)) asked = IsChoosing command rows asked
 
 -- what is wrong with words for names: one is none, or there are too many
-abbrev pub AreBadWords : List Text → RequestFault → Type 0
-AreBadWords words fault = ((fault ≡ BadName) × HasBadText words) ⊎ ((fault ≡ NamesFull) × (64 < length words))
+abbrev pub AreBadWords : (versions : Bool) → List Text → RequestFault → Type 0
+AreBadWords versions words fault = ((fault ≡ BadName) × HasBadText versions words) ⊎ ((fault ≡ NamesFull) × (64 < length words))
 
 abbrev pub AreBadNames : List Row → RequestFault → Type 0
-AreBadNames rows fault = AreBadWords (name_words rows) fault
+AreBadNames rows fault = AreBadWords (asks_versions rows) (name_words rows) fault
 
 -- why there are none: no memory, or what is wrong with them
 abbrev pub IsNameFault : List Row → RequestFault → Type 0

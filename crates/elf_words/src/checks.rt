@@ -47,6 +47,8 @@ pub struct NamesAsked<'a> {
     pub names: Vec<&'a str>,
     /// The path of a file that has more names, one a line.
     pub list: Option<&'a str>,
+    /// Whether a name may have a version, as NAME@VERSION or NAME@@VERSION.
+    pub versions: bool,
 }
 
 /// A listing of those rows of one file that have one of some names.

@@ -2,16 +2,18 @@
 ghost use Rattle.std.specs.Prelude.{◌≡◌, ◌≤◌, IfErr, IfOk, length, true, false};
 ghost use Rattle.clap.specs.Walk.{rows_of, texts};
 ghost use Rattle.clap.specs.Words.{found_of};
+ghost use Rattle.elf_listing_words.specs.Options.{asks_versions};
 ghost use Rattle.elf_listing_words.specs.RowNames.{asks_names, name_words};
 ghost use Rattle.elf_words.specs.AskedNames.{AreBadNames, AreBadWords, AreNamesAsked, AreNamesIf, AreTexts};
+ghost use Rattle.elf_words.specs.Asked.{IsText};
 ghost use Rattle.elf_words.specs.AskedNames.{HasBadText, IsNameFault};
 
 use crate::checks::NamesAsked;
 use crate::file_words::words_of;
-use crate::names::checked_name;
 use crate::requests::RequestFault;
 use clap::ArgMatches;
-use elf_listing_words::{asks_names, text_of};
+use elf_listing_words::{asks_names, asks_versions, text_of};
+use elf_name_lists::is_row_name;
 use std::alloc::{AllocError, Global};
 
 /// How many names may stand among the words.
@@ -20,7 +22,8 @@ const MOST_NAMES: usize = 64;
 /// The names of which the rows are asked for, or None where every row is.
 ///
 /// # Errors
-/// `BadName` where one is not of 1 to 4,096 bytes without NUL; `NamesFull` where there are more than 64;
+/// `BadName` where one is not of 1 to 4,096 bytes without NUL, or with versions has an empty name or
+/// version; `NamesFull` where there are more than 64;
 /// `Memory` where there is none for them.
 pub(crate) fn names_of<'a>(
     alloc: Global,
@@ -45,7 +48,8 @@ fn names_with<'a>(
 ) -> Result<Option<NamesAsked<'a>>, RequestFault>
     requires asked { asks_names (rows_of (found_of options.now)) ≡ true }
     requires few { length (name_words (rows_of (found_of options.now))) ≤ 64 }
-    requires each { AreTexts (name_words (rows_of (found_of options.now))) }
+    requires each { AreTexts (asks_versions (rows_of (found_of options.now)))
+        (name_words (rows_of (found_of options.now))) }
     ensures names { IfOk result (AreNamesIf (rows_of (found_of options.now))) }
     ensures refused { IfErr result (IsNameFault (rows_of (found_of options.now))) }
 {
@@ -53,6 +57,7 @@ fn names_with<'a>(
         Ok(names) => Ok(Some(NamesAsked {
             names,
             list: text_of(options, "name-list"),
+            versions: asks_versions(options),
         })),
         Err(AllocError) => Err(RequestFault::Memory),
     }
@@ -64,12 +69,14 @@ fn names_with<'a>(
 /// Those of [`names_of`], but for memory.
 fn check_names(options: &ArgMatches<'_>) -> Result<(), RequestFault>
     ensures few { IfOk result (λ _. length (name_words (rows_of (found_of options.now))) ≤ 64) }
-    ensures each { IfOk result (λ _. AreTexts (name_words (rows_of (found_of options.now)))) }
+    ensures each { IfOk result (λ _. AreTexts (asks_versions (rows_of (found_of options.now)))
+        (name_words (rows_of (found_of options.now)))) }
     ensures refused { IfErr result (AreBadNames (rows_of (found_of options.now))) }
 {
+    let versions = asks_versions(options);
     match options.get_strs("name") {
-        Some(words) => check_words(words),
-        None => check_words(&[]),
+        Some(words) => check_words(words, versions),
+        None => check_words(&[], versions),
     }
 }
 
@@ -77,30 +84,39 @@ fn check_names(options: &ArgMatches<'_>) -> Result<(), RequestFault>
 ///
 /// # Errors
 /// Those of [`names_of`], but for memory.
-fn check_words(words: &[&str]) -> Result<(), RequestFault>
+fn check_words(words: &[&str], versions: bool) -> Result<(), RequestFault>
     ensures few { IfOk result (λ _. length (texts words.now) ≤ 64) }
-    ensures each { IfOk result (λ _. AreTexts (texts words.now)) }
-    ensures refused { IfErr result (AreBadWords (texts words.now)) }
+    ensures each { IfOk result (λ _. AreTexts versions (texts words.now)) }
+    ensures refused { IfErr result (AreBadWords versions (texts words.now)) }
 {
     if words.len() > MOST_NAMES {
         return Err(RequestFault::NamesFull);
     }
-    if are_names(words) {
+    if are_names(words, versions) {
         return Ok(());
     }
     Err(RequestFault::BadName)
 }
 
 /// Whether words are names that can be looked for.
-fn are_names(mut words: &[&str]) -> bool
-    ensures each { result ≡ true → AreTexts (texts words.entry.now) }
-    ensures bad { result ≡ false → HasBadText (texts words.entry.now) }
+fn are_names(mut words: &[&str], versions: bool) -> bool
+    ensures each { result ≡ true → AreTexts versions (texts words.entry.now) }
+    ensures bad { result ≡ false → HasBadText versions (texts words.entry.now) }
 {
     while let [word, rest @ ..] = words {
-        if checked_name(word).is_none() {
+        if !is_text(word, versions) {
             return false;
         }
         words = rest;
     }
     true
+}
+
+/// Whether a word is a name that can be looked for; and where a name may have a version, has neither
+/// an empty name nor an empty version.
+fn is_text(word: &str, versions: bool) -> bool
+    ensures yes { result ≡ true → IsText versions word.now }
+    ensures no { result ≡ false → IsText versions word.now → ⊥ }
+{
+    is_row_name(word.as_bytes(), versions)
 }

@@ -40,7 +40,7 @@ fn name_bytes(word: &str) -> Option<&[u8]>
     ensures unnamed { IsNone result → IsWanted word.now → length word.now ≤ 4096 → ⊥ }
 {
     let name = word.as_bytes();
-    if is_row_name(name) {
+    if is_row_name(name, false) {
         return Some(name);
     }
     None

@@ -8,7 +8,7 @@ returns-in-Err-clause-refused c =
     let line = c.first_line-line.result.text.now in
     let rest = behind_lines c.first_line-line.result.behind in
     let lines : behind_lines c.loop-left.left ≡ line ∷ rest = ap behind_lines c.in-Some.is ∙ c.first_line-line.ensures.lines in
-    c.loop-left.invariant.bad c.in-Err.fault (subst (λ ls. IsNoNames (line_names ls) c.in-Err.fault) (sym lines) (bad_first line rest c.in-Err.fault c.in-Err.ensures.refused))
+    c.loop-left.invariant.bad c.in-Err.fault (subst (λ ls. IsNoNames c.args.versions (line_names ls) c.in-Err.fault) (sym lines) (bad_first c.args.versions line rest c.in-Err.fault c.in-Err.ensures.refused))
 
 pub loop-left-preserved : goal.loop-left-preserved
 loop-left-preserved c =
@@ -16,7 +16,7 @@ loop-left-preserved c =
     let rest = behind_lines c.first_line-line.result.behind in
     let lines : behind_lines c.loop-left.left ≡ line ∷ rest = ap behind_lines c.in-Some.is ∙ c.first_line-line.ensures.lines in
     record {
-      names = put_line line rest _ _ _ _ lines c.in-Ok.ensures.names c.loop-left.invariant.names;
-      each = λ all. c.loop-left.invariant.each (subst (λ ls. All IsRowName (line_names ls)) (sym lines) (each_split line rest c.in-Ok.ensures.each all));
-      bad = λ fault bad. c.loop-left.invariant.bad fault (subst (λ ls. IsNoNames (line_names ls) fault) (sym lines) (bad_rest line rest fault bad));
+      names = put_line c.args.versions line rest _ _ _ _ lines c.in-Ok.ensures.names c.loop-left.invariant.names;
+      each = λ all. c.loop-left.invariant.each (subst (λ ls. All (IsRowName c.args.versions) (line_names ls)) (sym lines) (each_split c.args.versions line rest c.in-Ok.ensures.each all));
+      bad = λ fault bad. c.loop-left.invariant.bad fault (subst (λ ls. IsNoNames c.args.versions (line_names ls) fault) (sym lines) (bad_rest c.args.versions line rest fault bad));
     }

@@ -8,8 +8,8 @@ use Rattle.elf_name_lists.proofs.gathering.push_lines.Given as goal
 abbrev pub invariant-loop-left : goal.invariant-loop-left
 invariant-loop-left l = record {
   names : texts_of l.names.items ++ line_names (behind_lines l.left) ≡ texts_of l.initial.names.items ++ listed_names l.fn.list;
-  each : All IsRowName (line_names (behind_lines l.left)) → All IsRowName (listed_names l.fn.list);
-  bad : (fault : NamesFault) → IsNoNames (line_names (behind_lines l.left)) fault → IsNoNames (listed_names l.fn.list) fault;
+  each : All (IsRowName l.fn.versions) (line_names (behind_lines l.left)) → All (IsRowName l.fn.versions) (listed_names l.fn.list);
+  bad : (fault : NamesFault) → IsNoNames l.fn.versions (line_names (behind_lines l.left)) fault → IsNoNames l.fn.versions (listed_names l.fn.list) fault;
 }
 
 abbrev pub decreases-loop-left : goal.decreases-loop-left

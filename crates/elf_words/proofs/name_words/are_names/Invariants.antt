@@ -5,7 +5,7 @@ use Rattle.elf_words.proofs.name_words.are_names.Given as goal
 
 -- all words are names where those that are left are, and one is none where one of those is none
 abbrev pub invariant-loop-words : goal.invariant-loop-words
-invariant-loop-words l = (AreTexts (texts l.words) → AreTexts (texts l.fn.words)) × (HasBadText (texts l.words) → HasBadText (texts l.fn.words))
+invariant-loop-words l = (AreTexts l.fn.versions (texts l.words) → AreTexts l.fn.versions (texts l.fn.words)) × (HasBadText l.fn.versions (texts l.words) → HasBadText l.fn.versions (texts l.fn.words))
 
 abbrev pub decreases-loop-words : goal.decreases-loop-words
 decreases-loop-words l = length l.words
