@@ -4,10 +4,10 @@
 _elfsee_options() {
     local option given
     case $1 in
-    show | archive) set -- --headers --names --max-read --only --gnu --by-segments --json --name --name-list ;;
-    sample) set -- --headers --names --max-read --only --gnu --by-segments --json ;;
+    show | archive) set -- --headers --names --max-read --only --gnu --by-segments --json --versions --name --name-list ;;
+    sample) set -- --headers --names --max-read --only --gnu --by-segments --json --versions ;;
     check) set -- --headers --names --max-read --only --gnu --by-segments --json --members --files0-from ;;
-    list) set -- --headers --names --max-read --only --gnu --by-segments --json --name --name-list --members --files0-from ;;
+    list) set -- --headers --names --max-read --only --gnu --by-segments --json --versions --name --name-list --members --files0-from ;;
     find) set -- --headers --max-read --gnu --by-segments --json ;;
     apply) set -- --headers --max-read --layout --explain ;;
     needs) set -- --headers --max-read --library-path --default --root --symbols --json ;;

@@ -85,6 +85,7 @@ complete -c elfsee -n '__fish_seen_subcommand_from find; and __elfsee_lacks --gn
 complete -c elfsee -n '__fish_seen_subcommand_from find; and __elfsee_lacks --by-segments' -l by-segments -d 'with --gnu: find the tables by the program headers'
 complete -c elfsee -n "$listing; and __elfsee_lacks --by-segments" -l by-segments -d 'find tables by the program headers'
 complete -c elfsee -n "__fish_seen_subcommand_from show sample find check list traits needs archive; and __elfsee_lacks --json" -l json -d 'write each line as a JSON object'
+complete -c elfsee -n '__fish_seen_subcommand_from show sample list archive; and __elfsee_lacks --versions' -l versions -d 'with --gnu: show the version of a symbol behind its name'
 complete -c elfsee -n '__fish_seen_subcommand_from show list archive' -l name -x -d 'show the rows of this name alone'
 complete -c elfsee -n '__fish_seen_subcommand_from show list archive; and __elfsee_lacks --name-list' -l name-list -r -F -d 'show the rows of the names in a file too, one a line'
 complete -c elfsee -n '__fish_seen_subcommand_from traits; and __elfsee_lacks --require' -l require -x -d 'tell which of these words a program or a library lacks'

@@ -78,7 +78,7 @@ pub fn sorted_names<'a>(
     ensures sorted { IfOk result (λ names. NeverFall names.items) }
     ensures refused { IfErr result (λ ending. LacksNames ending.0 ending.1.now) }
 {
-    match gather_names(alloc, &asked.names, text) {
+    match gather_names(alloc, &asked.names, text, asked.versions) {
         Ok(names) => Ok(names),
         Err(fault) => Err(lacking(fault)),
     }
