@@ -45,7 +45,7 @@ abbrev pub IsWithin : ℕ → Option ℕ → Type 0
 IsWithin asked most = (n : ℕ) → most ≡ Some n → (asked ≤ n) × (n < asked + 2 ^ 64)
 
 -- a fact of every file that a source gives, from one of the option
-abbrev pub each_file : (P : List ℕ → Type 0) (file : Option (List ℕ)) → IfSome file P → (bytes : List ℕ) → file ≡ Some bytes → P bytes
+abbrev each_file : (P : List ℕ → Type 0) (file : Option (List ℕ)) → IfSome file P → (bytes : List ℕ) → file ≡ Some bytes → P bytes
 each_file P file holds bytes same = subst (λ (o : Option (List ℕ)). IfSome o P) same holds
 
 -- a file, where one is known: all of it, or with zeros where its header tells of section headers
@@ -54,7 +54,7 @@ file_by false file = file
 file_by true file = option_map without_sections file
 
 -- which is as long
-abbrev pub sized_by : (hides : Bool) (file : Option (List ℕ)) (size : ℕ) → ((bytes : List ℕ) → file ≡ Some bytes → length bytes ≡ size)
+abbrev sized_by : (hides : Bool) (file : Option (List ℕ)) (size : ℕ) → ((bytes : List ℕ) → file ≡ Some bytes → length bytes ≡ size)
     → (bytes : List ℕ) → file_by hides file ≡ Some bytes → length bytes ≡ size
 sized_by false file size sized = sized
 sized_by true None size sized = each_file (λ bytes. length bytes ≡ size) None tt

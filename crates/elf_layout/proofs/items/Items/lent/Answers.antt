@@ -1,4 +1,4 @@
-use Rattle.std.proofs.Common.{◌≡◌, ℕ, ap, sym, subst, ◌∙◌, Equal, nat_cmp, get_or}
+use Rattle.std.proofs.Common.{ap, sym, subst, ◌∙◌, Equal, nat_cmp, get_or}
 use Rattle.std.proofs.lemmas.Cmp.{nat_cmp_total, ranked}
 use Rattle.elf_layout.specs.Lent.{lent_index, named, placed}
 use Rattle.elf_layout.specs.Listed.{HasTwice, NeverFalls}
