@@ -69,7 +69,7 @@ taken_place formula target rela =
     ]
 
 -- what an entry took of a symbol is what each entry takes that names it so
-abbrev pub IsSymbolTaken : List ℕ → TargetCode → ℕ → Taken → Type 0
+abbrev IsSymbolTaken : List ℕ → TargetCode → ℕ → Taken → Type 0
 IsSymbolTaken file target header taken =
     (rela : ℕ) → taken.symbol ≡ r_sym file rela → term_of taken.base (target_as file target) header rela ≡ Ok taken.value
 
