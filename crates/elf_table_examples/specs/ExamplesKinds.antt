@@ -3,7 +3,7 @@ use Rattle.std.specs.Prelude.{ℕ, List, [], ◌∷◌, ◌++◌, codes}
 use Rattle.elf_model.specs.Bytes.{little}
 use Rattle.elf_model.specs.Fixtures.{with_bytes, one_symbol_table}
 use Rattle.elf_model.specs.FixturesTables.{one_load, tagged}
-use Rattle.elf_trait_examples.specs.TraitFiles.{TraitsCost, TraitsAre, program_with_traits}
+use Rattle.elf_table_examples.specs.TraitFiles.{TraitsCost, TraitsAre, program_with_traits}
 
 -- the program without an interpreter, and with DF_1_NOW alone in FLAGS_1
 abbrev without_interpreter : List ℕ → List ℕ
