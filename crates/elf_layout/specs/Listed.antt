@@ -58,7 +58,7 @@ IsFaulty all front end =
     ((line : List ℕ) × (rest : List (List ℕ)) × (all ≡ front ++ line ∷ rest) × ((item : Item) → Spells line item → ⊥))
     ⊎ ((all ≡ front) × (end ≡ Cut))
 
--- why lines give no items behind others: the first that spells none decides, and its number is told
+-- why lines give no items behind others: the first that spells none decides, by its number
 abbrev pub IsRefused : List (List ℕ) → Layout → TextEnd → ItemsFault → Type 0
 IsRefused lines old end (BadItem line) =
     (front : List (List ℕ)) × (new : Layout) × GiveItems front old new × IsFaulty lines front end × (line ≡ length front + 1)
