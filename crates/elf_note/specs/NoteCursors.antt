@@ -28,7 +28,7 @@ pub record NoteReading : Type 0 where
   pub descriptor : List ℕ
   pub failed : Option Fault
 
--- a cursor before the first note of a table, whose header tells an alignment
+-- a cursor before the first note of a table, of the alignment that its header has
 pub record StartsNotes (table : Rows) (align : ℕ) (c : NoteReading) : Type 0 where
   pub its_table : c.table ≡ table
   pub its_align : c.align ≡ note_align align

@@ -38,7 +38,7 @@ FixedKinds =
     × TraitsAre one_load (codes "T static none    exec  w^x   fixed -         -      -       -       p\n")
     × TraitsCost one_load 120
 
--- what section headers tell is not looked at: more of them than are permitted, and one whose table is not in the file
+-- section headers are not looked at: more of them than are permitted, and one whose table is not in the file
 abbrev pub SectionsDoNotTell : Type 0
 SectionsDoNotTell =
     TraitsAre (with_bytes 0x28 (little 8 0x40) (with_bytes 0x3a (little 2 64 ++ little 2 9) program_with_traits))

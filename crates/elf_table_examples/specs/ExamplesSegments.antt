@@ -1,4 +1,4 @@
--- Worked examples of what program headers and dynamic entries tell: each trait with both answers.
+-- Worked examples of traits by program headers and dynamic entries: each with both answers.
 use Rattle.std.specs.Prelude.{ℕ, List, ◌++◌, codes}
 use Rattle.elf_model.specs.Bytes.{little}
 use Rattle.elf_model.specs.Fixtures.{with_bytes}

@@ -1,4 +1,4 @@
--- Worked examples of what dynamic symbols tell, and how many there are.
+-- Worked examples of traits by dynamic symbols, and of how many there are.
 use Rattle.std.specs.Prelude.{ℕ, List, [], ◌∷◌, ◌++◌, codes}
 use Rattle.elf_model.specs.Bytes.{little}
 use Rattle.elf_model.specs.Fixtures.{with_bytes, zeros}
