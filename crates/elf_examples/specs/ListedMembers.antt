@@ -33,7 +33,7 @@ MarksEndHeaders =
     × (told_size (with_bytes 59 (0x0d ∷ []) (member_header (codes "a") (codes "1"))) 0 ≡ None)
     × (listed 63 (with_bytes 59 (0x0d ∷ []) (member (codes "a/") [])) ≡ codes "! 0000000000000008 member-cut\n")
 
--- the table of names is told by all 16 bytes of its name
+-- the table of names is known by all 16 bytes of its name
 abbrev pub NameTablesAreTold : Type 0
 NameTablesAreTold =
     (is_name_table (codes "//              ") 0 ≡ true)
@@ -59,7 +59,7 @@ FirstTablesDecide =
     ≡ codes "A     0 0000000000000044 0000000000000000 //\n" ++ codes "A     1 0000000000000080 0000000000000002 //\n"
     ++ codes "! 0000000000000082 name-outside\n")
 
--- a member's first four bytes tell an ELF file, whatever the fifth is
+-- a member is known for an ELF file by its first four bytes, whatever the fifth is
 abbrev pub FirstFourBytesTell : Type 0
 FirstFourBytesTell =
     (is_elf (127 ∷ 69 ∷ 76 ∷ 70 ∷ []) ≡ true) × (is_elf (127 ∷ 69 ∷ 76 ∷ 70 ∷ 9 ∷ []) ≡ true)

@@ -112,7 +112,7 @@ abbrev pub LacksRead : List ℕ → (header : ℕ) → Option Missing → Result
 LacksRead file header missing (Ok found) = Lacks file header missing found
 LacksRead file header missing (Err fault) = IsOfRead fault
 
--- a name is told, or has a fault
+-- a name is read, or has a fault
 abbrev pub TellsSymbolName : Result Shown Cause → Result (Option NameEnd) Fault → List ℕ → Type 0
 TellsSymbolName answer (Ok (Some end)) name = answer ≡ Ok (shown_by end name)
 TellsSymbolName answer (Ok None) name = (cause : Cause) × (answer ≡ Err cause)

@@ -39,7 +39,7 @@ pub fn archive_status(listed: Result<bool, Stop>) -> Result<u8, Stop>
 }
 
 /// The exit status for words that are no request, and the line on standard error, which is empty for
-/// `Words`: what is told then is in the fault.
+/// `Words`: what is said then is in the fault.
 pub fn refused(fault: &RequestFault) -> Ending
     ensures status { result.0 ≡ refused_status fault.now }
     ensures line { result.1.now ≡ refused_line fault.now }

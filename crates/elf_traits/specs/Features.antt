@@ -1,4 +1,4 @@
--- What reading a list of properties tells, step by step.
+-- What reading a list of properties finds, step by step.
 use Rattle.std.specs.Prelude.{ℕ, ◌≡◌, ◌+◌, ◌==◌, min, true, false, List, Option, None, Some, Result, Ok, Err}
 use Rattle.elf_model.specs.Budget.{IsBudget}
 use Rattle.elf_model.specs.Bytes.{slice}
@@ -9,7 +9,7 @@ use Rattle.elf_headers.specs.declared.fault.Fault.{Fault}
 use Rattle.elf_headers.specs.declared.fault.Fault.TheVariants.{Refused, Source}
 use Rattle.elf_traits.specs.declared.property.Head.{Head}
 
--- a value is what the definitions tell, and so is a refusal, unless that is for want of budget
+-- a value is that of the definitions, and so is a refusal, unless that is for want of budget
 abbrev pub TellsValue : {X : Type 0} → Result X Refusal → Result X Fault → Type 0
 TellsValue told (Ok value) = told ≡ Ok value
 TellsValue told (Err (Refused refusal)) = (IsBudget refusal → ⊥) → told ≡ Err refusal
@@ -44,7 +44,7 @@ abbrev pub word_after : Option ℕ → List Property → ℕ
 word_after (Some word) properties = word
 word_after None properties = property_word (first_property GNU_PROPERTY_X86_FEATURE_1_AND properties)
 
--- what the rest of a list tells that begins at a place
+-- the word of the rest of a list that begins at a place, or where it is cut
 abbrev pub features_after : ℕ → Option ℕ → PropertyWalk → Result ℕ Refusal
 features_after place found walk = elim walk.cut [
   | Some offset ↦ Err (record { at = place + offset; cause = NoteCut })

@@ -33,7 +33,7 @@ list_among align at walk = elim (first_listing (note_rows align at walk.notes)) 
   | None ↦ elim walk.cut [ Some place ↦ Err (record { at = place; cause = NoteCut }) | None ↦ Ok None ]
 ]
 
--- the first list in a table of notes, whose header tells an alignment
+-- the first list in a table of notes of the alignment that its header has
 abbrev pub first_list : List ℕ → (align : ℕ) → Rows → Result (Option PropertyList) Refusal
 first_list file align table =
     list_among (note_align align) table.at
@@ -43,7 +43,7 @@ first_list file align table =
 abbrev pub is_list : List ℕ → PropertyBytes → PropertyList
 is_list file list = record { place = list.at; bytes = slice file list.at list.size }
 
--- a list, or none, is what the definitions tell, and so is a refusal, unless that is for want of budget
+-- a list, or none, is that of the definitions, and so is a refusal, unless that is for want of budget
 abbrev pub TellsList : List ℕ → Result (Option PropertyList) Refusal → Result (Option PropertyBytes) Fault → Type 0
 TellsList file told (Ok None) = told ≡ Ok None
 TellsList file told (Ok (Some list)) = told ≡ Ok (Some (is_list file list))
@@ -58,7 +58,7 @@ ListLies size found = IfSome found (λ list. list.at + list.size ≤ size)
 abbrev pub notes_asked : List ℕ → ℕ → ℕ
 notes_asked file i = table_cost segment_notes (file_segments file) i (length file) TRAIT_NAME_BYTES
 
--- what the program header of an index tells of lists of properties
+-- the list of properties by the program header of an index
 abbrev pub list_at : List ℕ → ℕ → Result (Option PropertyList) Refusal
 list_at file i = elim (p_type file (segment_at file i) == PT_NOTE) [ false ↦ Ok None | true ↦ listed_in file (segment_at file i) ]
 

@@ -26,7 +26,7 @@ pub fn features_in<S: Source>(src: &mut Counted<S>, at: u64, size: u64) -> Resul
         (λ file. TellsValue
         (features_in (record { place = at; bytes = slice file at size })) result) }
 {
-    // No source is longer than a number of 64 bits tells.
+    // No source is longer than a number of 64 bits can be.
     let _ = src.length();
     let mut found = None;
     let mut done: u64 = 0;

@@ -3,7 +3,7 @@ use Rattle.std.specs.Prelude.{ℕ, List, [], ◌∷◌, ◌++◌, codes}
 use Rattle.elf_model.specs.Bytes.{little}
 use Rattle.elf_model.specs.Fixtures.{with_bytes, one_symbol_table}
 use Rattle.elf_model.specs.FixturesTables.{one_load, tagged}
-use Rattle.elf_trait_examples.specs.TraitFiles.{TraitsCost, TraitsAre, program_with_traits}
+use Rattle.elf_table_examples.specs.TraitFiles.{TraitsCost, TraitsAre, program_with_traits}
 
 -- the program without an interpreter, and with DF_1_NOW alone in FLAGS_1
 abbrev without_interpreter : List ℕ → List ℕ
@@ -38,7 +38,7 @@ FixedKinds =
     × TraitsAre one_load (codes "T static none    exec  w^x   fixed -         -      -       -       p\n")
     × TraitsCost one_load 120
 
--- what section headers tell is not looked at: more of them than are permitted, and one whose table is not in the file
+-- section headers are not looked at: more of them than are permitted, and one whose table is not in the file
 abbrev pub SectionsDoNotTell : Type 0
 SectionsDoNotTell =
     TraitsAre (with_bytes 0x28 (little 8 0x40) (with_bytes 0x3a (little 2 64 ++ little 2 9) program_with_traits))

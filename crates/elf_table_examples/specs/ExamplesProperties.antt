@@ -4,7 +4,7 @@ use Rattle.elf_model.specs.Bytes.{little}
 use Rattle.elf_model.specs.Fixtures.{with_bytes}
 use Rattle.elf_model.specs.FixturesTables.{program_header}
 use Rattle.elf_model.specs.Properties.{Property, properties_in}
-use Rattle.elf_trait_examples.specs.TraitFiles.{TraitsAre, program_with_traits, property}
+use Rattle.elf_table_examples.specs.TraitFiles.{TraitsAre, program_with_traits, property}
 
 -- the properties that a descriptor lists
 abbrev Lists : List ℕ → List Property → Type 0

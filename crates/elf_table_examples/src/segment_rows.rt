@@ -1,5 +1,5 @@
 //! Worked examples of what program headers and dynamic entries tell, each computed by the prover.
-ghost use Rattle.elf_trait_examples.specs.ExamplesSegments.{EntryRows, PagesRows, RelroHostile, RelroRows, StackRows};
+ghost use Rattle.elf_table_examples.specs.ExamplesSegments.{EntryRows, PagesRows, RelroHostile, RelroRows, StackRows};
 
 /// All is bound at once by either entry of flags, or by one of its own.
 #[tactic(auto, unfolding(elf_model::proofs::OnLiterals::on_literals, elf_model::proofs::OnLoader::on_loader, crate::proofs::OnTraits::on_traits))]

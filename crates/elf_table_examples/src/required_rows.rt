@@ -1,5 +1,5 @@
 //! Worked examples of words that are required, each computed by the prover.
-ghost use Rattle.elf_trait_examples.specs.ExamplesRequired.{NothingRequired, RequiredRows};
+ghost use Rattle.elf_table_examples.specs.ExamplesRequired.{NothingRequired, RequiredRows};
 
 /// The first word that a program lacks has a line.
 #[tactic(auto, unfolding(elf_model::proofs::OnLiterals::on_literals, elf_model::proofs::OnLoader::on_loader, crate::proofs::OnTraits::on_traits))]

@@ -1,9 +1,9 @@
--- Worked examples of what program headers and dynamic entries tell: each trait with both answers.
+-- Worked examples of traits by program headers and dynamic entries: each with both answers.
 use Rattle.std.specs.Prelude.{ℕ, List, ◌++◌, codes}
 use Rattle.elf_model.specs.Bytes.{little}
 use Rattle.elf_model.specs.Fixtures.{with_bytes}
 use Rattle.elf_model.specs.FixturesTables.{tagged}
-use Rattle.elf_trait_examples.specs.TraitFiles.{TraitsAre, program_with_traits}
+use Rattle.elf_table_examples.specs.TraitFiles.{TraitsAre, program_with_traits}
 
 -- the program with other words in FLAGS and in FLAGS_1
 abbrev flags : (flags flags_1 : ℕ) → List ℕ → List ℕ

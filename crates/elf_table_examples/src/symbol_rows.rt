@@ -1,5 +1,5 @@
 //! Worked examples of what dynamic symbols tell, each computed by the prover.
-ghost use Rattle.elf_trait_examples.specs.ExamplesSymbols.{CanaryRows, CountRows, FortifyRows, NameFaults};
+ghost use Rattle.elf_table_examples.specs.ExamplesSymbols.{CanaryRows, CountRows, FortifyRows, NameFaults};
 
 /// Symbols of guards, and others.
 #[tactic(auto, unfolding(elf_model::proofs::OnLiterals::on_literals, elf_model::proofs::OnLoader::on_loader, crate::proofs::OnTraits::on_traits))]

@@ -1,5 +1,5 @@
 //! Worked examples of lists of properties, each computed by the prover.
-ghost use Rattle.elf_trait_examples.specs.ExamplesProperties.{FeatureRows, HostileNotes, NoteRows, PropertyLists};
+ghost use Rattle.elf_table_examples.specs.ExamplesProperties.{FeatureRows, HostileNotes, NoteRows, PropertyLists};
 
 /// Lists of properties, whole and cut.
 #[tactic(auto, unfolding(elf_model::proofs::OnLiterals::on_literals, elf_model::proofs::OnLoader::on_loader, crate::proofs::OnTraits::on_traits))]

@@ -1,9 +1,9 @@
--- Worked examples of what dynamic symbols tell, and how many there are.
+-- Worked examples of traits by dynamic symbols, and of how many there are.
 use Rattle.std.specs.Prelude.{ℕ, List, [], ◌∷◌, ◌++◌, codes}
 use Rattle.elf_model.specs.Bytes.{little}
 use Rattle.elf_model.specs.Fixtures.{with_bytes, zeros}
 use Rattle.elf_model.specs.FixturesHash.{words}
-use Rattle.elf_trait_examples.specs.TraitFiles.{TraitsCost, TraitsAre, program_with_traits}
+use Rattle.elf_table_examples.specs.TraitFiles.{TraitsCost, TraitsAre, program_with_traits}
 
 -- the program with other strings behind the first, which is empty
 abbrev named : List ℕ → List ℕ → List ℕ
