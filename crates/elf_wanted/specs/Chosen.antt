@@ -1,8 +1,7 @@
 -- Which rows are shown, by texts that are borrowed.
-use Rattle.std.specs.Prelude.{List, ℕ, Bool, if◌then◌else◌, map}
+use Rattle.std.specs.Prelude.{if◌then◌else◌, map}
 use Rattle.elf_model.specs.Choice.{RowChoice as IsChoice, EveryRow, RowsOf, Suffix, Suffixed, wanted_text}
-use Rattle.elf_model.specs.Names.{Shown}
-use Rattle.elf_model.specs.Names.Shown.{Cut, Whole}
+use Rattle.elf_model.specs.ShownNames.{shown_as}
 use Rattle.elf_wanted.specs.Names.{texts_of}
 use Rattle.elf_wanted.specs.declared.choice.RowChoice.{RowChoice}
 use Rattle.elf_wanted.specs.declared.choice.ShownVersion.{ShownVersion}
@@ -11,10 +10,6 @@ use Rattle.elf_wanted.specs.declared.choice.ShownVersion.{ShownVersion}
 abbrev pub choice_of : RowChoice → IsChoice
 choice_of choice = if choice.by_name then RowsOf (map (wanted_text choice.versions) (texts_of choice.texts.now)) else EveryRow
 
--- a name as it is shown, by its bytes and whether more of it is cut off
-abbrev pub shown_of : List ℕ → Bool → Shown
-shown_of name is_cut = if is_cut then Cut name else Whole name
-
 -- the version behind a name, as the definitions have it
 abbrev pub behind_of : ShownVersion → Suffix
-behind_of version = Suffixed version.is_default (shown_of version.name.now version.is_cut)
+behind_of version = Suffixed version.is_default (shown_as version.is_cut version.name.now)

@@ -38,7 +38,8 @@ impl<'a> RowChoice<'a> {
     ghost use Rattle.std.specs.Prelude.{◌≡◌, map};
     ghost use Rattle.elf_model.specs.Choice.{EveryRow, NoSuffix, RowsOf, chooses, wanted_text};
     ghost use Rattle.elf_model.specs.ChoiceLaws.{has_version};
-    ghost use Rattle.elf_wanted.specs.Chosen.{behind_of, choice_of, shown_of};
+    ghost use Rattle.elf_model.specs.ShownNames.{shown_as};
+    ghost use Rattle.elf_wanted.specs.Chosen.{behind_of, choice_of};
     ghost use Rattle.elf_wanted.specs.Names.{texts_of};
 
     /// Every row.
@@ -71,7 +72,7 @@ impl<'a> RowChoice<'a> {
     /// number.
     #[tactic(auto, using(elf_model::proofs::ChoiceLemmas::names_are_chosen, elf_model::proofs::ChoiceLemmas::names_alone_are_chosen, elf_model::proofs::ChoiceLemmas::cut_names_are_none))]
     pub fn shows(&self, name: &[u8], is_cut: bool) -> bool
-        ensures { result ≡ chooses (choice_of self.now) (shown_of name.now is_cut) NoSuffix }
+        ensures { result ≡ chooses (choice_of self.now) (shown_as is_cut name.now) NoSuffix }
     {
         if !self.by_name {
             return true;
@@ -89,7 +90,7 @@ impl<'a> RowChoice<'a> {
     /// Whether the row of a name with a version behind it is shown, in three such searches.
     #[tactic(auto, using(elf_model::proofs::ChoiceLemmas::names_are_chosen, elf_model::proofs::ChoiceLemmas::names_alone_are_chosen, elf_model::proofs::ChoiceLemmas::versions_are_chosen, elf_model::proofs::ChoiceLemmas::cut_names_are_none))]
     pub fn shows_version(&self, name: &[u8], is_cut: bool, version: &ShownVersion<'_>) -> bool
-        ensures { result ≡ chooses (choice_of self.now) (shown_of name.now is_cut) (behind_of version.now) }
+        ensures { result ≡ chooses (choice_of self.now) (shown_as is_cut name.now) (behind_of version.now) }
     {
         if self.shows(name, is_cut) {
             return true;
@@ -100,7 +101,7 @@ impl<'a> RowChoice<'a> {
     /// Whether one of the texts is this name with its version.
     fn has_version(&self, name: &[u8], version: &ShownVersion<'_>) -> bool
         ensures { result ≡ has_version (texts_of self.now.texts.now) name.now
-            version.now.is_default (shown_of version.now.name.now version.now.is_cut) }
+            version.now.is_default (shown_as version.now.is_cut version.now.name.now) }
     {
         if version.is_cut {
             return false;
