@@ -1,10 +1,9 @@
 -- Lines that end in a name, and what stands behind it.
 pub use Rattle.elf_model.specs.ShownNames.{shown_as}
-use Rattle.std.specs.Prelude.{ℕ, Bool, true, false, List, ◌++◌}
+use Rattle.std.specs.Prelude.{ℕ, List, ◌++◌}
 use Rattle.elf_model.specs.Fields.{LineFront, string_text}
 use Rattle.elf_model.specs.Lines.{escaped, name_member, name_text}
 use Rattle.elf_model.specs.Names.{Shown}
-use Rattle.elf_model.specs.Names.Shown.{Whole, Cut}
 use Rattle.elf_model.specs.declared.formats.Format.{Format}
 use Rattle.elf_model.specs.declared.formats.Format.TheVariants.{Columns, Object}
 
