@@ -107,9 +107,9 @@ AllPartsCost =
 -- what no archive of so many bytes costs more than
 abbrev pub CeilingsOfArchives : Type 0
 CeilingsOfArchives =
-    (archive_ceiling 59 1 63 ≡ 8 + (64 + (184 + 59 + 3 * 96)))
-    × (archive_ceiling 60 1 63 ≡ 8 + (64 + 128 + (64 + 184)) + (64 + (184 + 60 + 3 * 96)))
-    × (archive_ceiling 734 3 62 ≡ 8 + 12 * (64 + 64 + (64 + 3 * 184)) + (64 + 3 * (184 + 734 + 45 * 96)))
+    (archive_ceiling 59 1 (standard 63) ≡ 8 + (64 + (184 + 59 + 3 * 96)))
+    × (archive_ceiling 60 1 (standard 63) ≡ 8 + (64 + 128 + (64 + 184)) + (64 + (184 + 60 + 3 * 96)))
+    × (archive_ceiling 734 3 (standard 62) ≡ 8 + 12 * (64 + 64 + (64 + 3 * 184)) + (64 + 3 * (184 + 734 + 45 * 96)))
 
 -- an archive of one member without data, and what is allowed of its members' lines within a budget, or without one
 abbrev pub Allows : Option ℕ → List ℕ → Option Refusal → Type 0
