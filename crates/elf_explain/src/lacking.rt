@@ -7,7 +7,7 @@ ghost use Rattle.elf_headers.specs.Ledger.{Did, why_stopped};
 ghost use Rattle.elf_table.specs.Relocations.{RefersTo};
 ghost use Rattle.elf_table.specs.Tables.{StringsWithin, SymbolsWithin};
 ghost use Rattle.elf_explain.specs.Explained.{EntryRead, EntryWithin, LackOf, LacksRead};
-ghost use Rattle.elf_explain.specs.Explained.{SymbolRead};
+ghost use Rattle.elf_explain.specs.Explained.{EntrySymbolRead};
 
 use crate::entries::LinkedSymbols;
 use elf_headers::{Fault, fill};
@@ -95,7 +95,7 @@ fn read_symbol<S: Source>(
     requires { IfSome linked (SymbolsWithin src.old.seen.size) }
     ensures did { Did src.old src.new (why_stopped result) 24
         (λ file. (header rela : ℕ) → RefersTo file header linked → symbol ≡ r_sym file rela →
-        SymbolRead file header rela result) }
+        EntrySymbolRead file header rela result) }
     ensures within { IfOk result (λ found.
         IfSome found (λ named. StringsWithin src.old.seen.size named.names)) }
 {

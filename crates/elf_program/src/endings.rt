@@ -13,7 +13,7 @@ pub type Ending = (u8, &'static str);
 pub const BAD_WORDS: Ending = (2, "");
 
 /// The words are no text.
-pub const NOT_UTF8: Ending = (2, "elfsee: words are not UTF-8");
+pub(crate) const NOT_UTF8: Ending = (2, "elfsee: words are not UTF-8");
 
 /// There was no memory.
 pub const OUT_OF_MEMORY: Ending = (3, "elfsee: out of memory");
@@ -25,7 +25,7 @@ pub const CANNOT_OPEN: Ending = (3, "elfsee: cannot open");
 pub const READ_FAULT: Ending = (3, "elfsee: read fault");
 
 /// The output can't be written.
-pub const WRITE_FAULT: Ending = (3, "elfsee: write fault");
+pub(crate) const WRITE_FAULT: Ending = (3, "elfsee: write fault");
 
 /// The exit status of a run, which is 1 for a refusal, and its line on standard error, which is empty
 /// for a status of 0 or 1.

@@ -39,7 +39,7 @@ fn version_into<W: Write + Drop>(output: BufWriter<W>) -> Ending
 ///
 /// # Errors
 /// The output takes no more: it took a front of the line.
-pub fn write_version<W: Sink>(out: &mut Out<W>) -> Result<(), OutFault>
+pub(crate) fn write_version<W: Sink>(out: &mut Out<W>) -> Result<(), OutFault>
     ensures { Puts out.old out.new result version_line }
 {
     out.put(VERSION.as_bytes())

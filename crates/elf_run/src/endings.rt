@@ -31,11 +31,10 @@ pub fn archive_status(listed: Result<bool, Stop>) -> Result<u8, Stop>
     ensures status { IfOk result (λ status. status ≤ 1) }
     ensures refused { refused_by result ≡ listed }
 {
-    match listed {
-        Ok(true) => Ok(1),
-        Ok(false) => Ok(0),
-        Err(stop) => Err(stop),
+    if listed? {
+        return Ok(1);
     }
+    Ok(0)
 }
 
 /// The exit status for words that are no request, and the line on standard error, which is empty for

@@ -2,13 +2,12 @@
 use Rattle.std.specs.Prelude.{ℕ, ◌≡◌, ◌+◌, ◌≤◌, ◌==◌, true, false, suc, List, length, Option, None, Some, Result, Ok, Err, IfSome}
 use Rattle.elf_model.specs.Budget.{IsBudget}
 use Rattle.elf_model.specs.Bytes.{slice}
-use Rattle.elf_model.specs.Checks.{Check, range_checks_of, unless_empty}
 use Rattle.elf_model.specs.Cost.{sum_over, table_cost}
 use Rattle.elf_model.specs.HeaderTables.{file_segments}
 use Rattle.elf_model.specs.Notes.{Walk, note_align, note_rows, walk_from}
 use Rattle.elf_model.specs.Numbers.{PT_NOTE}
 use Rattle.elf_model.specs.Properties.{PropertyList, first_listing, listed_in, property_list}
-use Rattle.elf_model.specs.Records.{e_phnum, p_type, p_offset, p_filesz, segment_at}
+use Rattle.elf_model.specs.Records.{e_phnum, p_type, segment_at}
 use Rattle.elf_model.specs.TableKinds.{segment_notes}
 use Rattle.elf_model.specs.TraitCost.{properties_asked}
 use Rattle.elf_model.specs.Traits.{TRAIT_NAME_BYTES, feature_word}
@@ -21,10 +20,6 @@ use Rattle.elf_headers.specs.declared.fault.Fault.TheVariants.{Refused, Source}
 use Rattle.elf_table.specs.Tables.{Rows}
 use Rattle.elf_traits.specs.Features.{TellsValue}
 use Rattle.elf_traits.specs.declared.notes.PropertyBytes.{PropertyBytes}
-
--- the checks of a table of notes by the program header at an offset
-abbrev pub note_checks : List ℕ → ℕ → List Check
-note_checks file at = unless_empty (p_filesz file at) (range_checks_of (length file) (p_offset file at) (p_filesz file at) at)
 
 -- the first list among the notes of a walk from an offset on, or where these are cut before it
 abbrev pub list_among : (align at : ℕ) → Walk → Result (Option PropertyList) Refusal
