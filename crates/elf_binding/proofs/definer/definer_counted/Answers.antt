@@ -5,7 +5,7 @@ use Rattle.elf_headers.proofs.LedgerLaws.{Did-as, Did-then}
 use Rattle.elf_loader.specs.Lookups.{lookup_bytes}
 use Rattle.elf_wanted.specs.Wants.{the_wanted}
 use Rattle.elf_binding.proofs.DefinerLaws.{defines_counted, defines_uncounted, few_counts, place_of}
-use Rattle.elf_binding.proofs.definer.find_definer.Goals as goal
+use Rattle.elf_binding.proofs.definer.definer_counted.Goals as goal
 
 pub returns-in_err-table : goal.returns-in_err-table
 returns-in_err-table g c =
