@@ -1,1 +1,2 @@
 pub mod MarkedText
+pub mod OutputLaws

@@ -1,15 +1,19 @@
 //! What programs write last.
-ghost use Rattle.std.specs.Prelude.{◌≡◌};
+ghost use Rattle.std.specs.Prelude.{◌≡◌, true, false};
 ghost use Rattle.std.specs.Io.Buffered.{writer_buffer, writer_inner};
 ghost use Rattle.elf_program.specs.Endings.{Ends, EndsRun, PutsRest, wants_rest, wants_rest_of};
 
 use crate::endings::{Ending, READ_FAULT, WRITE_FAULT, outcome};
 use elf_headers::Stop;
-use elf_source::{Out, Sink, WriteSink};
+use elf_source::{LineSink, Out, Sink, WriteSink};
 use std::io::{BufWriter, Write};
 
 /// How many bytes of output are kept before they are written.
 pub const OUTPUT_BYTES: usize = 65_536;
+
+/// How many bytes a pipe takes in one piece, with none of another program between them (`PIPE_BUF` of Linux's
+/// pipe(7)).
+pub const PIPE_BYTES: usize = 4_096;
 
 /// How many bytes for standard error are kept before they are written.
 pub const ERROR_LINE_BYTES: usize = 4_096;
@@ -53,15 +57,45 @@ pub fn end_run<W: Write + Drop>(ended: Ended, output: BufWriter<W>) -> (Ending, 
     ensures rest { PutsRest (wants_rest_of ended) result.1.failed (writer_buffer output)
         (W.contents (writer_inner output)) (W.contents result.1.writer) }
 {
-    let wanted = !matches!(ended, Ended::Unwritten);
-    let rest = write_rest(output, wanted);
-    let ending = match ended {
-        Ended::Status(_) if rest.failed() => WRITE_FAULT,
+    let rest = write_rest(output, is_rest_wanted(ended));
+    (ending_of(ended, rest.failed()), rest)
+}
+
+/// The same of an output of whole lines. Gives back the sink below it.
+pub fn end_lines<W: Sink>(ended: Ended, output: LineSink<W>) -> (Ending, W)
+    ensures ends { EndsRun ended (W.failed result.1) result.0.0 result.0.1.now }
+    ensures rest { wants_rest_of ended ≡ true →
+        PutsRest true (W.failed result.1) output.held output.below (W.taken result.1) }
+    ensures none { wants_rest_of ended ≡ false → W.taken result.1 ≡ output.below }
+{
+    let mut output = output;
+    if is_rest_wanted(ended) {
+        output.give_rest();
+    }
+    let sink = output.into_inner();
+    (ending_of(ended, sink.failed()), sink)
+}
+
+/// Whether what is left of an output is to be written: not after its fault.
+fn is_rest_wanted(ended: Ended) -> bool
+    ensures { result ≡ wants_rest_of ended }
+{
+    match ended {
+        Ended::Unwritten => false,
+        Ended::Status(_) | Ended::Told(_) => true,
+    }
+}
+
+/// How the program ends by how its run did, and by whether the output failed.
+fn ending_of(ended: Ended, failed: bool) -> Ending
+    ensures { EndsRun ended failed result.0 result.1.now }
+{
+    match ended {
+        Ended::Status(_) if failed => WRITE_FAULT,
         Ended::Status(status) => (status, ""),
         Ended::Told(ending) => ending,
         Ended::Unwritten => WRITE_FAULT,
-    };
-    (ending, rest)
+    }
 }
 
 /// Writes what is left of an output, to its end or the first fault, if that is wanted. The output is
