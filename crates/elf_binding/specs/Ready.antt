@@ -29,7 +29,7 @@ abbrev pub NamesEnd : List ℕ → RecordTable → Type 0
 NamesEnd file records = (0 < records.table.count) × EndsInNul (strings_in file records.names)
 
 -- THE TABLE IS READY for lookups in a file: its counts pass their check, and no version that has no NUL in its name is refused
-pub record IsReady (file : List ℕ) (told : IsScopeOf) (table : HashTable) : Type 0 where
+pub record IsReadyTable (file : List ℕ) (told : IsScopeOf) (table : HashTable) : Type 0 where
   pub counts : first_refusal (counts_check file told ∷ []) ≡ None
   pub is : IsTable file told table
   pub versions : (asked : Asked) → HasNoNul asked → (wanted_numbers file told asked).refused ≡ None
@@ -37,7 +37,7 @@ pub record IsReady (file : List ℕ) (told : IsScopeOf) (table : HashTable) : Ty
 -- the same of the table, if there is one
 abbrev pub IsReadyIf : List ℕ → IsScopeOf → Option HashTable → Type 0
 IsReadyIf file told None = Unit {0}
-IsReadyIf file told (Some table) = IsReady file told table
+IsReadyIf file told (Some table) = IsReadyTable file told table
 
 abbrev pub TellsReady : List ℕ → IsScopeOf → Result (Option HashTable) Fault → Type 0
 TellsReady file told (Ok ready) = IsReadyIf file told ready

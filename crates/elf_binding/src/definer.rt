@@ -1,7 +1,7 @@
 //! The symbol of a file that defines a name.
 ghost use Rattle.std.specs.Prelude.{◌≡◌, ℕ, ◌+◌, ◌*◌, ◌/◌, ◌≤◌, length, IfSome};
 ghost use Rattle.elf_binding.specs.Definers.{DefinesOn, SaysDefines, definer_with, the_defined};
-ghost use Rattle.elf_binding.specs.Ready.{HasNoNul, IsReady, IsReadyIf};
+ghost use Rattle.elf_binding.specs.Ready.{HasNoNul, IsReadyTable, IsReadyIf};
 ghost use Rattle.elf_hash.specs.Scopes.{IsTable, place_of_table};
 ghost use Rattle.elf_hash.specs.Walks.{index_of, walk_bytes};
 ghost use Rattle.elf_loader.specs.Answering.{StandsAs};
@@ -122,7 +122,7 @@ fn definer_unless<S: Source>(
     requires plain { HasNoNul (the_wanted wanted.now).asked }
     ensures { DefinesOn src.old src.new scope.now (the_wanted wanted.now) result 28
         (lookup_bytes 28 src.old.seen.size (the_wanted wanted.now)) (λ file told leaves.
-        IsReady file told table.now → leaves 0 (definer_in file told (the_wanted wanted.now))) }
+        IsReadyTable file told table.now → leaves 0 (definer_in file told (the_wanted wanted.now))) }
 {
     if excludes(src, table, wanted.name)? {
         return Ok(None);

@@ -9,17 +9,17 @@ pub record HeldBytes : Type 0 where
   pub bytes : List ℕ
 
 -- they are the file's
-abbrev pub IsHeld : List ℕ → HeldBytes → Type 0
-IsHeld file held = held.bytes ≡ slice file held.at (length held.bytes)
+abbrev pub IsPageOf : List ℕ → HeldBytes → Type 0
+IsPageOf file held = held.bytes ≡ slice file held.at (length held.bytes)
 
 -- of a source whose file is known all pages that are held are the file's
 abbrev pub AreHeld : Seen → List HeldBytes → Type 0
-AreHeld seen pages = (file : List ℕ) → seen.file ≡ Some file → All (IsHeld file) pages
+AreHeld seen pages = (file : List ℕ) → seen.file ≡ Some file → All (IsPageOf file) pages
 
 -- the bytes at an offset are given by what is held, where that has all of them; else nothing is
 abbrev pub GivesHeld : HeldBytes → (at : ℕ) → (old new : List ℕ) → Bool → Type 0
 GivesHeld held at old new true =
-    (file : List ℕ) → IsHeld file held → new ≡ take (length old) (drop at file)
+    (file : List ℕ) → IsPageOf file held → new ≡ take (length old) (drop at file)
 GivesHeld held at old new false = new ≡ old
 
 -- the same of all pages of a source

@@ -1,6 +1,6 @@
 //! A page of a file.
 ghost use Rattle.std.specs.Prelude.{◌≡◌, ℕ, ◌<◌, List, [], Some};
-ghost use Rattle.elf_pages.specs.Pages.{GivesHeld, IsHeld};
+ghost use Rattle.elf_pages.specs.Pages.{GivesHeld, IsPageOf};
 ghost use Rattle.elf_source.specs.Source.{Keeps};
 
 use elf_source::Source;
@@ -61,7 +61,7 @@ impl Page {
     pub(crate) fn load<S: Source>(&mut self, source: &mut S, at: u64)
         requires { at < (S.seen source.old).size }
         ensures keeps { Keeps (S.seen source.old) (S.seen source.new) }
-        ensures held { (file : List ℕ) → (S.seen source.old).file ≡ Some file → IsHeld file self.new }
+        ensures held { (file : List ℕ) → (S.seen source.old).file ≡ Some file → IsPageOf file self.new }
     {
         let begin = at - at % PAGE_BYTES as u64;
         let count = (source.length() - begin).min(PAGE_BYTES as u64) as usize;
