@@ -1,5 +1,5 @@
 //! What is told of many files: their check, and how they are hardened.
-ghost use Rattle.std.specs.Prelude.{◌≡◌, IfErr};
+ghost use Rattle.std.specs.Prelude.{◌≡◌, ◌<◌, IfErr};
 ghost use Rattle.elfsee.specs.Ends.{EndsList, LacksMemory, StopsCheck};
 
 use elf_headers::{Caps, HeaderRoom, HeaderStore};
@@ -7,12 +7,14 @@ use elf_many::{EachFile, FolderWalk, ListFault, Many, visit_list, visit_path};
 use elf_many_checks::{CheckRule, Checks};
 use elf_many_traits::{TraitLines, TraitRule};
 use elf_model::Format;
-use elf_program::{CANNOT_OPEN, Ended, Ending, OUT_OF_MEMORY, OUTPUT_BYTES, READ_FAULT, end_run};
-use elf_source::{HoldingSink, Out, OutFault, Sink, WriteSink};
+use elf_program::{
+    CANNOT_OPEN, Ended, Ending, OUT_OF_MEMORY, OUTPUT_BYTES, PIPE_BYTES, READ_FAULT, end_lines,
+};
+use elf_source::{HoldingSink, LineSink, Out, OutFault, Sink, WriteSink};
 use elf_words::{Checking, ManyFiles, TraitsAsked};
 use std::fs;
-use std::io::{self, BufWriter, Input, Stderr, Write};
-use std::os::unix::fs::FileExt;
+use std::io::{self, Input, Stderr};
+use std::os::unix::fs::{FileExt, FileTypeExt};
 use std::rt::Files;
 
 /// How many bytes of a list of paths are read at once.
@@ -119,11 +121,12 @@ where
     let Ok(mut entries) = vec![in rt.alloc(); 0u8; LIST_BYTES] else {
         return Err(OUT_OF_MEMORY);
     };
-    let Ok(output) = BufWriter::with_capacity(rt.alloc(), OUTPUT_BYTES, io::writer(rt)) else {
+    let Ok(kept) = vec![in rt.alloc(); 0u8; kept_bytes(rt)] else {
         return Err(OUT_OF_MEMORY);
     };
+    let output = LineSink::new(WriteSink::new(io::writer(rt)), kept);
     let mut many = Many::new(
-        Out::new(HoldingSink::new(WriteSink::new(output), held)),
+        Out::new(HoldingSink::new(output, held)),
         each,
         format,
         terminal,
@@ -132,17 +135,28 @@ where
     Ok(end_many(ended, many))
 }
 
+/// How many bytes of output are kept before whole lines of them are written: where standard output is a pipe,
+/// or can't be looked at, as many as a pipe takes in one piece, so that lines of several processes don't mix.
+fn kept_bytes<R: Files>(rt: &R) -> usize
+    ensures { 0 < result }
+{
+    match fs::metadata(rt, "/dev/stdout") {
+        Ok(found) if !found.file_type().is_fifo() => OUTPUT_BYTES,
+        _ => PIPE_BYTES,
+    }
+}
+
 /// Writes what is left of the output, and answers how the program ends.
-fn end_many<W: Write + Drop, A: EachFile + Drop>(
+fn end_many<W: Sink + Drop, A: EachFile + Drop>(
     ended: Result<u8, Ended>,
-    many: Many<WriteSink<BufWriter<W>>, Stderr, A>,
+    many: Many<LineSink<W>, Stderr, A>,
 ) -> Ending {
     let ended = match ended {
         Ok(status) => Ended::Status(status),
         Err(ended) => ended,
     };
     let output = many.into_out().into_inner().into_inner();
-    let (ending, _output) = end_run(ended, output.into_inner());
+    let (ending, _output) = end_lines(ended, output);
     ending
 }
 
