@@ -28,6 +28,7 @@ impl<W: Sink> ObjectWalk<'_, '_, W> {
     ///
     /// # Errors
     /// A read or the output failed.
+    #[inline(never)]
     pub fn bind<S: Source + Drop>(
         &mut self,
         opened: &mut OpenObjects<S>,

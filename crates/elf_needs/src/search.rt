@@ -36,10 +36,11 @@ pub(crate) struct Search<'s> {
 
 impl Search<'_> {
     /// Looks for the library of a name that an object needs. Where it is found its path stands in the
-    /// search's.
+    /// search's. It is not made part of its caller, whose stack would hold its lists while a file is read.
     ///
     /// # Errors
     /// A read failed.
+    #[inline(never)]
     pub(crate) fn find<R: Files>(
         &mut self,
         rt: &R,

@@ -247,7 +247,9 @@ impl<W: Sink> ObjectWalk<'_, '_, W> {
         .map_err(NeedsFault::Out)
     }
 
-    /// Reads what a file needs. What was asked of it is taken off the budget.
+    /// Reads what a file needs. What was asked of it is taken off the budget. It is not made part of its
+    /// callers, whose stack would hold its buffers twice.
+    #[inline(never)]
     fn read<S: Source>(&mut self, source: &mut Counted<S>) -> Result<Told, NeedsFault> {
         let needs = self.objects.links.needs.len();
         let links = read_links(source, &mut self.store, &mut self.objects.links);
@@ -270,6 +272,7 @@ impl<W: Sink> ObjectWalk<'_, '_, W> {
     }
 
     /// Keeps the file of the next object open, if it is found and there is room for it.
+    #[inline(never)]
     fn keep<S: Source + Drop>(
         &mut self,
         source: Counted<S>,
