@@ -1,7 +1,9 @@
 pub mod ApplyingLaws
 pub mod BudgetLaws
 pub mod FindingLaws
+pub mod HashedLaws
 pub mod ItemLaws
 pub mod LackLaws
 pub mod ListingLaws
+pub mod NameLaws
 pub mod ResolvingLaws

@@ -1,7 +1,9 @@
 -- What a caller asks for of a listing, by the bytes of a struct that a later version may have longer, and by names.
-use Rattle.std.specs.Prelude.{ℕ, ◌≡◌, ◌≤◌, ◌⊎◌, ◌==◌, ⊤, if◌then◌else◌, Bool, true, All, List, drop, length, Option, None, Some}
+use Rattle.std.specs.Prelude.{ℕ, ◌≡◌, ◌+◌, ◌≤◌, ◌⊎◌, ⊤, if◌then◌else◌, Bool, true, false, All, List, drop, length, slice_index_or, Option, None, Some}
 use Rattle.std.specs.Borrow.{Bor}
+use Rattle.std.specs.Cmp.Lexicographic.{slice_cmp}
 use Rattle.std.specs.Int.RustNames.{bit_and}
+use Rattle.std.specs.Ordering.{is_lt, nat_cmp}
 use Rattle.elf_model.specs.Archive.{are_all}
 use Rattle.elf_model.specs.Bytes.{field}
 use Rattle.elf_model.specs.Choice.{EveryRow}
@@ -56,7 +58,7 @@ style_in asked (Some names) cap = named_style (texts_of names) (style_of_flags a
 -- THE BYTES ASK FOR A LISTING: parts and flags are there, and behind them zeros alone, which ask for nothing that this version
 -- does not know; no other flag is set, versions stand behind names in listings of the GNU system alone, and all parts are such as
 -- the listing has
-pub record AsksOf (asked : List ℕ) : Type 0 where
+pub record AsksStyled (asked : List ℕ) : Type 0 where
   pub long : 4 ≤ length asked
   pub zeros : are_all 0 (drop 4 asked) ≡ true
   pub flags : bit_and (flags_in asked) 65506 ≡ 0
@@ -69,7 +71,13 @@ IsChosenPart parts = (parts ≡ SYMBOLS) ⊎ (parts ≡ RELOCS) ⊎ (parts ≡ V
 
 -- names that may be lent: each can be looked for, and none is below the one before it
 abbrev pub MayChoose : (versions : Bool) → LentTexts → Type 0
-MayChoose versions names = NeverFall names × All (IsRowName versions) (texts_of names)
+MayChoose versions names = NeverFall names × All (λ name. IsRowName versions name.now) names
+
+-- so of the name at a place
+abbrev pub MayStand : (versions : Bool) → LentTexts → ℕ → Type 0
+MayStand versions names i =
+    ((d : Bor (List ℕ)) → IsRowName versions (slice_index_or names i d).now)
+    × ((j : ℕ) (d : Bor (List ℕ)) → j + 1 ≡ i → is_lt (slice_cmp nat_cmp (slice_index_or names i d).now (slice_index_or names j d).now) ≡ false)
 
 -- rows may be chosen by these names, where there are some
 abbrev pub ChoosesBy : List ℕ → Option LentTexts → Type 0
@@ -78,7 +86,7 @@ ChoosesBy asked (Some names) = IsChosenPart (parts_in asked) × MayChoose (has_v
 
 -- A LISTING IS ASKED FOR, of every row or of those of some names
 abbrev pub AsksListing : List ℕ → Option LentTexts → Type 0
-AsksListing asked names = AsksOf asked × ChoosesBy asked names
+AsksListing asked names = AsksStyled asked × ChoosesBy asked names
 
 -- how rows of a listing are shown, with so many bytes of a name
 abbrev pub every_row_of : CallerListing → ℕ → Style

@@ -21,8 +21,8 @@ ReadsHashed file headers budget size (Err refusal) =
     TellsHashedRows file headers (Err (Refused refusal)) × (IsBudget refusal → IsWanting budget (hashed_cost file headers) size refusal)
 
 -- the file that is looked at: with zeros where its header tells of section headers, for a flag of 1
-abbrev pub flagged : ℕ → List ℕ → List ℕ
-flagged flags file = looked_at (flags == 1) file
+abbrev pub by_flags : ℕ → List ℕ → List ℕ
+by_flags flags file = looked_at (flags == 1) file
 
 -- limits in their range, room for a header, and no other flag
 abbrev pub MayOpenHashed : CallerLimits → (room flags : ℕ) → Type 0
@@ -32,7 +32,7 @@ MayOpenHashed limits room flags = AreInRange limits room × (flags ≤ 1)
 abbrev pub OpensHashed : List ℕ → CallerLimits → (room flags : ℕ) → Option (Result (Option RowsLeft) Refusal) → Type 0
 OpensHashed file limits room flags None = MayOpenHashed limits room flags → ⊥
 OpensHashed file limits room flags (Some read) =
-    MayOpenHashed limits room flags × ReadsHashed (flagged flags file) (headers_of limits room) (budget_of limits) (length file) read
+    MayOpenHashed limits room flags × ReadsHashed (by_flags flags file) (headers_of limits room) (budget_of limits) (length file) read
 
 -- WHAT A CALLER HAS of these symbols, with so many bytes of room: what was opened, as the numbers have it, beside which they tell how
 -- many bytes were asked for
@@ -42,5 +42,5 @@ pub record HasHashed (file : List ℕ) (limits : CallerLimits) (room flags statu
   pub told : End
   pub tells : IsOpenedTable status old new told opened
   pub same : (end.cause ≡ told.cause) × (end.at ≡ told.at) × (end.written ≡ told.written) × (end.none ≡ told.none)
-  pub cost : end.asked ≤ hashed_cost (flagged flags file) (headers_of limits room)
+  pub cost : end.asked ≤ hashed_cost (by_flags flags file) (headers_of limits room)
   pub budget : IfSome (budget_of limits) (λ bytes. end.asked ≤ bytes)

@@ -28,9 +28,7 @@ pub fn open_hashed(
     ensures budget { IfSome budget (λ bytes. asked.new ≤ bytes) }
 {
     let mut src = Counted::new(MemorySource::new(file));
-    if by_segments {
-        src.hide_sections(true);
-    }
+    src.hide_sections(by_segments);
     src.limit(budget);
     let found = hashed_rows(&mut src, store);
     *asked = short(src.asked());

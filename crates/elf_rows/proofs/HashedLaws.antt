@@ -19,7 +19,7 @@ use Rattle.elf_scope.specs.Finding.{scope_cost}
 use Rattle.elf_scope.specs.Scopes.{IsScope, IsScopeFound}
 use Rattle.elf_scope.specs.Symbols.{IsSymbols}
 use Rattle.elf_scope.specs.declared.scope.Scope.{Scope}
-use Rattle.elf_rows.specs.Hashed.{AreHashed, TellsHashedRows, hashed_cost, hashed_of}
+use Rattle.elf_rows.specs.Hashed.{PlacesHashed, TellsHashedRows, hashed_cost, hashed_of}
 use Rattle.elf_rows.specs.declared.rows.RowsLeft.{RowsLeft}
 
 -- the counts have few bytes
@@ -65,7 +65,7 @@ module _ (file : List ℕ) (headers : ℕ) where
     unread (Source fault at) read = tt
 
     -- all of them are told
-    pub counted : (count : ℕ) (rows : RowsLeft) → first_refusal (counts_check file told ∷ []) ≡ None → count ≡ hashed_symbol_count file told → AreHashed file told.symbols count rows
+    pub counted : (count : ℕ) (rows : RowsLeft) → first_refusal (counts_check file told ∷ []) ≡ None → count ≡ hashed_symbol_count file told → PlacesHashed file told.symbols count rows
         → TellsHashedRows file headers (Ok rows)
     counted count rows e is hashed_rows =
         let n : symbols_hashed file told ≡ Ok count = hashed e ∙ ap Ok (sym is) in
@@ -88,10 +88,10 @@ module _ (file : List ℕ) (headers : ℕ) where
           Charges-then (hashed_cost file headers) (omega (arith, cost_is)) both words
 
   -- so many of the symbols that a lookup is made in
-  pub are_hashed : (told : IsScopeOf) (scope : Scope) (count : ℕ) (rows : RowsLeft) → IsSymbols file told.symbols scope.symbols → count ≤ scope.symbols.table.count
+  pub places_hashed : (told : IsScopeOf) (scope : Scope) (count : ℕ) (rows : RowsLeft) → IsSymbols file told.symbols scope.symbols → count ≤ scope.symbols.table.count
       → rows ≡ record { at = scope.symbols.table.at; count = count; index = 0; entry = 24; strings_at = scope.symbols.names.at; strings_len = scope.symbols.names.size }
-      → AreHashed file told.symbols count rows
-  are_hashed told scope count rows is few e = subst (λ (r : RowsLeft). AreHashed file told.symbols count r) (sym e) (record {
+      → PlacesHashed file told.symbols count rows
+  places_hashed told scope count rows is few e = subst (λ (r : RowsLeft). PlacesHashed file told.symbols count r) (sym e) (record {
     at = is.place;
     counted = refl;
     first = refl;

@@ -27,7 +27,7 @@ abbrev pub hashed_cost : List ℕ → (headers : ℕ) → ℕ
 hashed_cost file headers = scope_cost file headers + elim (scope_of file headers) [ Err refusal ↦ 0 | Ok scope ↦ 16 + extent_bytes file scope ]
 
 -- a place before the first of so many symbols, with their string table; that of no symbol is not looked at
-pub record AreHashed (file : List ℕ) (symbols : Symbols) (count : ℕ) (rows : RowsLeft) : Type 0 where
+pub record PlacesHashed (file : List ℕ) (symbols : Symbols) (count : ℕ) (rows : RowsLeft) : Type 0 where
   pub at : rows.at ≡ symbols.place
   pub counted : rows.count ≡ count
   pub first : rows.index ≡ 0
@@ -36,7 +36,7 @@ pub record AreHashed (file : List ℕ) (symbols : Symbols) (count : ℕ) (rows :
 
 -- they are told, or the refusal, unless that is for want of budget
 abbrev pub TellsHashedRows : List ℕ → (headers : ℕ) → Result RowsLeft Fault → Type 0
-TellsHashedRows file headers (Ok rows) = (symbols : Symbols) × (count : ℕ) × (hashed_of file headers ≡ Ok (symbols, count)) × AreHashed file symbols count rows
+TellsHashedRows file headers (Ok rows) = (symbols : Symbols) × (count : ℕ) × (hashed_of file headers ≡ Ok (symbols, count)) × PlacesHashed file symbols count rows
 TellsHashedRows file headers (Err (Refused refusal)) = (IsBudget refusal → ⊥) → hashed_of file headers ≡ Err refusal
 TellsHashedRows file headers (Err (Source fault at)) = Unit {0}
 

@@ -1,7 +1,7 @@
 //! The export that opens the symbols which a loader knows of a file in memory.
 ghost use Rattle.std.specs.Prelude.{◌≡◌, ◌≤◌, IfSome, length};
 ghost use Rattle.elf_rows.specs.Hashed.{hashed_cost};
-ghost use Rattle.elf_calls.specs.HashedRows.{HasHashed, OpensHashed, flagged};
+ghost use Rattle.elf_calls.specs.HashedRows.{HasHashed, OpensHashed, by_flags};
 ghost use Rattle.elf_calls.specs.Limits.{budget_of, headers_of};
 
 use elf_calls::{CallerLimits, End, limits_of, open_hashed, tell_opened};
@@ -49,7 +49,7 @@ fn open_in(
 ) -> Option<Result<Option<RowsLeft>, Refusal>>
     requires { asked.old ≡ 0 }
     ensures opens { OpensHashed file.now limits.now (length room.old) flags result }
-    ensures cost { asked.new ≤ hashed_cost (flagged flags file.now)
+    ensures cost { asked.new ≤ hashed_cost (by_flags flags file.now)
         (headers_of limits.now (length room.old)) }
     ensures budget { IfSome (budget_of limits.now) (λ bytes. asked.new ≤ bytes) }
 {

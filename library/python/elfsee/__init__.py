@@ -599,7 +599,7 @@ def _limits_of(headers: int, name_cap: int, budget: Optional[int]) -> Any:
 def _texts_of(names: Iterable[Name]) -> Tuple[Any, int]:
     """Names as they are lent: in the rising order of their bytes."""
     texts = [(text, len(text)) for text in sorted({_name_bytes(name, MOST_NAME) for name in names})]
-    return (_Text * max(1, len(texts)))(*texts), len(texts)
+    return (_Text * max(1, len(texts)))(*(texts or [(b"", 0)])), len(texts)
 
 
 def _layout_of(layout: Layout) -> Any:

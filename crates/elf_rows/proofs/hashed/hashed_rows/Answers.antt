@@ -4,7 +4,7 @@ use Rattle.std.proofs.lemmas.Result.{err_from_is_err_and}
 use Rattle.elf_hash.specs.Scopes.{place_of_table}
 use Rattle.elf_hash.specs.declared.place.HashPlace.{HashPlace}
 use Rattle.elf_headers.proofs.LedgerLaws.{Charges-more, Did-as, Did-then}
-use Rattle.elf_rows.proofs.HashedLaws.{are_hashed, costs_counts, costs_words, counted, few_counts, place_of, rows_within, uncounted, unread, unscoped}
+use Rattle.elf_rows.proofs.HashedLaws.{places_hashed, costs_counts, costs_words, counted, few_counts, place_of, rows_within, uncounted, unread, unscoped}
 use Rattle.elf_rows.specs.Hashed.{hashed_cost}
 use Rattle.elf_rows.specs.declared.rows.RowsLeft.{RowsLeft}
 use Rattle.elf_rows.proofs.hashed.hashed_rows.Goals as goal
@@ -67,7 +67,7 @@ returns-clause-did g c =
     record {
       costs = costs_words file slots found.0 found.1 scope.hash.kind refl read.0.0.costs c.in_ok-table.ensures.did.costs words.costs;
       tells = counted file slots found.0 found.1 c.in_ok-count.count c.rows_of.result counts.0 words.tells
-          (are_hashed file slots found.0 scope c.in_ok-count.count c.rows_of.result found.2.symbols (omega (arith, c.in_ok-count.ensures.few, symbols, lies.count)) c.rows_of.ensures);
+          (places_hashed file slots found.0 scope c.in_ok-count.count c.rows_of.result found.2.symbols (omega (arith, c.in_ok-count.ensures.few, symbols, lies.count)) c.rows_of.ensures);
     })
 
 pub returns-clause-within : goal.returns-clause-within
