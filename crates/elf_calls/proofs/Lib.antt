@@ -1,4 +1,5 @@
 pub mod ApplyingLaws
+pub mod AskedLaws
 pub mod BudgetLaws
 pub mod FindingLaws
 pub mod HashedLaws

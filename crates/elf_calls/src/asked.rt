@@ -56,7 +56,10 @@ pub fn named_listing_of<'n>(asked: &[u8], names: &'n [&'n [u8]]) -> Option<Calle
     ensures { GivesListing asked.now (Some names.now) result }
 {
     let every = listing_of(asked)?;
-    if !is_chosen_part(every.parts) || !may_choose(names, every.versions) {
+    if !is_chosen_part(every.parts) {
+        return None;
+    }
+    if !may_choose(names, every.versions) {
         return None;
     }
     Some(CallerListing {
