@@ -13,8 +13,8 @@
  *    first.
  *  - `room` and `out` point to as many writable bytes as is said; these overlap neither each other,
  *    nor the file, nor a struct or a name that is passed. They need not be initialised.
- *  - Each pointer is not NULL and is aligned for its type. Only the arguments `file`, `room`, `out` and
- *    `name`, and the lists of an elfsee_layout, may be NULL, where their lengths are 0 (tested, not
+ *  - Each pointer is not NULL and is aligned for its type. Only the arguments `file`, `room`, `out`, `name`
+ *    and `names`, and the lists of an elfsee_layout, may be NULL, where their lengths are 0 (tested, not
  *    proved); another pointer in a struct is not.
  *  - Each struct that is passed is initialised, with any values, also one that is only written.
  *  - No call is made from a signal handler.
@@ -106,8 +106,9 @@ size_t elfsee_cause_word(uint32_t cause, uint8_t *out, size_t out_len);
  * answers as with 64 * headers. */
 uint64_t elfsee_room(const uint8_t *file, size_t file_len, uint16_t headers);
 
-/* How many bytes of a file of `file_len` bytes a listing asks for at most, whatever the bytes are;
- * 2^64 - 1 where that is more, and where a limit is outside its range. */
+/* How many bytes of a file of `file_len` bytes a listing with `limits->name` bytes of a name asks for at
+ * most, whatever the bytes are, but for one with ELFSEE_NAME_VERSIONS; 2^64 - 1 where that is more, and where
+ * a limit is outside its range. */
 uint64_t elfsee_cost(uint64_t file_len, const struct elfsee_limits *limits);
 
 /* Lists a file, as far as `parts` has it.
@@ -125,7 +126,7 @@ uint32_t elfsee_show(const uint8_t *file, size_t file_len, const struct elfsee_l
 /* Which listing elfsee_list makes. A later version may have more fields behind these. */
 struct elfsee_listing {
     uint16_t parts; /* the sum of some parts */
-    uint16_t flags; /* the sum of some of ELFSEE_BY_SEGMENTS, ELFSEE_GNU and ELFSEE_JSON */
+    uint16_t flags; /* the sum of some of ELFSEE_BY_SEGMENTS, ELFSEE_GNU, ELFSEE_JSON and ELFSEE_NAME_VERSIONS */
 };
 
 /* Lists a file as elfsee_show does, in the style that `listing` asks for, of which `listing_len` bytes
@@ -133,14 +134,36 @@ struct elfsee_listing {
  * of a later header may use this library as long as the fields that it does not know are 0, and one of
  * this header a later library.
  *  OK, REFUSED, FULL: as of elfsee_show. With ELFSEE_BY_SEGMENTS tables are found by the program headers,
- *    with ELFSEE_GNU numbers of the GNU system have names too, and with ELFSEE_JSON each line is an object.
+ *    with ELFSEE_GNU numbers of the GNU system have names too, with ELFSEE_JSON each line is an object, and
+ *    with ELFSEE_NAME_VERSIONS the version of a symbol stands behind its name.
  *  BAD_CALL: exactly where it is of elfsee_show, and for a `listing_len` of less than 4, a byte of
- *    `listing` behind the fourth that is not 0, flags that are none of these, and parts of more than
- *    ELFSEE_ALL, or with ELFSEE_GNU of more than ELFSEE_ALL + ELFSEE_VERSIONS.
+ *    `listing` behind the fourth that is not 0, flags that are none of these, ELFSEE_NAME_VERSIONS without
+ *    ELFSEE_GNU, and parts of more than ELFSEE_ALL, or with ELFSEE_GNU of more than ELFSEE_ALL +
+ *    ELFSEE_VERSIONS.
  * Always: written <= out_len; `asked` is at most the listing's cost, and the budget. */
 uint32_t elfsee_list(const uint8_t *file, size_t file_len, const struct elfsee_limits *limits,
                      const struct elfsee_listing *listing, size_t listing_len, uint8_t *room,
                      size_t room_len, uint8_t *out, size_t out_len, struct elfsee_end *end);
+
+/* A name: 1 to 4,096 bytes, no NUL among them and none behind them. */
+struct elfsee_text {
+    const uint8_t *bytes;
+    size_t len;
+};
+
+/* Lists a file as elfsee_list does, of its rows those alone whose name is one of `names`, as the file has
+ * it. `parts` is ELFSEE_SYMBOLS, ELFSEE_RELOCS or, with ELFSEE_GNU, ELFSEE_VERSIONS. The names rise by their
+ * bytes, as memcmp has it, a front before what is longer; one may stand there more than once. Without a name
+ * no row is listed. With ELFSEE_NAME_VERSIONS a name is parted at its first `@`: NAME fits each version of
+ * the name, NAME@VERSION that version, and NAME@@VERSION that version where it is the default one.
+ *  Of a name as many bytes are looked at as the longest of `names` has, at least 1; with
+ *    ELFSEE_NAME_VERSIONS at least `limits->name`. A name of a row that has more is none of them.
+ *  BAD_CALL: exactly where it is of elfsee_list, for other parts, a name of no bytes, of more than 4,096 or
+ *    with a NUL, one below the one before it, and with ELFSEE_NAME_VERSIONS for an empty name or version. */
+uint32_t elfsee_list_names(const uint8_t *file, size_t file_len, const struct elfsee_limits *limits,
+                           const struct elfsee_listing *listing, size_t listing_len,
+                           const struct elfsee_text *names, size_t names_len, uint8_t *room,
+                           size_t room_len, uint8_t *out, size_t out_len, struct elfsee_end *end);
 
 /* A symbol, field by field (gABI, Symbol Table). */
 struct elfsee_symbol {
@@ -175,12 +198,13 @@ uint32_t elfsee_find(const uint8_t *file, size_t file_len, const struct elfsee_l
                      uint8_t *room, size_t room_len, const uint8_t *name, size_t name_len,
                      struct elfsee_found *found, struct elfsee_end *end);
 
-/* How a loader's lookup or a listing is made; the numbers add up. */
+/* How a loader's lookup, its symbols or a listing are found; the numbers add up. */
 enum {
     ELFSEE_BY_SEGMENTS = 1, /* by the program headers, also where there are section headers */
     ELFSEE_DEFAULT_ONLY = 2, /* a lookup: the version that is asked for is to be the symbol's default one */
     ELFSEE_GNU = 4, /* a listing: with the names of the GNU system, and its symbol versions */
-    ELFSEE_JSON = 8 /* a listing: each line is a JSON object */
+    ELFSEE_JSON = 8, /* a listing: each line is a JSON object */
+    ELFSEE_NAME_VERSIONS = 16 /* a listing with ELFSEE_GNU: behind a symbol's name stands its version */
 };
 
 /* What a loader's lookup found; all 0 where it found nothing, but for `tried`. */
@@ -407,6 +431,16 @@ uint32_t elfsee_dynamic(const uint8_t *file, size_t file_len, const struct elfse
                         uint16_t section, uint8_t *room, size_t room_len, struct elfsee_rows *rows,
                         struct elfsee_end *end);
 
+/* The symbols that the file's hash table is of, among which a loader looks names up, also where there are
+ * no section headers: found as elfsee_look_up finds them, with ELFSEE_BY_SEGMENTS or 0 as `flags`, and
+ * counted by the hash table alone. `rows` is set before symbol 0, and elfsee_next_symbols reads them. `room`
+ * is where the headers lie meanwhile.
+ *  OK, REFUSED; BAD_CALL for limits outside their ranges, room of less than 64 bytes, and other flags.
+ * `asked` is at most what finding and counting them cost, and the budget. */
+uint32_t elfsee_hashed_symbols(const uint8_t *file, size_t file_len, const struct elfsee_limits *limits,
+                               uint32_t flags, uint8_t *room, size_t room_len, struct elfsee_rows *rows,
+                               struct elfsee_end *end);
+
 /* The words of symbols' versions of a section, as those calls open their rows: one for each symbol of
  * the table that it links to, as far as it has words, in the same order. `rows` has no string table: the
  * name of a version is that of the first definition, else of the first needed version, that has its
@@ -602,6 +636,7 @@ namespace elfsee {
 typedef struct ::elfsee_limits limits;
 typedef struct ::elfsee_end end;
 typedef struct ::elfsee_listing listing;
+typedef struct ::elfsee_text text;
 typedef struct ::elfsee_symbol symbol;
 typedef struct ::elfsee_range range;
 typedef struct ::elfsee_found found;

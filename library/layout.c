@@ -24,6 +24,9 @@ static void calls(void) {
     WHOLE(elfsee_listing);
     FIELD(elfsee_listing, parts);
     FIELD(elfsee_listing, flags);
+    WHOLE(elfsee_text);
+    FIELD(elfsee_text, bytes);
+    FIELD(elfsee_text, len);
     WHOLE(elfsee_found);
     FIELD(elfsee_found, symbol);
     FIELD(elfsee_found, index);

@@ -132,8 +132,52 @@ static uint32_t place(struct elfsee_limits limits, size_t room_len, uint16_t sec
 
 static const struct elfsee_layout NO_LAYOUT;
 
+/* Names that are lent: the list and the bytes of each lie at pages that cannot be touched. */
+enum { MOST_NAMES = 6 };
+
+struct names {
+    struct lent list, texts[MOST_NAMES];
+    size_t count;
+};
+
+static struct names lend_names(const struct elfsee_text *texts, size_t count) {
+    struct names names;
+    struct elfsee_text *list;
+    size_t i;
+    memset(&names, 0, sizeof names);
+    names.count = count;
+    names.list = lend(count * sizeof *list, 0);
+    list = (struct elfsee_text *)(void *)names.list.bytes;
+    for (i = 0; i < count; i += 1) {
+        names.texts[i] = lend_copy(texts[i].bytes, texts[i].len, i & 1);
+        list[i].bytes = names.texts[i].bytes;
+        list[i].len = texts[i].len;
+    }
+    return names;
+}
+
+static int take_names(struct names *names) {
+    int whole = take_back(&names->list);
+    size_t i;
+    for (i = 0; i < names->count; i += 1) whole &= take_back(&names->texts[i]);
+    return whole;
+}
+
+static uint32_t list_names(struct elfsee_limits limits, size_t room_len, struct elfsee_listing asked,
+                           const struct elfsee_text *texts, size_t count, size_t out_len, struct elfsee_end *end) {
+    struct names names = lend_names(texts, count);
+    *end = ODD;
+    uint32_t status = elfsee_list_names(library.bytes, library.len, &limits, &asked, sizeof asked,
+                                        (const struct elfsee_text *)(void *)names.list.bytes, count, room.bytes,
+                                        room_len, out.bytes, out_len, end);
+    check(take_names(&names), "names are not written");
+    return status;
+}
+
 typedef uint32_t opens(const uint8_t *, size_t, const struct elfsee_limits *, uint16_t, uint8_t *, size_t,
                        struct elfsee_rows *, struct elfsee_end *);
+static const struct elfsee_listing SYMBOLS_ALONE = {ELFSEE_SYMBOLS, 0};
+
 static const struct {
     const char *name;
     opens *call;
@@ -154,6 +198,7 @@ static void bad_limits(void) {
     struct elfsee_range range;
     struct elfsee_missing missing;
     struct elfsee_version_records records = {7, 7, 7, 7, 7, 7, 7, 7, 7, 7};
+    struct elfsee_limits good = limits_of(4096, 256);
     int shows = 1, finds = 1, applies = 1, opens = 1, unlooked = 1, costs = 1;
     unsigned i, table;
     for (i = 0; i < 3; i += 1) {
@@ -162,6 +207,11 @@ static void bad_limits(void) {
         finds &= is_bad(find(bad, ROOM, "call", 4, &found, &end), &end);
         finds &= is_bad(look_up(bad, ROOM, i, "call", 4, "", 0, &resolved, &end), &end);
         finds &= is_zero(&resolved, sizeof resolved);
+        shows &= is_bad(list_names(bad, ROOM, SYMBOLS_ALONE, 0, 0, OUT, &end), &end);
+        shows &= is_bad(list_names(other, ROOM, SYMBOLS_ALONE, 0, 0, OUT, &end), &end);
+        opens &= is_bad(elfsee_hashed_symbols(library.bytes, library.len, &bad, 0, room.bytes, ROOM, &rows, &end), &end);
+        opens &= is_bad(elfsee_hashed_symbols(library.bytes, library.len, &good, i + 2, room.bytes, ROOM, &rows, &end),
+                        &end);
         unlooked &= find(other, ROOM, "call", 4, &found, &end) == ELFSEE_OK;
         unlooked &= look_up(other, ROOM, i, "call", 4, "", 0, &resolved, &end) == ELFSEE_OK;
         paint();
@@ -187,6 +237,47 @@ static void bad_limits(void) {
     check(costs, "a cost with limits outside their ranges");
 }
 
+/* What a name may not be, and where names may not stand. */
+static void bad_names(void) {
+#define TEXT(text) {(const uint8_t *)(text), sizeof(text) - 1}
+    static const struct elfsee_text bad[][2] = {{TEXT(""), TEXT("a")}, {TEXT("b"), TEXT("a")}, {TEXT("ab"), TEXT("a")},
+                                                {TEXT("a"), TEXT("b\0")}, {TEXT("\xff"), TEXT("a")}};
+    static const struct elfsee_text unversioned[] = {TEXT("@V"), TEXT("a@"), TEXT("a@@"), TEXT("@"), TEXT("@@")};
+    static const struct elfsee_text good[] = {TEXT("call"), TEXT("call"), TEXT("call@V"), TEXT("call@@V@")};
+#undef TEXT
+    static const struct elfsee_listing parts[] = {{0, 0}, {ELFSEE_ALL, 0}, {24, 4}, {ELFSEE_NOTES, 0}, {ELFSEE_VERSIONS, 0}};
+    static uint8_t long_name[4097];
+    struct elfsee_limits limits = limits_of(4096, 256);
+    struct elfsee_listing symbols = {ELFSEE_SYMBOLS, 0}, versioned = {ELFSEE_SYMBOLS, ELFSEE_GNU + ELFSEE_NAME_VERSIONS};
+    struct elfsee_text one = {long_name, 4096};
+    struct elfsee_end end;
+    int all = 1, sorts = 1;
+    unsigned i;
+    memset(long_name, 'n', sizeof long_name);
+    for (i = 0; i < sizeof bad / sizeof *bad; i += 1) {
+        all &= is_bad(list_names(limits, ROOM, symbols, bad[i], 2, OUT, &end), &end);
+    }
+    for (i = 0; i < sizeof unversioned / sizeof *unversioned; i += 1) {
+        sorts &= list_names(limits, ROOM, symbols, &unversioned[i], 1, OUT, &end) == ELFSEE_OK;
+        paint();
+        all &= is_bad(list_names(limits, ROOM, versioned, &unversioned[i], 1, OUT, &end), &end);
+    }
+    sorts &= list_names(limits, ROOM, versioned, good, 4, OUT, &end) == ELFSEE_OK;
+    sorts &= list_names(limits, ROOM, symbols, &one, 1, OUT, &end) == ELFSEE_OK && end.written == 0;
+    sorts &= list_names(limits, ROOM, symbols, good, 0, OUT, &end) == ELFSEE_OK && end.written == 0;
+    sorts &= list_names(limits, ROOM, symbols, good, 1, OUT, &end) == ELFSEE_OK && end.written > 0;
+    paint();
+    one.len = 4097;
+    all &= is_bad(list_names(limits, ROOM, symbols, &one, 1, OUT, &end), &end);
+    for (i = 0; i < sizeof parts / sizeof *parts; i += 1) {
+        all &= is_bad(list_names(limits, ROOM, parts[i], good, 1, OUT, &end), &end);
+    }
+    versioned.flags = ELFSEE_NAME_VERSIONS;
+    all &= is_bad(list_names(limits, ROOM, versioned, good, 1, OUT, &end), &end);
+    check(all, "names that cannot be looked for, and other parts");
+    check(sorts, "names that can be looked for, and none");
+}
+
 static void small_room(void) {
     struct elfsee_end end;
     struct elfsee_found found;
@@ -203,6 +294,8 @@ static void small_room(void) {
         all &= is_bad(show(limits, len, OUT, &end), &end);
         all &= is_bad(find(limits, len, "call", 4, &found, &end), &end);
         all &= is_bad(look_up(limits, len, 0, "call", 4, "", 0, &resolved, &end), &end);
+        all &= is_bad(list_names(limits, len, SYMBOLS_ALONE, 0, 0, OUT, &end), &end);
+        all &= is_bad(elfsee_hashed_symbols(library.bytes, library.len, &limits, 0, room.bytes, len, &rows, &end), &end);
         all &= is_bad(apply(limits, len, 1, 0, 0, OUT, &end), &end);
         all &= is_bad(place(limits, len, 1, &NO_LAYOUT, OUT, &missing, &end), &end) && is_zero(&missing, sizeof missing);
         all &= is_bad(elfsee_version_records(object.bytes, object.len, &limits, 1, room.bytes, len, &records, &end),
@@ -256,6 +349,8 @@ static void short_files(void) {
         status = elfsee_look_up(file.bytes, len, &limits, len % 4, none.name, 0, none.name, 0, room.bytes, ROOM,
                                 &resolved, &end);
         all &= status == ELFSEE_REFUSED && end.cause == ELFSEE_SHORT && end.at == len;
+        status = elfsee_hashed_symbols(file.bytes, len, &limits, len % 2, room.bytes, ROOM, &rows, &end);
+        all &= status == ELFSEE_REFUSED && end.cause == ELFSEE_SHORT && end.at == len && end.asked == 0;
         status = elfsee_section_bytes(file.bytes, len, 0, &range, &end);
         all &= status == ELFSEE_REFUSED && end.cause == ELFSEE_SHORT && end.at == len;
         status = elfsee_apply(file.bytes, len, &limits, &job, room.bytes, ROOM, out.bytes, 0, &end);
@@ -1020,15 +1115,88 @@ static int any_list(void) {
     unsigned parts = asks[0] | (unsigned)asks[1] << 8, flags = asks[2] | (unsigned)asks[3] << 8;
     for (i = 4; i < asked.len; i += 1) zeros &= asks[i] == 0;
     int bad = limits.headers < 1 || limits.headers > 65279 || limits.name < 1 || limits.name > 4096 ||
-              some_room.len < 64 || asked.len < 4 || !zeros || flags & ~13u || parts > (flags & 4 ? 255u : 127u);
+              some_room.len < 64 || asked.len < 4 || !zeros || flags & ~29u || (flags & 20) == 16 ||
+              parts > (flags & 4 ? 255u : 127u);
     int all = status <= ELFSEE_BAD_CALL && status != ELFSEE_ABSENT && bad == (status == ELFSEE_BAD_CALL) &&
               end.written <= some_out.len && end.none == 0 && (end.cause != 0) == (status == ELFSEE_REFUSED) &&
               (status == ELFSEE_REFUSED || end.at == 0) && (!limits.has_budget || end.asked <= limits.budget);
-    all &= end.asked <= elfsee_cost(file.len, &limits) && (!bad || (end.asked == 0 && end.written == 0));
+    all &= (flags & 16 || end.asked <= elfsee_cost(file.len, &limits)) && (!bad || (end.asked == 0 && end.written == 0));
     all &= status != ELFSEE_FULL || end.written == some_out.len;
     take_back(&file);
     take_back(&asked);
     return take_back(&some_room) & take_back(&some_out) & all;
+}
+
+/* Whether bytes are no name of which rows are listed. */
+static int is_bad_name(const uint8_t *bytes, size_t len, int has_versions) {
+    const uint8_t *sign = len ? (const uint8_t *)memchr(bytes, '@', len) : 0;
+    size_t behind;
+    if (!len || len > 4096 || memchr(bytes, 0, len)) return 1;
+    if (!has_versions || !sign) return 0;
+    behind = len - (size_t)(sign - bytes) - 1;
+    if (behind && sign[1] == '@') behind -= 1;
+    return sign == bytes || !behind;
+}
+
+static int is_below(const struct elfsee_text *one, const struct elfsee_text *other) {
+    size_t front = one->len < other->len ? one->len : other->len;
+    int order = front ? memcmp(one->bytes, other->bytes, front) : 0;
+    return order < 0 || (order == 0 && one->len < other->len);
+}
+
+/* A listing of the rows of any names, in any style. */
+static int any_list_names(void) {
+    static const char letters[] = "abcl@@V";
+    static uint8_t bytes[MOST_NAMES][4200];
+    struct lent file = changed(next() & 1 ? &object : &library);
+    struct lent some_room = lend(next() % (64 * 50), next() & 1), some_out = lend(next() % 3000, next() & 1);
+    struct elfsee_listing asked = {(uint16_t)(1u << next() % 9), (uint16_t)(next() % 4 ? next() % 32 : 20)};
+    struct elfsee_limits limits = any_limits();
+    struct elfsee_text texts[MOST_NAMES];
+    struct elfsee_end end = ODD;
+    size_t count = next() % (MOST_NAMES + 1), i, at;
+    int bad = limits.headers < 1 || limits.headers > 65279 || limits.name < 1 || limits.name > 4096 ||
+              some_room.len < 64 || asked.flags & ~29u || (asked.flags & 20) == 16 ||
+              (asked.parts != 8 && asked.parts != 16 && !(asked.parts == 128 && asked.flags & 4));
+    for (i = 0; i < count; i += 1) {
+        texts[i].bytes = bytes[i];
+        texts[i].len = next() % 20 ? next() % 5 + (i > 0) : 4090 + next() % 10;
+        for (at = 0; at < texts[i].len; at += 1)
+            bytes[i][at] = (uint8_t)(next() % 200 ? (unsigned char)letters[next() % 7] : next());
+        if (i && next() % 8 && is_below(&texts[i], &texts[i - 1])) texts[i] = texts[i - 1];
+        bad |= is_bad_name(texts[i].bytes, texts[i].len, asked.flags & 16) || (i && is_below(&texts[i], &texts[i - 1]));
+    }
+    struct names names = lend_names(texts, count);
+    uint32_t status = elfsee_list_names(file.bytes, file.len, &limits, &asked, sizeof asked,
+                                        (const struct elfsee_text *)(void *)names.list.bytes, count, some_room.bytes,
+                                        some_room.len, some_out.bytes, some_out.len, &end);
+    int all = status <= ELFSEE_BAD_CALL && status != ELFSEE_ABSENT && bad == (status == ELFSEE_BAD_CALL) &&
+              end.written <= some_out.len && end.none == 0 && (end.cause != 0) == (status == ELFSEE_REFUSED) &&
+              (status == ELFSEE_REFUSED || end.at == 0) && (!limits.has_budget || end.asked <= limits.budget);
+    all &= (!bad || (end.asked == 0 && end.written == 0)) && (status != ELFSEE_FULL || end.written == some_out.len);
+    take_back(&file);
+    return take_names(&names) & take_back(&some_room) & take_back(&some_out) & all;
+}
+
+/* The symbols of the hash table of any file: they lie in it, and there are as many as were counted. */
+static int any_hashed(void) {
+    struct lent file = changed(&library), some_room = lend(next() % (64 * 50), next() & 1);
+    struct elfsee_limits limits = any_limits();
+    struct elfsee_rows rows = {any(1), any(1), any(1), any(1), any(1), any(1)}, before = rows;
+    struct elfsee_end end = ODD;
+    uint32_t flags = (uint32_t)(next() % 8 ? next() % 2 : any(2));
+    uint32_t status = elfsee_hashed_symbols(file.bytes, file.len, &limits, flags, some_room.bytes, some_room.len,
+                                            &rows, &end);
+    int bad = limits.headers < 1 || limits.headers > 65279 || some_room.len < 64 || flags > 1;
+    int all = bad == (status == ELFSEE_BAD_CALL) && end.written == 0 && end.none == 0 &&
+              (status == ELFSEE_OK || status == ELFSEE_REFUSED || bad) && (end.cause != 0) == (status == ELFSEE_REFUSED) &&
+              (!limits.has_budget || end.asked <= limits.budget) && (!bad || end.asked == 0);
+    if (status != ELFSEE_OK) all &= !memcmp(&rows, &before, sizeof rows);
+    if (status == ELFSEE_OK)
+        all &= rows.index == 0 && rows.entry == 24 &&
+               (!rows.count || (rows.at <= file.len && rows.count <= (file.len - rows.at) / 24));
+    take_back(&file);
+    return take_back(&some_room) & all;
 }
 
 static int any_find(void) {
@@ -1330,6 +1498,7 @@ int main(int argc, char **argv) {
     paint();
     bad_limits();
     small_room();
+    bad_names();
     short_files();
     small_out();
     cause_words();
@@ -1356,6 +1525,8 @@ int main(int argc, char **argv) {
     many("segments of changed files, at any address", any_mapped, tries);
     many("listings of changed files, with any limits", any_show, tries);
     many("listings of changed files in any style, asked for by any bytes", any_list, tries);
+    many("listings of the rows of any names", any_list_names, tries);
+    many("symbols of the hash tables of changed files", any_hashed, tries);
     many("lookups in changed files, with any limits", any_find, tries);
     many("a loader's lookups in changed files, with any flags", any_look_up, tries);
     many("the bytes of sections of changed files", any_bytes, tries);

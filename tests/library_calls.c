@@ -2,6 +2,9 @@
  *
  *     show HEADERS NAME BUDGET PARTS PATH
  *     list HEADERS NAME BUDGET PARTS FLAGS PATH        as elfsee_list does it
+ *     names HEADERS NAME BUDGET PARTS FLAGS NAMES PATH as elfsee_list_names does it: names in hexadecimal digits,
+ *                                            joined by commas, or -
+ *     hashed HEADERS BUDGET FLAGS PATH       the symbols of the hash table, a line for each
  *     find HEADERS BUDGET NAME PATH          NAME in hexadecimal digits, or -
  *     resolve HEADERS BUDGET FLAGS NAME VERSION PATH   both in hexadecimal digits, or -
  *     apply HEADERS BUDGET SECTION ITEMS PATH
@@ -140,6 +143,66 @@ static struct shown list_into(const struct lent *file, const struct elfsee_limit
     expect(shown.end.written <= out_len, "more written than lent");
     expect(shown.end.none == 0, "none is not 0");
     return shown;
+}
+
+/* Names that are lent, and their texts. */
+struct names {
+    struct lent list, texts[MOST_ITEMS];
+    size_t count;
+};
+
+static struct names *names_of(char *words) {
+    static struct names names;
+    static uint8_t bytes[1 << 16];
+    char *rest, *word = *words == '-' ? 0 : strtok_r(words, ",", &rest);
+    struct elfsee_text *texts;
+    size_t i;
+    names.count = 0;
+    for (; word && names.count < MOST_ITEMS; word = strtok_r(0, ",", &rest)) {
+        names.texts[names.count] = lend_copy(bytes, bytes_of(word, bytes), turn++ & 1);
+        names.count += 1;
+    }
+    names.list = lend(names.count * sizeof *texts, turn & 1);
+    texts = (struct elfsee_text *)(void *)names.list.bytes;
+    for (i = 0; i < names.count; i += 1) {
+        struct elfsee_text text = {names.texts[i].bytes, names.texts[i].len};
+        texts[i] = text;
+    }
+    return &names;
+}
+
+static struct shown list_names_into(const struct lent *file, const struct elfsee_limits *limits,
+                                    const struct elfsee_listing *asked, const struct names *names,
+                                    size_t room_len, size_t out_len) {
+    struct shown shown = {lend(out_len, turn & 1), {7, 7, 7, 7, 7}, 0};
+    struct lent room = lend(room_len, turn & 2);
+    const struct elfsee_text *texts = (void *)names->list.bytes;
+    turn++;
+    shown.status = elfsee_list_names(file->bytes, file->len, limits, asked, sizeof *asked,
+                                     names->count || turn & 4 ? texts : 0, names->count, room.bytes, room.len,
+                                     shown.out.bytes, out_len, &shown.end);
+    expect(is_whole(&shown.out), "out was written outside");
+    expect(take_back(&room), "room was written outside");
+    expect(shown.end.written <= out_len && shown.end.none == 0, "written is wrong");
+    return shown;
+}
+
+static void list_names(const struct lent *file, char **words) {
+    struct elfsee_limits limits = limits_of(words[0], words[1], words[2]);
+    struct elfsee_listing asked = {(uint16_t)atoi(words[3]), (uint16_t)atoi(words[4])};
+    struct names *names = names_of(words[5]);
+    size_t room_len = (size_t)elfsee_room(file->bytes, file->len, limits.headers), out_len = 64, i;
+    struct shown shown = list_names_into(file, &limits, &asked, names, room_len, out_len);
+    while (shown.status == ELFSEE_FULL) {
+        expect(shown.end.written == out_len, "full, and not written to the end");
+        take_back(&shown.out);
+        out_len *= 4;
+        shown = list_names_into(file, &limits, &asked, names, room_len, out_len);
+    }
+    answer(shown.status, &shown.end, UINT64_MAX, shown.out.bytes, (size_t)shown.end.written);
+    take_back(&shown.out);
+    expect(take_back(&names->list), "the list of names was written outside");
+    for (i = 0; i < names->count; i += 1) take_back(&names->texts[i]);
 }
 
 static void list(const struct lent *file, char **words) {
@@ -849,6 +912,46 @@ static void rows(const struct lent *file) {
     expect(take_back(&walk.room), "room was written outside");
 }
 
+/* The symbols of the hash table: of each its numbers and its name, or ! where it has none. */
+static void hashed(const struct lent *file, char **words) {
+    struct elfsee_limits limits = limits_of(words[0], "256", words[1]);
+    struct elfsee_rows rows = {7, 7, 7, 7, 7, 7}, again = {8, 8, 8, 8, 8, 8};
+    struct elfsee_end end_again = {7, 7, 7, 7, 7};
+    struct elfsee_symbol symbols[7];
+    struct walk walk;
+    uint32_t flags = (uint32_t)atoi(words[2]), status;
+    size_t count = 7, i;
+    memset(&walk, 0, sizeof walk);
+    walk.file = file;
+    walk.limits = limits;
+    walk.room = lend(HEADER_BYTES * (size_t)limits.headers, turn++ & 2);
+    struct lent less = lend((size_t)elfsee_room(file->bytes, file->len, limits.headers), turn & 1);
+    status = elfsee_hashed_symbols(file->bytes, file->len, &limits, flags, walk.room.bytes, walk.room.len, &rows,
+                                   &walk.end);
+    expect(status == elfsee_hashed_symbols(file->bytes, file->len, &limits, flags, less.bytes, less.len, &again,
+                                           &end_again) &&
+               is_same(&walk.end, &end_again),
+           "another answer with other room");
+    expect(take_back(&walk.room) && take_back(&less), "room was written outside");
+    expect(walk.end.written == 0, "written is not 0");
+    if (status != ELFSEE_OK) expect(rows.at == 7 && rows.strings_len == 7, "rows were written where none are");
+    if (status == ELFSEE_OK) expect(!memcmp(&rows, &again, sizeof rows) && rows.index == 0, "other rows with other room");
+    struct elfsee_range strings = {rows.strings_at, rows.strings_len};
+    struct elfsee_end end = walk.end;
+    while (status == ELFSEE_OK && count == 7) {
+        count = elfsee_next_symbols(file->bytes, file->len, &rows, symbols, 7);
+        for (i = 0; i < count; i += 1) {
+            say(&walk, "%" PRIu64 " %" PRIu64 " %u %u %u %" PRIu32 " ", symbols[i].value, symbols[i].size,
+                symbols[i].info, symbols[i].other, symbols[i].section, symbols[i].name);
+            if (!say_name(&walk, &strings, symbols[i].name)) say(&walk, "!");
+            say(&walk, "\n");
+        }
+    }
+    if (status == ELFSEE_OK) expect(rows.index == rows.count, "fewer rows than were counted");
+    answer(status, &end, UINT64_MAX, walk.text, walk.len);
+    free(walk.text);
+}
+
 /* The lines of symbol versions, as the program lists them with 4,096 bytes of a name. */
 static void versions(const struct lent *file) {
     struct walk walk;
@@ -929,9 +1032,11 @@ static void split(char *line, char **words, size_t count) {
 }
 
 static void answer_line(char *line) {
-    char *words[7];
+    char *words[8];
     size_t count = !strncmp(line, "show ", 5)      ? 5
                    : !strncmp(line, "list ", 5)    ? 6
+                   : !strncmp(line, "names ", 6)   ? 7
+                   : !strncmp(line, "hashed ", 7)  ? 4
                    : !strncmp(line, "find ", 5)    ? 4
                    : !strncmp(line, "resolve ", 8) ? 6
                    : !strncmp(line, "apply ", 6)   ? 5
@@ -945,6 +1050,8 @@ static void answer_line(char *line) {
     struct lent file = read_file(words[count]);
     if (!strcmp(words[0], "show")) show(&file, words + 1);
     if (!strcmp(words[0], "list")) list(&file, words + 1);
+    if (!strcmp(words[0], "names")) list_names(&file, words + 1);
+    if (!strcmp(words[0], "hashed")) hashed(&file, words + 1);
     if (!strcmp(words[0], "find")) find(&file, words + 1);
     if (!strcmp(words[0], "resolve")) resolve(&file, words + 1);
     if (!strcmp(words[0], "apply")) apply(&file, words + 1);

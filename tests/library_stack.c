@@ -29,6 +29,23 @@ static void call_show(void) {
     elfsee_show(file, file_len, &LIMITS, ELFSEE_ALL, room, ROOM, out, OUT, &end);
 }
 
+/* Listings in all styles, whole and of the rows of names. */
+static void call_list(void) {
+    static const struct elfsee_text names[] = {{(const uint8_t *)"main", 4}, {(const uint8_t *)"main@V", 6}};
+    struct elfsee_listing listing = {ELFSEE_ALL + ELFSEE_VERSIONS, 0};
+    for (listing.flags = ELFSEE_GNU; listing.flags < 32; listing.flags += 1) {
+        listing.parts = ELFSEE_ALL;
+        elfsee_list(file, file_len, &LIMITS, &listing, sizeof listing, room, ROOM, out, OUT, &end);
+        for (listing.parts = ELFSEE_SYMBOLS; listing.parts <= ELFSEE_VERSIONS; listing.parts *= 2)
+            elfsee_list_names(file, file_len, &LIMITS, &listing, sizeof listing, names, 2, room, ROOM, out, OUT, &end);
+    }
+}
+
+static void call_hashed(void) {
+    elfsee_hashed_symbols(file, file_len, &LIMITS, 0, room, ROOM, &rows, &end);
+    elfsee_hashed_symbols(file, file_len, &LIMITS, ELFSEE_BY_SEGMENTS, room, ROOM, &rows, &end);
+}
+
 static void call_find(void) {
     static uint8_t name[4096];
     struct elfsee_found found = {{0, 0, 0, 0, 0, 0}, 0, 0, 0, 0, 0};
@@ -206,7 +223,7 @@ static const struct {
     void (*call)(void);
     int each_section;
 } CALLS[] = {{"nothing", call_nothing, 0}, {"show", call_show, 0},       {"find", call_find, 0},
-             {"look_up", call_look_up, 0},
+             {"look_up", call_look_up, 0},     {"list", call_list, 0},           {"hashed", call_hashed, 0},
              {"apply", call_apply, 1},     {"symbols", call_symbols, 1}, {"relocations", call_relocations, 1},
              {"dynamic", call_dynamic, 1},     {"headers", call_headers, 1},
              {"within", call_within, 1},       {"apply_lent", call_place, 1}, {"versions", call_versions, 1},

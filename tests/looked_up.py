@@ -411,6 +411,31 @@ def symbols_in(scope):
             yield text_at(scope.content, scope.strings, name), index
 
 
+def hashed_count(scope):
+    """How many symbols the hash table tells of, no more than there is room for."""
+    if not scope.is_gnu:
+        return min(scope.nchain, scope.count)
+    at = scope.table.offset
+    start = max(struct.unpack_from("<%dI" % scope.nbucket, scope.content, at + scope.buckets))
+    if start < scope.first:
+        return min(scope.first, scope.count)
+    for index in range(start, scope.count):
+        word = scope.chains + 4 * (index - scope.first)
+        if word + 4 > scope.table.size or scope.content[at + word] & 1:
+            return index + 1
+    return scope.count
+
+
+def hashed_symbols(scope):
+    """Each symbol of the hash table: its name, or None where its string table has none at its index, and its numbers,
+    st_name first."""
+    first, last = scope.strings.offset, scope.strings.offset + scope.strings.size
+    for index in range(hashed_count(scope)):
+        numbers = struct.unpack_from("<IBBHQQ", scope.content, scope.symbols.offset + 24 * index)
+        end = scope.content.find(b"\0", first + numbers[0], last) if first + numbers[0] < last else -1
+        yield (bytes(scope.content[first + numbers[0]:end]) if end >= 0 else None), numbers
+
+
 def versions_in(scope):
     """Of a well-made file the name of each number of a version."""
     found = {}

@@ -1,7 +1,10 @@
 pub mod ApplyingLaws
+pub mod AskedLaws
 pub mod BudgetLaws
 pub mod FindingLaws
+pub mod HashedLaws
 pub mod ItemLaws
 pub mod LackLaws
 pub mod ListingLaws
+pub mod NameLaws
 pub mod ResolvingLaws

@@ -4,6 +4,7 @@ pub mod Causes
 pub mod Costs
 pub mod Ends
 pub mod Found
+pub mod HashedRows
 pub mod Items
 pub mod Lent
 pub mod LentLayouts

@@ -5,7 +5,7 @@ use Rattle.elf_headers.specs.Permitted.{AreHeaders, AreNameBytes}
 use Rattle.elf_headers.specs.declared.caps.Caps.{Caps}
 use Rattle.elf_headers.specs.declared.caps.Limits.{Limits as Permitted}
 use Rattle.elf_calls.specs.Asked.{caller_style}
-use Rattle.elf_calls.specs.declared.asked.CallerListing.{CallerListing}
+use Rattle.elf_calls.specs.declared.caller_listing.CallerListing.{CallerListing}
 use Rattle.elf_calls.specs.declared.limits.CallerLimits.{CallerLimits}
 
 -- the read budget, where there is one

@@ -6,7 +6,7 @@ use Rattle.elf_model.specs.Budget.{IsBudgeted}
 use Rattle.elf_model.specs.Cost.{listing_cost}
 use Rattle.elf_model.specs.declared.causes.Refusal.{Refusal}
 use Rattle.elf_headers.specs.declared.caps.Caps.{Caps}
-use Rattle.elf_calls.specs.Asked.{AsksListing, parts_in, style_in}
+use Rattle.elf_calls.specs.Asked.{AsksListing, LentTexts, parts_in, style_in}
 use Rattle.elf_calls.specs.Limits.{AreCaps, budget_of, headers_of}
 use Rattle.elf_calls.specs.Told.{IsStatus, Untouched}
 use Rattle.elf_calls.specs.declared.end.End.{End}
@@ -46,7 +46,7 @@ abbrev pub HasListing : List ℕ → CallerLimits → (room parts status : ℕ) 
 HasListing file limits room parts status before out end =
     HasStyledListing (AreCaps limits room) file limits room (standard limits.name) parts status before out end
 
--- of the listing that the bytes of a struct ask for
-abbrev pub HasAskedListing : List ℕ → CallerLimits → (room : ℕ) → (asked : List ℕ) → (status : ℕ) → (before out : List ℕ) → End → Type 0
-HasAskedListing file limits room asked status before out end =
-    HasStyledListing (AreCaps limits room × AsksListing asked) file limits room (style_in asked limits.name) (parts_in asked) status before out end
+-- of the listing that the bytes of a struct ask for, of every row or of those of some names
+abbrev pub HasAskedListing : List ℕ → CallerLimits → (room : ℕ) → (asked : List ℕ) → Option LentTexts → (status : ℕ) → (before out : List ℕ) → End → Type 0
+HasAskedListing file limits room asked names status before out end =
+    HasStyledListing (AreCaps limits room × AsksListing asked names) file limits room (style_in asked names limits.name) (parts_in asked) status before out end

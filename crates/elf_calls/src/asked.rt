@@ -1,14 +1,13 @@
 //! What a caller asks for of a listing.
-ghost use Rattle.std.specs.Prelude.{◌≡◌};
+ghost use Rattle.std.specs.Prelude.{◌≡◌, MatchBool, None, Some};
 ghost use Rattle.elf_model.specs.Archive.{are_all};
 ghost use Rattle.elf_model.specs.Listing.{all_parts};
-ghost use Rattle.elf_headers.specs.Permitted.{style_of};
-ghost use Rattle.elf_calls.specs.Asked.{GivesListing, format_in, caller_style};
+ghost use Rattle.elf_calls.specs.Asked.{GivesListing, IsChosenPart, format_in};
 
-use elf_headers::{Cap, Style};
+use crate::caller_listing::CallerListing;
+use crate::names::may_choose;
 use elf_model::Format;
 use elf_record::{Parts, u16_at};
-use elf_wanted::RowChoice;
 
 /// The bytes of the struct that says it, as far as this version of the library knows it.
 const KNOWN_BYTES: usize = 4;
@@ -18,44 +17,17 @@ const BY_SEGMENTS: u16 = 1;
 const GNU: u16 = 4;
 /// Each line is a JSON object.
 const JSON: u16 = 8;
+/// The version of a symbol stands behind its name.
+const NAME_VERSIONS: u16 = 16;
 /// All bits that are no flag.
-const NO_FLAGS: u16 = 0xfff2;
-
-/// A listing, as a caller asks for it: which parts it has, and how its rows are shown, but for how
-/// many bytes of a name.
-#[derive(Clone, Copy)]
-pub struct CallerListing {
-    /// The parts.
-    pub parts: Parts,
-    /// Whether numbers of the GNU system have names.
-    pub gnu: bool,
-    /// Whether tables are found by the program headers also where there are section headers.
-    pub by_segments: bool,
-    /// How a line is written.
-    pub format: Format,
-}
-
-impl CallerListing {
-    /// How its rows are shown, with so many bytes of a name.
-    pub fn style(self, cap: Cap) -> Style<'static>
-        ensures { style_of result ≡ caller_style self cap.bytes }
-    {
-        Style {
-            cap,
-            gnu: self.gnu,
-            by_segments: self.by_segments,
-            format: self.format,
-            choice: RowChoice::every_row(),
-            versions: false,
-        }
-    }
-}
+const NO_FLAGS: u16 = 0xffe2;
 
 /// The listing that the bytes of a struct ask for: its parts and the sum of its flags, each of 16 bits.
 /// None where there are fewer bytes than these, where one behind them is not 0, for a flag that is not
-/// known, and for a part that such a listing has not.
-pub fn listing_of(asked: &[u8]) -> Option<CallerListing>
-    ensures { GivesListing asked.now result }
+/// known, for versions behind names without those of the GNU system, and for a part that such a listing
+/// has not.
+pub fn listing_of(asked: &[u8]) -> Option<CallerListing<'static>>
+    ensures { GivesListing asked.now None result }
 {
     if asked.len() < KNOWN_BYTES || !are_zeros(&asked[KNOWN_BYTES..]) {
         return None;
@@ -66,11 +38,47 @@ pub fn listing_of(asked: &[u8]) -> Option<CallerListing>
         gnu: flags & GNU == GNU,
         by_segments: flags & BY_SEGMENTS == BY_SEGMENTS,
         format: format_of(flags),
+        versions: flags & NAME_VERSIONS == NAME_VERSIONS,
+        by_name: false,
+        names: &[],
     };
-    if flags & NO_FLAGS != 0 || listing.parts.0 > most_parts(listing.gnu) {
+    let lacks_gnu = listing.versions && !listing.gnu;
+    if flags & NO_FLAGS != 0 || lacks_gnu || listing.parts.0 > most_parts(listing.gnu) {
         return None;
     }
     Some(listing)
+}
+
+/// The same of the rows alone whose name is one of some. None also where the part is none of which rows
+/// are chosen by names, or not one alone: symbols, relocation entries and symbol versions are; where a
+/// name can't be looked for; and where one is below the one before it, by their bytes.
+pub fn named_listing_of<'n>(asked: &[u8], names: &'n [&'n [u8]]) -> Option<CallerListing<'n>>
+    ensures { GivesListing asked.now (Some names.now) result }
+{
+    let every = listing_of(asked)?;
+    if !is_chosen_part(every.parts) {
+        return None;
+    }
+    if !may_choose(names, every.versions) {
+        return None;
+    }
+    Some(CallerListing {
+        parts: every.parts,
+        gnu: every.gnu,
+        by_segments: every.by_segments,
+        format: every.format,
+        versions: every.versions,
+        by_name: true,
+        names,
+    })
+}
+
+/// Whether it is one part, of which rows are chosen by names.
+fn is_chosen_part(parts: Parts) -> bool
+    ensures { MatchBool result (IsChosenPart parts.0) (IsChosenPart parts.0 → ⊥) }
+{
+    let part = parts.0;
+    part == Parts::SYMBOLS.0 || part == Parts::RELOCS.0 || part == Parts::VERSIONS.0
 }
 
 /// How a line is written, by the flags.

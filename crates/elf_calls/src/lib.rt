@@ -4,10 +4,12 @@
 
 mod applied;
 mod asked;
+mod caller_listing;
 mod causes;
 mod counts;
 mod end;
 mod found;
+mod hashed;
 mod items;
 mod lent_layout;
 mod lent_sink;
@@ -16,6 +18,7 @@ mod listing;
 mod loader_lookup;
 mod looking;
 mod missing;
+mod names;
 mod opening;
 mod placing;
 mod query;
@@ -25,10 +28,12 @@ mod telling;
 mod told;
 
 pub use applied::{WantedSection, write_section};
-pub use asked::{CallerListing, listing_of};
+pub use asked::{listing_of, named_listing_of};
+pub use caller_listing::CallerListing;
 pub use counts::short;
 pub use end::End;
 pub use found::{Looked, LookupNumbers};
+pub use hashed::open_hashed;
 pub use items::{CallerItem, Job, lay_out};
 pub use lent_layout::CallerLayout;
 pub use limits::{CallerLimits, caps_of, limits_of};

@@ -2,7 +2,7 @@
 ghost use Rattle.elf_calls.specs.Limits.{GivesCaps, GivesLimits, budget_of};
 ghost use Rattle.std.specs.Prelude.{◌≡◌};
 
-use crate::asked::CallerListing;
+use crate::caller_listing::CallerListing;
 use elf_headers::{Cap, Caps};
 
 /// How many bytes of room a header takes.
@@ -44,8 +44,12 @@ pub fn limits_of(limits: &CallerLimits, room: usize) -> Option<elf_headers::Limi
 }
 
 /// The same for a listing that is asked for; None also where so many bytes of a name are not permitted.
-pub fn caps_of(limits: &CallerLimits, room: usize, listing: CallerListing) -> Option<Caps<'static>>
-    ensures { GivesCaps limits.now room listing result }
+pub fn caps_of<'n>(
+    limits: &CallerLimits,
+    room: usize,
+    listing: CallerListing<'n>,
+) -> Option<Caps<'n>>
+    ensures { GivesCaps limits.now room listing.entry result }
 {
     let style = listing.style(Cap::new(limits.name)?);
     let limits = limits_of(limits, room)?;

@@ -1,3 +1,4 @@
+pub mod HashedLaws
 pub mod ListedLaws
 pub mod RecordLaws
 pub mod RecordTables

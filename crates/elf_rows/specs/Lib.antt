@@ -1,5 +1,6 @@
 pub mod DynamicTables
 pub mod Entries
+pub mod Hashed
 pub mod ListedEntries
 pub mod LoadRefused
 pub mod Openings

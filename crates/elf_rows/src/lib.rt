@@ -5,6 +5,7 @@
 
 mod dynamic;
 mod dynamic_table;
+mod hashed;
 mod held;
 mod held_tables;
 mod kind;
@@ -22,6 +23,7 @@ mod tables;
 mod version_words;
 
 pub use dynamic::{Dynamic, next_dynamic};
+pub use hashed::hashed_rows;
 pub use kind::RowKind;
 pub use names::names_in;
 pub use record_row::RecordRow;

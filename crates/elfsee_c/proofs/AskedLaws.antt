@@ -1,29 +1,29 @@
--- A listing that the bytes of a struct ask for is one in its style.
-use Rattle.std.proofs.Common.{◌≡◌, ◌≤◌, ℕ, List, Some, subst}
+-- A listing that is asked for is one in its style.
+use Rattle.std.proofs.Common.{◌≡◌, ◌≤◌, ℕ, List, Option, Some, subst}
 use Rattle.elf_model.specs.Budget.{IsBudgeted}
 use Rattle.elf_model.specs.Cost.{listing_cost}
 use Rattle.elf_model.specs.Style.{Style}
-use Rattle.elf_calls.specs.Asked.{AsksListing, GivesListing, caller_style, parts_in, style_in}
+use Rattle.elf_calls.specs.Asked.{AsksListing, GivesListing, LentTexts, caller_style, parts_in, style_in}
 use Rattle.elf_calls.specs.Limits.{AreCaps, budget_of, headers_of}
 use Rattle.elf_calls.specs.Shown.{FillsMemory, ShowsInMemory}
-use Rattle.elf_calls.specs.declared.asked.CallerListing.{CallerListing}
+use Rattle.elf_calls.specs.declared.caller_listing.CallerListing.{CallerListing}
 use Rattle.elf_calls.specs.declared.end.End.{End}
 use Rattle.elf_calls.specs.declared.limits.CallerLimits.{CallerLimits}
 use Rattle.elf_calls.specs.declared.told.Told.{Told}
 use Rattle.elf_calls.specs.declared.told.Told.TheVariants.{Done, Refused, Full, BadCall}
 
-module _ (file : List ℕ) (limits : CallerLimits) (room : ℕ) (asked : List ℕ) (listing : CallerListing) (gives : GivesListing asked (Some listing)) where
+module _ (file : List ℕ) (limits : CallerLimits) (room : ℕ) (asked : List ℕ) (names : Option LentTexts) (listing : CallerListing) (gives : GivesListing asked names (Some listing)) where
   -- what fills the memory
   fills : (out : List ℕ) (written : ℕ) (told : Told)
       → FillsMemory (IsBudgeted (budget_of limits) file (headers_of limits room) (caller_style listing limits.name) listing.parts.0) out written told
-      → FillsMemory (IsBudgeted (budget_of limits) file (headers_of limits room) (style_in asked limits.name) (parts_in asked)) out written told
+      → FillsMemory (IsBudgeted (budget_of limits) file (headers_of limits room) (style_in asked names limits.name) (parts_in asked)) out written told
   fills out written told fill =
       subst (λ (style : Style). FillsMemory (IsBudgeted (budget_of limits) file (headers_of limits room) style (parts_in asked)) out written told) (gives.2 limits.name)
       (subst (λ parts. FillsMemory (IsBudgeted (budget_of limits) file (headers_of limits room) (caller_style listing limits.name) parts) out written told) gives.1 fill)
 
   pub shows_asked : (before out : List ℕ) (end : End) (told : Told)
       → ShowsInMemory (AreCaps limits room) file limits room (caller_style listing limits.name) listing.parts.0 before out end told
-      → ShowsInMemory (AreCaps limits room × AsksListing asked) file limits room (style_in asked limits.name) (parts_in asked) before out end told
+      → ShowsInMemory (AreCaps limits room × AsksListing asked names) file limits room (style_in asked names limits.name) (parts_in asked) before out end told
   shows_asked before out end Done shows = ((shows.0, gives.0), fills out end.written Done shows.1)
   shows_asked before out end (Refused refusal) shows = ((shows.0, gives.0), fills out end.written (Refused refusal) shows.1)
   shows_asked before out end Full shows = ((shows.0, gives.0), fills out end.written Full shows.1)
@@ -31,7 +31,7 @@ module _ (file : List ℕ) (limits : CallerLimits) (room : ℕ) (asked : List �
 
   -- and what it costs
   pub costs_asked : (n : ℕ) → n ≤ listing_cost file (headers_of limits room) (caller_style listing limits.name) listing.parts.0
-      → n ≤ listing_cost file (headers_of limits room) (style_in asked limits.name) (parts_in asked)
+      → n ≤ listing_cost file (headers_of limits room) (style_in asked names limits.name) (parts_in asked)
   costs_asked n within =
       subst (λ (style : Style). n ≤ listing_cost file (headers_of limits room) style (parts_in asked)) (gives.2 limits.name)
       (subst (λ parts. n ≤ listing_cost file (headers_of limits room) (caller_style listing limits.name) parts) gives.1 within)

@@ -6,6 +6,7 @@ mod applying;
 mod contents;
 mod cost;
 mod finding;
+mod hashed;
 mod headers;
 mod loads;
 mod members;

@@ -1,16 +1,15 @@
 //! The exports that list a file in memory.
-ghost use Rattle.std.specs.Prelude.{◌≡◌, ◌≤◌, IfSome, length};
+ghost use Rattle.std.specs.Prelude.{◌≡◌, ◌≤◌, ℕ, IfSome, List, None, Option, Some, length};
 ghost use Rattle.elf_model.specs.Cost.{listing_cost};
-ghost use Rattle.elf_calls.specs.Asked.{AsksListing, caller_style, parts_in, style_in};
+ghost use Rattle.elf_calls.specs.Asked.{AsksListing, GivesListing, LentTexts, caller_style, parts_in, style_in};
 ghost use Rattle.elf_calls.specs.Limits.{AreCaps, budget_of, headers_of};
 ghost use Rattle.elf_calls.specs.Shown.{HasAskedListing, HasListing, ShowsInMemory};
 
 use elf_calls::{
-    CallOutcome, CallerLimits, CallerListing, End, Told, caps_of, list, listing_of, short,
-    tell_told,
+    CallOutcome, CallerLimits, CallerListing, End, Told, caps_of, list, listing_of,
+    named_listing_of, short, tell_told,
 };
 use elf_headers::HeaderStore;
-use elf_model::Format;
 use elf_record::Parts;
 
 /// Lists a file that lies in memory into memory of the caller, as far as `parts` has it. `room` is
@@ -30,12 +29,7 @@ pub extern "C" fn elfsee_show(
     ensures { HasListing file.now limits.now
         (length room.old) parts result out.old out.new end.new }
 {
-    let listing = CallerListing {
-        parts: Parts(parts),
-        gnu: false,
-        by_segments: false,
-        format: Format::Columns,
-    };
+    let listing = CallerListing::standard(Parts(parts));
     let told = show_to(file, limits, listing, room, out, end);
     tell_told(told, end)
 }
@@ -43,8 +37,8 @@ pub extern "C" fn elfsee_show(
 /// Lists a file that lies in memory into memory of the caller, as `asked` says: the bytes of a struct
 /// of two numbers of 16 bits, the parts, and the sum of flags: 1 finds tables by the program headers
 /// also where there are section headers, 4 names the numbers of the GNU system too, and has the symbol
-/// versions as a part, and 8 writes each line as a JSON object. `room` is where the file's headers lie
-/// meanwhile.
+/// versions as a part, 8 writes each line as a JSON object, and 16, with 4 alone, puts the version of a
+/// symbol behind its name. `room` is where the file's headers lie meanwhile.
 ///
 /// Answers 0 where it was listed, 1 where it is refused or the budget is used up, 3 where the listing
 /// has more bytes than `out`, 4 where the limits or the room are outside their ranges, or `asked` has
@@ -60,33 +54,60 @@ pub extern "C" fn elfsee_list(
     end: &mut End,
 ) -> u32
     ensures { HasAskedListing file.now limits.now
-        (length room.old) asked.now result out.old out.new end.new }
+        (length room.old) asked.now None result out.old out.new end.new }
 {
-    let told = list_to(file, limits, asked, room, out, end);
+    let told = list_to(file, limits, listing_of(asked), room, out, end);
     tell_told(told, end)
 }
 
-/// Lists the file as the bytes of a struct ask for, and answers how that ended. The counts are written
-/// to `end`.
-fn list_to(
+/// Lists a file as [`elfsee_list`] does, of its rows those alone whose name is one of some: `asked` has
+/// the part of which they are, symbols, relocation entries or symbol versions. The names are in the rising
+/// order of their bytes, 1 to 4,096 each without a NUL. Where versions stand behind names they may have
+/// one, as NAME@VERSION, or NAME@@VERSION for a default one (Linux Standard Base Core, Symbol Versioning).
+///
+/// Answers as that call does, and 4 also where a name can't be looked for, or is below the one before it,
+/// and where the part is none of these.
+#[unsafe(no_mangle)]
+pub extern "C" fn elfsee_list_names(
     file: &[u8],
     limits: &CallerLimits,
     asked: &[u8],
+    names: &[&[u8]],
+    room: &mut [u8],
+    out: &mut [u8],
+    end: &mut End,
+) -> u32
+    ensures { HasAskedListing file.now limits.now
+        (length room.old) asked.now (Some names.now) result out.old out.new end.new }
+{
+    let told = list_to(file, limits, named_listing_of(asked, names), room, out, end);
+    tell_told(told, end)
+}
+
+/// Lists the file as it is asked for, if it is, and answers how that ended. The counts are written to
+/// `end`.
+fn list_to(
+    file: &[u8],
+    limits: &CallerLimits,
+    listing: Option<CallerListing<'_>>,
     room: &mut [u8],
     out: &mut [u8],
     end: &mut End,
 ) -> Told
     ensures shows { let room = length room.old in
-        ShowsInMemory (AreCaps limits.now room × AsksListing asked.now) file.now limits.now room
-        (style_in asked.now limits.now.name) (parts_in asked.now) out.old out.new end.new result }
+        (asked : List ℕ) (names : Option LentTexts) → GivesListing asked names listing.entry →
+        ShowsInMemory (AreCaps limits.now room × AsksListing asked names) file.now limits.now room
+        (style_in asked names limits.now.name) (parts_in asked) out.old out.new end.new result }
     ensures within { end.new.written ≤ length out.new }
-    ensures cost { end.new.asked ≤ listing_cost file.now (headers_of limits.now (length room.old))
-        (style_in asked.now limits.now.name) (parts_in asked.now) }
+    ensures cost { (asked : List ℕ) (names : Option LentTexts) →
+        GivesListing asked names listing.entry →
+        end.new.asked ≤ listing_cost file.now (headers_of limits.now (length room.old))
+        (style_in asked names limits.now.name) (parts_in asked) }
     ensures budget { IfSome (budget_of limits.now) (λ bytes. end.new.asked ≤ bytes) }
     ensures clear { (end.new.cause ≡ 0) × (end.new.at ≡ 0) × (end.new.none ≡ 0) }
 {
     end.clear();
-    match listing_of(asked) {
+    match listing {
         Some(listing) => show_to(file, limits, listing, room, out, end),
         None => Told::BadCall,
     }
@@ -96,17 +117,17 @@ fn list_to(
 fn show_to(
     file: &[u8],
     limits: &CallerLimits,
-    listing: CallerListing,
+    listing: CallerListing<'_>,
     room: &mut [u8],
     out: &mut [u8],
     end: &mut End,
 ) -> Told
     ensures shows { let room = length room.old in
         ShowsInMemory (AreCaps limits.now room) file.now limits.now room
-        (caller_style listing limits.now.name) listing.parts.0 out.old out.new end.new result }
+        (caller_style listing.entry limits.now.name) listing.parts.0 out.old out.new end.new result }
     ensures within { end.new.written ≤ length out.new }
     ensures cost { end.new.asked ≤ listing_cost file.now (headers_of limits.now (length room.old))
-        (caller_style listing limits.now.name) listing.parts.0 }
+        (caller_style listing.entry limits.now.name) listing.parts.0 }
     ensures budget { IfSome (budget_of limits.now) (λ bytes. end.new.asked ≤ bytes) }
     ensures clear { (end.new.cause ≡ 0) × (end.new.at ≡ 0) × (end.new.none ≡ 0) }
 {

@@ -3,12 +3,15 @@ ghost use Rattle.std.specs.Prelude.{◌<◌, ℕ, length, slice_index_or};
 ghost use Rattle.elf_rows.specs.Entries.{IsDynamic, IsRelocation};
 ghost use Rattle.elf_rows.specs.Rows.{StepsRows, next_at};
 ghost use Rattle.elf_rows.specs.Symbols.{IsSymbol};
+ghost use Rattle.elf_rows.specs.VersionRecords.{IsVersionWord};
 ghost use Rattle.elf_rows.specs.declared.dynamic.Dynamic.{Dynamic as OneDynamic};
 ghost use Rattle.elf_rows.specs.declared.relocations.Relocation.{Relocation as OneRelocation};
 ghost use Rattle.elf_rows.specs.declared.symbol.Symbol.{Symbol as OneSymbol};
+ghost use Rattle.elf_rows.specs.declared.version_words.VersionWord.{VersionWord as OneWord};
 
 use elf_rows::{
-    Dynamic, Relocation, RowsLeft, Symbol, next_dynamic, next_relocations, next_symbols,
+    Dynamic, Relocation, RowsLeft, Symbol, VersionWord, next_dynamic, next_relocations,
+    next_symbols, next_version_words,
 };
 
 /// Reads the next symbols to the front of `out`, as many as there are and as it has room for, steps
@@ -48,4 +51,19 @@ pub extern "C" fn elfsee_next_dynamic(
         IsDynamic file.now (next_at rows.old 16 k) (slice_index_or out.new k none) }
 {
     next_dynamic(file, rows, out)
+}
+
+/// Reads the next words of symbols' versions to the front of `out`, as many as there are and as it has
+/// room for, steps over them, and answers how many (Linux Standard Base Core, Symbol Versioning).
+#[unsafe(no_mangle)]
+pub extern "C" fn elfsee_next_version_words(
+    file: &[u8],
+    rows: &mut RowsLeft,
+    out: &mut [VersionWord],
+) -> usize
+    ensures steps { StepsRows (length file.now) 2 rows.old rows.new (length out.old) result }
+    ensures read { (k : ℕ) (none : OneWord) → k < result →
+        IsVersionWord file.now (next_at rows.old 2 k) (slice_index_or out.new k none) }
+{
+    next_version_words(file, rows, out)
 }

@@ -1,61 +1,12 @@
-//! The exports that go over the symbol versions of a file in memory.
-ghost use Rattle.std.specs.Prelude.{◌≤◌, ◌<◌, ℕ, IfSome, length, slice_index_or};
-ghost use Rattle.elf_rows.specs.Rows.{StepsRows, next_at};
-ghost use Rattle.elf_rows.specs.VersionRecords.{IsVersionWord, StepsRecord};
-ghost use Rattle.elf_rows.specs.declared.version_words.VersionWord.{VersionWord as OneWord};
+//! The exports that go over the version definitions and needs of a file in memory.
+ghost use Rattle.std.specs.Prelude.{length};
+ghost use Rattle.elf_rows.specs.VersionRecords.{StepsRecord};
 ghost use Rattle.elf_calls.specs.Ends.{TellsRead};
-ghost use Rattle.elf_calls.specs.Limits.{budget_of};
 ghost use Rattle.elf_calls.specs.Openings.{OpensRecords, TellsOpened};
-ghost use Rattle.elf_calls.specs.Within.{StepsBudgeted};
 
-use elf_calls::{
-    CallerLimits, End, count_bytes, limits_of, room_left, tell, tell_opened, tell_rest,
-};
+use elf_calls::{CallerLimits, End, limits_of, tell, tell_opened};
 use elf_record::Refusal;
-use elf_rows::{
-    RecordRow, RecordsLeft, RowsLeft, VersionWord, next_record, next_version_words, records_in,
-};
-
-/// Reads the next words of symbols' versions to the front of `out`, as many as there are and as it has
-/// room for, steps over them, and answers how many (Linux Standard Base Core, Symbol Versioning).
-#[unsafe(no_mangle)]
-pub extern "C" fn elfsee_next_version_words(
-    file: &[u8],
-    rows: &mut RowsLeft,
-    out: &mut [VersionWord],
-) -> usize
-    ensures steps { StepsRows (length file.now) 2 rows.old rows.new (length out.old) result }
-    ensures read { (k : ℕ) (none : OneWord) → k < result →
-        IsVersionWord file.now (next_at rows.old 2 k) (slice_index_or out.new k none) }
-{
-    next_version_words(file, rows, out)
-}
-
-/// Reads the next words of symbols' versions, as [`elfsee_next_version_words`] does, and no more than
-/// the budget of the limits has left: each counts 2 bytes in `asked`. Where more rows are left, and room
-/// for them, the budget ended it: then `Budget` is in `end`, at the next row.
-#[unsafe(no_mangle)]
-pub extern "C" fn elfsee_next_version_words_within(
-    file: &[u8],
-    limits: &CallerLimits,
-    asked: &mut u64,
-    rows: &mut RowsLeft,
-    out: &mut [VersionWord],
-    end: &mut End,
-) -> usize
-    ensures steps { StepsBudgeted (length file.now) 2 limits.now asked.old asked.new
-        rows.old rows.new (length out.old) result end.new }
-    ensures budget { IfSome (budget_of limits.now)
-        (λ bytes. asked.old ≤ bytes → asked.new ≤ bytes) }
-    ensures read { (k : ℕ) (none : OneWord) → k < result →
-        IsVersionWord file.now (next_at rows.old 2 k) (slice_index_or out.new k none) }
-{
-    let room = room_left(limits, *asked, 2, out.len());
-    let count = next_version_words(file, rows, &mut out[..room]);
-    count_bytes(2 * count as u128, asked);
-    tell_rest(file.len(), rows, 2, out.len() - count, end);
-    count
-}
+use elf_rows::{RecordRow, RecordsLeft, next_record, records_in};
 
 /// Checks the table of version definitions or needs that a section of a file is, and sets `records`
 /// before its first. So many headers are permitted as the limits say, and as the room has 64 bytes for;

@@ -4,10 +4,12 @@ ghost use Rattle.elf_rows.specs.Entries.{IsDynamic, IsRelocation};
 ghost use Rattle.elf_rows.specs.Rows.{next_at};
 ghost use Rattle.elf_rows.specs.SegmentDynamic.{ReadsSegmentDynamic};
 ghost use Rattle.elf_rows.specs.Symbols.{IsSymbol};
+ghost use Rattle.elf_rows.specs.VersionRecords.{IsVersionWord};
 ghost use Rattle.elf_rows.specs.declared.dynamic.Dynamic.{Dynamic as OneDynamic};
 ghost use Rattle.elf_rows.specs.declared.kind.RowKind.TheVariants.{Dynamic as DynamicRows};
 ghost use Rattle.elf_rows.specs.declared.relocations.Relocation.{Relocation as OneRelocation};
 ghost use Rattle.elf_rows.specs.declared.symbol.Symbol.{Symbol as OneSymbol};
+ghost use Rattle.elf_rows.specs.declared.version_words.VersionWord.{VersionWord as OneWord};
 ghost use Rattle.elf_calls.specs.Limits.{budget_of};
 ghost use Rattle.elf_calls.specs.Openings.{OpensRows};
 ghost use Rattle.elf_calls.specs.Within.{OpensAlways, OpensEntries, StepsBudgeted, TellsEntries};
@@ -18,9 +20,21 @@ use elf_calls::{
 };
 use elf_record::Refusal;
 use elf_rows::{
-    Dynamic, Relocation, RowsLeft, Symbol, dynamic_within, next_dynamic, next_relocations,
-    next_symbols, segment_dynamic_within,
+    Dynamic, Relocation, RowsLeft, Symbol, VersionWord, dynamic_within, next_dynamic,
+    next_relocations, next_symbols, next_version_words, segment_dynamic_within,
 };
+
+/// Steps over rows of `$entry` bytes by `$next`, over no more than the budget has left; counts their bytes,
+/// and tells whether the budget ended it.
+macro_rules! step_within {
+    ($next:ident, $entry:literal, $file:ident, $limits:ident, $asked:ident, $rows:ident, $out:ident, $end:ident) => {{
+        let room = room_left($limits, *$asked, $entry, $out.len());
+        let count = $next($file, $rows, &mut $out[..room]);
+        count_bytes($entry * count as u128, $asked);
+        tell_rest($file.len(), $rows, $entry, $out.len() - count, $end);
+        count
+    }};
+}
 
 /// Checks the table of dynamic entries that a section of a file is, as
 /// [`elfsee_dynamic`](crate::tables::elfsee_dynamic) does, within the budget of the limits: each entry
@@ -93,11 +107,7 @@ pub extern "C" fn elfsee_next_symbols_within(
     ensures read { (k : ℕ) (none : OneSymbol) → k < result →
         IsSymbol file.now (next_at rows.old 24 k) (slice_index_or out.new k none) }
 {
-    let room = room_left(limits, *asked, 24, out.len());
-    let count = next_symbols(file, rows, &mut out[..room]);
-    count_bytes(24 * count as u128, asked);
-    tell_rest(file.len(), rows, 24, out.len() - count, end);
-    count
+    step_within!(next_symbols, 24, file, limits, asked, rows, out, end)
 }
 
 /// Reads the next relocation entries, as [`elfsee_next_symbols_within`] does symbols.
@@ -117,11 +127,7 @@ pub extern "C" fn elfsee_next_relocations_within(
     ensures read { (k : ℕ) (none : OneRelocation) → k < result →
         IsRelocation file.now (next_at rows.old 24 k) (slice_index_or out.new k none) }
 {
-    let room = room_left(limits, *asked, 24, out.len());
-    let count = next_relocations(file, rows, &mut out[..room]);
-    count_bytes(24 * count as u128, asked);
-    tell_rest(file.len(), rows, 24, out.len() - count, end);
-    count
+    step_within!(next_relocations, 24, file, limits, asked, rows, out, end)
 }
 
 /// Reads the next dynamic entries, as [`elfsee_next_symbols_within`] does symbols; each counts 16 bytes.
@@ -141,11 +147,30 @@ pub extern "C" fn elfsee_next_dynamic_within(
     ensures read { (k : ℕ) (none : OneDynamic) → k < result →
         IsDynamic file.now (next_at rows.old 16 k) (slice_index_or out.new k none) }
 {
-    let room = room_left(limits, *asked, 16, out.len());
-    let count = next_dynamic(file, rows, &mut out[..room]);
-    count_bytes(16 * count as u128, asked);
-    tell_rest(file.len(), rows, 16, out.len() - count, end);
-    count
+    step_within!(next_dynamic, 16, file, limits, asked, rows, out, end)
+}
+
+/// Reads the next words of symbols' versions, as
+/// [`elfsee_next_version_words`](crate::steps::elfsee_next_version_words) does, and no more than
+/// the budget of the limits has left: each counts 2 bytes in `asked`. Where more rows are left, and room
+/// for them, the budget ended it: then `Budget` is in `end`, at the next row.
+#[unsafe(no_mangle)]
+pub extern "C" fn elfsee_next_version_words_within(
+    file: &[u8],
+    limits: &CallerLimits,
+    asked: &mut u64,
+    rows: &mut RowsLeft,
+    out: &mut [VersionWord],
+    end: &mut End,
+) -> usize
+    ensures steps { StepsBudgeted (length file.now) 2 limits.now asked.old asked.new
+        rows.old rows.new (length out.old) result end.new }
+    ensures budget { IfSome (budget_of limits.now)
+        (λ bytes. asked.old ≤ bytes → asked.new ≤ bytes) }
+    ensures read { (k : ℕ) (none : OneWord) → k < result →
+        IsVersionWord file.now (next_at rows.old 2 k) (slice_index_or out.new k none) }
+{
+    step_within!(next_version_words, 2, file, limits, asked, rows, out, end)
 }
 
 /// Checks the table of dynamic entries of which no more than `most` are looked at, with so many bytes

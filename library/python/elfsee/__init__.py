@@ -39,8 +39,8 @@ import enum
 import os
 import struct
 import types
-from typing import (TYPE_CHECKING, Any, Callable, Dict, Iterator, List, Mapping, NamedTuple, Optional, Sequence,
-                    Tuple, Union)
+from typing import (TYPE_CHECKING, Any, Callable, Dict, Iterable, Iterator, List, Mapping, NamedTuple, Optional,
+                    Sequence, Tuple, Union)
 
 from ._numbers import (DynamicFlag, DynamicFlag1, DynamicTag, FileType, Machine, RelocationType, SectionFlag,
                        SectionType, SegmentFlag, SegmentType, SpecialSection, SymbolBinding, SymbolType,
@@ -145,6 +145,7 @@ def _struct(name: str, *fields: Tuple[Any, str]) -> Any:
 _Limits = _struct("elfsee_limits", (_U16, "headers name"), (_U32, "has_budget"), (_U64, "budget"))
 _End = _struct("elfsee_end", (_U64, "at written asked"), (_U32, "cause none"))
 _Listing = _struct("elfsee_listing", (_U16, "parts flags"))
+_Text = _struct("elfsee_text", (ctypes.c_char_p, "bytes"), (ctypes.c_size_t, "len"))
 _Symbol = _struct("elfsee_symbol", (_U64, "value size"), (_U32, "name"), (_U16, "section"),
                   (_U8, "info other"))
 _Found = _struct("elfsee_found", (_Symbol, "symbol"), (_U32, "index steps"), (_U16, "section none"),
@@ -182,8 +183,8 @@ _Notes = _struct("elfsee_notes", (_U64, "at left align"), (_U32, "header none"))
 _Note = _struct("elfsee_note", (_U64, "at name_at desc_at"), (_U32, "namesz descsz type header"))
 _Members = _struct("elfsee_members", (_U64, "at"), (_Range, "names"), (_U32, "has_names none"))
 _Member = _struct("elfsee_member", (_U64, "at"), (_Range, "content name"), (_U32, "is_cut none"))
-STRUCTS = (_Limits, _End, _Listing, _Symbol, _Range, _Found, _Resolved, _Item, _Job, _LentSection, _LentName, _Layout,
-           _Missing, _Header, _Section, _Segment, _Relocation, _Dynamic, _VersionWord, _VersionRecord,
+STRUCTS = (_Limits, _End, _Listing, _Text, _Symbol, _Range, _Found, _Resolved, _Item, _Job, _LentSection, _LentName,
+           _Layout, _Missing, _Header, _Section, _Segment, _Relocation, _Dynamic, _VersionWord, _VersionRecord,
            _VersionRecords, _Rows, _Notes, _Note, _Members, _Member)
 
 # The same as forms of `struct`, of the rows that are read in batches.
@@ -198,6 +199,7 @@ def _to(kind: Any) -> Any:
     return ctypes.POINTER(kind)
 
 
+_ASKED = (_to(_Listing), ctypes.c_size_t)
 _TABLE = (*_FILE, _to(_Limits), _U16, *_ROOM, _to(_Rows), _to(_End))
 _STEP = (*_FILE, _to(_Limits), _to(_U64), _to(_Rows), *_OUT, _to(_End))
 _CALLS: Mapping[str, Tuple[Any, ...]] = {
@@ -206,7 +208,8 @@ _CALLS: Mapping[str, Tuple[Any, ...]] = {
     "room": (_U64, *_FILE, _U16),
     "cost": (_U64, _U64, _to(_Limits)),
     "show": (_U32, *_FILE, _to(_Limits), _U8, *_ROOM, *_OUT, _to(_End)),
-    "list": (_U32, *_FILE, _to(_Limits), _to(_Listing), ctypes.c_size_t, *_ROOM, *_OUT, _to(_End)),
+    "list": (_U32, *_FILE, _to(_Limits), *_ASKED, *_ROOM, *_OUT, _to(_End)),
+    "list_names": (_U32, *_FILE, _to(_Limits), *_ASKED, _to(_Text), ctypes.c_size_t, *_ROOM, *_OUT, _to(_End)),
     "find": (_U32, *_FILE, _to(_Limits), *_ROOM, *_FILE, _to(_Found), _to(_End)),
     "look_up": (_U32, *_FILE, _to(_Limits), _U32, *_FILE, *_FILE, *_ROOM, _to(_Resolved), _to(_End)),
     "apply_lent": (_U32, *_FILE, _to(_Limits), _U16, _to(_Layout), *_ROOM, *_OUT, _to(_Missing), _to(_End)),
@@ -216,6 +219,7 @@ _CALLS: Mapping[str, Tuple[Any, ...]] = {
     "segment": (_U32, *_FILE, _U16, _to(_Segment), _to(_End)),
     "section_names": (_U32, *_FILE, _to(_Limits), *_ROOM, _to(_Range), _to(_End)),
     "symbols": (_U32, *_TABLE),
+    "hashed_symbols": (_U32, *_FILE, _to(_Limits), _U32, *_ROOM, _to(_Rows), _to(_End)),
     "relocations": (_U32, *_TABLE),
     "version_words": (_U32, *_TABLE),
     "version_records": (_U32, *_FILE, _to(_Limits), _U16, *_ROOM, _to(_VersionRecords), _to(_End)),
@@ -543,7 +547,7 @@ class Listing(NamedTuple):
 
 
 # How a loader's lookup and a listing are made.
-_BY_SEGMENTS, _DEFAULT_ONLY, _GNU, _JSON = 1, 2, 4, 8
+_BY_SEGMENTS, _DEFAULT_ONLY, _GNU, _JSON, _NAME_VERSIONS = 1, 2, 4, 8, 16
 
 _NOTHING: Mapping[Any, int] = types.MappingProxyType({})
 
@@ -590,6 +594,12 @@ def _limits_of(headers: int, name_cap: int, budget: Optional[int]) -> Any:
     _within("name_cap", name_cap, 1, MOST_NAME)
     _within("budget", budget or 0, 0, MOST_NUMBER)
     return _Limits(headers, name_cap, budget is not None, budget or 0)
+
+
+def _texts_of(names: Iterable[Name]) -> Tuple[Any, int]:
+    """Names as they are lent: in the rising order of their bytes."""
+    texts = [(text, len(text)) for text in sorted({_name_bytes(name, MOST_NAME) for name in names})]
+    return (_Text * max(1, len(texts)))(*(texts or [(b"", 0)])), len(texts)
 
 
 def _layout_of(layout: Layout) -> Any:
@@ -726,28 +736,28 @@ class File:
         return cost
 
     def show(self, parts: Optional[int] = None, name_cap: int = DEFAULT_NAME, most: int = 1 << 30, *,
-             gnu: bool = False, by_segments: bool = False, json: bool = False) -> Listing:
+             gnu: bool = False, by_segments: bool = False, json: bool = False, versions: bool = False,
+             names: Optional[Iterable[Name]] = None) -> Listing:
         """A listing of some parts, or of all, with so many bytes of a name. It is what the program elfsee
-        prints, byte for byte, and a refusal is its last line: this raises no Refused. `gnu`,
-        `by_segments` and `json` are the program's options of these names: numbers of the GNU system have
-        names, and the symbol versions are a part; tables are found by the program headers; each line is a
-        JSON object. Full is raised where it has more than `most` bytes. Where the memory is too little,
-        it is made four times as large and the listing begins anew."""
-        data, end = self.data, _End()
+        prints, byte for byte, and a refusal is its last line: this raises no Refused. `gnu`, `by_segments`,
+        `json` and `versions` are the program's options of these names: numbers of the GNU system have names,
+        and the symbol versions are a part; tables are found by the program headers; each line is a JSON
+        object; with `gnu`, behind a symbol's name stands its version. With `names` those rows alone are
+        listed, of the symbols or of the part that is one of SYMBOLS, RELOCS and VERSIONS, whose name is one
+        of them: as many bytes of a name are looked at as the longest of them has, and with `versions`, where
+        each may be NAME@VERSION or NAME@@VERSION, at least `name_cap`. Full is raised where it has more than
+        `most` bytes. Where the memory is too little, it is made four times as large and the listing begins
+        anew."""
+        flags = _BY_SEGMENTS * by_segments + _GNU * gnu + _JSON * json + _NAME_VERSIONS * versions
+        chosen = None if names is None else _texts_of(names)
         if parts is None:
-            parts = ALL + VERSIONS if gnu else ALL
-        flags = (_BY_SEGMENTS if by_segments else 0) + (_GNU if gnu else 0) + (_JSON if json else 0)
+            parts = SYMBOLS if chosen else ALL + VERSIONS if gnu else ALL
         limits = _limits_of(self._headers, name_cap, self._budget)
-        _within("parts", parts, 0, 65535)
-        length = min(_within("most", most, 0, 1 << 62), (1 << 16) + len(data) // 4)
+        listing, end = _Listing(_within("parts", parts, 0, 65535), flags), _End()
+        length = min(_within("most", most, 0, 1 << 62), (1 << 16) + len(self.data) // 4)
         while True:
             out = ctypes.create_string_buffer(max(length, 1))
-            lent = (*self._lent(), out, length, end)
-            if flags:
-                listing = _Listing(parts, flags)
-                status = _library.elfsee_list(data, len(data), limits, listing, ctypes.sizeof(listing), *lent)
-            else:
-                status = _library.elfsee_show(data, len(data), limits, parts, *lent)
+            status = self._listed(limits, listing, chosen, out, length, end)
             if status != _FULL:
                 break
             if length == most:
@@ -758,10 +768,25 @@ class File:
         refused = Refused(end.cause, end.at) if status == _REFUSED else None
         return Listing(ctypes.string_at(out, end.written).decode("ascii"), refused, end.asked)
 
+    def _listed(self, limits: Any, listing: Any, chosen: Optional[Tuple[Any, int]], out: Any, length: int,
+                end: Any) -> int:
+        """The status of a listing into `out`."""
+        data, lent, asked = self.data, (*self._lent(), out, length, end), (listing, ctypes.sizeof(listing))
+        status: int
+        if chosen:
+            status = _library.elfsee_list_names(data, len(data), limits, *asked, *chosen, *lent)
+        elif listing.flags:
+            status = _library.elfsee_list(data, len(data), limits, *asked, *lent)
+        else:
+            status = _library.elfsee_show(data, len(data), limits, listing.parts, *lent)
+        return status
+
     def text(self, parts: Optional[int] = None, name_cap: int = DEFAULT_NAME, most: int = 1 << 30, *,
-             gnu: bool = False, by_segments: bool = False, json: bool = False) -> str:
+             gnu: bool = False, by_segments: bool = False, json: bool = False, versions: bool = False,
+             names: Optional[Iterable[Name]] = None) -> str:
         """The text of `show`."""
-        return self.show(parts, name_cap, most, gnu=gnu, by_segments=by_segments, json=json).text
+        return self.show(parts, name_cap, most, gnu=gnu, by_segments=by_segments, json=json, versions=versions,
+                         names=names).text
 
     def find(self, name: Name) -> Lookup:
         """Looks a name up by the file's own SysV hash table: the first symbol of that name in its
@@ -947,7 +972,9 @@ class File:
             yield from self._symbols_of(table, asked)
 
     def _symbols_of(self, table: int, asked: _Asked) -> Iterator[Symbol]:
-        rows = self._opened("symbols", table)
+        yield from self._symbols_from(self._opened("symbols", table), table, asked)
+
+    def _symbols_from(self, rows: Any, table: int, asked: _Asked) -> Iterator[Symbol]:
         data, find, longest = self.data, self.data.find, self._longest + 1
         make: Callable[..., Any] = tuple.__new__
         strings, at, index = (rows.strings_at, rows.strings_at + rows.strings_len), rows.at, 0
@@ -966,6 +993,15 @@ class File:
                 yield make(Symbol, (text, value, size, section, info, other, table, index))
                 index += 1
             asked.leave(left)
+
+    def hashed_symbols(self, *, by_segments: bool = False) -> Iterator[Symbol]:
+        """The symbols that the file's hash table is of, among which a loader looks names up, symbol 0 too: found
+        as `look_up` finds them, so also in a file without section headers, and counted by the hash table. Their
+        `table` is 0."""
+        rows, asked = _Rows(), _Asked(self._budget)
+        _, end = self._call("hashed_symbols", self._limits, _BY_SEGMENTS * by_segments, *self._lent(), rows)
+        asked.take(end.asked, 0)
+        yield from self._symbols_from(rows, 0, asked)
 
     def relocations(self, section: Optional[int] = None) -> Iterator[Relocation]:
         """The relocation entries of a section, or of all RELA sections in their order. Absent where that

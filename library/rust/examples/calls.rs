@@ -1,7 +1,11 @@
 //! Each call of the crate from a command line.
 //!
 //!     calls show FILE [PART]      the listing, or one part of it
-//!     calls list FILE STYLE..     the listing with some of gnu, by-segments and json
+//!     calls list FILE STYLE..     the listing with some of gnu, by-segments, json and versions
+//!     calls names FILE PART STYLE.. NAME..
+//!                                 the rows of these names
+//!     calls hashed FILE [by-segments]
+//!                                 the symbols of the hash table, as numbers; names in hexadecimal digits
 //!     calls asked FILE            how many bytes of the file the listing asks for
 //!     calls find FILE NAME        the symbol and the steps
 //!     calls resolve FILE NAME[@[@]VERSION] [by-segments]
@@ -15,7 +19,7 @@
 //!                                 spells them, and the program headers, by the iterators
 //!     calls members ARCHIVE       the members of an archive, so, with the listing of each ELF file
 
-use elfsee::{DynamicEntries, Error, File, Notes, Refused, Wanted};
+use elfsee::{DynamicEntries, Error, File, Notes, Refused, Text, Wanted};
 use std::process::exit;
 
 fn hex(bytes: &[u8]) -> String {
@@ -32,6 +36,7 @@ fn part(name: Option<&String>) -> u16 {
         Some("relocs") => elfsee::RELOCS,
         Some("notes") => elfsee::NOTES,
         Some("dynamic") => elfsee::DYNAMIC,
+        Some("versions") => elfsee::VERSIONS,
         _ => elfsee::ALL,
     }
 }
@@ -55,10 +60,47 @@ fn show(file: &File, parts: u16, is_counted: bool) -> Result<(), Error> {
     }
 }
 
+/// The words of styles.
+const STYLES: [&str; 4] = ["gnu", "by-segments", "json", "versions"];
+
+/// The style that some words name.
+fn style(words: &[String]) -> elfsee::Style {
+    let has = |word: &str| words.iter().any(|one| one == word);
+    let (gnu, by_segments, json, versions) =
+        (has(STYLES[0]), has(STYLES[1]), has(STYLES[2]), has(STYLES[3]));
+    elfsee::Style { gnu, by_segments, json, versions }
+}
+
+/// The rows of names, with some styles before them.
+fn names(file: &File, part: u16, words: &[String]) -> Result<(), Error> {
+    let count = words.iter().take_while(|word| STYLES.contains(&&word[..])).count();
+    let mut texts: Vec<Text> = words[count..].iter().map(|word| Text::new(word.as_bytes())).collect();
+    texts.sort();
+    let (mut room, mut out) = (vec![0; file.room()], vec![0; 64]);
+    loop {
+        match file.show_names(style(&words[..count]), part, &texts, &mut room, &mut out) {
+            Err(Error::Full) => out = vec![0; 2 * out.len()],
+            Err(error) => return Err(error),
+            Ok(listing) => {
+                print!("{}", listing.text);
+                return listing.refused.map_or(Ok(()), |refused| Err(refused.into()));
+            }
+        }
+    }
+}
+
+/// The symbols of the hash table.
+fn hashed(file: &File, by_segments: bool) -> Result<(), Error> {
+    for symbol in file.hashed_symbols(by_segments, &mut vec![0; file.room()])?.named() {
+        let (symbol, name) = symbol?;
+        println!("{} {} {} {}", symbol.value, symbol.size, symbol.section, hex(name));
+    }
+    Ok(())
+}
+
 /// A listing in a style, with all parts that it has.
 fn list(file: &File, words: &[String]) -> Result<(), Error> {
-    let has = |word: &str| words.iter().any(|one| one == word);
-    let style = elfsee::Style { gnu: has("gnu"), by_segments: has("by-segments"), json: has("json") };
+    let style = style(words);
     let parts = if style.gnu { elfsee::ALL | elfsee::VERSIONS } else { elfsee::ALL };
     let (mut room, mut out) = (vec![0; file.room()], vec![0; 4096]);
     loop {
@@ -344,6 +386,8 @@ fn main() {
             "show" => show(&file, part(words.get(2)), false),
             "asked" => show(&file, elfsee::ALL, true),
             "list" => list(&file, &words[2..]),
+            "names" => names(&file, part(words.get(2)), &words[3..]),
+            "hashed" => hashed(&file, words.len() > 2),
             "find" => find(&file, words[2].as_bytes()),
             "resolve" => resolve(&file, &wanted(&words[2], words.len() > 3)),
             "contents" => contents(&file),
@@ -358,7 +402,7 @@ fn main() {
         };
         if let Err(error) = done {
             ended = 1;
-            if words[0] != "show" && words[0] != "list" {
+            if words[0] != "show" && words[0] != "list" && words[0] != "names" {
                 println!("! {error}");
             }
         }

@@ -31,6 +31,7 @@ fn main() {
     tell!("elfsee_limits", raw::Limits, headers name has_budget budget);
     tell!("elfsee_end", raw::End, at written asked cause none);
     tell!("elfsee_listing", raw::Listing, parts flags);
+    tell!("elfsee_text", raw::Text, bytes len);
     tell!("elfsee_symbol", raw::Symbol, value size name section info other);
     tell!("elfsee_found", raw::Found, symbol index steps section none none_behind);
     tell!("elfsee_resolved", raw::Resolved, symbol index tried version has_version is_hidden is_cut section

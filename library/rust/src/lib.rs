@@ -42,6 +42,7 @@ mod names;
 mod notes;
 pub mod raw;
 mod rows;
+mod texts;
 mod versions;
 
 pub use error::{Cause, Error, Refused};
@@ -52,6 +53,7 @@ pub use names::{spelt, HasName, Named, Names, Spelt};
 pub use notes::{Note, Notes};
 pub use raw::{Dynamic, Header, Range, Relocation, Section, Segment, Symbol, VersionWord};
 pub use rows::{DynamicEntries, Relocations, Rows, Symbols, VersionWords, Within};
+pub use texts::Text;
 pub use versions::{VersionKind, VersionRecord, VersionRecords};
 
 use core::cell::Cell;
@@ -85,13 +87,16 @@ pub struct Style {
     pub by_segments: bool,
     /// Whether each line is a JSON object.
     pub json: bool,
+    /// Whether the version of a symbol stands behind its name, with the names of the GNU system alone.
+    pub versions: bool,
 }
 
 impl Style {
     fn flags(self) -> u16 {
         let flags = u32::from(self.by_segments) * raw::BY_SEGMENTS
             + u32::from(self.gnu) * raw::GNU
-            + u32::from(self.json) * raw::JSON;
+            + u32::from(self.json) * raw::JSON
+            + u32::from(self.versions) * raw::NAME_VERSIONS;
         flags as u16
     }
 }
@@ -358,9 +363,9 @@ impl<'a> File<'a> {
         listed(status, out, &end)
     }
 
-    /// The same in a style: with names of the numbers of the GNU system, by the program headers, or each
-    /// line as a JSON object. With the names of the GNU system [`VERSIONS`] is a part too.
-    /// [`Error::BadCall`] for parts that such a listing has not.
+    /// The same in a style: with names of the numbers of the GNU system, by the program headers, each line as a
+    /// JSON object, or versions behind the names of symbols. With the names of the GNU system [`VERSIONS`] is a
+    /// part too. [`Error::BadCall`] for parts that such a listing has not, and for versions without those names.
     ///
     /// ```
     /// use elfsee::{Style, ALL, VERSIONS};
@@ -393,6 +398,58 @@ impl<'a> File<'a> {
                 &self.limits,
                 &listing,
                 core::mem::size_of_val(&listing),
+                room.as_mut_ptr(),
+                room.len(),
+                out.as_mut_ptr(),
+                out.len(),
+                &mut end,
+            )
+        };
+        listed(status, out, &end)
+    }
+
+    /// The rows of some names alone, of one part: [`SYMBOLS`], [`RELOCS`] or, with the names of the GNU system,
+    /// [`VERSIONS`]. The names are in rising order, as `sort` puts them. Where versions stand behind names each may
+    /// have one, as `NAME@VERSION`, or `NAME@@VERSION` for a default one. Of a name as many bytes are looked at as
+    /// the longest of them has, and with versions at least [`Limits::name`].
+    ///
+    /// [`Error::BadCall`] as of [`File::show_in`], for other parts, and for a name that is none or below the one
+    /// before it.
+    ///
+    /// ```
+    /// use elfsee::{Style, Text, SYMBOLS};
+    ///
+    /// # fn main() -> Result<(), Box<dyn std::error::Error>> {
+    /// let bytes = std::fs::read("/proc/self/exe")?;
+    /// let file = elfsee::File::new(&bytes);
+    /// let (mut room, mut out) = (vec![0; file.room()], vec![0; 1 << 16]);
+    /// let mut names = [Text::new(b"memcpy"), Text::new(b"main")];
+    /// names.sort();
+    /// let listing = file.show_names(Style::default(), SYMBOLS, &names, &mut room, &mut out)?;
+    /// assert!(listing.text.lines().all(|line| line.ends_with(" main") || line.ends_with(" memcpy")));
+    /// # Ok(())
+    /// # }
+    /// ```
+    pub fn show_names<'o>(
+        &self,
+        style: Style,
+        part: u16,
+        names: &[Text<'_>],
+        room: &mut [u8],
+        out: &'o mut [u8],
+    ) -> Result<Listing<'o>, Error> {
+        let mut end = raw::End::default();
+        let listing = raw::Listing { parts: part, flags: style.flags() };
+        // SAFETY: as in `show_in`; the names are slices that are lent for as long as the call runs.
+        let status = unsafe {
+            raw::elfsee_list_names(
+                self.bytes.as_ptr(),
+                self.bytes.len(),
+                &self.limits,
+                &listing,
+                core::mem::size_of_val(&listing),
+                texts::lent(names),
+                names.len(),
                 room.as_mut_ptr(),
                 room.len(),
                 out.as_mut_ptr(),
@@ -744,6 +801,40 @@ impl<'a> File<'a> {
     pub fn symbols(&self, section: u16, room: &mut [u8]) -> Result<Option<Symbols<'a>>, Error> {
         let rows = self.open(raw::elfsee_symbols, section, room)?;
         Ok(rows.map(|rows| Rows::new(self.bytes, rows)))
+    }
+
+    /// The symbols that the file's hash table is of, among which a loader looks names up: found as
+    /// [`File::look_up`] finds them, so also in a file without section headers, and counted by the hash table.
+    ///
+    /// ```
+    /// # fn main() -> Result<(), Box<dyn std::error::Error>> {
+    /// let bytes = std::fs::read("/proc/self/exe")?;
+    /// let file = elfsee::File::new(&bytes);
+    /// for symbol in file.hashed_symbols(true, &mut vec![0; file.room()])?.named() {
+    ///     println!("{}", elfsee::spelt(symbol?.1));
+    /// }
+    /// # Ok(())
+    /// # }
+    /// ```
+    pub fn hashed_symbols(&self, by_segments: bool, room: &mut [u8]) -> Result<Symbols<'a>, Error> {
+        let (mut rows, mut end) = (raw::Rows::default(), raw::End::default());
+        // SAFETY: as in `show`.
+        let status = unsafe {
+            raw::elfsee_hashed_symbols(
+                self.bytes.as_ptr(),
+                self.bytes.len(),
+                &self.limits,
+                u32::from(by_segments) * raw::BY_SEGMENTS,
+                room.as_mut_ptr(),
+                room.len(),
+                &mut rows,
+                &mut end,
+            )
+        };
+        match status {
+            raw::OK => Ok(Rows::new(self.bytes, rows)),
+            _ => Err(error_of(status, &end)),
+        }
     }
 
     /// The relocation entries of a section; none where it holds none.

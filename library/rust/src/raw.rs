@@ -15,6 +15,7 @@ pub const BY_SEGMENTS: u32 = 1;
 pub const DEFAULT_ONLY: u32 = 2;
 pub const GNU: u32 = 4;
 pub const JSON: u32 = 8;
+pub const NAME_VERSIONS: u32 = 16;
 
 pub const SECTION: u32 = 0;
 pub const DEFINE: u32 = 1;
@@ -36,6 +37,13 @@ pub struct Limits {
 pub struct Listing {
     pub parts: u16,
     pub flags: u16,
+}
+
+#[repr(C)]
+#[derive(Clone, Copy, Debug)]
+pub struct Text {
+    pub bytes: *const u8,
+    pub len: usize,
 }
 
 #[repr(C)]
@@ -364,6 +372,20 @@ extern "C" {
         out_len: usize,
         end: *mut End,
     ) -> u32;
+    pub fn elfsee_list_names(
+        file: *const u8,
+        file_len: usize,
+        limits: *const Limits,
+        listing: *const Listing,
+        listing_len: usize,
+        names: *const Text,
+        names_len: usize,
+        room: *mut u8,
+        room_len: usize,
+        out: *mut u8,
+        out_len: usize,
+        end: *mut End,
+    ) -> u32;
     pub fn elfsee_find(
         file: *const u8,
         file_len: usize,
@@ -484,6 +506,16 @@ extern "C" {
         file_len: usize,
         limits: *const Limits,
         section: u16,
+        room: *mut u8,
+        room_len: usize,
+        rows: *mut Rows,
+        end: *mut End,
+    ) -> u32;
+    pub fn elfsee_hashed_symbols(
+        file: *const u8,
+        file_len: usize,
+        limits: *const Limits,
+        flags: u32,
         room: *mut u8,
         room_len: usize,
         rows: *mut Rows,

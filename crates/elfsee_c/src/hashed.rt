@@ -1,0 +1,63 @@
+//! The export that opens the symbols which a loader knows of a file in memory.
+ghost use Rattle.std.specs.Prelude.{◌≡◌, ◌≤◌, IfSome, length};
+ghost use Rattle.elf_rows.specs.Hashed.{hashed_cost};
+ghost use Rattle.elf_calls.specs.HashedRows.{HasHashed, OpensHashed, by_flags};
+ghost use Rattle.elf_calls.specs.Limits.{budget_of, headers_of};
+
+use elf_calls::{CallerLimits, End, limits_of, open_hashed, tell_opened};
+use elf_headers::HeaderStore;
+use elf_record::Refusal;
+use elf_rows::RowsLeft;
+
+/// By the program headers also where there are section headers.
+const BY_SEGMENTS: u32 = 1;
+
+/// Finds the symbols that the hash table of a file in memory is of, among which a loader looks names up,
+/// and sets `rows` before the first: by the section headers, or where there are none, or `flags` is 1, by
+/// the program headers and their dynamic entries (gABI 5, Dynamic Section). How many there are is told by
+/// the hash table alone. `room` is where the file's headers lie meanwhile.
+///
+/// Answers 0 where they were found, 1 where the file is refused or the budget is used up, and 4 where the
+/// limits, the room or the flags are outside their ranges.
+#[unsafe(no_mangle)]
+pub extern "C" fn elfsee_hashed_symbols(
+    file: &[u8],
+    limits: &CallerLimits,
+    flags: u32,
+    room: &mut [u8],
+    rows: &mut RowsLeft,
+    end: &mut End,
+) -> u32
+    ensures { HasHashed file.now limits.now (length room.old) flags
+        result rows.old rows.new end.new }
+{
+    let mut asked = 0;
+    let opened = open_in(file, limits, flags, room, &mut asked);
+    let status = tell_opened(opened, rows, end);
+    end.asked = asked;
+    status
+}
+
+/// Finds them; None for a call with a number outside its range. The count of bytes that were asked for is
+/// written to `asked`.
+fn open_in(
+    file: &[u8],
+    limits: &CallerLimits,
+    flags: u32,
+    room: &mut [u8],
+    asked: &mut u64,
+) -> Option<Result<Option<RowsLeft>, Refusal>>
+    requires { asked.old ≡ 0 }
+    ensures opens { OpensHashed file.now limits.now (length room.old) flags result }
+    ensures cost { asked.new ≤ hashed_cost (by_flags flags file.now)
+        (headers_of limits.now (length room.old)) }
+    ensures budget { IfSome (budget_of limits.now) (λ bytes. asked.new ≤ bytes) }
+{
+    let limits = limits_of(limits, room.len())?;
+    if flags > BY_SEGMENTS {
+        return None;
+    }
+    let mut store = HeaderStore::over(room, limits.headers);
+    let by_segments = flags == BY_SEGMENTS;
+    Some(open_hashed(file, &mut store, limits.budget, by_segments, asked))
+}
