@@ -198,7 +198,16 @@ const SAMPLE: Described = Described {
     name: "sample",
     about: "List a small file that the program carries",
     more: "Example: elfsee sample --only header",
-    words: &[HEADERS, NAMES, MAX_READ, ONLY, GNU, BY_SEGMENTS, JSON, WITH_VERSIONS],
+    words: &[
+        HEADERS,
+        NAMES,
+        MAX_READ,
+        ONLY,
+        GNU,
+        BY_SEGMENTS,
+        JSON,
+        WITH_VERSIONS,
+    ],
 };
 
 const FIND: Described = Described {

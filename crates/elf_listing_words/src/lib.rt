@@ -12,8 +12,8 @@ pub use faults::WordsFault;
 pub use listings::{ListingAsked, ShowRequest, listing_of, shown_asked};
 pub use nothing::unasked;
 pub use options::{
-    asks_gnu, asks_versions, find_lacks_gnu, format_of, is_set, limits_of, parts_of, small_number_of, style_of,
-    text_of, whole,
+    asks_gnu, asks_versions, find_lacks_gnu, format_of, is_set, limits_of, parts_of,
+    small_number_of, style_of, text_of, whole,
 };
 pub use reading::matches_of;
 pub use row_names::{asks_names, chosen_parts_of, is_given};
