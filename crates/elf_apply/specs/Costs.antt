@@ -14,7 +14,7 @@ use Rattle.elf_table.specs.Tables.{strings_in}
 use Rattle.elf_apply.specs.declared.lookup.SymbolAt.{SymbolAt}
 
 -- an answer, or a refusal at an offset for the cause, unless it is for want of budget
-abbrev pub ValueOrCause : {X : Type 0} → ℕ → Result X Fault → Result X Cause → Type 0
+abbrev ValueOrCause : {X : Type 0} → ℕ → Result X Fault → Result X Cause → Type 0
 ValueOrCause at (Ok x) answer = answer ≡ Ok x
 ValueOrCause at (Err (Refused refusal)) answer = (IsBudget refusal → ⊥) → (refusal.at ≡ at) × (answer ≡ Err refusal.cause)
 ValueOrCause at (Err (Source fault offset)) answer = Unit {0}

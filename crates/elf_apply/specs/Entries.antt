@@ -69,7 +69,7 @@ taken_place formula target rela =
     ]
 
 -- what an entry took of a symbol is what each entry takes that names it so
-abbrev pub IsSymbolTaken : List ℕ → TargetCode → ℕ → Taken → Type 0
+abbrev IsSymbolTaken : List ℕ → TargetCode → ℕ → Taken → Type 0
 IsSymbolTaken file target header taken =
     (rela : ℕ) → taken.symbol ≡ r_sym file rela → term_of taken.base (target_as file target) header rela ≡ Ok taken.value
 
@@ -83,7 +83,7 @@ abbrev pub beside_entry_cost : TargetCode → ℕ
 beside_entry_cost target = 24 + layout_names_cost target.layout.now
 
 -- what a call did for an entry of a section: what it costs, that the symbols stay those that the section's entries refer to,
--- and what it tells of the entry, which is read from the file
+-- and what it says of the entry, which is read from the file
 pub record DidFor (before after : Counting) (target : TargetCode) (old new : EntrySymbols) (stop : Option Fault) (reads : List ℕ → Type 0) (tells : List ℕ → ℕ → Type 0) : Type 0 where
   pub costs : Charges before after stop (beside_entry_cost target)
   pub same : new.linked ≡ old.linked

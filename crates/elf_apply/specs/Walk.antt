@@ -96,7 +96,7 @@ pub record ReadsEntries (file : List ℕ) (target : TargetCode) (e : Entries) : 
   pub placed : 0 < e.cursor.left → e.cursor.table.at ≡ sh_offset file (section_at file e.current)
 
 -- entries are counted where their section is opened
-abbrev pub CountsEntries : TargetCode → Entries → Entries → Type 0
+abbrev CountsEntries : TargetCode → Entries → Entries → Type 0
 CountsEntries target old new = new.count + entries_from target new.next ≡ old.count + entries_from target old.next
 
 -- a step of the walk; a refusal for want of budget says nothing of the entries

@@ -27,7 +27,7 @@ use elf_table::{File, Names, Table};
 /// Symbols with the string table of their names.
 pub(crate) type Linked = Option<(Table, Names)>;
 
-/// The address of a symbol that an entry took, as its type's base tells.
+/// The address of a symbol that an entry took, by its type's base.
 #[derive(Clone, Copy)]
 pub(crate) struct Taken {
     pub(crate) symbol: u32,
@@ -85,13 +85,11 @@ pub(crate) fn entry_change<S: Source>(
     let Some(found) = based_type(target.layout, kind) else {
         return refused(at, Cause::Unsupported);
     };
-    match stored(src, target, entry, at, symbols, found) {
-        Ok(placed) => Ok(Some(placed)),
-        Err(fault) => Err(fault),
-    }
+    let placed = stored(src, target, entry, at, symbols, found)?;
+    Ok(Some(placed))
 }
 
-/// The relocation type of a number, where the layout has addresses that its base may tell.
+/// The relocation type of a number, where the layout has addresses that its base may take.
 #[tactic(auto, unfolding(elf_model::specs::Apply::where_based))]
 fn based_type(layout: &Addresses<'_>, kind: u32) -> Option<RelocationType>
     ensures value { result ≡ where_based layout.now (kind_of kind) }
@@ -127,10 +125,7 @@ fn stored<S: Source>(
     if ends_past(offset, found.width, target.size) {
         return refused(at, Cause::PlaceOutside);
     }
-    let value = match taken_value(src, target, entry.symbol(), at, symbols, found.base) {
-        Ok(value) => value,
-        Err(fault) => return Err(fault),
-    };
+    let value = taken_value(src, target, entry.symbol(), at, symbols, found.base)?;
     let Some(place) = place_value(target, offset, found.formula) else {
         return refused(at, Cause::Unplaced);
     };
@@ -167,17 +162,13 @@ fn taken_value<S: Source>(
             return Ok(last.value);
         }
     }
-    match named_value(src, target, symbol, at, symbols.linked, base) {
-        Ok(value) => {
-            symbols.last = Some(Taken {
-                symbol,
-                base,
-                value,
-            });
-            Ok(value)
-        }
-        Err(fault) => Err(fault),
-    }
+    let value = named_value(src, target, symbol, at, symbols.linked, base)?;
+    symbols.last = Some(Taken {
+        symbol,
+        base,
+        value,
+    });
+    Ok(value)
 }
 
 /// B of symbol 0, which the entry at `at` names: S and L are 0, and it has no other entry.
@@ -219,10 +210,7 @@ fn named_value<S: Source>(
         return refused(at, Cause::SymbolIndex);
     }
     let place = symbols.place(index);
-    let fields = match symbols.symbol(src, index) {
-        Ok(fields) => fields,
-        Err(fault) => return Err(fault),
-    };
+    let fields = symbols.symbol(src, index)?;
     let named = SymbolAt {
         fields,
         names,

@@ -48,10 +48,8 @@ fn compared<S: Source>(
     let mut i = 0;
     while i < items.len() {
         let item = &items[i];
-        match symbol.names.equals(src, off, symbol.at, item.name()) {
-            Ok(true) => return Ok(Some(item.address())),
-            Ok(false) => {}
-            Err(fault) => return Err(fault),
+        if symbol.names.equals(src, off, symbol.at, item.name())? {
+            return Ok(Some(item.address()));
         }
         i += 1;
     }
@@ -100,10 +98,7 @@ fn read_name<S: Source>(
     ensures { FindsAddress src.old src.new symbol.now result (longest names.now + 1) names.now }
 {
     let at = symbol.names.at() + u64::from(symbol.fields.st_name);
-    match fill(src, at, front) {
-        Ok(()) => {}
-        Err(fault) => return Err(fault),
-    }
+    fill(src, at, front)?;
     match names.find(front) {
         Ok(address) => Ok(address),
         Err(cause) => refused(symbol.at, cause),
@@ -169,10 +164,9 @@ fn defined_value<S: Source>(
         (address_named strings (st_name file symbol.now.at) layout.now.definitions)
         (undefined_value file entry symbol.now.at)) }
 {
-    match address_named(src, symbol, layout, Base::Symbol) {
-        Ok(Some(address)) => Ok(address),
-        Ok(None) => undefined_value(&symbol.fields, entry),
-        Err(fault) => Err(fault),
+    match address_named(src, symbol, layout, Base::Symbol)? {
+        Some(address) => Ok(address),
+        None => undefined_value(&symbol.fields, entry),
     }
 }
 
@@ -266,11 +260,10 @@ fn linkage_value<S: Source>(
     ensures { GivesValue src.old src.new symbol.now result (layout_names_cost layout.now)
         (λ file strings. linkage_value file strings layout.now entry symbol.now.at) }
 {
-    match address_named(src, symbol, layout, Base::Linkage) {
-        Ok(Some(address)) => Ok(address),
-        Ok(None) if is_system_specific(&symbol.fields) => refused(entry, Cause::Unsupported),
-        Ok(None) => located_value(src, layout, symbol, entry),
-        Err(fault) => Err(fault),
+    match address_named(src, symbol, layout, Base::Linkage)? {
+        Some(address) => Ok(address),
+        None if is_system_specific(&symbol.fields) => refused(entry, Cause::Unsupported),
+        None => located_value(src, layout, symbol, entry),
     }
 }
 
@@ -289,14 +282,13 @@ fn entry_value<S: Source>(
         (lookup_cost layout.now.lookup (names_for layout.now base)) (λ file strings.
         entry_value (names_for layout.now base) file strings entry symbol.now.at) }
 {
-    match address_named(src, symbol, layout, base) {
-        Ok(Some(address)) => Ok(address),
-        Ok(None) => refused(entry, Cause::Unsupported),
-        Err(fault) => Err(fault),
+    match address_named(src, symbol, layout, base)? {
+        Some(address) => Ok(address),
+        None => refused(entry, Cause::Unsupported),
     }
 }
 
-/// B, the address of a symbol that a base tells. Refusals that are none of its name are at the entry
+/// B, the address of a symbol that a base takes. Refusals that are none of its name are at the entry
 /// that names it.
 #[tactic(auto, unfolding(crate::proofs::Words::based))]
 pub(crate) fn base_value<S: Source>(

@@ -38,22 +38,15 @@ pub(crate) fn check<S: Source>(src: &mut Counted<S>, target: &Target<'_>) -> Res
     let mut entries = Entries::new();
     let mut rises = true;
     let mut low = 0;
-    'entries: loop {
-        match entries.next(src, target) {
-            Ok(Some(placed)) => {
-                rises = still_rises(rises, low, placed.offset);
-                low = placed.offset;
-            }
-            Ok(None) => {
-                return Ok(Checked {
-                    rises,
-                    low,
-                    entries: entries.count(),
-                });
-            }
-            Err(fault) => return Err(fault),
-        }
+    'entries: while let Some(placed) = entries.next(src, target)? {
+        rises = still_rises(rises, low, placed.offset);
+        low = placed.offset;
     }
+    Ok(Checked {
+        rises,
+        low,
+        entries: entries.count(),
+    })
 }
 
 /// Whether offsets never fall, with one more.
@@ -79,13 +72,10 @@ pub(crate) fn patch_window<S: Source>(
         (folded (storing low (length window.old)) window.old (changes_all file target.now))) }
 {
     let mut entries = Entries::new();
-    'entries: loop {
-        match entries.next(src, target) {
-            Ok(Some(placed)) => put_in(window, low, &placed),
-            Ok(None) => return Ok(()),
-            Err(fault) => return Err(fault),
-        }
+    'entries: while let Some(placed) = entries.next(src, target)? {
+        put_in(window, low, &placed);
     }
+    Ok(())
 }
 
 /// Stores the part of some bytes that falls into a window, which begins at an offset.

@@ -75,11 +75,10 @@ impl Entries {
             (λ file. FindsEntry file target.now self.old self.new result) }
     {
         'steps: loop {
-            match self.step(src, target) {
-                Ok(WalkStep::Stores(placed)) => return Ok(Some(placed)),
-                Ok(WalkStep::Nothing) => {}
-                Ok(WalkStep::End) => return Ok(None),
-                Err(fault) => return Err(fault),
+            match self.step(src, target)? {
+                WalkStep::Stores(placed) => return Ok(Some(placed)),
+                WalkStep::Nothing => {}
+                WalkStep::End => return Ok(None),
             }
         }
     }
@@ -95,19 +94,15 @@ impl Entries {
             (StepGives target.now self.old self.new)
             (λ file. StepsWalk file target.now self.old self.new result) }
     {
-        match self.cursor.advance(src) {
-            Ok(true) => {
-                let row = self.cursor.row();
-                let at = row.at;
-                let entry = Rela::decode(whole_row(&row));
-                match entry_change(src, target, &entry, at, &mut self.symbols) {
-                    Ok(Some(placed)) => Ok(WalkStep::Stores(placed)),
-                    Ok(None) => Ok(WalkStep::Nothing),
-                    Err(fault) => Err(fault),
-                }
-            }
-            Ok(false) => self.open(target),
-            Err(fault) => Err(fault),
+        if !self.cursor.advance(src)? {
+            return self.open(target);
+        }
+        let row = self.cursor.row();
+        let at = row.at;
+        let entry = Rela::decode(whole_row(&row));
+        match entry_change(src, target, &entry, at, &mut self.symbols)? {
+            Some(placed) => Ok(WalkStep::Stores(placed)),
+            None => Ok(WalkStep::Nothing),
         }
     }
 
@@ -133,19 +128,15 @@ impl Entries {
         if !applies(&header, target.section) {
             return Ok(WalkStep::Nothing);
         }
-        match target.file.relocations(section) {
-            Ok(found) => {
-                self.count += u128::from(found.0.len());
-                self.cursor = Cursor::new(found.0);
-                self.symbols = EntrySymbols {
-                    linked: found.1,
-                    last: None,
-                };
-                self.current = section;
-                Ok(WalkStep::Nothing)
-            }
-            Err(fault) => Err(fault),
-        }
+        let found = target.file.relocations(section)?;
+        self.count += u128::from(found.0.len());
+        self.cursor = Cursor::new(found.0);
+        self.symbols = EntrySymbols {
+            linked: found.1,
+            last: None,
+        };
+        self.current = section;
+        Ok(WalkStep::Nothing)
     }
 }
 

@@ -57,7 +57,7 @@ SectionsOfEntries =
     × (refused_in (two_relocation_sections 10 24) 2 0x60 ≡ None)
     × (refused_in (two_relocation_sections 10 16) 1 0x60 ≡ None)
 
--- what is told of the entry of the call
+-- the explanation of the entry of the call
 abbrev pub ExplainsAs : List ℕ → Layout → Cause → List ℕ → Type 0
 ExplainsAs file layout cause line = explanation (explained file 1 layout (record { at = 0x48; cause = cause })) ≡ line
 
@@ -77,7 +77,7 @@ ThreadItemHelps =
     lack_line (record { missing = record { kind = 22; name = 1; wanted = Named Thread }; name = Whole (codes "f") })
     ≡ codes "elfsee: GOTTPOFF to f: tpgot:f=ADDR would help\n"
 
--- a name of 255 bytes is told whole, as an item may have it, and one more is cut
+-- a name of 255 bytes is shown whole, as an item may have it, and one more is cut
 abbrev pub NamesAreToldAsItemsHaveThem : Type 0
 NamesAreToldAsItemsHaveThem =
     (told_symbol_name (0 ∷ replicate 255 97 ++ 0 ∷ []) 1 ≡ Ok (Whole (replicate 255 97)))

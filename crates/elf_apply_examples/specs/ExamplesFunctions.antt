@@ -64,7 +64,7 @@ OtherTypesAreRefused =
     × WritesSection (call_of 9 2) full_layout (0xe8 ∷ 0x2b ∷ 0 ∷ 0 ∷ 0 ∷ [])
     × WritesSection (call_of 2 2) full_layout (0xe8 ∷ 0x2b ∷ 0 ∷ 0 ∷ 0 ∷ [])
 
--- the type tells nothing of an undefined or a common symbol, of one at another reserved index, nor where an entry takes one
+-- the type says nothing of an undefined or a common symbol, of one at another reserved index, nor where an entry takes one
 -- of the global offset table's
 abbrev pub OthersAreAsBefore : Type 0
 OthersAreAsBefore =

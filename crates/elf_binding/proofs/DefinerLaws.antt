@@ -16,7 +16,8 @@ use Rattle.elf_headers.specs.declared.fault.Fault.{Fault}
 use Rattle.elf_headers.specs.declared.fault.Fault.TheVariants.{Refused, Source}
 use Rattle.elf_headers.proofs.LedgerLaws.{Charges-then}
 use Rattle.elf_table.specs.Cursors.{row_at}
-use Rattle.elf_hash.specs.Scopes.{HasCounts, IsPlaceIn, counts_bytes, walked_in}
+use Rattle.elf_headers.specs.Faults.{IsOfRead}
+use Rattle.elf_hash.specs.Scopes.{HasCounts, IsPlaceIn, TellsExcluded, counts_bytes, walked_in}
 use Rattle.elf_hash.specs.Trials.{Tries}
 use Rattle.elf_hash.specs.Walks.{GivesWalked, Walks, index_of, walk_bytes}
 use Rattle.elf_hash.specs.declared.answer.TrialAnswer.{TrialAnswer}
@@ -188,6 +189,31 @@ module _ (file : List ℕ) (told : IsScopeOf) (wanted : Wanted) where
       let same : has_number numbers ≡ (λ number. is_among number compared.numbers) = fun_ext collects.2 in
       let is = with_told collects.1 in
       rw (is, ← same) (defines_then (compared.read * record_cost wanted.asked) 12 0 12 (compared.read * record_cost wanted.asked) (omega arith) collects.0 looks)
+
+  -- A TABLE THAT IS READY, which excludes the name or not
+  module _ (counts : first_refusal (counts_check file told ∷ []) ≡ None) where
+    pub defines_excluded : {a b : Counting} → compared.refused ≡ None → TellsExcluded file told wanted.name (Ok true) → Charges a b None 12
+        → DefinesBehind wanted 28 0 (definer_in file told wanted) a b (Ok None)
+    defines_excluded told_all none costs =
+        let is_wanted : ℕ → Bool = λ (number : ℕ). is_among number compared.numbers in
+        let walk : definer_walk file told wanted is_wanted ≡ record { answer = Ok None; tried = 0; read = 0 } = definer_walk_is file told wanted is_wanted ∙ none _ in
+        record {
+          spent = 12;
+          costs = costs;
+          within = omega arith;
+          tells = ap (λ (d : DefinerLookup). d.answer) (shaped counts ∙ with_told told_all) ∙ ap (λ (w : Walk). w.answer) walk;
+        }
+
+    pub defines_unread : {a b : Counting} (fault : Fault) → IsOfRead fault → Charges a b (Some fault) 12 → DefinesBehind wanted 28 0 (definer_in file told wanted) a b (Err fault)
+    defines_unread fault is costs = record { spent = 12; costs = costs; within = omega arith; tells = tells fault is }
+      where
+        tells : (fault : Fault) → IsOfRead fault → TellsDefiner (definer_in file told wanted) (Err fault)
+        tells (Refused refusal) is = λ unless. absurd (unless is)
+        tells (Source fault at) is = tt
+
+    pub defines_unless : {a b c : Counting} (result : Result (Option ℕ) Fault) → Charges a b None 12 → DefinesBehind wanted 12 0 (definer_with file told wanted compared) b c result
+        → DefinesBehind wanted 28 0 (definer_in file told wanted) a c result
+    defines_unless result costs looks = let is = shaped counts in rw is (defines_then 12 28 0 12 0 (omega arith) costs looks)
 
   -- THE COUNTS of the hash table
   module _ (kind : HashKind) where

@@ -12,12 +12,14 @@ use Rattle.elf_binding.specs.Kept.{IsKept, TellsKept}
 
 -- what was found in a source is what is kept of it
 pub kept_of : (old new : Counting) (headers : ℕ) (scope : Scope) (n : ℕ) → Did old new None n (λ file. FindsScope file headers old new (Ok scope)) → ScopeLies old.seen.size scope
-    → IsKept new.seen headers scope
+    → IsKept new.seen headers scope None
 kept_of old new headers scope n did lies = record {
   lies = subst (λ (size : ℕ). ScopeLies size scope) (sym did.costs.reads.keeps.same_size) lies;
   known = λ file held.
       let found = (did.known file (sym did.costs.reads.keeps.same_file ∙ held)).finds in
       record { told = found.0; found = found.1; is = found.2 };
+  placed = tt;
+  ready_in = λ file held told is. tt;
 }
 
 -- what is told where the source is given back

@@ -1,5 +1,6 @@
+pub mod BindLaws
 pub mod DefinerLaws
 pub mod KeptLaws
-pub mod SpendLaws
-pub mod BindLaws
+pub mod ReadyLaws
 pub mod SoughtLaws
+pub mod SpendLaws

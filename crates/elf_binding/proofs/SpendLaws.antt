@@ -1,5 +1,5 @@
 -- What a lookup costs between the call that sets a limit and the call that takes it away.
-use Rattle.std.proofs.Common.{◌≡◌, ℕ, ◌+◌, ◌-◌, ◌≤◌, List, Option, None, Some, Result, Ok, IfSome, option_map, refl, sym, ap, subst, ◌∙◌, arith}
+use Rattle.std.proofs.Common.{◌≡◌, ℕ, ◌+◌, ◌-◌, ◌≤◌, List, Option, None, Some, Result, Ok, Err, IfOk, IfSome, option_map, refl, sym, ap, subst, ◌∙◌, arith}
 use Rattle.elf_model.specs.Loader.{Wanted}
 use Rattle.elf_model.specs.Bindings.{definer_in, definer_looked}
 use Rattle.elf_model.specs.LoaderScope.{Scope as IsScopeOf, scope_of}
@@ -11,11 +11,15 @@ use Rattle.elf_headers.specs.declared.fault.Fault.{Fault}
 use Rattle.elf_headers.specs.declared.fault.Fault.TheVariants.{Refused, Source}
 use Rattle.elf_headers.proofs.LedgerLaws.{Charges-more}
 use Rattle.elf_loader.specs.Lookups.{lookup_bytes}
-use Rattle.elf_scope.specs.Scopes.{IsScope}
+use Rattle.elf_scope.specs.Scopes.{IsScope, ScopeLies}
 use Rattle.elf_scope.specs.declared.scope.Scope.{Scope}
 use Rattle.elf_binding.specs.Definers.{DefinesBehind}
-use Rattle.elf_binding.specs.Kept.{IsKept}
-use Rattle.elf_binding.specs.Looks.{FaultLeaves, Looks, DefinesIn, OverLeft, Pays, Spends, kept_cost}
+use Rattle.elf_hash.specs.declared.table.HashTable.{HashTable}
+use Rattle.std.specs.Result.{result_unwrap_or}
+use Rattle.elf_binding.specs.Ready.{IsReadyIf, TellsReady, ready_bytes}
+use Rattle.elf_hash.specs.Scopes.{place_of_table}
+use Rattle.elf_binding.specs.Kept.{IsKept, IsReadyIn}
+use Rattle.elf_binding.specs.Looks.{FaultLeaves, Looks, DefinesIn, OverLeft, Pays, Prepares, Spends, kept_cost}
 
 -- what is left after it
 pays_is : (left left_new : Option ℕ) (a d : ℕ) → left_new ≡ option_map (λ bytes. bytes - (d - a)) left → a ≤ d → IfSome left (λ bytes. d ≤ a + bytes) → Pays left left_new a d
@@ -62,7 +66,7 @@ unfolding definer_looked
 scoped file headers wanted told found = rw (found, definer_looked) refl
 
 -- THE LAW: a lookup in what is kept
-module _ (a b c d : Counting) (headers : ℕ) (scope : Scope) (wanted : Wanted) (left left_new : Option ℕ) (result : Result (Option ℕ) Fault) where
+module _ (a b c d : Counting) (headers : ℕ) (scope : Scope) (ready : Option HashTable) (wanted : Wanted) (left left_new : Option ℕ) (result : Result (Option ℕ) Fault) where
   pub looks_in : (file : List ℕ) (found : IsScopeOf) → scope_of file headers ≡ Ok found → SetsLimit a b left → DefinesBehind wanted 28 0 (definer_in file found wanted) b c result → SetsLimit c d None
       → DefinesIn file wanted (record { src = a; headers = headers }) (record { src = d; headers = headers }) left result
   looks_in file found is set looks free =
@@ -73,8 +77,8 @@ module _ (a b c d : Counting) (headers : ℕ) (scope : Scope) (wanted : Wanted) 
         tells = rw same looks.tells;
       }
 
-  pub looks_kept : IsKept a.seen headers scope → SetsLimit a b left
-      → Did b c (why_stopped result) (lookup_bytes 28 b.seen.size wanted) (λ file. (found : IsScopeOf) → IsScope file found scope → DefinesBehind wanted 28 0 (definer_in file found wanted) b c result)
+  pub looks_kept : IsKept a.seen headers scope ready → SetsLimit a b left
+      → Did b c (why_stopped result) (lookup_bytes 28 b.seen.size wanted) (λ file. (found : IsScopeOf) → IsScope file found scope → IsReadyIf file found ready → DefinesBehind wanted 28 0 (definer_in file found wanted) b c result)
       → SetsLimit c d None → left_new ≡ option_map (λ bytes. bytes - (d.asked - a.asked)) left
       → Looks wanted (record { src = a; headers = headers }) (record { src = d; headers = headers }) left left_new result
   looks_kept kept set did free is =
@@ -87,7 +91,7 @@ module _ (a b c d : Counting) (headers : ℕ) (scope : Scope) (wanted : Wanted) 
         pays = pays_is left left_new a.asked d.asked is costs.grows (rw same most);
         known = λ file held.
             let in_file = kept.known file held in
-            looks_in file in_file.told in_file.found set (did.known file (rw set.seen held) in_file.told in_file.is) free;
+            looks_in file in_file.told in_file.found set (did.known file (rw set.seen held) in_file.told in_file.is (kept.ready_in file held in_file.told in_file.is)) free;
       }
 
 -- THE LAW: what is charged between the two is taken off
@@ -98,3 +102,46 @@ spent_off {a} {b} {c} {d} left left_new set charges free is =
     let most = within_budget left a b c set charges.reads.same_limit in
     let same = free.asked in
     (costs, pays_is left left_new a.asked d.asked is costs.grows (rw same most))
+
+-- THE LAW: what is kept, with a table that is ready
+pub kept_ready : (old new : Seen) (headers : ℕ) (scope : Scope) (before ready : Option HashTable) → IsKept old headers scope before → new.size ≡ old.size → new.file ≡ old.file
+    → IfSome ready (λ table. place_of_table table ≡ scope.hash) → ((file : List ℕ) → old.file ≡ Some file → IsReadyIn file scope ready) → IsKept new headers scope ready
+kept_ready old new headers scope before ready kept size file placed told = record {
+  lies = subst (λ (n : ℕ). ScopeLies n scope) (sym size) kept.lies;
+  known = λ bytes held. kept.known bytes (sym file ∙ held);
+  placed = placed;
+  ready_in = λ bytes held. told bytes (sym file ∙ held);
+}
+
+-- THE LAW: what lookups have in common is read
+pub prepares_as : (a d : Counting) (headers : ℕ) (left left_new : Option ℕ) (stop : Option Fault) (n : ℕ) → n ≡ ready_bytes a.seen.size → Spends a d left stop n → Pays left left_new a.asked d.asked
+    → Prepares (record { src = a; headers = headers }) (record { src = d; headers = headers }) left left_new
+prepares_as a d headers left left_new stop n is spends pays =
+    let most = spends.at_most in
+    record {
+      costs = record { keeps = spends.keeps; view = spends.view; grows = spends.grows; at_most = omega (arith, most, is); free = spends.free; says = tt };
+      same_headers = refl;
+      pays = pays;
+    }
+
+placed_of : (scope : Scope) (result : Result (Option HashTable) Fault) → IfOk result (λ ready. IfSome ready (λ table. place_of_table table ≡ scope.hash))
+    → IfSome (result_unwrap_or result None) (λ table. place_of_table table ≡ scope.hash)
+placed_of scope (Ok ready) placed = placed
+placed_of scope (Err fault) placed = tt
+
+ready_of : (file : List ℕ) (told : IsScopeOf) (result : Result (Option HashTable) Fault) → TellsReady file told result → IsReadyIf file told (result_unwrap_or result None)
+ready_of file told (Ok ready) tells = tells
+ready_of file told (Err fault) tells = tt
+
+-- THE LAW: what is kept stays so, with the table that was read
+pub kept_prepared :
+    {a b c d : Counting} {left : Option ℕ} {stop : Option Fault} {n : ℕ} (headers : ℕ) (scope : Scope) (before : Option HashTable) (result : Result (Option HashTable) Fault)
+    → IsKept a.seen headers scope before → SetsLimit a b left
+    → Did b c stop n (λ file. (told : IsScopeOf) → IsScope file told scope → TellsReady file told result)
+    → IfOk result (λ ready. IfSome ready (λ table. place_of_table table ≡ scope.hash)) → SetsLimit c d None → IsKept d.seen headers scope (result_unwrap_or result None)
+kept_prepared {a} {b} {c} {d} headers scope before result kept set did placed free =
+    kept_ready a.seen d.seen headers scope before (result_unwrap_or result None) kept
+    (ap (λ (s : Seen). s.size) free.seen ∙ did.costs.reads.keeps.same_size ∙ ap (λ (s : Seen). s.size) set.seen)
+    (ap (λ (s : Seen). s.file) free.seen ∙ did.costs.reads.keeps.same_file ∙ ap (λ (s : Seen). s.file) set.seen)
+    (placed_of scope result placed)
+    (λ file held told is. ready_of file told result (did.known file (ap (λ (s : Seen). s.file) set.seen ∙ held) told is))

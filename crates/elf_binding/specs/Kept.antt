@@ -1,11 +1,14 @@
 -- What is kept of a file in which names are looked up.
-use Rattle.std.specs.Prelude.{ℕ, ◌≡◌, List, Option, None, Some, Result, Ok, Err}
+use Rattle.std.specs.Prelude.{ℕ, ◌≡◌, List, Option, None, Some, Result, Ok, Err, IfSome}
 use Rattle.elf_model.specs.Budget.{IsBudget}
 use Rattle.elf_model.specs.LoaderScope.{Scope as IsScopeOf, scope_of}
 use Rattle.elf_source.specs.Source.{Counting, Seen}
 use Rattle.elf_headers.specs.Ledger.{Charges}
 use Rattle.elf_headers.specs.declared.fault.Fault.{Fault}
 use Rattle.elf_headers.specs.declared.fault.Fault.TheVariants.{Refused, Source}
+use Rattle.elf_hash.specs.Scopes.{place_of_table}
+use Rattle.elf_hash.specs.declared.table.HashTable.{HashTable}
+use Rattle.elf_binding.specs.Ready.{IsReadyIf}
 use Rattle.elf_scope.specs.Finding.{scope_cost}
 use Rattle.elf_scope.specs.Scopes.{IsScope, ScopeLies}
 use Rattle.elf_scope.specs.declared.scope.Scope.{Scope}
@@ -21,10 +24,16 @@ pub record IsScopeIn (file : List ℕ) (headers : ℕ) (scope : Scope) : Type 0 
   pub found : scope_of file headers ≡ Ok told
   pub is : IsScope file told scope
 
--- WHAT IS KEPT is what a lookup in the source's file is made in, and lies within the source
-pub record IsKept (seen : Seen) (headers : ℕ) (scope : Scope) : Type 0 where
+-- the table of a scope, if there is one, is ready for lookups in a file
+abbrev pub IsReadyIn : List ℕ → Scope → Option HashTable → Type 0
+IsReadyIn file scope ready = (told : IsScopeOf) → IsScope file told scope → IsReadyIf file told ready
+
+-- WHAT IS KEPT is what a lookup in the source's file is made in, and lies within the source; and its table, where that is ready
+pub record IsKept (seen : Seen) (headers : ℕ) (scope : Scope) (ready : Option HashTable) : Type 0 where
   pub lies : ScopeLies seen.size scope
   pub known : (file : List ℕ) → seen.file ≡ Some file → IsScopeIn file headers scope
+  pub placed : IfSome ready (λ table. place_of_table table ≡ scope.hash)
+  pub ready_in : (file : List ℕ) → seen.file ≡ Some file → IsReadyIn file scope ready
 
 -- the source, kept or given back, and why it is given back
 abbrev pub source_of : Result KeptObject (Counting × Fault) → Counting

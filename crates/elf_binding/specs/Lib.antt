@@ -1,5 +1,6 @@
+pub mod Binds
 pub mod Definers
 pub mod Kept
 pub mod Looks
-pub mod Binds
+pub mod Ready
 pub mod Sought

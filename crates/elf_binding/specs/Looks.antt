@@ -10,6 +10,7 @@ use Rattle.elf_headers.specs.declared.fault.Fault.TheVariants.{Refused, Source}
 use Rattle.elf_loader.specs.Lookups.{lookup_bytes}
 use Rattle.elf_binding.specs.Definers.{TellsDefiner}
 use Rattle.elf_binding.specs.Kept.{KeptObject}
+use Rattle.elf_binding.specs.Ready.{ready_bytes}
 
 -- what is left of a budget falls by what is asked for
 abbrev pub Pays : (left_old left_new : Option ℕ) → (asked_old asked_new : ℕ) → Type 0
@@ -63,3 +64,9 @@ pub record FailsIn (wanted : Wanted) (old new : KeptObject) (left_new : Option �
   pub left : Option ℕ
   pub pays : Pays left left_new old.src.asked new.src.asked
   pub says : FaultLeaves old.src new.src left (lookup_bytes 28 old.src.seen.size wanted) fault
+
+-- WHAT READING ONCE WHAT LOOKUPS HAVE IN COMMON DID: no more than that is asked for, and what is left of the budget falls by it
+pub record Prepares (old new : KeptObject) (left_old left_new : Option ℕ) : Type 0 where
+  pub costs : Spends old.src new.src left_old None (ready_bytes old.src.seen.size)
+  pub same_headers : new.headers ≡ old.headers
+  pub pays : Pays left_old left_new old.src.asked new.src.asked

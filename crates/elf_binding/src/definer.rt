@@ -1,6 +1,7 @@
 //! The symbol of a file that defines a name.
-ghost use Rattle.std.specs.Prelude.{◌≡◌, ℕ, ◌+◌, ◌*◌, ◌/◌, ◌≤◌, length};
+ghost use Rattle.std.specs.Prelude.{◌≡◌, ℕ, ◌+◌, ◌*◌, ◌/◌, ◌≤◌, length, IfSome};
 ghost use Rattle.elf_binding.specs.Definers.{DefinesOn, SaysDefines, definer_with, the_defined};
+ghost use Rattle.elf_binding.specs.Ready.{HasNoNul, IsReady, IsReadyIf};
 ghost use Rattle.elf_hash.specs.Scopes.{IsTable, place_of_table};
 ghost use Rattle.elf_hash.specs.Walks.{index_of, walk_bytes};
 ghost use Rattle.elf_loader.specs.Answering.{StandsAs};
@@ -12,7 +13,8 @@ ghost use Rattle.elf_model.specs.Names.{pad64};
 ghost use Rattle.elf_scope.specs.Symbols.{SymbolsLie};
 ghost use Rattle.elf_wanted.specs.Wants.{the_wanted};
 
-use elf_hash::{HashTable, Trial, TrialAnswer, Walked, counts, walk};
+use crate::ready::has_nul;
+use elf_hash::{HashTable, Trial, TrialAnswer, Walked, counts, excludes, walk};
 use elf_headers::Fault;
 use elf_loader::{NumberSet, WantedTrial, wanted_numbers};
 use elf_record::numbers::SHN_UNDEF;
@@ -71,6 +73,28 @@ fn if_defined(answer: Option<TrialAnswer>) -> Option<TrialAnswer>
 pub(crate) fn find_definer<S: Source>(
     src: &mut Counted<S>,
     scope: &Scope,
+    ready: &Option<HashTable>,
+    wanted: &Wanted<'_>,
+) -> Result<Option<u64>, Fault>
+    requires may { MayLookOn src.old scope.now (the_wanted wanted.now) }
+    requires place { IfSome ready.now (λ table. place_of_table table ≡ scope.now.hash) }
+    ensures { DefinesOn src.old src.new scope.now (the_wanted wanted.now) result 28
+        (lookup_bytes 28 src.old.seen.size (the_wanted wanted.now)) (λ file told leaves.
+        IsReadyIf file told ready.now → leaves 0 (definer_in file told (the_wanted wanted.now))) }
+{
+    match ready {
+        Some(table) if !has_nul(&wanted.asked) => definer_unless(src, scope, table, wanted),
+        _ => definer_counted(src, scope, wanted),
+    }
+}
+
+/// Reads the counts of the hash table, and looks in it.
+///
+/// # Errors
+/// Those of [`counts`], and of [`definer_in_table`].
+fn definer_counted<S: Source>(
+    src: &mut Counted<S>,
+    scope: &Scope,
     wanted: &Wanted<'_>,
 ) -> Result<Option<u64>, Fault>
     requires { MayLookOn src.old scope.now (the_wanted wanted.now) }
@@ -80,6 +104,30 @@ pub(crate) fn find_definer<S: Source>(
 {
     let table = counts(src, &scope.hash)?;
     definer_in_table(src, scope, &table, wanted)
+}
+
+/// Looks in a hash table whose counts, and whose file's records of versions, have no fault, unless the
+/// table excludes the name.
+///
+/// # Errors
+/// Those of [`definer_in_table`].
+fn definer_unless<S: Source>(
+    src: &mut Counted<S>,
+    scope: &Scope,
+    table: &HashTable,
+    wanted: &Wanted<'_>,
+) -> Result<Option<u64>, Fault>
+    requires may { MayLookOn src.old scope.now (the_wanted wanted.now) }
+    requires place { place_of_table table.now ≡ scope.now.hash }
+    requires plain { HasNoNul (the_wanted wanted.now).asked }
+    ensures { DefinesOn src.old src.new scope.now (the_wanted wanted.now) result 28
+        (lookup_bytes 28 src.old.seen.size (the_wanted wanted.now)) (λ file told leaves.
+        IsReady file told table.now → leaves 0 (definer_in file told (the_wanted wanted.now))) }
+{
+    if excludes(src, table, wanted.name)? {
+        return Ok(None);
+    }
+    definer_in_table(src, scope, table, wanted)
 }
 
 /// Looks in a hash table with its counts: tells the numbers of the version that is asked for, and goes

@@ -8,6 +8,7 @@ mod definer;
 mod hashed;
 mod lacking;
 mod object;
+mod ready;
 mod sought;
 mod spending;
 

@@ -2,7 +2,7 @@
 ghost use Rattle.std.specs.Prelude.{◌≡◌, ◌≤◌, ◌+◌, ◌*◌, length};
 ghost use Rattle.elf_headers.specs.Ledger.{Did};
 ghost use Rattle.elf_binding.specs.Kept.{KeepsScope, source_of, why_back};
-ghost use Rattle.elf_binding.specs.Looks.{Looks};
+ghost use Rattle.elf_binding.specs.Looks.{Looks, Prepares};
 ghost use Rattle.elf_binding.specs.Sought.{CountsHashed, LooksForVersion, ReadsFileName, Seeks};
 ghost use Rattle.elf_loader.specs.Lookups.{AreShort};
 ghost use Rattle.elf_wanted.specs.Wants.{the_wanted};
@@ -10,8 +10,10 @@ ghost use Rattle.elf_wanted.specs.Wants.{the_wanted};
 use crate::definer::find_definer;
 use crate::hashed::hashed_symbols;
 use crate::lacking::lacks_version;
+use crate::ready::ready_table;
 use crate::sought::{SoughtSymbol, sought_of, whole_name};
 use crate::spending::take_off;
+use elf_hash::HashTable;
 use elf_headers::{Fault, HeaderStore};
 use elf_scope::{Scope, find_scope};
 use elf_source::{Counted, Source};
@@ -26,6 +28,8 @@ pub struct Object<S: Source> {
     source: Counted<S>,
     scope: Scope,
     headers: u16,
+    // The hash table with its counts, where no lookup is refused before its walk, once that is known.
+    ready: Option<HashTable>,
 }
 
 impl<S: Source> Model for Object<S> {
@@ -35,7 +39,7 @@ impl<S: Source> Model for Object<S> {
 
     ghost view = { λ o. record { src = o.source; headers = o.headers } };
 
-    ghost invariant = { λ o. IsKept o.source.seen o.headers o.scope };
+    ghost invariant = { λ o. IsKept o.source.seen o.headers o.scope o.ready };
 }
 
 impl<S: Source> Object<S> {
@@ -59,9 +63,25 @@ impl<S: Source> Object<S> {
                 source,
                 scope,
                 headers: store.slots(),
+                ready: None,
             }),
             Err(fault) => Err((source, fault)),
         }
+    }
+
+    /// Reads once what its lookups have in common: the counts of the hash table, and whether the records
+    /// of versions have no fault. What is refused or fails is passed over, and each lookup tells it. No
+    /// more is asked for than what is left of a budget, where there is one; what was asked for is taken
+    /// off. Afterwards no limit is set.
+    pub fn prepare(&mut self, left: &mut Option<u64>)
+        ensures { Prepares self.old self.new left.old left.new }
+    {
+        let asked = self.source.asked();
+        self.source.limit(*left);
+        let ready = ready_table(&mut self.source, &self.scope);
+        self.source.limit(None);
+        take_off(left, self.source.asked() - asked);
+        self.ready = ready.unwrap_or(None);
     }
 
     /// How many bytes were asked of its source.
@@ -86,7 +106,7 @@ impl<S: Source> Object<S> {
     {
         let asked = self.source.asked();
         self.source.limit(*left);
-        let found = find_definer(&mut self.source, &self.scope, wanted);
+        let found = find_definer(&mut self.source, &self.scope, &self.ready, wanted);
         self.source.limit(None);
         take_off(left, self.source.asked() - asked);
         found

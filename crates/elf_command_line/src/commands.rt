@@ -133,7 +133,7 @@ const REQUIRE: Word = Word {
     help: "Tell of each program and library which of these words it lacks, as in stack=nx,relro=full",
 };
 
-const VERSIONS: Word = Word {
+const WITH_VERSIONS: Word = Word {
     name: "versions",
     kind: WordKind::Flag,
     help: "With --gnu: show behind the name of a symbol its version too, as NAME@VERSION",
@@ -187,7 +187,7 @@ const SHOW: Described = Described {
         GNU,
         BY_SEGMENTS,
         JSON,
-        VERSIONS,
+        WITH_VERSIONS,
         ROW_NAME,
         NAME_LIST,
         FILE,
@@ -198,7 +198,7 @@ const SAMPLE: Described = Described {
     name: "sample",
     about: "List a small file that the program carries",
     more: "Example: elfsee sample --only header",
-    words: &[HEADERS, NAMES, MAX_READ, ONLY, GNU, BY_SEGMENTS, JSON, VERSIONS],
+    words: &[HEADERS, NAMES, MAX_READ, ONLY, GNU, BY_SEGMENTS, JSON, WITH_VERSIONS],
 };
 
 const FIND: Described = Described {
@@ -245,6 +245,7 @@ const LIST_FILES: Described = Described {
         GNU,
         BY_SEGMENTS,
         JSON,
+        WITH_VERSIONS,
         ROW_NAME,
         NAME_LIST,
         INSIDE,
@@ -288,7 +289,7 @@ const ARCHIVE: Described = Described {
         GNU,
         BY_SEGMENTS,
         JSON,
-        VERSIONS,
+        WITH_VERSIONS,
         ROW_NAME,
         NAME_LIST,
         FILE,

@@ -33,7 +33,7 @@ MarksEndHeaders =
     × (told_size (with_bytes 59 (0x0d ∷ []) (member_header (codes "a") (codes "1"))) 0 ≡ None)
     × (listed 63 (with_bytes 59 (0x0d ∷ []) (member (codes "a/") [])) ≡ codes "! 0000000000000008 member-cut\n")
 
--- the table of names is told by all 16 bytes of its name
+-- the table of names is known by all 16 bytes of its name
 abbrev pub NameTablesAreTold : Type 0
 NameTablesAreTold =
     (is_name_table (codes "//              ") 0 ≡ true)
@@ -59,7 +59,7 @@ FirstTablesDecide =
     ≡ codes "A     0 0000000000000044 0000000000000000 //\n" ++ codes "A     1 0000000000000080 0000000000000002 //\n"
     ++ codes "! 0000000000000082 name-outside\n")
 
--- a member's first four bytes tell an ELF file, whatever the fifth is
+-- a member is known for an ELF file by its first four bytes, whatever the fifth is
 abbrev pub FirstFourBytesTell : Type 0
 FirstFourBytesTell =
     (is_elf (127 ∷ 69 ∷ 76 ∷ 70 ∷ []) ≡ true) × (is_elf (127 ∷ 69 ∷ 76 ∷ 70 ∷ 9 ∷ []) ≡ true)
@@ -107,9 +107,9 @@ AllPartsCost =
 -- what no archive of so many bytes costs more than
 abbrev pub CeilingsOfArchives : Type 0
 CeilingsOfArchives =
-    (archive_ceiling 59 1 63 ≡ 8 + (64 + (184 + 59 + 3 * 96)))
-    × (archive_ceiling 60 1 63 ≡ 8 + (64 + 128 + (64 + 184)) + (64 + (184 + 60 + 3 * 96)))
-    × (archive_ceiling 734 3 62 ≡ 8 + 12 * (64 + 64 + (64 + 3 * 184)) + (64 + 3 * (184 + 734 + 45 * 96)))
+    (archive_ceiling 59 1 (standard 63) ≡ 8 + (64 + (184 + 59 + 3 * 96)))
+    × (archive_ceiling 60 1 (standard 63) ≡ 8 + (64 + 128 + (64 + 184)) + (64 + (184 + 60 + 3 * 96)))
+    × (archive_ceiling 734 3 (standard 62) ≡ 8 + 12 * (64 + 64 + (64 + 3 * 184)) + (64 + 3 * (184 + 734 + 45 * 96)))
 
 -- an archive of one member without data, and what is allowed of its members' lines within a budget, or without one
 abbrev pub Allows : Option ℕ → List ℕ → Option Refusal → Type 0

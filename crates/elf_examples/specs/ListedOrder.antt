@@ -42,14 +42,14 @@ IdentHasOneValue =
     NeighboursStop 0 127 0 NotElf × NeighboursStop 1 69 0 NotElf × NeighboursStop 2 76 0 NotElf × NeighboursStop 3 70 0 NotElf
     × NeighboursStop 4 2 4 BadClass × NeighboursStop 5 1 5 BadData × NeighboursStop 6 1 6 BadVersion
 
--- of two checks of the identification that fail the earlier one is told
+-- of two checks of the identification that fail the earlier one decides
 abbrev pub IdentFaultsInOrder : Type 0
 IdentFaultsInOrder =
     HeaderStops (with_bytes 3 (little 1 0x47 ++ little 1 1 ++ little 1 2 ++ little 1 0) bare_header) 0 NotElf
     × HeaderStops (with_bytes 4 (little 1 1 ++ little 1 2 ++ little 1 0) bare_header) 4 BadClass
     × HeaderStops (with_bytes 5 (little 1 2 ++ little 1 0) bare_header) 5 BadData
 
--- of the load checks that fail the earliest is told: each file here fails the next check as well
+-- of the load checks that fail the earliest decides: each file here fails the next check as well
 abbrev pub LoadFaultsInOrder : Type 0
 LoadFaultsInOrder =
     LoadStops (with_counts 0xffff 63 0 0xffff) 3 0x38 ExtendedNumbering
@@ -79,7 +79,7 @@ HeaderSizesAreOne =
 abbrev one_header : List ℕ
 one_header = file_header 1 0x40 1 0 ++ zeros 64
 
--- whether there are section headers their number tells, which may be 1, and neither their size nor their offset, which may be 0
+-- whether there are section headers their number decides, which may be 1, and neither their size nor their offset, which may be 0
 abbrev pub SectionsAreCounted : Type 0
 SectionsAreCounted =
     LoadPasses one_header 1
@@ -104,7 +104,7 @@ SegmentsEndInside =
     × LoadStops (object 3 (zeros 167)) 3 0x20 TableOutside
     × LoadStops (with_bytes 0x20 (zeros 8) (object 2 [])) 2 0x20 TableOutside
 
--- of the checks of a symbol table that fail the earliest is told: each file here fails the next check as well
+-- of the checks of a symbol table that fail the earliest decides: each file here fails the next check as well
 abbrev pub SymbolFaultsInOrder : Type 0
 SymbolFaultsInOrder =
     (first_refusal (symbol_table_checks (with_bytes 0xd8 (little 8 0x1001) (with_bytes 0xf0 (little 8 16) one_symbol_table)) 0xb8)

@@ -44,7 +44,7 @@ SegmentEntriesCost =
     × (cost (loaded 0xfb 0x40 (needed_with (tagged 0 0) (tagged 10 11))) 2 63 DYNAMIC ≡ 560)
     × (cost (loaded 0xfb 0 (needed_with (tagged 5 0x4000f0) (tagged 10 11))) 2 63 DYNAMIC ≡ 64 + 112)
 
--- more strings than a segment loads, and no entry that tells where they stand: refused at the entry that shows a string.
+-- more strings than a segment loads, and no entry that locates them: refused at the entry that shows a string.
 -- Strings that a segment loads from past the end of the file: refused at that segment
 abbrev pub UnmappedStringsAreRefused : Type 0
 UnmappedStringsAreRefused =
@@ -77,7 +77,7 @@ StringsAreSoughtLate =
     ≡ codes "D     0 DEBUG            0000000000000007 \n"
     ++ codes "! 00000000000000c0 unmapped\n")
 
--- the entries that tell of the strings may come in either order, and behind the entry that shows one; of two the first
+-- the entries that locate the strings may come in either order, and behind the entry that shows one; of two the first
 -- counts, and none behind the end
 abbrev pub FirstTagsCount : Type 0
 FirstTagsCount =
@@ -180,7 +180,7 @@ segment_apart type offset virtual physical file_size memory_size =
     ++ little 8 memory_size ++ little 8 8
 
 -- a segment that is loaded and one of dynamic entries, whose physical addresses are higher than the virtual ones: the sizes
--- of the first in the file and in memory, those of the second, and how many bytes of strings the entries tell
+-- of the first in the file and in memory, those of the second, and how many bytes of strings by the entries
 abbrev loaded_apart : (load_size load_memory dynamic_size dynamic_memory size : ℕ) → List ℕ
 loaded_apart load_size load_memory dynamic_size dynamic_memory size =
     object 2
@@ -306,7 +306,7 @@ OtherTypesLoadNothing =
     × (report (typed 0x6474e552) 2 63 DYNAMIC ≡ codes "! 00000000000000b0 unmapped\n")
     × (report (typed 0x10001) 2 63 DYNAMIC ≡ codes "! 00000000000000b0 unmapped\n")
 
--- each table of dynamic entries tells of its own strings
+-- each table of dynamic entries locates its own strings
 abbrev pub EachTableHasItsStrings : Type 0
 EachTableHasItsStrings =
     report (object 3
@@ -328,7 +328,7 @@ SectionsByTheirNumber =
     (report (with_bytes 0x3a (little 2 64 ++ little 2 1) library_without_sections) 2 63 DYNAMIC ≡ [])
     × (cost (with_bytes 0x3a (little 2 64 ++ little 2 1) library_without_sections) 2 63 DYNAMIC ≡ 64 + 64)
 
--- a file whose header tells of section headers that are no such, listed by its program headers: its own H line, and behind it
+-- a file whose header locates section headers that are no such, listed by its program headers: its own H line, and behind it
 -- what the file without sections lists, at the same cost
 abbrev hidden : List ℕ
 hidden = with_bytes 0x28 (little 8 0x1000) (with_bytes 0x3c (little 2 3 ++ little 2 7) library_without_sections)

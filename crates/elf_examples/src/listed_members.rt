@@ -77,7 +77,7 @@ pub fn all_parts_cost()
 {}
 
 /// What archives of some lengths cost at most.
-#[tactic(auto, unfolding(elf_model::proofs::OnLiterals::on_literals))]
+#[tactic(auto, unfolding(elf_model::proofs::OnLiterals::on_literals, elf_model::specs::Cost::style_ceiling))]
 pub fn ceilings_of_archives()
     ensures { CeilingsOfArchives }
 {}

@@ -91,10 +91,10 @@ pub record NamesEntrySymbol (file : List ℕ) (header rela : ℕ) (named : Symbo
       × (strings_in file named.names ≡ strings_of file (linked_at file header))
 
 -- it was read, or is none
-abbrev pub SymbolRead : List ℕ → (header rela : ℕ) → Result (Option SymbolOfEntry) Fault → Type 0
-SymbolRead file header rela (Ok None) = first_refusal (symbol_checks file header rela) ≢ None
-SymbolRead file header rela (Ok (Some named)) = NamesEntrySymbol file header rela named
-SymbolRead file header rela (Err fault) = IsOfRead fault
+abbrev pub EntrySymbolRead : List ℕ → (header rela : ℕ) → Result (Option SymbolOfEntry) Fault → Type 0
+EntrySymbolRead file header rela (Ok None) = first_refusal (symbol_checks file header rela) ≢ None
+EntrySymbolRead file header rela (Ok (Some named)) = NamesEntrySymbol file header rela named
+EntrySymbolRead file header rela (Err fault) = IsOfRead fault
 
 -- what an entry of the type of a number lacks, by its symbol and what is wanted
 abbrev pub LackOf : (kind : ℕ) → SymbolOfEntry → Option LayoutAddress → Option Lacking → Type 0
@@ -112,7 +112,7 @@ abbrev pub LacksRead : List ℕ → (header : ℕ) → Option Missing → Result
 LacksRead file header missing (Ok found) = Lacks file header missing found
 LacksRead file header missing (Err fault) = IsOfRead fault
 
--- a name is told, or has a fault
+-- a name is read, or has a fault
 abbrev pub TellsSymbolName : Result Shown Cause → Result (Option NameEnd) Fault → List ℕ → Type 0
 TellsSymbolName answer (Ok (Some end)) name = answer ≡ Ok (shown_by end name)
 TellsSymbolName answer (Ok None) name = (cause : Cause) × (answer ≡ Err cause)

@@ -7,7 +7,7 @@ ghost use Rattle.elf_headers.specs.Ledger.{Did, why_stopped};
 ghost use Rattle.elf_table.specs.Relocations.{RefersTo};
 ghost use Rattle.elf_table.specs.Tables.{StringsWithin, SymbolsWithin};
 ghost use Rattle.elf_explain.specs.Explained.{EntryRead, EntryWithin, LackOf, LacksRead};
-ghost use Rattle.elf_explain.specs.Explained.{SymbolRead};
+ghost use Rattle.elf_explain.specs.Explained.{EntrySymbolRead};
 
 use crate::entries::LinkedSymbols;
 use elf_headers::{Fault, fill};
@@ -95,7 +95,7 @@ fn read_symbol<S: Source>(
     requires { IfSome linked (SymbolsWithin src.old.seen.size) }
     ensures did { Did src.old src.new (why_stopped result) 24
         (λ file. (header rela : ℕ) → RefersTo file header linked → symbol ≡ r_sym file rela →
-        SymbolRead file header rela result) }
+        EntrySymbolRead file header rela result) }
     ensures within { IfOk result (λ found.
         IfSome found (λ named. StringsWithin src.old.seen.size named.names)) }
 {
@@ -144,7 +144,7 @@ fn lacking_of(kind: u32, named: &SymbolOfEntry, wanted: Option<LayoutAddress>) -
 /// What is wanted where an entry of a type was refused for a cause, by the section index of its
 /// symbol and the symbol's type. For want of a section's address: that of the section that is
 /// relocated where the formula takes P and it has none, else that of the symbol's section. For want
-/// of a name's: what the type's base tells of it; for want of an entry: that.
+/// of a name's: what the type's base takes of it; for want of an entry: that.
 #[tactic(auto, unfolding(elf_model::specs::Explain::wanted))]
 fn wanted(
     cause: Cause,
@@ -184,7 +184,7 @@ fn place_wanted(
     None
 }
 
-/// What a base tells of a symbol's name is wanted; nothing where the entry names symbol 0.
+/// What a base takes of a symbol's name is wanted; nothing where the entry names symbol 0.
 #[tactic(auto, unfolding(elf_model::specs::Explain::name_wanted))]
 fn name_wanted(base: Base, symbol: Option<(u16, u8)>) -> Option<LayoutAddress>
     ensures { result ≡ name_wanted base symbol }
@@ -196,7 +196,7 @@ fn name_wanted(base: Base, symbol: Option<(u16, u8)>) -> Option<LayoutAddress>
 }
 
 /// The entry that is wanted of a symbol where the relocation entry is not applied without: that
-/// which the base tells, where S has none; nothing where the entry names symbol 0.
+/// which the base takes, where S has none; nothing where the entry names symbol 0.
 #[tactic(auto, unfolding(elf_model::specs::Explain::entry_wanted))]
 fn entry_wanted(base: Base, symbol: Option<(u16, u8)>) -> Option<LayoutAddress>
     ensures { result ≡ entry_wanted base symbol }

@@ -12,7 +12,7 @@ use elf_record::Cause;
 use elf_source::{Counted, Source};
 use elf_table::{NameBuf, NameEnd};
 
-/// How many bytes of a symbol's name are told: the most that the name of an item has.
+/// How many bytes of a symbol's name are read: the most that the name of an item has.
 const ITEM_NAME_BYTES: u16 = 255;
 
 /// Reads the name of the symbol into `name`, its first 255 bytes; where `st_name` is 0 it has none,

@@ -1,16 +1,11 @@
 -- Lines that end in a name, and what stands behind it.
-use Rattle.std.specs.Prelude.{ℕ, Bool, true, false, List, ◌++◌}
+pub use Rattle.elf_model.specs.ShownNames.{shown_as}
+use Rattle.std.specs.Prelude.{ℕ, List, ◌++◌}
 use Rattle.elf_model.specs.Fields.{LineFront, string_text}
 use Rattle.elf_model.specs.Lines.{escaped, name_member, name_text}
 use Rattle.elf_model.specs.Names.{Shown}
-use Rattle.elf_model.specs.Names.Shown.{Whole, Cut}
 use Rattle.elf_model.specs.declared.formats.Format.{Format}
 use Rattle.elf_model.specs.declared.formats.Format.TheVariants.{Columns, Object}
-
--- a name as it is shown, by whether it was cut
-abbrev pub shown_as : Bool → List ℕ → Shown
-shown_as true name = Cut name
-shown_as false name = Whole name
 
 -- a line that ends in a name and what stands behind it, the line's end too
 unfoldable pub line_tailed : Format → (key text : List ℕ) → Shown → List ℕ → List ℕ

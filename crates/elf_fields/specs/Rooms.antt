@@ -5,10 +5,6 @@ use Rattle.std.specs.Prelude.{ℕ, ◌+◌}
 abbrev pub number_room : ℕ → ℕ
 number_room key = key + 24
 
--- a number of 32 bits
-abbrev pub word_room : ℕ → ℕ
-word_room key = key + 14
-
 -- a number of 16 bits
 abbrev pub half_room : ℕ → ℕ
 half_room key = key + 9

@@ -1,4 +1,4 @@
--- A text that is told of on a terminal.
+-- A text that is written to a terminal.
 use Rattle.std.specs.Prelude.{ℕ, ◌≡◌, ◌≤◌, ◌==◌, ◌⊎◌, if◌then◌else◌, List, [], ◌∷◌, ◌++◌}
 use Rattle.elf_model.specs.Text.{newline}
 use Rattle.elf_model.specs.Lines.{name_byte_text}
@@ -7,7 +7,7 @@ use Rattle.elf_model.specs.Lines.{name_byte_text}
 unfoldable pub told_byte : ℕ → List ℕ
 told_byte byte = if byte == 10 then newline else name_byte_text byte
 
--- the bytes of a text, each as it is told
+-- the bytes of a text, each as it is written there
 unfoldable pub told_text : List ℕ → List ℕ
 told_text [] = []
 told_text (byte ∷ bytes) = told_byte byte ++ told_text bytes

@@ -38,7 +38,7 @@ pub fn line_of(text: &[u8]) -> Line
 }
 
 /// Puts so many spaces at the end.
-pub fn put_spaces(line: &mut Line, count: usize)
+pub(crate) fn put_spaces(line: &mut Line, count: usize)
     requires { array_vec_len line.old + count ≤ 256 }
     ensures items { line.new.items ≡ line.old.items ++ spaces count }
     ensures len { array_vec_len line.new ≡ array_vec_len line.old + count }
@@ -142,7 +142,7 @@ pub fn put_where(line: &mut Line, holds: bool, text: &[u8])
 
 /// Puts the last hexadecimal digits of a number, in lower case, with leading zeros.
 #[inline(always)]
-pub fn put_hex(line: &mut Line, digits: u32, number: u64)
+pub(crate) fn put_hex(line: &mut Line, digits: u32, number: u64)
     requires room { array_vec_len line.old + digits ≤ 256 }
     requires digits { digits ≤ 16 }
     ensures items { line.new.items ≡ line.old.items ++ hex digits number }

@@ -14,7 +14,7 @@ use crate::objects::{put_key, put_quoted_byte};
 use elf_model::Format;
 use elf_source::{Out, OutFault, Sink};
 
-/// Writes a line that ends in a name: its front, the name as it is spelt in a listing, what tells
+/// Writes a line that ends in a name: its front, the name as it is spelt in a listing, what says
 /// that it was cut, and the line's end.
 ///
 /// # Errors
@@ -37,7 +37,7 @@ pub fn show_named<W: Sink>(
 }
 
 /// Writes a line that ends in a name and what stands behind it: its front, the name as it is spelt
-/// in a listing, what tells that it was cut, and the `tail`, with the line's end, of at most 256
+/// in a listing, what says that it was cut, and the `tail`, with the line's end, of at most 256
 /// bytes.
 ///
 /// # Errors
@@ -71,7 +71,7 @@ pub struct NextName<'a> {
 }
 
 /// Writes a line that ends in two names: its front, the first name as it is spelt in a listing, what
-/// tells that it was cut, and the next name between what stands around it, spelt too.
+/// says that it was cut, and the next name between what stands around it, spelt too.
 ///
 /// # Errors
 /// A fault of the output, with a front of the line written.
@@ -97,7 +97,7 @@ pub fn show_joined<W: Sink>(
     show_last(&mut front.line, next.tail, out)
 }
 
-/// Puts a line's front, a name with what stands around it, and what tells that it was cut. Where the
+/// Puts a line's front, a name with what stands around it, and what says that it was cut. Where the
 /// line is full it is written, and begun anew.
 ///
 /// # Errors

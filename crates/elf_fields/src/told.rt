@@ -1,4 +1,4 @@
-//! Texts that are told of on a terminal.
+//! Texts that are written to a terminal.
 ghost use Rattle.std.specs.Prelude.{◌≡◌, ◌+◌, ◌≤◌, ◌≢◌, ◌++◌, All};
 ghost use Rattle.arrayvec.specs.ArrayVec.{array_vec_len};
 ghost use Rattle.elf_source.specs.Output.{Puts};
@@ -8,7 +8,7 @@ use crate::columns::Line;
 use crate::named::{make_room, put_name_byte};
 use elf_source::{Out, OutFault, Sink};
 
-/// Writes a text as it is told on a terminal: a newline stands as it is, and any other byte is
+/// Writes a text for a terminal: a newline stands as it is, and any other byte is
 /// spelt as in a name. So no byte reaches the terminal but newlines and printing ASCII characters,
 /// and a text of these without a backslash stands as it is.
 ///
@@ -28,7 +28,7 @@ pub fn show_told<W: Sink>(text: &[u8], out: &mut Out<W>) -> Result<(), OutFault>
     out.put(&line)
 }
 
-/// Puts a byte of a text as it is told: a newline stands as it is, and any other byte is spelt as
+/// Puts a byte of a text for a terminal: a newline stands as it is, and any other byte is spelt as
 /// in a name.
 #[tactic(auto, unfolding(crate::specs::Told::told_byte))]
 fn put_told_byte(line: &mut Line, byte: u8)

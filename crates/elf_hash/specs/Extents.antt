@@ -1,4 +1,4 @@
--- How many symbols a hash table tells of, and what asking for it costs.
+-- How many symbols a hash table knows, and what asking for it costs.
 use Rattle.std.specs.Prelude.{ℕ, suc, ◌+◌, ◌-◌, ◌*◌, List, None, Some, Result}
 use Rattle.elf_model.specs.Chains.{HashTable}
 use Rattle.elf_model.specs.Find.{first_that}
@@ -16,7 +16,7 @@ last_in file table start = elim (first_that (is_last_in file table) start (table
   | Some y ↦ suc y
 ]
 
--- a number of symbols is told, for a few bytes and no more than a chain word for each
+-- a number of symbols is found, for a few bytes and no more than a chain word for each
 pub record EndsChain (few count : ℕ) (old new : Counting) (result : Result ℕ Fault) : Type 0 where
   pub costs : Charges old new (why_stopped result) (few + 4 * count)
   pub tells : IsRead result count
@@ -28,7 +28,7 @@ extent_bytes file scope = elim scope.kind [
   | SysvTable ↦ 0
 ]
 
--- HOW MANY SYMBOLS a hash table tells of, in a known file
+-- HOW MANY SYMBOLS a hash table knows, in a known file
 pub record TellsExtent (file : List ℕ) (scope : Scope) (old new : Counting) (result : Result ℕ Fault) : Type 0 where
   pub costs : Charges old new (why_stopped result) (extent_bytes file scope)
   pub tells : IsRead result (hashed_symbol_count file scope)

@@ -15,7 +15,7 @@ use Rattle.elf_hash.specs.declared.lookup.Lookup.{Lookup}
 use Rattle.elf_hash.specs.declared.lookup.Lookup.TheVariants.{Found, Absent}
 use Rattle.elf_hash.specs.declared.walked.Walked.{Walked}
 
--- how many steps an answer tells of
+-- how many steps an answer has
 abbrev pub steps_of : Lookup → ℕ
 steps_of (Found section index symbol steps) = steps
 steps_of (Absent steps) = steps

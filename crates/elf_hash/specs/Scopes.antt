@@ -1,5 +1,5 @@
 -- A hash table of either kind as a loader's lookup has it: its counts, and the walk in it for the first symbol that answers.
-use Rattle.std.specs.Prelude.{ℕ, ◌≡◌, Bool, List, [], ◌∷◌, None, Some, Result, Ok, Err}
+use Rattle.std.specs.Prelude.{ℕ, ◌≡◌, Bool, true, false, List, [], ◌∷◌, None, Some, Result, Ok, Err}
 use Rattle.elf_model.specs.Budget.{IsBudget}
 use Rattle.elf_model.specs.Chains.{Walked as Walk}
 use Rattle.elf_model.specs.Checks.{first_refusal}
@@ -9,6 +9,7 @@ use Rattle.elf_model.specs.LoaderFind.{counts_check}
 use Rattle.elf_model.specs.LoaderScope.{GnuTable, Scope, SysvTable, least_size}
 use Rattle.elf_model.specs.SysvWalk.{sysv_walked}
 use Rattle.elf_model.specs.declared.causes.Refusal.{Refusal}
+use Rattle.elf_headers.specs.Faults.{IsOfRead}
 use Rattle.elf_headers.specs.declared.fault.Fault.{Fault}
 use Rattle.elf_headers.specs.declared.fault.Fault.TheVariants.{Refused, Source}
 use Rattle.elf_hash.specs.Counts.{IsGnu, IsTablePlace, IsSysv}
@@ -50,3 +51,10 @@ walked_in file scope name says = elim scope.kind [
   | GnuTable ↦ gnu_looked_up file scope.table (gnu_hash name) says
   | SysvTable ↦ sysv_walked file scope.table (sysv_hash name) says
 ]
+
+-- where the table excludes a name, whatever a trial says none of its symbols is tried and no chain word is read
+abbrev pub TellsExcluded : List ℕ → Scope → (name : List ℕ) → Result Bool Fault → Type 0
+TellsExcluded file scope name (Ok true) =
+    (says : ℕ → Result Bool Refusal) → walked_in file scope name says ≡ record { answer = Ok None; tried = 0; read = 0 }
+TellsExcluded file scope name (Ok false) = Unit {0}
+TellsExcluded file scope name (Err fault) = IsOfRead fault

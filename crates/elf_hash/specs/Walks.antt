@@ -39,11 +39,11 @@ pub record Walks (stands : ℕ → TrialAnswer → Type 0) (few cost : ℕ) (wal
 abbrev pub IsShort : ℕ → Walked → Type 0
 IsShort n w = (w.tried ≤ n) × IfSome w.found (λ found. found.index < n)
 
--- a table of the GNU system tells that it holds a hash, and at which symbol its chain starts
+-- a table of the GNU system says that it holds a hash, and at which symbol its chain starts
 abbrev pub HoldsHash : List ℕ → (place hash start : ℕ) → Type 0
 HoldsHash file place hash start = (holds_none file place hash ≡ false) × (start ≡ gnu_start file place hash)
 
--- the symbol at which the chain of a hash starts, if the table tells that it holds the hash
+-- the symbol at which the chain of a hash starts, if the table says that it holds the hash
 abbrev pub Starts : List ℕ → (place hash : ℕ) → Result (Option ℕ) Fault → Type 0
 Starts file place hash (Ok None) = holds_none file place hash ≡ true
 Starts file place hash (Ok (Some start)) = HoldsHash file place hash start

@@ -16,7 +16,7 @@ use elf_source::{Counted, Source};
 /// Reads the four counts of a table of the GNU system.
 ///
 /// # Errors
-/// `HashShape` at what tells of the table where there is no bucket, where the filter's words are not
+/// `HashShape` at the entry of the table where there is no bucket, where the filter's words are not
 /// as many as a power of two tells, where the shift leaves no bits of a hash, or where the filter and
 /// the buckets do not fit into the table. Else a fault of a read.
 pub(crate) fn gnu_counts<S: Source>(
@@ -61,7 +61,7 @@ fn has_no_gnu_shape(nbucket: u32, nbloom: u32, shift: u32, size: u64) -> bool
 /// Reads the two counts of a table of the gABI.
 ///
 /// # Errors
-/// `HashShape` at what tells of the table where there is no bucket, or where the words that the
+/// `HashShape` at the entry of the table where there is no bucket, or where the words that the
 /// counts tell of do not fit into the table. Else a fault of a read.
 pub(crate) fn sysv_counts<S: Source>(
     src: &mut Counted<S>,

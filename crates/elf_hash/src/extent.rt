@@ -1,4 +1,4 @@
-//! How many symbols a hash table tells of.
+//! How many symbols a hash table knows.
 ghost use Rattle.std.specs.Prelude.{◌≡◌, ℕ, ◌+◌, ◌-◌, ◌*◌, ◌<◌, ◌≤◌, List, length, IfOk};
 ghost use Rattle.elf_headers.specs.Ledger.{Did, IsRead, why_stopped};
 ghost use Rattle.elf_hash.specs.Counts.{IsGnu};

@@ -55,7 +55,11 @@ pub(crate) fn gnu_walk<S: Source, T: Trial>(
 ///
 /// # Errors
 /// A fault of a read.
-fn start<S: Source>(src: &mut Counted<S>, table: &GnuTable, hash: u32) -> Result<Option<u32>, Fault>
+pub(crate) fn start<S: Source>(
+    src: &mut Counted<S>,
+    table: &GnuTable,
+    hash: u32,
+) -> Result<Option<u32>, Fault>
     requires within { table.now.place.at + table.now.place.size ≤ src.old.seen.size }
     ensures did { Did src.old src.new (why_stopped result) 12
         (λ file. (at : Place) → IsGnu file at table.now → Starts file at.place hash result) }

@@ -11,7 +11,8 @@ use crate::kind::HashKind;
 pub struct HashPlace {
     /// The kind.
     pub kind: HashKind,
-    /// The file offset of what tells of the table, which a refusal of the whole table names.
+    /// The file offset of the header or entry that locates the table, which a refusal of the whole
+    /// table names.
     pub head: u64,
     /// The file offset of its first word.
     pub at: u64,

@@ -1,13 +1,13 @@
 //! The counts of a hash table of either kind, and the walk in it.
 ghost use Rattle.std.specs.Prelude.{◌≡◌, ℕ, ◌+◌, ◌/◌, ◌≤◌, Bool, List, Result, IfOk};
 ghost use Rattle.elf_headers.specs.Ledger.{Did, why_stopped};
-ghost use Rattle.elf_hash.specs.Scopes.{HasCounts, IsPlaceIn, IsTable, counts_bytes, place_of_table, walked_in};
+ghost use Rattle.elf_hash.specs.Scopes.{HasCounts, IsPlaceIn, IsTable, TellsExcluded, counts_bytes, place_of_table, walked_in};
 ghost use Rattle.elf_hash.specs.Walks.{Walks, walk_bytes};
 ghost use Rattle.elf_model.specs.LoaderScope.{Scope};
 ghost use Rattle.elf_model.specs.declared.causes.Refusal.{Refusal};
 
 use crate::counting::{gnu_counts, sysv_counts};
-use crate::gnu_walk::gnu_walk;
+use crate::gnu_walk::{gnu_walk, start};
 use crate::hashing::{gnu_hash, sysv_hash};
 use crate::kind::HashKind;
 use crate::place::HashPlace;
@@ -71,5 +71,31 @@ pub fn walk<S: Source, T: Trial>(
     match table {
         HashTable::Gnu(table) => gnu_walk(src, table, gnu_hash(name), trial),
         HashTable::Sysv(table) => sysv_walk(src, table, sysv_hash(name), trial),
+    }
+}
+
+/// Whether a table excludes a name without a look at any chain: one of the GNU system by its filter or
+/// an empty bucket. Then no symbol is tried for the name, whatever a trial says. The table ends at or
+/// below the source's length. No more is asked for than a filter's word and a bucket's word.
+///
+/// # Errors
+/// A fault of a read.
+pub fn excludes<S: Source>(
+    src: &mut Counted<S>,
+    table: &HashTable,
+    name: &[u8],
+) -> Result<bool, Fault>
+    requires { (place_of_table table.now).at + (place_of_table table.now).size
+        ≤ src.old.seen.size }
+    ensures { Did src.old src.new (why_stopped result) 12
+        (λ file. (scope : Scope) → IsTable file scope table.now →
+        TellsExcluded file scope name.now result) }
+{
+    match table {
+        HashTable::Gnu(table) => match start(src, table, gnu_hash(name))? {
+            None => Ok(true),
+            Some(_) => Ok(false),
+        },
+        HashTable::Sysv(_) => Ok(false),
     }
 }

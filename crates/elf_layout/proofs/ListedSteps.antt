@@ -1,13 +1,10 @@
 -- Items of lines, one after another, and sorted items of which two have one key.
-use Rattle.std.proofs.Common.{◌≡◌, ◌≢◌, ℕ, zero, suc, ◌+◌, ◌-◌, ◌<◌, ◌≤◌, List, [], ◌∷◌, ◌++◌, length, get_or, take, map, ap₂, drop, take-append-drop, append_assoc, ◌==◌, All, Ordering, Less, Equal, Greater, Option, Some, None, Result, Ok, Err, IfSome, IsNone, MatchBool, Bool, true, false, refl, sym, ap, subst, ◌∙◌, arith, inl, inr, is_lt, nat_cmp}
-use Rattle.std.specs.Borrow.{Bor}
+use Rattle.std.proofs.Common.{◌≡◌, ◌≢◌, ℕ, ◌+◌, ◌-◌, ◌<◌, ◌≤◌, List, [], ◌∷◌, ◌++◌, length, get_or, take, map, ap₂, drop, take-append-drop, append_assoc, ◌==◌, Ordering, Less, Equal, Greater, MatchBool, Bool, true, false, refl, sym, ap, subst, ◌∙◌, arith, inl, inr, is_lt, nat_cmp}
 use Rattle.std.specs.Cmp.{IsTotalOrder}
 use Rattle.std.specs.List.{AllZip}
 use Rattle.std.specs.List.{slice_split}
 use Rattle.std.specs.List.Sorted.{IsSorted}
-use Rattle.std.specs.Cmp.Lexicographic.{slice_cmp}
 use Rattle.std.specs.Ordering.{ordering_reverse, ordering_then}
-use Rattle.std.specs.Prelude.{◌⊎◌}
 use Rattle.std.specs.Str.Lines.{lines, lines_of_parts}
 use Rattle.std.proofs.lemmas.Bool.{cases_lt}
 use Rattle.std.proofs.lemmas.Bool.Decides.{nat_tests}
@@ -17,7 +14,7 @@ use Rattle.std.proofs.lemmas.List.Splits.{length-slice_split}
 use Rattle.std.proofs.lemmas.List.Sums.{count_by-le-length}
 use Rattle.std.proofs.lemmas.List.Elements.{All-nil, All-push}
 use Rattle.elf_model.specs.Placing.{Layout}
-use Rattle.elf_layout.specs.Listed.{AreAlike, GiveItems, HasTwice, IsFaulty, IsLastAlike, NeverFalls, SpellsAlike, with_item, with_items}
+use Rattle.elf_layout.specs.Listed.{AreAlike, GiveItems, HasTwice, IsLastAlike, NeverFalls, SpellsAlike, with_item, with_items}
 use Rattle.elf_layout.specs.Layouts.{HaveNames, IsName}
 use Rattle.elf_layout.specs.Lent.{Follows, MayFollow, lent_name, name_order, named}
 use Rattle.elf_layout.specs.Spelled.{Spells}

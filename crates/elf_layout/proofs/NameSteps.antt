@@ -1,5 +1,5 @@
 -- What a search for the bytes at an index of a string table finds among names in rising order.
-use Rattle.std.proofs.Common.{◌≡◌, ◌≢◌, ℕ, zero, suc, ◌+◌, ◌-◌, ◌<◌, ◌≤◌, ◌==◌, Bool, true, false, MatchBool, nat_eq, List, [], ◌∷◌, ◌++◌, length, get_or, take, drop, map, max, Ordering, Less, Equal, Greater, Option, Some, None, Result, Ok, Err, refl, sym, ap, ap₂, subst, ◌∙◌, arith, inl, inr, is_eq, nat_cmp, All, add-one, drop-cons, length-take, length-append, append-nil}
+use Rattle.std.proofs.Common.{◌≡◌, ◌≢◌, ℕ, zero, suc, ◌+◌, ◌-◌, ◌<◌, ◌≤◌, ◌==◌, Bool, true, false, MatchBool, nat_eq, List, [], ◌∷◌, ◌++◌, length, get_or, take, drop, max, Ordering, Less, Equal, Greater, Option, Some, None, Result, Ok, Err, refl, sym, ap, ap₂, subst, ◌∙◌, arith, inl, inr, is_eq, nat_cmp, All, add-one, drop-cons, length-take, length-append, append-nil}
 use mathlib.Core.Bool.{false≢true}
 use Rattle.std.proofs.lemmas.Bool.{cases_lt}
 use Rattle.std.proofs.lemmas.Bool.Decides.{Decides-eqb, eqb_tells, nat_tests}

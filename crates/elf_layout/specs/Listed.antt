@@ -19,7 +19,7 @@ use Rattle.elf_layout.specs.declared.texts.TextEnd.{TextEnd}
 use Rattle.elf_layout.specs.declared.texts.TextEnd.TheVariants.{Whole, Cut}
 
 -- the items of a layout, which are searched
-abbrev pub as_searched : Layout → Layout
+abbrev as_searched : Layout → Layout
 as_searched layout = record (layout) { lookup = Searched }
 
 -- the items of another layout behind those that are searched
@@ -53,12 +53,12 @@ pub record GiveItems (lines : List (List ℕ)) (old new : Layout) : Type 0 where
   pub placed : new ≡ with_items old items
 
 -- the line behind some spells no item: it is there and spells none, or the text was cut before it
-abbrev pub IsFaulty : List (List ℕ) → List (List ℕ) → TextEnd → Type 0
+abbrev IsFaulty : List (List ℕ) → List (List ℕ) → TextEnd → Type 0
 IsFaulty all front end =
     ((line : List ℕ) × (rest : List (List ℕ)) × (all ≡ front ++ line ∷ rest) × ((item : Item) → Spells line item → ⊥))
     ⊎ ((all ≡ front) × (end ≡ Cut))
 
--- why lines give no items behind others: the first that spells none decides, and its number is told
+-- why lines give no items behind others: the first that spells none decides, by its number
 abbrev pub IsRefused : List (List ℕ) → Layout → TextEnd → ItemsFault → Type 0
 IsRefused lines old end (BadItem line) =
     (front : List (List ℕ)) × (new : Layout) × GiveItems front old new × IsFaulty lines front end × (line ≡ length front + 1)

@@ -1,7 +1,7 @@
 -- The text of a file of items, as far as its lines may go.
 use Rattle.std.specs.Prelude.{ℕ, ◌≡◌, ◌≢◌, ◌+◌, ◌-◌, ◌≤◌, ◌<◌, ◌++◌, ⊤, List, length, slice_index, take, Result, Ok, Err}
 use Rattle.elf_layout.specs.declared.items.ItemsFault.{ItemsFault}
-use Rattle.elf_layout.specs.declared.items.ItemsFault.TheVariants.{Read, TooLarge, BadItem, Repeats, Memory}
+use Rattle.elf_layout.specs.declared.items.ItemsFault.TheVariants.{Read, TooLarge, Memory}
 use Rattle.elf_layout.specs.declared.texts.TextEnd.{TextEnd}
 use Rattle.elf_layout.specs.declared.texts.TextEnd.TheVariants.{Whole, Cut}
 

@@ -41,7 +41,7 @@ impl<'a> LentLayout<'a> {
         }
     }
 
-    /// Whether a base may tell an address: one of an entry only where there is an item of its sort.
+    /// Whether a base may have an address: one of an entry only where there is an item of its sort.
     #[tactic(auto, unfolding(elf_model::specs::Placing::has_base))]
     fn has_base(&self, base: Base) -> bool
         ensures { result ≡ has_base (lent_as self.now) base }
@@ -136,7 +136,7 @@ impl<'a> Addresses<'a> {
         }
     }
 
-    /// Whether a base may tell an address: one of an entry only where there is an item of its sort.
+    /// Whether a base may have an address: one of an entry only where there is an item of its sort.
     #[tactic(auto, unfolding(elf_model::specs::Placing::has_base))]
     pub fn has_base(&self, base: Base) -> bool
         ensures { result ≡ has_base self.now base }

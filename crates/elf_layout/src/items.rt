@@ -87,10 +87,8 @@ impl<'a> Items<'a> {
         if items.push_layout(layout).is_err() {
             return Err(ItemsFault::Memory);
         }
-        match items.push_lines(text, end) {
-            Ok(()) => Ok(items),
-            Err(fault) => Err(fault),
-        }
+        items.push_lines(text, end)?;
+        Ok(items)
     }
 
     /// No item.
@@ -203,31 +201,19 @@ impl<'a> Items<'a> {
         };
         let definitions = match names(self.definitions.as_slice()) {
             Ok(names) => names,
-            Err(item) => {
-                let LentName { name, address } = item;
-                return Err(Item::Define { name, address });
-            }
+            Err(LentName { name, address }) => return Err(Item::Define { name, address }),
         };
         let linkage = match names(self.linkage.as_slice()) {
             Ok(names) => names,
-            Err(item) => {
-                let LentName { name, address } = item;
-                return Err(Item::Entry { name, address });
-            }
+            Err(LentName { name, address }) => return Err(Item::Entry { name, address }),
         };
         let table = match names(self.table.as_slice()) {
             Ok(names) => names,
-            Err(item) => {
-                let LentName { name, address } = item;
-                return Err(Item::Table { name, address });
-            }
+            Err(LentName { name, address }) => return Err(Item::Table { name, address }),
         };
         let thread = match names(self.thread.as_slice()) {
             Ok(names) => names,
-            Err(item) => {
-                let LentName { name, address } = item;
-                return Err(Item::Thread { name, address });
-            }
+            Err(LentName { name, address }) => return Err(Item::Thread { name, address }),
         };
         Ok(LentLayout {
             sections,

@@ -183,7 +183,7 @@ impl Layout {
         }
     }
 
-    /// Whether a base may tell an address: one of an entry only where there is an item of its sort.
+    /// Whether a base may have an address: one of an entry only where there is an item of its sort.
     #[tactic(auto, unfolding(elf_model::specs::Placing::has_base))]
     pub fn has_base(&self, base: Base) -> bool
         ensures { result ≡ has_base self.now base }

@@ -91,7 +91,7 @@ pub fn show_check<W: Sink>(
     show_named(&mut front, path, false, out)
 }
 
-/// Writes the last line of a check, which tells how many paths could not be named.
+/// Writes the last line of a check: how many paths could not be named.
 ///
 /// # Errors
 /// A fault of the output, with a front of the line written.

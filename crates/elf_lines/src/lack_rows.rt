@@ -119,7 +119,7 @@ fn place_row(section: u16) -> Line
     line
 }
 
-/// Writes the item of a name that gives what a base tells: of a procedure linkage table entry, and
+/// Writes the item of a name that gives what a base takes: of a procedure linkage table entry, and
 /// the definition that would do too.
 ///
 /// # Errors
@@ -156,7 +156,7 @@ fn show_item<W: Sink>(
     show_around(line_of(word), name, false, tail, out)
 }
 
-/// Writes what stands before a name, the name as it is spelt in columns, what tells that it was cut,
+/// Writes what stands before a name, the name as it is spelt in columns, what says that it was cut,
 /// and what stands behind it.
 ///
 /// # Errors

@@ -32,5 +32,5 @@ pub use rows::{cause_word, header_row, show_refusal};
 pub use section_rows::section_front;
 pub use segment_rows::segment_row;
 pub use symbol_rows::{show_symbol, symbol_front, symbol_front_in};
-pub use trait_rows::{column_name, column_word, show_lacking, show_traits};
+pub use trait_rows::{column_word, show_lacking, show_traits};
 pub use version_rows::{symbol_version_front, symbol_version_front_in, version_front};

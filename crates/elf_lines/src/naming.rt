@@ -27,7 +27,7 @@ impl NumberNaming {
     }
 
     /// Whether numbers of the GNU system that are of x86-64 alone have names.
-    pub fn is_gnu_on_x86_64(self) -> bool
+    pub(crate) fn is_gnu_on_x86_64(self) -> bool
         ensures { result ≡ (self.gnu && (self.machine == EM_X86_64)) }
     {
         self.gnu && self.machine == EM_X86_64

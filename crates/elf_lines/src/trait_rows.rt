@@ -122,7 +122,7 @@ pub fn column_word(traits: Traits, column: TraitColumn) -> &'static str
 
 /// The name of a column.
 #[tactic(auto, unfolding(elf_model::specs::TraitWords::column_name))]
-pub fn column_name(column: TraitColumn) -> &'static str
+pub(crate) fn column_name(column: TraitColumn) -> &'static str
     ensures word { result.now ≡ column_name column }
     ensures short { length result.now ≤ 7 }
 {

@@ -2,7 +2,7 @@
 use Rattle.elf_model.specs.Style.{Style}
 use Rattle.std.proofs.Common.{◌≡◌, ℕ, ◌+◌, ◌*◌, List, [], ◌∷◌, Bool, true, false, Result, Ok, Err, refl, sym, ap, ◌∙◌, subst, arith, append-nil}
 use Rattle.elf_model.specs.Budget.{IsBudget}
-use Rattle.elf_model.specs.Choice.{RowChoice, NoSuffix, chooses}
+use Rattle.elf_model.specs.Choice.{RowChoice, NoSuffix, Suffix, chooses}
 use Rattle.elf_model.specs.Records.{e_phoff, segment_at, section_at, sh_offset, st_name, e_machine, r_sym}
 use Rattle.elf_model.specs.Names.{Shown, shown}
 use Rattle.elf_model.specs.Tables.{strings_of, entry_at}
@@ -70,9 +70,9 @@ chosen-hidden choice front at NameWhole name answer read is = rw read (rw is ref
 chosen-hidden choice front at NameCut name answer read is = rw read (rw is refl)
 
 -- what was answered of a name, in a style that is the same
-pub chosen-as : (style now : Shape) (name : Shown) (answer b : Bool) → now ≡ style → answer ≡ chooses (choice_of now.choice) name NoSuffix → answer ≡ b
-    → chooses (choice_of style.choice) name NoSuffix ≡ b
-chosen-as style now name answer b same is shows = rw (← same) (sym is ∙ shows)
+pub chosen-as : (style now : Shape) (name : Shown) (behind : Suffix) (answer b : Bool) → now ≡ style → answer ≡ chooses (choice_of now.choice) name behind → answer ≡ b
+    → chooses (choice_of style.choice) name behind ≡ b
+chosen-as style now name behind answer b same is shows = rw (← same) (sym is ∙ shows)
 
 -- a name that could not be read for a row
 pub Stopped-chosen : (a : Written) (choice : RowChoice) (front : LineFront) (at : ℕ) (fault : Fault) (name : List ℕ) (answer : Result Shown Cause) → NameRead at (Err fault) name answer

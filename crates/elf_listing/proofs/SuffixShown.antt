@@ -52,21 +52,6 @@ Fetches-then a b c y result n m k within p q =
 pub Fetches-more : {S W X Y : Type 0} {s : Sources S} {w : Sinks W} (a b : Listing S W s w) (y : Y) (x : X) (n k : ℕ) → n ≤ k → Fetches a b (Ok y) n → Fetches a b (Ok x) k
 Fetches-more a b y x n k within p = let first = p.2.account in (p.0, p.1, Spends-to p.2 (omega (arith, first, within)), tt)
 
--- names that texts ask for are chosen with every version
-any-suffix : (name : Shown) (suffix : Suffix) (texts : List (List ℕ))
-    → list_any (is_named name suffix) (map (wanted_text false) texts) ≡ list_any (is_named name NoSuffix) (map (wanted_text false) texts)
-any-suffix name suffix [] = refl
-any-suffix name suffix (text ∷ texts) = let more = any-suffix name suffix texts in cc
-
-pub chosen-suffix : (choice : Choice) (name : Shown) (suffix : Suffix) → chooses (choice_of choice) name suffix ≡ chooses (choice_of choice) name NoSuffix
-chosen-suffix choice name suffix = by_name choice.by_name
-  where
-    by_name : (named : Bool)
-        → chooses (if named then RowsOf (map (wanted_text false) (texts_of choice.texts.now)) else EveryRow) name suffix
-        ≡ chooses (if named then RowsOf (map (wanted_text false) (texts_of choice.texts.now)) else EveryRow) name NoSuffix
-    by_name true = any-suffix name suffix (texts_of choice.texts.now)
-    by_name false = refl
-
 -- the name could not be read
 pub Stopped-unnamed : (a : Written) (choice : RowChoice) (front : LineFront) (at : ℕ) (fault : Fault) (name : List ℕ) (answer : Result Shown Cause) (suffix : Result Suffix Refusal)
     → NameRead at (Err fault) name answer → Stopped a a (stop_of fault) (suffixed_row choice front at answer suffix)

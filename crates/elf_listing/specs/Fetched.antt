@@ -19,7 +19,7 @@ use Rattle.elf_listing.specs.Shows.{Fetches}
 use Rattle.elf_listing.specs.Strings.{AreOf, ToldRead, strings_told, string_told}
 use Rattle.elf_listing.specs.declared.dynamic_row.EntryStrings.{EntryStrings}
 use Rattle.elf_listing.specs.declared.listing.Listing.{Listing}
-use Rattle.elf_listing.specs.declared.suffixed_entries.SymbolRead.{SymbolRead}
+use Rattle.elf_listing.specs.declared.suffixed_entries.EntryName.{EntryName}
 
 -- the name at an index of a string table, for the entry at an offset; without a table it is empty
 pub record FetchesName {S W : Type 0} {s : Sources S} {w : Sinks W} (old new : Listing S W s w) (result : Result NameEnd Fault) (names : Option Strings) (off at : ℕ) : Type 0 where
@@ -34,12 +34,12 @@ pub record FetchesSymbol {S W : Type 0} {s : Sources S} {w : Sinks W} (old new :
       → NameRead (symbol_named file old.style.cap.bytes header at symbol).0 result new.name (symbol_named file old.style.cap.bytes header at symbol).1
 
 -- how a name ends that was read with whether its symbol is defined
-abbrev pub end_read : Result SymbolRead Fault → Result NameEnd Fault
+abbrev pub end_read : Result EntryName Fault → Result NameEnd Fault
 end_read (Ok symbol) = Ok symbol.end
 end_read (Err fault) = Err fault
 
 -- the name of the symbol of an index, and whether the symbol is defined; symbol 0 has none
-pub record FetchesLinked {S W : Type 0} {s : Sources S} {w : Sinks W} (old new : Listing S W s w) (result : Result SymbolRead Fault) (linked : Option (Rows × Strings)) (symbol at : ℕ) : Type 0 where
+pub record FetchesLinked {S W : Type 0} {s : Sources S} {w : Sinks W} (old new : Listing S W s w) (result : Result EntryName Fault) (linked : Option (Rows × Strings)) (symbol at : ℕ) : Type 0 where
   pub fetches : Fetches old new result (SYMBOL_SIZE + name_bytes old.style.cap.bytes)
   pub read : (file : List ℕ) (header : ℕ) → old.src.now.seen.file ≡ Some file → RefersTo file header linked
       → NameRead (symbol_named file old.style.cap.bytes header at symbol).0 (end_read result) new.name (symbol_named file old.style.cap.bytes header at symbol).1

@@ -4,11 +4,14 @@ ghost use Rattle.elf_model.specs.Choice.{NoSuffix, chooses};
 ghost use Rattle.elf_table.specs.NamesRead.{shown_by};
 ghost use Rattle.elf_wanted.specs.Chosen.{choice_of};
 ghost use Rattle.elf_listing.specs.Choosing.{ShowsRows};
+ghost use Rattle.elf_listing.specs.Suffixed.{suffix_read};
 
 use crate::listing::Listing;
+use crate::read_suffix::SuffixEnd;
 use crate::row::is_cut;
 use elf_source::{Sink, Source};
-use elf_table::NameEnd;
+use elf_table::{NameBuf, NameEnd};
+use elf_wanted::ShownVersion;
 
 /// Whether rows are chosen by their names, which is known where the code is made: where every row is
 /// shown, no name is looked for.
@@ -46,5 +49,31 @@ impl<S: Source, W: Sink> Listing<'_, '_, '_, '_, S, W> {
             (shown_by end self.now.name) NoSuffix }
     {
         !C::BY_NAME || self.style.choice.shows(self.name.bytes(), is_cut(end))
+    }
+
+    /// Whether the row of the name that was read is shown, with the version behind it, if there is one.
+    pub(crate) fn is_suffixed_shown<C: Choosing>(
+        &self,
+        end: NameEnd,
+        suffix: Option<SuffixEnd>,
+        version: &NameBuf,
+    ) -> bool
+        requires { ShowsRows C.BY_NAME self.now.style }
+        ensures { result ≡ chooses (choice_of self.now.style.choice)
+            (shown_by end self.now.name) (suffix_read suffix version.now) }
+    {
+        let Some(read) = suffix else {
+            return self.is_shown::<C>(end);
+        };
+        if !C::BY_NAME {
+            return true;
+        }
+        let behind = ShownVersion {
+            name: version.bytes(),
+            is_cut: is_cut(read.end),
+            is_default: read.is_default,
+        };
+        let name = self.name.bytes();
+        self.style.choice.shows_version(name, is_cut(end), &behind)
     }
 }

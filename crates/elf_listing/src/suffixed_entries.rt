@@ -21,7 +21,7 @@ use elf_table::{NameBuf, NameEnd, Names, Row, Table};
 
 /// The name of the symbol of an entry, which was read, and whether the symbol is defined.
 #[derive(Clone, Copy)]
-pub struct SymbolRead {
+pub struct EntryName {
     /// How the name ends.
     pub end: NameEnd,
     /// Whether the symbol is defined.
@@ -53,7 +53,7 @@ impl<S: Source, W: Sink> Listing<'_, '_, '_, '_, S, W> {
         let read = self.read_linked(linked, symbol, row.at)?;
         let mut version = NameBuf::new();
         let suffix = self.read_entry(suffixes, symbol, read.is_defined, &mut version)?;
-        if !self.is_shown::<C>(read.end) {
+        if !self.is_suffixed_shown::<C>(read.end, suffix, &version) {
             return Ok(());
         }
         relocation_front::<R>(front, section, &entry, naming);
@@ -84,13 +84,13 @@ impl<S: Source, W: Sink> Listing<'_, '_, '_, '_, S, W> {
         linked: Option<(Table, Names)>,
         symbol: u32,
         at: u64,
-    ) -> Result<SymbolRead, Fault>
+    ) -> Result<EntryName, Fault>
         requires { IfSome linked (SymbolsWithin self.old.src.now.seen.size) }
         ensures { FetchesLinked self.old self.new result linked symbol at }
     {
         if symbol == 0 {
             self.name.clear();
-            return Ok(SymbolRead {
+            return Ok(EntryName {
                 end: NameEnd::Whole,
                 is_defined: false,
             });
@@ -110,6 +110,6 @@ impl<S: Source, W: Sink> Listing<'_, '_, '_, '_, S, W> {
             at: symbols.place(index),
         })?;
         let is_defined = entry.st_shndx != 0;
-        Ok(SymbolRead { end, is_defined })
+        Ok(EntryName { end, is_defined })
     }
 }

@@ -45,7 +45,7 @@ impl<S: Source, W: Sink> Listing<'_, '_, '_, '_, S, W> {
         let mut version = NameBuf::new();
         let is_defined = symbol.st_shndx != 0;
         let suffix = self.read_suffix(suffixes, row.index, is_defined, &mut version)?;
-        if !self.is_shown::<C>(end) {
+        if !self.is_suffixed_shown::<C>(end, suffix, &version) {
             return Ok(());
         }
         symbol_front::<R>(front, section, row.index, &symbol, naming);

@@ -21,7 +21,7 @@ IsWord file (Some words) index (Some word) = (index < words.words.count) × (wor
 IsWord file None index (Some word) = ⊥
 IsWord file (Some words) index None = ⊥
 
--- it is told whether a version fits, with the word; or why it cannot be, unless a read failed
+-- whether a version fits is known, with the word; or why it cannot be, unless a read failed
 abbrev pub TellsFit : List ℕ → Option VersionWords → ℕ → Result Bool Refusal → Result Fit Fault → Type 0
 TellsFit file words index says (Ok fit) = (says ≡ Ok fit.fits) × IsWord file words index fit.version
 TellsFit file words index says (Err (Refused refusal)) = (IsBudget refusal → ⊥) → says ≡ Err refusal
@@ -31,7 +31,7 @@ TellsFit file words index says (Err (Source fault at)) = Unit {0}
 abbrev pub StandsAs : List ℕ → Symbols → ℕ → TrialAnswer → Type 0
 StandsAs file symbols index answer = IsSym file (row_at symbols.table index) answer.symbol × IsWord file symbols.words index answer.version
 
--- it is told whether a symbol answers, which is given then
+-- whether a symbol answers is known, and it is given then
 abbrev pub TellsAnswer : List ℕ → Symbols → ℕ → Result Bool Refusal → Result (Option TrialAnswer) Fault → Type 0
 TellsAnswer file symbols index says (Ok (Some answer)) = (says ≡ Ok true) × StandsAs file symbols index answer
 TellsAnswer file symbols index says (Ok None) = says ≡ Ok false

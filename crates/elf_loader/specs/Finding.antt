@@ -1,4 +1,4 @@
--- What the version of a symbol that is found is, as it is told.
+-- The version of a symbol that is found, as a lookup answers it.
 use Rattle.std.specs.Prelude.{ℕ, ◌≡◌, ◌+◌, ◌*◌, Bool, List, [], Option, None, Some, option_map, Result, Ok, Err, IfOk, IfSome}
 use Rattle.elf_model.specs.Budget.{IsBudget}
 use Rattle.elf_model.specs.Chains.{Walked}
@@ -19,7 +19,7 @@ use Rattle.elf_loader.specs.declared.found.FoundVersion.{FoundVersion}
 use Rattle.elf_loader.specs.declared.found.VersionName.{VersionName}
 use Rattle.elf_loader.specs.declared.found.VersionName.TheVariants.{Wanted, Unnamed, Told}
 
--- the name of a version as it is shown: the wanted one, whole; none; or what is told of it
+-- the name of a version as it is shown: the wanted one, whole; none; or what is read of it
 abbrev pub name_shown : Option (List ℕ) → List ℕ → VersionName → Shown
 name_shown None told Wanted = Whole []
 name_shown (Some version) told Wanted = Whole version
@@ -30,7 +30,7 @@ name_shown asked told (Told end) = shown_by end told
 abbrev pub version_found : IsAsked → List ℕ → FoundVersion → IsVersionOf
 version_found asked told version = record { index = version.index; word = version.word; name = name_shown (asked_name asked) told version.name }
 
--- where the name that is told of a version stands: what is held of it stands there in the file; 0 where none is held
+-- where the name of a version that is read stands: what is held of it stands there in the file; 0 where none is held
 abbrev pub StandsTold : List ℕ → List ℕ → ℕ → VersionName → Type 0
 StandsTold file told at Wanted = at ≡ 0
 StandsTold file told at Unnamed = at ≡ 0
@@ -50,8 +50,8 @@ IsVersionFound version scope asked y told walked lookup (Ok found) =
 IsVersionFound version scope asked y told walked lookup (Err (Refused refusal)) = (IsBudget refusal → ⊥) → lookup.lookup.answer ≡ IsRefused refusal
 IsVersionFound version scope asked y told walked lookup (Err (Source fault at)) = Unit {0}
 
--- THE VERSION OF A SYMBOL THAT A WALK FINDS IS TOLD, where there are such words: so many records are read, and a name or none,
--- beside those that were read before to tell the numbers of a wanted version
+-- THE VERSION OF A SYMBOL THAT A WALK FINDS, where there are such words: so many records are read, and a name or none,
+-- beside those that were read before to find the numbers of a wanted version
 pub record FindsVersion {X : Type 0} (version : X → Option FoundVersion) (file : List ℕ) (scope : Scope) (asked : IsAsked) (words : Option AreWordsOf) (y : ℕ) (old new : Counting) (told : List ℕ) (result : Result X Fault) : Type 0 where
   pub records : ℕ
   pub is_named : Bool

@@ -23,7 +23,7 @@ use Rattle.elf_loader.specs.declared.lookup.SymbolLookup.TheVariants.{Found, Abs
 abbrev pub AreShort : Wanted → Type 0
 AreShort wanted = (length wanted.name ≤ 4096) × IfSome (asked_name wanted.asked) (λ version. length version ≤ 4096)
 
--- a lookup may be made: so short is what is wanted, and what it is made in lies within the source
+-- a lookup may be made: so short is what is wanted, and the tables that it searches lie within the source
 pub record MayLookOn (src : Counting) (scope : ScopeCode) (wanted : Wanted) : Type 0 where
   pub short : AreShort wanted
   pub lies : ScopeLies src.seen.size scope
@@ -38,7 +38,7 @@ abbrev pub lookup_bytes : (few size : ℕ) → Wanted → ℕ
 lookup_bytes few size wanted = few + size / 4 * (4 + trial_bytes wanted) + size / 8 * record_cost wanted.asked + told_bytes
 
 -- an answer is the one that a lookup gives: the symbol that is found, with its version and the file's machine, or that there is
--- none; and how many symbols are tried. The name of a version is told in these bytes, and stands where it says
+-- none; and how many symbols are tried. The name of a version is in these bytes, and stands where it says
 abbrev pub AnswersLoaderLookup : List ℕ → Asked → List ℕ → LoaderLookup → SymbolLookup → Type 0
 AnswersLoaderLookup file asked told looked (Found found) =
     (at : ℕ)
@@ -63,8 +63,8 @@ pub record LooksBehind (file : List ℕ) (wanted : Wanted) (few before : ℕ) (l
   pub within : before + spent ≤ few + lookup_asks wanted looked
   pub tells : TellsLookup file wanted.asked told looked result
 
--- what a call did that goes on with a lookup: it asked for at most n bytes, and where the file is known, and what the lookup is
--- made in, it does what is left of it
+-- what a call did that goes on with a lookup: it asked for at most n bytes, and where the file is known, and the tables that the
+-- lookup searches, it does what is left of it
 abbrev pub LooksOn : Counting → Counting → ScopeCode → Wanted → List ℕ → Result SymbolLookup Fault → (few n : ℕ) → (List ℕ → Scope → (ℕ → LoaderLookup → Type 0) → Type 0) → Type 0
 LooksOn old new scope wanted told result few n Leaves =
     Did old new (why_stopped result) n
@@ -81,7 +81,7 @@ abbrev pub LooksThrough : Counting → Counting → (List ℕ → List ℕ) → 
 LooksThrough old new looked_at headers wanted told result =
     Did old new (why_stopped result) (loader_ceiling old.seen.size headers wanted) (λ file. LooksUp (looked_at file) headers wanted told old new result)
 
--- a lookup once the numbers of the version are told, or why they are not
+-- a lookup once the numbers of the version are known, or why they are not
 abbrev pub looked_with : List ℕ → Scope → Wanted → Compared → LoaderLookup
 looked_with file scope wanted compared = elim compared.refused [
   | Some refusal ↦ refused_lookup 0 0 compared.read false refusal

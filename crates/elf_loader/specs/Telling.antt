@@ -1,4 +1,4 @@
--- What the name of a symbol's version is, as it is told.
+-- The name of a symbol's version, as a lookup reads it.
 use Rattle.std.specs.Prelude.{ℕ, ◌≡◌, ◌+◌, ◌*◌, true, is_some, List, None, Some, Result, Ok, Err}
 use Rattle.elf_model.specs.Budget.{IsBudget}
 use Rattle.elf_model.specs.Chains.{Walked}
@@ -15,16 +15,16 @@ use Rattle.elf_headers.specs.declared.fault.Fault.TheVariants.{Refused, Source}
 use Rattle.elf_loader.specs.declared.telling.ToldName.{ToldName}
 use Rattle.elf_table.specs.NamesRead.{shown_by}
 
--- how many bytes telling a name may ask for
+-- how many bytes reading a name may ask for
 abbrev pub told_bytes : ℕ
 told_bytes = pad64 (TOLD_BYTES + 1)
 
--- how many bytes telling a version may ask for, with so many records: none where one is asked for by its name
+-- how many bytes finding a version may ask for, with so many records: none where one is asked for by its name
 abbrev pub telling_bytes : Asked → ℕ → ℕ
 telling_bytes asked records = elim (asked_name asked) [ None ↦ records * 28 + told_bytes | Some version ↦ 0 ]
 
--- THE NAME IS TOLD of the version of a symbol that a walk gives, by what looking for it gives: the name, and where its bytes
--- stand; or why it is not, unless a read failed
+-- THE NAME of the version of a symbol that a walk gives, by what looking for it gives: the name, and where its bytes stand; or
+-- why there is none, unless a read failed
 abbrev pub TellsVersionName : List ℕ → Scope → VersionWords → ℕ → Naming → Counting → Counting → List ℕ → Result ToldName Fault → Type 0
 TellsVersionName file scope words y naming before after name (Ok told) =
     Charges before after None (naming.read * 28 + told_bytes)

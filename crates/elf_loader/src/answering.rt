@@ -17,8 +17,7 @@ use elf_scope::Symbols;
 use elf_source::{Counted, Source};
 use elf_wanted::Wanted;
 
-/// The trial of symbols by what is wanted of them, where the numbers of the version by its name are
-/// told.
+/// The trial of symbols by what is wanted of them, where the numbers of the wanted version are known.
 #[derive(Clone, Copy)]
 pub struct WantedTrial<'a> {
     /// The symbols.
@@ -52,13 +51,13 @@ impl<'a> Trial for WantedTrial<'a> {
 }
 
 // The symbol of an index, if it answers: it has the wanted name, it is offered, and its version
-// fits, where the numbers of the version by its name are told. It asks for the symbol, for its name
-// and for the word of its version.
+// fits, where the numbers of the wanted version are known. It asks for the symbol, for its name and
+// for the word of its version.
 //
 // # Errors
 // A refusal of the symbol's name, as [`elf_table::Names::equals`] has it, at the symbol;
-// `VersionCut` at what tells of the words of versions where the symbol has none. Else a fault of a
-// read.
+// `VersionCut` at the header or entry that locates the words of versions, where the symbol has none.
+// Else a fault of a read.
 fn answering<S: Source>(
     src: &mut Counted<S>,
     symbols: &Symbols,

@@ -30,11 +30,12 @@ pub(crate) struct Fit {
 }
 
 /// Whether the version of the symbol of an index fits what is asked for, where the numbers of the
-/// version by its name are told: its word is read, where there are words of versions. Without such
-/// each symbol's version fits.
+/// wanted version are known: its word is read, where there are words of versions. Without such each
+/// symbol's version fits.
 ///
 /// # Errors
-/// `VersionCut` at what tells of the words where the symbol has none. Else a fault of the read.
+/// `VersionCut` at the header or entry that locates the words, where the symbol has none. Else a
+/// fault of the read.
 pub(crate) fn version_fits<S: Source>(
     src: &mut Counted<S>,
     words: &Option<VersionWords>,

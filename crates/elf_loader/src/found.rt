@@ -77,7 +77,7 @@ pub(crate) fn version_of<S: Source>(
     Ok(Some(version))
 }
 
-/// Tells the version of the symbol of an index, whose word is known: under the wanted name where one
+/// Finds the version of the symbol of an index, whose word is known: under the wanted name where one
 /// is wanted, without one where its number is 0 or 1, else by the name of its number, into `name`.
 ///
 /// # Errors

@@ -31,26 +31,26 @@ use elf_wanted::Wanted;
 /// Looks a name up in a file, alone or with a version, as a loader of the GNU system does (gABI 5,
 /// Dynamic Linking; Linux Standard Base Core, Symbol Versioning): by the file's hash table, of the
 /// GNU system or else of the gABI, the first symbol of the name's chain that has the name, is offered
-/// to others ([`crate::is_offered`]) and whose version fits. What the lookup is made in is found as
-/// by [`find_scope`], and the headers are loaded into the store. With `by_segments` it is found by the
-/// program headers also where there are section headers, in a file that is read with zeros for what
-/// its header tells of them (e_shoff, e_shnum and e_shstrndx). The name and the version that is
-/// asked for have at most 4,096 bytes each. Where the name of the symbol's version is told, `name`
+/// to others ([`crate::is_offered`]) and whose version fits. The tables that it searches are
+/// those of [`find_scope`], and the headers are loaded into the store. With `by_segments` they are
+/// found by the program headers also where there are section headers: the file is read with zeros for
+/// e_shoff, e_shnum and e_shstrndx. The name and the version that is
+/// asked for have at most 4,096 bytes each. Where the name of the symbol's version is read, `name`
 /// holds it, or its first 256 bytes; else `name` holds any bytes.
 ///
 /// Where the source's file is known the answer is the file's own, and so is the refusal; no more is
 /// asked for than the lookup costs, also where the source fails.
 ///
 /// # Errors
-/// The first that fails: what [`find_scope`] refuses; `HashShape` at what tells of the hash table
-/// where its counts are no table's of its size; where a version is asked for, what
+/// The first that fails: what [`find_scope`] refuses; `HashShape` at the header or entry that locates
+/// the hash table where its counts are no table's of its size; where a version is asked for, what
 /// [`elf_versions::VersionCursor::advance`] refuses of the definitions and the needs, and a fault of
 /// a version's name at the record that holds it; on the way `HashIndex` at the word that leads to a
 /// symbol index which no symbol and no chain word has, in a table of the gABI `HashCycle` at the
 /// bucket's word where the chain goes round, a fault of a symbol's name at the symbol, `VersionCut`
-/// at what tells of the words of versions where a symbol has none; where the name of the symbol's
-/// version is told, what is refused of the records before the one that has its number and of its
-/// name, and `VersionIndex` at the symbol's word where no record has the number. Else a fault of the
+/// at the header or entry that locates the words of versions where a symbol has none; where the name
+/// of the symbol's version is read, what is refused of the records before the one with its number and
+/// of its name, and `VersionIndex` at the symbol's word where no record has the number. Else a fault of the
 /// source, or `Budget` where a limit has no room for a read, at the offset that was asked for.
 pub fn look_up<S: Source>(
     src: &mut Counted<S>,
@@ -93,7 +93,7 @@ fn look_up_shown<S: Source>(
     look_in(src, &scope, wanted, name)
 }
 
-/// Looks up in what a lookup is made in.
+/// Looks up in the tables that a lookup searches.
 ///
 /// # Errors
 /// Those of the table's counts, and of [`look_in_table`].
@@ -112,7 +112,7 @@ fn look_in<S: Source>(
     look_in_table(src, scope, &table, wanted, name)
 }
 
-/// Looks up in a hash table with its counts: tells the numbers of the version that is asked for, and
+/// Looks up in a hash table with its counts: finds the numbers of the version that is asked for, and
 /// goes along the chain.
 ///
 /// # Errors
@@ -135,7 +135,7 @@ fn look_in_table<S: Source>(
     look_along(src, scope, table, wanted, &numbers, name)
 }
 
-/// Goes along the chain of the wanted name for the symbol that answers, and tells its version.
+/// Goes along the chain of the wanted name for the symbol that answers, and finds its version.
 ///
 /// # Errors
 /// Those of [`walk`], and of [`version_of`].

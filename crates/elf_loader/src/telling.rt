@@ -14,10 +14,10 @@ use elf_scope::Symbols;
 use elf_source::{Counted, Source};
 use elf_table::{NameBuf, NameEnd};
 
-/// How many bytes of the name of a version are told.
+/// How many bytes of the name of a version are kept.
 const TOLD_BYTES: u16 = 256;
 
-/// The name of a version that is told.
+/// The name of a version that is read.
 #[derive(Clone, Copy)]
 pub(crate) struct ToldName {
     /// Whether it is whole.

@@ -2,13 +2,15 @@
 use Rattle.std.proofs.Common.{◌≡◌, ℕ, ◌+◌, ◌≤◌, nat_lt, Bool, true, false, if◌then◌else◌, List, Option, None, Some, sym, ap, arith}
 use Rattle.std.specs.Prelude.{IfSome}
 use Rattle.elf_model.specs.ArchiveCost.{archive_ceiling}
-use Rattle.elf_model.specs.Cost.{ceiling}
+use Rattle.elf_model.specs.Cost.{style_ceiling}
 use Rattle.elf_model.specs.FileLists.{front_size}
+use Rattle.elf_model.specs.Style.{Style}
 use Rattle.elf_model.specs.declared.states.FileState.{FileState}
 use Rattle.elf_model.specs.declared.states.FileState.TheVariants as state
 use Rattle.elf_source.specs.Source.{Counting, Faults, Reads, Seen, SetsLimit}
 use Rattle.elf_source.specs.declared.faults.SourceFault.{SourceFault}
 use Rattle.elf_source.proofs.LimitLaws.{within_budget}
+use Rattle.elf_headers.specs.Permitted.{style_of}
 use Rattle.elf_headers.specs.declared.caps.Caps.{Caps}
 use Rattle.elf_many.specs.Checked.{FailsRead}
 use Rattle.elf_many_lists.specs.Fronts.{front_asked}
@@ -17,10 +19,10 @@ use Rattle.elf_many_checks.specs.Checked.{AsksFor, check_ceiling}
 use Rattle.elf_many_checks.specs.Members.{AsksInMembers, FindsSorted, FindsSortedState}
 
 -- what is asked for of an archive within a budget
-pub asks_in_members : (caps : Caps) (s0 s1 s2 s3 : Counting) → SetsLimit s0 s1 caps.limits.budget → Reads s1 s2 (archive_ceiling s1.seen.size caps.limits.headers caps.style.cap.bytes) → SetsLimit s2 s3 None
+pub asks_in_members : (caps : Caps) (s0 s1 s2 s3 : Counting) → SetsLimit s0 s1 caps.limits.budget → Reads s1 s2 (archive_ceiling s1.seen.size caps.limits.headers (style_of caps.style)) → SetsLimit s2 s3 None
     → AsksInMembers caps s0 s3
 asks_in_members caps s0 s1 s2 s3 set reads unset =
-    let same = ap (λ (seen : Seen). archive_ceiling seen.size caps.limits.headers caps.style.cap.bytes) set.seen in
+    let same = ap (λ (seen : Seen). archive_ceiling seen.size caps.limits.headers (style_of caps.style)) set.seen in
     let within : IfSome caps.limits.budget (λ bytes. s2.asked ≤ s0.asked + bytes) = within_budget caps.limits.budget s0 s1 s2 set reads.same_limit in
     record {
       ceiling = omega (arith, reads.at_most, set.asked, unset.asked, same);
@@ -33,15 +35,15 @@ pub fails_limited : (budget : Option ℕ) (s0 s1 s2 s3 : Counting) (fault : Sour
 fails_limited budget s0 s1 s2 s3 fault set unset faults = fault_fails s0 s3 fault (rw (unset.seen, sym set.seen) faults)
 
 -- what a file asks for, by the ceiling of an archive of as many bytes
-check_most : (short : Bool) (size headers cap : ℕ) → (if short then 4 else ceiling size headers cap) ≤ archive_ceiling size headers cap
+check_most : (short : Bool) (size headers : ℕ) (style : Style) → (if short then 4 else style_ceiling size headers style) ≤ archive_ceiling size headers style
 unfolding archive_ceiling
-check_most true size headers cap = omega arith
-check_most false size headers cap = omega arith
+check_most true size headers style = omega arith
+check_most false size headers style = omega arith
 
 pub asks_as_archive : (caps : Caps) (old new : Counting) → AsksFor caps old new → AsksInMembers caps old new
 asks_as_archive caps old new asks =
-    let most : check_ceiling old.seen.size caps.limits.headers caps.style.cap.bytes ≤ archive_ceiling old.seen.size caps.limits.headers caps.style.cap.bytes =
-    check_most (nat_lt old.seen.size 64) old.seen.size caps.limits.headers caps.style.cap.bytes in
+    let most : check_ceiling old.seen.size caps.limits.headers (style_of caps.style) ≤ archive_ceiling old.seen.size caps.limits.headers (style_of caps.style) =
+    check_most (nat_lt old.seen.size 64) old.seen.size caps.limits.headers (style_of caps.style) in
     record { ceiling = omega (arith, asks.ceiling, most); budget = asks.budget }
 
 -- nothing more is asked for

@@ -62,7 +62,7 @@ FindsArchive caps parts file state.Memory = ⊥
 
 -- what is asked for, for every source: no more than the ceiling, and no more than the budget
 pub record AsksInMembers (caps : Caps) (old new : Counting) : Type 0 where
-  pub ceiling : new.asked ≤ old.asked + archive_ceiling old.seen.size caps.limits.headers caps.style.cap.bytes
+  pub ceiling : new.asked ≤ old.asked + archive_ceiling old.seen.size caps.limits.headers (style_of caps.style)
   pub budget : IfSome caps.limits.budget (λ bytes. new.asked ≤ old.asked + bytes)
 
 -- the caps behind the bytes that tell what a file of so many bytes is
@@ -99,5 +99,5 @@ sorted_cost caps file headers style parts = 8 + cost_by (file_sort true caps.lim
 
 -- the same of every source
 pub record AsksInSorted (caps : Caps) (old new : Counting) : Type 0 where
-  pub ceiling : new.asked ≤ old.asked + 8 + archive_ceiling old.seen.size caps.limits.headers caps.style.cap.bytes
+  pub ceiling : new.asked ≤ old.asked + 8 + archive_ceiling old.seen.size caps.limits.headers (style_of caps.style)
   pub budget : IfSome caps.limits.budget (λ bytes. new.asked ≤ old.asked + bytes)

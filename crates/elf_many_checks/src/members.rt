@@ -9,7 +9,7 @@ ghost use Rattle.elf_many_checks.specs.Members.{AsksInMembers, FindsArchive, Fin
 ghost use Rattle.elf_many_checks.specs.Members.{fault_from};
 ghost use Rattle.elf_model.specs.Archive.{Member as Listed, before_members, bytes_in};
 ghost use Rattle.elf_model.specs.ArchiveCost.{allowance, archive_ceiling, archive_cost, member_cost, members_cost};
-ghost use Rattle.elf_model.specs.Cost.{ceiling, listing_cost};
+ghost use Rattle.elf_model.specs.Cost.{listing_cost, style_ceiling};
 ghost use Rattle.elf_model.specs.FileLists.{archive_fault, member_fault, placed_behind};
 ghost use Rattle.elf_model.specs.Listing.{fault_of};
 ghost use Rattle.elf_model.specs.Report.{listing};
@@ -76,7 +76,7 @@ fn find_fault<S: Source, W: Sink>(
     requires whole { IsAll src.old }
     ensures slots { store.new.slots ≡ store.old.slots }
     ensures ceiling { Consumes src.old src.new out.new result
-        (archive_ceiling src.old.seen.size store.old.slots style.entry.cap.bytes) }
+        (archive_ceiling src.old.seen.size store.old.slots (style_of style.entry)) }
     ensures cost { (file : List ℕ) → src.old.seen.file ≡ Some file →
         Consumes src.old src.new out.new result
         (archive_cost file store.old.slots (style_of style.entry) parts.0) }
@@ -102,7 +102,7 @@ fn check_members<S: Source, W: Sink>(
     requires size { (8 ≤ src.old.seen.size) × (src.old.seen.size < 2 ^ 63) }
     ensures slots { store.new.slots ≡ store.old.slots }
     ensures allowed { Consumes src.old src.new out.new result
-        (allowance (src.old.seen.size - 8) store.old.slots style.entry.cap.bytes) }
+        (allowance (src.old.seen.size - 8) store.old.slots (style_of style.entry)) }
     ensures cost { (file : List ℕ) → src.old.seen.file ≡ Some file →
         Consumes src.old src.new out.new result
         (members_cost (length file) file store.old.slots (style_of style.entry) parts.0
@@ -136,7 +136,7 @@ fn check_member<S: Source, W: Sink>(
     requires lies { LiesIn src.old.seen.size (extent_of extent) }
     ensures slots { store.new.slots ≡ store.old.slots }
     ensures ceiling { Consumes src.old src.new out.new result
-        (4 + ceiling extent.size store.old.slots style.entry.cap.bytes) }
+        (4 + style_ceiling extent.size store.old.slots (style_of style.entry)) }
     ensures cost { (file : List ℕ) → src.old.seen.file ≡ Some file → (member : Listed) →
         member.extent ≡ extent_of extent → Consumes src.old src.new out.new result
         (member_cost file store.old.slots (style_of style.entry) parts.0 member) }
@@ -172,7 +172,7 @@ fn check_range<S: Source, W: Sink>(
     requires lies { LiesIn src.old.seen.size (extent_of extent) }
     ensures slots { store.new.slots ≡ store.old.slots }
     ensures ceiling { Consumes src.old src.new out.new result
-        (ceiling extent.size store.old.slots style.entry.cap.bytes) }
+        (style_ceiling extent.size store.old.slots (style_of style.entry)) }
     ensures cost { (file : List ℕ) → src.old.seen.file ≡ Some file →
         Consumes src.old src.new out.new result
         (listing_cost (bytes_in file (extent_of extent)) store.old.slots (style_of style.entry)

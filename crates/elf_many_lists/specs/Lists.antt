@@ -3,7 +3,7 @@ use Rattle.std.specs.Prelude.{ℕ, ◌≡◌, ◌+◌, ◌≤◌, ◌⊎◌, Lis
 use Rattle.elf_model.specs.ArchiveCost.{IsArchiveBudgeted, any_refused, archive_ceiling, archive_cost}
 use Rattle.elf_model.specs.Budget.{IsBudgeted}
 use Rattle.elf_model.specs.Choice.{RowChoice}
-use Rattle.elf_model.specs.Cost.{ceiling, listing_cost}
+use Rattle.elf_model.specs.Cost.{listing_cost, style_ceiling}
 use Rattle.elf_model.specs.FileLists.{headed}
 use Rattle.elf_model.specs.Style.{Style}
 use Rattle.elf_model.specs.declared.causes.Refusal.{Refusal}
@@ -11,6 +11,7 @@ use Rattle.elf_model.specs.declared.states.FileSort.{FileSort}
 use Rattle.elf_model.specs.declared.states.FileSort.TheVariants as sort
 use Rattle.elf_source.specs.Source.{Counting, Faults}
 use Rattle.elf_source.specs.Output.{Written, Takes, TakesFront, OutFails}
+use Rattle.elf_headers.specs.Permitted.{style_of}
 use Rattle.elf_headers.specs.declared.caps.Caps.{Caps}
 use Rattle.elf_headers.specs.declared.caps.Limits.{Limits}
 use Rattle.elf_headers.specs.declared.stop.Stop.{Stop}
@@ -35,10 +36,10 @@ sort_cost sort.Archive = archive_cost
 sort_cost sort.Foreign = λ file headers style parts. 0
 
 -- the same of every source
-abbrev pub sort_ceiling : FileSort → (size headers cap : ℕ) → ℕ
-sort_ceiling sort.Elf = ceiling
+abbrev pub sort_ceiling : FileSort → (size headers : ℕ) → Style → ℕ
+sort_ceiling sort.Elf = style_ceiling
 sort_ceiling sort.Archive = archive_ceiling
-sort_ceiling sort.Foreign = λ size headers cap. 0
+sort_ceiling sort.Foreign = λ size headers style. 0
 
 -- the answer is whether the listing of a member was refused
 abbrev pub TellsRefused : Result Bool Stop → Bool → Type 0
@@ -61,7 +62,7 @@ SortSays old new out (Out fault) = OutFails out fault
 
 -- what it asks for, for every source: no more than the ceiling, and no more than the budget
 pub record AsksForSort (kind : FileSort) (caps : Caps) (old new : Counting) : Type 0 where
-  pub ceiling : new.asked ≤ old.asked + sort_ceiling kind old.seen.size caps.limits.headers caps.style.cap.bytes
+  pub ceiling : new.asked ≤ old.asked + sort_ceiling kind old.seen.size caps.limits.headers (style_of caps.style)
   pub budget : IfSome caps.limits.budget (λ bytes. new.asked ≤ old.asked + bytes)
 
 -- THE SAME BEHIND THE LINE of a path, which stands as the choice of rows has it. At a fault of the output a front of the line and

@@ -57,7 +57,7 @@ kind_cost (Some kind) rule file = sort_cost kind file rule.caps.limits.headers (
 
 abbrev pub kind_ceiling : Option FileSort → ListRule → ℕ → ℕ
 kind_ceiling None rule size = 0
-kind_ceiling (Some kind) rule size = sort_ceiling kind size rule.caps.limits.headers rule.caps.style.cap.bytes
+kind_ceiling (Some kind) rule size = sort_ceiling kind size rule.caps.limits.headers (style_of rule.caps.style)
 
 -- THE LISTING of a file among many, by its source and the output before and after: what its own bytes tell, whatever came before
 -- it; unread only where a read failed; no more is asked of the source than the bytes that tell what it is and the listing's cost,

@@ -1,13 +1,12 @@
 -- What a lookup reads of the records of versions, and what comparing gives of these, by the records that a listing meets.
-use Rattle.std.proofs.Common.{◌≡◌, ℕ, zero, suc, ◌+◌, Bool, true, false, cond, List, [], ◌∷◌, ◌++◌, append-nil, length, map, filter, Option, None, Some, Result, Ok, Err, refl, sym, ap, ◌∙◌, arith, inl, inr, ◌⊎◌}
+use Rattle.std.proofs.Common.{◌≡◌, ℕ, zero, suc, ◌+◌, Bool, true, false, cond, List, [], ◌∷◌, ◌++◌, append-nil, length, map, filter, Option, None, Some, Result, Ok, Err, refl, sym, ap, ◌∙◌, arith, inl, inr}
 use Rattle.std.proofs.lemmas.List.Elements.{All-nil, All-cons}
 use Rattle.elf_model.specs.Checks.{first_refusal}
 use Rattle.elf_model.specs.Loader.{Compared, Meets, Misses, RecordReading, RecordTable, Refuses, compared_until, compared_with, end_reading, has_record, meetings, one_more, readings, readings_of, stand_after, with_number}
-use Rattle.elf_model.specs.LoaderLaws.{ComparedNumbersAreRecords, ComparingEndsAtTheFirst, EndsReadings, IsComparable, IsRefusedAt, ReadingsAreRecords, StandsAtItsEnd, WalksStandAtRecords, WalksStandAtTheirEnd, is_same, names_wanted, numbers_under, records_in, records_read}
+use Rattle.elf_model.specs.LoaderLaws.{ComparedNumbersAreRecords, ComparingEndsAtTheFirst, EndsReadings, IsComparable, IsRefusedAt, ReadingsAreRecords, StandsAtItsEnd, WalksStandAtRecords, WalksStandAtTheirEnd, names_wanted, numbers_under, records_in, records_read}
 use Rattle.elf_model.specs.Names.{same}
-use Rattle.elf_model.specs.Versions.{Met, Stand, Versions, next_stand, first_stand, met_at, met_from, most_records, name_index, named_at, names_version, no_versions, number_in, number_word, record_checks, versions_in, with_met}
+use Rattle.elf_model.specs.Versions.{Met, Stand, Versions, next_stand, first_stand, met_at, met_from, most_records, name_index, named_at, names_version, number_in, number_word, record_checks, versions_in}
 use Rattle.elf_model.specs.declared.causes.Cause.{Cause}
-use Rattle.elf_model.specs.declared.causes.Cause.TheVariants.{VersionCut}
 use Rattle.elf_model.specs.declared.causes.Refusal.{Refusal}
 use Rattle.elf_model.proofs.VersionSteps.{met-ended, met-most, met-record, met-refused}
 

@@ -1,15 +1,14 @@
 -- The versions behind the names of symbols.
-use Rattle.std.proofs.Common.{◌≡◌, ℕ, zero, suc, ◌==◌, ◌&&◌, nat_lt, not, if◌then◌else◌, Bool, true, false, List, [], ◌∷◌, ◌++◌, Option, None, Some, Result, Ok, Err, refl, sym, ap, ◌∙◌, append-nil}
-use Rattle.std.proofs.lemmas.Bool.{cases_Bool}
+use Rattle.std.proofs.Common.{◌≡◌, ℕ, zero, suc, ◌==◌, ◌&&◌, nat_lt, not, if◌then◌else◌, Bool, true, false, List, [], ◌∷◌, Option, None, Some, Result, Ok, Err, refl, sym, ap, ◌∙◌, append-nil}
 use Rattle.elf_model.specs.Choice.{RowChoice, NoSuffix, Suffix, Suffixed, chooses}
-use Rattle.elf_model.specs.Fields.{LineFront, closing}
+use Rattle.elf_model.specs.Fields.{LineFront}
 use Rattle.elf_model.specs.LineFronts.{relocation_front, symbol_front}
 use Rattle.elf_model.specs.Lines.{line_named, name_member, name_text, named_line}
 use Rattle.elf_model.specs.Listing.{ListingItem, Line, each}
 use Rattle.elf_model.specs.Names.{Shown, shown}
 use Rattle.elf_model.specs.Checks.{first_refusal}
-use Rattle.elf_model.specs.Numbers.{SHN_UNDEF, SHT_GNU_VERDEF, SHT_GNU_VERNEED}
-use Rattle.elf_model.specs.Tables.{SYMBOL_SIZE, all_checks, entry_at, entry_count, has_symbols, linked_at, strings_of}
+use Rattle.elf_model.specs.Numbers.{SHT_GNU_VERDEF, SHT_GNU_VERNEED}
+use Rattle.elf_model.specs.Tables.{all_checks, entry_at, entry_count, has_symbols, linked_at, strings_of}
 use Rattle.elf_model.specs.VersionRows.{symbol_versions, version_named, version_strings}
 use Rattle.elf_model.specs.Versions.{Met, name_index, named_at, number_in}
 use Rattle.elf_model.specs.declared.causes.Cause.TheVariants.{VersionCut, VersionIndex}

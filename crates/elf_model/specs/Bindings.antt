@@ -7,7 +7,7 @@ use Rattle.elf_model.specs.Chains.{Walked}
 use Rattle.elf_model.specs.Checks.{first_refusal}
 use Rattle.elf_model.specs.GnuHash.{gnu_hash, gnu_looked_up}
 use Rattle.elf_model.specs.Hash.{sysv_hash}
-use Rattle.elf_model.specs.Loader.{Asked, NoVersion, Version, Wanted, VersionWords, RecordTable, Symbols, answers, is_among, naming_of, readings, symbol_offset, version_word_at}
+use Rattle.elf_model.specs.Loader.{Asked, NoVersion, Version, Wanted, RecordTable, Symbols, answers, is_among, naming_of, readings, symbol_offset, version_word_at}
 use Rattle.elf_model.specs.LoaderFind.{counts_check, record_cost, wanted_numbers}
 use Rattle.elf_model.specs.LoaderScope.{GnuTable, SysvTable, Scope, scope_of}
 use Rattle.elf_model.specs.Names.{pad64, shown}

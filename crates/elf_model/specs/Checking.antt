@@ -1,5 +1,5 @@
 -- What is told of a file among many: its state, and its line.
-use Rattle.std.specs.Prelude.{[], ◌∷◌, ℕ, ◌≡◌, ◌==◌, ◌&&◌, ◌||◌, nat_lt, not, Bool, true, false, if◌then◌else◌, List, ◌++◌, length, codes, Option, None, Some}
+use Rattle.std.specs.Prelude.{[], ◌∷◌, ℕ, ◌≡◌, ◌&&◌, ◌||◌, nat_lt, not, Bool, true, false, if◌then◌else◌, List, length, codes, Option, None, Some}
 use Rattle.elf_model.specs.Budget.{IsBudgeted}
 use Rattle.elf_model.specs.Causes.{cause_word}
 use Rattle.elf_model.specs.Fields.{Field, Fields, LineFront, closed_line, front}
@@ -8,7 +8,6 @@ use Rattle.elf_model.specs.Lines.{named_line}
 use Rattle.elf_model.specs.Names.Shown.{Whole}
 use Rattle.elf_model.specs.Records.{FILE_HEADER_SIZE, ELF_MAGIC_SIZE, begins_as_elf}
 use Rattle.elf_model.specs.Style.{Style}
-use Rattle.elf_model.specs.Text.{hex, left_in, right_decimal, space, newline}
 use Rattle.elf_model.specs.declared.causes.Cause.{Cause}
 use Rattle.elf_model.specs.declared.causes.Cause.TheVariants.{NotElf}
 use Rattle.elf_model.specs.declared.causes.Refusal.{Refusal}

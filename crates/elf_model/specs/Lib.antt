@@ -2,6 +2,7 @@ pub mod Bytes
 pub mod Records
 pub mod Numbers
 pub mod Names
+pub mod ShownNames
 pub mod Choice
 pub mod Style
 pub mod Searches

@@ -7,7 +7,6 @@ use Rattle.elf_name_lists.specs.declared.NamesFault.{NamesFault}
 use Rattle.elf_name_lists.specs.declared.NamesFault.TheVariants.{Read, TooLarge, BadName, Memory}
 
 module _ (versions : Bool) where
-
   all_first : (name : List ℕ) (names : List (List ℕ)) → All (IsRowName versions) (name ∷ names) → All (IsRowName versions) (name ∷ [])
   all_first name names all = λ k d low. subst (λ n. IsRowName versions (slice_index_or (name ∷ []) n d)) (sym (zero_of k low)) (all 0 d (omega arith))
     where

@@ -41,7 +41,7 @@ pub record IsAheadOf (file : List ℕ) (a : HeldAhead) : Type 0 where
 abbrev pub AgreesWith : Option (List ℕ) → HeldAhead → Type 0
 AgreesWith file a = (bytes : List ℕ) → file ≡ Some bytes → IsAheadOf bytes a
 
--- what is told of the source's file, where that is known and what is held is of it
+-- what holds of the source's file, where that is known and what is held is of it
 abbrev pub WhereAgrees : Option (List ℕ) → HeldAhead → (List ℕ → Type 0) → Type 0
 WhereAgrees file a tells = (bytes : List ℕ) → file ≡ Some bytes → IsAheadOf bytes a → tells bytes
 

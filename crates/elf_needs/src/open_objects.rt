@@ -2,6 +2,7 @@
 use crate::candidates::take_off_bytes;
 use elf_binding::{Object, SoughtSymbol};
 use elf_headers::{Fault, HeaderStore};
+use elf_pages::PagedSource;
 use elf_record::{Cause, Refusal};
 use elf_source::{Counted, Source};
 use elf_table::NameBuf;
@@ -29,38 +30,6 @@ impl<S: Source + Drop> OpenObjects<S> {
             indexes: Vec::with_capacity(alloc, most)?,
             most,
         })
-    }
-
-    /// Keeps the file of the object of an index open, if there is room for it and it has a hash table.
-    /// No more is asked for than what is left of a budget, where there is one; what was asked for is taken
-    /// off.
-    ///
-    /// # Errors
-    /// Those of [`Object::open`] but `NoHash`.
-    pub(crate) fn keep(
-        &mut self,
-        index: u16,
-        source: Counted<S>,
-        store: &mut HeaderStore,
-        left: &mut Option<u64>,
-    ) -> Result<(), Fault> {
-        if self.objects.len() >= self.most {
-            return Ok(());
-        }
-        let mut source = source;
-        let before = source.asked();
-        source.limit(*left);
-        match Object::open(source, store) {
-            Ok(object) => {
-                take_off_bytes(left, object.asked().saturating_sub(before));
-                self.push(index, object);
-                Ok(())
-            }
-            Err((source, fault)) => {
-                take_off_bytes(left, source.asked().saturating_sub(before));
-                unless_no_hash(fault)
-            }
-        }
     }
 
     /// Puts an object behind the others.
@@ -151,6 +120,42 @@ impl<S: Source + Drop> OpenObjects<S> {
         match self.objects.get_mut(place) {
             Some(object) => object.sought(left, symbol, name, version),
             None => Ok(None),
+        }
+    }
+}
+
+impl<S: Source + Drop> OpenObjects<PagedSource<S>> {
+    /// Keeps the file of the object of an index open, if there is room for it and it has a hash table.
+    /// No more is asked for than what is left of a budget, where there is one; what was asked for is taken
+    /// off. Without a budget whole pages of it are read.
+    ///
+    /// # Errors
+    /// Those of [`Object::open`] but `NoHash`.
+    pub(crate) fn keep(
+        &mut self,
+        index: u16,
+        source: S,
+        store: &mut HeaderStore,
+        left: &mut Option<u64>,
+    ) -> Result<(), Fault> {
+        if self.objects.len() >= self.most {
+            return Ok(());
+        }
+        let keeps = left.is_none();
+        let mut source = Counted::new(PagedSource::new(source, keeps));
+        source.limit(*left);
+        match Object::open(source, store) {
+            Ok(object) => {
+                let mut object = object;
+                take_off_bytes(left, object.asked());
+                object.prepare(left);
+                self.push(index, object);
+                Ok(())
+            }
+            Err((source, fault)) => {
+                take_off_bytes(left, source.asked());
+                unless_no_hash(fault)
+            }
         }
     }
 }

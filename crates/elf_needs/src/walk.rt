@@ -9,13 +9,17 @@ use crate::states::ObjectState;
 use elf_headers::{Fault, HeaderStore};
 use elf_links::{FileLinks, Need, machine_of, read_links};
 use elf_model::Format;
+use elf_pages::PagedSource;
 use elf_search::TriedPath;
 use elf_source::{Counted, OffsetReader, Out, OutFault, Sink, Source, StreamSource};
 use std::os::unix::fs::FileExt;
 use std::rt::Files;
 
 /// Objects whose files are kept open, files of the system.
-pub type OpenFiles<F> = OpenObjects<StreamSource<OffsetReader<F>>>;
+pub type OpenFiles<F> = OpenObjects<KeptSource<F>>;
+
+/// The source of a file of the system that is kept open, with some of its pages.
+type KeptSource<F> = PagedSource<StreamSource<OffsetReader<F>>>;
 
 /// Why a walk came to no end.
 #[derive(Clone, Copy)]
@@ -136,7 +140,7 @@ impl<W: Sink> ObjectWalk<'_, '_, W> {
         source: Counted<S>,
         path: &[u8],
         real: &[u8],
-        opened: &mut OpenObjects<S>,
+        opened: &mut OpenObjects<PagedSource<S>>,
     ) -> Result<(), NeedsFault> {
         let mut source = source;
         source.limit(self.search.left);
@@ -225,7 +229,7 @@ impl<W: Sink> ObjectWalk<'_, '_, W> {
         by: Option<u16>,
         name: u32,
         source: Counted<S>,
-        opened: &mut OpenObjects<S>,
+        opened: &mut OpenObjects<PagedSource<S>>,
     ) -> Result<(), NeedsFault> {
         let mut source = source;
         let told = self.read(&mut source)?;
@@ -270,7 +274,7 @@ impl<W: Sink> ObjectWalk<'_, '_, W> {
         &mut self,
         source: Counted<S>,
         told: Told,
-        opened: &mut OpenObjects<S>,
+        opened: &mut OpenObjects<PagedSource<S>>,
     ) -> Result<Told, NeedsFault> {
         let Ok(index) = u16::try_from(self.objects.len()) else {
             return Ok(told);
@@ -278,7 +282,12 @@ impl<W: Sink> ObjectWalk<'_, '_, W> {
         if !matches!(told.state, ObjectState::Found) {
             return Ok(told);
         }
-        match opened.keep(index, source, &mut self.store, &mut self.search.left) {
+        match opened.keep(
+            index,
+            source.into_inner(),
+            &mut self.store,
+            &mut self.search.left,
+        ) {
             Ok(()) => Ok(told),
             Err(Fault::Refused(refusal)) => Ok(Told {
                 state: ObjectState::Refused(refusal),

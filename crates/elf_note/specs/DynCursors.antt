@@ -77,7 +77,7 @@ first_value None other = other
 abbrev pub value_here : List ℕ → ℕ → ℕ → Option ℕ
 value_here file at tag = elim (d_tag file at == tag) [ true ↦ Some (d_un file at) | false ↦ None ]
 
--- the values that tell where a string table is, of the entries of a table that are listed
+-- the values that locate a string table, of the entries of a table that are listed
 pub record AreStrings (file : List ℕ) (table : Rows) (found : DynStrings) : Type 0 where
   pub its_address : found.address ≡ listed_value file table.at table.count DT_STRTAB
   pub its_size : found.size ≡ listed_value file table.at table.count DT_STRSZ

@@ -28,7 +28,7 @@ pub record NoteReading : Type 0 where
   pub descriptor : List ℕ
   pub failed : Option Fault
 
--- a cursor before the first note of a table, whose header tells an alignment
+-- a cursor before the first note of a table, of the alignment that its header has
 pub record StartsNotes (table : Rows) (align : ℕ) (c : NoteReading) : Type 0 where
   pub its_table : c.table ≡ table
   pub its_align : c.align ≡ note_align align
@@ -112,20 +112,20 @@ TakesNoteBytes a old new (Some found) = TakesItsBytes a old new found
 TakesNoteBytes a old new None = Unit {0}
 
 -- the same of a step of a cursor
-abbrev pub PassesOverNote : NoteReading → NoteReading → Result Bool Fault → Type 0
+abbrev PassesOverNote : NoteReading → NoteReading → Result Bool Fault → Type 0
 PassesOverNote old new (Ok true) = TakesItsBytes old.align old.ahead new.ahead new.found
 PassesOverNote old new (Ok false) = Unit {0}
 PassesOverNote old new (Err fault) = Unit {0}
 
 -- where a step leaves a cursor: behind a note, at the end, or failed
-abbrev pub LeavesNote : NoteReading → NoteReading → Result Bool Fault → Type 0
+abbrev LeavesNote : NoteReading → NoteReading → Result Bool Fault → Type 0
 LeavesNote old new (Ok true) = (old.failed ≡ None) × (new.failed ≡ None) × (bytes_left new.ahead + 12 ≤ bytes_left old.ahead)
 LeavesNote old new (Ok false) = (old.failed ≡ None) × (new.failed ≡ None) × (bytes_left new.ahead ≡ 0)
 LeavesNote old new (Err fault) = (new.failed ≡ Some fault) × (old.failed ≡ None → StopsNote old.ahead.at fault)
 
 -- what a step of a cursor says of a file's notes: those that were left are the one that it shows now and those that are
 -- left; or none; or they are cut here
-abbrev pub StepTells : List ℕ → ℕ → NoteReading → NoteReading → List ℕ → Result Bool Fault → Type 0
+abbrev StepTells : List ℕ → ℕ → NoteReading → NoteReading → List ℕ → Result Bool Fault → Type 0
 StepTells file cap old new name (Ok true) =
     GivesNote file old.align cap old.ahead.at name new.descriptor (notes_left old.align file old.ahead) (notes_left old.align file new.ahead) new.found
 StepTells file cap old new name (Ok false) = notes_left old.align file old.ahead ≡ no_notes

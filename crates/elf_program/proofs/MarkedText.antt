@@ -1,5 +1,5 @@
 -- A text that is told beside another, byte by byte.
-use Rattle.std.proofs.Common.{◌≡◌, ◌≢◌, ℕ, ◌+◌, ◌<◌, ◌≤◌, ◌==◌, ◌&&◌, true, false, inl, inr, codes, List, [], ◌∷◌, ◌++◌, length, drop, get_or, refl, subst, arith}
+use Rattle.std.proofs.Common.{◌≡◌, ◌≢◌, ℕ, ◌+◌, ◌<◌, ◌≤◌, ◌==◌, true, false, inl, inr, codes, List, [], ◌∷◌, ◌++◌, length, drop, get_or, refl, subst, arith}
 use Rattle.std.proofs.Common.{append-nil, add-one, drop-cons}
 use Rattle.std.proofs.lemmas.List.{drop_all}
 use Rattle.std.proofs.lemmas.Bool.{cases_Bool}

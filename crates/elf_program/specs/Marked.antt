@@ -1,4 +1,4 @@
--- What is told of words, in which a newline of a word is spelt, and one between lines stands as it is.
+-- What is said of wrong words, in which a newline of a word is spelt, and one between lines stands as it is.
 use Rattle.std.specs.Prelude.{ℕ, ◌==◌, ◌&&◌, if◌then◌else◌, List, [], ◌∷◌, ◌++◌, length}
 use Rattle.elf_model.specs.Text.{newline}
 use Rattle.elf_model.specs.Lines.{name_byte_text}

@@ -1,7 +1,7 @@
 -- The version of the program.
 use Rattle.std.specs.Prelude.{ℕ, ◌≡◌, ◌⊎◌, List, ◌++◌, ◌∷◌, [], codes}
 
--- the line that tells it: the program's name, and three numbers
+-- its line: the program's name, and three numbers
 abbrev pub version_line : List ℕ
 version_line = codes "elfsee 0.1.0" ++ (10 ∷ [])
 

@@ -9,11 +9,11 @@ use std::process::ExitCode;
 /// An exit status, and a line for standard error, which is empty where there is nothing to say.
 pub type Ending = (u8, &'static str);
 
-/// The words ask for nothing that there is, or for help: what is told about that stands before.
+/// The words ask for nothing that there is, or for help: what is said about that stands before.
 pub const BAD_WORDS: Ending = (2, "");
 
 /// The words are no text.
-pub const NOT_UTF8: Ending = (2, "elfsee: words are not UTF-8");
+pub(crate) const NOT_UTF8: Ending = (2, "elfsee: words are not UTF-8");
 
 /// There was no memory.
 pub const OUT_OF_MEMORY: Ending = (3, "elfsee: out of memory");
@@ -25,7 +25,7 @@ pub const CANNOT_OPEN: Ending = (3, "elfsee: cannot open");
 pub const READ_FAULT: Ending = (3, "elfsee: read fault");
 
 /// The output can't be written.
-pub const WRITE_FAULT: Ending = (3, "elfsee: write fault");
+pub(crate) const WRITE_FAULT: Ending = (3, "elfsee: write fault");
 
 /// The exit status of a run, which is 1 for a refusal, and its line on standard error, which is empty
 /// for a status of 0 or 1.
@@ -42,7 +42,7 @@ pub fn outcome(answer: &Result<u8, Stop>) -> Ending
 }
 
 /// Tells the line of an ending on standard error, if it has one, and answers its exit status. Where
-/// standard error can't be written either, the status alone tells.
+/// standard error can't be written either, the status alone says so.
 pub fn exit<R: Eprint>(rt: &R, ending: Result<Ending, Ending>) -> ExitCode
     ensures ok { IfOk ending.entry (λ ending. status_of result ≡ ending.0) }
     ensures err { IfErr ending.entry (λ ending. status_of result ≡ ending.0) }

@@ -11,7 +11,7 @@ use std::rt::Files;
 /// sockets are not opened, so that opening never waits.
 ///
 /// # Errors
-/// How the program ends where there is no such file, or where its size can't be told.
+/// How the program ends where there is no such file, or where its size can't be found.
 pub fn open<R: Files>(rt: &R, path: &str) -> Result<StreamSource<OffsetReader<R::File>>, Ending>
 where
     R::File: FileExt,

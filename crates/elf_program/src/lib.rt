@@ -7,10 +7,8 @@ mod outputs;
 mod version;
 mod words;
 
-pub use endings::{
-    BAD_WORDS, CANNOT_OPEN, Ending, NOT_UTF8, OUT_OF_MEMORY, READ_FAULT, WRITE_FAULT, exit, outcome,
-};
+pub use endings::{BAD_WORDS, CANNOT_OPEN, Ending, OUT_OF_MEMORY, READ_FAULT, exit, outcome};
 pub use files::open;
 pub use outputs::{ERROR_LINE_BYTES, Ended, OUTPUT_BYTES, end_answer, end_run, write_rest};
-pub use version::{tell_version, write_version};
+pub use version::tell_version;
 pub use words::{read_words, tell_words};

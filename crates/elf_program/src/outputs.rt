@@ -11,7 +11,7 @@ use std::io::{BufWriter, Write};
 /// How many bytes of output are kept before they are written.
 pub const OUTPUT_BYTES: usize = 65_536;
 
-/// How many bytes of what is told on standard error are kept before they are written.
+/// How many bytes for standard error are kept before they are written.
 pub const ERROR_LINE_BYTES: usize = 4_096;
 
 /// How a run ended, before what is left of its output is written.
@@ -19,7 +19,7 @@ pub const ERROR_LINE_BYTES: usize = 4_096;
 pub enum Ended {
     /// With this exit status.
     Status(u8),
-    /// By a fault that is told whatever becomes of the output.
+    /// By a fault that is reported whatever becomes of the output.
     Told(Ending),
     /// By a fault of the output.
     Unwritten,
@@ -46,8 +46,8 @@ pub fn end_answer<W: Write + Drop>(
     (ending, rest)
 }
 
-/// The same where a run tells faults of its own: a status stands unless the sink that comes back has
-/// failed, and a fault that is told is told all the same.
+/// The same where a run reports faults of its own: a status stands unless the sink that comes back has
+/// failed, and a fault of the run's own is reported all the same.
 pub fn end_run<W: Write + Drop>(ended: Ended, output: BufWriter<W>) -> (Ending, WriteSink<W>)
     ensures ends { EndsRun ended result.1.failed result.0.0 result.0.1.now }
     ensures rest { PutsRest (wants_rest_of ended) result.1.failed (writer_buffer output)

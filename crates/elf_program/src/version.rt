@@ -8,10 +8,10 @@ use elf_headers::Stop;
 use elf_source::{Out, OutFault, Sink, WriteSink};
 use std::io::{self, BufWriter, Write};
 
-/// The line that tells the version: the program's name and three numbers.
+/// The line of the version: the program's name and three numbers.
 const VERSION: &str = "elfsee 0.1.0\n";
 
-/// Makes what memory is needed, and writes the line that tells the version to standard output.
+/// Makes what memory is needed, and writes the line of the version to standard output.
 ///
 /// # Errors
 /// There is no memory; nothing is written then.
@@ -22,7 +22,7 @@ pub fn tell_version<R: Print + AllocGlobal>(rt: &R) -> Result<Ending, Ending> {
     }
 }
 
-/// Writes the line that tells the version, and what is left of the output.
+/// Writes the line of the version, and what is left of the output.
 fn version_into<W: Write + Drop>(output: BufWriter<W>) -> Ending
     ensures { VersionEnds result.0 result.1.now }
 {
@@ -35,11 +35,11 @@ fn version_into<W: Write + Drop>(output: BufWriter<W>) -> Ending
     ending
 }
 
-/// Writes the line that tells the version.
+/// Writes the line of the version.
 ///
 /// # Errors
 /// The output takes no more: it took a front of the line.
-pub fn write_version<W: Sink>(out: &mut Out<W>) -> Result<(), OutFault>
+pub(crate) fn write_version<W: Sink>(out: &mut Out<W>) -> Result<(), OutFault>
     ensures { Puts out.old out.new result version_line }
 {
     out.put(VERSION.as_bytes())

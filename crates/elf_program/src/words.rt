@@ -1,4 +1,4 @@
-//! The words of a program, and what is told of them.
+//! The words of a program, and what is said of wrong ones.
 ghost use Rattle.std.specs.Prelude.{◌≡◌, ◌≢◌, ◌⊎◌, All, IfErr, IfOk, [], codes, string_bytes};
 ghost use Rattle.elf_source.specs.Output.{Puts};
 ghost use Rattle.elf_program.specs.Marked.{byte_beside, told_beside};
@@ -37,7 +37,7 @@ pub fn read_words<R: Env + AllocGlobal>(rt: &R) -> Result<Vec<String>, Ending>
 }
 
 /// Writes what is wrong with words, or help, with each byte of a word spelt so that no terminal acts on
-/// it, and answers how the program ends. Where it can't be written, the status alone tells.
+/// it, and answers how the program ends. Where it can't be written, the status alone says so.
 pub fn tell_words(alloc: Global, told: &clap::Error, words: &[String], errors: Stderr) -> Ending
     ensures { ((result.0 ≡ 2) × (result.1.now ≡ []))
         ⊎ ((result.0 ≡ 3) × (result.1.now ≡ codes "elfsee: out of memory")) }
@@ -48,7 +48,7 @@ pub fn tell_words(alloc: Global, told: &clap::Error, words: &[String], errors: S
     }
 }
 
-/// Writes what is wrong with words, or help. Where it can't be written, nothing is told.
+/// Writes what is wrong with words, or help. Where it can't be written, nothing is said.
 ///
 /// # Errors
 /// There is no memory for the text; nothing is written then.

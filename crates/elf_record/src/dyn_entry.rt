@@ -7,7 +7,7 @@ use arrayvec::ArrayVec;
 /// A dynamic entry of an ELF64 file, 16 bytes (gABI 5, Dynamic Section).
 #[derive(Clone, Copy)]
 pub struct Dyn {
-    /// What the entry tells, at 0, in two's complement.
+    /// What the entry is of, at 0, in two's complement.
     pub d_tag: i64,
     /// The entry's value or its virtual address, at 8. The tag decides which.
     pub d_un: u64,

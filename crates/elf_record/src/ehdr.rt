@@ -100,7 +100,7 @@ impl Ehdr {
         }
     }
 
-    /// The same file header, which tells of no section headers: e_shoff, e_shnum and e_shstrndx
+    /// The same file header, which locates no section headers: e_shoff, e_shnum and e_shstrndx
     /// are 0.
     pub fn without_sections(&self) -> Ehdr
         ensures { (file : List ℕ) → IsEhdr file 0 self.now →

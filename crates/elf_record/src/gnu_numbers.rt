@@ -1,4 +1,4 @@
-//! The numbers of the GNU system, and further numbers of the standards, that a listing names where it is told so.
+//! The numbers of the GNU system, and further numbers of the standards, that a listing names where it is asked to.
 
 /// The section type of relative relocation entries (generic ABI, Section Types).
 pub const SHT_RELR: u32 = 19;
@@ -39,7 +39,7 @@ pub const PT_GNU_SFRAME: u32 = 0x6474_e554;
 
 /// The binding of a symbol that is one for the whole process.
 pub const STB_GNU_UNIQUE: u8 = 10;
-/// The type of a symbol whose function tells the address to use.
+/// The type of a symbol whose function computes the address to use.
 pub const STT_GNU_IFUNC: u8 = 10;
 /// The place of a large common symbol (x86-64 psABI, Special Sections).
 pub const SHN_X86_64_LCOMMON: u16 = 0xff02;
@@ -92,7 +92,7 @@ pub const R_X86_64_GOTPC32_TLSDESC: u32 = 34;
 pub const R_X86_64_TLSDESC_CALL: u32 = 35;
 /// The relocation type of x86-64 for a thread-local descriptor.
 pub const R_X86_64_TLSDESC: u32 = 36;
-/// The relocation type of x86-64 for what a function at a relative address tells.
+/// The relocation type of x86-64 for what a function at a relative address computes.
 pub const R_X86_64_IRELATIVE: u32 = 37;
 /// The relocation type of x86-64 for a relative address, eight bytes.
 pub const R_X86_64_RELATIVE64: u32 = 38;

@@ -24,7 +24,7 @@ WroteAnswer old new (Err (Source fault at)) answer = TakesFront old new answer.t
 WroteAnswer old new (Err (Out fault)) answer = TakesFront old new answer.text
 
 -- fewer than 4,096 bytes of a budget are left
-abbrev pub IsUsedUp : Option ℕ → Counting → Counting → Type 0
+abbrev IsUsedUp : Option ℕ → Counting → Counting → Type 0
 IsUsedUp budget before after = (bytes : ℕ) × (budget ≡ Some bytes) × (before.asked + bytes < after.asked + 4096)
 
 -- an answer that was given is the whole one; or, where its refusal is for want of budget, that is used up, and the refusal

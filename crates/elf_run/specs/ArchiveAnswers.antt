@@ -2,7 +2,7 @@
 use Rattle.std.specs.Prelude.{ℕ, ◌==◌, Bool, Result, Ok, Err}
 use Rattle.elf_headers.specs.declared.stop.Stop.{Stop}
 
--- a status tells whether the listing of a member was refused
+-- a status says whether the listing of a member was refused
 abbrev pub refused_by : Result ℕ Stop → Result Bool Stop
 refused_by (Ok status) = Ok (status == 1)
 refused_by (Err stop) = Err stop

@@ -31,15 +31,14 @@ pub fn archive_status(listed: Result<bool, Stop>) -> Result<u8, Stop>
     ensures status { IfOk result (λ status. status ≤ 1) }
     ensures refused { refused_by result ≡ listed }
 {
-    match listed {
-        Ok(true) => Ok(1),
-        Ok(false) => Ok(0),
-        Err(stop) => Err(stop),
+    if listed? {
+        return Ok(1);
     }
+    Ok(0)
 }
 
 /// The exit status for words that are no request, and the line on standard error, which is empty for
-/// `Words`: what is told then is in the fault.
+/// `Words`: what is said then is in the fault.
 pub fn refused(fault: &RequestFault) -> Ending
     ensures status { result.0 ≡ refused_status fault.now }
     ensures line { result.1.now ≡ refused_line fault.now }

@@ -1,4 +1,4 @@
--- The first of dynamic entries with each of the tags that tell of a lookup's tables.
+-- The first of dynamic entries with each of the tags that locate a lookup's tables.
 use Rattle.std.specs.Prelude.{ℕ, zero, suc, ◌≡◌, ◌+◌, ◌==◌, true, false, List, Option, None, Some, option_map}
 use Rattle.elf_model.specs.Dynamic.{dynamic_count}
 use Rattle.elf_model.specs.LoaderScope.{tagged_row}

@@ -1,4 +1,4 @@
--- What a lookup is made in, in a file, and what asking for it costs.
+-- The tables that a lookup searches in a file, and what finding them costs.
 use Rattle.std.specs.Prelude.{ℕ, ◌+◌, ◌*◌, ◌==◌, true, false, List, None, Some, Result}
 use Rattle.elf_model.specs.Checks.{first_refusal, before_headers}
 use Rattle.elf_model.specs.Cost.{cost_where}
@@ -13,7 +13,7 @@ use Rattle.elf_headers.specs.declared.fault.Fault.{Fault}
 use Rattle.elf_scope.specs.Scopes.{IsScopeFound}
 use Rattle.elf_scope.specs.declared.scope.Scope.{Scope}
 
--- what a lookup is made in, in a file whose load checks pass
+-- the tables that a lookup searches in a file whose load checks pass
 abbrev pub scope_loaded : List ℕ → Result IsScopeOf Refusal
 scope_loaded file = elim (e_shnum file == 0) [ true ↦ scope_by_segments file | false ↦ scope_by_sections file ]
 
@@ -24,7 +24,7 @@ scope_cost file headers = elim (first_refusal (before_headers file headers)) [
   | None ↦ FILE_HEADER_SIZE + SECTION_HEADER_SIZE * e_shnum file + segments_asked file
 ]
 
--- WHAT A FILE TELLS of what a lookup is made in, where it is known
+-- THE TABLES THAT A LOOKUP SEARCHES in a file, where it is known
 pub record FindsScope (file : List ℕ) (headers : ℕ) (old new : Counting) (result : Result Scope Fault) : Type 0 where
   pub costs : Charges old new (why_stopped result) (scope_cost file headers)
   pub finds : IsScopeFound file (scope_of file headers) result

@@ -17,7 +17,7 @@ pub record HasHeader (index count size : ℕ) : Type 0 where
   pub small : size < 2 ^ 63
 
 -- WHAT IS FOUND by the headers of a loaded file: it lies within the file, or a check refuses; and where the file's bytes are
--- known, what that tells of them
+-- known, what this says of them
 pub record FindsIn {X : Type 0} (Of : List ℕ → Opened → Stored → Type 0) (loaded : Opened) (store : Stored) (result : Result X Fault) (Lies : ℕ → X → Type 0) (Tells : List ℕ → Type 0) : Type 0 where
   pub held : (bytes : List ℕ) → Of bytes loaded store → Tells bytes
   pub within : IfOk result (Lies loaded.size)

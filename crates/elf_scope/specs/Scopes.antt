@@ -1,4 +1,4 @@
--- What a lookup is made in, of a file, and where it lies.
+-- The tables that a lookup searches in a file, and where they lie.
 use Rattle.std.specs.Prelude.{ℕ, ◌≡◌, ◌+◌, ◌≤◌, List, Result, Ok, Err}
 use Rattle.elf_model.specs.Budget.{IsBudget}
 use Rattle.elf_model.specs.LoaderScope.{Scope as IsScopeOf}
@@ -10,7 +10,7 @@ use Rattle.elf_hash.specs.Kinds.{hash_kind_of}
 use Rattle.elf_scope.specs.Symbols.{IsSymbols, SymbolsLie}
 use Rattle.elf_scope.specs.declared.scope.Scope.{Scope}
 
--- WHAT A LOOKUP IS MADE IN is what the definitions tell, and the machine is the file's
+-- THE TABLES THAT A LOOKUP SEARCHES are those of the definitions, and the machine is the file's
 pub record IsScope (file : List ℕ) (told : IsScopeOf) (scope : Scope) : Type 0 where
   pub machine : scope.machine ≡ e_machine file
   pub kind : hash_kind_of scope.hash.kind ≡ told.kind

@@ -1,4 +1,4 @@
--- What a lookup is made in by the dynamic entries of a segment, stage by stage.
+-- The tables that a lookup searches, by the dynamic entries of a segment, stage by stage.
 use Rattle.std.specs.Prelude.{ℕ, ◌≡◌, ◌||◌, true, is_none, List, [], ◌++◌, Option, None, Some, Result, Ok, Err, IfOk}
 use Rattle.elf_model.specs.Checks.{Check, first_refusal, pass}
 use Rattle.elf_model.specs.Cost.{cost_where}
@@ -24,17 +24,17 @@ use Rattle.elf_hash.specs.declared.kind.HashKind.{HashKind}
 use Rattle.elf_scope.specs.declared.scope.Scope.{Scope}
 use Rattle.elf_scope.specs.declared.symbols.Symbols.{Symbols}
 
--- the entry that tells of the hash table, and the kind of that
+-- the entry that locates the hash table, and the kind of that
 abbrev pub TellsHash : List ℕ → ℕ → Option (HashKind × Entry) → Type 0
 TellsHash file at None = hash_row file at ≡ None
 TellsHash file at (Some found) = (hash_row file at ≡ Some (hash_kind_of found.0, found.1.at)) × (d_un file found.1.at ≡ found.1.value)
 
--- the entries that tell of symbols and their strings, if none is missing
+-- the entries that locate symbols and their strings, if none is missing
 abbrev pub TellSymbols : TaggedEntries → Option (Entry × Entry × Entry) → Type 0
 TellSymbols found None = (is_none found.symtab || is_none found.strtab || is_none found.strsz) ≡ true
 TellSymbols found (Some told) = (found.symtab ≡ Some told.0) × (found.strtab ≡ Some told.1) × (found.strsz ≡ Some told.2)
 
--- the checks of the entries that tell of versions
+-- the checks of the entries that locate versions
 abbrev pub version_rows : List ℕ → ℕ → List Check
 version_rows file at =
     checks_of_row (words_row file at) (λ row.
@@ -57,7 +57,7 @@ pub record AreRowsSymbols (file : List ℕ) (index at : ℕ) (found : Symbols) :
     records = records_with (segment_words file index at) (rows_records file at);
   }) found
 
--- what a lookup is made in by the entries of a segment
+-- the tables that a lookup searches, by the entries of a segment
 abbrev pub scope_by_entries : List ℕ → (index at : ℕ) → Result IsScopeOf Refusal
 scope_by_entries file index at = elim (hash_row file at) [
   | None ↦ Err (record { at = 0x20; cause = NoHash })
@@ -76,7 +76,7 @@ entries_asked file = elim (dynamic_segment_index file) [
       cost_where (pass (segment_dynamic_checks file at)) (p_filesz file at)
 ]
 
--- WHAT THE PROGRAM HEADERS TELL: what a lookup is made in, which lies within the file, by no more bytes than the file has;
+-- WHAT THE PROGRAM HEADERS SAY: the tables that a lookup searches, which lie within the file, by no more bytes than it has;
 -- where the file is known within the bytes of the dynamic entries, and as the definitions find it
 pub record FindsSegments (view : SegmentView) (told : List ℕ → Result IsScopeOf Refusal) (old new : Counting) (result : Result Scope Fault) : Type 0 where
   pub did : Did old new (why_stopped result) old.seen.size (λ bytes.

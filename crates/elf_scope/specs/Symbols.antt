@@ -40,7 +40,7 @@ AreRecordTables file (told ∷ others) (table ∷ tables) = IsRecordTable file t
 AreRecordTables file [] (table ∷ tables) = ⊥
 AreRecordTables file (told ∷ others) [] = ⊥
 
--- WHAT A LOADER KNOWS OF THE SYMBOLS of a file is what the definitions tell; the strings of no symbol are not looked at
+-- WHAT A LOADER KNOWS OF THE SYMBOLS of a file is what the definitions say; the strings of no symbol are not looked at
 pub record IsSymbols (file : List ℕ) (told : AreSymbolsOf) (symbols : Symbols) : Type 0 where
   pub index : symbols.index ≡ told.index
   pub place : symbols.table.at ≡ told.place

@@ -25,13 +25,13 @@ abbrev pub records_at : List ℕ → VersionKind → ℕ → IsTableOf
 records_at file kind at =
     record { kind = kind; head = at; place = sh_offset file at; size = sh_size file at; strings = strings_of file at }
 
--- tables in front of others are what is told in front of others
+-- tables in front of others are what is known in front of others
 abbrev pub AreInFront : List ℕ → (List IsTableOf → List IsTableOf) → Option RecordTable → Type 0
 AreInFront file told found =
     (others : List IsTableOf) (tables : List RecordTable) → AreRecordTables file others tables
     → AreRecordTables file (told others) (table_if_any found ++ tables)
 
--- the tables of versions are those that are told
+-- the tables of versions are those that are known
 pub record AreVersions (file : List ℕ) (told : Option IsWordsOf) (told_records : List IsTableOf) (versions : VersionTables) : Type 0 where
   pub words : AreWords told versions.words
   pub records : AreRecordTables file (records_with told told_records) (table_if_any versions.definitions ++ table_if_any versions.needs)

@@ -1,4 +1,4 @@
-//! What a lookup is made in, by the section headers.
+//! The tables that a lookup searches, by the section headers.
 ghost use Rattle.std.specs.Prelude.{◌≡◌, ◌<◌, ◌^◌, ℕ, List, IfSome};
 ghost use Rattle.std.specs.Option.{option_map};
 ghost use Rattle.elf_model.specs.LoaderScope.{hash_section, scope_by_sections, section_checks, section_scope};
@@ -20,7 +20,7 @@ use elf_record::gnu_numbers::SHT_GNU_HASH;
 use elf_record::numbers::SHT_HASH;
 use elf_table::File;
 
-/// What a lookup is made in by the section headers. No bytes are read.
+/// The tables that a lookup searches, by the section headers. No bytes are read.
 ///
 /// # Errors
 /// The first that fails: `NoHash` at 0x28 where there is no section with a hash table; the checks of
@@ -52,7 +52,7 @@ fn hash_section(file: &File<'_>) -> Option<(HashKind, u16)>
     Some((HashKind::Sysv, section))
 }
 
-/// What a lookup is made in by a section with a hash table.
+/// The tables that a lookup searches, by a section with a hash table.
 ///
 /// # Errors
 /// The first check that fails: those of [`File::hashed`], then of the tables of versions.

@@ -1,4 +1,4 @@
-//! What a lookup is made in, by the program headers.
+//! The tables that a lookup searches, by the program headers.
 ghost use Rattle.std.specs.Prelude.{◌≡◌, ◌<◌, ◌^◌, ℕ, List};
 ghost use Rattle.elf_model.specs.LoaderScope.{scope_by_segments, scope_in_segments, has_wide_kind, segment_checks, segment_scope};
 ghost use Rattle.elf_model.specs.Records.{d_un, segment_at};
@@ -21,12 +21,12 @@ use elf_record::numbers::{EM_ALPHA, PT_DYNAMIC};
 use elf_source::{Counted, Source};
 use elf_table::SegmentView;
 
-/// What a lookup is made in by the program headers: by the dynamic entries of the first segment of
-/// such, which are read, each byte at most once.
+/// The tables that a lookup searches by the program headers: by the dynamic entries of the first
+/// segment of such, which are read, each byte at most once.
 ///
 /// # Errors
 /// The first that fails: the check of [`SegmentView::check_overlaps`]; `NoHash` at 0x20 where there is
-/// no such segment, and where none of its entries tells of a hash table; before the latter the checks
+/// no such segment, and where none of its entries locates a hash table; before the latter the checks
 /// of [`SegmentView::dynamic`]; then those of the entries. Else a fault of a read, or a refusal for
 /// want of budget, at an entry's offset.
 pub fn find_in_segments<S: Source>(
@@ -53,7 +53,7 @@ fn in_segments<S: Source>(src: &mut Counted<S>, view: &SegmentView<'_>) -> Resul
     by_entries(view, segment, &found)
 }
 
-/// What a lookup is made in by the entries of a segment.
+/// The tables that a lookup searches, by the entries of a segment.
 fn by_entries(view: &SegmentView<'_>, segment: u16, found: &TaggedEntries) -> Result<Scope, Fault>
     requires { HasHeader segment view.now.store.now.segments view.now.loaded.size }
     ensures { FindsIn Views view.now.loaded view.now.store.now result ScopeLies (λ bytes.
@@ -66,7 +66,7 @@ fn by_entries(view: &SegmentView<'_>, segment: u16, found: &TaggedEntries) -> Re
     segment_scope(view, segment, found, kind, &row)
 }
 
-/// The entry that tells of a hash table: of the GNU system's, else of the gABI's.
+/// The entry that locates a hash table: of the GNU system's, else of the gABI's.
 fn hash_entry(found: &TaggedEntries) -> Option<(HashKind, Entry)>
     ensures { (bytes : List ℕ) (at : ℕ) → AreTaggedEntries bytes at found.now →
         TellsHash bytes at result }
@@ -80,7 +80,7 @@ fn hash_entry(found: &TaggedEntries) -> Option<(HashKind, Entry)>
     Some((HashKind::Sysv, row))
 }
 
-/// What a lookup is made in by the entry that tells of the hash table, and the others.
+/// The tables that a lookup searches, by the entry that locates the hash table and the others.
 ///
 /// # Errors
 /// The first that fails: those of [`SegmentView::rest`] for the hash table; `HashShape` at its entry
@@ -121,7 +121,7 @@ fn segment_scope(
 }
 
 /// Whether the words of a hash table have 8 bytes: in files of Alpha those of the gABI's have. No
-/// entry tells of another size.
+/// entry has their size.
 fn has_wide_words(view: &SegmentView<'_>, kind: HashKind) -> bool
     ensures { (bytes : List ℕ) → Views bytes view.now.loaded view.now.store.now →
         result ≡ has_wide_kind bytes (hash_kind_of kind) }

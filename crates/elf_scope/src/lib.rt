@@ -1,6 +1,6 @@
-//! What a loader of the GNU system looks a name up in, in one file: the hash table, the symbols with
-//! their names, and the tables of their versions, by the section headers or where a file has none by
-//! the program headers. No call takes memory.
+//! The tables that a loader of the GNU system searches for a name in one file: the hash table, the
+//! symbols with their names, and the tables of their versions, by the section headers or where a file
+//! has none by the program headers. No call takes memory.
 #![tactic(auto)]
 
 mod by_sections;

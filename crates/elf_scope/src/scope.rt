@@ -1,8 +1,8 @@
-//! What a lookup is made in.
+//! The tables that a lookup searches.
 use crate::symbols::Symbols;
 use elf_hash::HashPlace;
 
-/// What a lookup is made in: a hash table, and the symbols that it is of. It holds no bytes.
+/// The tables that a lookup searches: a hash table, and the symbols that it is of. It holds no bytes.
 #[derive(Clone, Copy)]
 pub struct Scope {
     /// The machine of the file (gABI 4, ELF Header), by which some numbers of symbols have names.

@@ -1,4 +1,4 @@
-//! What a lookup is made in.
+//! The tables that a lookup searches, found by the headers of a file.
 ghost use Rattle.std.specs.Prelude.{◌≡◌, ◌+◌, ◌*◌, ◌<◌, ◌≤◌, ◌^◌, ℕ, List, IfOk};
 ghost use Rattle.elf_model.specs.LoaderFind.{segments_asked};
 ghost use Rattle.elf_headers.specs.Ledger.{Charges, Did, why_stopped};
@@ -14,7 +14,7 @@ use elf_headers::{Fault, HeaderStore, Loaded, header, load};
 use elf_source::{Counted, Source};
 use elf_table::{File, SegmentView};
 
-/// What a lookup of a loader of the GNU system is made in, in one file (gABI 5, Dynamic Linking;
+/// The tables that a loader of the GNU system searches in one file (gABI 5, Dynamic Linking;
 /// Linux Standard Base Core, Symbol Versioning). By the section headers: the hash table of the first
 /// section of the GNU system's type, else of the first HASH section, with the symbols that it links
 /// to, and the first sections of the words, the definitions and the needs of versions. Where a file
@@ -28,7 +28,7 @@ use elf_table::{File, SegmentView};
 /// program header of a LOAD segment that lies over another; `NoHash` at 0x28, by segments at 0x20,
 /// where no table is found; those of the hash table, of the symbols and of their strings, and
 /// where there are words of versions those of the words, of the definitions and of the needs, each
-/// at the section header or the dynamic entry that tells of it. Else a fault of the source, or
+/// at the section header or the dynamic entry that locates it. Else a fault of the source, or
 /// `Budget` where a limit has no room for a read, at the offset that was asked for.
 pub fn find_scope<S: Source>(src: &mut Counted<S>, store: &mut HeaderStore) -> Result<Scope, Fault>
     ensures did { Did src.old src.new (why_stopped result)
@@ -43,7 +43,7 @@ pub fn find_scope<S: Source>(src: &mut Counted<S>, store: &mut HeaderStore) -> R
     loaded_scope(src, store, loaded)
 }
 
-/// What a lookup is made in, in a loaded file.
+/// The tables that a lookup searches, of a loaded file.
 fn loaded_scope<S: Source>(
     src: &mut Counted<S>,
     store: &mut HeaderStore,

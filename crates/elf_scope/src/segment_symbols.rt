@@ -20,12 +20,12 @@ use elf_record::sizes::{SYMBOL_BYTES, SYMBOL_VERSION_BYTES};
 use elf_record::{Cause, VersionKind};
 use elf_table::{Names, SegmentView, Table};
 
-/// The symbols that the entries of a segment tell of, with their names and versions. `row` is the
+/// The symbols that the entries of a segment locate, with their names and versions. `row` is the
 /// file offset of the entry of the hash table.
 ///
 /// # Errors
-/// The first that fails: `Unmapped` at `row` where no entry tells of the symbols, of their strings or
-/// of the size of these; those of [`SegmentView::rest`] for the symbols and of
+/// The first that fails: `Unmapped` at `row` where no entry locates the symbols or their strings, or
+/// has the size of these; those of [`SegmentView::rest`] for the symbols and of
 /// [`SegmentView::mapped`]; those of the tables of versions.
 pub(crate) fn segment_symbols(
     view: &SegmentView<'_>,
@@ -54,7 +54,7 @@ pub(crate) fn segment_symbols(
     })
 }
 
-/// The entries that tell of symbols, of their strings and of the size of these.
+/// The entries that locate symbols and their strings, and have the size of these.
 fn symbol_entries(found: &TaggedEntries) -> Option<(Entry, Entry, Entry)>
     ensures { TellSymbols found.now result }
 {
@@ -80,7 +80,7 @@ fn rows_in(bytes: Table, entry: u64) -> Table
     Table::new(bytes.at(), bytes.len() / entry, entry)
 }
 
-/// The tables of versions that the entries of a segment tell of, whose names are the symbols'
+/// The tables of versions that the entries of a segment locate, whose names are the symbols'
 /// strings; nothing without an entry of the words, or without one of the definitions or the needs.
 ///
 /// # Errors
@@ -132,7 +132,7 @@ fn words_entry(found: &TaggedEntries) -> Option<Entry>
     found.versym
 }
 
-/// The definitions, or the needs, that an entry tells of, if there is one.
+/// The definitions, or the needs, that an entry locates, if there is one.
 ///
 /// # Errors
 /// Those of [`SegmentView::rest`].

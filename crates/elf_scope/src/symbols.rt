@@ -11,8 +11,8 @@ use elf_table::{Names, Table};
 pub struct VersionWords {
     /// The words, rows of 2 bytes.
     pub words: Table,
-    /// The file offset of what tells of them, a section header or a dynamic entry, which a refusal
-    /// of a symbol without a word names.
+    /// The file offset of the section header or dynamic entry that locates them, which a refusal of a
+    /// symbol without a word names.
     pub head: u64,
     /// The index of the section, or of the program header of the dynamic entries.
     pub index: u16,
@@ -25,7 +25,7 @@ pub struct VersionWords {
 pub struct RecordTable {
     /// The kind of its first record: a definition, or a needed file.
     pub kind: VersionKind,
-    /// The file offset of what tells of it, a section header or a dynamic entry.
+    /// The file offset of the section header or dynamic entry that locates it.
     pub head: u64,
     /// Its bytes, rows of 1 byte, fewer than 2^63.
     pub table: Table,

@@ -9,7 +9,7 @@ pub record Failing : Type 0 where
   pub due : Option ℕ
 
 -- how many reads failed of themselves
-abbrev pub own_failures : Option ℕ → ℕ
+abbrev own_failures : Option ℕ → ℕ
 own_failures None = 1
 own_failures (Some n) = 0
 

@@ -26,7 +26,7 @@ KeepsSome old new None bytes = new ≡ old
 KeepsSome old new (Some count) bytes =
     (0 < count) × (count ≤ length bytes) × (new.below ≡ old.below) × (new.held ≡ old.held ++ take count bytes)
 
--- what is seen of an output: the bytes that its sink tells, how many it took, and whether it has failed
+-- what is seen of an output: the bytes that its sink knows, how many it took, and whether it has failed
 pub record Written : Type 0 where
   pub taken : Option (List ℕ)
   pub written : ℕ
@@ -45,7 +45,7 @@ pub record TakesFront (old new : Written) (bytes : List ℕ) : Type 0 where
   pub split : bytes ≡ front ++ rest
   pub takes : Takes old new front
 
--- what a fault of the output says: the sink has failed, and the fault tells the count
+-- what a fault of the output says: the sink has failed, and the fault has the count
 pub record OutFails (new : Written) (fault : OutFault) : Type 0 where
   pub failed : new.failed ≡ true
   pub tells : fault.written ≡ new.written

@@ -47,7 +47,7 @@ StandsAfter at place (Ok count) = IfSome place (λ n. (n ≡ at + count) × (0 <
 StandsAfter at place (Err Interrupted) = IfSome place (λ n. n ≡ at)
 StandsAfter at place (Err Failed) = place ≡ None
 
--- a read at an offset of what reads and seeks, by the position and the bytes left that it may tell: it sought the offset,
+-- a read at an offset of what reads and seeks, by the position and the bytes left, where it knows them: it sought the offset,
 -- unless it stood there, and read
 pub record SeeksAndReads {R : Type 0} (position : R → Option ℕ) (remaining : R → Option (List ℕ)) (place : Option ℕ) (old new : R) (at : ℕ) (out : List ℕ) (result : Result ℕ ReaderFault) : Type 0 where
   pub there : R

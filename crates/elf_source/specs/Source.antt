@@ -45,23 +45,23 @@ abbrev pub IsWithin : ℕ → Option ℕ → Type 0
 IsWithin asked most = (n : ℕ) → most ≡ Some n → (asked ≤ n) × (n < asked + 2 ^ 64)
 
 -- a fact of every file that a source gives, from one of the option
-abbrev pub each_file : (P : List ℕ → Type 0) (file : Option (List ℕ)) → IfSome file P → (bytes : List ℕ) → file ≡ Some bytes → P bytes
+abbrev each_file : (P : List ℕ → Type 0) (file : Option (List ℕ)) → IfSome file P → (bytes : List ℕ) → file ≡ Some bytes → P bytes
 each_file P file holds bytes same = subst (λ (o : Option (List ℕ)). IfSome o P) same holds
 
--- a file, where one is known: all of it, or with zeros where its header tells of section headers
+-- a file, where one is known: all of it, or with zeros where its header locates section headers
 abbrev pub file_by : Bool → Option (List ℕ) → Option (List ℕ)
 file_by false file = file
 file_by true file = option_map without_sections file
 
 -- which is as long
-abbrev pub sized_by : (hides : Bool) (file : Option (List ℕ)) (size : ℕ) → ((bytes : List ℕ) → file ≡ Some bytes → length bytes ≡ size)
+abbrev sized_by : (hides : Bool) (file : Option (List ℕ)) (size : ℕ) → ((bytes : List ℕ) → file ≡ Some bytes → length bytes ≡ size)
     → (bytes : List ℕ) → file_by hides file ≡ Some bytes → length bytes ≡ size
 sized_by false file size sized = sized
 sized_by true None size sized = each_file (λ bytes. length bytes ≡ size) None tt
 sized_by true (Some file) size sized =
     each_file (λ bytes. length bytes ≡ size) (Some (without_sections file)) (view_is_as_long file ∙ sized file refl)
 
--- what is seen of a source of whose file all is shown, or all but what its header tells of section headers
+-- what is seen of a source of whose file all is shown, or all but the fields of its header that locate section headers
 abbrev pub seen_by : Bool → Seen → Seen
 seen_by hides seen = record {
   size = seen.size;
@@ -71,8 +71,8 @@ seen_by hides seen = record {
   whole = seen.whole;
 }
 
--- a source whose reads are counted: what is seen of it, what was given to be read, whether what its file header tells of
--- section headers is hidden, how many bytes were asked for, the count that this may not pass, where a limit is set, and
+-- a source whose reads are counted: what is seen of it, what was given to be read, whether the fields of its file
+-- header that locate section headers are hidden, how many bytes were asked for, the count that this may not pass, where a limit is set, and
 -- where the last read was asked for that failed or that the limit had no room for
 pub record Counting : Type 0 where
   pub seen : Seen
@@ -157,7 +157,7 @@ pub record Fills (old new : Counting) (n : ℕ) : Type 0 where
   pub same_left : left new ≡ option_map (λ bytes. counted new.asked bytes - new.asked) (left old)
   pub view : SameView old new
 
--- what a file header tells of section headers was hidden, or shown, and of the account nothing changed
+-- the fields of a file header that locate section headers were hidden, or shown, and of the account nothing changed
 pub record Hides (old new : Counting) (hides : Bool) : Type 0 where
   pub is_hidden : new.hides ≡ hides
   pub shows : hides ≡ true → (file : List ℕ) → old.seen.file ≡ Some file → new.seen.file ≡ Some (without_sections file)

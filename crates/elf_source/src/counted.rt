@@ -61,16 +61,16 @@ impl<S: Source> Counted<S> {
         }
     }
 
-    /// Whether what a file header tells of section headers is hidden.
+    /// Whether the fields of a file header that locate section headers are hidden.
     pub fn hides(&self) -> bool
         ensures { result ≡ self.now.hides }
     {
         self.hides
     }
 
-    /// Hides what the file header tells of section headers, or shows it again: where it is hidden,
-    /// reads give zeros for the bytes 40 to 47 (e_shoff) and 60 to 63 (e_shnum, e_shstrndx) of the
-    /// source (gABI 4, ELF Header). Of the account nothing changes.
+    /// Hides the fields of the file header that locate section headers, or shows them: where they are
+    /// hidden, reads give zeros for the bytes 40 to 47 (e_shoff) and 60 to 63 (e_shnum, e_shstrndx) of
+    /// the source (gABI 4, ELF Header). Of the account nothing changes.
     pub fn hide_sections(&mut self, hides: bool)
         ensures { Hides self.old self.new hides }
     {

@@ -34,7 +34,7 @@ pub enum AskFault {
     #[error("the source failed")]
     Source(SourceFault),
     /// The limit has too few bytes left for this read. Nothing was asked, and nothing has changed but
-    /// the offset that [`crate::Counted::stopped`] tells.
+    /// the offset that [`crate::Counted::stopped`] answers.
     #[error("the limit has too few bytes left")]
     Budget,
 }

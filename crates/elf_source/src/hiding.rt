@@ -1,11 +1,11 @@
-//! Zeros in the place of what a file header tells of section headers.
+//! Zeros in place of the fields of a file header that locate section headers.
 ghost use Rattle.std.specs.Prelude.{◌≡◌, if◌then◌else◌};
 ghost use Rattle.elf_model.specs.Style.{tells_of_sections, without_sections_from};
 
 /// The size of a file header in bytes.
 const HEADER_BYTES: u64 = 64;
 
-/// Puts zeros for those of `bytes` that tell of section headers. They stand in a file from the
+/// Puts zeros for those of `bytes` that locate section headers. They stand in a file from the
 /// offset `at` on.
 pub(crate) fn hide(at: u64, bytes: &mut [u8])
     ensures { bytes.new ≡ without_sections_from at bytes.old }
@@ -18,7 +18,7 @@ pub(crate) fn hide(at: u64, bytes: &mut [u8])
     }
 }
 
-/// The byte at an offset of a file, or 0 where a file header tells of section headers: e_shoff, 40
+/// The byte at an offset of a file, or 0 where a file header locates section headers: e_shoff, 40
 /// to 47, and e_shnum and e_shstrndx, 60 to 63 (gABI 4, ELF Header).
 #[tactic(auto, unfolding(elf_model::specs::Style::tells_of_sections))]
 fn hidden(place: u64, byte: u8) -> u8

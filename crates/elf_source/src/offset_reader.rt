@@ -36,7 +36,7 @@ impl<F: FileExt + Seek> Reader for OffsetReader<F> {
     /// the body alone.
     ghost one_turn = { λ before _ _ after. after ≡ before };
 
-    /// Seeks to the end, as what is below tells its position.
+    /// Seeks to the end, by the position that what is below has.
     fn end(&mut self) -> Result<u64, ReaderFault>
         ensures moves { let bytes = F.stream_bytes self.old.inner in
             let from = F.stream_position self.old.inner in

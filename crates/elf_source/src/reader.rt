@@ -7,8 +7,8 @@ use crate::faults::ReaderFault;
 /// Bytes that are read at an offset, in turns. A turn may give fewer bytes than there is room for, and
 /// may be interrupted.
 ///
-/// A reader in memory can tell its file, and then each turn gives the bytes of that file. One of the
-/// system tells none.
+/// A reader in memory knows its file, and then each turn gives the bytes of that file. One of the
+/// system knows none.
 pub trait Reader {
     /// The file that it gives, where it is known.
     ghost file: { Self → Option (List ℕ) };

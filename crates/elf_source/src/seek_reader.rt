@@ -57,7 +57,7 @@ impl<R: Read + Seek> Reader for SeekReader<R> {
     /// What a turn leaves is said of `read_at`; here, nothing.
     ghost one_turn = { λ _ _ _ _. ⊤ };
 
-    /// Seeks to the end, as what is below tells its position.
+    /// Seeks to the end, by the position that what is below has.
     fn end(&mut self) -> Result<u64, ReaderFault>
         ensures moves { let bytes = R.stream_bytes self.old.inner in
             let from = R.stream_position self.old.inner in

@@ -6,7 +6,7 @@ use crate::faults::SinkFault;
 
 /// Takes bytes in order, until it fails for good.
 pub trait Sink {
-    /// The bytes taken so far, where the writer below tells them.
+    /// The bytes taken so far, where the writer below knows them.
     ghost taken: { Self → Option (List ℕ) };
 
     /// The sink has failed.

@@ -6,7 +6,7 @@ use crate::faults::SinkFault;
 use crate::sink::Sink;
 use std::marker::Model;
 
-/// A sink that writes a slice from its front, and tells its bytes.
+/// A sink that writes a slice from its front, and knows its bytes.
 #[derive(Drop)]
 pub struct SliceSink<'a> {
     buffer: &'a mut [u8],

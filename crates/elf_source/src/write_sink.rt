@@ -7,7 +7,7 @@ use crate::sink::Sink;
 use std::io::{ErrorKind, Write};
 use std::marker::Model;
 
-/// A sink over a writer. It tells its bytes where the writer does.
+/// A sink over a writer. Its bytes are known where the writer's are.
 #[derive(Drop)]
 pub struct WriteSink<W> {
     writer: W,

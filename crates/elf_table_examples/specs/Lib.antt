@@ -4,8 +4,14 @@ pub mod ExamplesDynamic
 pub mod ExamplesFields
 pub mod ExamplesGnu
 pub mod ExamplesHash
+pub mod ExamplesKinds
 pub mod ExamplesLookups
 pub mod ExamplesNames
 pub mod ExamplesNotes
+pub mod ExamplesProperties
+pub mod ExamplesRequired
+pub mod ExamplesSegments
+pub mod ExamplesSymbols
 pub mod ListedDynamic
 pub mod ListedNotes
+pub mod TraitFiles

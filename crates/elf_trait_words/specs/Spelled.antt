@@ -60,7 +60,7 @@ word_of_parts (Some parts) = word_under (column_named parts.0) parts.1
 unfoldable pub spelled_word : List ℕ → Option Required
 spelled_word text = word_of_parts (parted_at 61 text)
 
--- JUST THOSE texts spell words that tell what some file has
+-- JUST THOSE texts spell words of what some file has
 pub record SpellsTraits : Type 0 where
   pub told : (t : Traits) (its_column : TraitColumn) → spelled_word (lacking_text t its_column) ≡ Some (record { column = its_column; word = column_word t its_column })
   pub tells : (text : List ℕ) (required : Required) → spelled_word text ≡ Some required

@@ -85,7 +85,7 @@ fn column_words(column: TraitColumn) -> &'static [&'static str]
     }
 }
 
-/// Just those texts spell words that tell what some file has.
+/// Just those texts spell words of what some file has.
 pub fn spells_traits()
     ensures { SpellsTraits }
 {}

@@ -4,7 +4,6 @@ use Rattle.std.specs.Prelude.{is_none, option_map}
 use Rattle.std.specs.List.{position_or_len, starts_with}
 use Rattle.std.proofs.lemmas.Bool.{cases_Bool, eqb-true, ne_eqb}
 use Rattle.elf_model.specs.Bytes.{slice}
-use Rattle.elf_model.specs.Checks.{first_refusal}
 use Rattle.elf_model.specs.Notes.{Note, NoteRow, Walk, NextNote, before_nul, note_shown, Ends, Broken, OneNote, descriptor_start, next_note, note_align, note_rows, padded_size, walk_from, walked, with_note}
 use Rattle.elf_model.specs.Properties.{PropertyList, first_listing, is_gnu_name, listed_in, lists_properties}
 use Rattle.elf_model.specs.Records.{p_type, p_offset, p_filesz, p_align, segment_at}
@@ -12,7 +11,7 @@ use Rattle.elf_model.specs.declared.causes.Cause.TheVariants.{NoteCut}
 use Rattle.elf_model.specs.declared.causes.Refusal.{Refusal}
 use Rattle.elf_model.specs.Names.Shown.{Whole, Cut}
 use Rattle.elf_model.proofs.NoteRowLaws.{note_shown_cut, note_shown_whole}
-use Rattle.elf_model.specs.Checks.{pass, range_checks_of}
+use Rattle.elf_model.specs.Checks.{Check, first_refusal, pass, range_checks_of, unless_empty}
 use Rattle.elf_model.proofs.NoteLaws.{nothing-ends}
 use Rattle.elf_record.specs.declared.note_head.NoteHead.{NoteHead}
 use Rattle.elf_headers.specs.declared.fault.Fault.{Fault}
@@ -28,8 +27,12 @@ use Rattle.elf_table.specs.Tables.{Rows, RowsWithin}
 use Rattle.elf_model.specs.Cost.{cost_where, table_cost}
 use Rattle.elf_model.specs.Numbers.{PT_NOTE}
 use Rattle.elf_model.specs.TableKinds.{segment_notes}
-use Rattle.elf_traits.specs.Lists.{TellsList, first_list, is_list, list_among, list_at, note_checks, notes_asked}
+use Rattle.elf_traits.specs.Lists.{TellsList, first_list, is_list, list_among, list_at, notes_asked}
 use Rattle.elf_traits.specs.declared.notes.PropertyBytes.{PropertyBytes}
+
+-- the checks of a table of notes by the program header at an offset
+abbrev pub note_checks : List ℕ → ℕ → List Check
+note_checks file at = unless_empty (p_filesz file at) (range_checks_of (length file) (p_offset file at) (p_filesz file at) at)
 
 -- what stands before the first NUL is no longer
 length-take-le-all : (name : List ℕ) → length (before_nul name) ≤ length name

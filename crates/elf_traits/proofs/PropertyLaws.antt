@@ -1,12 +1,13 @@
 -- The properties of a list, one by one, by the bytes of a file.
-use Rattle.std.proofs.Common.{◌≡◌, ℕ, zero, suc, ◌+◌, ◌-◌, ◌<◌, ◌≤◌, ◌==◌, Bool, true, false, List, ◌∷◌, [], length, drop, Option, None, Some, Ok, Err, refl, sym, ap, ◌∙◌, nat_lt, arith, min, ne_eqb, eq-eqb}
+use Rattle.std.proofs.Common.{◌≡◌, ℕ, zero, suc, ◌+◌, ◌-◌, ◌<◌, ◌≤◌, ◌==◌, Bool, true, false, List, ◌∷◌, [], length, drop, Option, None, Some, Result, Ok, Err, refl, sym, ap, ◌∙◌, nat_lt, arith, min, ne_eqb, eq-eqb}
 use Rattle.std.specs.Prelude.{unwrap_or}
 use Rattle.std.proofs.lemmas.Bool.Decides.{nat_tests}
 use Rattle.elf_model.specs.Bytes.{field, slice}
-use Rattle.elf_model.specs.Properties.{GNU_PROPERTY_X86_FEATURE_1_AND, ListEnds, NoProperty, OneProperty, Property, PropertyWalk, bare_property, features_in, first_property, next_property, padded_property, pr_datasz, pr_type, properties_from, properties_in, with_property}
+use Rattle.elf_model.specs.Properties.{GNU_PROPERTY_X86_FEATURE_1_AND, ListEnds, NoProperty, OneProperty, Property, PropertyWalk, bare_property, features_in, first_property, next_property, padded_property, pr_datasz, pr_type, properties_from, properties_in, property_word, with_property}
 use Rattle.elf_model.specs.declared.causes.Cause.TheVariants.{NoteCut}
+use Rattle.elf_model.specs.declared.causes.Refusal.{Refusal}
 use Rattle.elf_model.proofs.Slices.{field-slice, slice-rest, slice-size, slice-slice}
-use Rattle.elf_traits.specs.Features.{features_after, found_after, property_at, word_after}
+use Rattle.elf_traits.specs.Features.{found_after, property_at}
 use Rattle.elf_traits.specs.declared.property.Head.{Head}
 
 module _ (file : List ℕ) (at left : ℕ) (within : at + left ≤ length file) where
@@ -72,6 +73,18 @@ from_one : (most offset : ℕ) (rest : List ℕ) (property : Property) (size : �
     → properties_from (suc most) offset rest ≡ with_property property (properties_from most (offset + size) (drop size rest))
 unfolding properties_from
 from_one most offset rest property size e = rw (e, properties_from) refl
+
+-- the word of all properties, where one may be found before them
+abbrev pub word_after : Option ℕ → List Property → ℕ
+word_after (Some word) properties = word
+word_after None properties = property_word (first_property GNU_PROPERTY_X86_FEATURE_1_AND properties)
+
+-- the word of the rest of a list that begins at a place, or where it is cut
+abbrev pub features_after : ℕ → Option ℕ → PropertyWalk → Result ℕ Refusal
+features_after place found walk = elim walk.cut [
+  | Some offset ↦ Err (record { at = place + offset; cause = NoteCut })
+  | None ↦ Ok (word_after found walk.properties)
+]
 
 -- the word of a property and of those behind it
 word_step : (found : Option ℕ) (property : Property) (properties : List Property) → word_after found (property ∷ properties) ≡ word_after (found_after found property) properties

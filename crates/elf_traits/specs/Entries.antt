@@ -1,4 +1,4 @@
--- The values of the first dynamic entries with each of the tags that tell of how a file is hardened.
+-- The values of the first dynamic entries with each of the tags by which a file is hardened.
 use Rattle.std.specs.Prelude.{ℕ, ◌≡◌, List, Option, None, Some, Result, Ok, Err}
 use Rattle.elf_model.specs.Budget.{IsBudget}
 use Rattle.elf_model.specs.Checks.{first_refusal}
@@ -63,7 +63,7 @@ TellsTraitEntries file (Ok found) = AreTraitEntries file found
 TellsTraitEntries file (Err (Refused refusal)) = (IsBudget refusal → ⊥) → EntriesRefused file refusal
 TellsTraitEntries file (Err (Source fault at)) = Unit {0}
 
--- WHAT THE DYNAMIC ENTRIES of a known file tell
+-- THE VALUES OF THE DYNAMIC ENTRIES of a known file
 pub record FindsTraitEntries (file : List ℕ) (old new : Counting) (result : Result TraitEntries Fault) : Type 0 where
   pub costs : Charges old new (why_stopped result) (trait_entries_asked file)
   pub finds : TellsTraitEntries file result

@@ -1,15 +1,15 @@
--- What reading a list of properties tells, step by step.
+-- What reading a list of properties finds, step by step.
 use Rattle.std.specs.Prelude.{ℕ, ◌≡◌, ◌+◌, ◌==◌, min, true, false, List, Option, None, Some, Result, Ok, Err}
 use Rattle.elf_model.specs.Budget.{IsBudget}
 use Rattle.elf_model.specs.Bytes.{slice}
-use Rattle.elf_model.specs.Properties.{GNU_PROPERTY_X86_FEATURE_1_AND, PROPERTY_HEAD_SIZE, NoProperty, OneProperty, Property, PropertyWalk, first_property, next_property, padded_property, property_word}
+use Rattle.elf_model.specs.Properties.{GNU_PROPERTY_X86_FEATURE_1_AND, PROPERTY_HEAD_SIZE, NoProperty, OneProperty, Property, next_property, padded_property, property_word}
 use Rattle.elf_model.specs.declared.causes.Cause.TheVariants.{NoteCut}
 use Rattle.elf_model.specs.declared.causes.Refusal.{Refusal}
 use Rattle.elf_headers.specs.declared.fault.Fault.{Fault}
 use Rattle.elf_headers.specs.declared.fault.Fault.TheVariants.{Refused, Source}
 use Rattle.elf_traits.specs.declared.property.Head.{Head}
 
--- a value is what the definitions tell, and so is a refusal, unless that is for want of budget
+-- a value is that of the definitions, and so is a refusal, unless that is for want of budget
 abbrev pub TellsValue : {X : Type 0} → Result X Refusal → Result X Fault → Type 0
 TellsValue told (Ok value) = told ≡ Ok value
 TellsValue told (Err (Refused refusal)) = (IsBudget refusal → ⊥) → told ≡ Err refusal
@@ -38,15 +38,3 @@ abbrev pub ReadsWord : List ℕ → ℕ → Head → Option ℕ → Result (Opti
 ReadsWord file at head found (Ok now) = now ≡ found_after found (property_at file at head)
 ReadsWord file at head found (Err (Refused refusal)) = IsBudget refusal
 ReadsWord file at head found (Err (Source fault offset)) = Unit {0}
-
--- the word of all properties, where one may be found before them
-abbrev pub word_after : Option ℕ → List Property → ℕ
-word_after (Some word) properties = word
-word_after None properties = property_word (first_property GNU_PROPERTY_X86_FEATURE_1_AND properties)
-
--- what the rest of a list tells that begins at a place
-abbrev pub features_after : ℕ → Option ℕ → PropertyWalk → Result ℕ Refusal
-features_after place found walk = elim walk.cut [
-  | Some offset ↦ Err (record { at = place + offset; cause = NoteCut })
-  | None ↦ Ok (word_after found walk.properties)
-]

@@ -32,11 +32,11 @@ marks_asked file = elim (known_symbols file) [
       extent_bytes file scope + (hashed_symbol_count file scope - 1) * (SYMBOL_SIZE + name_bytes TRAIT_NAME_BYTES)
 ]
 
--- what the symbols of a file tell, where they are known
+-- the marks of the symbols of a file, where they are known
 abbrev pub marks_told : List ℕ → Result SymbolMarks Refusal
 marks_told file = elim (known_symbols file) [ Err refusal ↦ Err refusal | Ok scope ↦ symbol_marks file scope ]
 
--- WHAT THE SYMBOLS of a known file tell
+-- THE MARKS OF THE SYMBOLS of a known file
 pub record FindsMarks (file : List ℕ) (old new : Counting) (result : Result Marks Fault) : Type 0 where
   pub costs : Charges old new (why_stopped result) (marks_asked file)
   pub finds : TellsMarks (marks_told file) result
@@ -46,7 +46,7 @@ pub record FindsViewed (file : List ℕ) (old new : Counting) (result : Result T
   pub costs : Charges old new (why_stopped result) (entries_asked file + trait_entries_asked file + properties_asked file + symbols_asked file)
   pub finds : TellsValue (loaded_traits file) result
 
--- of one that tells of no section headers
+-- of one whose header locates no section headers
 pub record FindsShown (file : List ℕ) (headers : ℕ) (old new : Counting) (result : Result Traits Fault) : Type 0 where
   pub costs : Charges old new (why_stopped result) (segment_traits_cost file headers)
   pub finds : TellsValue (traits_by_segments file headers) result

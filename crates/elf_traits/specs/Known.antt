@@ -12,19 +12,19 @@ use Rattle.elf_scope.specs.Segments.{entries_asked}
 use Rattle.elf_scope.specs.Symbols.{IsSymbols, SymbolsLie}
 use Rattle.elf_traits.specs.declared.known.KnownSymbols.{KnownSymbols}
 
--- a fault of what a lookup is made in: without a hash table there are no symbols
+-- a fault of the tables that a lookup searches: without a hash table there are no symbols
 abbrev pub passed_over : Fault → Result (Option KnownSymbols) Fault
 passed_over (Refused refusal) = elim (has_none refusal.cause) [ true ↦ Ok None | false ↦ Err (Refused refusal) ]
 passed_over (Source fault at) = Err (Source fault at)
 
--- the symbols are those that the definitions tell of, with their hash table
+-- the symbols are those of the definitions, with their hash table
 pub record AreKnown (file : List ℕ) (known : KnownSymbols) : Type 0 where
   pub scope : IsScopeOf
   pub told : known_symbols file ≡ Ok (Some scope)
   pub symbols : IsSymbols file scope.symbols known.symbols
   pub table : IsTable file scope known.table
 
--- symbols, or none, are what the definitions tell, and so is a refusal, unless that is for want of budget
+-- symbols, or none, are those of the definitions, and so is a refusal, unless that is for want of budget
 abbrev pub TellsKnown : List ℕ → Result (Option KnownSymbols) Fault → Type 0
 TellsKnown file (Ok None) = known_symbols file ≡ Ok None
 TellsKnown file (Ok (Some known)) = AreKnown file known

@@ -2,13 +2,12 @@
 use Rattle.std.specs.Prelude.{ℕ, ◌≡◌, ◌+◌, ◌≤◌, ◌==◌, true, false, suc, List, length, Option, None, Some, Result, Ok, Err, IfSome}
 use Rattle.elf_model.specs.Budget.{IsBudget}
 use Rattle.elf_model.specs.Bytes.{slice}
-use Rattle.elf_model.specs.Checks.{Check, range_checks_of, unless_empty}
 use Rattle.elf_model.specs.Cost.{sum_over, table_cost}
 use Rattle.elf_model.specs.HeaderTables.{file_segments}
 use Rattle.elf_model.specs.Notes.{Walk, note_align, note_rows, walk_from}
 use Rattle.elf_model.specs.Numbers.{PT_NOTE}
 use Rattle.elf_model.specs.Properties.{PropertyList, first_listing, listed_in, property_list}
-use Rattle.elf_model.specs.Records.{e_phnum, p_type, p_offset, p_filesz, segment_at}
+use Rattle.elf_model.specs.Records.{e_phnum, p_type, segment_at}
 use Rattle.elf_model.specs.TableKinds.{segment_notes}
 use Rattle.elf_model.specs.TraitCost.{properties_asked}
 use Rattle.elf_model.specs.Traits.{TRAIT_NAME_BYTES, feature_word}
@@ -22,10 +21,6 @@ use Rattle.elf_table.specs.Tables.{Rows}
 use Rattle.elf_traits.specs.Features.{TellsValue}
 use Rattle.elf_traits.specs.declared.notes.PropertyBytes.{PropertyBytes}
 
--- the checks of a table of notes by the program header at an offset
-abbrev pub note_checks : List ℕ → ℕ → List Check
-note_checks file at = unless_empty (p_filesz file at) (range_checks_of (length file) (p_offset file at) (p_filesz file at) at)
-
 -- the first list among the notes of a walk from an offset on, or where these are cut before it
 abbrev pub list_among : (align at : ℕ) → Walk → Result (Option PropertyList) Refusal
 list_among align at walk = elim (first_listing (note_rows align at walk.notes)) [
@@ -33,7 +28,7 @@ list_among align at walk = elim (first_listing (note_rows align at walk.notes)) 
   | None ↦ elim walk.cut [ Some place ↦ Err (record { at = place; cause = NoteCut }) | None ↦ Ok None ]
 ]
 
--- the first list in a table of notes, whose header tells an alignment
+-- the first list in a table of notes of the alignment that its header has
 abbrev pub first_list : List ℕ → (align : ℕ) → Rows → Result (Option PropertyList) Refusal
 first_list file align table =
     list_among (note_align align) table.at
@@ -43,7 +38,7 @@ first_list file align table =
 abbrev pub is_list : List ℕ → PropertyBytes → PropertyList
 is_list file list = record { place = list.at; bytes = slice file list.at list.size }
 
--- a list, or none, is what the definitions tell, and so is a refusal, unless that is for want of budget
+-- a list, or none, is that of the definitions, and so is a refusal, unless that is for want of budget
 abbrev pub TellsList : List ℕ → Result (Option PropertyList) Refusal → Result (Option PropertyBytes) Fault → Type 0
 TellsList file told (Ok None) = told ≡ Ok None
 TellsList file told (Ok (Some list)) = told ≡ Ok (Some (is_list file list))
@@ -58,7 +53,7 @@ ListLies size found = IfSome found (λ list. list.at + list.size ≤ size)
 abbrev pub notes_asked : List ℕ → ℕ → ℕ
 notes_asked file i = table_cost segment_notes (file_segments file) i (length file) TRAIT_NAME_BYTES
 
--- what the program header of an index tells of lists of properties
+-- the list of properties by the program header of an index
 abbrev pub list_at : List ℕ → ℕ → Result (Option PropertyList) Refusal
 list_at file i = elim (p_type file (segment_at file i) == PT_NOTE) [ false ↦ Ok None | true ↦ listed_in file (segment_at file i) ]
 

@@ -1,4 +1,4 @@
--- What symbols tell of how a file is hardened, one after another.
+-- The marks of hardening that symbols have, one after another.
 use Rattle.std.specs.Prelude.{ℕ, zero, suc, ◌≡◌, ◌+◌, List, Result, Ok, Err}
 use Rattle.elf_model.specs.Budget.{IsBudget}
 use Rattle.elf_model.specs.Names.{shown}
@@ -14,7 +14,7 @@ use Rattle.elf_traits.specs.declared.marks.Marks.{Marks}
 abbrev pub marks_of : Marks → SymbolMarks
 marks_of marks = record { canary = marks.canary; fortify = marks.fortify }
 
--- marks are what the definitions tell, and so is a refusal, unless that is for want of budget
+-- marks are those of the definitions, and so is a refusal, unless that is for want of budget
 abbrev pub TellsMarks : Result SymbolMarks Refusal → Result Marks Fault → Type 0
 TellsMarks told (Ok marks) = told ≡ Ok (marks_of marks)
 TellsMarks told (Err (Refused refusal)) = (IsBudget refusal → ⊥) → told ≡ Err refusal
@@ -27,7 +27,7 @@ marks_with file at strings marks = elim (shown strings (st_name file at) TRAIT_N
   | Ok name ↦ Ok (marked_with_symbol file at marks name)
 ]
 
--- what so many symbols from an offset on tell, beside those before
+-- the marks of so many symbols from an offset on, with those before
 unfoldable pub marks_in : List ℕ → (at : ℕ) → (strings : List ℕ) → SymbolMarks → ℕ → Result SymbolMarks Refusal
 marks_in file at strings marks zero = Ok marks
 marks_in file at strings marks (suc count) = elim (marks_with file at strings marks) [

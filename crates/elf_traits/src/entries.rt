@@ -1,4 +1,4 @@
-//! The dynamic entries that tell of how a file is hardened.
+//! The dynamic entries by which a file is hardened.
 ghost use Rattle.std.specs.Prelude.{◌≡◌, ℕ, List, Some, IfErr, IfOk};
 ghost use Rattle.elf_record.specs.Dyn.{IsDyn};
 ghost use Rattle.elf_source.specs.Source.{Reads};

@@ -23,8 +23,8 @@ use elf_table::SegmentView;
 
 /// How a file is hardened, as a loader of the GNU system sees it: by its program headers, its first
 /// segment of dynamic entries, the first list of properties in its notes, and its dynamic symbols,
-/// which are those that its hash table tells of. What its header tells of section headers is hidden
-/// meanwhile. The program headers are loaded into the store.
+/// which are those that its hash table knows. The fields of its header that locate section headers are
+/// hidden meanwhile. The program headers are loaded into the store.
 ///
 /// Where the source's file is known the traits are the file's own, and so is the refusal; no more is
 /// asked for than they cost, also where the source fails.
@@ -32,7 +32,7 @@ use elf_table::SegmentView;
 /// # Errors
 /// The first that fails: the checks of [`header`] and of [`load`]; `LoadOverlap` at the program header
 /// of a LOAD segment that lies over another; those of the first segment of dynamic entries; those of
-/// the hash table, of the symbols and of their strings, each at the dynamic entry that tells of it;
+/// the hash table, of the symbols and of their strings, each at the dynamic entry that locates it;
 /// of a file of x86-64 `TableOutside` at the program header of a segment of notes that ends past the
 /// end of the file, and `NoteCut` where no note stands before a list of properties, or no property in
 /// it; a fault of a symbol's name, at the symbol. Else a fault of the source, or `Budget` where a
@@ -53,7 +53,7 @@ pub fn find_traits<S: Source>(
     found
 }
 
-/// The traits of the file that the source shows, which tells of no section headers.
+/// The traits of the file that the source shows, whose header locates no section headers.
 ///
 /// # Errors
 /// Those of [`find_traits`].
@@ -92,7 +92,7 @@ fn view_traits<S: Source>(src: &mut Counted<S>, view: &SegmentView<'_>) -> Resul
     Ok(traits_with(view, &entries, word, marks))
 }
 
-/// What the symbols that a loader knows tell, if there are such.
+/// The marks of the symbols that a loader knows, if there are such.
 ///
 /// # Errors
 /// Those of [`symbol_marks`]. Else a fault of a read.

@@ -16,4 +16,3 @@ mod symbols;
 mod traits;
 
 pub use finding::find_traits;
-pub use properties::features_in;

@@ -1,11 +1,11 @@
-//! What one symbol tells of how a file is hardened.
+//! The marks of hardening that one symbol has.
 ghost use Rattle.std.specs.Prelude.{◌≡◌};
 ghost use Rattle.elf_model.specs.Traits.{marked_by, no_marks};
 ghost use Rattle.elf_traits.specs.Marks.{marks_of};
 
 use crate::names::{is_checked_call, is_guard};
 
-/// What symbols tell.
+/// The marks of symbols.
 #[derive(Clone, Copy)]
 pub(crate) struct Marks {
     /// One is a guard's.
@@ -24,7 +24,7 @@ pub(crate) fn marked_by(marks: Marks, name: &[u8], undefined: bool) -> Marks
     }
 }
 
-/// What no symbol tells.
+/// The marks of no symbol.
 pub(crate) fn no_marks() -> Marks
     ensures { marks_of result ≡ no_marks }
 {

@@ -1,4 +1,4 @@
-//! The names of symbols that tell how a file is hardened.
+//! The names of symbols that are there where a file is hardened.
 ghost use Rattle.std.specs.List.{starts_with};
 ghost use Rattle.std.specs.Prelude.{◌≡◌, ◌==◌, ◌&&◌, length, nat_eq};
 ghost use Rattle.elf_model.specs.Traits.{is_checked_call, is_guard};

@@ -107,7 +107,7 @@ fn segment_list<S: Source>(
     first_list(src, table, header.p_align)
 }
 
-/// The first list of properties in a table of notes, whose header tells an alignment.
+/// The first list of properties in a table of notes of the alignment that its header has.
 ///
 /// # Errors
 /// `NoteCut` at the file offset where no note stands, before a list. Else a fault of a read.

@@ -20,13 +20,13 @@ use elf_source::{Counted, Source};
 /// `NoteCut` at the file offset of the property whose head or data does not fit into the list; the
 /// padding of the last may be missing. Else a fault of the source, or `Budget` where a limit has no
 /// room for a read, at the offset that was asked for.
-pub fn features_in<S: Source>(src: &mut Counted<S>, at: u64, size: u64) -> Result<u32, Fault>
+pub(crate) fn features_in<S: Source>(src: &mut Counted<S>, at: u64, size: u64) -> Result<u32, Fault>
     requires { at + size ≤ src.old.seen.size }
     ensures { Did src.old src.new (why_stopped result) size
         (λ file. TellsValue
         (features_in (record { place = at; bytes = slice file at size })) result) }
 {
-    // No source is longer than a number of 64 bits tells.
+    // No source is longer than a number of 64 bits can be.
     let _ = src.length();
     let mut found = None;
     let mut done: u64 = 0;

@@ -1,4 +1,4 @@
-//! What the program headers of a file tell of how it is hardened.
+//! How a file is hardened by its program headers.
 ghost use Rattle.std.specs.Prelude.{◌≡◌, ℕ, List, is_some};
 ghost use Rattle.elf_model.specs.Find.{first_that};
 ghost use Rattle.elf_model.specs.Records.{e_phnum, segment_at};

@@ -1,4 +1,4 @@
-//! What the symbols of a file tell of how it is hardened.
+//! The marks of hardening that the symbols of a file have.
 ghost use Rattle.std.specs.Prelude.{◌≡◌, ℕ, ◌+◌, ◌-◌, ◌*◌, ◌≤◌, List, length, IfErr};
 ghost use Rattle.elf_headers.specs.Faults.{Says};
 ghost use Rattle.elf_headers.specs.Ledger.{Did, why_stopped};
@@ -22,7 +22,7 @@ use elf_scope::Symbols;
 use elf_source::{Counted, Source};
 use elf_table::{Cursor, NameBuf, NameEnd, Names, Row, Table};
 
-/// What so many symbols tell, all but the first, which is none (gABI 4, Symbol Table). There are no
+/// The marks of so many symbols, all but the first, which is none (gABI 4, Symbol Table). There are no
 /// fewer. Each with its name asks for 88 bytes at most.
 ///
 /// # Errors
@@ -56,7 +56,7 @@ fn rows_behind_first(table: &Table, count: u64) -> Table
     Table::new(table.place(1), count - 1, SYMBOL_BYTES)
 }
 
-/// What the symbols of a table tell, beside those before.
+/// The marks of the symbols of a table, with those before.
 ///
 /// # Errors
 /// Those of [`ReadAhead::name`], at the symbol. Else a fault of a read.

@@ -33,7 +33,7 @@ const FEATURE_IBT: u64 = 0x1;
 /// The feature of x86 that returns go by a shadow stack.
 const FEATURE_SHSTK: u64 = 0x2;
 
-/// The traits of a file, by the word of its features of x86 and what its symbols tell.
+/// The traits of a file, by the word of its features of x86 and the marks of its symbols.
 #[tactic(auto, unfolding(elf_model::specs::Traits::traits_with))]
 pub(crate) fn traits_with(
     view: &SegmentView<'_>,
@@ -98,7 +98,7 @@ fn kind_of_shared(view: &SegmentView<'_>, entries: &TraitEntries) -> ProgramKind
     ProgramKind::Lib
 }
 
-/// What program headers tell, where there are any.
+/// The traits by program headers, where there are any.
 #[tactic(auto, unfolding(elf_model::specs::Traits::segment_traits))]
 fn segment_traits(view: &SegmentView<'_>, entries: &TraitEntries) -> Option<SegmentTraits>
     ensures { (file : List ℕ) → Views file view.now.loaded view.now.store.now →

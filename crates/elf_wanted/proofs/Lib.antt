@@ -1,1 +1,2 @@
 pub mod NameSearch
+mod JoinedLaws

@@ -1,3 +1,4 @@
 pub mod Wants
 pub mod Names
+pub mod Joins
 pub mod Chosen

@@ -4,9 +4,10 @@
 #![tactic(auto)]
 
 mod choice;
+mod joined;
 mod names;
 mod wanted;
 
-pub use choice::RowChoice;
+pub use choice::{RowChoice, ShownVersion};
 pub use names::{SortedTexts, sort_texts};
 pub use wanted::{Asked, Wanted, wanted_of};

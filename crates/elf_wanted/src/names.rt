@@ -3,8 +3,10 @@ ghost use Rattle.std.specs.Prelude.{◌≡◌, bytes_eq};
 ghost use Rattle.std.specs.List.{list_any};
 ghost use Rattle.std.specs.List.Sorted.{IsPermutation};
 ghost use Rattle.elf_model.specs.Choice.{most_bytes};
+ghost use Rattle.elf_wanted.specs.Joins.{joined_text};
 ghost use Rattle.elf_wanted.specs.Names.{NeverFall, texts_of};
 
+use crate::joined::Joined;
 use std::marker::Model;
 
 /// Texts in the rising order of their bytes, which a caller lends. One may come more than once.
@@ -46,6 +48,15 @@ impl<'a> SortedTexts<'a> {
         ensures { result ≡ list_any (bytes_eq text.now) self.now }
     {
         self.texts.binary_search(&text).is_ok()
+    }
+
+    /// Whether one of the texts is a name with its version.
+    pub(crate) fn has_joined(&self, joined: &Joined<'_>) -> bool
+        ensures { result ≡ list_any (bytes_eq (joined_text joined.now)) self.now }
+    {
+        self.texts
+            .binary_search_by(|text| joined.compare(text))
+            .is_ok()
     }
 
     /// How many bytes the longest text has.

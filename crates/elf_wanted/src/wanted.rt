@@ -1,5 +1,6 @@
 //! What is looked up.
 ghost use Rattle.std.specs.Prelude.{◌≡◌, ◌==◌, ◌<◌, length, position, None, Some, IfSome, false, option_map};
+ghost use Rattle.elf_model.specs.ChoiceLaws.{has_sign, has_sign_first};
 ghost use Rattle.elf_model.specs.Loader.{AT_SIGN, asked_behind, asked_name, is_complete, wanted_of};
 ghost use Rattle.elf_wanted.specs.Wants.{asked_of, the_wanted};
 
@@ -97,8 +98,22 @@ fn find_sign(text: &[u8]) -> Option<usize>
 fn asked_behind(text: &[u8]) -> Asked<'_>
     ensures { asked_of result ≡ asked_behind text.now }
 {
-    if !text.is_empty() && text[0] == AT_SIGN {
+    if has_sign_first(text) {
         return Asked::DefaultVersion(&text[1..]);
     }
     Asked::Version(text)
+}
+
+/// Whether the sign stands in a name.
+pub(crate) fn has_sign(name: &[u8]) -> bool
+    ensures { result ≡ has_sign name.now }
+{
+    name.contains(&AT_SIGN)
+}
+
+/// Whether the sign stands at the front of a text.
+pub(crate) fn has_sign_first(text: &[u8]) -> bool
+    ensures { result ≡ has_sign_first text.now }
+{
+    !text.is_empty() && text[0] == AT_SIGN
 }

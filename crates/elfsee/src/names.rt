@@ -90,7 +90,8 @@ fn request_by_names<'a>(listing: &ListingAsked<'a>, names: &'a [&'a [u8]]) -> Re
     requires { NeverFall names.now }
     ensures file { result.file ≡ listing.now.file }
     ensures limits { result.limits ≡ listing.now.limits }
-    ensures task { ShowsRowsOf (texts_of names.now) listing.now.parts listing.now.style result.task }
+    ensures task { ShowsRowsOf (texts_of names.now) listing.now.parts
+        listing.now.style result.task }
 {
     Request {
         file: listing.file,

@@ -3,15 +3,15 @@ use Rattle.elf_apply.specs.Entries.{target_as}
 use Rattle.elf_apply.proofs.EntrySteps.{term_again}
 use Rattle.elf_apply.proofs.entry.taken_value.Goals as goal
 
-pub returns-in-Ok : goal.returns-in-Ok
-returns-in-Ok g c = record {
-  costs = c.in-Ok.ensures.did.costs;
+pub returns : goal.returns
+returns g c = record {
+  costs = c.in_ok-value.ensures.did.costs;
   same = search rules;
   refers = λ file header held refers named. record {
     linked = refers.linked;
     last = λ rela same.
         term_again c.args.at rela _ (target_as file c.args.target.now) header c.args.base (sym named ∙ same)
-        (c.in-Ok.ensures.did.known file held header refers.linked named);
+        (c.in_ok-value.ensures.did.known file held header refers.linked named);
   };
-  known = λ file header held refers named. c.in-Ok.ensures.did.known file held header refers.linked named;
+  known = λ file header held refers named. c.in_ok-value.ensures.did.known file held header refers.linked named;
 }

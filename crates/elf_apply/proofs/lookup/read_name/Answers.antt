@@ -7,8 +7,8 @@ use Rattle.elf_table.specs.Tables.{strings_in}
 use Rattle.elf_apply.proofs.NameSteps.{front_is, Reads-more}
 use Rattle.elf_apply.proofs.lookup.read_name.Goals as goal
 
-pub returns-in-Ok-find : goal.returns-in-Ok-find
-returns-in-Ok-find g c = record {
+pub returns-in-Ok : goal.returns-in-Ok
+returns-in-Ok g c = record {
   costs = record { reads = Reads-more c.args.src.now c.fill.new.src (length c.args.front.now) (longest c.args.names.now + 1) (omega (arith, c.requires.count)) c.fill.ensures.reads; says = tt };
   known = λ file h.
       let names = c.args.symbol.now.names in
@@ -16,13 +16,13 @@ returns-in-Ok-find g c = record {
       let sized = c.args.src.now.seen.sized file h in
       let long = slice-size file names.at names.size (omega (arith, sized, c.requires.within (omega (arith, c.requires.inside)))) in
       let count = length c.args.front.now in
-      let read = c.in-Ok.ensures.read file h in
+      let read = c.in_ok-fill.ensures.read file h in
       let is = read ∙ (ap (λ n. slice file n count) (omega (arith, c.at.ensures.value, c.from.ensures)) ∙ front_is file names.at names.size index (longest c.args.names.now) count c.requires.inside c.requires.count) in
-      sym (c.in-Ok-find.ensures.found (strings_in file names) index (omega (arith, long, c.requires.inside)) is);
+      sym (c.in-Ok.ensures.found (strings_in file names) index (omega (arith, long, c.requires.inside)) is);
 }
 
-pub returns-in-Err-find : goal.returns-in-Err-find
-returns-in-Err-find g c = record {
+pub returns-in-Err : goal.returns-in-Err
+returns-in-Err g c = record {
   costs = record { reads = Reads-more c.args.src.now c.fill.new.src (length c.args.front.now) (longest c.args.names.now + 1) (omega (arith, c.requires.count)) c.fill.ensures.reads; says = search rules };
   known = λ file h.
       let names = c.args.symbol.now.names in
@@ -30,7 +30,7 @@ returns-in-Err-find g c = record {
       let sized = c.args.src.now.seen.sized file h in
       let long = slice-size file names.at names.size (omega (arith, sized, c.requires.within (omega (arith, c.requires.inside)))) in
       let count = length c.args.front.now in
-      let read = c.in-Ok.ensures.read file h in
+      let read = c.in_ok-fill.ensures.read file h in
       let is = read ∙ (ap (λ n. slice file n count) (omega (arith, c.at.ensures.value, c.from.ensures)) ∙ front_is file names.at names.size index (longest c.args.names.now) count c.requires.inside c.requires.count) in
-      rw c.refused.ensures (λ _. (refl, sym (c.in-Err-find.ensures.found (strings_in file names) index (omega (arith, long, c.requires.inside)) is)));
+      rw c.refused.ensures (λ _. (refl, sym (c.in-Err.ensures.found (strings_in file names) index (omega (arith, long, c.requires.inside)) is)));
 }

@@ -1,4 +1,4 @@
-use Rattle.std.proofs.Common.{arith, false, subst}
+use Rattle.std.proofs.Common.{arith}
 use Rattle.elf_layout.proofs.NameSteps.{follows_said, follows_no_name}
 use Rattle.elf_layout.proofs.lent.name_follows.Goals as goal
 

@@ -1,5 +1,3 @@
-use Rattle.std.proofs.Common.{◌≡◌, ◌+◌, length, ◌++◌, sym, ap, subst, arith}
-use Rattle.elf_layout.specs.Texts.{HasShortLines, IsWithinLine}
 use Rattle.elf_layout.proofs.TextSteps.{begun, newline_more, other_more, short_begun}
 use Rattle.elf_layout.proofs.texts.lines_end.Goals.{then-byte-eq10, else-byte-eq10+else-line-ge-LINE_BYTES}
 use Rattle.elf_layout.proofs.texts.lines_end.Goals as goal

@@ -1,4 +1,4 @@
-use Rattle.std.proofs.Common.{◌≡◌, ◌+◌, ◌-◌, ◌++◌, length, take, sym, ap, ap₂, ◌∙◌, arith, rules, length-append, length-take}
+use Rattle.std.proofs.Common.{◌≡◌, ◌+◌, ◌-◌, ◌++◌, length, take, ap, ap₂, ◌∙◌, arith, rules, length-append, length-take}
 use Rattle.std.proofs.lemmas.List.{take_all}
 use Rattle.elf_layout.proofs.TextSteps.{all_put, cut_put}
 use Rattle.elf_layout.proofs.texts.put_piece.Goals as goal

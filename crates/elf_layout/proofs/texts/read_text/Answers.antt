@@ -1,4 +1,4 @@
-use Rattle.std.proofs.Common.{◌≡◌, ℕ, ◌≤◌, ◌++◌, length, take, refl, sym, ap, subst, ◌∙◌, arith, rules, Ok}
+use Rattle.std.proofs.Common.{◌++◌, length, take, sym, ap, subst, ◌∙◌, arith, Ok}
 use Rattle.elf_layout.specs.Texts.{HasShortLines, IsCutBefore, PutsPiece}
 use Rattle.elf_layout.proofs.TextSteps.{all_read, cut_before, read_more}
 use Rattle.elf_layout.proofs.texts.read_text.Goals as goal

@@ -1,8 +1,7 @@
 -- The encoder's digits are the bytes of the descriptor in hexadecimal, and the tail is what stands behind the name.
-use Rattle.std.proofs.Common.{◌≡◌, ◌∙◌, ap, nat_lt, length, take, arith}
-use Rattle.elf_model.specs.Lines.{SHOWN_DESCRIPTOR, hex_bytes}
+use Rattle.std.proofs.Common.{◌∙◌, ap, arith}
+use Rattle.elf_model.specs.Lines.{hex_bytes}
 use Rattle.elf_fields.specs.Named.{shown_as}
-use Rattle.elf_lines.specs.Notes.{note_end}
 use Rattle.elf_lines.proofs.HexText.{encoded}
 use Rattle.elf_lines.proofs.NoteText.{note-tailed}
 use Rattle.elf_lines.proofs.note_rows.show_note.Goals as goal

@@ -2,7 +2,7 @@
 use Rattle.std.proofs.Common.{rules, ◌≡◌, true, false, refl, ◌∙◌, arith}
 use Rattle.std.proofs.lemmas.Result.{err_from_is_err_and}
 use Rattle.elf_model.specs.Archive.{bytes_in, is_elf, lists_members}
-use Rattle.elf_model.specs.Cost.{ceiling, listing_cost}
+use Rattle.elf_model.specs.Cost.{listing_cost, style_ceiling}
 use Rattle.elf_source.proofs.ReadsLaws.{Reads-none, Reads-to}
 use Rattle.elf_headers.specs.Permitted.{style_of}
 use Rattle.elf_archive.specs.Members.{extent_of}
@@ -62,7 +62,7 @@ check_range-requires-clause-lies g c = rw c.in_ok-begins_elf.ensures.reads.keeps
 
 pub returns-clause-ceiling : goal.returns-clause-ceiling
 returns-clause-ceiling g c =
-    Consumes-then c.args.src.now c.begins_elf.new.src c.check_range.new.src c.check_range.new.out c.check_range.result 4 (ceiling c.args.extent.size c.args.store.now.slots c.args.style.cap.bytes) _ (omega arith) c.in_ok-begins_elf.ensures.reads c.check_range.ensures.ceiling
+    Consumes-then c.args.src.now c.begins_elf.new.src c.check_range.new.src c.check_range.new.out c.check_range.result 4 (style_ceiling c.args.extent.size c.args.store.now.slots (style_of c.args.style)) _ (omega arith) c.in_ok-begins_elf.ensures.reads c.check_range.ensures.ceiling
 
 pub returns-in_err-begins_elf-clause-fault : goal.returns-in_err-begins_elf-clause-fault
 returns-in_err-begins_elf-clause-fault g c = λ file held member is.

@@ -3,7 +3,7 @@ use Rattle.std.proofs.Common.{rules, ◌≡◌, ℕ, ◌+◌, length, None, Ok, 
 use Rattle.std.proofs.lemmas.Result.{err_from_is_err_and}
 use Rattle.elf_model.specs.Archive.{Member, before_members, next_member}
 use Rattle.elf_model.specs.ArchiveCost.{header_cost, member_cost}
-use Rattle.elf_model.specs.Cost.{ceiling}
+use Rattle.elf_model.specs.Cost.{style_ceiling}
 use Rattle.elf_model.specs.FileLists.{member_fault}
 use Rattle.elf_source.proofs.ReadsLaws.{Reads-none, Reads-then}
 use Rattle.elf_headers.specs.Permitted.{style_of}
@@ -38,10 +38,10 @@ pub returns-in_err-member-clause-allowed : goal.returns-in_err-member-clause-all
 returns-in_err-member-clause-allowed g c =
     let p = err_from_is_err_and c.from_residual.result c.from_residual.ensures.1 in
     let known = c.members.invariant in
-    let cap = c.args.style.cap.bytes in
-    let bytes : ℕ = step_cost c.members.src.seen.size cap c.members.cursor in
-    let most = step_allowed c.members.src.seen.size c.members.store.slots cap c.members.cursor in
-    let within = step_ends c.args.src.now.seen.size c.members.src.seen.size c.args.store.now.slots c.members.store.slots cap known.bytes bytes _ c.members.cursor known.reads.keeps.same_size known.slots known.within (omega (arith, most)) in
+    let style = style_of c.args.style in
+    let bytes : ℕ = step_cost c.members.src.seen.size style.cap c.members.cursor in
+    let most = step_allowed c.members.src.seen.size c.members.store.slots style c.members.cursor in
+    let within = step_ends c.args.src.now.seen.size c.members.src.seen.size c.args.store.now.slots c.members.store.slots style known.bytes bytes _ c.members.cursor known.reads.keeps.same_size known.slots known.within (omega (arith, most)) in
     rw (p.1, p.2) (Consumes-then {X = Unit {0}} _ _ _ c.members.out (Err (stop_of c.in_err-member.field-0.0)) known.bytes bytes _ within known.reads (Consumes-fault _ _ c.members.out _ bytes _ (omega arith) c.in_err-member.ensures.asks.0 c.in_err-member.ensures.asks.1))
 
 pub returns-in_err-member-clause-cost : goal.returns-in_err-member-clause-cost
@@ -82,13 +82,13 @@ returns-in_err-check_member-clause-allowed g c =
     let known = c.members.invariant in
     let size = c.members.src.seen.size in
     let headers = c.members.store.slots in
-    let cap = c.args.style.cap.bytes in
+    let style = style_of c.args.style in
     let passes = rw c.in-Some.is at c.in_ok-member.ensures.steps in
-    let first : ℕ = step_cost size cap c.members.cursor in
-    let second : ℕ = 4 + ceiling c.in-Some.member.extent.size headers cap in
-    let most = member_allowed size headers cap c.in-Some.member.extent.size c.members.cursor c.advance.new.self
+    let first : ℕ = step_cost size style.cap c.members.cursor in
+    let second : ℕ = 4 + style_ceiling c.in-Some.member.extent.size headers style in
+    let most = member_allowed size headers style c.in-Some.member.extent.size c.members.cursor c.advance.new.self
     (omega (arith, passes.begins, passes.lies)) (omega (arith, passes.begins, passes.ends)) in
-    let within = step_ends c.args.src.now.seen.size size c.args.store.now.slots headers cap known.bytes (first + second) _ c.members.cursor known.reads.keeps.same_size known.slots known.within (omega (arith, most)) in
+    let within = step_ends c.args.src.now.seen.size size c.args.store.now.slots headers style known.bytes (first + second) _ c.members.cursor known.reads.keeps.same_size known.slots known.within (omega (arith, most)) in
     rw (p.1, p.2) (Consumes-then {X = Unit {0}} _ _ _ c.check_member.new.out (Err c.in_err-check_member.field-0.0) known.bytes (first + second) _ within known.reads
     (Consumes-then {X = Unit {0}} _ _ _ c.check_member.new.out (Err c.in_err-check_member.field-0.0) first second _ (omega arith) c.in_ok-member.ensures.asks.0 c.in_err-check_member.ensures.ceiling))
 
@@ -124,17 +124,17 @@ members-preserved g c =
     let known = c.members.invariant in
     let size = c.members.src.seen.size in
     let headers = c.members.store.slots in
-    let cap = c.args.style.cap.bytes in
+    let style = style_of c.args.style in
     let passes = rw c.in-Some.is at c.in_ok-member.ensures.steps in
-    let first : ℕ = step_cost size cap c.members.cursor in
-    let second : ℕ = 4 + ceiling c.in-Some.member.extent.size headers cap in
-    let most = member_allowed size headers cap c.in-Some.member.extent.size c.members.cursor c.advance.new.self
+    let first : ℕ = step_cost size style.cap c.members.cursor in
+    let second : ℕ = 4 + style_ceiling c.in-Some.member.extent.size headers style in
+    let most = member_allowed size headers style c.in-Some.member.extent.size c.members.cursor c.advance.new.self
     (omega (arith, passes.begins, passes.lies)) (omega (arith, passes.begins, passes.ends)) in
     record {
       stands = subst (λ (n : ℕ). WalkStandsIn n c.advance.new.self) known.reads.keeps.same_size passes.stands;
       slots = c.in_ok-check_member.ensures.slots ∙ known.slots;
       bytes = known.bytes + (first + second);
-      within = step_within c.args.src.now.seen.size size c.args.store.now.slots headers cap known.bytes (first + second) _ c.members.cursor c.advance.new.self
+      within = step_within c.args.src.now.seen.size size c.args.store.now.slots headers style known.bytes (first + second) _ c.members.cursor c.advance.new.self
           known.reads.keeps.same_size known.slots known.within most;
       reads = Reads-then known.reads (Reads-then c.in_ok-member.ensures.asks.0 c.in_ok-check_member.ensures.ceiling.0);
       walks = λ file held.
@@ -159,10 +159,10 @@ returns-clause-slots g c = c.members.invariant.slots
 pub returns-clause-allowed : goal.returns-clause-allowed
 returns-clause-allowed g c =
     let known = c.members.invariant in
-    let cap = c.args.style.cap.bytes in
-    let bytes : ℕ = step_cost c.members.src.seen.size cap c.members.cursor in
-    let most = step_allowed c.members.src.seen.size c.members.store.slots cap c.members.cursor in
-    let within = step_ends c.args.src.now.seen.size c.members.src.seen.size c.args.store.now.slots c.members.store.slots cap known.bytes bytes _ c.members.cursor known.reads.keeps.same_size known.slots known.within (omega (arith, most)) in
+    let style = style_of c.args.style in
+    let bytes : ℕ = step_cost c.members.src.seen.size style.cap c.members.cursor in
+    let most = step_allowed c.members.src.seen.size c.members.store.slots style c.members.cursor in
+    let within = step_ends c.args.src.now.seen.size c.members.src.seen.size c.args.store.now.slots c.members.store.slots style known.bytes bytes _ c.members.cursor known.reads.keeps.same_size known.slots known.within (omega (arith, most)) in
     Consumes-then {X = Unit {0}} _ _ _ c.members.out (Ok tt) known.bytes bytes _ within known.reads (c.in_ok-member.ensures.asks.0, tt)
 
 pub returns-clause-cost : goal.returns-clause-cost

@@ -12,12 +12,12 @@ abbrev pub invariant-members : goal.invariant-members
 invariant-members g l =
     let size = l.fn.src.seen.size in
     let headers = l.fn.store.slots in
-    let cap = l.fn.style.cap.bytes in
+    let style = style_of l.fn.style in
     record {
       stands : WalkStandsIn size l.cursor;
       slots : l.store.slots ≡ headers;
       bytes : ℕ;
-      within : bytes + allowance (size - l.cursor.at) headers cap ≤ allowance (size - 8) headers cap;
+      within : bytes + allowance (size - l.cursor.at) headers style ≤ allowance (size - 8) headers style;
       reads : Reads l.fn.src l.src bytes;
       walks : (file : List ℕ) → l.fn.src.seen.file ≡ Some file
           → CheckedSoFar file headers (style_of l.fn.style) l.fn.parts.0 (length file) before_members l.cursor l.fn.src l.src;

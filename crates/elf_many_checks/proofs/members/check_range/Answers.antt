@@ -1,7 +1,8 @@
 -- A member's listing is that of a file of its own.
 use Rattle.std.proofs.Common.{ap, arith}
 use Rattle.elf_model.specs.Archive.{bytes_in}
-use Rattle.elf_model.specs.Cost.{ceiling}
+use Rattle.elf_model.specs.Cost.{style_ceiling}
+use Rattle.elf_headers.specs.Permitted.{style_of}
 use Rattle.elf_archive.specs.Members.{extent_of}
 use Rattle.elf_archive.proofs.ConsumeLaws.{Consumes-to}
 use Rattle.elf_archive.proofs.NarrowLaws.{part_file}
@@ -10,7 +11,7 @@ use Rattle.elf_many_checks.proofs.members.check_range.Goals as goal
 
 pub returns-clause-ceiling : goal.returns-clause-ceiling
 returns-clause-ceiling g c =
-    let same = ap (λ size. ceiling size c.args.store.now.slots c.args.style.cap.bytes) c.narrow.ensures.size_is in
+    let same = ap (λ size. style_ceiling size c.args.store.now.slots (style_of c.args.style)) c.narrow.ensures.size_is in
     Consumes-to _ _ _ _ _ _ (omega (arith, same))
     (placed_consumes _ _ _ _ _ _ _ _ _ _ c.requires.whole c.requires.lies c.narrow.ensures c.list-listed.ensures.ceiling c.widen.ensures c.place_end.ensures)
 

@@ -13,7 +13,7 @@ use Rattle.elf_many_checks.proofs.members.find_fault.Goals as goal
 pub returns-in_err-magic-clause-ceiling : goal.returns-in_err-magic-clause-ceiling
 returns-in_err-magic-clause-ceiling g c =
     let p = err_from_is_err_and c.from_residual.result c.from_residual.ensures.1 in
-    rw (p.1, p.2) (Consumes-fault _ _ c.args.out.now _ 8 _ (magic_within c.args.src.now.seen.size c.args.store.now.slots c.args.style.cap.bytes) c.in_err-magic.ensures.reads c.in_err-magic.ensures.says)
+    rw (p.1, p.2) (Consumes-fault _ _ c.args.out.now _ 8 _ (magic_within c.args.src.now.seen.size c.args.store.now.slots (style_of c.args.style)) c.in_err-magic.ensures.reads c.in_err-magic.ensures.says)
 
 pub returns-in_err-magic-clause-cost : goal.returns-in_err-magic-clause-cost
 returns-in_err-magic-clause-cost g c = λ file held.
@@ -28,9 +28,9 @@ returns-in_err-magic-clause-fault g c = λ file held.
 pub returns-clause-ceiling : goal.returns-clause-ceiling
 returns-clause-ceiling g c =
     let reads = c.in_ok-magic.ensures.reads in
-    let same = ap (λ n. allowance (n - 8) c.args.store.now.slots c.args.style.cap.bytes) reads.keeps.same_size in
-    let within = allowance_within c.args.src.now.seen.size c.args.store.now.slots c.args.style.cap.bytes in
-    Consumes-then _ _ _ _ _ 8 (allowance (c.magic.new.src.seen.size - 8) c.args.store.now.slots c.args.style.cap.bytes) _ (omega (arith, same, within)) reads c.check_members.ensures.allowed
+    let same = ap (λ n. allowance (n - 8) c.args.store.now.slots (style_of c.args.style)) reads.keeps.same_size in
+    let within = allowance_within c.args.src.now.seen.size c.args.store.now.slots (style_of c.args.style) in
+    Consumes-then _ _ _ _ _ 8 (allowance (c.magic.new.src.seen.size - 8) c.args.store.now.slots (style_of c.args.style)) _ (omega (arith, same, within)) reads c.check_members.ensures.allowed
 
 pub returns-clause-cost : goal.returns-clause-cost
 returns-clause-cost g c = λ file held.

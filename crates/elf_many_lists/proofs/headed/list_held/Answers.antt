@@ -21,7 +21,7 @@ returns-in_err-shown-clause-lists g c = λ file held.
 pub returns-then-is_out_fault-clause-lists : goal.returns-then-is_out_fault-clause-lists
 returns-then-is_out_fault-clause-lists g c = λ file held.
     let now = ap (λ (seen : Seen). seen.file) c.limit.ensures.seen ∙ held in
-    let names = map (wanted_text false) (texts_of c.args.rule.now.caps.style.choice.texts.now) in
+    let names = map (wanted_text c.args.rule.now.caps.style.choice.versions) (texts_of c.args.rule.now.caps.style.choice.texts.now) in
     let named : (style_of c.args.rule.now.caps.style).choice ≡ RowsOf names = rw c.requires.named refl in
     let line = path_line c.args.rule.now.caps.style.format c.args.path.now in
     let takes = held_line c.args.out.now c.hold.new.self c.show_path-shown.new.out c.hold-2.new.self line c.hold.ensures.taken c.hold.ensures.written c.in_ok-shown.ensures.puts.0 c.hold-2.ensures.taken c.hold-2.ensures.written in
@@ -32,7 +32,7 @@ pub returns-in_err-end_held-clause-lists : goal.returns-in_err-end_held-clause-l
 returns-in_err-end_held-clause-lists g c = λ file held.
     let p = err_from_is_err_and c.from_residual-in_err-end_held.result c.from_residual-in_err-end_held.ensures.1 in
     let now = ap (λ (seen : Seen). seen.file) c.limit.ensures.seen ∙ held in
-    let names = map (wanted_text false) (texts_of c.args.rule.now.caps.style.choice.texts.now) in
+    let names = map (wanted_text c.args.rule.now.caps.style.choice.versions) (texts_of c.args.rule.now.caps.style.choice.texts.now) in
     let named : (style_of c.args.rule.now.caps.style).choice ≡ RowsOf names = rw c.requires.named refl in
     let line = path_line c.args.rule.now.caps.style.format c.args.path.now in
     let takes = held_line c.args.out.now c.hold.new.self c.show_path-shown.new.out c.hold-2.new.self line c.hold.ensures.taken c.hold.ensures.written c.in_ok-shown.ensures.puts.0 c.hold-2.ensures.taken c.hold-2.ensures.written in
@@ -44,7 +44,7 @@ returns-in_err-end_held-clause-lists g c = λ file held.
 pub returns-clause-lists : goal.returns-clause-lists
 returns-clause-lists g c = λ file held.
     let now = ap (λ (seen : Seen). seen.file) c.limit.ensures.seen ∙ held in
-    let names = map (wanted_text false) (texts_of c.args.rule.now.caps.style.choice.texts.now) in
+    let names = map (wanted_text c.args.rule.now.caps.style.choice.versions) (texts_of c.args.rule.now.caps.style.choice.texts.now) in
     let named : (style_of c.args.rule.now.caps.style).choice ≡ RowsOf names = rw c.requires.named refl in
     let line = path_line c.args.rule.now.caps.style.format c.args.path.now in
     let takes = held_line c.args.out.now c.hold.new.self c.show_path-shown.new.out c.hold-2.new.self line c.hold.ensures.taken c.hold.ensures.written c.in_ok-shown.ensures.puts.0 c.hold-2.ensures.taken c.hold-2.ensures.written in

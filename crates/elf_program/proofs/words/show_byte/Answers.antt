@@ -1,7 +1,6 @@
 use Rattle.std.proofs.Common.{◌≡◌, ◌==◌, ◌∙◌, subst, arith, false}
 use Rattle.std.proofs.lemmas.Bool.Decides.{nat_tests}
 use Rattle.elf_source.specs.Output.{Puts}
-use Rattle.elf_program.specs.Marked.{byte_beside}
 use Rattle.elf_program.proofs.MarkedText.{byte-told, newline-told}
 use Rattle.elf_program.proofs.words.show_byte.Goals.{else-byte-eq10-via-then-byte-eq10+else-mark-ne10, else-byte-eq10-via-else-byte-eq10}
 use Rattle.elf_program.proofs.words.show_byte.Goals as goal

@@ -5,7 +5,7 @@ use Rattle.std.proofs.lemmas.Result.{err_from_is_err_and}
 use Rattle.elf_source.specs.Output.{Puts}
 use Rattle.elf_fields.specs.Pieces.{TakesBefore}
 use Rattle.elf_fields.proofs.Pieces.{Puts-rest}
-use Rattle.elf_program.specs.Marked.{bytes_beside, told_beside}
+use Rattle.elf_program.specs.Marked.{bytes_beside}
 use Rattle.elf_program.proofs.MarkedText.{beside-front, beside-more, beside-none, beside-other, beside-same}
 use Rattle.elf_program.proofs.words.show_marked.Goals as goal
 

@@ -1,4 +1,5 @@
 use Rattle.std.proofs.Common.{rules, refl, ◌∙◌, arith}
+use Rattle.std.proofs.lemmas.Result.{err_from_is_err_and}
 use Rattle.elf_apply.proofs.ReadLaws.{Says-then}
 use Rattle.elf_apply.proofs.WalkSteps.{asks-none, asks-then, finds-fault}
 use Rattle.elf_headers.proofs.OpenLaws.{still_open}
@@ -19,11 +20,11 @@ step-requires g c = record {
   goes = rw c.steps.invariant.asks.reads.keeps.same_size c.steps.invariant.still;
 }
 
-pub returns-in-Ok-Stores : goal.returns-in-Ok-Stores
-returns-in-Ok-Stores g c =
+pub returns-in-Stores : goal.returns-in-Stores
+returns-in-Stores g c =
     let known = c.steps.invariant in
-    let went = c.in-Ok-Stores.ensures.went in
-    let gives = rw c.in-Ok-Stores.field-0-is at went.gives in
+    let went = c.in_ok-placed.ensures.went in
+    let gives = rw c.in-Stores.is at went.gives in
     record {
       asks = asks-then known.asks c.step.ensures.asks;
       says = tt;
@@ -34,53 +35,56 @@ returns-in-Ok-Stores g c =
       };
       known = λ file held reads.
           let way = known.reads file held reads in
-          let step = rw c.in-Ok-Stores.field-0-is at c.in-Ok-Stores.ensures.known file (known.asks.reads.keeps.same_file ∙ held) way.1 in
+          let step = rw c.in-Stores.is at c.in_ok-placed.ensures.known file (known.asks.reads.keeps.same_file ∙ held) way.1 in
           (way.0 ∙ step.0, step.1);
     }
 
 pub steps-smaller : goal.steps-smaller
-steps-smaller g c = rw c.in-Ok-Nothing.field-0-is at c.in-Ok-Nothing.ensures.went.gives
+steps-smaller g c = rw c.in-Nothing.is at c.in_ok-placed.ensures.went.gives
 
 pub steps-preserved : goal.steps-preserved
 steps-preserved g c =
     let known = c.steps.invariant in
-    let went = c.in-Ok-Nothing.ensures.went in
+    let went = c.in_ok-placed.ensures.went in
     record {
       asks = asks-then known.asks c.step.ensures.asks;
       still = rw known.asks.reads.keeps.same_size at went.goes;
-      fewer = omega (arith, known.fewer, rw c.in-Ok-Nothing.field-0-is at went.gives);
+      fewer = omega (arith, known.fewer, rw c.in-Nothing.is at went.gives);
       counts = went.counts ∙ known.counts;
       reads = λ file held reads.
           let way = known.reads file held reads in
-          let step = rw c.in-Ok-Nothing.field-0-is at c.in-Ok-Nothing.ensures.known file (known.asks.reads.keeps.same_file ∙ held) way.1 in
+          let step = rw c.in-Nothing.is at c.in_ok-placed.ensures.known file (known.asks.reads.keeps.same_file ∙ held) way.1 in
           (way.0 ∙ step.0, step.1);
     }
 
-pub returns-in-Ok-End : goal.returns-in-Ok-End
-returns-in-Ok-End g c =
+pub returns-in-End : goal.returns-in-End
+returns-in-End g c =
     let known = c.steps.invariant in
-    let went = c.in-Ok-End.ensures.went in
+    let went = c.in_ok-placed.ensures.went in
     record {
       asks = asks-then known.asks c.step.ensures.asks;
       says = tt;
       went = record {
         goes = rw known.asks.reads.keeps.same_size at went.goes;
         counts = went.counts ∙ known.counts;
-        gives = rw c.in-Ok-End.field-0-is at went.gives;
+        gives = rw c.in-End.is at went.gives;
       };
       known = λ file held reads.
           let way = known.reads file held reads in
-          way.0 ∙ (rw c.in-Ok-End.field-0-is at c.in-Ok-End.ensures.known file (known.asks.reads.keeps.same_file ∙ held) way.1);
+          way.0 ∙ (rw c.in-End.is at c.in_ok-placed.ensures.known file (known.asks.reads.keeps.same_file ∙ held) way.1);
     }
 
-pub returns-in-Err : goal.returns-in-Err
-returns-in-Err g c =
+pub returns-in_err-placed : goal.returns-in_err-placed
+returns-in_err-placed g c =
+    let p = err_from_is_err_and c.from_residual.result c.from_residual.ensures.1 in
     let known = c.steps.invariant in
-    record {
+    let e = c.in_err-placed.ensures in
+    rw (p.1, p.2)
+    (record {
       asks = asks-then known.asks c.step.ensures.asks;
-      says = Says-then c.args.src.now c.steps.src c.step.new.src _ _ _ c.in-Err.fault known.asks.reads known.asks.account c.in-Err.ensures.says;
+      says = Says-then c.args.src.now c.steps.src c.step.new.src _ _ _ _ known.asks.reads known.asks.account e.says;
       went = tt;
       known = λ file held reads.
           let way = known.reads file held reads in
-          finds-fault file c.args.target.now c.args.self.now c.steps.self c.step.new.self c.in-Err.fault way.0 (c.in-Err.ensures.known file (known.asks.reads.keeps.same_file ∙ held) way.1);
-    }
+          finds-fault file c.args.target.now c.args.self.now c.steps.self c.step.new.self _ way.0 (e.known file (known.asks.reads.keeps.same_file ∙ held) way.1);
+    })

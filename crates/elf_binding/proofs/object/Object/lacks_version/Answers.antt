@@ -1,5 +1,5 @@
 -- The look for a version, between a limit that is set and taken away.
-use Rattle.std.proofs.Common.{◌≡◌, ◌*◌, ◌/◌, ◌≤◌, refl, arith, mul-le-mul_right}
+use Rattle.std.proofs.Common.{◌*◌, ◌/◌, refl, arith, mul-le-mul_right}
 use Rattle.elf_headers.proofs.LedgerLaws.{Charges-more}
 use Rattle.elf_loader.proofs.ReadLaws.{most_all}
 use Rattle.elf_model.specs.Loader.{Version}

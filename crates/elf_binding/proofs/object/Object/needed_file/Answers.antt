@@ -1,5 +1,5 @@
 -- The name of a needed file, between a limit that is set and taken away.
-use Rattle.std.proofs.Common.{◌≡◌, ◌<◌, refl, arith}
+use Rattle.std.proofs.Common.{◌≡◌, refl, arith}
 use Rattle.elf_table.specs.Tables.{strings_in}
 use Rattle.elf_binding.proofs.SpendLaws.{spent_off}
 use Rattle.elf_binding.proofs.object.Object.needed_file.Goals as goal

@@ -1,4 +1,4 @@
-use Rattle.std.proofs.Common.{◌≡◌, ℕ, ap, sym, subst, ◌∙◌, Equal, nat_cmp, get_or}
+use Rattle.std.proofs.Common.{ap, sym, subst, ◌∙◌, Equal, nat_cmp, get_or}
 use Rattle.std.proofs.lemmas.Cmp.{nat_cmp_total, ranked}
 use Rattle.elf_layout.specs.Lent.{lent_index, named, placed}
 use Rattle.elf_layout.specs.Listed.{HasTwice, NeverFalls}
@@ -15,16 +15,16 @@ returns-in-Err-clause-refused c =
 
 pub returns-in-Err-names-clause-refused : goal.returns-in-Err-names-clause-refused
 returns-in-Err-names-clause-refused c =
-    subst (λ l. HasTwice l c.in-Err-names.item.name.now) (ap named c.as_slice-2.ensures.value ∙ ap (λ l. l.definitions) c.self.view_is) (c.in-Err-names.ensures.refused)
+    subst (λ l. HasTwice l c.in-Err-names.field-0.name.now) (ap named c.as_slice-2.ensures.value ∙ ap (λ l. l.definitions) c.self.view_is) (c.in-Err-names.ensures.refused)
 
 pub returns-in-Err-names-2-clause-refused : goal.returns-in-Err-names-2-clause-refused
 returns-in-Err-names-2-clause-refused c =
-    subst (λ l. HasTwice l c.in-Err-names-2.item.name.now) (ap named c.as_slice-3.ensures.value ∙ ap (λ l. l.linkage) c.self.view_is) (c.in-Err-names-2.ensures.refused)
+    subst (λ l. HasTwice l c.in-Err-names-2.field-0.name.now) (ap named c.as_slice-3.ensures.value ∙ ap (λ l. l.linkage) c.self.view_is) (c.in-Err-names-2.ensures.refused)
 
 pub returns-in-Err-names-3-clause-refused : goal.returns-in-Err-names-3-clause-refused
 returns-in-Err-names-3-clause-refused c =
-    subst (λ l. HasTwice l c.in-Err-names-3.item.name.now) (ap named c.as_slice-4.ensures.value ∙ ap (λ l. l.table) c.self.view_is) (c.in-Err-names-3.ensures.refused)
+    subst (λ l. HasTwice l c.in-Err-names-3.field-0.name.now) (ap named c.as_slice-4.ensures.value ∙ ap (λ l. l.table) c.self.view_is) (c.in-Err-names-3.ensures.refused)
 
 pub returns-in-Err-names-4-clause-refused : goal.returns-in-Err-names-4-clause-refused
 returns-in-Err-names-4-clause-refused c =
-    subst (λ l. HasTwice l c.in-Err-names-4.item.name.now) (ap named c.as_slice-5.ensures.value ∙ ap (λ l. l.thread) c.self.view_is) (c.in-Err-names-4.ensures.refused)
+    subst (λ l. HasTwice l c.in-Err-names-4.field-0.name.now) (ap named c.as_slice-5.ensures.value ∙ ap (λ l. l.thread) c.self.view_is) (c.in-Err-names-4.ensures.refused)

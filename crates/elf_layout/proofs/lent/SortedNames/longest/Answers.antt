@@ -1,4 +1,4 @@
-use Rattle.std.proofs.Common.{◌≤◌, ◌∙◌, sym, subst}
+use Rattle.std.proofs.Common.{◌≤◌, sym, subst}
 use Rattle.elf_layout.proofs.NameSteps.{few_bytes}
 use Rattle.elf_layout.proofs.lent.SortedNames.longest.Goals as goal
 

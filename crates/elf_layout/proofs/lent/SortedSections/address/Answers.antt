@@ -1,4 +1,4 @@
-use Rattle.std.proofs.Common.{◌≡◌, sym, subst, ◌∙◌, ap, get_or, Some, None}
+use Rattle.std.proofs.Common.{sym, ◌∙◌, ap, get_or}
 use Rattle.elf_model.specs.Placing.{address_in}
 use Rattle.std.proofs.lemmas.List.{get_or_default}
 use Rattle.elf_layout.proofs.LentSteps.{nowhere, section_found, section_absent}

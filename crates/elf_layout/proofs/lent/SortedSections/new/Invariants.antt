@@ -1,5 +1,5 @@
 -- The indices before this one rise.
-use Rattle.std.proofs.Common.{length, ◌-◌, ◌≤◌, nat_cmp}
+use Rattle.std.proofs.Common.{length, ◌-◌, ◌≤◌}
 use Rattle.std.proofs.lemmas.Cmp.{nat_cmp_total}
 use Rattle.elf_layout.specs.Lent.{lent_index}
 use Rattle.elf_layout.proofs.LentSteps.{Below}

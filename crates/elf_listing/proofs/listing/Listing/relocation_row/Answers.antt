@@ -26,7 +26,7 @@ returns g c = Lists-named _ _ _ _ _ _ _ _ (omega arith) c.in_ok-end.ensures.fetc
     let read = c.in_ok-end.ensures.read file (section_at file c.args.section) held of_kind.0 in
     let row = relocation_is file _ (style_of c.args.self.now.style) c.args.section (section_at file c.args.section) c.args.row.now.at _ c.args.row.now.index here front symbol in
     rw (← c.in_ok-end.ensures.fetches.1)
-    (Writes-as _ _ _ (row ∙ chosen-shown _ _ _ _ _ _ read (chosen-as c.args.self.now.style _ _ _ _ c.in_ok-end.ensures.fetches.0.same_style c.is_shown.ensures c.if-not-is_shown.false))
+    (Writes-as _ _ _ (row ∙ chosen-shown _ _ _ _ _ _ read (chosen-as c.args.self.now.style _ _ _ _ _ c.in_ok-end.ensures.fetches.0.same_style c.is_shown.ensures c.if-not-is_shown.false))
     (c.named_line.ensures.shows _ _ read)))
 
 pub returns-then-not-is_shown : goal.returns-then-not-is_shown
@@ -36,7 +36,7 @@ returns-then-not-is_shown g c = Lists-hidden _ _ _ _ _ _ (omega arith) c.in_ok-e
     let symbol = c.symbol-symbol.ensures ∙ ap (λ n. n / 2 ^ 32) decoded.r_info in
     rw (
       relocation_is file _ (style_of c.args.self.now.style) c.args.section (section_at file c.args.section) c.args.row.now.at _ c.args.row.now.index here refl symbol,
-      chosen-hidden _ _ _ _ _ _ (c.in_ok-end.ensures.read file (section_at file c.args.section) held of_kind.0) (chosen-as c.args.self.now.style _ _ _ _ c.in_ok-end.ensures.fetches.0.same_style c.is_shown.ensures c.if-not-is_shown.true),
+      chosen-hidden _ _ _ _ _ _ (c.in_ok-end.ensures.read file (section_at file c.args.section) held of_kind.0) (chosen-as c.args.self.now.style _ _ _ _ _ c.in_ok-end.ensures.fetches.0.same_style c.is_shown.ensures c.if-not-is_shown.true),
       c.in_ok-end.ensures.fetches.1,
     )
     (Whole-none _))

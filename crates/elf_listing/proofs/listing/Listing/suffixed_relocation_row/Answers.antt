@@ -12,7 +12,7 @@ use Rattle.elf_listing.specs.Suffixed.{suffix_read}
 use Rattle.elf_listing.proofs.RowLaws.{Writes-as, chosen-as}
 use Rattle.elf_listing.proofs.ListsLaws.{Lists-hidden, Lists-named, Lists-unread}
 use Rattle.elf_listing.proofs.ShowLaws.{Whole-none}
-use Rattle.elf_listing.proofs.SuffixShown.{Fetches-then, Stopped-suffix, Stopped-unnamed, chosen-suffix, suffixed-hidden, suffixed-shown, suffixed_relocation_is}
+use Rattle.elf_listing.proofs.SuffixShown.{Fetches-then, Stopped-suffix, Stopped-unnamed, suffixed-hidden, suffixed-shown, suffixed_relocation_is}
 use Rattle.elf_listing.proofs.listing.Listing.suffixed_relocation_row.Goals as goal
 
 pub returns-in_err-read : goal.returns-in_err-read
@@ -44,8 +44,8 @@ returns-in_err-suffix g c =
     rw (suffixed_relocation_is file _ (style_of c.args.self.now.style) c.args.section at c.args.row.now.at _ c.args.row.now.index here refl symbol, both.1)
     (Stopped-suffix _ _ _ _ c.in_ok-read.read.end _ _ _ _ _ read behind)))
 
-pub returns-then-not-is_shown : goal.returns-then-not-is_shown
-returns-then-not-is_shown g c =
+pub returns-then-not-is_suffixed_shown : goal.returns-then-not-is_suffixed_shown
+returns-then-not-is_suffixed_shown g c =
     let first = c.in_ok-read.ensures.fetches in
     let same = first.0.same_style in
     let cap = c.args.self.now.style.cap.bytes in
@@ -58,11 +58,11 @@ returns-then-not-is_shown g c =
     let read = c.in_ok-read.ensures.read file at held of_kind.0 in
     let defined = c.in_ok-read.ensures.defined file at held of_kind.0 in
     let behind = rw same at (c.in_ok-suffix.ensures.read file (first.2.reads.keeps.same_file ∙ held) (sh_link file at) (entry_at file (linked_at file at) 24 c.symbol-symbol.result) of_kind.2 defined) in
-    let hidden = rw c.in_ok-suffix.ensures.kept at (chosen-as c.args.self.now.style _ _ _ _ both.0.same_style c.is_shown.ensures c.if-not-is_shown.true) in
+    let hidden = rw c.in_ok-suffix.ensures.kept at (chosen-as c.args.self.now.style _ _ _ _ _ both.0.same_style c.is_suffixed_shown.ensures c.if-not-is_suffixed_shown.true) in
     rw both.1
     (Writes-as {X = Unit {0}} _ _ (Ok tt)
     (suffixed_relocation_is file _ (style_of c.args.self.now.style) c.args.section at c.args.row.now.at _ c.args.row.now.index here refl symbol
-    ∙ suffixed-hidden _ _ _ c.in_ok-read.read.end _ _ _ c.in_ok-suffix.suffix _ read behind (chosen-suffix c.args.self.now.style.choice (shown_by c.in_ok-read.read.end c.read_linked.new.self.name) (suffix_read c.in_ok-suffix.suffix c.read_entry.new.version) ∙ hidden))
+    ∙ suffixed-hidden _ _ _ c.in_ok-read.read.end _ _ _ c.in_ok-suffix.suffix _ read behind hidden)
     (Whole-none _)))
 
 pub returns : goal.returns
@@ -80,8 +80,8 @@ returns g c =
     let defined = c.in_ok-read.ensures.defined file at held of_kind.0 in
     let front = rw (c.requires.format, c.naming-naming.ensures.gnu, c.naming-naming.ensures.machine file held) at (c.relocation_front.ensures.front file c.args.row.now.at decoded) in
     let behind = rw same at (c.in_ok-suffix.ensures.read file (first.2.reads.keeps.same_file ∙ held) (sh_link file at) (entry_at file (linked_at file at) 24 c.symbol-symbol.result) of_kind.2 defined) in
-    let shown = rw c.in_ok-suffix.ensures.kept at (chosen-as c.args.self.now.style _ _ _ _ both.0.same_style c.is_shown.ensures c.if-not-is_shown.false) in
+    let shown = rw c.in_ok-suffix.ensures.kept at (chosen-as c.args.self.now.style _ _ _ _ _ both.0.same_style c.is_suffixed_shown.ensures c.if-not-is_suffixed_shown.false) in
     let now = rw (sym c.in_ok-suffix.ensures.kept) at read in
     rw (← both.1)
-    (Writes-as _ _ _ (suffixed_relocation_is file _ (style_of c.args.self.now.style) c.args.section at c.args.row.now.at _ c.args.row.now.index here front symbol ∙ suffixed-shown _ _ _ c.in_ok-read.read.end _ _ _ c.in_ok-suffix.suffix _ read behind (chosen-suffix c.args.self.now.style.choice (shown_by c.in_ok-read.read.end c.read_linked.new.self.name) (suffix_read c.in_ok-suffix.suffix c.read_entry.new.version) ∙ shown))
+    (Writes-as _ _ _ (suffixed_relocation_is file _ (style_of c.args.self.now.style) c.args.section at c.args.row.now.at _ c.args.row.now.index here front symbol ∙ suffixed-shown _ _ _ c.in_ok-read.read.end _ _ _ c.in_ok-suffix.suffix _ read behind shown)
     (c.suffixed_line.ensures.shows _ _ now)))

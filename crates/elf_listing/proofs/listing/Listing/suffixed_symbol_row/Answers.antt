@@ -11,7 +11,7 @@ use Rattle.elf_listing.specs.Suffixed.{suffix_read}
 use Rattle.elf_listing.proofs.RowLaws.{Writes-as, chosen-as}
 use Rattle.elf_listing.proofs.ListsLaws.{Lists-hidden, Lists-named, Lists-unread}
 use Rattle.elf_listing.proofs.ShowLaws.{Whole-none}
-use Rattle.elf_listing.proofs.SuffixShown.{Fetches-then, Stopped-suffix, Stopped-unnamed, chosen-suffix, suffixed-hidden, suffixed-shown, suffixed_symbol_is}
+use Rattle.elf_listing.proofs.SuffixShown.{Fetches-then, Stopped-suffix, Stopped-unnamed, suffixed-hidden, suffixed-shown, suffixed_symbol_is}
 use Rattle.elf_listing.proofs.listing.Listing.suffixed_symbol_row.Goals as goal
 
 pub returns-in_err-end : goal.returns-in_err-end
@@ -38,8 +38,8 @@ returns-in_err-suffix g c =
     rw (suffixed_symbol_is file (style_of c.args.self.now.style) _ _ _ _ _ _ refl of_kind.0 (c.from-off.ensures ∙ decoded.st_name) here, both.1)
     (Stopped-suffix _ _ _ _ c.in_ok-end.end _ _ _ _ _ read behind)))
 
-pub returns-then-not-is_shown : goal.returns-then-not-is_shown
-returns-then-not-is_shown g c =
+pub returns-then-not-is_suffixed_shown : goal.returns-then-not-is_suffixed_shown
+returns-then-not-is_suffixed_shown g c =
     let first = c.in_ok-end.ensures.fetches in
     let same = first.0.same_style in
     let cap = c.args.self.now.style.cap.bytes in
@@ -50,11 +50,11 @@ returns-then-not-is_shown g c =
     let defined = ap (λ (n : ℕ). not (n == 0)) decoded.st_shndx in
     let read = c.in_ok-end.ensures.read file held in
     let behind = rw same at (c.in_ok-suffix.ensures.read file (first.2.reads.keeps.same_file ∙ held) c.args.section c.args.row.now.at of_kind.2 defined) in
-    let hidden = rw c.in_ok-suffix.ensures.kept at (chosen-as c.args.self.now.style _ _ _ _ both.0.same_style c.is_shown.ensures c.if-not-is_shown.true) in
+    let hidden = rw c.in_ok-suffix.ensures.kept at (chosen-as c.args.self.now.style _ _ _ _ _ both.0.same_style c.is_suffixed_shown.ensures c.if-not-is_suffixed_shown.true) in
     rw both.1
     (Writes-as {X = Unit {0}} _ _ (Ok tt)
     (suffixed_symbol_is file (style_of c.args.self.now.style) _ _ _ _ _ _ refl of_kind.0 (c.from-off.ensures ∙ decoded.st_name) here
-    ∙ suffixed-hidden _ _ _ c.in_ok-end.end _ _ _ c.in_ok-suffix.suffix _ read behind (chosen-suffix c.args.self.now.style.choice (shown_by c.in_ok-end.end c.read_name.new.self.name) (suffix_read c.in_ok-suffix.suffix c.read_suffix.new.version) ∙ hidden))
+    ∙ suffixed-hidden _ _ _ c.in_ok-end.end _ _ _ c.in_ok-suffix.suffix _ read behind hidden)
     (Whole-none _)))
 
 pub returns : goal.returns
@@ -70,8 +70,8 @@ returns g c =
     let front = rw (c.requires.format, c.naming-naming.ensures.gnu, c.naming-naming.ensures.machine file held) at (c.symbol_front.ensures.front file c.args.row.now.at decoded) in
     let read = c.in_ok-end.ensures.read file held in
     let behind = rw same at (c.in_ok-suffix.ensures.read file (first.2.reads.keeps.same_file ∙ held) c.args.section c.args.row.now.at of_kind.2 defined) in
-    let shown = rw c.in_ok-suffix.ensures.kept at (chosen-as c.args.self.now.style _ _ _ _ both.0.same_style c.is_shown.ensures c.if-not-is_shown.false) in
+    let shown = rw c.in_ok-suffix.ensures.kept at (chosen-as c.args.self.now.style _ _ _ _ _ both.0.same_style c.is_suffixed_shown.ensures c.if-not-is_suffixed_shown.false) in
     let now = rw (sym c.in_ok-suffix.ensures.kept) at read in
     rw (← both.1)
-    (Writes-as _ _ _ (suffixed_symbol_is file (style_of c.args.self.now.style) _ _ _ _ _ _ front of_kind.0 (c.from-off.ensures ∙ decoded.st_name) here ∙ suffixed-shown _ _ _ c.in_ok-end.end _ _ _ c.in_ok-suffix.suffix _ read behind (chosen-suffix c.args.self.now.style.choice (shown_by c.in_ok-end.end c.read_name.new.self.name) (suffix_read c.in_ok-suffix.suffix c.read_suffix.new.version) ∙ shown))
+    (Writes-as _ _ _ (suffixed_symbol_is file (style_of c.args.self.now.style) _ _ _ _ _ _ front of_kind.0 (c.from-off.ensures ∙ decoded.st_name) here ∙ suffixed-shown _ _ _ c.in_ok-end.end _ _ _ c.in_ok-suffix.suffix _ read behind shown)
     (c.suffixed_line.ensures.shows _ _ now)))

@@ -22,7 +22,7 @@ returns g c = Lists-named _ _ _ _ _ _ _ _ (omega arith) c.in_ok-end.ensures.fetc
     let front = rw (c.requires.format, c.naming-naming.ensures.gnu, c.naming-naming.ensures.machine file held) at (c.symbol_front.ensures.front file c.args.row.now.at decoded) in
     let read = c.in_ok-end.ensures.read file held in
     rw (← c.in_ok-end.ensures.fetches.1)
-    (Writes-as _ _ _ (symbol_is file (style_of c.args.self.now.style) _ _ _ _ _ _ front of_kind.0 (c.from-off.ensures ∙ decoded.st_name) here ∙ chosen-shown _ _ _ _ _ _ read (chosen-as c.args.self.now.style _ _ _ _ c.in_ok-end.ensures.fetches.0.same_style c.is_shown.ensures c.if-not-is_shown.false))
+    (Writes-as _ _ _ (symbol_is file (style_of c.args.self.now.style) _ _ _ _ _ _ front of_kind.0 (c.from-off.ensures ∙ decoded.st_name) here ∙ chosen-shown _ _ _ _ _ _ read (chosen-as c.args.self.now.style _ _ _ _ _ c.in_ok-end.ensures.fetches.0.same_style c.is_shown.ensures c.if-not-is_shown.false))
     (c.named_line.ensures.shows _ _ read)))
 
 pub returns-then-not-is_shown : goal.returns-then-not-is_shown
@@ -31,7 +31,7 @@ returns-then-not-is_shown g c = Lists-hidden _ _ _ _ _ _ (omega arith) c.in_ok-e
     let here : c.args.row.now.at ≡ sh_offset file (section_at file c.args.section) + c.args.row.now.index * 24 = omega (arith, of_kind.1, row.here) in
     rw (
       symbol_is file (style_of c.args.self.now.style) _ _ _ _ _ _ refl of_kind.0 (c.from-off.ensures ∙ decoded.st_name) here,
-      chosen-hidden _ _ _ _ _ _ (c.in_ok-end.ensures.read file held) (chosen-as c.args.self.now.style _ _ _ _ c.in_ok-end.ensures.fetches.0.same_style c.is_shown.ensures c.if-not-is_shown.true),
+      chosen-hidden _ _ _ _ _ _ (c.in_ok-end.ensures.read file held) (chosen-as c.args.self.now.style _ _ _ _ _ c.in_ok-end.ensures.fetches.0.same_style c.is_shown.ensures c.if-not-is_shown.true),
       c.in_ok-end.ensures.fetches.1,
     )
     (Whole-none _))

@@ -21,7 +21,7 @@ returns g c = Lists-named _ _ _ _ _ _ _ _ (omega arith) c.in_ok-end.ensures.fetc
     let front = rw c.requires.format at c.version_front.ensures.front in
     let read = c.in_ok-end.ensures.read file held in
     rw (record_is file (style_of c.args.self.now.style) c.args.section _ met c.args.given.now is, ← off, ← front, ← c.in_ok-end.ensures.fetches.1)
-    (Writes-as _ _ _ (chosen-shown _ _ _ _ _ _ read (chosen-as c.args.self.now.style _ _ _ _ c.in_ok-end.ensures.fetches.0.same_style c.is_shown.ensures c.if-not-is_shown.false))
+    (Writes-as _ _ _ (chosen-shown _ _ _ _ _ _ read (chosen-as c.args.self.now.style _ _ _ _ _ c.in_ok-end.ensures.fetches.0.same_style c.is_shown.ensures c.if-not-is_shown.false))
     (c.named_line.ensures.shows _ _ read)))
 
 pub returns-then-not-is_shown : goal.returns-then-not-is_shown
@@ -30,7 +30,7 @@ returns-then-not-is_shown g c = Lists-hidden _ _ _ _ _ _ (omega arith) c.in_ok-e
     rw (
       record_is file (style_of c.args.self.now.style) c.args.section _ met c.args.given.now is,
       ← off,
-      chosen-hidden _ _ _ _ _ _ (c.in_ok-end.ensures.read file held) (chosen-as c.args.self.now.style _ _ _ _ c.in_ok-end.ensures.fetches.0.same_style c.is_shown.ensures c.if-not-is_shown.true),
+      chosen-hidden _ _ _ _ _ _ (c.in_ok-end.ensures.read file held) (chosen-as c.args.self.now.style _ _ _ _ _ c.in_ok-end.ensures.fetches.0.same_style c.is_shown.ensures c.if-not-is_shown.true),
       c.in_ok-end.ensures.fetches.1,
     )
     (Whole-none _))

@@ -21,7 +21,7 @@ returns g c = Lists-named _ _ _ _ _ _ _ _ (omega arith) c.in_ok-end.ensures.fetc
     let read = c.in_ok-end.ensures.read file held in
     let told = told_is file (style_of c.args.self.now.style) c.args.numbered.now c.args.section c.args.row.now.at c.args.row.now.index _ _ word (rw c.requires.format at c.symbol_version_front.ensures.front) in
     rw (sym row.here, ← c.in_ok-end.ensures.fetches.1)
-    (Writes-as _ _ _ (told ∙ chosen-shown _ _ _ _ _ _ read (chosen-as c.args.self.now.style _ _ _ _ c.in_ok-end.ensures.fetches.0.same_style c.is_shown.ensures c.if-not-is_shown.false))
+    (Writes-as _ _ _ (told ∙ chosen-shown _ _ _ _ _ _ read (chosen-as c.args.self.now.style _ _ _ _ _ c.in_ok-end.ensures.fetches.0.same_style c.is_shown.ensures c.if-not-is_shown.false))
     (c.named_line.ensures.shows _ _ read)))
 
 pub returns-then-not-is_shown : goal.returns-then-not-is_shown
@@ -30,7 +30,7 @@ returns-then-not-is_shown g c = Lists-hidden _ _ _ _ _ _ (omega arith) c.in_ok-e
     rw (
       sym row.here,
       told_is file (style_of c.args.self.now.style) c.args.numbered.now c.args.section c.args.row.now.at c.args.row.now.index _ _ word refl,
-      chosen-hidden _ _ _ _ _ _ (c.in_ok-end.ensures.read file held) (chosen-as c.args.self.now.style _ _ _ _ c.in_ok-end.ensures.fetches.0.same_style c.is_shown.ensures c.if-not-is_shown.true),
+      chosen-hidden _ _ _ _ _ _ (c.in_ok-end.ensures.read file held) (chosen-as c.args.self.now.style _ _ _ _ _ c.in_ok-end.ensures.fetches.0.same_style c.is_shown.ensures c.if-not-is_shown.true),
       c.in_ok-end.ensures.fetches.1,
     )
     (Whole-none _))

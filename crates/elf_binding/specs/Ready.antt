@@ -1,0 +1,53 @@
+-- What the lookups in one file have in common: the counts of its hash table, and that no record of versions is refused.
+use Rattle.std.specs.Prelude.{ℕ, ◌≡◌, ◌+◌, ◌*◌, ◌/◌, ◌<◌, ◌==◌, ◌&&◌, if◌then◌else◌, Bool, true, false, List, [], ◌∷◌, length, Option, None, Some, Result, Ok, Err, IfSome}
+use Rattle.std.specs.List.{list_any}
+use Rattle.elf_model.specs.Checks.{first_refusal}
+use Rattle.elf_model.specs.Loader.{Asked, Version, asked_name}
+use Rattle.elf_model.specs.LoaderFind.{counts_check, record_cost, wanted_numbers}
+use Rattle.elf_model.specs.LoaderScope.{Scope as IsScopeOf}
+use Rattle.elf_model.specs.Names.{same}
+use Rattle.elf_headers.specs.declared.fault.Fault.{Fault}
+use Rattle.elf_table.specs.Tables.{strings_in}
+use Rattle.elf_scope.specs.declared.symbols.RecordTable.{RecordTable}
+use Rattle.elf_hash.specs.Scopes.{IsTable}
+use Rattle.elf_hash.specs.declared.table.HashTable.{HashTable}
+
+-- whether bytes have a NUL
+abbrev pub has_zero : List ℕ → Bool
+has_zero bytes = list_any (λ b. b == 0) bytes
+
+-- the name of the version that is asked for has no NUL
+abbrev pub HasNoNul : Asked → Type 0
+HasNoNul asked = IfSome (asked_name asked) (λ version. has_zero version ≡ false)
+
+-- bytes end in a NUL: the name at the index of the last one is the empty one
+abbrev pub EndsInNul : List ℕ → Type 0
+EndsInNul bytes = (last : ℕ) × (length bytes ≡ last + 1) × (same bytes last [] ≡ Ok true)
+
+-- a table of records has a byte, and the strings of its names end in a NUL
+abbrev pub NamesEnd : List ℕ → RecordTable → Type 0
+NamesEnd file records = (0 < records.table.count) × EndsInNul (strings_in file records.names)
+
+-- THE TABLE IS READY for lookups in a file: its counts pass their check, and no version that has no NUL in its name is refused
+pub record IsReady (file : List ℕ) (told : IsScopeOf) (table : HashTable) : Type 0 where
+  pub counts : first_refusal (counts_check file told ∷ []) ≡ None
+  pub is : IsTable file told table
+  pub versions : (asked : Asked) → HasNoNul asked → (wanted_numbers file told asked).refused ≡ None
+
+-- the same of the table, if there is one
+abbrev pub IsReadyIf : List ℕ → IsScopeOf → Option HashTable → Type 0
+IsReadyIf file told None = Unit {0}
+IsReadyIf file told (Some table) = IsReady file told table
+
+abbrev pub TellsReady : List ℕ → IsScopeOf → Result (Option HashTable) Fault → Type 0
+TellsReady file told (Ok ready) = IsReadyIf file told ready
+TellsReady file told (Err fault) = Unit {0}
+
+-- a table, where both are so
+abbrev pub table_where : (one other : Bool) → HashTable → Option HashTable
+table_where one other table = if one && other then Some table else None
+
+-- how many bytes that asks for in a source of this size, whatever its bytes are: the counts, the records of versions with a
+-- byte of the name of each, and the ends of two tables of strings
+abbrev pub ready_bytes : ℕ → ℕ
+ready_bytes size = 16 + size / 8 * record_cost (Version []) + 128

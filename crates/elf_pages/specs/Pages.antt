@@ -1,0 +1,28 @@
+-- Pages of a file that are held, and what they give.
+use Rattle.std.specs.Prelude.{ℕ, ◌≡◌, ◌+◌, ◌-◌, Bool, true, false, List, length, take, drop, Some, All}
+use Rattle.elf_model.specs.Bytes.{slice}
+use Rattle.elf_source.specs.Source.{Seen}
+
+-- bytes that are held of a file, from an offset on
+pub record HeldBytes : Type 0 where
+  pub at : ℕ
+  pub bytes : List ℕ
+
+-- they are the file's
+abbrev pub IsHeld : List ℕ → HeldBytes → Type 0
+IsHeld file held = held.bytes ≡ slice file held.at (length held.bytes)
+
+-- of a source whose file is known all pages that are held are the file's
+abbrev pub AreHeld : Seen → List HeldBytes → Type 0
+AreHeld seen pages = (file : List ℕ) → seen.file ≡ Some file → All (IsHeld file) pages
+
+-- the bytes at an offset are given by what is held, where that has all of them; else nothing is
+abbrev pub GivesHeld : HeldBytes → (at : ℕ) → (old new : List ℕ) → Bool → Type 0
+GivesHeld held at old new true =
+    (file : List ℕ) → IsHeld file held → new ≡ take (length old) (drop at file)
+GivesHeld held at old new false = new ≡ old
+
+-- the same of all pages of a source
+abbrev pub GivesOf : Seen → (at : ℕ) → (old new : List ℕ) → Bool → Type 0
+GivesOf seen at old new true = (file : List ℕ) → seen.file ≡ Some file → new ≡ take (length old) (drop at file)
+GivesOf seen at old new false = new ≡ old

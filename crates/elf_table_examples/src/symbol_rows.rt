@@ -1,0 +1,26 @@
+//! Worked examples of what dynamic symbols tell, each computed by the prover.
+ghost use Rattle.elf_table_examples.specs.ExamplesSymbols.{CanaryRows, CountRows, FortifyRows, NameFaults};
+
+/// Symbols of guards, and others.
+#[tactic(auto, unfolding(elf_model::proofs::OnLiterals::on_literals, elf_model::proofs::OnLoader::on_loader, crate::proofs::OnTraits::on_traits))]
+pub fn canary_rows()
+    ensures { CanaryRows }
+{}
+
+/// Calls that are checked, and others.
+#[tactic(auto, unfolding(elf_model::proofs::OnLiterals::on_literals, elf_model::proofs::OnLoader::on_loader, crate::proofs::OnTraits::on_traits))]
+pub fn fortify_rows()
+    ensures { FortifyRows }
+{}
+
+/// How many symbols a hash table knows of.
+#[tactic(auto, unfolding(elf_model::proofs::OnLiterals::on_literals, elf_model::proofs::OnLoader::on_loader, crate::proofs::OnTraits::on_traits))]
+pub fn count_rows()
+    ensures { CountRows }
+{}
+
+/// Faults of names are at the symbol.
+#[tactic(auto, unfolding(elf_model::proofs::OnLiterals::on_literals, elf_model::proofs::OnLoader::on_loader, crate::proofs::OnTraits::on_traits))]
+pub fn name_faults()
+    ensures { NameFaults }
+{}
