@@ -14,7 +14,7 @@ ghost use Rattle.elf_layout.specs.Layouts.{items_cost, names_for};
 ghost use Rattle.elf_apply.specs.Costs.{AnswersUnread, FindsAddress, GivesValue, ValueOrRefusal};
 
 use elf_headers::{Fault, fill, refused};
-use elf_layout::{Addresses, Among, NamedAddress, SortedNames};
+use elf_layout::{Addresses, Among, ITEM_NAME_BYTES, NamedAddress, SortedNames};
 use elf_record::gnu_numbers::STT_GNU_IFUNC;
 use elf_record::numbers::{SHN_UNDEF, STB_WEAK, STT_LOOS};
 use elf_record::{Cause, Place, Sym};
@@ -23,7 +23,7 @@ use elf_source::{Counted, Source};
 use elf_table::Names;
 
 /// How many bytes of a symbol's name are read at most: the longest name of a layout, and its NUL.
-const NAME_BUFFER_BYTES: usize = 256;
+const NAME_BUFFER_BYTES: usize = ITEM_NAME_BYTES + 1;
 
 /// A symbol that stands at an offset of the file, with the string table of its name.
 #[derive(Clone, Copy)]

@@ -7,7 +7,7 @@ use Rattle.elf_model.specs.Names.{Shown}
 use Rattle.elf_model.specs.Notes.{capped}
 use Rattle.elf_model.specs.declared.causes.Cause.{Cause}
 use Rattle.elf_model.specs.declared.causes.Refusal.{Refusal}
-use Rattle.elf_fields.specs.Named.{shown_as}
+use Rattle.elf_model.specs.ShownNames.{shown_as}
 use Rattle.elf_memory.specs.declared.name.ByteRange.{ByteRange}
 use Rattle.elf_archive.specs.declared.rows.MemberRow.{MemberRow}
 use Rattle.elf_archive.specs.declared.rows.MembersLeft.{MembersLeft}

@@ -12,7 +12,7 @@ use Rattle.elf_model.specs.declared.causes.Cause.{Cause}
 use Rattle.elf_model.specs.declared.causes.Cause.TheVariants.{MemberCut, NameUnended}
 use Rattle.elf_headers.specs.declared.fault.Fault.{Fault}
 use Rattle.elf_headers.specs.declared.fault.Fault.TheVariants.{Refused, Source}
-use Rattle.elf_fields.specs.Named.{shown_as}
+use Rattle.elf_model.specs.ShownNames.{shown_as}
 use Rattle.elf_table.specs.NamesRead.{Refuses}
 use Rattle.elf_archive.specs.declared.member.Extent.{Extent as Place}
 use Rattle.elf_archive.specs.declared.member.Member.{Member as Given}

@@ -8,12 +8,10 @@ ghost use Rattle.elf_explain.specs.Explained.{TellsSymbolName, WithoutName};
 
 use crate::lacking::Lacking;
 use elf_headers::{Cap, Fault};
+use elf_layout::ITEM_NAME_BYTES;
 use elf_record::Cause;
 use elf_source::{Counted, Source};
 use elf_table::{NameBuf, NameEnd};
-
-/// How many bytes of a symbol's name are read: the most that the name of an item has.
-const ITEM_NAME_BYTES: u16 = 255;
 
 /// Reads the name of the symbol into `name`, its first 255 bytes; where `st_name` is 0 it has none,
 /// and nothing is read (gABI 4, Symbol Table). None where the name has a fault. Then, and after a
@@ -37,7 +35,7 @@ pub(crate) fn read_name<S: Source>(
         return Ok(Some(NameEnd::Whole));
     }
     let cap = Cap {
-        bytes: ITEM_NAME_BYTES,
+        bytes: ITEM_NAME_BYTES as u16,
     };
     match lacking
         .names

@@ -19,9 +19,12 @@ with_versions cap format choice = record { cap = cap; gnu = true; by_segments = 
 unfoldable pub symbols_listed : List ℕ → List ℕ
 symbols_listed file = report_of Columns (suffixed_symbol_rows file (with_versions 63 Columns EveryRow) 2 (section_at file 2))
 
-unfoldable pub asked_listed : List (List ℕ) → List ℕ → List ℕ
-asked_listed texts file =
-    report_of Columns (suffixed_symbol_rows file (with_versions 63 Columns (RowsOf (map (wanted_text true) texts))) 2 (section_at file 2))
+unfoldable pub asked_within : ℕ → List (List ℕ) → List ℕ → List ℕ
+asked_within cap texts file =
+    report_of Columns (suffixed_symbol_rows file (with_versions cap Columns (RowsOf (map (wanted_text true) texts))) 2 (section_at file 2))
+
+abbrev pub asked_listed : List (List ℕ) → List ℕ → List ℕ
+asked_listed = asked_within 63
 
 -- the lines of its symbols
 abbrev pub puts_line : List ℕ
@@ -55,6 +58,20 @@ TextsAskForVersions =
     × (asked_listed (codes "g@V1" ∷ []) versioned_library ≡ [])
     × (asked_listed (codes "puts@@GLIBC_2.2.5" ∷ []) versioned_library ≡ [])
     × (asked_listed (codes "puts@GLIBC_2.2.5" ∷ codes "f@@V2" ∷ []) versioned_library ≡ puts_line ++ default_line)
+
+-- a name that is a front of another, and one that is cut, are none that a text asks for; nor are versions that are
+abbrev pub FrontsAreNotAskedFor : Type 0
+FrontsAreNotAskedFor =
+    (asked_listed (codes "put@GLIBC_2.2.5" ∷ []) versioned_library ≡ [])
+    × (asked_listed (codes "f@V" ∷ codes "f@V12" ∷ []) versioned_library ≡ [])
+    × (asked_within 4 (codes "puts@GLIBC_2.2.5" ∷ []) versioned_library ≡ [])
+    × (asked_within 4 (codes "puts" ∷ []) versioned_library
+    ≡ codes "Y     2          1 0000000000000000 0000000000000000 FUNC    GLOBAL DEFAULT   UND   puts@GLIB\\+\n")
+    × (asked_within 3 (codes "puts" ∷ codes "put" ∷ []) versioned_library ≡ [])
+
+-- the sign parts a text, so no text asks for a name with one in it
+abbrev pub SignsPartTexts : Type 0
+SignsPartTexts = asked_listed (codes "f@V1" ∷ []) (with_bytes 0x171 (codes "f@V1") versioned_library) ≡ hidden_line
 
 -- a number that no record names, at its word; a symbol without a word, at the section; a name outside its table, at the record
 abbrev pub RowsAreRefused : Type 0

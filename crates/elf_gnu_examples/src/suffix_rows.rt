@@ -1,5 +1,5 @@
 //! Worked rows of the versions behind the names of symbols, each computed by the prover.
-ghost use Rattle.elf_gnu_examples.specs.ListedSuffixes.{EntriesHaveVersions, ObjectsHaveVersions, OtherTablesHaveTheirs, RowsAreRefused, SymbolsHaveVersions, TablesAreRefused, TextsAskForVersions};
+ghost use Rattle.elf_gnu_examples.specs.ListedSuffixes.{EntriesHaveVersions, FrontsAreNotAskedFor, ObjectsHaveVersions, OtherTablesHaveTheirs, RowsAreRefused, SignsPartTexts, SymbolsHaveVersions, TablesAreRefused, TextsAskForVersions};
 
 /// Symbols with a version, a hidden one, a needed one, and none.
 #[tactic(auto, unfolding(elf_model::proofs::OnLiterals::on_literals, crate::proofs::OnExamples::on_examples))]
@@ -11,6 +11,18 @@ pub fn symbols_have_versions()
 #[tactic(auto, unfolding(elf_model::proofs::OnLiterals::on_literals, crate::proofs::OnExamples::on_examples))]
 pub fn texts_ask_for_versions()
     ensures { TextsAskForVersions }
+{}
+
+/// A name that is a front of another, one of a byte more than are shown, and the same of versions.
+#[tactic(auto, unfolding(elf_model::proofs::OnLiterals::on_literals, crate::proofs::OnExamples::on_examples))]
+pub fn fronts_are_not_asked_for()
+    ensures { FrontsAreNotAskedFor }
+{}
+
+/// A name with a sign in it.
+#[tactic(auto, unfolding(elf_model::proofs::OnLiterals::on_literals, crate::proofs::OnExamples::on_examples))]
+pub fn signs_part_texts()
+    ensures { SignsPartTexts }
 {}
 
 /// Faults at a row.

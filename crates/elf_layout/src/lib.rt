@@ -15,6 +15,6 @@ pub use addresses::{Addresses, Among, LentLayout};
 pub use items::{Items, ItemsFault};
 pub use layout::{Item, Layout, LayoutFault};
 pub use lent::{LentName, LentSection, SortedNames, SortedSections};
-pub use named::NamedAddress;
+pub use named::{ITEM_NAME_BYTES, NamedAddress};
 pub use spelled::item;
 pub use texts::{TextEnd, read_text};

@@ -5,7 +5,7 @@ ghost use Rattle.elf_layout.specs.Layouts.{HasKey, LacksKey, items_cost};
 use std::marker::Model;
 
 /// The most bytes that a name in a layout has.
-pub(crate) const ITEM_NAME_BYTES: usize = 255;
+pub const ITEM_NAME_BYTES: usize = 255;
 
 /// A name of at most 255 bytes, which it holds itself, with the address that is given for it.
 #[derive(Drop)]

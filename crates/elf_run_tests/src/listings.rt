@@ -6,7 +6,7 @@ use elf_fixtures::{
     hash_with_cycle, library_without_sections, note_segment, one_call, one_symbol_table,
 };
 use elf_headers::HeaderRoom;
-use elf_listing::FIXED_BYTES;
+use elf_listing::{FIXED_BYTES, SUFFIX_BYTES, VERSION_BYTES};
 use elf_source::{MemorySource, StreamSource};
 use std::process::Abort;
 use std::test::Fail;
@@ -90,4 +90,6 @@ fn a_stream_lists_as_memory_does(rt: HostRuntime) -> Result<(), Fail> {
 fn the_fixed_buffers_are_small(rt: HostRuntime) {
     assert!(rt; FIXED_BYTES == 16_276);
     assert!(rt; FIXED_BYTES <= 16_384);
+    assert!(rt; VERSION_BYTES <= 8_192);
+    assert!(rt; SUFFIX_BYTES == 12_288);
 }

@@ -1,8 +1,10 @@
 -- What a sink that holds bytes back has given to the sink below it.
-use Rattle.std.proofs.Common.{◌≡◌, ℕ, ◌+◌, ◌-◌, ◌≤◌, List, [], ◌++◌, Option, sym, ap, ◌∙◌, length, take, drop, subst, arith}
+use Rattle.std.proofs.Common.{◌≡◌, ℕ, ◌+◌, ◌-◌, ◌≤◌, List, [], ◌++◌, Option, None, Some, refl, sym, ap, ◌∙◌, length, take, drop, subst, append_assoc, arith}
 use Rattle.std.specs.Io.KnownBytes.{Appends, Keeps, append_known}
 use Rattle.std.proofs.KnownBytes.{append_known-moved}
-use Rattle.std.proofs.lemmas.List.{take-append-drop, drop-take, drop-drop}
+use Rattle.std.proofs.Math.Seq.{take-append_seam}
+use Rattle.std.specs.List.{copy_within}
+use Rattle.std.proofs.lemmas.List.{take-append-drop, take-take, drop-append-le, drop-take, drop-drop, length-drop, length-take-le}
 
 -- the bytes between two places
 between : (room : List ℕ) (from to : ℕ) → from ≤ to → take (to - from) (drop from room) ≡ drop from (take to room)
@@ -27,3 +29,44 @@ Released_all a b room from to r le all p =
     let same : to ≡ to + 0 = omega arith in
     let none : drop (from + r) (take to room) ≡ [] = rw all (ap (λ k. drop to (take k room)) same ∙ drop-take to 0 room) in
     subst (λ (l : List ℕ). Keeps (append_known a (drop from (take to room))) (append_known b l)) none (Released a b room from to r le p)
+
+-- the last of them, which are taken back
+last_held : (room : List ℕ) (from to less : ℕ) → from ≤ less → less ≤ to → to ≤ length room → drop from (take to room) ≡ drop from (take less room) ++ drop less (take to room)
+last_held room from to less first le fits =
+    let front : take less (take to room) ≡ take less room = take-take less to room le in
+    let sized : length (take less room) ≡ less = length-take-le less room (omega (arith, le, fits)) in
+    ap (drop from) (sym (take-append-drop less (take to room)) ∙ ap (λ l. l ++ drop less (take to room)) front)
+    ∙ drop-append-le from (take less room) (drop less (take to room)) (omega (arith, sized, first))
+
+known_both : (a : Option (List ℕ)) (x y : List ℕ) → append_known a (x ++ y) ≡ append_known (append_known a x) y
+known_both None x y = refl
+known_both (Some all) x y = ap Some (sym (append_assoc all x y))
+
+pub held_back : (below : Option (List ℕ)) (room : List ℕ) (from to less count : ℕ) → from ≤ less → less + count ≡ to → to ≤ length room
+    → (append_known below (drop from (take to room)) ≡ append_known (append_known below (drop from (take less room))) (drop less (take to room)))
+    × (length (drop less (take to room)) ≡ count)
+held_back below room from to less count first all fits =
+    let sized : length (take to room) ≡ to = length-take-le to room fits in (
+      ap (append_known below) (last_held room from to less first (omega (arith, all)) fits) ∙ known_both below (drop from (take less room)) (drop less (take to room)),
+      omega (arith, length-drop less (take to room), sized, all),
+    )
+
+-- what is left behind the bytes that went out moves to the front of the room
+pub moved_up : (room new : List ℕ) (given len : ℕ) → given ≤ len → len ≤ length room → new ≡ copy_within room given len 0
+    → take (len - given) new ≡ drop given (take len room)
+moved_up room new given len le fits is =
+    let rest = take (len - given) (drop given room) in
+    let sized : length rest ≡ len - given = length-take-le (len - given) (drop given room) (omega (arith, length-drop given room, le, fits)) in
+    ap (take (len - given)) is ∙ (ap (λ n. take n (rest ++ drop (0 + (len - given)) room)) (sym sized)
+    ∙ (take-append_seam rest (drop (0 + (len - given)) room) ∙ between room given len le))
+
+pub front_kept : (a b : Option (List ℕ)) (room : List ℕ) (given count len : ℕ) → given ≤ count → count ≤ len → Appends a b (take given (take count room)) → Appends a b (take given (take len room))
+front_kept a b room given count len le fits p =
+    let same : take given (take count room) ≡ take given (take len room) = take-take given count room le ∙ sym (take-take given len room (omega (arith, le, fits))) in
+    subst (λ (l : List ℕ). Appends a b l) same p
+
+pub given_front : (a b : Option (List ℕ)) (room : List ℕ) (given count len : ℕ) → given ≤ count → count ≤ len → Appends a b (take given (take count room))
+    → Keeps (append_known a (take len room)) (append_known b (drop given (take len room)))
+given_front a b room given count len le fits p =
+    let all = take len room in
+    append_known-moved a b (take given all) (drop given all) all (front_kept a b room given count len le fits p) (sym (take-append-drop given all))

@@ -1,5 +1,5 @@
 -- What is given to a sink, and what it took.
-use Rattle.std.specs.Prelude.{◌≡◌, ℕ, ◌+◌, ◌-◌, ◌^◌, ◌<◌, ◌≤◌, Bool, true, false, List, ◌++◌, Option, None, Some, Result, Ok, Err, min, length, take}
+use Rattle.std.specs.Prelude.{◌≡◌, ℕ, ◌+◌, ◌-◌, ◌^◌, ◌<◌, ◌≤◌, ◌==◌, ◌⊎◌, if◌then◌else◌, slice_index, Bool, true, false, List, ◌++◌, Option, None, Some, Result, Ok, Err, min, length, drop, take}
 use Rattle.std.specs.Io.KnownBytes.{Appends, append_known}
 use Rattle.elf_source.specs.declared.faults.OutFault.{OutFault}
 
@@ -14,17 +14,44 @@ pub record Writing (W : Type 0) : Type 0 where
   pub writer : W
   pub failed : Bool
 
--- a sink that may hold bytes back: what the sink below it took, the bytes that are held, whether a take failed
+-- how much of so much room is free for bytes to be held behind others: nothing where some of these went out
+abbrev pub free_behind : (from to room : ℕ) → ℕ
+free_behind from to room = if from == 0 then room - to else 0
+
+-- a sink that may hold bytes back: what the sink below it took, the bytes that are held, for how many it has room, and of that how
+-- much is free, whether a take failed
 pub record HeldOutput : Type 0 where
   pub below : Option (List ℕ)
   pub held : List ℕ
+  pub room : ℕ
+  pub free : ℕ
   pub failed : Bool
 
--- it holds some of these bytes, behind those that it held; or nothing changed
+-- it holds as many of these bytes, behind those that it held, as there is room for; none exactly where no room is free, and nothing changes
 abbrev pub KeepsSome : HeldOutput → HeldOutput → Option ℕ → List ℕ → Type 0
-KeepsSome old new None bytes = new ≡ old
+KeepsSome old new None bytes = (new ≡ old) × (old.free ≡ 0)
 KeepsSome old new (Some count) bytes =
-    (0 < count) × (count ≤ length bytes) × (new.below ≡ old.below) × (new.held ≡ old.held ++ take count bytes)
+    (0 < count) × (count ≡ min old.free (length bytes)) × (new.below ≡ old.below) × (new.held ≡ old.held ++ take count bytes)
+    × (new.room ≡ old.room) × (new.free ≡ old.free - count)
+
+-- it gave on a front of what it kept, of at most so many bytes, and keeps the rest: all of that front unless the sink below fails
+pub record GivesFront (old new : HeldOutput) (count : ℕ) : Type 0 where
+  pub given : ℕ
+  pub within : given ≤ count
+  pub went : Appends old.below new.below (take given old.held)
+  pub left : new.held ≡ drop given old.held
+  pub room : new.room ≡ old.room
+  pub free : new.free ≡ old.free + given
+  pub all : new.failed ≡ false → given ≡ count
+
+-- no line ends in these bytes from a place on
+abbrev pub NoLineFrom : ℕ → List ℕ → Type 0
+NoLineFrom from bytes = (place : ℕ) → from ≤ place → place < length bytes → slice_index bytes place ≡ 10 → ⊥
+
+-- so many of these bytes are whole lines: they end with the last line that ends in them, or are all bytes where none does
+abbrev pub AreWholeLines : List ℕ → ℕ → Type 0
+AreWholeLines bytes count =
+    ((0 < count) × (slice_index bytes (count - 1) ≡ 10) × NoLineFrom count bytes) ⊎ ((count ≡ length bytes) × NoLineFrom 0 bytes)
 
 -- what is seen of an output: the bytes that its sink knows, how many it took, and whether it has failed
 pub record Written : Type 0 where

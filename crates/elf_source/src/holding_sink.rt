@@ -24,13 +24,15 @@ pub struct HoldingSink<W: Sink> {
 
 impl<W: Sink> Model for HoldingSink<W> {
     ghost use Rattle.std.specs.Prelude.{◌≤◌, ◌||◌, drop, length, take};
-    ghost use Rattle.elf_source.specs.Output.{HeldOutput};
+    ghost use Rattle.elf_source.specs.Output.{HeldOutput, free_behind};
 
     ghost Value = { HeldOutput };
 
     ghost view = { λ s. record {
       below = W.taken s.sink;
       held = drop s.from (take s.to s.room.items);
+      room = length s.room.items;
+      free = free_behind s.from s.to (length s.room.items);
       failed = s.broken || W.failed s.sink;
     } };
 
@@ -42,6 +44,7 @@ impl<W: Sink> HoldingSink<W> {
     pub fn new(sink: W, room: Vec<u8>) -> Self
         ensures below { result.below ≡ W.taken sink }
         ensures held { result.held ≡ [] }
+        ensures room { (result.room ≡ length room.items) × (result.free ≡ length room.items) }
         ensures failed { result.failed ≡ W.failed sink }
     {
         HoldingSink {
@@ -67,8 +70,8 @@ impl<W: Sink> HoldingSink<W> {
         self.holds = holds;
     }
 
-    /// Holds as many of `bytes` as there is room for; None where there is none, or some that were held went
-    /// out.
+    /// Holds as many of `bytes` as there is room for; None exactly where there is none, or some that were
+    /// held went out.
     fn keep(&mut self, bytes: &[u8]) -> Option<usize>
         requires { 0 < length bytes.now }
         ensures failed { self.new.failed ≡ self.old.failed }
@@ -90,7 +93,9 @@ impl<W: Sink> HoldingSink<W> {
     fn release(&mut self)
         ensures keeps { Keeps (append_known self.old.below self.old.held)
             (append_known self.new.below self.new.held) }
-        ensures all { self.new.failed ≡ false → self.new.held ≡ [] }
+        ensures room { self.new.room ≡ self.old.room }
+        ensures all { self.new.failed ≡ false →
+            (self.new.held ≡ []) × (self.new.free ≡ self.new.room) }
     {
         let held = &self.room[self.from..self.to];
         self.from += give(&mut self.sink, held);
@@ -142,16 +147,15 @@ impl<W: Sink> Out<HoldingSink<W>> {
         self.sink.keep_on(holds);
     }
 
-    /// Takes back the bytes that are held, where they are so many, and has so many count as `written` as are
-    /// given; false where they are not, and nothing changes.
+    /// Takes back the last bytes that are held, so many, and has so many count as `written` as are
+    /// given; false where fewer are held, and nothing changes.
     pub fn take_back(&mut self, count: u128, written: u128) -> bool
         ensures { TakesBackIf result self.old self.new count written }
     {
-        if (self.sink.to - self.sink.from) as u128 != count {
+        if ((self.sink.to - self.sink.from) as u128) < count {
             return false;
         }
-        self.sink.from = 0;
-        self.sink.to = 0;
+        self.sink.to -= count as usize;
         self.written = written;
         true
     }

@@ -90,7 +90,8 @@ impl<'a> RowChoice<'a> {
     /// Whether the row of a name with a version behind it is shown, in three such searches.
     #[tactic(auto, using(elf_model::proofs::ChoiceLemmas::names_are_chosen, elf_model::proofs::ChoiceLemmas::names_alone_are_chosen, elf_model::proofs::ChoiceLemmas::versions_are_chosen, elf_model::proofs::ChoiceLemmas::cut_names_are_none))]
     pub fn shows_version(&self, name: &[u8], is_cut: bool, version: &ShownVersion<'_>) -> bool
-        ensures { result ≡ chooses (choice_of self.now) (shown_as is_cut name.now) (behind_of version.now) }
+        ensures { result ≡ chooses (choice_of self.now)
+            (shown_as is_cut name.now) (behind_of version.now) }
     {
         if self.shows(name, is_cut) {
             return true;

@@ -33,7 +33,8 @@ impl Joined<'_> {
     /// How what stands behind the name stands to this text's.
     #[tactic(auto, using(crate::proofs::JoinedLaws::compared_behind))]
     fn compare_behind(&self, behind: &[u8]) -> Ordering
-        ensures { result ≡ slice_cmp nat_cmp behind.now (self.now.sign.now ++ self.now.version.now) }
+        ensures { result ≡ slice_cmp nat_cmp behind.now
+            (self.now.sign.now ++ self.now.version.now) }
     {
         let (sign, version) = parted_at(behind, self.sign.len());
         match sign.cmp(self.sign) {
