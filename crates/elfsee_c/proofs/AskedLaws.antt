@@ -1,11 +1,13 @@
 -- A listing that is asked for is one in its style.
-use Rattle.std.proofs.Common.{◌≡◌, ◌≤◌, ℕ, List, Option, Some, subst}
+use Rattle.std.proofs.Common.{◌≡◌, ◌≤◌, ℕ, List, Option, Some, length, sym, subst, ◌∙◌, arith}
+use Rattle.std.specs.Prelude.{IfSome}
 use Rattle.elf_model.specs.Budget.{IsBudgeted}
 use Rattle.elf_model.specs.Cost.{listing_cost}
 use Rattle.elf_model.specs.Style.{Style}
 use Rattle.elf_calls.specs.Asked.{AsksListing, GivesListing, LentTexts, caller_style, parts_in, style_in}
 use Rattle.elf_calls.specs.Limits.{AreCaps, budget_of, headers_of}
-use Rattle.elf_calls.specs.Shown.{FillsMemory, ShowsInMemory}
+use Rattle.elf_calls.specs.Shown.{FillsMemory, HasStyledListing, ShowsInMemory}
+use Rattle.elf_calls.specs.Told.{IsStatus}
 use Rattle.elf_calls.specs.declared.caller_listing.CallerListing.{CallerListing}
 use Rattle.elf_calls.specs.declared.end.End.{End}
 use Rattle.elf_calls.specs.declared.limits.CallerLimits.{CallerLimits}
@@ -35,3 +37,27 @@ module _ (file : List ℕ) (limits : CallerLimits) (room : ℕ) (asked : List �
   costs_asked n within =
       subst (λ (style : Style). n ≤ listing_cost file (headers_of limits room) style (parts_in asked)) (gives.2 limits.name)
       (subst (λ parts. n ≤ listing_cost file (headers_of limits room) (caller_style listing limits.name) parts) gives.1 within)
+
+-- what was listed, told as numbers: the counts stay
+pub told_listing : (May : Type 0) (file : List ℕ) (limits : CallerLimits) (room : ℕ) (style : Style) (parts status : ℕ) (before out : List ℕ) (old new : End) (told : Told)
+    → ShowsInMemory May file limits room style parts before out old told → old.written ≤ length out → old.asked ≤ listing_cost file (headers_of limits room) style parts
+    → IfSome (budget_of limits) (λ bytes. old.asked ≤ bytes) → new.written ≡ old.written → new.asked ≡ old.asked → IsStatus status new told
+    → HasStyledListing May file limits room style parts status before out new
+told_listing May file limits room style parts status before out old new told shows within cost budget written asked is = record {
+  told = told;
+  shows = same told shows;
+  status_is = is;
+  within = omega (arith, written, within);
+  cost = omega (arith, asked, cost);
+  budget = subst (λ (n : ℕ). IfSome (budget_of limits) (λ bytes. n ≤ bytes)) (sym asked) budget;
+}
+  where
+    fills_same : (t : Told) → FillsMemory (IsBudgeted (budget_of limits) file (headers_of limits room) style parts) out old.written t
+        → FillsMemory (IsBudgeted (budget_of limits) file (headers_of limits room) style parts) out new.written t
+    fills_same t fill = subst (λ (n : ℕ). FillsMemory (IsBudgeted (budget_of limits) file (headers_of limits room) style parts) out n t) (sym written) fill
+
+    same : (t : Told) → ShowsInMemory May file limits room style parts before out old t → ShowsInMemory May file limits room style parts before out new t
+    same Done s = (s.0, fills_same Done s.1)
+    same (Refused refusal) s = (s.0, fills_same (Refused refusal) s.1)
+    same Full s = (s.0, fills_same Full s.1)
+    same BadCall s = (s.0, (s.1.0, written ∙ s.1.1, asked ∙ s.1.2))

@@ -1,7 +1,8 @@
 //! The exports that list a file in memory.
 ghost use Rattle.std.specs.Prelude.{◌≡◌, ◌≤◌, ℕ, IfSome, List, None, Option, Some, length};
 ghost use Rattle.elf_model.specs.Cost.{listing_cost};
-ghost use Rattle.elf_calls.specs.Asked.{AsksListing, GivesListing, LentTexts, caller_style, parts_in, style_in};
+ghost use Rattle.elf_calls.specs.Asked.{AsksListing, GivesListing, LentTexts, caller_style};
+ghost use Rattle.elf_calls.specs.Asked.{parts_in, style_in};
 ghost use Rattle.elf_calls.specs.Limits.{AreCaps, budget_of, headers_of};
 ghost use Rattle.elf_calls.specs.Shown.{HasAskedListing, HasListing, ShowsInMemory};
 
@@ -124,10 +125,11 @@ fn show_to(
 ) -> Told
     ensures shows { let room = length room.old in
         ShowsInMemory (AreCaps limits.now room) file.now limits.now room
-        (caller_style listing.entry limits.now.name) listing.parts.0 out.old out.new end.new result }
+        (caller_style listing.entry limits.now.name) listing.entry.parts.0
+        out.old out.new end.new result }
     ensures within { end.new.written ≤ length out.new }
     ensures cost { end.new.asked ≤ listing_cost file.now (headers_of limits.now (length room.old))
-        (caller_style listing.entry limits.now.name) listing.parts.0 }
+        (caller_style listing.entry limits.now.name) listing.entry.parts.0 }
     ensures budget { IfSome (budget_of limits.now) (λ bytes. end.new.asked ≤ bytes) }
     ensures clear { (end.new.cause ≡ 0) × (end.new.at ≡ 0) × (end.new.none ≡ 0) }
 {

@@ -1,0 +1,16 @@
+-- What was listed is told as numbers.
+use Rattle.std.proofs.Common.{None, Some, length}
+use Rattle.elf_calls.specs.Asked.{AsksListing, parts_in, style_in}
+use Rattle.elf_calls.specs.Limits.{AreCaps}
+use Rattle.elfsee_c.proofs.AskedLaws.{told_listing}
+use Rattle.elfsee_c.proofs.show.elfsee_list_names.Goals as goal
+
+pub returns : goal.returns
+returns c =
+    let limits = c.args.limits.now in
+    let room = length c.args.room.now in
+    let asked = c.args.asked.now in
+    let did = c.list_to-told.ensures in
+    let gives = c.named_listing_of.ensures in
+    told_listing (AreCaps limits room × AsksListing asked (Some c.args.names.now)) c.args.file.now limits room (style_in asked (Some c.args.names.now) limits.name) (parts_in asked) c.tell_told.result c.args.out.now c.list_to-told.new.out
+    c.list_to-told.new.end c.tell_told.new.end c.list_to-told.result (did.shows asked (Some c.args.names.now) gives) did.within (did.cost asked (Some c.args.names.now) gives) did.budget c.tell_told.ensures.written c.tell_told.ensures.asked c.tell_told.ensures.status
