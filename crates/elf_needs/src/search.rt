@@ -1,10 +1,10 @@
 //! The search for a library.
+ghost use Rattle.std.specs.Prelude.{◌≤◌, length};
+
 use crate::candidates::{FileSource, candidate};
 use crate::known::{Known, MOST_OBJECTS, Objects};
 use crate::walk::NeedsFault;
-use elf_search::{
-    FolderLists, LibrarySearch, Needer, NeederChain, TriedPath, gather_folders, named_path,
-};
+use elf_search::{FolderLists, LibrarySearch, Needer, TriedPath, gather_folders, named_path};
 use memchr::memchr;
 use std::os::unix::fs::FileExt;
 use std::rt::Files;
@@ -57,15 +57,9 @@ impl Search<'_> {
             }
             return self.candidate(rt);
         }
-        let needers = chain(objects, needer);
-        let mut lists = FolderLists::new();
-        let SearchedFolders {
-            library,
-            default,
-            root,
-        } = self.folders;
-        gather_folders(&needers, library, default, &mut lists);
-        self.try_all(rt, LibrarySearch::new(root, name, &lists))
+        let mut lists = no_lists();
+        gather(objects, needer, &self.folders, &mut lists);
+        self.try_all(rt, LibrarySearch::new(self.folders.root, name, &lists))
     }
 
     /// Tries paths, one after another.
@@ -95,22 +89,44 @@ impl Search<'_> {
     }
 }
 
-/// An object, the one that first needed it, and so on up to the program.
-fn chain<'a>(objects: &'a Objects, known: &Known) -> NeederChain<'a> {
-    let mut chain = NeederChain::new();
+/// No texts of folders. It is not made part of its caller, whose stack would hold them three times.
+#[inline(never)]
+fn no_lists<'a>() -> FolderLists<'a> {
+    FolderLists::new()
+}
+
+/// Puts the texts of the folders in which a library is looked for that an object needs. It is not made part
+/// of its caller, whose stack would hold the objects above while paths are tried.
+#[inline(never)]
+fn gather<'a>(
+    objects: &'a Objects,
+    needer: &Known,
+    folders: &SearchedFolders<'a>,
+    lists: &mut FolderLists<'a>,
+) {
+    let mut chain = [Needer::default(); MOST_OBJECTS];
+    let count = put_chain(objects, needer, &mut chain);
+    gather_folders(&chain[..count], folders.library, folders.default, lists);
+}
+
+/// Puts an object, the one that first needed it, and so on up to the program, as many as there is room for,
+/// at the front of others. Answers how many.
+fn put_chain<'a>(objects: &'a Objects, known: &Known, chain: &mut [Needer<'a>]) -> usize
+    ensures { result ≤ length chain.new }
+{
     let mut known = *known;
-    for _above in 0..MOST_OBJECTS {
-        let _ = chain.try_push(Needer {
+    for place in 0..chain.len() {
+        chain[place] = Needer {
             rpath: objects.text(known.links.rpath),
             runpath: objects.text(known.links.runpath),
             folder: objects.folder(&known),
-        });
+        };
         let Some(above) = above(objects, &known) else {
-            return chain;
+            return place + 1;
         };
         known = above;
     }
-    chain
+    chain.len()
 }
 
 /// The object that first needed another, if one did.

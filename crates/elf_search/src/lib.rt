@@ -12,7 +12,7 @@ mod tries;
 pub mod worked;
 
 pub use folders::FolderList;
-pub use needers::{FolderLists, Needer, NeederChain, gather_folders};
+pub use needers::{FolderLists, Needer, gather_folders};
 pub use paths::{TriedPath, folder_of_path, named_path};
 pub use search::LibrarySearch;
 pub use tries::PathTries;

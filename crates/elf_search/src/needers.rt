@@ -31,10 +31,6 @@ impl<'a> Default for Needer<'a> {
     }
 }
 
-/// An object that needs a library, and behind it those above it: each the one that first needed the one
-/// before.
-pub type NeederChain<'a> = ArrayVec<Needer<'a>, 512>;
-
 /// Texts of folders, in the order in which they are searched.
 pub type FolderLists<'a> = ArrayVec<FolderList<'a>, 515>;
 
