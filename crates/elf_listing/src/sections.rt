@@ -48,6 +48,7 @@ impl<S: Source, W: Sink> Listing<'_, '_, '_, '_, S, W> {
 
     /// Shows the symbols of a section, where it holds symbols: a `Y` line each, or the first
     /// refusal of its table, of its string table or of a name (gABI 4, Symbol Table).
+    #[inline(never)]
     pub(crate) fn symbols(&mut self, section: u16) -> Result<(), Stop>
         requires { section < self.old.file.store.now.loaded }
         ensures { ListsHeader Symbols self.old self.new result section }
@@ -63,6 +64,7 @@ impl<S: Source, W: Sink> Listing<'_, '_, '_, '_, S, W> {
     /// Shows the relocation entries of a section, where it holds them: an `R` line each, or the
     /// first refusal of its table, of the symbols that they refer to or of an entry (gABI 4,
     /// Relocation).
+    #[inline(never)]
     pub(crate) fn relocations(&mut self, section: u16) -> Result<(), Stop>
         requires { section < self.old.file.store.now.loaded }
         ensures { ListsHeader Relocations self.old self.new result section }
@@ -77,6 +79,7 @@ impl<S: Source, W: Sink> Listing<'_, '_, '_, '_, S, W> {
 
     /// Shows the notes of a section, where it holds notes: an `N` line each, or the refusal of its
     /// table or of what stands in the place of a note (gABI 5, Note Section).
+    #[inline(never)]
     pub(crate) fn section_notes(&mut self, section: u16) -> Result<(), Stop>
         requires { section < self.old.file.store.now.loaded }
         ensures { ListsHeader SectionNotes self.old self.new result section }
@@ -93,6 +96,7 @@ impl<S: Source, W: Sink> Listing<'_, '_, '_, '_, S, W> {
     /// Shows the dynamic entries of a section, where it holds them: a `D` line each up to and with
     /// the first DT_NULL, or the first refusal of its table, of its string table or of a string
     /// (gABI 5, Dynamic Section).
+    #[inline(never)]
     pub(crate) fn section_dynamic(&mut self, section: u16) -> Result<(), Stop>
         requires { section < self.old.file.store.now.loaded }
         ensures { ListsHeader SectionDynamic self.old self.new result section }

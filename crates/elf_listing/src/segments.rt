@@ -54,6 +54,7 @@ impl<'f, S: Source, W: Sink> Listing<'_, '_, 'f, '_, S, W> {
 
     /// Shows the notes of a segment, where it holds notes, as those of a section (gABI 5, Note
     /// Section).
+    #[inline(never)]
     pub(crate) fn segment_notes(&mut self, segment: u16) -> Result<(), Stop>
         requires { segment < self.old.file.store.now.segments }
         ensures { ListsHeader SegmentNotes self.old self.new result segment }
@@ -70,6 +71,7 @@ impl<'f, S: Source, W: Sink> Listing<'_, '_, 'f, '_, S, W> {
     /// Shows the dynamic entries of a segment, where it holds them, as those of a section. Their
     /// strings are where a segment loads them: the entries are gone through once for the address
     /// and the size, and once more to be shown (gABI 5, Dynamic Section).
+    #[inline(never)]
     pub(crate) fn segment_dynamic(&mut self, segment: u16) -> Result<(), Stop>
         requires { segment < self.old.file.store.now.segments }
         ensures { ListsHeader SegmentDynamic self.old self.new result segment }

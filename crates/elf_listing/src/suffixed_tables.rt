@@ -17,6 +17,7 @@ impl<S: Source, W: Sink> Listing<'_, '_, '_, '_, S, W> {
     /// Shows the symbols of a section with their versions, where it holds symbols: a `Y` line each, or
     /// the first refusal of its table, of its string table, of what finds the versions, of a name or
     /// of a version (gABI 4, Symbol Table).
+    #[inline(never)]
     pub(crate) fn suffixed_symbols(&mut self, section: u16) -> Result<(), Stop>
         requires { section < self.old.file.store.now.loaded }
         ensures { ListsHeader SuffixedSymbols self.old self.new result section }
@@ -43,6 +44,7 @@ impl<S: Source, W: Sink> Listing<'_, '_, '_, '_, S, W> {
     /// Shows the relocation entries of a section with the versions of their symbols, where it holds
     /// them: an `R` line each, or the first refusal of its table, of the symbols that they refer to,
     /// of what finds the versions or of an entry (gABI 4, Relocation).
+    #[inline(never)]
     pub(crate) fn suffixed_relocations(&mut self, section: u16) -> Result<(), Stop>
         requires { section < self.old.file.store.now.loaded }
         ensures { ListsHeader SuffixedRelocations self.old self.new result section }

@@ -26,6 +26,7 @@ impl<S: Source, W: Sink> Listing<'_, '_, '_, '_, S, W> {
     /// first refusal of its table, of the symbols that it links to or of a number; last the section's
     /// refusal where a symbol has no entry any more (Linux Standard Base Core, Symbol Versioning).
     /// The rows of all definitions and needs have come without a fault.
+    #[inline(never)]
     pub(crate) fn symbol_versions(&mut self, section: u16) -> Result<(), Stop>
         requires awaits { Awaits SymbolVersions self.old.src.now.seen.file
             (style_of self.old.style) }

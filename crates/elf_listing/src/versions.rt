@@ -24,6 +24,7 @@ impl<S: Source, W: Sink> Listing<'_, '_, '_, '_, S, W> {
     /// first refusal of its table, of its string table or of a name, or of what stands in the place
     /// of a definition (Linux Standard Base Core, Symbol Versioning).
     #[tactic(auto, unfolding(elf_model::specs::VersionRows::version_definitions))]
+    #[inline(never)]
     pub(crate) fn definitions(&mut self, section: u16) -> Result<(), Stop>
         requires { section < self.old.file.store.now.loaded }
         ensures { ListsHeader Definitions self.old self.new result section }
@@ -34,6 +35,7 @@ impl<S: Source, W: Sink> Listing<'_, '_, '_, '_, S, W> {
     /// Shows the needed files of a section and the versions that are needed of each, where it holds
     /// them, as definitions.
     #[tactic(auto, unfolding(elf_model::specs::VersionRows::version_needs))]
+    #[inline(never)]
     pub(crate) fn needs(&mut self, section: u16) -> Result<(), Stop>
         requires { section < self.old.file.store.now.loaded }
         ensures { ListsHeader Needs self.old self.new result section }
