@@ -243,7 +243,7 @@ static void bad_names(void) {
     static const struct elfsee_text bad[][2] = {{TEXT(""), TEXT("a")}, {TEXT("b"), TEXT("a")}, {TEXT("ab"), TEXT("a")},
                                                 {TEXT("a"), TEXT("b\0")}, {TEXT("\xff"), TEXT("a")}};
     static const struct elfsee_text unversioned[] = {TEXT("@V"), TEXT("a@"), TEXT("a@@"), TEXT("@"), TEXT("@@")};
-    static const struct elfsee_text good[] = {TEXT("call"), TEXT("call"), TEXT("call@V"), TEXT("call@@V@")};
+    static const struct elfsee_text good[] = {TEXT("call"), TEXT("call"), TEXT("call@@V@"), TEXT("call@V")};
 #undef TEXT
     static const struct elfsee_listing parts[] = {{0, 0}, {ELFSEE_ALL, 0}, {24, 4}, {ELFSEE_NOTES, 0}, {ELFSEE_VERSIONS, 0}};
     static uint8_t long_name[4097];
