@@ -21,8 +21,8 @@
  *
  * Calls share nothing: any number of threads may call at once, each with its own room, out and
  * structs; the file's bytes may be shared. A call takes no lock, starts no thread, makes no system
- * call, takes no memory but the stack, of which it needs less than 64 KiB (measured by a test, not
- * proved), and keeps no pointer behind its end.
+ * call, takes no memory but the stack, of which it needs less than 64 KiB, and with versions behind
+ * names less than 128 (measured by a test, not proved), and keeps no pointer behind its end.
  *
  * IN C++ each struct is a type of the namespace elfsee too, as elfsee::header: some share their names with
  * a call, which hides them.
