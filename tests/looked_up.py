@@ -229,6 +229,8 @@ class Lookup:
         self.name, self.version, self.is_default = name, version, is_default
         self.chain_words = self.tried = self.read = 0
         self.is_told = False
+        # The record of the needed file that the walk over needs is at.
+        self.file_at = None
 
     # The records of versions: of each that names a version its number, its name's index, and the name's record.
 
@@ -254,7 +256,7 @@ class Lookup:
         while True:
             refuse_where(place + 16 > table.size or self.read - before >= most, led_by, "version-cut")
             self.read += 1
-            at = led_by = table.offset + place
+            self.file_at = at = led_by = table.offset + place
             version, _, _, one, behind = struct.unpack_from("<2H3I", self.content, at)
             refuse_where(version != 1, at, "version")
             inner = place + one
