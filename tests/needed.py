@@ -3,6 +3,7 @@ beside this module. It is written for plainness alone, and holds whole files. Wh
 looked_up.py."""
 
 import os
+import re
 import struct
 
 from applied import Refused, is_named, load, refuse_where
@@ -15,6 +16,8 @@ WEAK, ASKED_BINDINGS = 2, (1, 2, 10)
 MOST_OBJECTS, TEXT_BYTES = 512, 4096
 # Texts of all objects together, and how many of them and of needs there are.
 ALL_TEXT_BYTES, ALL_TEXTS = MOST_OBJECTS * 8192, MOST_OBJECTS * 64
+# A token of RPATH and RUNPATH: its name in braces, or such that no further byte of a name stands behind it.
+TOKEN = re.compile(rb"\$(?:\{(ORIGIN|LIB|PLATFORM)\}|(ORIGIN|LIB|PLATFORM)(?![0-9A-Za-z_]))")
 DEFAULT = "/lib/x86_64-linux-gnu:/usr/lib/x86_64-linux-gnu:/lib64:/usr/lib64:/lib:/usr/lib"
 
 
@@ -321,11 +324,10 @@ def parts(text):
 def expanded(text, path):
     """The folders of an RPATH or RUNPATH; one with an unknown `$` is passed over."""
     origin = os.path.dirname(os.fsencode(path)) or (b"/" if os.fsencode(path).startswith(b"/") else b".")
+    values = {b"ORIGIN": origin, b"LIB": b"lib/x86_64-linux-gnu", b"PLATFORM": b"x86_64"}
     for folder in parts(text):
-        for word, value in ((b"ORIGIN", origin), (b"LIB", b"lib/x86_64-linux-gnu"), (b"PLATFORM", b"x86_64")):
-            folder = folder.replace(b"${%s}" % word, value).replace(b"$%s" % word, value)
-        if b"$" not in folder:
-            yield folder
+        if b"$" not in TOKEN.sub(b"", folder):
+            yield TOKEN.sub(lambda found: values[found[1] or found[2]], folder)
 
 
 def machine_of(content):
