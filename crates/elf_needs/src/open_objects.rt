@@ -125,7 +125,8 @@ impl<S: Source + Drop> OpenObjects<S> {
 }
 
 impl<S: Source + Drop> OpenObjects<PagedSource<S>> {
-    /// Keeps the file of the object of an index open, if there is room for it and it has a hash table.
+    /// Keeps the file of the object of an index open, if there is room for it and it has a hash table. Lookups
+    /// in it go by its program headers, as a loader's do, whatever its section headers say.
     /// No more is asked for than what is left of a budget, where there is one; what was asked for is taken
     /// off. Without a budget whole pages of it are read.
     ///
@@ -143,6 +144,7 @@ impl<S: Source + Drop> OpenObjects<PagedSource<S>> {
         }
         let keeps = left.is_none();
         let mut source = Counted::new(PagedSource::new(source, keeps));
+        source.hide_sections(true);
         source.limit(*left);
         match Object::open(source, store) {
             Ok(object) => {
