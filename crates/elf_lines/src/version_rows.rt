@@ -8,7 +8,7 @@ use elf_fields::{
     put_text,
 };
 use elf_model::Format;
-use elf_record::VersionKind;
+use elf_record::{VersionKind, version_number};
 
 /// The `V` line of a record of definitions or needs up to its name, in place of what the front held:
 /// the index of its section, its kind, number, flags and hash (Linux Standard Base Core, Symbol
@@ -42,7 +42,7 @@ pub fn symbol_version_front<R: Render>(front: &mut LineFront, section: u16, inde
     ensures front { front_of front.new ≡ symbol_version_front R.FORMAT section index word }
     ensures key { length front.new.key.now ≤ 16 }
 {
-    let number = word % (1 << 15);
+    let number = version_number(word);
     begin_named::<R>(front, b"X", b"name");
     let line = &mut front.line;
     put_half::<R>(line, b"table", section, b' ');

@@ -113,7 +113,7 @@ finds-unnamed file scope asked words y word told c code n is here low none =
 above : (number : ℕ) → 2 ≤ number → nat_lt number 2 ≡ false
 above number high = grind (arith, nat_tests)
 
-pub finds-told :
+finds-told :
     (file : List ℕ) (scope : Scope) (asked : Asked) (words : VersionWords) (y word : ℕ) (told : List ℕ) (a b : Counting) (code : Words) (name : ToldName)
     → asked_name asked ≡ None → IsWords words code → word ≡ versym file (version_word_at words y) → 2 ≤ number_in word
     → TellsVersionName file scope words y (naming_of file (number_in word) (readings file scope.symbols.records)) a b told (Ok name)
@@ -139,7 +139,7 @@ finds-told file scope asked words y word told a b code name n is here high tells
     }
 
 -- or it is not told
-pub finds-fault :
+finds-fault :
     (file : List ℕ) (scope : Scope) (asked : Asked) (words : VersionWords) (y word : ℕ) (told : List ℕ) (a b : Counting) (fault : Fault)
     → asked_name asked ≡ None → word ≡ versym file (version_word_at words y) → 2 ≤ number_in word
     → TellsVersionName file scope words y (naming_of file (number_in word) (readings file scope.symbols.records)) a b told (Err fault)
@@ -173,6 +173,25 @@ finds-fault file scope asked words y word told a b fault n here high tells =
         → IsVersionFound Some scope asked y told walked lookup (Err fault)
     refused (Refused refusal) t walked lookup e = λ other. let told_so = e ∙ t.1 other walked in rw told_so refl
     refused (Source fault at) t walked lookup e = tt
+
+-- the same of a number that is the one in the word
+pub finds-told-by :
+    (file : List ℕ) (scope : Scope) (asked : Asked) (words : VersionWords) (y word number : ℕ) (told : List ℕ) (a b : Counting) (code : Words) (name : ToldName)
+    → number ≡ number_in word → asked_name asked ≡ None → IsWords words code → word ≡ versym file (version_word_at words y) → 2 ≤ number
+    → TellsVersionName file scope words y (naming_of file number (readings file scope.symbols.records)) a b told (Ok name)
+    → FindsVersion Some file scope asked (Some words) y a b told (Ok (record { index = code.index; word = word; name = Told name.end; name_at = name.at }))
+finds-told-by file scope asked words y word number told a b code name e n is here high tells =
+    finds-told file scope asked words y word told a b code name n is here (subst (λ (m : ℕ). 2 ≤ m) e high)
+    (subst (λ (m : ℕ). TellsVersionName file scope words y (naming_of file m (readings file scope.symbols.records)) a b told (Ok name)) e tells)
+
+pub finds-fault-by :
+    (file : List ℕ) (scope : Scope) (asked : Asked) (words : VersionWords) (y word number : ℕ) (told : List ℕ) (a b : Counting) (fault : Fault)
+    → number ≡ number_in word → asked_name asked ≡ None → word ≡ versym file (version_word_at words y) → 2 ≤ number
+    → TellsVersionName file scope words y (naming_of file number (readings file scope.symbols.records)) a b told (Err fault)
+    → FindsVersion Some file scope asked (Some words) y a b told (Err fault)
+finds-fault-by file scope asked words y word number told a b fault e n here high tells =
+    finds-fault file scope asked words y word told a b fault n here (subst (λ (m : ℕ). 2 ≤ m) e high)
+    (subst (λ (m : ℕ). TellsVersionName file scope words y (naming_of file m (readings file scope.symbols.records)) a b told (Err fault)) e tells)
 
 -- where a word stands
 pub word-at : (told : VersionWords) (code : Words) (y : ℕ) → IsWords told code → code.words.entry ≡ 2 → row_at code.words y ≡ version_word_at told y

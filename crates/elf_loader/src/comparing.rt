@@ -12,6 +12,7 @@ ghost use Rattle.elf_versions.specs.Reading.{IsVersion};
 
 use crate::number_set::NumberSet;
 use elf_headers::Fault;
+use elf_record::version_number;
 use elf_scope::RecordTable;
 use elf_source::{Counted, Source};
 use elf_table::Names;
@@ -62,7 +63,7 @@ fn compare_record<S: Source>(
     }
     let off = u64::from(given.name);
     if names.equals(src, off, given.named_at, version)? {
-        numbers.insert(given.number % (1 << 15));
+        numbers.insert(version_number(given.number));
     }
     Ok(())
 }

@@ -14,6 +14,7 @@ ghost use Rattle.elf_scope.specs.Symbols.{IsSymbols, IsWords, SymbolsLie};
 use crate::telling::told_name;
 use elf_hash::FoundInChain;
 use elf_headers::Fault;
+use elf_record::version_number;
 use elf_scope::{Symbols, VersionWords};
 use elf_source::{Counted, Source};
 use elf_table::{NameBuf, NameEnd};
@@ -103,7 +104,7 @@ fn found_version<S: Source>(
     if let Some(_version) = asked.name() {
         return Ok(told_as(words, word, VersionName::Wanted, 0));
     }
-    let number = word % (1 << 15);
+    let number = version_number(word);
     if number < 2 {
         return Ok(told_as(words, word, VersionName::Unnamed, 0));
     }

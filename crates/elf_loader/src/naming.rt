@@ -7,7 +7,7 @@ ghost use Rattle.elf_scope.specs.Symbols.{RecordsWithin, SymbolsLie};
 ghost use Rattle.elf_versions.specs.Reading.{IsVersion};
 
 use elf_headers::Fault;
-use elf_record::VersionKind;
+use elf_record::{VersionKind, version_number};
 use elf_scope::{RecordTable, Symbols};
 use elf_source::{Counted, Source};
 use elf_table::Names;
@@ -105,5 +105,5 @@ fn names_number(given: &VersionRecord, number: u16) -> bool
     ensures { (file : List ℕ) (met : Met) → IsVersion file met given.now →
         result ≡ names_number file number met }
 {
-    given.names_version() && given.number % (1 << 15) == number
+    given.names_version() && version_number(given.number) == number
 }

@@ -5,7 +5,7 @@ ghost use Rattle.elf_loader.specs.NumberSets.{has_number};
 use std::marker::Model;
 
 /// How many numbers versions may have, below which they are.
-const NUMBERS: u16 = 1024;
+const NUMBERS: u16 = elf_record::VERSION_NUMBERS;
 /// How many words of 64 bits hold a bit for each.
 const WORDS: usize = 16;
 

@@ -18,6 +18,7 @@ mod sym;
 mod verdef;
 mod vernaux;
 mod verneed;
+mod version_numbers;
 mod words;
 
 pub use dyn_entry::Dyn;
@@ -34,4 +35,5 @@ pub use sym::{Place, Sym};
 pub use verdef::Verdef;
 pub use vernaux::Vernaux;
 pub use verneed::Verneed;
+pub use version_numbers::{VERSION_NUMBERS, version_number};
 pub use words::word;

@@ -9,12 +9,12 @@ ghost use Rattle.elf_versions.specs.Reading.{IsCursorOf, IsVersion, unread, vers
 use crate::cursor::VersionCursor;
 use crate::record::VersionRecord;
 use elf_headers::Fault;
-use elf_record::VersionKind;
+use elf_record::{VersionKind, version_number};
 use elf_source::{Counted, Source};
 use std::marker::Model;
 
 /// How many numbers versions may have, below which they are.
-const NUMBERS: usize = 1024;
+const NUMBERS: usize = elf_record::VERSION_NUMBERS as usize;
 
 /// The size in bytes of the fixed storage of [`NumberNames`].
 pub const NUMBER_NAMES_BYTES: usize = 8 * NUMBERS;
@@ -87,7 +87,7 @@ impl NumberNames {
             NamesNumbers file (records ++ met ∷ []) self.new places.new }
         ensures count { length places.new ≡ length places.old }
     {
-        let number = usize::from(given.number % (1 << 15));
+        let number = usize::from(version_number(given.number));
         if self.names[number] == NameAt::Nowhere {
             self.names[number] = names(given);
             put_place(places, number, given.named_at);

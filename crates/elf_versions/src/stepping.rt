@@ -9,10 +9,7 @@ ghost use Rattle.elf_versions.specs.Words.{HoldsWords, PassesWords, checks_of, d
 
 use crate::words::RecordWords;
 use elf_record::sizes::{VERSION_DEFINITION_BYTES, VERSION_NAME_BYTES, VERSION_NEED_BYTES};
-use elf_record::{Cause, Refusal, VersionKind};
-
-/// How many numbers versions may have.
-pub(crate) const VERSION_NUMBERS: u16 = 1024;
+use elf_record::{Cause, Refusal, VERSION_NUMBERS, VersionKind, version_number};
 
 /// Where a walk stands.
 #[derive(Clone, Copy)]
@@ -101,7 +98,7 @@ pub(crate) fn refused_words(
     if words.version != 1 {
         return refused(at, Cause::BadVersion);
     }
-    if words.number % (1 << 15) >= VERSION_NUMBERS {
+    if version_number(words.number) >= VERSION_NUMBERS {
         return refused(at, Cause::VersionIndex);
     }
     if stand.place + u128::from(name_end(stand.kind, words.aux)) > u128::from(size) {

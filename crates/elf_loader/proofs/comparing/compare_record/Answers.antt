@@ -28,7 +28,7 @@ returns-then-branch g c =
     Did-as _ (omega arith) (Did-of c.equals.ensures.reads tt c.in_ok-equals.ensures.compared)
     (λ file told costs met others is.
     one-wanted file c.args.version.now (strings_in file c.args.names.now) met others c.args.numbers.now c.insert.new.self c.args.given.now is
-    (sym (c.names_version.ensures file met is) ∙ c.if-not-names_version.false) (rw off at told ∙ ap Ok c.if-branch.true) c.insert.ensures)
+    (sym (c.names_version.ensures file met is) ∙ c.if-not-names_version.false) (rw off at told ∙ ap Ok c.if-branch.true) (λ other. rw (← c.version_number.ensures) (c.insert.ensures other)))
 
 pub returns-else-branch : goal.returns-else-branch
 returns-else-branch g c =

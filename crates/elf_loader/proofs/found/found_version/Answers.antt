@@ -7,7 +7,7 @@ use Rattle.elf_headers.proofs.Absent.{none-of}
 use Rattle.elf_wanted.specs.Wants.{asked_of}
 use Rattle.elf_loader.specs.Tables.{most_versions}
 use Rattle.elf_loader.specs.Telling.{telling_bytes, told_bytes}
-use Rattle.elf_loader.proofs.FoundLaws.{finds-fault, finds-told, finds-unnamed, finds-wanted, word-at}
+use Rattle.elf_loader.proofs.FoundLaws.{finds-fault-by, finds-told-by, finds-unnamed, finds-wanted, word-at}
 use Rattle.elf_loader.proofs.found.found_version.Goals as goal
 
 pub returns-in-Some : goal.returns-in-Some
@@ -25,7 +25,7 @@ returns-then-number-lt2 g c =
     rw c.told_as-then-number-lt2.ensures
     (Did-as _ (omega arith) (Did-none c.args.src.now)
     (λ file read costs scope told is words here.
-    finds-unnamed file scope (asked_of c.args.asked.now) told c.args.found.0 c.args.found.1 c.args.name.now c.args.src.now c.args.words.now asks words here c.if-number-lt2.true (Charges-none c.args.src.now)))
+    finds-unnamed file scope (asked_of c.args.asked.now) told c.args.found.0 c.args.found.1 c.args.name.now c.args.src.now c.args.words.now asks words here (rw (← c.version_number-number.ensures) c.if-number-lt2.true) (Charges-none c.args.src.now)))
 
 pub returns-in_err-told : goal.returns-in_err-told
 returns-in_err-told g c =
@@ -36,7 +36,7 @@ returns-in_err-told g c =
     rw (p.1, p.2)
     (Did-as _ (omega (arith, bytes)) c.in_err-told.ensures
     (λ file read costs scope told is words here.
-    finds-fault file scope (asked_of c.args.asked.now) told c.args.found.0 c.args.found.1 c.told_name.new.name c.args.src.now c.told_name.new.src _ asks here c.if-number-lt2.false
+    finds-fault-by file scope (asked_of c.args.asked.now) told c.args.found.0 c.args.found.1 _ c.told_name.new.name c.args.src.now c.told_name.new.src _ c.version_number-number.ensures asks here c.if-number-lt2.false
     (read scope told c.args.found.0 is (c.place.ensures ∙ word-at told c.args.words.now c.args.found.0 words c.args.words.now.entry))))
 
 pub returns : goal.returns
@@ -47,5 +47,5 @@ returns g c =
     rw c.told_as-2.ensures
     (Did-as _ (omega (arith, bytes)) c.in_ok-told.ensures
     (λ file read costs scope told is words here.
-    finds-told file scope (asked_of c.args.asked.now) told c.args.found.0 c.args.found.1 c.told_name.new.name c.args.src.now c.told_name.new.src c.args.words.now c.in_ok-told.told asks words here c.if-number-lt2.false
+    finds-told-by file scope (asked_of c.args.asked.now) told c.args.found.0 c.args.found.1 _ c.told_name.new.name c.args.src.now c.told_name.new.src c.args.words.now c.in_ok-told.told c.version_number-number.ensures asks words here c.if-number-lt2.false
     (read scope told c.args.found.0 is (c.place.ensures ∙ word-at told c.args.words.now c.args.found.0 words c.args.words.now.entry))))
