@@ -47,6 +47,8 @@ impl<'a> Sink for LentSink<'a> {
 
     ghost held = { λ _. nothing_held };
 
+    ghost room = { λ _. nothing_held };
+
     /// Takes as many of `bytes` as there are bytes free, or one where the memory is full.
     ///
     /// # Errors

@@ -100,6 +100,8 @@ impl<W: Sink> Sink for LineSink<W> {
 
     ghost held = { λ _. nothing_held };
 
+    ghost room = { λ _. nothing_held };
+
     /// Takes some of `bytes`: keeps as many as there is room for, behind what was kept, of which whole lines
     /// go out where there is none.
     ///

@@ -35,6 +35,7 @@ broken_takes old new fault p = record {
   appends = rw p.taken (Appends-nil old.taken);
   counts = omega (arith, p.written, old.fits);
   still = λ none. p.held;
+  room = p.room;
 }
 
 module _ (began mid old : Written) (line : List ℕ) (held : HeldLine) (p : HeldBack began mid line held) where
@@ -44,6 +45,7 @@ module _ (began mid old : Written) (line : List ℕ) (held : HeldLine) (p : Held
     appends = p.appends;
     counts = omega (arith, p.counts, p.start, p.few);
     still = λ none. p.holds ∙ omega (arith, none);
+    room = p.room;
   }
 
   -- as many bytes are held as it has, where nothing was written behind it
@@ -62,6 +64,7 @@ module _ (began mid old : Written) (line : List ℕ) (held : HeldLine) (p : Held
         appends = back_again began.taken mid.taken old.taken new.taken line back.back p.appends q.appends back.bytes many;
         counts = omega (arith, back.counts, p.before, began.fits);
         still = λ none. omega (arith, back.held, q.still refl, p.holds, p.start, p.before);
+        room = back.room ∙ (q.room ∙ p.room);
       }
   line_ends new (byte ∷ bytes) q ends =
       let more : old.written ≡ held.start → ⊥ = λ is. omega (arith, q.counts, p.counts, p.few, is) in

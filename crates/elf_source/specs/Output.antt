@@ -1,5 +1,5 @@
 -- What is given to a sink, and what it took.
-use Rattle.std.specs.Prelude.{◌≡◌, ℕ, ◌+◌, ◌-◌, ◌^◌, ◌<◌, ◌≤◌, ◌==◌, if◌then◌else◌, Bool, true, false, List, [], ◌∷◌, ◌++◌, Option, None, Some, Result, Ok, Err, min, length, take}
+use Rattle.std.specs.Prelude.{◌≡◌, ℕ, ◌+◌, ◌-◌, ◌^◌, ◌<◌, ◌≤◌, ◌==◌, ◌⊎◌, if◌then◌else◌, Bool, true, false, List, [], ◌∷◌, ◌++◌, Option, None, Some, Result, Ok, Err, min, length, take}
 use Rattle.std.specs.Io.KnownBytes.{Appends, append_known}
 use Rattle.elf_source.specs.declared.faults.OutFault.{OutFault}
 use Rattle.elf_source.specs.declared.holding_sink.HeldLine.{HeldLine}
@@ -44,15 +44,17 @@ abbrev pub HoldsIf : Bool → HeldOutput → HeldOutput → List ℕ → Type 0
 HoldsIf true old new line =
     (length line < old.free) × (new.below ≡ old.below) × (new.held ≡ old.held ++ line) × (new.room ≡ old.room)
     × (new.free ≡ old.free - length line) × (new.failed ≡ old.failed)
-HoldsIf false old new line = (old.free ≤ length line) × (new ≡ old)
+HoldsIf false old new line =
+    (old.free ≤ length line) × (new ≡ old) × (old.failed ≡ false → old.room ≤ length old.held + length line)
 
--- what is seen of an output: the bytes that its sink knows, how many it took, whether it has failed, and how many of the bytes
--- taken last are held back
+-- what is seen of an output: the bytes that its sink knows, how many it took, whether it has failed, how many of the bytes taken
+-- last are held back, and for how many there is room
 pub record Written : Type 0 where
   pub taken : Option (List ℕ)
   pub written : ℕ
   pub failed : Bool
   pub held : ℕ
+  pub room : ℕ
   pub fits : written < 2 ^ 128
 
 -- the sink took these bytes, and the count rose by as many, or stays at 2^128 - 1 where it would pass it; where there are none, as
@@ -61,6 +63,7 @@ pub record Takes (old new : Written) (bytes : List ℕ) : Type 0 where
   pub appends : Appends old.taken new.taken bytes
   pub counts : new.written ≡ min (old.written + length bytes) (2 ^ 128 - 1)
   pub still : length bytes ≡ 0 → new.held ≡ old.held
+  pub room : new.room ≡ old.room
 
 -- the sink took a front of these bytes, and no byte of the rest
 pub record TakesFront (old new : Written) (bytes : List ℕ) : Type 0 where
@@ -84,7 +87,12 @@ pub record BreaksOff (old new : Written) (fault : OutFault) : Type 0 where
   pub taken : new.taken ≡ old.taken
   pub written : new.written ≡ old.written
   pub held : new.held ≡ old.held
+  pub room : new.room ≡ old.room
   pub fails : OutFails new fault
+
+-- a line can't be held back: the output has failed, or the line and a byte have no room behind what is held, or the count has none
+abbrev pub LacksRoom : Written → List ℕ → Type 0
+LacksRoom old line = (old.failed ≡ true) ⊎ (old.room ≤ old.held + length line) ⊎ (2 ^ 128 - 1 ≤ old.written + length line)
 
 -- a line is held back: it is taken, and counts as written and as held
 pub record HeldBack (old new : Written) (line : List ℕ) (held : HeldLine) : Type 0 where
@@ -94,12 +102,13 @@ pub record HeldBack (old new : Written) (line : List ℕ) (held : HeldLine) : Ty
   pub few : held.start < 2 ^ 128 - 1
   pub counts : new.written ≡ held.start
   pub holds : new.held ≡ old.held + length line
+  pub room : new.room ≡ old.room
   pub stands : new.failed ≡ false
 
 -- the same, or the output fails for good with nothing of the line
 abbrev pub HoldsLine : Written → Written → Result HeldLine OutFault → List ℕ → Type 0
 HoldsLine old new (Ok held) line = HeldBack old new line held
-HoldsLine old new (Err fault) line = BreaksOff old new fault
+HoldsLine old new (Err fault) line = BreaksOff old new fault × LacksRoom old line
 
 -- the last so many bytes that were taken and held are taken back, and so many are written
 pub record TakesBack (old new : Written) (count written : ℕ) : Type 0 where
@@ -108,6 +117,7 @@ pub record TakesBack (old new : Written) (count written : ℕ) : Type 0 where
   pub bytes : old.taken ≡ append_known new.taken back
   pub counts : new.written ≡ written
   pub held : old.held ≡ new.held + count
+  pub room : new.room ≡ old.room
   pub failed : new.failed ≡ old.failed
 
 -- a line that was held is ended: taken back where no byte more is written, else nothing changes

@@ -28,7 +28,7 @@ pub struct HeldLine {
 }
 
 impl<W: Sink> Model for HoldingSink<W> {
-    ghost use Rattle.std.specs.Prelude.{◌≤◌, ◌||◌, drop, length, take};
+    ghost use Rattle.std.specs.Prelude.{◌≡◌, ◌<◌, ◌≤◌, ◌||◌, drop, length, take, true};
     ghost use Rattle.elf_source.specs.Output.{HeldOutput, free_behind};
 
     ghost Value = { HeldOutput };
@@ -41,7 +41,8 @@ impl<W: Sink> Model for HoldingSink<W> {
       failed = s.broken || W.failed s.sink;
     } };
 
-    ghost invariant = { λ s. (s.from ≤ s.to) × (s.to ≤ length s.room.items) };
+    ghost invariant = { λ s. (s.from ≤ s.to) × (s.to ≤ length s.room.items)
+        × (0 < s.from → (s.broken || W.failed s.sink) ≡ true) };
 }
 
 impl<W: Sink> HoldingSink<W> {
@@ -62,7 +63,11 @@ impl<W: Sink> HoldingSink<W> {
     }
 
     /// Gives the sink below back. What is held is lost.
-    pub fn into_inner(self) -> W {
+    pub fn into_inner(self) -> W
+        ensures below { W.taken result ≡ self.below }
+        ensures none { self.room ≡ 0 → self.held ≡ [] }
+        ensures failed { W.failed result ≡ true → self.failed ≡ true }
+    {
         let HoldingSink { sink, .. } = self;
         sink
     }
@@ -122,6 +127,8 @@ impl<W: Sink> Sink for HoldingSink<W> {
     ghost failed = { λ s. s.failed };
 
     ghost held = { λ s. length s.held };
+
+    ghost room = { λ s. s.room };
 
     /// Takes some of `bytes`. Where lines are held, they and the bytes that have room behind them go to the
     /// sink below in one piece, so that no line goes out before a byte behind it was taken.
@@ -183,7 +190,7 @@ impl<W: Sink> Out<HoldingSink<W>> {
     }
 
     /// Has the output fail for good.
-    fn break_off(&mut self) -> OutFault
+    pub fn break_off(&mut self) -> OutFault
         ensures { BreaksOff self.old self.new result }
     {
         self.sink.broken = true;

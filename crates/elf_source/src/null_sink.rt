@@ -17,6 +17,8 @@ impl Sink for NullSink {
 
     ghost held = { λ _. nothing_held };
 
+    ghost room = { λ _. nothing_held };
+
     /// Takes all of `bytes`.
     fn take(&mut self, bytes: &[u8]) -> Result<usize, SinkFault> {
         Ok(bytes.len())

@@ -25,6 +25,7 @@ impl<W: Sink> Model for Out<W> {
       written = o.written;
       failed = W.failed o.sink;
       held = W.held o.sink;
+      room = W.room o.sink;
       fits = o.fits;
     } };
 }
@@ -34,6 +35,7 @@ impl<W: Sink> Out<W> {
     pub fn new(sink: W) -> Self
         ensures taken { result.taken ≡ W.taken sink }
         ensures held { result.held ≡ W.held sink }
+        ensures room { result.room ≡ W.room sink }
         ensures failed { result.failed ≡ W.failed sink }
         ensures written { result.written ≡ 0 }
     {
@@ -89,6 +91,7 @@ impl<W: Sink> Out<W> {
     pub fn into_inner(self) -> W
         ensures taken { W.taken result ≡ self.taken }
         ensures failed { W.failed result ≡ self.failed }
+        ensures room { W.room result ≡ self.room }
     {
         let Out { sink, .. } = self;
         sink
@@ -102,6 +105,7 @@ pub fn give<W: Sink>(sink: &mut W, bytes: &[u8]) -> usize
     ensures bytes { Appends (W.taken sink.old) (W.taken sink.new) (take result bytes.now) }
     ensures whole { W.failed sink.new ≡ false → result ≡ length bytes.now }
     ensures still { result ≡ 0 → W.held sink.new ≡ W.held sink.old }
+    ensures room { W.room sink.new ≡ W.room sink.old }
 {
     let mut done = 0;
     while done < bytes.len() {

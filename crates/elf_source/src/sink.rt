@@ -15,6 +15,9 @@ pub trait Sink {
     /// How many of the bytes taken last are held back.
     ghost held: { Self → ℕ };
 
+    /// How many bytes have room to be held back.
+    ghost room: { Self → ℕ };
+
     /// Takes some of `bytes`, which aren't empty: the first `count` of them at `Ok(count)`; the sink may
     /// have failed behind them, so that no later call takes any.
     ///
@@ -28,6 +31,7 @@ pub trait Sink {
         ensures bytes { WriteAppends (taken self.old) (taken self.new) result bytes.now }
         ensures fails { IsErr result → IsTrue (failed self.new) }
         ensures still { IsErr result → held self.new ≡ held self.old }
+        ensures room { room self.new ≡ room self.old }
         ensures for_good { IsTrue (failed self.old) → IsErr result };
 
     /// Whether the sink has failed.

@@ -60,6 +60,8 @@ impl<'a> Sink for SliceSink<'a> {
 
     ghost held = { λ _. nothing_held };
 
+    ghost room = { λ _. nothing_held };
+
     /// Takes as many of `bytes` as there are bytes free.
     ///
     /// # Errors
@@ -72,6 +74,7 @@ impl<'a> Sink for SliceSink<'a> {
             (Some self.old.written) (Some self.new.written) result bytes.now }
         ensures fails { IsErr result → IsTrue self.new.failed }
         ensures still { IsErr result → nothing_held ≡ nothing_held }
+        ensures room { nothing_held ≡ nothing_held }
         ensures for_good { IsTrue self.old.failed → IsErr result }
         ensures tells { self.new.failed ≡ is_err result }
         ensures full { IsErr result ↔ (self.old.free ≡ 0) }

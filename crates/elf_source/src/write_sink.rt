@@ -51,6 +51,8 @@ impl<W: Write> Sink for WriteSink<W> {
 
     ghost held = { λ _. nothing_held };
 
+    ghost room = { λ _. nothing_held };
+
     /// Writes some of `bytes`.
     ///
     /// # Errors

@@ -22,6 +22,7 @@ returns-then-self-line g c =
         bytes = rw (sym c.self.view_is, sym c.self-inside.view_is) held.0;
         counts = refl;
         held = omega (arith, many, left, enough, in_order, c.saturating_sub.ensures);
+        room = rw (sym c.self.view_is, sym c.self-inside.view_is) refl;
         failed = rw (sym c.self.view_is, sym c.self-inside.view_is) refl;
       };
       stays = λ other. absurd (other is);
