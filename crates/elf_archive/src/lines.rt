@@ -20,7 +20,7 @@ pub const HELD_LINE_BYTES: usize = 20_992;
 ///
 /// # Errors
 /// A fault of the output, with a front of the line written.
-fn show_member<W: Sink>(
+pub(crate) fn show_member<W: Sink>(
     member: &Member,
     name: &NameBuf,
     format: Format,

@@ -2,7 +2,6 @@
 #![tactic(auto)]
 
 mod counted;
-mod fail_source;
 mod faults;
 mod hiding;
 mod holding_sink;
@@ -18,11 +17,9 @@ mod sink;
 mod slice_sink;
 mod source;
 mod stream_source;
-mod turn_source;
 mod write_sink;
 
 pub use counted::{Counted, READ_BYTES};
-pub use fail_source::FailSource;
 pub use faults::{AskFault, OutFault, ReaderFault, SinkFault, SourceFault};
 pub use holding_sink::{HeldLine, HoldingSink};
 pub use memory_source::MemorySource;
@@ -37,5 +34,4 @@ pub use sink::Sink;
 pub use slice_sink::SliceSink;
 pub use source::Source;
 pub use stream_source::StreamSource;
-pub use turn_source::TurnSource;
 pub use write_sink::WriteSink;
