@@ -5,6 +5,7 @@ mod NameLaws
 mod RowLaws
 mod AskLaws
 pub mod ConsumeLaws
+mod HeldLaws
 pub mod NarrowLaws
 mod ToldLaws
 pub mod WalkLaws

@@ -53,12 +53,12 @@ header_first file headers style parts p (Broken refusal) = omega arith
 header_first file headers style parts p (OneMember member) = omega arith
 
 -- a refusal that a step answers is what is listed
-pub unread_next : (file : List ℕ) (headers : ℕ) (style : Style) (parts : ℕ) (old new : Progress) (name : List ℕ) (fault : Fault) → TellsMember file style.cap old new name (Err fault)
-    → (refusal : Refusal) → fault ≡ Refused refusal → (IsBudget refusal → ⊥) → next_items file headers style parts (next_member file style.cap old) ≡ FaultItem refusal ∷ []
-unread_next file headers style parts old new name (Refused first) tells refusal is other =
+pub unread_next : (alone : Bool) (file : List ℕ) (headers : ℕ) (style : Style) (parts : ℕ) (old new : Progress) (name : List ℕ) (fault : Fault) → TellsMember file style.cap old new name (Err fault)
+    → (refusal : Refusal) → fault ≡ Refused refusal → (IsBudget refusal → ⊥) → next_items alone file headers style parts (next_member file style.cap old) ≡ FaultItem refusal ∷ []
+unread_next alone file headers style parts old new name (Refused first) tells refusal is other =
     let same : first ≡ refusal = cc in
-    ap (next_items file headers style parts) (tells (λ budget. other (subst (λ (r : Refusal). IsBudget r) same budget))) ∙ ap (λ (r : Refusal). FaultItem r ∷ []) same
-unread_next file headers style parts old new name (Source fault at) tells refusal is other = cc
+    ap (next_items alone file headers style parts) (tells (λ budget. other (subst (λ (r : Refusal). IsBudget r) same budget))) ∙ ap (λ (r : Refusal). FaultItem r ∷ []) same
+unread_next alone file headers style parts old new name (Source fault at) tells refusal is other = cc
 
 -- a step more, within what is allowed
 pub step_within : (size now headers slots : ℕ) (style : Style) (bytes more total : ℕ) (p q : Progress) → now ≡ size → slots ≡ headers → bytes + allowance (size - p.at) headers style ≤ total

@@ -27,25 +27,25 @@ use Rattle.elf_listing.proofs.EachLaws.{lines_front}
 use Rattle.elf_archive.specs.Listed.{ArchiveSays, AsksInArchive, BudgetSays, StopTells, ReportsArchive}
 
 -- a report is what is listed, within every budget
-report_listed : (budget : Option ℕ) (file : List ℕ) (headers : ℕ) (style : Style) (parts : ℕ) (text : List ℕ) (fault : Option Refusal) → IsReport style.format (archive_items file headers style parts) text fault
-    → IsArchiveBudgeted budget file headers style parts text fault
-report_listed None file headers style parts text fault is = is
-report_listed (Some budget) file headers style parts text fault is = inl is
+report_listed : (alone : Bool) (budget : Option ℕ) (file : List ℕ) (headers : ℕ) (style : Style) (parts : ℕ) (text : List ℕ) (fault : Option Refusal) → IsReport style.format (archive_items alone file headers style parts) text fault
+    → IsArchiveBudgeted alone budget file headers style parts text fault
+report_listed alone None file headers style parts text fault is = is
+report_listed alone (Some budget) file headers style parts text fault is = inl is
 
 -- what is listed with these caps
-abbrev items_with : List ℕ → Caps → ℕ → List ListingItem
-items_with file caps parts = archive_items file caps.limits.headers (style_of caps.style) parts
+abbrev items_with : (alone : Bool) → List ℕ → Caps → ℕ → List ListingItem
+items_with alone file caps parts = archive_items alone file caps.limits.headers (style_of caps.style) parts
 
 -- a listing without a fault is its report
-pub whole_archive : {a b : Written} (file : List ℕ) (caps : Caps) (parts : ℕ) (any : Bool) → any ≡ any_refused file caps.limits.headers (style_of caps.style) parts
-    → WroteItems a b (archive_items file caps.limits.headers (style_of caps.style) parts) → ReportsArchive file caps parts a b (Ok any)
-whole_archive file caps parts any is whole =
-    let all : List ListingItem = items_with file caps parts in
+pub whole_archive : {a b : Written} (alone : Bool) (file : List ℕ) (caps : Caps) (parts : ℕ) (any : Bool) → any ≡ any_refused file caps.limits.headers (style_of caps.style) parts
+    → WroteItems a b (archive_items alone file caps.limits.headers (style_of caps.style) parts) → ReportsArchive alone file caps parts a b (Ok any)
+whole_archive alone file caps parts any is whole =
+    let all : List ListingItem = items_with alone file caps parts in
     let text : lines_of all ≡ report_of caps.style.format all = sym (ap (λ end. lines_of all ++ end_text caps.style.format end) whole.no_fault ∙ append-nil (lines_of all)) in
     record {
       text = lines_of all;
       fault = None;
-      listed = report_listed caps.limits.budget file caps.limits.headers (style_of caps.style) parts (lines_of all) None (record { text_is = text; fault_is = sym whole.no_fault });
+      listed = report_listed alone caps.limits.budget file caps.limits.headers (style_of caps.style) parts (lines_of all) None (record { text_is = text; fault_is = sym whole.no_fault });
       wrote = (whole.takes, refl);
       refused = λ same e. let here : any ≡ same = cc in sym here ∙ is;
     }
@@ -62,13 +62,13 @@ wrote_front (Source cause at) text fault is front = front
 wrote_front (Out cause) text fault is front = front
 
 -- a front of a listing is a front of its report
-front_report : {a b : Written} (file : List ℕ) (caps : Caps) (parts : ℕ) (stop : Stop) → IsFault stop → TakesFront a b (lines_of (items_with file caps parts)) → ReportsArchive file caps parts a b (Err stop)
-front_report file caps parts stop is front =
-    let all : List ListingItem = items_with file caps parts in
+front_report : {a b : Written} (alone : Bool) (file : List ℕ) (caps : Caps) (parts : ℕ) (stop : Stop) → IsFault stop → TakesFront a b (lines_of (items_with alone file caps parts)) → ReportsArchive alone file caps parts a b (Err stop)
+front_report alone file caps parts stop is front =
+    let all : List ListingItem = items_with alone file caps parts in
     record {
       text = report_of caps.style.format all;
       fault = fault_of all;
-      listed = report_listed caps.limits.budget file caps.limits.headers (style_of caps.style) parts (report_of caps.style.format all) (fault_of all) (record { text_is = refl; fault_is = refl });
+      listed = report_listed alone caps.limits.budget file caps.limits.headers (style_of caps.style) parts (report_of caps.style.format all) (fault_of all) (record { text_is = refl; fault_is = refl });
       wrote = wrote_front stop (report_of caps.style.format all) (fault_of all) is (TakesFront-more (lines_of all) (end_text caps.style.format (fault_of all)) front);
       refused = λ any e. cc;
     }
@@ -90,13 +90,13 @@ ended refusal all ends next =
     (ap lines_of whole ∙ both.0 ∙ append-nil (lines_of front), ap fault_of whole ∙ both.1)
 
 -- the text of a listing that ended in a refusal
-ended_listed : {a b : Written} (file : List ℕ) (caps : Caps) (parts : ℕ) (refusal : Refusal) (before limited after : Counting) → before.asked ≤ 2 ^ 127
+ended_listed : {a b : Written} (alone : Bool) (file : List ℕ) (caps : Caps) (parts : ℕ) (refusal : Refusal) (before limited after : Counting) → before.asked ≤ 2 ^ 127
     → SetsLimit before limited caps.limits.budget → before.seen.size ≡ length file → BudgetSays limited after (archive_cost file caps.limits.headers (style_of caps.style) parts) refusal
-    → (ends : EndsRefused a b refusal (items_with file caps parts))
-    → IsArchiveBudgeted caps.limits.budget file caps.limits.headers (style_of caps.style) parts (lines_of ends.front.front ++ refusal_line caps.style.format refusal) (Some refusal)
-ended_listed file caps parts refusal before limited after small limits sized says ends = by_cause (is_budget refusal.cause)
+    → (ends : EndsRefused a b refusal (items_with alone file caps parts))
+    → IsArchiveBudgeted alone caps.limits.budget file caps.limits.headers (style_of caps.style) parts (lines_of ends.front.front ++ refusal_line caps.style.format refusal) (Some refusal)
+ended_listed alone file caps parts refusal before limited after small limits sized says ends = by_cause (is_budget refusal.cause)
   where
-    cut : (budget : Option ℕ) → caps.limits.budget ≡ budget → IsBudget refusal → IsArchiveBudgeted budget file caps.limits.headers (style_of caps.style) parts (lines_of ends.front.front ++ refusal_line caps.style.format refusal) (Some refusal)
+    cut : (budget : Option ℕ) → caps.limits.budget ≡ budget → IsBudget refusal → IsArchiveBudgeted alone budget file caps.limits.headers (style_of caps.style) parts (lines_of ends.front.front ++ refusal_line caps.style.format refusal) (Some refusal)
     cut None none for_budget =
         let over = (says for_budget).1 in
         let most = limits.most ∙ ap (option_map (counted before.asked)) none in
@@ -126,22 +126,22 @@ ended_listed file caps parts refusal before limited after small limits sized say
         )
 
     by_cause : (refusal.cause ≡ Budget) ⊎ (refusal.cause ≡ Budget → ⊥)
-        → IsArchiveBudgeted caps.limits.budget file caps.limits.headers (style_of caps.style) parts (lines_of ends.front.front ++ refusal_line caps.style.format refusal) (Some refusal)
+        → IsArchiveBudgeted alone caps.limits.budget file caps.limits.headers (style_of caps.style) parts (lines_of ends.front.front ++ refusal_line caps.style.format refusal) (Some refusal)
     by_cause (inl for_budget) = cut caps.limits.budget refl for_budget
     by_cause (inr other) =
-        let all : List ListingItem = items_with file caps parts in
+        let all : List ListingItem = items_with alone file caps parts in
         let is = ended refusal all ends (ends.next other) in
-        report_listed caps.limits.budget file caps.limits.headers (style_of caps.style) parts _ _
+        report_listed alone caps.limits.budget file caps.limits.headers (style_of caps.style) parts _ _
         (record { text_is = sym (ap (λ lines. lines ++ end_text caps.style.format (fault_of all)) is.0 ∙ ap (λ end. lines_of ends.front.front ++ end_text caps.style.format end) is.1); fault_is = sym is.1 })
 
 -- a listing that ended in a refusal, whose line was told
-ended_report : {a b c : Written} (file : List ℕ) (caps : Caps) (parts : ℕ) (refusal : Refusal) (told : Stop) (before limited after : Counting) → before.asked ≤ 2 ^ 127
+ended_report : {a b c : Written} (alone : Bool) (file : List ℕ) (caps : Caps) (parts : ℕ) (refusal : Refusal) (told : Stop) (before limited after : Counting) → before.asked ≤ 2 ^ 127
     → SetsLimit before limited caps.limits.budget → before.seen.size ≡ length file → BudgetSays limited after (archive_cost file caps.limits.headers (style_of caps.style) parts) refusal
-    → EndsRefused a b refusal (items_with file caps parts) → WroteRefusal caps.style.format b c refusal told → ReportsArchive file caps parts a c (Err told)
-ended_report {a} {b} {c} file caps parts refusal told before limited after small limits sized says ends line = record {
+    → EndsRefused a b refusal (items_with alone file caps parts) → WroteRefusal caps.style.format b c refusal told → ReportsArchive alone file caps parts a c (Err told)
+ended_report {a} {b} {c} alone file caps parts refusal told before limited after small limits sized says ends line = record {
   text = lines_of ends.front.front ++ refusal_line caps.style.format refusal;
   fault = Some refusal;
-  listed = ended_listed file caps parts refusal before limited after small limits sized says ends;
+  listed = ended_listed alone file caps parts refusal before limited after small limits sized says ends;
   wrote = wrote told line;
   refused = λ any e. cc;
 }
@@ -152,15 +152,15 @@ ended_report {a} {b} {c} file caps parts refusal told before limited after small
     wrote (Out cause) line = TakesFront-then (lines_of ends.front.front) (refusal_line caps.style.format refusal) ends.front.takes line.1
 
 -- a listing that stopped, and what was told of that
-pub stopped_archive : {a c : Written} (b : Written) (file : List ℕ) (caps : Caps) (parts : ℕ) (stop told : Stop) (before limited after : Counting) (out : Written) → before.asked ≤ 2 ^ 127
+pub stopped_archive : {a c : Written} (b : Written) (alone : Bool) (file : List ℕ) (caps : Caps) (parts : ℕ) (stop told : Stop) (before limited after : Counting) (out : Written) → before.asked ≤ 2 ^ 127
     → SetsLimit before limited caps.limits.budget → before.seen.size ≡ length file → StopTells limited after out (archive_cost file caps.limits.headers (style_of caps.style) parts) stop
-    → Stopped a b stop (archive_items file caps.limits.headers (style_of caps.style) parts) → TellsStop caps.style.format b c stop told → ReportsArchive file caps parts a c (Err told)
-stopped_archive b file caps parts (Refused refusal) told before limited after out small limits sized says ends tells =
-    ended_report file caps parts refusal told before limited after small limits sized says ends tells
-stopped_archive b file caps parts (Source cause at) told before limited after out small limits sized says ends tells =
-    rw (tells.0, tells.1) (front_report file caps parts (Source cause at) tt (front_lines _ ends))
-stopped_archive b file caps parts (Out cause) told before limited after out small limits sized says ends tells =
-    rw (tells.0, tells.1) (front_report file caps parts (Out cause) tt ends)
+    → Stopped a b stop (archive_items alone file caps.limits.headers (style_of caps.style) parts) → TellsStop caps.style.format b c stop told → ReportsArchive alone file caps parts a c (Err told)
+stopped_archive b alone file caps parts (Refused refusal) told before limited after out small limits sized says ends tells =
+    ended_report alone file caps parts refusal told before limited after small limits sized says ends tells
+stopped_archive b alone file caps parts (Source cause at) told before limited after out small limits sized says ends tells =
+    rw (tells.0, tells.1) (front_report alone file caps parts (Source cause at) tt (front_lines _ ends))
+stopped_archive b alone file caps parts (Out cause) told before limited after out small limits sized says ends tells =
+    rw (tells.0, tells.1) (front_report alone file caps parts (Out cause) tt ends)
 
 -- what is asked for within a budget
 pub asks_in_archive : (caps : Caps) (s0 s1 s2 s3 : Counting) (n : ℕ) (result : Result Bool Stop) → s0.asked ≤ 2 ^ 127 → SetsLimit s0 s1 caps.limits.budget

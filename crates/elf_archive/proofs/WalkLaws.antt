@@ -41,10 +41,10 @@ members_next file cap (suc most) p (Broken refusal) enough is = rw (is, members_
 members_next file cap (suc most) p (OneMember m) enough is = rw (is, members_from) refl
 
 -- what stands behind the next place
-abbrev pub after_items : List ℕ → ℕ → Style → ℕ → ℕ → Progress → Next → List ListingItem
-after_items file headers style parts most p Ends = []
-after_items file headers style parts most p (Broken refusal) = []
-after_items file headers style parts most p (OneMember m) = walk_items file headers style parts (members_from (fewer most) file style.cap (behind file p m))
+abbrev pub after_items : (alone : Bool) → List ℕ → ℕ → Style → ℕ → ℕ → Progress → Next → List ListingItem
+after_items alone file headers style parts most p Ends = []
+after_items alone file headers style parts most p (Broken refusal) = []
+after_items alone file headers style parts most p (OneMember m) = walk_items alone file headers style parts (members_from (fewer most) file style.cap (behind file p m))
 
 abbrev pub after_cost : List ℕ → ℕ → Style → ℕ → ℕ → Progress → Next → ℕ
 after_cost file headers style parts most p Ends = 0
@@ -57,13 +57,13 @@ after_refused file headers style parts most p (Broken refusal) = false
 after_refused file headers style parts most p (OneMember m) =
     is_refused file headers style parts m || list_any (is_refused file headers style parts) (members_from (fewer most) file style.cap (behind file p m)).members
 
-items_of : (file : List ℕ) (headers : ℕ) (style : Style) (parts most : ℕ) (p : Progress) (next : Next)
-    → walk_items file headers style parts (after_members file style.cap most p next) ≡ next_items file headers style parts next ++ after_items file headers style parts most p next
+items_of : (alone : Bool) (file : List ℕ) (headers : ℕ) (style : Style) (parts most : ℕ) (p : Progress) (next : Next)
+    → walk_items alone file headers style parts (after_members file style.cap most p next) ≡ next_items alone file headers style parts next ++ after_items alone file headers style parts most p next
 unfolding walk_items members_items
-items_of file headers style parts most p Ends = refl
-items_of file headers style parts most p (Broken refusal) = refl
-items_of file headers style parts most p (OneMember m) =
-    append_assoc (member_items file headers style parts m) (members_items file headers style parts (members_from (fewer most) file style.cap (behind file p m)).members)
+items_of alone file headers style parts most p Ends = refl
+items_of alone file headers style parts most p (Broken refusal) = refl
+items_of alone file headers style parts most p (OneMember m) =
+    append_assoc (member_items alone file headers style parts m) (members_items alone file headers style parts (members_from (fewer most) file style.cap (behind file p m)).members)
     (end_items (members_from (fewer most) file style.cap (behind file p m)).refusal)
 
 any_of : (file : List ℕ) (headers : ℕ) (style : Style) (parts most : ℕ) (p : Progress) (next : Next)
@@ -73,10 +73,10 @@ any_of file headers style parts most p (Broken refusal) = refl
 any_of file headers style parts most p (OneMember m) = refl
 
 -- what a walk that may go on lists
-pub walk_next : (file : List ℕ) (headers : ℕ) (style : Style) (parts most : ℕ) (p : Progress) (next : Next) → length file < p.at + most → next_member file style.cap p ≡ next
-    → walk_items file headers style parts (members_from most file style.cap p) ≡ next_items file headers style parts next ++ after_items file headers style parts most p next
-walk_next file headers style parts most p next enough is =
-    ap (walk_items file headers style parts) (members_next file style.cap most p next enough is) ∙ items_of file headers style parts most p next
+pub walk_next : (alone : Bool) (file : List ℕ) (headers : ℕ) (style : Style) (parts most : ℕ) (p : Progress) (next : Next) → length file < p.at + most → next_member file style.cap p ≡ next
+    → walk_items alone file headers style parts (members_from most file style.cap p) ≡ next_items alone file headers style parts next ++ after_items alone file headers style parts most p next
+walk_next alone file headers style parts most p next enough is =
+    ap (walk_items alone file headers style parts) (members_next file style.cap most p next enough is) ∙ items_of alone file headers style parts most p next
 
 -- and whether one is refused
 pub refused_next : (file : List ℕ) (headers : ℕ) (style : Style) (parts most : ℕ) (p : Progress) (next : Next) → length file < p.at + most → next_member file style.cap p ≡ next
@@ -100,21 +100,21 @@ cost_next file headers style parts (suc most) p (OneMember m) enough is =
     rw is sum
 
 -- what a walk has listed so far, what is left, and what that costs
-pub record WalkSoFar (file : List ℕ) (headers : ℕ) (style : Style) (parts first : ℕ) (start p : Progress) (a b : Counting) (old new : Written) (any : Bool) : Type 0 where
+pub record WalkSoFar (alone : Bool) (file : List ℕ) (headers : ℕ) (style : Style) (parts first : ℕ) (start p : Progress) (a b : Counting) (old new : Written) (any : Bool) : Type 0 where
   pub most : ℕ
   pub enough : length file < p.at + most
   pub listed : List ListingItem
   pub wrote : WroteItems old new listed
-  pub left : walk_items file headers style parts (members_from first file style.cap start) ≡ listed ++ walk_items file headers style parts (members_from most file style.cap p)
+  pub left : walk_items alone file headers style parts (members_from first file style.cap start) ≡ listed ++ walk_items alone file headers style parts (members_from most file style.cap p)
   pub spent : ℕ
   pub reads : Reads a b spent
   pub cost : spent + members_cost most file headers style parts p ≤ members_cost first file headers style parts start
   pub refused : list_any (is_refused file headers style parts) (members_from first file style.cap start).members
       ≡ (any || list_any (is_refused file headers style parts) (members_from most file style.cap p).members)
 
-pub walk_begins : (file : List ℕ) (headers : ℕ) (style : Style) (parts first : ℕ) (start : Progress) (a : Counting) (old : Written) → length file < start.at + first
-    → WalkSoFar file headers style parts first start start a a old old false
-walk_begins file headers style parts first start a old enough = record {
+pub walk_begins : (alone : Bool) (file : List ℕ) (headers : ℕ) (style : Style) (parts first : ℕ) (start : Progress) (a : Counting) (old : Written) → length file < start.at + first
+    → WalkSoFar alone file headers style parts first start start a a old old false
+walk_begins alone file headers style parts first start a old enough = record {
   most = first;
   enough = enough;
   listed = [];
@@ -135,28 +135,28 @@ or_false true = refl
 or_false false = refl
 
 -- a member more
-pub walk_more : (file : List ℕ) (headers : ℕ) (style : Style) (parts first : ℕ) (start p q : Progress) (a b c : Counting) (old new out : Written) (any refused both : Bool)
-    → (any || refused) ≡ both → p.at < q.at → WalkSoFar file headers style parts first start p a b old new any → StepsListing file headers style parts p q (Ok (Some refused))
+pub walk_more : (alone : Bool) (file : List ℕ) (headers : ℕ) (style : Style) (parts first : ℕ) (start p q : Progress) (a b c : Counting) (old new out : Written) (any refused both : Bool)
+    → (any || refused) ≡ both → p.at < q.at → WalkSoFar alone file headers style parts first start p a b old new any → StepsListing file headers style parts p q (Ok (Some refused))
     → Consumes {X = Option Bool} b c out (Ok (Some refused)) (next_cost file headers style parts p (next_member file style.cap p))
-    → Writes {X = Option Bool} new out (Ok (Some refused)) (next_items file headers style parts (next_member file style.cap p))
-    → WalkSoFar file headers style parts first start q a c old out both
-walk_more file headers style parts first start p q a b c old new out any refused both is_both further known steps takes text =
+    → Writes {X = Option Bool} new out (Ok (Some refused)) (next_items alone file headers style parts (next_member file style.cap p))
+    → WalkSoFar alone file headers style parts first start q a c old out both
+walk_more alone file headers style parts first start p q a b c old new out any refused both is_both further known steps takes text =
     let m = steps.0 in
     let is : next_member file style.cap p ≡ OneMember m = steps.1 in
     let here : q ≡ behind file p m = steps.2 in
     let items = rw is at text in
     let cost : Reads b c (header_cost file style.cap p + member_cost file headers style parts m) = rw is at takes.0 in
-    let whole = walk_next file headers style parts known.most p (OneMember m) known.enough is in
+    let whole = walk_next alone file headers style parts known.most p (OneMember m) known.enough is in
     let sum = cost_next file headers style parts known.most p (OneMember m) known.enough is in
     let one = refused_next file headers style parts known.most p (OneMember m) known.enough is in
     record {
       most = fewer known.most;
       enough = omega (arith, known.enough, further, fewer_is known.most);
-      listed = known.listed ++ member_items file headers style parts m;
+      listed = known.listed ++ member_items alone file headers style parts m;
       wrote = Whole-then known.wrote items;
       left = known.left ∙ (ap (λ rest. known.listed ++ rest) whole
-          ∙ (sym (append_assoc known.listed (member_items file headers style parts m) _)
-          ∙ ap (λ (r : Progress). (known.listed ++ member_items file headers style parts m) ++ walk_items file headers style parts (members_from (fewer known.most) file style.cap r)) (sym here)));
+          ∙ (sym (append_assoc known.listed (member_items alone file headers style parts m) _)
+          ∙ ap (λ (r : Progress). (known.listed ++ member_items alone file headers style parts m) ++ walk_items alone file headers style parts (members_from (fewer known.most) file style.cap r)) (sym here)));
       spent = known.spent + (header_cost file style.cap p + member_cost file headers style parts m);
       reads = Reads-then known.reads cost;
       cost =
@@ -170,15 +170,15 @@ walk_more file headers style parts first start p q a b c old new out any refused
     }
 
 -- the file's end
-pub walk_ends : (file : List ℕ) (headers : ℕ) (style : Style) (parts first : ℕ) (start p q : Progress) (a b c : Counting) (old new out : Written) (any : Bool)
-    → WalkSoFar file headers style parts first start p a b old new any → StepsListing file headers style parts p q (Ok None)
+pub walk_ends : (alone : Bool) (file : List ℕ) (headers : ℕ) (style : Style) (parts first : ℕ) (start p q : Progress) (a b c : Counting) (old new out : Written) (any : Bool)
+    → WalkSoFar alone file headers style parts first start p a b old new any → StepsListing file headers style parts p q (Ok None)
     → Consumes {X = Option Bool} b c out (Ok None) (next_cost file headers style parts p (next_member file style.cap p))
-    → Writes {X = Option Bool} new out (Ok None) (next_items file headers style parts (next_member file style.cap p))
-    → WalksMembers file headers style parts first start a c old out (Ok any)
-walk_ends file headers style parts first start p q a b c old new out any known steps takes text =
+    → Writes {X = Option Bool} new out (Ok None) (next_items alone file headers style parts (next_member file style.cap p))
+    → WalksMembers alone file headers style parts first start a c old out (Ok any)
+walk_ends alone file headers style parts first start p q a b c old new out any known steps takes text =
     let items = rw steps at text in
     let cost : Reads b c (header_cost file style.cap p) = rw steps at takes.0 in
-    let whole = walk_next file headers style parts known.most p Ends known.enough steps in
+    let whole = walk_next alone file headers style parts known.most p Ends known.enough steps in
     let sum = cost_next file headers style parts known.most p Ends known.enough steps in
     let none = refused_next file headers style parts known.most p Ends known.enough steps in
     record {
@@ -188,14 +188,14 @@ walk_ends file headers style parts first start p q a b c old new out any known s
     }
 
 -- a stop
-pub walk_stops : (file : List ℕ) (headers : ℕ) (style : Style) (parts first : ℕ) (start p : Progress) (a b c : Counting) (old new out : Written) (any : Bool) (stop : Stop)
-    → WalkSoFar file headers style parts first start p a b old new any
+pub walk_stops : (alone : Bool) (file : List ℕ) (headers : ℕ) (style : Style) (parts first : ℕ) (start p : Progress) (a b c : Counting) (old new out : Written) (any : Bool) (stop : Stop)
+    → WalkSoFar alone file headers style parts first start p a b old new any
     → Consumes {X = Option Bool} b c out (Err stop) (next_cost file headers style parts p (next_member file style.cap p))
-    → Writes {X = Option Bool} new out (Err stop) (next_items file headers style parts (next_member file style.cap p))
-    → WalksMembers file headers style parts first start a c old out (Err stop)
-walk_stops file headers style parts first start p a b c old new out any stop known takes text =
+    → Writes {X = Option Bool} new out (Err stop) (next_items alone file headers style parts (next_member file style.cap p))
+    → WalksMembers alone file headers style parts first start a c old out (Err stop)
+walk_stops alone file headers style parts first start p a b c old new out any stop known takes text =
     let next = next_member file style.cap p in
-    let whole = walk_next file headers style parts known.most p next known.enough refl in
+    let whole = walk_next alone file headers style parts known.most p next known.enough refl in
     let sum = cost_next file headers style parts known.most p next known.enough refl in
     record {
       takes = Consumes-then {X = Unit {0}} a b c out (Err stop) known.spent (next_cost file headers style parts p next) _ (omega (arith, known.cost, sum)) known.reads takes;

@@ -13,6 +13,7 @@ use Rattle.elf_model.specs.declared.formats.Format.{Format}
 use Rattle.elf_source.specs.Source.{Counting, Faults, OverLimit, Reads}
 use Rattle.elf_source.specs.Ranges.{IsWholeRange}
 use Rattle.elf_source.specs.Output.{Written, Takes, TakesFront, OutFails}
+use Rattle.elf_source.specs.declared.faults.OutFault.{OutFault}
 use Rattle.elf_headers.specs.Permitted.{style_of}
 use Rattle.elf_headers.specs.declared.caps.Caps.{Caps}
 use Rattle.elf_headers.specs.declared.stop.Stop.{Stop}
@@ -65,11 +66,24 @@ TellsEnd format start old new (Err (Out fault)) result = (result ≡ Err (Out fa
 abbrev pub ListsTold : Format → Written → Written → Result Bool Stop → List ListingItem → Type 0
 ListsTold format old new result items = Writes old new result (told format items) × IfOk result (λ refused. refused ≡ is_some (fault_of items))
 
+-- A MEMBER WAS LISTED: its line and its listing were written, and the answer is whether that was refused
+abbrev pub ListsMember : (alone : Bool) → List ℕ → ℕ → Style → ℕ → Member → Written → Written → Result Bool Stop → Type 0
+ListsMember alone file headers style parts m old new result =
+    Writes old new result (member_items alone file headers style parts m)
+    × IfOk result (λ refused. refused ≡ is_refused file headers style parts m)
+
+-- the answer behind a listing whose line was ended: the same, where the output failed with the count as it is then
+abbrev pub AnswersBehind : Result Bool Stop → Written → Result Bool Stop → Type 0
+AnswersBehind (Ok refused) new result = result ≡ Ok refused
+AnswersBehind (Err (Refused refusal)) new result = result ≡ Err (Refused refusal)
+AnswersBehind (Err (Source fault at)) new result = result ≡ Err (Source fault at)
+AnswersBehind (Err (Out fault)) new result = (now : OutFault) × (result ≡ Err (Out now)) × (now.written ≡ new.written)
+
 -- what is listed at the next place of a walk
-abbrev pub next_items : List ℕ → ℕ → Style → ℕ → Next → List ListingItem
-next_items file headers style parts Ends = []
-next_items file headers style parts (Broken refusal) = Fault refusal ∷ []
-next_items file headers style parts (OneMember member) = member_items file headers style parts member
+abbrev pub next_items : (alone : Bool) → List ℕ → ℕ → Style → ℕ → Next → List ListingItem
+next_items alone file headers style parts Ends = []
+next_items alone file headers style parts (Broken refusal) = Fault refusal ∷ []
+next_items alone file headers style parts (OneMember member) = member_items alone file headers style parts member
 
 -- what that costs at most
 abbrev pub next_cost : List ℕ → ℕ → Style → ℕ → Progress → Next → ℕ
@@ -86,9 +100,9 @@ StepsListing file headers style parts old new (Ok (Some refused)) =
 StepsListing file headers style parts old new (Err stop) = Unit {0}
 
 -- a walk over at most so many members wrote what is listed of them, for no more than they cost, and answers whether one was refused
-pub record WalksMembers (file : List ℕ) (headers : ℕ) (style : Style) (parts most : ℕ) (p : Progress) (a b : Counting) (old new : Written) (result : Result Bool Stop) : Type 0 where
+pub record WalksMembers (alone : Bool) (file : List ℕ) (headers : ℕ) (style : Style) (parts most : ℕ) (p : Progress) (a b : Counting) (old new : Written) (result : Result Bool Stop) : Type 0 where
   pub takes : Consumes a b new result (members_cost most file headers style parts p)
-  pub text : Writes old new result (walk_items file headers style parts (members_from most file style.cap p))
+  pub text : Writes old new result (walk_items alone file headers style parts (members_from most file style.cap p))
   pub refused : IfOk result (λ any. any ≡ list_any (is_refused file headers style parts) (members_from most file style.cap p).members)
 
 -- what is kept of an allowance for the members behind a step
@@ -112,10 +126,10 @@ StandsBehind size old new (Err stop) = Unit {0}
 -- THE TEXT: what these caps and parts list of an archive was written, its report or, where it costs more than the budget, a
 -- front of whole lines and the line of the budget; at a fault of the source or the output a front of that. At the end the answer
 -- is whether the listing of a member was refused
-pub record ReportsArchive (file : List ℕ) (caps : Caps) (parts : ℕ) (old new : Written) (result : Result Bool Stop) : Type 0 where
+pub record ReportsArchive (alone : Bool) (file : List ℕ) (caps : Caps) (parts : ℕ) (old new : Written) (result : Result Bool Stop) : Type 0 where
   pub text : List ℕ
   pub fault : Option Refusal
-  pub listed : IsArchiveBudgeted caps.limits.budget file caps.limits.headers (style_of caps.style) parts text fault
+  pub listed : IsArchiveBudgeted alone caps.limits.budget file caps.limits.headers (style_of caps.style) parts text fault
   pub wrote : Wrote old new result text fault
   pub refused : (any : Bool) → result ≡ Ok any → any ≡ any_refused file caps.limits.headers (style_of caps.style) parts
 

@@ -4,6 +4,7 @@
 
 mod cursor;
 mod fields;
+mod lines;
 mod listing;
 mod magic_strings;
 mod member;
@@ -11,6 +12,7 @@ mod names;
 mod rows;
 
 pub use cursor::MemberCursor;
+pub use lines::{HELD_LINE_BYTES, end_listed};
 pub use listing::show_archive;
 pub use magic_strings::{begins_elf, magic};
 pub use member::{Extent, Member};

@@ -2,7 +2,7 @@
 ghost use Rattle.std.specs.Prelude.{◌≡◌, ℕ, ◌+◌, ◌-◌, ◌^◌, ◌<◌, ◌≤◌, List, length, Some, Err, IfErr, IfOk};
 ghost use Rattle.elf_model.specs.Archive.{Extent as Bytes, Member as Listed, archive_items, archive_length_checks, before_members};
 ghost use Rattle.elf_model.specs.Archive.{bytes_in, is_elf, lists_members, member_line, member_listing, members_from, next_member, told, walk_items};
-ghost use Rattle.elf_model.specs.ArchiveCost.{allowance, any_refused, archive_ceiling, archive_cost, member_cost, members_cost};
+ghost use Rattle.elf_model.specs.ArchiveCost.{allowance, any_refused, archive_ceiling, archive_cost, member_cost};
 ghost use Rattle.elf_model.specs.Checks.{first_refusal};
 ghost use Rattle.elf_model.specs.Cost.{cost_where, listing_cost, style_ceiling};
 ghost use Rattle.elf_model.specs.Listing.{fault_of};
@@ -12,30 +12,33 @@ ghost use Rattle.elf_headers.specs.Permitted.{style_of};
 ghost use Rattle.elf_listing.specs.Reports.{Leaves};
 ghost use Rattle.elf_listing.specs.Shows.{Writes};
 ghost use Rattle.elf_source.specs.Growth.{Grows};
-ghost use Rattle.elf_source.specs.Output.{Puts};
 ghost use Rattle.elf_archive.specs.Listed.{ArchiveSays, AsksInArchive, Consumes, IsAll, ReportsArchive, StepsListing};
-ghost use Rattle.elf_archive.specs.Listed.{ListsTold, StandsBehind, StepsWithin, TellsEnd, WalksMembers, next_cost, next_items};
+ghost use Rattle.elf_archive.specs.Listed.{ListsMember, ListsTold, StandsBehind, StepsWithin, TellsEnd, WalksMembers, next_cost, next_items};
 ghost use Rattle.elf_archive.specs.Members.{LiesIn, WalkStandsIn, extent_of, member_of};
 
 use crate::cursor::MemberCursor;
+use crate::lines::{end_listed, hold_member, show_member};
 use crate::magic_strings::{begins_elf, magic};
 use crate::member::{Extent, Member};
 use elf_headers::{Caps, HeaderStore, Stop, Style};
-use elf_lines::{Columns, LineFront, Object, member_front, show_named, show_refusal};
+use elf_lines::show_refusal;
 use elf_listing::{list, show_stop};
 use elf_model::Format;
 use elf_record::{Cause, Parts, Refusal};
-use elf_source::{Counted, Out, OutFault, RangeSource, Sink, Source};
+use elf_source::{Counted, HoldingSink, Out, RangeSource, Sink, Source};
 use elf_table::NameBuf;
 
-/// What is listed of members: how rows are shown, and which parts of a listing.
+/// What is listed of members: how rows are shown, which parts of a listing, and whether their lines stand
+/// alone.
 #[derive(Clone, Copy)]
 struct Choice<'n> {
     style: Style<'n>,
     parts: Parts,
+    alone: bool,
 }
 
-/// Writes the listing of an archive: of each member its `A` line, and where `parts` has a part of a
+/// Writes the listing of an archive: of each member its `A` line, alone or only before a line of the member,
+/// and where `parts` has a part of a
 /// listing and the member's data begin as an ELF file, the listing of these parts of the file that
 /// the data are, with offsets from its first byte. A refusal of such a file is the last line of its
 /// listing, and the next member follows. Answers whether there was one. The source is a range of all
@@ -54,7 +57,8 @@ pub fn show_archive<S: Source, W: Sink>(
     store: &mut HeaderStore,
     caps: Caps,
     parts: Parts,
-    out: &mut Out<W>,
+    alone: bool,
+    out: &mut Out<HoldingSink<W>>,
 ) -> Result<bool, Stop>
     requires small { (store.old.slots ≡ caps.limits.headers) × (src.old.asked ≤ 2 ^ 127) }
     requires whole { IsAll src.old }
@@ -63,7 +67,7 @@ pub fn show_archive<S: Source, W: Sink>(
     ensures leaves { Leaves src.old src.new }
     ensures says { IfErr result (ArchiveSays src.old src.new out.new) }
     ensures text { (file : List ℕ) → src.old.seen.file ≡ Some file →
-        ReportsArchive file caps.entry parts.0 out.old out.new result }
+        ReportsArchive alone file caps.entry parts.0 out.old out.new result }
     ensures cost { (file : List ℕ) → src.old.seen.file ≡ Some file →
         src.new.asked ≤ src.old.asked
         + archive_cost file caps.entry.limits.headers (style_of caps.entry.style) parts.0 }
@@ -74,6 +78,7 @@ pub fn show_archive<S: Source, W: Sink>(
     let choice = Choice {
         style: caps.style,
         parts,
+        alone,
     };
     let listed = list_archive(src, store, choice, out);
     src.limit(None);
@@ -93,7 +98,7 @@ fn list_archive<S: Source, W: Sink>(
     src: &mut Counted<RangeSource<S>>,
     store: &mut HeaderStore,
     choice: Choice,
-    out: &mut Out<W>,
+    out: &mut Out<HoldingSink<W>>,
 ) -> Result<bool, Stop>
     requires whole { IsAll src.old }
     ensures slots { store.new.slots ≡ store.old.slots }
@@ -108,7 +113,7 @@ fn list_archive<S: Source, W: Sink>(
         (archive_cost file store.old.slots (style_of choice.entry.style) choice.entry.parts.0) }
     ensures text { (file : List ℕ) → src.old.seen.file ≡ Some file →
         Writes out.old out.new result
-        (archive_items file store.old.slots (style_of choice.entry.style) choice.entry.parts.0) }
+        (archive_items choice.entry.alone file store.old.slots (style_of choice.entry.style) choice.entry.parts.0) }
     ensures refused { (file : List ℕ) → src.old.seen.file ≡ Some file →
         IfOk result (λ any. any ≡
         any_refused file store.old.slots (style_of choice.entry.style) choice.entry.parts.0) }
@@ -126,7 +131,7 @@ fn list_members<S: Source, W: Sink>(
     src: &mut Counted<RangeSource<S>>,
     store: &mut HeaderStore,
     choice: Choice,
-    out: &mut Out<W>,
+    out: &mut Out<HoldingSink<W>>,
 ) -> Result<bool, Stop>
     requires whole { IsAll src.old }
     requires size { (8 ≤ src.old.seen.size) × (src.old.seen.size < 2 ^ 63) }
@@ -135,8 +140,8 @@ fn list_members<S: Source, W: Sink>(
     ensures allowed { Consumes src.old src.new out.new result
         (allowance (src.old.seen.size - 8) store.old.slots (style_of choice.entry.style)) }
     ensures walks { (file : List ℕ) → src.old.seen.file ≡ Some file →
-        WalksMembers file store.old.slots (style_of choice.entry.style) choice.entry.parts.0 (length file)
-        before_members src.old src.new out.old out.new result }
+        WalksMembers choice.entry.alone file store.old.slots (style_of choice.entry.style)
+        choice.entry.parts.0 (length file) before_members src.old src.new out.old out.new result }
 {
     let mut cursor = MemberCursor::new();
     let mut name = NameBuf::new();
@@ -166,7 +171,7 @@ fn list_next<S: Source, W: Sink>(
     choice: Choice,
     cursor: &mut MemberCursor,
     name: &mut NameBuf,
-    out: &mut Out<W>,
+    out: &mut Out<HoldingSink<W>>,
 ) -> Result<Option<bool>, Stop>
     requires whole { IsAll src.old }
     requires size { src.old.seen.size < 2 ^ 63 }
@@ -182,7 +187,7 @@ fn list_next<S: Source, W: Sink>(
         (next_member file choice.entry.style.cap.bytes cursor.old)) }
     ensures text { (file : List ℕ) → src.old.seen.file ≡ Some file →
         Writes out.old out.new result
-        (next_items file store.old.slots (style_of choice.entry.style) choice.entry.parts.0
+        (next_items choice.entry.alone file store.old.slots (style_of choice.entry.style) choice.entry.parts.0
         (next_member file choice.entry.style.cap.bytes cursor.old)) }
     ensures steps { (file : List ℕ) → src.old.seen.file ≡ Some file →
         StepsListing file store.old.slots (style_of choice.entry.style) choice.entry.parts.0
@@ -191,9 +196,45 @@ fn list_next<S: Source, W: Sink>(
     let Some(member) = cursor.advance(src, choice.style.cap, name)? else {
         return Ok(None);
     };
-    show_member(&member, name, choice.style.format, out)?;
-    let refused = list_member(src, store, choice, member.extent, out)?;
+    let refused = list_with_line(src, store, choice, &member, name, out)?;
     Ok(Some(refused))
+}
+
+/// Writes the line of a member, and lists it behind that; a line that does not stand alone is held back till
+/// a line follows. Answers whether the listing was refused.
+///
+/// # Errors
+/// As [`list_member`] and [`hold_member`].
+fn list_with_line<S: Source, W: Sink>(
+    src: &mut Counted<RangeSource<S>>,
+    store: &mut HeaderStore,
+    choice: Choice,
+    member: &Member,
+    name: &NameBuf,
+    out: &mut Out<HoldingSink<W>>,
+) -> Result<bool, Stop>
+    requires whole { IsAll src.old }
+    requires size { src.old.seen.size < 2 ^ 63 }
+    requires lies { LiesIn src.old.seen.size (extent_of member.now.extent) }
+    ensures slots { store.new.slots ≡ store.old.slots }
+    ensures grows { Grows out.old out.new }
+    ensures ceiling { Consumes src.old src.new out.new result
+        (4 + style_ceiling member.now.extent.size store.old.slots (style_of choice.entry.style)) }
+    ensures cost { (file : List ℕ) → src.old.seen.file ≡ Some file →
+        Consumes src.old src.new out.new result
+        (member_cost file store.old.slots (style_of choice.entry.style) choice.entry.parts.0
+        (member_of member.now name.now)) }
+    ensures text { (file : List ℕ) → src.old.seen.file ≡ Some file →
+        ListsMember choice.entry.alone file store.old.slots (style_of choice.entry.style)
+        choice.entry.parts.0 (member_of member.now name.now) out.old out.new result }
+{
+    if choice.alone {
+        show_member(member, name, choice.style.format, out)?;
+        return list_member(src, store, choice, member.extent, out);
+    }
+    let line = hold_member(member, name, choice.style.format, out)?;
+    let listed = list_member(src, store, choice, member.extent, out);
+    end_listed(line, listed, out)
 }
 
 /// Lists a member that is an ELF file, where parts of a listing are asked for, and answers whether
@@ -313,26 +354,4 @@ fn tell_refusal<W: Sink>(
     }
     show_refusal(refusal, format, out)?;
     Ok(true)
-}
-
-/// Writes the `A` line of a member with the bytes of its name that are shown.
-///
-/// # Errors
-/// A fault of the output, with a front of the line written.
-fn show_member<W: Sink>(
-    member: &Member,
-    name: &NameBuf,
-    format: Format,
-    out: &mut Out<W>,
-) -> Result<(), OutFault>
-    ensures puts { Puts out.old out.new result
-        (member_line format (member_of member.now name.now)) }
-{
-    let Extent { at, size } = member.extent;
-    let mut front = LineFront::new();
-    match format {
-        Format::Columns => member_front::<Columns>(&mut front, member.index, at, size),
-        Format::Object => member_front::<Object>(&mut front, member.index, at, size),
-    }
-    show_named(&mut front, name.bytes(), member.is_cut, out)
 }

@@ -1,6 +1,7 @@
 //! A sink over memory that a caller lent.
 ghost use Rattle.std.specs.Prelude.{◌≡◌, ◌∷◌, ◌++◌, ◌≤◌, None, Some, IsSome, IsTrue, length, take};
 ghost use Rattle.elf_calls.specs.Lent.{spared};
+ghost use Rattle.elf_source.specs.Output.{nothing_held};
 
 use elf_source::{Sink, SinkFault};
 
@@ -43,6 +44,10 @@ impl<'a> Sink for LentSink<'a> {
         Some (s.buffer.ghost_name ∷ (take s.len s.buffer.now ++ spared s.spare)) };
 
     ghost failed = { λ s. s.failed };
+
+    ghost held = { λ _. nothing_held };
+
+    ghost room = { λ _. nothing_held };
 
     /// Takes as many of `bytes` as there are bytes free, or one where the memory is full.
     ///

@@ -1,6 +1,6 @@
 -- A budget below an archive's cost may end its listing before the first line.
 use Rattle.std.proofs.Common.{[], refl, inr}
-use Rattle.std.specs.Prelude.{codes}
+use Rattle.std.specs.Prelude.{true, codes}
 use Rattle.elf_model.specs.Archive.{archive_items}
 use Rattle.elf_model.specs.FixturesArchive.{archive_of, member}
 use Rattle.elf_model.specs.Style.{standard}
@@ -14,7 +14,7 @@ ends_before budget at less inside = inr (
   less,
   record {
     front = [];
-    rest = archive_items (archive_of (member (codes "a/") [])) 3 (standard 63) 0;
+    rest = archive_items true (archive_of (member (codes "a/") [])) 3 (standard 63) 0;
     split = refl;
     no_fault = refl;
     refusal = spent_at at;

@@ -35,7 +35,7 @@ RefusedMembersEndAlone =
     (archive cut 3 63 HEADER
     ≡ codes "A     0 0000000000000044 0000000000000005 a.o\n" ++ codes "! 0000000000000005 short\n"
     ++ codes "A     1 0000000000000086 0000000000000040 b.o\n" ++ report bare_header 3 63 HEADER)
-    × (fault_of (archive_items cut 3 (standard 63) HEADER) ≡ None) × (any_refused cut 3 (standard 63) HEADER ≡ true) × (any_refused library 3 (standard 63) ALL ≡ false)
+    × (fault_of (archive_items true cut 3 (standard 63) HEADER) ≡ None) × (any_refused cut 3 (standard 63) HEADER ≡ true) × (any_refused library 3 (standard 63) ALL ≡ false)
 
 -- three bytes of the magic number are no ELF file
 abbrev pub ThreeBytesAreNoElf : Type 0

@@ -73,12 +73,12 @@ of_one content = archive_of (member (codes "a.o/") content)
 abbrev pub StylesAreTheMembers : Type 0
 StylesAreTheMembers =
     (report_of Columns
-    (archive_items (of_one (with_bytes 0xbc (little 4 0x6ffffff6) one_symbol_table)) 3 (record { cap = 63; gnu = true; by_segments = false; format = Columns; choice = EveryRow; versions = false }) SECTIONS)
+    (archive_items true (of_one (with_bytes 0xbc (little 4 0x6ffffff6) one_symbol_table)) 3 (record { cap = 63; gnu = true; by_segments = false; format = Columns; choice = EveryRow; versions = false }) SECTIONS)
     ≡ codes "A     0 0000000000000044 0000000000000138 a.o\n"
     ++ codes "S     0 NULL                       0000000000000000 0000000000000000 0000000000000000 00000000 00000000 \n"
     ++ codes "S     1 GNU_HASH                   0000000000000000 0000000000000040 0000000000000030 00000002 00000001 \n"
     ++ codes "S     2 STRTAB                     0000000000000000 0000000000000070 0000000000000006 00000000 00000000 \n")
-    × (report_of Columns (archive_items (of_one one_symbol_table) 3 (record { cap = 63; gnu = false; by_segments = true; format = Columns; choice = EveryRow; versions = false }) SYMBOLS)
+    × (report_of Columns (archive_items true (of_one one_symbol_table) 3 (record { cap = 63; gnu = false; by_segments = true; format = Columns; choice = EveryRow; versions = false }) SYMBOLS)
     ≡ codes "A     0 0000000000000044 0000000000000138 a.o\n")
 
 -- as many headers as are permitted are a member's too
@@ -113,7 +113,7 @@ CeilingsOfArchives =
 
 -- an archive of one member without data, and what is allowed of its members' lines within a budget, or without one
 abbrev pub Allows : Option ℕ → List ℕ → Option Refusal → Type 0
-Allows budget text fault = IsArchiveBudgeted budget (archive_of (member (codes "a/") [])) 3 (standard 63) 0 text fault
+Allows budget text fault = IsArchiveBudgeted true budget (archive_of (member (codes "a/") [])) 3 (standard 63) 0 text fault
 
 -- it costs 68 bytes: a budget of these allows the listing alone, and so does none
 abbrev pub BudgetsThatCarryArchives : Type 0

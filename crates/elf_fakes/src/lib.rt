@@ -2,14 +2,18 @@
 //! interrupted, or give little.
 #![tactic(auto)]
 
+mod fail_source;
 mod pieces;
 mod printer;
 mod script;
 mod sources;
 mod tape;
+mod turn_source;
 
+pub use fail_source::FailSource;
 pub use pieces::Pieces;
 pub use printer::Printer;
 pub use script::{Script, Trouble};
 pub use sources::Planned;
 pub use tape::{Tape, stands_at};
+pub use turn_source::TurnSource;

@@ -90,10 +90,25 @@ OtherRowsStand =
 abbrev pub MembersStand : Type 0
 MembersStand =
     report_of Columns
-    (archive_items (archive_of (member (codes "longer.o/") one_symbol_table ++ member (codes "b.o/") [])) 8 (rows_named (codes "main" ∷ [])) SYMBOLS)
+    (archive_items true (archive_of (member (codes "longer.o/") one_symbol_table ++ member (codes "b.o/") [])) 8 (rows_named (codes "main" ∷ [])) SYMBOLS)
     ≡ codes "A     0 0000000000000044 0000000000000138 long\\+\n"
     ++ codes "Y     1          1 0000000000001000 0000000000000010 FUNC    GLOBAL DEFAULT   ABS   main\n"
     ++ codes "A     1 00000000000001b8 0000000000000000 b.o\n"
+
+-- an archive of a member that is refused
+abbrev pub with_cut_member : List ℕ
+with_cut_member = archive_of (member (codes "a.o/") (127 ∷ 69 ∷ 76 ∷ 70 ∷ 2 ∷ []) ++ member (codes "b.o/") one_symbol_table)
+
+-- where the line of a member does not stand alone, it stands before a row of the names, or the line of the member's refusal
+abbrev pub LinesStandBeforeLines : Type 0
+LinesStandBeforeLines =
+    (report_of Columns
+    (archive_items false (archive_of (member (codes "b.o/") [] ++ member (codes "longer.o/") one_symbol_table)) 8 (rows_named (codes "main" ∷ [])) SYMBOLS)
+    ≡ codes "A     1 0000000000000080 0000000000000138 long\\+\n"
+    ++ codes "Y     1          1 0000000000001000 0000000000000010 FUNC    GLOBAL DEFAULT   ABS   main\n")
+    × (archive_items false (archive_of (member (codes "a.o/") one_symbol_table)) 8 (rows_named (codes "none" ∷ [])) SYMBOLS ≡ [])
+    × (report_of Columns (archive_items false with_cut_member 8 (rows_named (codes "none" ∷ [])) SYMBOLS)
+    ≡ codes "A     0 0000000000000044 0000000000000005 a.o\n" ++ codes "! 0000000000000005 short\n")
 
 -- what the rows of some names cost is what all rows do, with as many bytes of a name
 abbrev pub NamesCostAsAllRows : Type 0

@@ -1,5 +1,5 @@
 //! Worked rows of some names, each computed by the prover.
-ghost use Rattle.elf_gnu_examples.specs.ListedChoices.{EntriesAreListed, FaultsAreListed, FrontsAreNotListed, MembersStand, NamesAreListed, NamesCostAsAllRows, OtherRowsStand, SignsAreBytes, VersionsAreListed};
+ghost use Rattle.elf_gnu_examples.specs.ListedChoices.{EntriesAreListed, FaultsAreListed, FrontsAreNotListed, LinesStandBeforeLines, MembersStand, NamesAreListed, NamesCostAsAllRows, OtherRowsStand, SignsAreBytes, VersionsAreListed};
 
 /// Symbols of a name, of two, of the same twice, of none.
 #[tactic(auto, unfolding(elf_model::proofs::OnLiterals::on_literals, crate::proofs::OnExamples::on_examples))]
@@ -47,6 +47,12 @@ pub fn other_rows_stand()
 #[tactic(auto, unfolding(elf_model::proofs::OnLiterals::on_literals, crate::proofs::OnExamples::on_examples))]
 pub fn members_stand()
     ensures { MembersStand }
+{}
+
+/// The lines of members that do not stand alone.
+#[tactic(auto, unfolding(elf_model::proofs::OnLiterals::on_literals, crate::proofs::OnExamples::on_examples))]
+pub fn lines_stand_before_lines()
+    ensures { LinesStandBeforeLines }
 {}
 
 /// What the rows of a name cost.

@@ -1,4 +1,3 @@
 pub mod FrontLaws
 pub mod HeadedLaws
-pub mod HeldLaws
 pub mod ToldLaws

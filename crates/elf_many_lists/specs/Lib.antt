@@ -1,4 +1,3 @@
 pub mod Fronts
-pub mod Held
 pub mod Lists
 pub mod Told

@@ -4,7 +4,7 @@ use Rattle.elf_model.specs.ArchiveCost.{IsArchiveBudgeted, any_refused, archive_
 use Rattle.elf_model.specs.Budget.{IsBudgeted}
 use Rattle.elf_model.specs.Choice.{RowChoice}
 use Rattle.elf_model.specs.Cost.{listing_cost, style_ceiling}
-use Rattle.elf_model.specs.FileLists.{headed}
+use Rattle.elf_model.specs.FileLists.{headed, members_alone}
 use Rattle.elf_model.specs.Style.{Style}
 use Rattle.elf_model.specs.declared.causes.Refusal.{Refusal}
 use Rattle.elf_model.specs.declared.states.FileSort.{FileSort}
@@ -18,10 +18,11 @@ use Rattle.elf_headers.specs.declared.stop.Stop.{Stop}
 use Rattle.elf_headers.specs.declared.stop.Stop.TheVariants.{Refused, Source, Out}
 use Rattle.elf_listing.specs.Reports.{Wrote}
 
--- a text with this fault is what is listed of a file of a sort within a budget: its listing, or that of an archive
+-- a text with this fault is what is listed of a file of a sort within a budget: its listing, or that of an archive, whose members'
+-- lines stand alone where all rows are shown
 abbrev pub IsListedText : FileSort → Option ℕ → List ℕ → ℕ → Style → ℕ → List ℕ → Option Refusal → Type 0
 IsListedText sort.Elf = IsBudgeted
-IsListedText sort.Archive = IsArchiveBudgeted
+IsListedText sort.Archive = λ budget file headers style. IsArchiveBudgeted (members_alone style.choice) budget file headers style
 IsListedText sort.Foreign = λ budget file headers style parts text fault. (text ≡ []) × (fault ≡ None)
 
 -- the listing of a member is refused
@@ -65,14 +66,14 @@ pub record AsksForSort (kind : FileSort) (caps : Caps) (old new : Counting) : Ty
   pub ceiling : new.asked ≤ old.asked + sort_ceiling kind old.seen.size caps.limits.headers (style_of caps.style)
   pub budget : IfSome caps.limits.budget (λ bytes. new.asked ≤ old.asked + bytes)
 
--- THE SAME BEHIND THE LINE of a path, which stands as the choice of rows has it. At a fault of the output a front of the line and
--- the text was written
+-- THE SAME BEHIND THE LINE of a path, which stands as the choice of rows has it. At a fault of the source or the output a front of
+-- both was written
 abbrev pub WroteHeaded : RowChoice → List ℕ → Written → Written → Result Bool Stop → List ℕ → Option Refusal → Type 0
 WroteHeaded choice line old new (Ok refused) text fault = Takes old new (headed choice line text) × (None ≡ fault)
 WroteHeaded choice line old new (Err (Refused refusal)) text fault = Takes old new (headed choice line text) × (Some refusal ≡ fault)
 WroteHeaded choice line old new (Err (Source cause at)) text fault =
     (front : List ℕ) × (rest : List ℕ) × (text ≡ front ++ rest) × Takes old new (headed choice line front)
-WroteHeaded choice line old new (Err (Out cause)) text fault = TakesFront old new (line ++ text)
+WroteHeaded choice line old new (Err (Out cause)) text fault = TakesFront old new (headed choice line text)
 
 pub record ListsHeaded (kind : FileSort) (line file : List ℕ) (limits : Limits) (style : Style) (parts : ℕ) (old new : Written) (result : Result Bool Stop) : Type 0 where
   pub text : List ℕ

@@ -2,14 +2,15 @@
 ghost use Rattle.std.specs.Prelude.{◌≡◌, ◌≤◌, length};
 ghost use Rattle.elf_fields.specs.Fronts.{front_of};
 ghost use Rattle.elf_model.specs.FileLists.{path_front, path_line};
-ghost use Rattle.elf_source.specs.Output.{Puts};
+ghost use Rattle.elf_source.specs.Output.{HoldsLine, Puts};
 
+use elf_archive::HELD_LINE_BYTES;
 use elf_fields::{Columns, LineFront, Object, Render, begin_named, show_named};
 use elf_model::Format;
-use elf_source::{Out, OutFault, Sink};
+use elf_source::{HeldLine, HoldingSink, Out, OutFault, Sink, SliceSink};
 
-/// The most bytes that the line of a path has that can be opened: 4,096 bytes, each spelt in five at most.
-pub const HELD_BYTES: usize = 20_992;
+/// Room for the lines that a list holds back at most, the line of a path and of a member, and a byte more.
+pub const HELD_BYTES: usize = 2 * HELD_LINE_BYTES;
 
 /// The `@` line of a file up to its path.
 #[tactic(auto, unfolding(elf_model::specs::FileLists::path_front))]
@@ -33,4 +34,27 @@ pub fn show_path<W: Sink>(path: &[u8], format: Format, out: &mut Out<W>) -> Resu
         Format::Object => path_row::<Object>(&mut front),
     }
     show_named(&mut front, path, false, out)
+}
+
+/// Has the line of a path held back.
+///
+/// # Errors
+/// A fault of the output, with nothing of the line taken: it failed before, or fails for good since the line
+/// has no room in it, which that of a path of at most 4,096 bytes has.
+#[inline(never)]
+pub fn hold_path<W: Sink>(
+    path: &[u8],
+    format: Format,
+    out: &mut Out<HoldingSink<W>>,
+) -> Result<HeldLine, OutFault>
+    ensures holds { HoldsLine out.old out.new result (path_line format path.now) }
+{
+    let mut buffer = [0; HELD_LINE_BYTES];
+    let mut line = Out::new(SliceSink::new(&mut buffer));
+    let shown = show_path(path, format, &mut line);
+    let sink = line.into_inner();
+    match shown {
+        Ok(()) => out.hold_line(sink.written()),
+        Err(_) => Err(out.break_off()),
+    }
 }

@@ -4,17 +4,18 @@ ghost use Rattle.elf_archive.specs.Listed.{IsAll};
 ghost use Rattle.elf_headers.specs.Permitted.{style_of};
 ghost use Rattle.elf_listing.specs.Reports.{Leaves};
 ghost use Rattle.elf_many_lists.specs.Lists.{AsksForSort, ListsSort, SortSays, sort_cost};
+ghost use Rattle.elf_model.specs.FileLists.{members_alone};
 ghost use Rattle.elf_source.specs.Growth.{Grows};
 
 use elf_archive::show_archive;
-use elf_headers::{Caps, HeaderStore, Stop};
+use elf_headers::{Caps, HeaderStore, Stop, Style};
 use elf_listing::show;
 use elf_model::FileSort;
 use elf_record::Parts;
-use elf_source::{Counted, Out, RangeSource, Sink, Source};
+use elf_source::{Counted, HoldingSink, Out, RangeSource, Sink, Source};
 
-/// Writes the listing of a file of a sort: of an ELF file its own, of an archive that of its members, of
-/// another file nothing. The last line is that of its refusal, if it has one. Answers whether the listing
+/// Writes the listing of a file of a sort: of an ELF file its own, of an archive that of its members, whose
+/// lines stand alone where all rows are shown, of another file nothing. The last line is that of its refusal, if it has one. Answers whether the listing
 /// of a member was refused. The source is a range of all bytes of the file, with nothing hidden; of it and
 /// the store the same holds as for [`show_archive`].
 ///
@@ -26,7 +27,7 @@ pub fn list_sort<S: Source, W: Sink>(
     caps: Caps,
     parts: Parts,
     sort: FileSort,
-    out: &mut Out<W>,
+    out: &mut Out<HoldingSink<W>>,
 ) -> Result<bool, Stop>
     requires small { (store.old.slots ≡ caps.limits.headers) × (src.old.asked ≤ 2 ^ 127) }
     requires whole { IsAll src.old }
@@ -47,10 +48,20 @@ pub fn list_sort<S: Source, W: Sink>(
             show(src, store, caps, parts, out)?;
             Ok(false)
         }
-        FileSort::Archive => show_archive(src, store, caps, parts, out),
+        FileSort::Archive => {
+            let alone = are_alone(&caps.style);
+            show_archive(src, store, caps, parts, alone, out)
+        }
         FileSort::Foreign => {
             src.limit(None);
             Ok(false)
         }
     }
+}
+
+/// Whether the lines of members stand alone.
+fn are_alone(style: &Style) -> bool
+    ensures { result ≡ members_alone (style_of style.now).choice }
+{
+    !style.choice.by_name
 }

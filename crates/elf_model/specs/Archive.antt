@@ -1,13 +1,13 @@
 -- Archives, as `ar` writes static libraries: the magic string and members one behind the other. A member is a header of 60
 -- bytes of text, its data, and where its size is odd one byte of padding, which may be missing at the file's end.
-use Rattle.std.specs.Prelude.{ℕ, zero, suc, ◌+◌, ◌-◌, ◌*◌, ◌%◌, ◌^◌, ◌==◌, ◌&&◌, min, nat_le, nat_lt, not, Bool, if◌then◌else◌, List, [], ◌∷◌, ◌++◌, length, take, position, slice_index, is_some, Option, None, Some, Result, Ok, Err, codes}
+use Rattle.std.specs.Prelude.{ℕ, zero, suc, ◌+◌, ◌-◌, ◌*◌, ◌%◌, ◌^◌, ◌==◌, ◌&&◌, min, nat_le, nat_lt, not, Bool, true, false, if◌then◌else◌, List, [], ◌∷◌, ◌++◌, length, take, position, slice_index, is_some, Option, None, Some, Result, Ok, Err, codes}
 use Rattle.std.specs.List.{list_all}
 use Rattle.elf_model.specs.Bytes.{slice, field}
 use Rattle.elf_model.specs.Checks.{Check, refuse}
 use Rattle.elf_model.specs.Fields.{Fields, LineFront, front}
 use Rattle.elf_model.specs.Fields.Field.{Decimal, Hexadecimal}
 use Rattle.elf_model.specs.Lines.{named_line, refusal_line}
-use Rattle.elf_model.specs.Listing.{ListingItem, Line, Fault, fault_of, guarded, report_of, known_parts}
+use Rattle.elf_model.specs.Listing.{ListingItem, Line, Fault, fault_of, guarded, lines_of, report_of, known_parts}
 use Rattle.elf_model.specs.Names.{Shown}
 use Rattle.elf_model.specs.Names.Shown.{Cut}
 use Rattle.elf_model.specs.Notes.{capped}
@@ -307,15 +307,26 @@ told format [] = []
 told format (Line text ∷ rest) = Line text ∷ told format rest
 told format (Fault refusal ∷ rest) = Line (refusal_line format refusal) ∷ []
 
+-- items that stand only before a text that has some byte
+abbrev pub before_some : (text : List ℕ) → List ListingItem → List ListingItem
+before_some [] items = []
+before_some (byte ∷ text) items = items
+
+-- a line with items behind it: it may stand alone, or else only before a line of theirs
+abbrev pub line_before : (alone : Bool) → List ℕ → List ListingItem → List ListingItem
+line_before true line items = Line line ∷ items
+line_before false line items = before_some (lines_of items) (Line line ∷ items)
+
 -- what is listed of a member: its line, and behind it its listing
-abbrev pub member_items : List ℕ → ℕ → Style → ℕ → Member → List ListingItem
-member_items file headers style parts m = Line (member_line style.format m) ∷ told style.format (member_listing file headers style parts m)
+abbrev pub member_items : (alone : Bool) → List ℕ → ℕ → Style → ℕ → Member → List ListingItem
+member_items alone file headers style parts m =
+    line_before alone (member_line style.format m) (told style.format (member_listing file headers style parts m))
 
 -- what is listed of members
-unfoldable pub members_items : List ℕ → ℕ → Style → ℕ → List Member → List ListingItem
-members_items file headers style parts [] = []
-members_items file headers style parts (m ∷ ms) =
-    member_items file headers style parts m ++ members_items file headers style parts ms
+unfoldable pub members_items : (alone : Bool) → List ℕ → ℕ → Style → ℕ → List Member → List ListingItem
+members_items alone file headers style parts [] = []
+members_items alone file headers style parts (m ∷ ms) =
+    member_items alone file headers style parts m ++ members_items alone file headers style parts ms
 
 -- the end of an archive's listing: the refusal where no member stands
 abbrev pub end_items : Option Refusal → List ListingItem
@@ -323,17 +334,18 @@ end_items None = []
 end_items (Some refusal) = Fault refusal ∷ []
 
 -- what is listed of members, and of the place where none stands
-unfoldable pub walk_items : List ℕ → ℕ → Style → ℕ → Members → List ListingItem
-walk_items file headers style parts walk = members_items file headers style parts walk.members ++ end_items walk.refusal
+unfoldable pub walk_items : (alone : Bool) → List ℕ → ℕ → Style → ℕ → Members → List ListingItem
+walk_items alone file headers style parts walk =
+    members_items alone file headers style parts walk.members ++ end_items walk.refusal
 
--- what is listed of an archive
-unfoldable pub archive_items : List ℕ → ℕ → Style → ℕ → List ListingItem
-archive_items file headers style parts =
-    guarded (archive_checks file) (walk_items file headers style parts (members_of file style.cap))
+-- WHAT IS LISTED OF AN ARCHIVE, whose members' lines may stand alone or not
+unfoldable pub archive_items : (alone : Bool) → List ℕ → ℕ → Style → ℕ → List ListingItem
+archive_items alone file headers style parts =
+    guarded (archive_checks file) (walk_items alone file headers style parts (members_of file style.cap))
 
 -- the text of an archive's listing, with so many bytes of a name, in the standards' names
 abbrev pub archive : List ℕ → (headers cap parts : ℕ) → List ℕ
-archive file headers cap parts = report_of Columns (archive_items file headers (standard cap) parts)
+archive file headers cap parts = report_of Columns (archive_items true file headers (standard cap) parts)
 
 -- the listing of a member is refused
 abbrev pub is_refused : List ℕ → ℕ → Style → ℕ → Member → Bool

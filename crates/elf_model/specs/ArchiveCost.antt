@@ -69,11 +69,13 @@ archive_ceiling size headers style =
 
 -- what the listing of an archive within a budget writes, and the fault that it answers: the whole, or a front of whole lines
 -- where it costs more than the budget
-abbrev pub IsArchiveBudgeted : Option ℕ → List ℕ → ℕ → Style → ℕ → List ℕ → Option Refusal → Type 0
-IsArchiveBudgeted None file headers style parts text fault = IsReport style.format (archive_items file headers style parts) text fault
-IsArchiveBudgeted (Some budget) file headers style parts text fault =
-    IsReport style.format (archive_items file headers style parts) text fault
-    ⊎ ((budget < archive_cost file headers style parts) × IsCut style.format (length file) (archive_items file headers style parts) text fault)
+abbrev pub IsArchiveBudgeted : (alone : Bool) → Option ℕ → List ℕ → ℕ → Style → ℕ → List ℕ → Option Refusal → Type 0
+IsArchiveBudgeted alone None file headers style parts text fault =
+    IsReport style.format (archive_items alone file headers style parts) text fault
+IsArchiveBudgeted alone (Some budget) file headers style parts text fault =
+    IsReport style.format (archive_items alone file headers style parts) text fault
+    ⊎ ((budget < archive_cost file headers style parts)
+      × IsCut style.format (length file) (archive_items alone file headers style parts) text fault)
 
 -- the listing of a member is refused
 abbrev pub any_refused : List ℕ → ℕ → Style → ℕ → Bool

@@ -32,6 +32,12 @@ headed EveryRow line text = line ++ text
 headed (RowsOf names) line [] = []
 headed (RowsOf names) line (byte ∷ text) = line ++ (byte ∷ text)
 
+-- in a list of files the lines of an archive's members stand alone where all rows are shown: where rows are chosen by their
+-- names they too stand only before something that is listed
+abbrev pub members_alone : RowChoice → Bool
+members_alone EveryRow = true
+members_alone (RowsOf names) = false
+
 -- the exit status that a listing calls for that was written: 1 where it has the line of a refusal, its own or that of a member
 abbrev pub list_status : Option Refusal → (member_refused : Bool) → ℕ
 list_status None member_refused = if member_refused then 1 else 0

@@ -2,8 +2,9 @@
 use Rattle.std.proofs.Common.{◌≡◌, ℕ, Bool, true, false, List, ◌++◌, Option, length, take, drop, refl, sym, subst, take-append-drop}
 use Rattle.std.proofs.Math.Seq.{take-length}
 use Rattle.std.specs.Io.KnownBytes.{Appends}
-use Rattle.elf_source.specs.Output.{GivesFront, HeldOutput}
+use Rattle.elf_source.specs.Output.{HeldOutput}
 use Rattle.elf_program.specs.Endings.{PutsRest}
+use Rattle.elf_program.specs.Lines.{GivesFront}
 
 pub rest_put : (old new : HeldOutput) (failed : Bool) (taken : Option (List ℕ)) → GivesFront old new (length old.held) → failed ≡ new.failed → taken ≡ new.below → PutsRest true failed old.held old.below taken
 rest_put old new false taken gives same is =

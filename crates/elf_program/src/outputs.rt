@@ -4,8 +4,9 @@ ghost use Rattle.std.specs.Io.Buffered.{writer_buffer, writer_inner};
 ghost use Rattle.elf_program.specs.Endings.{Ends, EndsRun, PutsRest, wants_rest, wants_rest_of};
 
 use crate::endings::{Ending, READ_FAULT, WRITE_FAULT, outcome};
+use crate::line_sink::LineSink;
 use elf_headers::Stop;
-use elf_source::{LineSink, Out, Sink, WriteSink};
+use elf_source::{Out, Sink, WriteSink};
 use std::io::{BufWriter, Write};
 
 /// How many bytes of output are kept before they are written.

@@ -1,12 +1,11 @@
 //! Requests carried out on files in memory, and where each read fails or the output ends early.
 
+use elf_fakes::FailSource;
 use elf_headers::{Cap, HeaderRoom, HeaderStore, Limits, Stop, Style};
 use elf_program::outcome;
 use elf_record::Parts;
 use elf_run::run;
-use elf_source::{
-    Counted, FailSource, MemorySource, Out, OutFault, SliceSink, Source, SourceFault, WriteSink,
-};
+use elf_source::{Counted, MemorySource, Out, OutFault, SliceSink, Source, SourceFault, WriteSink};
 use elf_words::{Request, Task};
 use std::process::Abort;
 use std::test::Fail;

@@ -1,11 +1,11 @@
 //! Requests over two files that answer in turn, as where a file changes between two reads.
 use crate::requests::{LISTED, carry_out, listing, request};
+use elf_fakes::TurnSource;
 use elf_fixtures::{hash_with_cycle, one_symbol_table, overlapping_relocations, with_bytes};
 use elf_headers::HeaderRoom;
 use elf_layout::Layout;
 use elf_model::Format;
 use elf_program::outcome;
-use elf_source::TurnSource;
 use elf_words::{Request, Task, checked_name};
 use std::process::Abort;
 use std::test::Fail;

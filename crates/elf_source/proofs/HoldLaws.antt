@@ -1,13 +1,11 @@
 -- What a sink that holds bytes back has given to the sink below it.
-use Rattle.std.proofs.Common.{◌≡◌, ℕ, ◌+◌, ◌-◌, ◌≤◌, List, [], ◌++◌, Option, None, Some, refl, sym, ap, ◌∙◌, length, take, drop, subst, append_assoc, arith}
-use Rattle.std.specs.Io.KnownBytes.{Appends, Keeps, append_known}
+use Rattle.std.proofs.Common.{◌≡◌, ℕ, ◌+◌, ◌-◌, ◌≤◌, List, [], ◌++◌, Option, None, Some, Result, refl, sym, ap, ◌∙◌, length, take, drop, subst, append-nil, append_assoc, arith}
+use Rattle.std.specs.Io.KnownBytes.{Appends, Keeps, WriteAppends, append_known}
 use Rattle.std.proofs.KnownBytes.{append_known-moved}
-use Rattle.std.proofs.Math.Seq.{take-append_seam}
-use Rattle.std.specs.List.{copy_within}
 use Rattle.std.proofs.lemmas.List.{take-append-drop, take-take, drop-append-le, drop-take, drop-drop, length-drop, length-take-le}
 
 -- the bytes between two places
-between : (room : List ℕ) (from to : ℕ) → from ≤ to → take (to - from) (drop from room) ≡ drop from (take to room)
+pub between : (room : List ℕ) (from to : ℕ) → from ≤ to → take (to - from) (drop from room) ≡ drop from (take to room)
 between room from to le =
     let whole : from + (to - from) ≡ to = omega (arith, le) in
     sym (ap (λ k. drop from (take k room)) (sym whole) ∙ drop-take from (to - from) room)
@@ -51,22 +49,21 @@ held_back below room from to less count first all fits =
       omega (arith, length-drop less (take to room), sized, all),
     )
 
--- what is left behind the bytes that went out moves to the front of the room
-pub moved_up : (room new : List ℕ) (given len : ℕ) → given ≤ len → len ≤ length room → new ≡ copy_within room given len 0
-    → take (len - given) new ≡ drop given (take len room)
-moved_up room new given len le fits is =
-    let rest = take (len - given) (drop given room) in
-    let sized : length rest ≡ len - given = length-take-le (len - given) (drop given room) (omega (arith, length-drop given room, le, fits)) in
-    ap (take (len - given)) is ∙ (ap (λ n. take n (rest ++ drop (0 + (len - given)) room)) (sym sized)
-    ∙ (take-append_seam rest (drop (0 + (len - given)) room) ∙ between room given len le))
+-- where nothing is held
+pub nothing_held : (room : List ℕ) (from to : ℕ) → from ≡ to → drop from (take to room) ≡ []
+nothing_held room from to same =
+    let whole : to ≡ to + 0 = omega arith in
+    rw same (ap (λ k. drop to (take k room)) whole ∙ drop-take to 0 room)
 
-pub front_kept : (a b : Option (List ℕ)) (room : List ℕ) (given count len : ℕ) → given ≤ count → count ≤ len → Appends a b (take given (take count room)) → Appends a b (take given (take len room))
-front_kept a b room given count len le fits p =
-    let same : take given (take count room) ≡ take given (take len room) = take-take given count room le ∙ sym (take-take given len room (omega (arith, le, fits))) in
-    subst (λ (l : List ℕ). Appends a b l) same p
+known_nothing : (a : Option (List ℕ)) → append_known a [] ≡ a
+known_nothing None = refl
+known_nothing (Some all) = ap Some (append-nil all)
 
-pub given_front : (a b : Option (List ℕ)) (room : List ℕ) (given count len : ℕ) → given ≤ count → count ≤ len → Appends a b (take given (take count room))
-    → Keeps (append_known a (take len room)) (append_known b (drop given (take len room)))
-given_front a b room given count len le fits p =
-    let all = take len room in
-    append_known-moved a b (take given all) (drop given all) all (front_kept a b room given count len le fits p) (sym (take-append-drop given all))
+-- what the sink below takes is taken
+pub passed_on : {E : Type 0} (a b : Option (List ℕ)) (held : List ℕ) (result : Result ℕ E) (bytes : List ℕ) → held ≡ [] → WriteAppends a b result bytes
+    → WriteAppends (append_known a held) (append_known b held) result bytes
+passed_on a b held result bytes none p = rw (none, known_nothing a, known_nothing b) p
+
+-- how many bytes are held
+pub held_size : (room : List ℕ) (from to : ℕ) → to ≤ length room → length (drop from (take to room)) ≡ to - from
+held_size room from to fits = omega (arith, length-drop from (take to room), length-take-le to room fits)

@@ -14,10 +14,10 @@ Appends_turn a b c bytes d n p q =
 
 -- a sink that took the first n bytes
 pub TakesFront-some : (old new : Written) (bytes : List ℕ) (n : ℕ) → n ≤ length bytes → Appends old.taken new.taken (take n bytes) → new.written ≡ min (old.written + n) (2 ^ 128 - 1)
-    → TakesFront old new bytes
-TakesFront-some old new bytes n within p count = record {
+    → (n ≡ 0 → new.held ≡ old.held) → new.room ≡ old.room → TakesFront old new bytes
+TakesFront-some old new bytes n within p count same room = record {
   front = take n bytes;
   rest = drop n bytes;
   split = sym (take-append-drop n bytes);
-  takes = record { appends = p; counts = count ∙ ap (λ k. min (old.written + k) (2 ^ 128 - 1)) (sym (length-take-le n bytes within)) };
+  takes = record { appends = p; counts = count ∙ ap (λ k. min (old.written + k) (2 ^ 128 - 1)) (sym (length-take-le n bytes within)); still = λ none. same (sym (length-take-le n bytes within) ∙ none); room = room };
 }

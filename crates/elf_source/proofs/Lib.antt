@@ -1,10 +1,11 @@
 pub mod GrowthLaws
 pub mod HidingLaws
-mod HoldLaws
+pub mod HoldLaws
 mod Known
 pub mod LimitLaws
 pub mod ReadsLaws
 pub mod PutsLaws
+pub mod LineLaws
 pub mod OnwardLaws
 mod TurnLaws
 pub mod RangeLaws

@@ -5,11 +5,16 @@ use Rattle.elf_source.specs.Output.{Written, Takes, TakesFront}
 
 -- nothing was put
 pub Takes-nothing : (a : Written) → Takes a a []
-Takes-nothing a = record { appends = Appends-nil a.taken; counts = omega (arith, a.fits) }
+Takes-nothing a = record { appends = Appends-nil a.taken; counts = omega (arith, a.fits); still = λ none. refl; room = refl }
 
 -- all of some bytes, and then all of others
 pub Takes-then : {a b c : Written} (xs ys : List ℕ) → Takes a b xs → Takes b c ys → Takes a c (xs ++ ys)
-Takes-then {a} {b} {c} xs ys p q = record { appends = Appends-trans a.taken b.taken c.taken xs ys p.appends q.appends; counts = omega (arith, p.counts, q.counts, length-append xs ys) }
+Takes-then {a} {b} {c} xs ys p q = record {
+  appends = Appends-trans a.taken b.taken c.taken xs ys p.appends q.appends;
+  counts = omega (arith, p.counts, q.counts, length-append xs ys);
+  still = λ none. q.still (omega (arith, length-append xs ys, none)) ∙ p.still (omega (arith, length-append xs ys, none));
+  room = q.room ∙ p.room;
+}
 
 -- all of some bytes, and then a front of others
 pub TakesFront-then : {a b c : Written} (xs ys : List ℕ) → Takes a b xs → TakesFront b c ys → TakesFront a c (xs ++ ys)

@@ -1,7 +1,8 @@
 -- What is given to a sink, and what it took.
-use Rattle.std.specs.Prelude.{◌≡◌, ℕ, ◌+◌, ◌-◌, ◌^◌, ◌<◌, ◌≤◌, ◌==◌, ◌⊎◌, if◌then◌else◌, slice_index, Bool, true, false, List, ◌++◌, Option, None, Some, Result, Ok, Err, min, length, drop, take}
+use Rattle.std.specs.Prelude.{◌≡◌, ℕ, ◌+◌, ◌-◌, ◌^◌, ◌<◌, ◌≤◌, ◌==◌, ◌⊎◌, if◌then◌else◌, Bool, true, false, List, [], ◌∷◌, ◌++◌, Option, None, Some, Result, Ok, Err, min, length, take}
 use Rattle.std.specs.Io.KnownBytes.{Appends, append_known}
 use Rattle.elf_source.specs.declared.faults.OutFault.{OutFault}
+use Rattle.elf_source.specs.declared.holding_sink.HeldLine.{HeldLine}
 
 -- a slice that is written from its front: the bytes written, how many bytes are free, whether a take failed
 pub record FrontSlice : Type 0 where
@@ -17,6 +18,10 @@ pub record Writing (W : Type 0) : Type 0 where
 -- how much of so much room is free for bytes to be held behind others: nothing where some of these went out
 abbrev pub free_behind : (from to room : ℕ) → ℕ
 free_behind from to room = if from == 0 then room - to else 0
+
+-- a sink that holds no bytes back
+abbrev pub nothing_held : ℕ
+nothing_held = 0
 
 -- a sink that may hold bytes back: what the sink below it took, the bytes that are held, for how many it has room, and of that how
 -- much is free, whether a take failed
@@ -34,36 +39,31 @@ KeepsSome old new (Some count) bytes =
     (0 < count) × (count ≡ min old.free (length bytes)) × (new.below ≡ old.below) × (new.held ≡ old.held ++ take count bytes)
     × (new.room ≡ old.room) × (new.free ≡ old.free - count)
 
--- it gave on a front of what it kept, of at most so many bytes, and keeps the rest: all of that front unless the sink below fails
-pub record GivesFront (old new : HeldOutput) (count : ℕ) : Type 0 where
-  pub given : ℕ
-  pub within : given ≤ count
-  pub went : Appends old.below new.below (take given old.held)
-  pub left : new.held ≡ drop given old.held
-  pub room : new.room ≡ old.room
-  pub free : new.free ≡ old.free + given
-  pub all : new.failed ≡ false → given ≡ count
+-- it holds a line behind what it holds, with room for a byte more; exactly where there is none nothing changes
+abbrev pub HoldsIf : Bool → HeldOutput → HeldOutput → List ℕ → Type 0
+HoldsIf true old new line =
+    (length line < old.free) × (new.below ≡ old.below) × (new.held ≡ old.held ++ line) × (new.room ≡ old.room)
+    × (new.free ≡ old.free - length line) × (new.failed ≡ old.failed)
+HoldsIf false old new line =
+    (old.free ≤ length line) × (new ≡ old) × (old.failed ≡ false → old.room ≤ length old.held + length line)
 
--- no line ends in these bytes from a place on
-abbrev pub NoLineFrom : ℕ → List ℕ → Type 0
-NoLineFrom from bytes = (place : ℕ) → from ≤ place → place < length bytes → slice_index bytes place ≡ 10 → ⊥
-
--- so many of these bytes are whole lines: they end with the last line that ends in them, or are all bytes where none does
-abbrev pub AreWholeLines : List ℕ → ℕ → Type 0
-AreWholeLines bytes count =
-    ((0 < count) × (slice_index bytes (count - 1) ≡ 10) × NoLineFrom count bytes) ⊎ ((count ≡ length bytes) × NoLineFrom 0 bytes)
-
--- what is seen of an output: the bytes that its sink knows, how many it took, and whether it has failed
+-- what is seen of an output: the bytes that its sink knows, how many it took, whether it has failed, how many of the bytes taken
+-- last are held back, and for how many there is room
 pub record Written : Type 0 where
   pub taken : Option (List ℕ)
   pub written : ℕ
   pub failed : Bool
+  pub held : ℕ
+  pub room : ℕ
   pub fits : written < 2 ^ 128
 
--- the sink took these bytes, and the count rose by as many, or stays at 2^128 - 1 where it would pass it
+-- the sink took these bytes, and the count rose by as many, or stays at 2^128 - 1 where it would pass it; where there are none, as
+-- many are held back as before
 pub record Takes (old new : Written) (bytes : List ℕ) : Type 0 where
   pub appends : Appends old.taken new.taken bytes
   pub counts : new.written ≡ min (old.written + length bytes) (2 ^ 128 - 1)
+  pub still : length bytes ≡ 0 → new.held ≡ old.held
+  pub room : new.room ≡ old.room
 
 -- the sink took a front of these bytes, and no byte of the rest
 pub record TakesFront (old new : Written) (bytes : List ℕ) : Type 0 where
@@ -82,15 +82,50 @@ abbrev pub Puts : {X : Type 0} → Written → Written → Result X OutFault →
 Puts old new (Ok x) bytes = Takes old new bytes × (new.failed ≡ false)
 Puts old new (Err fault) bytes = TakesFront old new bytes × OutFails new fault
 
--- the last so many bytes that were taken are taken back, and so many are written
+-- the output fails for good, and nothing else changes
+pub record BreaksOff (old new : Written) (fault : OutFault) : Type 0 where
+  pub taken : new.taken ≡ old.taken
+  pub written : new.written ≡ old.written
+  pub held : new.held ≡ old.held
+  pub room : new.room ≡ old.room
+  pub fails : OutFails new fault
+
+-- a line can't be held back: the output has failed, or the line and a byte have no room behind what is held, or the count has none
+abbrev pub LacksRoom : Written → List ℕ → Type 0
+LacksRoom old line = (old.failed ≡ true) ⊎ (old.room ≤ old.held + length line) ⊎ (2 ^ 128 - 1 ≤ old.written + length line)
+
+-- a line is held back: it is taken, and counts as written and as held
+pub record HeldBack (old new : Written) (line : List ℕ) (held : HeldLine) : Type 0 where
+  pub appends : Appends old.taken new.taken line
+  pub before : held.before ≡ old.written
+  pub start : held.start ≡ old.written + length line
+  pub few : held.start < 2 ^ 128 - 1
+  pub counts : new.written ≡ held.start
+  pub holds : new.held ≡ old.held + length line
+  pub room : new.room ≡ old.room
+  pub stands : new.failed ≡ false
+
+-- the same, or the output fails for good with nothing of the line
+abbrev pub HoldsLine : Written → Written → Result HeldLine OutFault → List ℕ → Type 0
+HoldsLine old new (Ok held) line = HeldBack old new line held
+HoldsLine old new (Err fault) line = BreaksOff old new fault × LacksRoom old line
+
+-- the last so many bytes that were taken and held are taken back, and so many are written
 pub record TakesBack (old new : Written) (count written : ℕ) : Type 0 where
   pub back : List ℕ
   pub many : length back ≡ count
   pub bytes : old.taken ≡ append_known new.taken back
   pub counts : new.written ≡ written
+  pub held : old.held ≡ new.held + count
+  pub room : new.room ≡ old.room
   pub failed : new.failed ≡ old.failed
 
--- the same, or nothing changed
-abbrev pub TakesBackIf : Bool → (old new : Written) → (count written : ℕ) → Type 0
-TakesBackIf true old new count written = TakesBack old new count written
-TakesBackIf false old new count written = new ≡ old
+-- a line that was held is ended: taken back where no byte more is written, else nothing changes
+pub record EndsLine (line : HeldLine) (old new : Written) : Type 0 where
+  pub back : old.written ≡ line.start → TakesBack old new (line.start - line.before) line.before
+  pub stays : (old.written ≡ line.start → ⊥) → new ≡ old
+
+-- a line stands before a text that has some byte
+abbrev pub before_text : (line text : List ℕ) → List ℕ
+before_text line [] = []
+before_text line (byte ∷ text) = line ++ (byte ∷ text)

@@ -1,15 +1,15 @@
-//! A sink that holds bytes back until more come.
-ghost use Rattle.std.specs.Prelude.{◌≡◌, ◌^◌, ◌<◌, [], true, false, length};
+//! A sink that holds lines back until more comes.
+ghost use Rattle.std.specs.Prelude.{◌≡◌, ◌-◌, ◌<◌, ◌≤◌, [], false, true, length};
 ghost use Rattle.std.specs.Io.KnownBytes.{Keeps, append_known};
-ghost use Rattle.elf_source.specs.Output.{KeepsSome, TakesBackIf};
+ghost use Rattle.elf_source.specs.Output.{BreaksOff, EndsLine, HoldsIf, HoldsLine, KeepsSome};
 
-use crate::faults::SinkFault;
+use crate::faults::{OutFault, SinkFault};
 use crate::output::{Out, give};
 use crate::sink::Sink;
 use std::marker::Model;
 
-/// A sink over another that may hold bytes back: they count as taken, and the other gets them before the
-/// next byte that is not held. What is still held may be taken back ([`Out::take_back`]).
+/// A sink over another that may hold lines back: they count as taken, and the other gets them together with
+/// the next bytes that are taken. Lines that are still held may be taken back.
 #[derive(Drop)]
 pub struct HoldingSink<W: Sink> {
     sink: W,
@@ -17,13 +17,18 @@ pub struct HoldingSink<W: Sink> {
     // Where in the room the bytes stand that are held.
     from: usize,
     to: usize,
-    // Whether bytes are held from now on.
-    holds: bool,
     broken: bool,
 }
 
+/// How many bytes an output had written before a line that it holds, and with it.
+#[derive(Clone, Copy)]
+pub struct HeldLine {
+    before: u128,
+    start: u128,
+}
+
 impl<W: Sink> Model for HoldingSink<W> {
-    ghost use Rattle.std.specs.Prelude.{◌≤◌, ◌||◌, drop, length, take};
+    ghost use Rattle.std.specs.Prelude.{◌≡◌, ◌<◌, ◌≤◌, ◌||◌, drop, length, take, true};
     ghost use Rattle.elf_source.specs.Output.{HeldOutput, free_behind};
 
     ghost Value = { HeldOutput };
@@ -36,7 +41,8 @@ impl<W: Sink> Model for HoldingSink<W> {
       failed = s.broken || W.failed s.sink;
     } };
 
-    ghost invariant = { λ s. (s.from ≤ s.to) × (s.to ≤ length s.room.items) };
+    ghost invariant = { λ s. (s.from ≤ s.to) × (s.to ≤ length s.room.items)
+        × (0 < s.from → (s.broken || W.failed s.sink) ≡ true) };
 }
 
 impl<W: Sink> HoldingSink<W> {
@@ -52,22 +58,31 @@ impl<W: Sink> HoldingSink<W> {
             room,
             from: 0,
             to: 0,
-            holds: false,
             broken: false,
         }
     }
 
     /// Gives the sink below back. What is held is lost.
-    pub fn into_inner(self) -> W {
+    pub fn into_inner(self) -> W
+        ensures below { W.taken result ≡ self.below }
+        ensures none { self.room ≡ 0 → self.held ≡ [] }
+        ensures failed { W.failed result ≡ true → self.failed ≡ true }
+    {
         let HoldingSink { sink, .. } = self;
         sink
     }
 
-    /// Holds bytes from now on, or does not.
-    fn keep_on(&mut self, holds: bool)
-        ensures { self.new ≡ self.old }
+    /// Holds a line behind what is held, where there is room for it and a byte more; else nothing changes.
+    fn hold(&mut self, line: &[u8]) -> bool
+        ensures { HoldsIf result self.old self.new line.now }
     {
-        self.holds = holds;
+        if self.from > 0 || self.room.len() - self.to <= line.len() {
+            return false;
+        }
+        let end = self.to + line.len();
+        self.room[self.to..end].copy_from_slice(line);
+        self.to = end;
+        true
     }
 
     /// Holds as many of `bytes` as there is room for; None exactly where there is none, or some that were
@@ -111,24 +126,33 @@ impl<W: Sink> Sink for HoldingSink<W> {
 
     ghost failed = { λ s. s.failed };
 
-    /// Takes some of `bytes`: holds them, or gives them to the sink below, behind what was held.
+    ghost held = { λ s. length s.held };
+
+    ghost room = { λ s. s.room };
+
+    /// Takes some of `bytes`. Where lines are held, they and the bytes that have room behind them go to the
+    /// sink below in one piece, so that no line goes out before a byte behind it was taken.
     ///
     /// # Errors
-    /// `SinkFault` where the sink below fails, or this one was broken off.
+    /// `SinkFault` where the sink below has failed, or this one was broken off.
     fn take(&mut self, bytes: &[u8]) -> Result<usize, SinkFault> {
         if self.failed() {
             return Err(SinkFault);
         }
-        if self.holds {
-            if let Some(count) = self.keep(bytes) {
-                return Ok(count);
+        if self.from == self.to {
+            return self.sink.take(bytes);
+        }
+        match self.keep(bytes) {
+            Some(count) => {
+                self.release();
+                Ok(count)
+            }
+            // Not reached: a line that is held leaves room for a byte.
+            None => {
+                self.broken = true;
+                Err(SinkFault)
             }
         }
-        self.release();
-        if self.failed() {
-            return Err(SinkFault);
-        }
-        self.sink.take(bytes)
     }
 
     fn failed(&self) -> bool {
@@ -137,35 +161,39 @@ impl<W: Sink> Sink for HoldingSink<W> {
 }
 
 impl<W: Sink> Out<HoldingSink<W>> {
-    /// Has bytes that are put from now on held back, or go to the writer again, behind those that are held.
-    /// They count as written either way.
-    pub fn hold(&mut self, holds: bool)
-        ensures taken { self.new.taken ≡ self.old.taken }
-        ensures written { self.new.written ≡ self.old.written }
-        ensures failed { self.new.failed ≡ self.old.failed }
+    /// Has a line held back, behind those that are held. It counts as written.
+    ///
+    /// # Errors
+    /// `OutFault` where the output has failed, or the line and a byte have no room behind the lines that
+    /// are held: then the output fails for good. Nothing of the line was taken.
+    pub fn hold_line(&mut self, line: &[u8]) -> Result<HeldLine, OutFault>
+        ensures { HoldsLine self.old self.new result line.now }
     {
-        self.sink.keep_on(holds);
+        let before = self.written;
+        let start = before.saturating_add(line.len() as u128);
+        if self.failed() || start == u128::MAX || !self.sink.hold(line) {
+            return Err(self.break_off());
+        }
+        self.written = start;
+        Ok(HeldLine { before, start })
     }
 
-    /// Takes back the last bytes that are held, so many, and has so many count as `written` as are
-    /// given; false where fewer are held, and nothing changes.
-    pub fn take_back(&mut self, count: u128, written: u128) -> bool
-        ensures { TakesBackIf result self.old self.new count written }
+    /// Ends a line that was held: it stays where something was written behind it, else it is taken back.
+    pub fn end_line(&mut self, line: HeldLine)
+        requires { self.old.written ≡ line.start → line.start - line.before ≤ self.old.held }
+        ensures { EndsLine line self.old self.new }
     {
-        if ((self.sink.to - self.sink.from) as u128) < count {
-            return false;
+        if self.written == line.start {
+            self.sink.to -= line.start.saturating_sub(line.before) as usize;
+            self.written = line.before;
         }
-        self.sink.to -= count as usize;
-        self.written = written;
-        true
     }
 
     /// Has the output fail for good.
-    pub fn break_off(&mut self)
-        ensures taken { self.new.taken ≡ self.old.taken }
-        ensures written { self.new.written ≡ self.old.written }
-        ensures failed { self.new.failed ≡ true }
+    pub fn break_off(&mut self) -> OutFault
+        ensures { BreaksOff self.old self.new result }
     {
         self.sink.broken = true;
+        self.fault()
     }
 }

@@ -2,11 +2,9 @@
 #![tactic(auto)]
 
 mod counted;
-mod fail_source;
 mod faults;
 mod hiding;
 mod holding_sink;
-mod line_sink;
 mod memory_source;
 mod null_sink;
 mod offset_reader;
@@ -19,19 +17,16 @@ mod sink;
 mod slice_sink;
 mod source;
 mod stream_source;
-mod turn_source;
 mod write_sink;
 
 pub use counted::{Counted, READ_BYTES};
-pub use fail_source::FailSource;
 pub use faults::{AskFault, OutFault, ReaderFault, SinkFault, SourceFault};
-pub use holding_sink::HoldingSink;
-pub use line_sink::LineSink;
+pub use holding_sink::{HeldLine, HoldingSink};
 pub use memory_source::MemorySource;
 pub use null_sink::NullSink;
 pub use offset_reader::OffsetReader;
 pub use opened::opened_path;
-pub use output::Out;
+pub use output::{Out, give};
 pub use range_source::RangeSource;
 pub use reader::Reader;
 pub use seek_reader::SeekReader;
@@ -39,5 +34,4 @@ pub use sink::Sink;
 pub use slice_sink::SliceSink;
 pub use source::Source;
 pub use stream_source::StreamSource;
-pub use turn_source::TurnSource;
 pub use write_sink::WriteSink;

@@ -1,5 +1,6 @@
 //! A sink that keeps nothing.
 ghost use Rattle.std.specs.Prelude.{◌≡◌, false, None, Ok, length};
+ghost use Rattle.elf_source.specs.Output.{nothing_held};
 
 use crate::faults::SinkFault;
 use crate::sink::Sink;
@@ -13,6 +14,10 @@ impl Sink for NullSink {
     ghost taken = { λ _. None };
 
     ghost failed = { λ _. false };
+
+    ghost held = { λ _. nothing_held };
+
+    ghost room = { λ _. nothing_held };
 
     /// Takes all of `bytes`.
     fn take(&mut self, bytes: &[u8]) -> Result<usize, SinkFault> {

@@ -24,6 +24,8 @@ impl<W: Sink> Model for Out<W> {
       taken = W.taken o.sink;
       written = o.written;
       failed = W.failed o.sink;
+      held = W.held o.sink;
+      room = W.room o.sink;
       fits = o.fits;
     } };
 }
@@ -32,6 +34,8 @@ impl<W: Sink> Out<W> {
     /// Counts what `sink` takes from now on.
     pub fn new(sink: W) -> Self
         ensures taken { result.taken ≡ W.taken sink }
+        ensures held { result.held ≡ W.held sink }
+        ensures room { result.room ≡ W.room sink }
         ensures failed { result.failed ≡ W.failed sink }
         ensures written { result.written ≡ 0 }
     {
@@ -52,6 +56,15 @@ impl<W: Sink> Out<W> {
         self.sink.failed()
     }
 
+    /// The fault of a sink that has failed.
+    pub fn fault(&self) -> OutFault
+        ensures { result.written ≡ self.now.written }
+    {
+        OutFault {
+            written: self.written,
+        }
+    }
+
     /// Gives `bytes` to the sink, in as many turns as it needs. `written` rises by the number of
     /// bytes that it took.
     ///
@@ -64,16 +77,12 @@ impl<W: Sink> Out<W> {
         ensures for_good { IsTrue self.old.failed → self.new ≡ self.old }
     {
         if self.failed() {
-            return Err(OutFault {
-                written: self.written,
-            });
+            return Err(self.fault());
         }
         let count = give(&mut self.sink, bytes);
         self.written = self.written.saturating_add(count as u128);
         if self.sink.failed() {
-            return Err(OutFault {
-                written: self.written,
-            });
+            return Err(self.fault());
         }
         Ok(())
     }
@@ -82,18 +91,21 @@ impl<W: Sink> Out<W> {
     pub fn into_inner(self) -> W
         ensures taken { W.taken result ≡ self.taken }
         ensures failed { W.failed result ≡ self.failed }
+        ensures room { W.room result ≡ self.room }
     {
         let Out { sink, .. } = self;
         sink
     }
 }
 
-// Gives `bytes` to the sink until it has taken all or fails, and counts those that it took.
+/// Gives `bytes` to the sink until it has taken all or fails, and counts those that it took.
 #[tactic(auto, using(crate::proofs::Known::Appends_turn))]
-pub(crate) fn give<W: Sink>(sink: &mut W, bytes: &[u8]) -> usize
+pub fn give<W: Sink>(sink: &mut W, bytes: &[u8]) -> usize
     ensures within { result ≤ length bytes.now }
     ensures bytes { Appends (W.taken sink.old) (W.taken sink.new) (take result bytes.now) }
     ensures whole { W.failed sink.new ≡ false → result ≡ length bytes.now }
+    ensures still { result ≡ 0 → W.held sink.new ≡ W.held sink.old }
+    ensures room { W.room sink.new ≡ W.room sink.old }
 {
     let mut done = 0;
     while done < bytes.len() {

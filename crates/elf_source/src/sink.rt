@@ -1,5 +1,5 @@
 //! What a sink of bytes promises.
-ghost use Rattle.std.specs.Prelude.{◌≡◌, ℕ, ◌<◌, ◌≤◌, Bool, List, Option, length, is_err, IsTrue, IsErr, IfOk};
+ghost use Rattle.std.specs.Prelude.{◌≡◌, ℕ, ◌<◌, ◌≤◌, Bool, List, Option, length, IsTrue, IsErr, IfOk};
 ghost use Rattle.std.specs.Io.KnownBytes.{WriteAppends};
 
 use crate::faults::SinkFault;
@@ -12,17 +12,26 @@ pub trait Sink {
     /// The sink has failed.
     ghost failed: { Self → Bool };
 
-    /// Takes some of `bytes`, which aren't empty: the first `count` of them at `Ok(count)`.
+    /// How many of the bytes taken last are held back.
+    ghost held: { Self → ℕ };
+
+    /// How many bytes have room to be held back.
+    ghost room: { Self → ℕ };
+
+    /// Takes some of `bytes`, which aren't empty: the first `count` of them at `Ok(count)`; the sink may
+    /// have failed behind them, so that no later call takes any.
     ///
     /// # Errors
     /// `SinkFault` where the sink fails or failed before. Then nothing is taken, by this call or a
-    /// later one.
+    /// later one, and as many bytes are held back as before.
     fn take(&mut self, bytes: &[u8]) -> Result<usize, SinkFault>
         requires { 0 < length bytes.now }
         ensures some { IfOk result (λ count. 0 < count) }
         ensures within { IfOk result (λ count. count ≤ length bytes.now) }
         ensures bytes { WriteAppends (taken self.old) (taken self.new) result bytes.now }
-        ensures fails { failed self.new ≡ is_err result }
+        ensures fails { IsErr result → IsTrue (failed self.new) }
+        ensures still { IsErr result → held self.new ≡ held self.old }
+        ensures room { room self.new ≡ room self.old }
         ensures for_good { IsTrue (failed self.old) → IsErr result };
 
     /// Whether the sink has failed.

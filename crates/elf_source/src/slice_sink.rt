@@ -1,6 +1,7 @@
 //! A sink over bytes in memory.
 ghost use Rattle.std.specs.Prelude.{◌≡◌, ◌-◌, ◌<◌, ◌≤◌, ◌↔◌, false, [], Some, min, length, is_err, IsTrue, IsErr, IfOk};
 ghost use Rattle.std.specs.Io.KnownBytes.{WriteAppends};
+ghost use Rattle.elf_source.specs.Output.{nothing_held};
 
 use crate::faults::SinkFault;
 use crate::sink::Sink;
@@ -57,6 +58,10 @@ impl<'a> Sink for SliceSink<'a> {
 
     ghost failed = { λ s. s.failed };
 
+    ghost held = { λ _. nothing_held };
+
+    ghost room = { λ _. nothing_held };
+
     /// Takes as many of `bytes` as there are bytes free.
     ///
     /// # Errors
@@ -67,8 +72,11 @@ impl<'a> Sink for SliceSink<'a> {
         ensures within { IfOk result (λ count. count ≤ length bytes.now) }
         ensures bytes { WriteAppends
             (Some self.old.written) (Some self.new.written) result bytes.now }
-        ensures fails { self.new.failed ≡ is_err result }
+        ensures fails { IsErr result → IsTrue self.new.failed }
+        ensures still { IsErr result → nothing_held ≡ nothing_held }
+        ensures room { nothing_held ≡ nothing_held }
         ensures for_good { IsTrue self.old.failed → IsErr result }
+        ensures tells { self.new.failed ≡ is_err result }
         ensures full { IsErr result ↔ (self.old.free ≡ 0) }
         ensures most { IfOk result (λ count. count ≡ min self.old.free (length bytes.now)) }
         ensures left { self.new.free ≡ self.old.free - length bytes.now }

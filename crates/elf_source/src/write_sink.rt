@@ -1,6 +1,7 @@
 //! A sink over a writer.
 ghost use Rattle.std.specs.Prelude.{◌≡◌, ◌<◌, ◌≤◌, false, length, take, IfSome, MatchOption};
 ghost use Rattle.std.specs.Io.KnownBytes.{Keeps, Appends};
+ghost use Rattle.elf_source.specs.Output.{nothing_held};
 
 use crate::faults::{INTERRUPTED_TURNS, SinkFault};
 use crate::sink::Sink;
@@ -47,6 +48,10 @@ impl<W: Write> Sink for WriteSink<W> {
     ghost taken = { λ s. W.contents s.writer };
 
     ghost failed = { λ s. s.failed };
+
+    ghost held = { λ _. nothing_held };
+
+    ghost room = { λ _. nothing_held };
 
     /// Writes some of `bytes`.
     ///

@@ -1,6 +1,7 @@
 -- What the listing of an archive did, by the status that is made of its answer.
-use Rattle.std.proofs.Common.{◌≡◌, ◌≤◌, ◌+◌, ℕ, Bool, List, Option, Some, Result, Ok, Err, sym, subst}
+use Rattle.std.proofs.Common.{◌≡◌, ◌≤◌, ◌+◌, ℕ, Bool, true, List, [], Option, None, Some, Result, Ok, Err, refl, sym, ap, subst, append-nil}
 use Rattle.std.specs.Prelude.{IfErr, IfOk}
+use Rattle.std.specs.Io.KnownBytes.{append_known}
 use Rattle.elf_model.specs.ArchiveCost.{archive_cost}
 use Rattle.elf_source.specs.Growth.{Grows}
 use Rattle.elf_source.specs.Source.{Counting}
@@ -21,15 +22,20 @@ status_says P (Err stop) says = says
 pub archive_runs : (caps : Caps) (parts : ℕ) (old new : Counting) (before after : Written) (listed : Result Bool Stop) (answer : Result ℕ Stop)
     → refused_by answer ≡ listed → IfOk answer (λ status. status ≤ 1) → Grows before after → Leaves old new
     → IfErr listed (ArchiveSays old new after)
-    → ((file : List ℕ) → old.seen.file ≡ Some file → ReportsArchive file caps parts before after listed)
+    → ((file : List ℕ) → old.seen.file ≡ Some file → ReportsArchive true file caps parts before after listed)
     → ((file : List ℕ) → old.seen.file ≡ Some file → new.asked ≤ old.asked + archive_cost file caps.limits.headers (style_of caps.style) parts)
     → AsksInArchive caps old new listed → RunsArchive caps parts old new before after answer
 archive_runs caps parts old new before after listed answer same status grows leaves says text cost asks = record {
   grows = grows;
   leaves = leaves;
   says = status_says _ answer (subst (λ r. IfErr r (ArchiveSays old new after)) (sym same) says);
-  text = λ file known. subst (λ r. ReportsArchive file caps parts before after r) (sym same) (text file known);
+  text = λ file known. subst (λ r. ReportsArchive true file caps parts before after r) (sym same) (text file known);
   cost = cost;
   asks = subst (λ r. AsksInArchive caps old new r) (sym same) asks;
   status = status;
 }
+
+-- where nothing is held, what was taken went on
+pub all_below : (below : Option (List ℕ)) (held : List ℕ) → held ≡ [] → append_known below held ≡ below
+all_below None held none = rw none refl
+all_below (Some all) held none = rw none (ap Some (append-nil all))

@@ -1,5 +1,5 @@
 -- How the program ends, by what it did.
-use Rattle.std.specs.Prelude.{ℕ, ◌≡◌, ◌⊎◌, ◌≤◌, ◌+◌, ⊤, Bool, false, List, codes, Option, None, Some, Result, Ok, Err, IfErr, IfOk}
+use Rattle.std.specs.Prelude.{ℕ, ◌≡◌, ◌⊎◌, ◌≤◌, ◌+◌, ⊤, Bool, true, false, List, codes, Option, None, Some, Result, Ok, Err, IfErr, IfOk}
 use Rattle.std.specs.Io.Buffered.{writer_buffer, writer_contents, writer_inner}
 use Rattle.std.specs.declared.io.buffered.BufWriter.{BufWriter}
 use Rattle.elf_model.specs.ArchiveCost.{archive_cost}
@@ -57,7 +57,7 @@ pub record RunsArchive (caps : Caps) (parts : ℕ) (old new : Counting) (before 
   pub grows : Grows before after
   pub leaves : Leaves old new
   pub says : IfErr answer (ArchiveSays old new after)
-  pub text : (file : List ℕ) → old.seen.file ≡ Some file → ReportsArchive file caps parts before after (refused_by answer)
+  pub text : (file : List ℕ) → old.seen.file ≡ Some file → ReportsArchive true file caps parts before after (refused_by answer)
   pub cost : (file : List ℕ) → old.seen.file ≡ Some file → new.asked ≤ old.asked + archive_cost file caps.limits.headers (style_of caps.style) parts
   pub asks : AsksInArchive caps old new (refused_by answer)
   pub status : IfOk answer (λ status. status ≤ 1)

@@ -13,13 +13,13 @@ PlacesIn section layout explain (Place applied addresses explained) = (applied �
 PlacesIn section layout explain _ = ⊥
 
 -- what is wrong with a line was told, or there was no memory for it
-abbrev pub EndsLine : ℕ → List ℕ → Type 0
-EndsLine status line = ((status ≡ 2) × (line ≡ [])) ⊎ LacksMemory status line
+abbrev pub EndsBadLine : ℕ → List ℕ → Type 0
+EndsBadLine status line = ((status ≡ 2) × (line ≡ [])) ⊎ LacksMemory status line
 
 -- how the program ends where a file gives no items: what is wrong with a line is told before
 abbrev pub EndsItems : ItemsFault → ℕ → List ℕ → Type 0
 EndsItems Read status line = (status ≡ 2) × (line ≡ codes "elfsee: cannot read layout")
 EndsItems TooLarge status line = (status ≡ 2) × (line ≡ codes "elfsee: layout too large")
-EndsItems (BadItem number) status line = EndsLine status line
-EndsItems (Repeats number) status line = EndsLine status line
+EndsItems (BadItem number) status line = EndsBadLine status line
+EndsItems (Repeats number) status line = EndsBadLine status line
 EndsItems Memory status line = LacksMemory status line

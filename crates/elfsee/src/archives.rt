@@ -1,5 +1,5 @@
 //! The listing of an archive.
-ghost use Rattle.std.specs.Prelude.{◌≡◌, ◌⊎◌, IfErr};
+ghost use Rattle.std.specs.Prelude.{◌≡◌, ◌⊎◌, IfErr, length};
 ghost use Rattle.elfsee.specs.Ends.{EndsRunOver, LacksFile, LacksMemory, RunsArchive};
 ghost use Rattle.elf_headers.specs.Permitted.{style_of};
 ghost use Rattle.elf_name_lists.specs.NamedRows.{named_style};
@@ -13,7 +13,7 @@ use elf_name_lists::style_by_names;
 use elf_program::{Ending, OUT_OF_MEMORY, OUTPUT_BYTES, end_answer, open};
 use elf_record::Parts;
 use elf_run::archive_status;
-use elf_source::{Counted, Out, RangeSource, Source, WriteSink};
+use elf_source::{Counted, HoldingSink, Out, RangeSource, Source, WriteSink};
 use elf_words::Archiving;
 use std::io::{self, BufWriter, Write};
 use std::os::unix::fs::FileExt;
@@ -101,28 +101,33 @@ where
     };
     match open(rt, file) {
         Ok(source) => {
-            let (ending, _output) = write_archive(*caps, parts, source, room.store(), output);
+            let held = Vec::new(rt.alloc());
+            let store = room.store();
+            let (ending, _output) = write_archive(*caps, parts, source, store, output, held);
             Ok(ending)
         }
         Err(ending) => Err(ending),
     }
 }
 
-/// Lists parts of an archive by these caps, and writes what is left of the output. Answers how the
-/// program ends, and gives what took the output.
+/// Lists parts of an archive by these caps, each member with its line, and writes what is left of the output.
+/// `held` is empty: no line is held back. Answers how the program ends, and gives what took the output.
 fn write_archive<S: Source + Drop, W: Write + Drop>(
     caps: Caps<'_>,
     parts: Parts,
     source: S,
     mut store: HeaderStore<'_>,
     output: BufWriter<W>,
+    held: Vec<u8>,
 ) -> (Ending, WriteSink<W>)
-    requires { store.slots ≡ caps.limits.headers }
+    requires slots { store.slots ≡ caps.limits.headers }
+    requires none { length held.items ≡ 0 }
     ensures { EndsRunOver W.contents (RunsArchive caps.entry parts.0)
         (S.seen source) output result.0.0 result.0.1.now result.1 }
 {
     let mut src = Counted::new(RangeSource::new(source));
-    let mut out = Out::new(WriteSink::new(output));
-    let listed = show_archive(&mut src, &mut store, caps, parts, &mut out);
-    end_answer(&archive_status(listed), out.into_inner().into_inner())
+    let mut out = Out::new(HoldingSink::new(WriteSink::new(output), held));
+    let listed = show_archive(&mut src, &mut store, caps, parts, true, &mut out);
+    let sink = out.into_inner().into_inner();
+    end_answer(&archive_status(listed), sink.into_inner())
 }

@@ -2,7 +2,7 @@
 ghost use Rattle.std.specs.Prelude.{◌≡◌, [], Ok, Err, IfErr, IfOk};
 ghost use Rattle.elf_model.specs.Placing.{Layout as Given};
 ghost use Rattle.elf_layout.specs.Listed.{AreReordered, AreSorted, Gathers};
-ghost use Rattle.elfsee.specs.Layouts.{EndsItems, EndsLine, PlacesIn};
+ghost use Rattle.elfsee.specs.Layouts.{EndsItems, EndsBadLine, PlacesIn};
 
 use crate::answer_request;
 use elf_layout::{Addresses, Items, ItemsFault, Layout, LentLayout, TextEnd, read_text};
@@ -155,7 +155,7 @@ fn told(alloc: Global, errors: Stderr, fault: ItemsFault) -> Ending
 
 /// Writes what is wrong with a line, and answers how the program ends.
 fn tell_line(alloc: Global, mut errors: Stderr, what: &str, line: u64) -> Ending
-    ensures { EndsLine result.0 result.1.now }
+    ensures { EndsBadLine result.0 result.1.now }
 {
     let Ok(text) = format!(in alloc; "elfsee: {what} in line {line}\n") else {
         return OUT_OF_MEMORY;

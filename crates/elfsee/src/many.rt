@@ -10,7 +10,7 @@ use elf_model::Format;
 use elf_program::{
     CANNOT_OPEN, Ended, Ending, OUT_OF_MEMORY, OUTPUT_BYTES, PIPE_BYTES, READ_FAULT, end_lines,
 };
-use elf_source::{HoldingSink, LineSink, Out, OutFault, Sink, WriteSink};
+use elf_source::{HoldingSink, Out, OutFault, Sink, WriteSink};
 use elf_words::{Checking, ManyFiles, TraitsAsked};
 use std::fs;
 use std::io::{self, Input, Stderr};

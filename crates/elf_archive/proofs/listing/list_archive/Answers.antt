@@ -24,7 +24,7 @@ returns-in_err-magic-clause-cost g c = λ file held.
 pub returns-in_err-magic-clause-text : goal.returns-in_err-magic-clause-text
 returns-in_err-magic-clause-text g c = λ file held.
     let p = err_from_is_err_and c.from_residual.result c.from_residual.ensures.1 in
-    rw (p.1, p.2) (Stopped-first _ _ _ (magic_alone file c.args.store.now.slots (style_of c.args.choice.style) c.args.choice.parts.0 _ (c.in_err-magic.ensures.read file held)))
+    rw (p.1, p.2) (Stopped-first _ _ _ (magic_alone c.args.choice.alone file c.args.store.now.slots (style_of c.args.choice.style) c.args.choice.parts.0 _ (c.in_err-magic.ensures.read file held)))
 
 pub returns-clause-ceiling : goal.returns-clause-ceiling
 returns-clause-ceiling g c =
@@ -44,7 +44,7 @@ pub returns-clause-text : goal.returns-clause-text
 returns-clause-text g c = λ file held.
     let reads = c.in_ok-magic.ensures.reads in
     let walks = c.list_members.ensures.walks file (reads.keeps.same_file ∙ held) in
-    Writes-as _ _ _ (passed_items file c.args.store.now.slots (style_of c.args.choice.style) c.args.choice.parts.0 (c.in_ok-magic.ensures.read file held)) walks.text
+    Writes-as _ _ _ (passed_items c.args.choice.alone file c.args.store.now.slots (style_of c.args.choice.style) c.args.choice.parts.0 (c.in_ok-magic.ensures.read file held)) walks.text
 
 pub returns-clause-refused : goal.returns-clause-refused
 returns-clause-refused g c = λ file held.

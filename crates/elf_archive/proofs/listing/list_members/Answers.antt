@@ -19,7 +19,7 @@ members-init g c = rw c.new-cursor.ensures (record {
   bytes = 0;
   within = omega arith;
   reads = Reads-none _ 0;
-  walks = λ file held. walk_begins file c.args.store.now.slots (style_of c.args.choice.style) c.args.choice.parts.0 (length file) before_members _ _ (omega arith);
+  walks = λ file held. walk_begins c.args.choice.alone file c.args.store.now.slots (style_of c.args.choice.style) c.args.choice.parts.0 (length file) before_members _ _ (omega arith);
 })
 
 pub returns-in_err-refused-clause-grows : goal.returns-in_err-refused-clause-grows
@@ -32,7 +32,7 @@ returns-in_err-refused-clause-walks g c = λ file held.
     let now = known.reads.keeps.same_file ∙ held in
     let takes = rw known.slots at (c.in_err-refused.ensures.cost file now) in
     let text = rw known.slots at (c.in_err-refused.ensures.text file now) in
-    rw (p.1, p.2) (walk_stops file c.args.store.now.slots (style_of c.args.choice.style) c.args.choice.parts.0 (length file) before_members c.members.cursor _ _ _ _ _ _ c.members.any _ (known.walks file held) takes text)
+    rw (p.1, p.2) (walk_stops c.args.choice.alone file c.args.store.now.slots (style_of c.args.choice.style) c.args.choice.parts.0 (length file) before_members c.members.cursor _ _ _ _ _ _ c.members.any _ (known.walks file held) takes text)
 
 pub members-preserved-then-any : goal.members-preserved-then-any
 members-preserved-then-any g c =
@@ -52,7 +52,7 @@ members-preserved-then-any g c =
           let takes = rw known.slots at (c.in_ok-refused.ensures.cost file now) in
           let text = rw known.slots at (c.in_ok-refused.ensures.text file now) in
           let steps = rw (c.in-Some.is, known.slots) at (c.in_ok-refused.ensures.steps file now) in
-          walk_more file c.args.store.now.slots (style_of c.args.choice.style) c.args.choice.parts.0 (length file) before_members c.members.cursor c.list_next.new.cursor _ _ _ _ _ _ c.members.any c.in-Some.refused _ (ap (λ a. a || c.in-Some.refused) c.if-any.true ∙ sym c.if-any.true) stands.1
+          walk_more c.args.choice.alone file c.args.store.now.slots (style_of c.args.choice.style) c.args.choice.parts.0 (length file) before_members c.members.cursor c.list_next.new.cursor _ _ _ _ _ _ c.members.any c.in-Some.refused _ (ap (λ a. a || c.in-Some.refused) c.if-any.true ∙ sym c.if-any.true) stands.1
           (known.walks file held) steps takes text;
     }
 
@@ -74,7 +74,7 @@ members-preserved g c =
           let takes = rw known.slots at (c.in_ok-refused.ensures.cost file now) in
           let text = rw known.slots at (c.in_ok-refused.ensures.text file now) in
           let steps = rw (c.in-Some.is, known.slots) at (c.in_ok-refused.ensures.steps file now) in
-          walk_more file c.args.store.now.slots (style_of c.args.choice.style) c.args.choice.parts.0 (length file) before_members c.members.cursor c.list_next.new.cursor _ _ _ _ _ _ c.members.any c.in-Some.refused _ (ap (λ a. a || c.in-Some.refused) c.if-any.false) stands.1
+          walk_more c.args.choice.alone file c.args.store.now.slots (style_of c.args.choice.style) c.args.choice.parts.0 (length file) before_members c.members.cursor c.list_next.new.cursor _ _ _ _ _ _ c.members.any c.in-Some.refused _ (ap (λ a. a || c.in-Some.refused) c.if-any.false) stands.1
           (known.walks file held) steps takes text;
     }
 
@@ -89,7 +89,7 @@ returns-clause-walks g c = λ file held.
     let takes = rw known.slots at (c.in_ok-refused.ensures.cost file now) in
     let text = rw known.slots at (c.in_ok-refused.ensures.text file now) in
     let steps = rw none at (c.in_ok-refused.ensures.steps file now) in
-    walk_ends file c.args.store.now.slots (style_of c.args.choice.style) c.args.choice.parts.0 (length file) before_members c.members.cursor c.list_next.new.cursor _ _ _ _ _ _ c.members.any (known.walks file held) steps takes text
+    walk_ends c.args.choice.alone file c.args.store.now.slots (style_of c.args.choice.style) c.args.choice.parts.0 (length file) before_members c.members.cursor c.list_next.new.cursor _ _ _ _ _ _ c.members.any (known.walks file held) steps takes text
 
 pub list_next-requires-clause-whole : goal.list_next-requires-clause-whole
 list_next-requires-clause-whole g c = still_whole _ _ _ c.requires.whole c.members.invariant.reads

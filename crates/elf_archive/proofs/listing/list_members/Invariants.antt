@@ -22,7 +22,7 @@ invariant-members g l =
       within : bytes + allowance (size - l.cursor.at) headers style ≤ allowance (size - 8) headers style;
       reads : Reads l.fn.src l.src bytes;
       walks : (file : List ℕ) → l.fn.src.seen.file ≡ Some file
-          → WalkSoFar file headers style l.fn.choice.parts.0 (length file) before_members l.cursor l.fn.src l.src l.fn.out l.out l.any;
+          → WalkSoFar l.fn.choice.alone file headers style l.fn.choice.parts.0 (length file) before_members l.cursor l.fn.src l.src l.fn.out l.out l.any;
     }
 
 abbrev pub decreases-members : goal.decreases-members

@@ -53,38 +53,11 @@ pub returns-in_err-member-clause-text : goal.returns-in_err-member-clause-text
 returns-in_err-member-clause-text g c = λ file held.
     let p = err_from_is_err_and c.from_residual.result c.from_residual.ensures.1 in
     rw (p.1, p.2) (Stopped-first _ _ _
-    (unread_next file c.args.store.now.slots (style_of c.args.choice.style) c.args.choice.parts.0 c.args.cursor.now c.advance.new.self c.advance.new.name _ (c.in_err-member.ensures.tells file held)))
+    (unread_next c.args.choice.alone file c.args.store.now.slots (style_of c.args.choice.style) c.args.choice.parts.0 c.args.cursor.now c.advance.new.self c.advance.new.name _ (c.in_err-member.ensures.tells file held)))
 
 pub returns-in_err-member-clause-steps : goal.returns-in_err-member-clause-steps
 returns-in_err-member-clause-steps g c = λ file held.
     let p = err_from_is_err_and c.from_residual.result c.from_residual.ensures.1 in
-    rw p.1 tt
-
-pub returns-in_err-show_member-clause-stands : goal.returns-in_err-show_member-clause-stands
-returns-in_err-show_member-clause-stands g c =
-    let p = err_from_is_err_and c.from_residual-in_err-show_member.result c.from_residual-in_err-show_member.ensures.1 in
-    rw p.1 tt
-
-pub returns-in_err-show_member-clause-within : goal.returns-in_err-show_member-clause-within
-returns-in_err-show_member-clause-within g c =
-    let p = err_from_is_err_and c.from_residual-in_err-show_member.result c.from_residual-in_err-show_member.ensures.1 in
-    let most = step_allowed c.args.src.now.seen.size c.args.store.now.slots (style_of c.args.choice.style) c.args.cursor.now in
-    rw (p.1, p.2) (record {
-      bytes = step_cost c.args.src.now.seen.size c.args.choice.style.cap.bytes c.args.cursor.now;
-      within = omega (arith, most);
-      takes = (c.in_ok-member.ensures.asks.0, c.in_err-show_member.ensures.puts.1);
-    })
-
-pub returns-in_err-show_member-clause-cost : goal.returns-in_err-show_member-clause-cost
-returns-in_err-show_member-clause-cost g c = λ file held.
-    let p = err_from_is_err_and c.from_residual-in_err-show_member.result c.from_residual-in_err-show_member.ensures.1 in
-    let tells = rw c.in-Some.is at (c.in_ok-member.ensures.tells file held) in
-    let m : Member = member_of c.in-Some.member c.advance.new.name in
-    rw (p.1, p.2, tells.0) (Consumes-to {X = Unit {0}} _ _ c.show_member.new.out (Err (Out c.in_err-show_member.field-0.0)) (header_cost file c.args.choice.style.cap.bytes c.args.cursor.now) _ (omega arith) ((c.in_ok-member.ensures.cost file held).0, c.in_err-show_member.ensures.puts.1))
-
-pub returns-in_err-show_member-clause-steps : goal.returns-in_err-show_member-clause-steps
-returns-in_err-show_member-clause-steps g c = λ file held.
-    let p = err_from_is_err_and c.from_residual-in_err-show_member.result c.from_residual-in_err-show_member.ensures.1 in
     rw p.1 tt
 
 pub returns-in_default-clause-slots : goal.returns-in_default-clause-slots
@@ -123,20 +96,14 @@ returns-in_default-clause-steps g c = λ file held.
     let ends = rw none at (c.in_ok-member.ensures.tells file held) in
     ends
 
-pub returns-in_err-show_member-clause-slots : goal.returns-in_err-show_member-clause-slots
-returns-in_err-show_member-clause-slots g c = refl
+pub list_with_line-requires-clause-whole : goal.list_with_line-requires-clause-whole
+list_with_line-requires-clause-whole g c = still_whole _ _ _ c.requires.whole c.in_ok-member.ensures.asks.0
 
-pub returns-in_err-show_member-clause-grows : goal.returns-in_err-show_member-clause-grows
-returns-in_err-show_member-clause-grows g c = grows_front c.in_err-show_member.ensures.puts.0
+pub list_with_line-requires-clause-size : goal.list_with_line-requires-clause-size
+list_with_line-requires-clause-size g c = rw c.in_ok-member.ensures.asks.0.keeps.same_size c.requires.size
 
-pub list_member-requires-clause-whole : goal.list_member-requires-clause-whole
-list_member-requires-clause-whole g c = still_whole _ _ _ c.requires.whole c.in_ok-member.ensures.asks.0
-
-pub list_member-requires-clause-size : goal.list_member-requires-clause-size
-list_member-requires-clause-size g c = rw c.in_ok-member.ensures.asks.0.keeps.same_size c.requires.size
-
-pub list_member-requires-clause-lies : goal.list_member-requires-clause-lies
-list_member-requires-clause-lies g c =
+pub list_with_line-requires-clause-lies : goal.list_with_line-requires-clause-lies
+list_with_line-requires-clause-lies g c =
     let passes = rw c.in-Some.is at c.in_ok-member.ensures.steps in
     rw c.in_ok-member.ensures.asks.0.keeps.same_size passes.lies
 
@@ -144,8 +111,7 @@ pub returns-in_err-refused-clause-slots : goal.returns-in_err-refused-clause-slo
 returns-in_err-refused-clause-slots g c = c.in_err-refused.ensures.slots
 
 pub returns-in_err-refused-clause-grows : goal.returns-in_err-refused-clause-grows
-returns-in_err-refused-clause-grows g c =
-    grows_then (record { bytes = _; takes = c.in_ok-show_member.ensures.puts.0 }) c.in_err-refused.ensures.grows
+returns-in_err-refused-clause-grows g c = c.in_err-refused.ensures.grows
 
 pub returns-in_err-refused-clause-stands : goal.returns-in_err-refused-clause-stands
 returns-in_err-refused-clause-stands g c =
@@ -164,7 +130,7 @@ returns-in_err-refused-clause-within g c =
     rw (p.1, p.2) (record {
       bytes = step_cost size style.cap c.args.cursor.now + (4 + style_ceiling c.in-Some.member.extent.size headers style);
       within = omega (arith, most);
-      takes = Consumes-then {X = Unit {0}} _ _ _ c.list_member.new.out (Err c.in_err-refused.field-0.0) (step_cost size style.cap c.args.cursor.now) (4 + style_ceiling c.in-Some.member.extent.size headers style) _ (omega arith)
+      takes = Consumes-then {X = Unit {0}} _ _ _ c.list_with_line.new.out (Err c.in_err-refused.field-0.0) (step_cost size style.cap c.args.cursor.now) (4 + style_ceiling c.in-Some.member.extent.size headers style) _ (omega arith)
           c.in_ok-member.ensures.asks.0 c.in_err-refused.ensures.ceiling;
     })
 
@@ -174,8 +140,8 @@ returns-in_err-refused-clause-cost g c = λ file held.
     let tells = rw c.in-Some.is at (c.in_ok-member.ensures.tells file held) in
     let m : Member = member_of c.in-Some.member c.advance.new.name in
     let now = c.in_ok-member.ensures.asks.0.keeps.same_file ∙ held in
-    rw (p.1, p.2, tells.0) (Consumes-then {X = Unit {0}} _ _ _ c.list_member.new.out (Err c.in_err-refused.field-0.0) (header_cost file c.args.choice.style.cap.bytes c.args.cursor.now) (member_cost file c.args.store.now.slots (style_of c.args.choice.style) c.args.choice.parts.0 m) _ (omega arith)
-    (c.in_ok-member.ensures.cost file held).0 (c.in_err-refused.ensures.cost file now m refl))
+    rw (p.1, p.2, tells.0) (Consumes-then {X = Unit {0}} _ _ _ c.list_with_line.new.out (Err c.in_err-refused.field-0.0) (header_cost file c.args.choice.style.cap.bytes c.args.cursor.now) (member_cost file c.args.store.now.slots (style_of c.args.choice.style) c.args.choice.parts.0 m) _ (omega arith)
+    (c.in_ok-member.ensures.cost file held).0 (c.in_err-refused.ensures.cost file now))
 
 pub returns-in_err-refused-clause-text : goal.returns-in_err-refused-clause-text
 returns-in_err-refused-clause-text g c = λ file held.
@@ -183,9 +149,8 @@ returns-in_err-refused-clause-text g c = λ file held.
     let tells = rw c.in-Some.is at (c.in_ok-member.ensures.tells file held) in
     let m : Member = member_of c.in-Some.member c.advance.new.name in
     let now = c.in_ok-member.ensures.asks.0.keeps.same_file ∙ held in
-    let shown = c.in_err-refused.ensures.text file now m refl in
-    rw (p.1, p.2, tells.0) (Stopped-then _ _ _ _ (Line (member_line c.args.choice.style.format m) ∷ []) (told c.args.choice.style.format (member_listing file c.args.store.now.slots (style_of c.args.choice.style) c.args.choice.parts.0 m))
-    (Whole-line (member_line c.args.choice.style.format m) c.in_ok-show_member.ensures.puts.0) shown.0)
+    let shown = c.in_err-refused.ensures.text file now in
+    rw (p.1, p.2, tells.0) shown.0
 
 pub returns-in_err-refused-clause-steps : goal.returns-in_err-refused-clause-steps
 returns-in_err-refused-clause-steps g c = λ file held.
@@ -196,8 +161,7 @@ pub returns-clause-slots : goal.returns-clause-slots
 returns-clause-slots g c = c.in_ok-refused.ensures.slots
 
 pub returns-clause-grows : goal.returns-clause-grows
-returns-clause-grows g c =
-    grows_then (record { bytes = _; takes = c.in_ok-show_member.ensures.puts.0 }) c.in_ok-refused.ensures.grows
+returns-clause-grows g c = c.in_ok-refused.ensures.grows
 
 pub returns-clause-stands : goal.returns-clause-stands
 returns-clause-stands g c =
@@ -215,7 +179,7 @@ returns-clause-within g c =
     record {
       bytes = step_cost size style.cap c.args.cursor.now + (4 + style_ceiling c.in-Some.member.extent.size headers style);
       within = omega (arith, most);
-      takes = Consumes-then {X = Unit {0}} _ _ _ c.list_member.new.out (Ok tt) (step_cost size style.cap c.args.cursor.now) (4 + style_ceiling c.in-Some.member.extent.size headers style) _ (omega arith)
+      takes = Consumes-then {X = Unit {0}} _ _ _ c.list_with_line.new.out (Ok tt) (step_cost size style.cap c.args.cursor.now) (4 + style_ceiling c.in-Some.member.extent.size headers style) _ (omega arith)
           c.in_ok-member.ensures.asks.0 (c.in_ok-refused.ensures.ceiling.0, tt);
     }
 
@@ -224,21 +188,21 @@ returns-clause-cost g c = λ file held.
     let tells = rw c.in-Some.is at (c.in_ok-member.ensures.tells file held) in
     let m : Member = member_of c.in-Some.member c.advance.new.name in
     let now = c.in_ok-member.ensures.asks.0.keeps.same_file ∙ held in
-    rw (tells.0) (Consumes-then {X = Unit {0}} _ _ _ c.list_member.new.out (Ok tt) (header_cost file c.args.choice.style.cap.bytes c.args.cursor.now) (member_cost file c.args.store.now.slots (style_of c.args.choice.style) c.args.choice.parts.0 m) _ (omega arith)
-    (c.in_ok-member.ensures.cost file held).0 ((c.in_ok-refused.ensures.cost file now m refl).0, tt))
+    rw (tells.0) (Consumes-then {X = Unit {0}} _ _ _ c.list_with_line.new.out (Ok tt) (header_cost file c.args.choice.style.cap.bytes c.args.cursor.now) (member_cost file c.args.store.now.slots (style_of c.args.choice.style) c.args.choice.parts.0 m) _ (omega arith)
+    (c.in_ok-member.ensures.cost file held).0 ((c.in_ok-refused.ensures.cost file now).0, tt))
 
 pub returns-clause-text : goal.returns-clause-text
 returns-clause-text g c = λ file held.
     let tells = rw c.in-Some.is at (c.in_ok-member.ensures.tells file held) in
     let m : Member = member_of c.in-Some.member c.advance.new.name in
     let now = c.in_ok-member.ensures.asks.0.keeps.same_file ∙ held in
-    let shown = c.in_ok-refused.ensures.text file now m refl in
-    rw (tells.0) (Whole-then (Whole-line (member_line c.args.choice.style.format m) c.in_ok-show_member.ensures.puts.0) shown.0)
+    let shown = c.in_ok-refused.ensures.text file now in
+    rw (tells.0) shown.0
 
 pub returns-clause-steps : goal.returns-clause-steps
 returns-clause-steps g c = λ file held.
     let tells = rw c.in-Some.is at (c.in_ok-member.ensures.tells file held) in
     let m : Member = member_of c.in-Some.member c.advance.new.name in
     let now = c.in_ok-member.ensures.asks.0.keeps.same_file ∙ held in
-    let shown = c.in_ok-refused.ensures.text file now m refl in
+    let shown = c.in_ok-refused.ensures.text file now in
     (m, tells.0, tells.1, shown.1)

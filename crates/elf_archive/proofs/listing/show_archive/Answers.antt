@@ -12,7 +12,7 @@ returns-in-Ok-clause-text g c = λ file held.
     let now = ap (λ (seen : Seen). seen.file) c.limit.ensures.seen ∙ held in
     let written = rw (c.requires.small.0) at (c.list_archive-listed.ensures.text file now) in
     let refused = rw (c.requires.small.0) at (c.list_archive-listed.ensures.refused file now) in
-    whole_archive file c.args.caps c.args.parts.0 c.in-Ok.refused (rw c.in-Ok.is at refused) (rw c.in-Ok.is at written)
+    whole_archive c.args.alone file c.args.caps c.args.parts.0 c.in-Ok.refused (rw c.in-Ok.is at refused) (rw c.in-Ok.is at written)
 
 pub returns-in-Ok-clause-asks : goal.returns-in-Ok-clause-asks
 returns-in-Ok-clause-asks g c =
@@ -26,7 +26,7 @@ returns-in-Err-clause-text g c = λ file held.
     let ends = rw (c.requires.small.0, end) at (c.list_archive-listed.ensures.text file now) in
     let says = rw (c.requires.small.0, end) at (c.list_archive-listed.ensures.cost file now).1 in
     let sized = sym (c.args.src.now.seen.sized file held) in
-    stopped_archive c.list_archive-listed.new.out file c.args.caps c.args.parts.0 c.in-Err.stop _ _ _ _ _ c.requires.small.1 c.limit.ensures sized says ends c.show_stop.ensures.tells
+    stopped_archive c.list_archive-listed.new.out c.args.alone file c.args.caps c.args.parts.0 c.in-Err.stop _ _ _ _ _ c.requires.small.1 c.limit.ensures sized says ends c.show_stop.ensures.tells
 
 pub returns-in-Err-clause-asks : goal.returns-in-Err-clause-asks
 returns-in-Err-clause-asks g c =

@@ -1,11 +1,10 @@
 //! A sink that gives on whole lines.
 ghost use Rattle.std.specs.Prelude.{◌≡◌, ◌+◌, ◌<◌, ◌≤◌, [], Some, false, drop, length};
 ghost use Rattle.std.specs.Io.KnownBytes.{Keeps, append_known};
-ghost use Rattle.elf_source.specs.Output.{AreWholeLines, GivesFront, KeepsSome};
+ghost use Rattle.elf_source.specs.Output.{KeepsSome, nothing_held};
+ghost use Rattle.elf_program.specs.Lines.{AreWholeLines, GivesFront};
 
-use crate::faults::SinkFault;
-use crate::output::give;
-use crate::sink::Sink;
+use elf_source::{Sink, SinkFault, give};
 use std::marker::Model;
 
 /// The byte that ends a line.
@@ -98,6 +97,10 @@ impl<W: Sink> Sink for LineSink<W> {
     ghost taken = { λ s. append_known s.below s.held };
 
     ghost failed = { λ s. s.failed };
+
+    ghost held = { λ _. nothing_held };
+
+    ghost room = { λ _. nothing_held };
 
     /// Takes some of `bytes`: keeps as many as there is room for, behind what was kept, of which whole lines
     /// go out where there is none.

@@ -1,7 +1,7 @@
 -- No line ends behind the place that was come to.
 use Rattle.std.proofs.Common.{◌≡◌, ◌≤◌, length}
-use Rattle.elf_source.specs.Output.{NoLineFrom}
-use Rattle.elf_source.proofs.line_sink.whole_lines.Given as goal
+use Rattle.elf_program.specs.Lines.{NoLineFrom}
+use Rattle.elf_program.proofs.line_sink.whole_lines.Given as goal
 
 abbrev pub invariant-loop-end : goal.invariant-loop-end
 invariant-loop-end l = record {

@@ -1,8 +1,8 @@
 -- A front of what is kept goes out, and the rest moves up.
 use Rattle.std.proofs.Common.{rules, ◌≡◌, ◌≤◌, sym, drop, length, take, arith}
 use Rattle.std.proofs.lemmas.List.{length-take-le}
-use Rattle.elf_source.proofs.HoldLaws.{front_kept, given_front, moved_up}
-use Rattle.elf_source.proofs.line_sink.LineSink.give_front.Goals as goal
+use Rattle.elf_program.proofs.LineLaws.{front_kept, given_front, moved_up}
+use Rattle.elf_program.proofs.line_sink.LineSink.give_front.Goals as goal
 
 pub returns-clause-gives : goal.returns-clause-gives
 returns-clause-gives g c =

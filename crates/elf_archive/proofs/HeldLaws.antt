@@ -1,0 +1,113 @@
+-- The line of a member that was held, and what was listed behind it.
+use Rattle.std.proofs.Common.{◌≡◌, ℕ, Bool, true, false, List, [], ◌∷◌, ◌++◌, Option, None, Some, Result, Ok, Err, refl, sym, ap, subst, ◌∙◌}
+use Rattle.std.specs.Prelude.{IfOk}
+use Rattle.elf_model.specs.Archive.{before_some, line_before, told}
+use Rattle.elf_model.specs.Budget.{IsBudget}
+use Rattle.elf_model.specs.Listing.{ListingItem, Line, Fault, lines_of, fault_of}
+use Rattle.elf_model.specs.declared.causes.Refusal.{Refusal}
+use Rattle.elf_model.specs.declared.formats.Format.{Format}
+use Rattle.elf_model.proofs.ListingLemmas.{listings_append}
+use Rattle.elf_source.specs.Growth.{Grows}
+use Rattle.elf_source.specs.Output.{BreaksOff, EndsLine, HeldBack, Written, before_text}
+use Rattle.elf_source.specs.Source.{Counting}
+use Rattle.elf_source.specs.declared.faults.OutFault.{OutFault}
+use Rattle.elf_source.specs.declared.holding_sink.HeldLine.{HeldLine}
+use Rattle.elf_source.proofs.LineLaws.{broken_takes, line_ends, line_fails, line_front}
+use Rattle.elf_headers.specs.declared.stop.Stop.{Stop}
+use Rattle.elf_headers.specs.declared.stop.Stop.TheVariants.{Refused, Source, Out}
+use Rattle.elf_listing.specs.Shows.{EndsRefused, Front, Stopped, Writes, WroteItems}
+use Rattle.elf_archive.specs.Listed.{Consumes, AnswersBehind}
+
+-- items that are told have no fault
+pub told_clean : (format : Format) (items : List ListingItem) → fault_of (told format items) ≡ None
+told_clean format [] = refl
+told_clean format (Line text ∷ items) = told_clean format items
+told_clean format (Fault refusal ∷ items) = refl
+
+-- a line before a text, or before none
+some_lines : (text line : List ℕ) (items : List ListingItem) → lines_of items ≡ text → lines_of (before_some text (Line line ∷ items)) ≡ before_text line text
+some_lines [] line items is = refl
+some_lines (byte ∷ text) line items is = ap (λ l. line ++ l) is
+
+lines_before : (line : List ℕ) (items : List ListingItem) → lines_of (line_before false line items) ≡ before_text line (lines_of items)
+lines_before line items = some_lines (lines_of items) line items refl
+
+some_clean : (text line : List ℕ) (items : List ListingItem) → fault_of items ≡ None → fault_of (before_some text (Line line ∷ items)) ≡ None
+some_clean [] line items none = refl
+some_clean (byte ∷ text) line items none = none
+
+-- where items begin with lines of which there is a byte, the line stands
+stands : (text line : List ℕ) (items : List ListingItem) (byte : ℕ) (bytes : List ℕ) → text ≡ byte ∷ bytes → before_some text (Line line ∷ items) ≡ Line line ∷ items
+stands text line items byte bytes is = rw is refl
+
+-- nothing was written of an output that was broken off
+pub broken_stops : (old new : Written) (fault : OutFault) (items : List ListingItem) → BreaksOff old new fault → Stopped old new (Out fault) items
+broken_stops old new fault items p = record { front = []; rest = lines_of items; split = refl; takes = broken_takes old new fault p }
+
+module _ (began mid old new : Written) (line : List ℕ) (held : HeldLine) (p : HeldBack began mid line held) (ends : EndsLine held old new) where
+  -- a front of a listing behind the line
+  held_front : (items : List ListingItem) → Front mid old items → Front began new (line_before false line items)
+  held_front items q = by_text (lines_of q.front) refl
+    where
+      by_text : (text : List ℕ) → lines_of q.front ≡ text → Front began new (line_before false line items)
+      by_text [] is = record {
+        front = [];
+        rest = line_before false line items;
+        split = refl;
+        takes = line_ends began mid old line held p new [] (rw is at q.takes) ends;
+        no_fault = refl;
+      }
+      by_text (byte ∷ bytes) is =
+          let all : lines_of items ≡ (byte ∷ bytes) ++ lines_of q.rest = ap lines_of q.split ∙ ((listings_append q.front q.rest q.no_fault).0 ∙ ap (λ l. l ++ lines_of q.rest) is) in
+          record {
+            front = Line line ∷ q.front;
+            rest = q.rest;
+            split = stands (lines_of items) line items byte (bytes ++ lines_of q.rest) all ∙ ap (λ rest. Line line ∷ rest) q.split;
+            takes = rw is (line_ends began mid old line held p new (byte ∷ bytes) (rw is at q.takes) ends);
+            no_fault = q.no_fault;
+          }
+
+  -- items without a fault do not go on with one
+  no_next : (items front rest behind : List ListingItem) (refusal : Refusal) → fault_of items ≡ None → items ≡ front ++ rest → fault_of front ≡ None → rest ≡ Fault refusal ∷ behind → ⊥
+  no_next items front rest behind refusal none split clean is =
+      let some : fault_of items ≡ Some refusal = ap fault_of split ∙ (ap (λ r. fault_of (front ++ r)) is ∙ (listings_append front (Fault refusal ∷ behind) clean).1) in
+      cc
+
+  -- WHAT WAS WRITTEN behind the line, and the line
+  pub held_writes : (listed result : Result Bool Stop) (items : List ListingItem) → fault_of items ≡ None → AnswersBehind listed new result → Writes mid old listed items
+      → Writes began new result (line_before false line items)
+  held_writes (Ok refused) result items clean is q =
+      rw is (record {
+        takes = rw (lines_before line items) (line_ends began mid old line held p new (lines_of items) q.takes ends);
+        no_fault = some_clean (lines_of items) line items q.no_fault;
+      })
+  held_writes (Err (Refused refusal)) result items clean is q =
+      rw is (record {
+        front = held_front items q.front;
+        next = λ other. absurd (no_next items q.front.front q.front.rest (q.next other).behind refusal clean q.front.split q.front.no_fault (q.next other).is_next);
+      })
+  held_writes (Err (Source fault at)) result items clean is q = rw is (held_front items q)
+  held_writes (Err (Out fault)) result items clean is q =
+      rw (is.1, lines_before line items) (line_front began mid old line held p new (lines_of items) q ends)
+
+  -- what it took of the source
+  pub held_consumes : (a b : Counting) (n : ℕ) (listed result : Result Bool Stop) → Grows mid old → AnswersBehind listed new result → Consumes a b old listed n → Consumes a b new result n
+  held_consumes a b n (Ok refused) result grows is q = rw is q
+  held_consumes a b n (Err (Refused refusal)) result grows is q = rw is q
+  held_consumes a b n (Err (Source fault at)) result grows is q = rw is q
+  held_consumes a b n (Err (Out fault)) result grows is q =
+      rw is.1 (q.0, record {
+        failed = line_fails began mid old line held p new grows.bytes grows.takes ends ∙ q.1.failed;
+        tells = is.2;
+      })
+
+  -- what was written, for every source
+  pub held_grows : Grows mid old → Grows began new
+  held_grows q = record { bytes = before_text line q.bytes; takes = line_ends began mid old line held p new q.bytes q.takes ends }
+
+-- whether a listing was refused is the same behind its line
+pub held_refused : (listed result : Result Bool Stop) (new : Written) (any : Bool) → AnswersBehind listed new result → IfOk listed (λ refused. refused ≡ any) → IfOk result (λ refused. refused ≡ any)
+held_refused (Ok refused) result new any is p = rw is p
+held_refused (Err (Refused refusal)) result new any is p = rw is tt
+held_refused (Err (Source fault at)) result new any is p = rw is tt
+held_refused (Err (Out fault)) result new any is p = rw is.1 tt
