@@ -1,6 +1,6 @@
 -- Worked examples of what binds the symbols of some objects, and of the lines of that.
 use Rattle.std.specs.Prelude.{ℕ, ◌≡◌, ◌==◌, Bool, true, false, if◌then◌else◌, List, [], ◌∷◌, ◌++◌, codes, Option, None, Some}
-use Rattle.elf_model.specs.BoundSymbols.{BoundItem, BoundObjects, Faulty, Told, bound_items, items_fail, items_text}
+use Rattle.elf_model.specs.BoundSymbols.{BoundItem, BoundObjects, Faulty, Told, bound_items, any_unbound, bound_text}
 use Rattle.elf_model.specs.Bytes.{little}
 use Rattle.elf_model.specs.Fixtures.{with_bytes}
 use Rattle.elf_model.specs.FixturesVersions.{versioned_without_sections}
@@ -64,8 +64,8 @@ FaultsAreTold =
 abbrev pub LinesTell : Type 0
 LinesTell =
     let all = bound_items (objects_of (asking ∷ weak ∷ []) None) in
-    (items_text Columns all
+    (bound_text Columns all
         ≡ codes "B     0          1 unbound  -     -          puts@GLIBC_2.2.5\n" ++ codes "B     0          4 bound        2          4 f@V2\n"
         ++ codes "B     2          1 weak     -     -          puts@GLIBC_2.2.5\n")
-    × (items_fail all ≡ true)
-    × (items_fail (bound_items (objects_of (weak ∷ []) None)) ≡ false)
+    × (any_unbound all ≡ true)
+    × (any_unbound (bound_items (objects_of (weak ∷ []) None)) ≡ false)

@@ -46,8 +46,8 @@ file_before file number before (Meets strings met ∷ others) =
     ]
 
 -- that of the version of a symbol, which has a word
-unfoldable pub needed_file : List ℕ → Symbols → ℕ → Option Met
-needed_file file symbols y = elim symbols.words [
+unfoldable pub file_of_version : List ℕ → Symbols → ℕ → Option Met
+file_of_version file symbols y = elim symbols.words [
   | None ↦ None
   | Some words ↦
       let number = number_in (versym file (version_word_at words y)) in
@@ -95,16 +95,17 @@ object_lacks objects name version = elim (objects.called name) [
   ]
 ]
 
--- whether the object lacks the version that a symbol asks for of which it asks for that; a weak symbol is not asked about. A
--- fault of that object's name is at the record of the needed file
-unfoldable pub lacks_sought : BoundObjects → List ℕ → Symbols → ℕ → Wanted → Result Bool Refusal
-lacks_sought objects file symbols y wanted =
+-- whether the object lacks a version of which a symbol asks for it; a weak symbol is not asked about. A fault of that object's name
+-- is at the record of the needed file
+unfoldable pub lacks_asked : BoundObjects → List ℕ → Symbols → ℕ → Option (List ℕ) → Result Bool Refusal
+lacks_asked objects file symbols y None = Ok false
+lacks_asked objects file symbols y (Some version) =
     if is_weak file (symbol_offset symbols y) then Ok false
-    else elim (needed_file file symbols y) [
+    else elim (file_of_version file symbols y) [
       | None ↦ Ok false
       | Some met ↦ elim (whole_name symbols.strings (name_index file met) (named_at file met)) [
         | Err refusal ↦ Err refusal
-        | Ok name ↦ elim (asked_name wanted.asked) [ None ↦ Ok false | Some version ↦ Ok (object_lacks objects name version) ]
+        | Ok name ↦ Ok (object_lacks objects name version)
       ]
     ]
 
@@ -112,7 +113,7 @@ lacks_sought objects file symbols y wanted =
 unfoldable pub state_by : BoundObjects → List ℕ → Symbols → ℕ → Wanted → Binding → Result BindingState Refusal
 state_by objects file symbols y wanted (BoundTo place symbol) = Ok (state.Bound (index_at objects place) symbol)
 state_by objects file symbols y wanted (StoppedIn place refusal) = Ok (state.Refused (index_at objects place))
-state_by objects file symbols y wanted BoundToNone = elim (lacks_sought objects file symbols y wanted) [
+state_by objects file symbols y wanted BoundToNone = elim (lacks_asked objects file symbols y (asked_name wanted.asked)) [
   | Err refusal ↦ Err refusal
   | Ok lacks ↦ Ok (unbound_state (is_weak file (symbol_offset symbols y)) lacks)
 ]
@@ -176,15 +177,15 @@ abbrev pub item_line : Format → BoundItem → List ℕ
 item_line format (Told object symbol found name) = binding_line format object symbol found name
 item_line format (Faulty refusal) = refusal_line format refusal
 
-abbrev pub items_text : Format → List BoundItem → List ℕ
-items_text format [] = []
-items_text format (item ∷ items) = item_line format item ++ items_text format items
+abbrev pub bound_text : Format → List BoundItem → List ℕ
+bound_text format [] = []
+bound_text format (item ∷ items) = item_line format item ++ bound_text format items
 
 -- an item tells that a symbol is missing, or cannot be told; and one of some does, so that the exit status is 1
-abbrev pub item_fails : BoundItem → Bool
-item_fails (Told object symbol found name) = is_unbound found
-item_fails (Faulty refusal) = true
+abbrev pub is_failed : BoundItem → Bool
+is_failed (Told object symbol found name) = is_unbound found
+is_failed (Faulty refusal) = true
 
-abbrev pub items_fail : List BoundItem → Bool
-items_fail [] = false
-items_fail (item ∷ items) = item_fails item || items_fail items
+abbrev pub any_unbound : List BoundItem → Bool
+any_unbound [] = false
+any_unbound (item ∷ items) = is_failed item || any_unbound items
