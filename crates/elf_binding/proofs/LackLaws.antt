@@ -1,27 +1,55 @@
 -- Whether a file lacks a version, by what is read of its definitions.
-use Rattle.std.proofs.Common.{◌≡◌, ℕ, ◌==◌, Bool, true, false, if◌then◌else◌, MatchBool, List, [], ◌∷◌, ◌++◌, length, Option, None, Some, Result, Ok, Err, refl, sym, ap, ◌∙◌, arith}
+use Rattle.std.proofs.Common.{◌≡◌, ℕ, ◌+◌, ◌≤◌, ◌==◌, nat_lt, Bool, true, false, if◌then◌else◌, is_some, not, MatchBool, List, [], ◌∷◌, ◌++◌, length, Option, None, Some, Result, Ok, Err, refl, sym, ap, ◌∙◌, arith, mul-le-mul_right}
 use Rattle.std.proofs.lemmas.Bool.Decides.{nat_tests}
 use Rattle.elf_model.specs.BoundSymbols.{definitions_among, is_definition, is_none_of, lacks_among, lacks_version}
 use Rattle.elf_model.specs.Loader.{Compared, RecordTable as IsTableOf, Symbols as AreSymbolsOf, Version, VersionWords as AreWordsOf, compared_with, is_among, readings}
 use Rattle.elf_model.specs.LoaderFind.{wanted_numbers}
 use Rattle.elf_model.specs.LoaderScope.{Scope as IsScopeOf}
+use Rattle.elf_model.specs.Names.{pad64}
 use Rattle.elf_model.specs.declared.causes.Refusal.{Refusal}
-use Rattle.elf_model.specs.declared.versions.VersionKind.{VersionKind}
 use Rattle.elf_headers.specs.declared.fault.Fault.{Fault}
 use Rattle.elf_headers.specs.declared.fault.Fault.TheVariants.{Refused, Source}
 use Rattle.elf_source.specs.Source.{Counting}
-use Rattle.elf_loader.specs.Comparing.{Collects}
+use Rattle.elf_loader.specs.Comparing.{Collects, comparing_bytes}
+use Rattle.elf_loader.specs.Tables.{most_of, most_versions}
 use Rattle.elf_loader.specs.NumberSets.{has_number}
-use Rattle.elf_scope.specs.Symbols.{AreRecordTables, AreWords, IsRecordTable, IsSymbols, SymbolsLie, RecordsWithin, table_if_any}
+use Rattle.elf_scope.specs.Symbols.{AreRecordTables, AreWords, IsSymbols, table_if_any}
 use Rattle.elf_scope.specs.declared.symbols.RecordTable.{RecordTable}
 use Rattle.elf_scope.specs.declared.symbols.Symbols.{Symbols}
+use Rattle.elf_scope.specs.declared.symbols.VersionWords.{VersionWords}
 use Rattle.elf_binding.specs.Lacking.{definition_if, definitions_of}
 use Rattle.elf_binding.specs.Sought.{RefusesAs, TellsLacks}
 
+-- there is none, or one
+pub none_where : {X : Type 0} (o : Option X) (none : Bool) → is_some o ≡ not none → none ≡ true → o ≡ None
+none_where None none e is = refl
+none_where (Some x) true e is = let no : true ≡ false = e in cc
+none_where (Some x) false e is = let no : false ≡ true = is in cc
+
+pub some_where : {X : Type 0} (o : Option X) (none : Bool) → is_some o ≡ not none → none ≡ false → o ≡ None → ⊥
+some_where None true e is n = let no : true ≡ false = is in cc
+some_where None false e is n = let no : false ≡ true = e in cc
+some_where (Some x) none e is n = cc
+
 -- those of some tables that are of definitions
-definition_tables : List RecordTable → List RecordTable
+abbrev definition_tables : List RecordTable → List RecordTable
 definition_tables [] = []
 definition_tables (table ∷ tables) = if is_definition table.kind then table ∷ definition_tables tables else definition_tables tables
+
+-- they are no more
+fewer_if : (records : Option RecordTable) → most_of (definition_if records) ≤ most_of records
+fewer_if None = omega arith
+fewer_if (Some table) = go (is_definition table.kind) refl
+  where
+    go : (b : Bool) → is_definition table.kind ≡ b → most_of (definition_if (Some table)) ≤ most_of (Some table)
+    go true e = rw e (omega arith)
+    go false e = rw e (omega arith)
+
+pub fewer_bytes : (version : List ℕ) (symbols : Symbols) → comparing_bytes (Version version) (most_versions (definitions_of symbols)) ≤ comparing_bytes (Version version) (most_versions symbols)
+fewer_bytes version symbols =
+    let first = fewer_if symbols.definitions in
+    let second = fewer_if symbols.needs in
+    mul-le-mul_right (28 + pad64 (length version + 1)) (omega (arith, first, second))
 
 both_tables : (first second : Option RecordTable)
     → definition_tables (table_if_any first ++ table_if_any second) ≡ table_if_any (definition_if first) ++ table_if_any (definition_if second)
@@ -51,15 +79,15 @@ module _ (file : List ℕ) where
   among [] [] are = tt
   among [] (table ∷ tables) are = absurd are
   among (one ∷ told) [] are = absurd are
-  among (one ∷ told) (table ∷ tables) are = go (is_definition one.kind) refl
+  among (one ∷ told) (table ∷ tables) are = go (is_definition one.kind) refl (ap is_definition are.0.kind) (among told tables are.1)
     where
-      go : (b : Bool) → is_definition one.kind ≡ b → AreRecordTables file (definitions_among (one ∷ told)) (definition_tables (table ∷ tables))
-      unfolding definitions_among
-      go true e = let k = are.0.kind in rw (k, e, definitions_among) (rw e (are.0, among told tables are.1))
-      go false e = let k = are.0.kind in rw (k, e, definitions_among) (rw e (among told tables are.1))
+      go : (b : Bool) → is_definition one.kind ≡ b → is_definition table.kind ≡ is_definition one.kind → AreRecordTables file (definitions_among told) (definition_tables tables)
+          → AreRecordTables file (definitions_among (one ∷ told)) (definition_tables (table ∷ tables))
+      go true e k rest = let f = k ∙ e in rw (e, definitions_among) (rw f (are.0, rest))
+      go false e k rest = let f = k ∙ e in rw (e, definitions_among) (rw f rest)
 
   -- the symbols with these alone
-  pub only_definitions : AreSymbolsOf → AreSymbolsOf
+  abbrev pub only_definitions : AreSymbolsOf → AreSymbolsOf
   only_definitions told =
       record { index = told.index; place = told.place; strings = told.strings; words = told.words; records = definitions_among told.records }
 
@@ -131,7 +159,8 @@ module _ (file : List ℕ) where
 
   -- a number is among some, and none is among none
   first_among : (number : ℕ) (numbers : List ℕ) → is_among number (number ∷ numbers) ≡ true
-  first_among number numbers = let same : (number == number) ≡ true = grind (arith, nat_tests) in rw same refl
+  first_among number numbers = let same : (number == number) ≡ true = grind (arith, nat_tests) in
+      let less : nat_lt 0 (length (number ∷ numbers)) ≡ true = grind (arith, nat_tests) in rw same (rw less refl)
 
   emptied : (all numbers : List ℕ) → ((number : ℕ) → has_number numbers number ≡ is_among number all) → (empty : Bool)
       → MatchBool empty ((number : ℕ) → has_number numbers number ≡ false) ((number : ℕ) × (has_number numbers number ≡ true)) → is_none_of all ≡ empty
@@ -143,7 +172,7 @@ module _ (file : List ℕ) where
 
   -- what was collected of the definitions
   module _ (told : IsScopeOf) (version : List ℕ) where
-    pub definitions_alone : IsScopeOf
+    abbrev pub definitions_alone : IsScopeOf
     definitions_alone = record { kind = told.kind; head = told.head; table = told.table; symbols = only_definitions told.symbols }
 
     compared_of : (words : Option AreWordsOf) → told.symbols.words ≡ words → (words ≡ None → ⊥)

@@ -1,5 +1,5 @@
 -- What a symbol asks others for, by what is read of it.
-use Rattle.std.proofs.Common.{◌≡◌, ℕ, ◌<◌, ◌≤◌, ◌%◌, ◌^◌, min, nat_lt, Bool, true, false, List, [], ◌∷◌, Option, None, Some, Result, Ok, Err, refl, sym, ap, subst, ◌∙◌, arith}
+use Rattle.std.proofs.Common.{◌≡◌, ℕ, ◌<◌, ◌≤◌, ◌%◌, ◌^◌, min, nat_lt, Bool, true, false, List, [], ◌∷◌, Option, None, Some, Result, Ok, Err, refl, sym, subst, ◌∙◌, arith}
 use Rattle.std.proofs.lemmas.Bool.Decides.{nat_tests}
 use Rattle.elf_model.specs.Bindings.{SOUGHT_BYTES, is_sought, sought_at, sought_by_number, sought_version, symbols_hashed, whole_name}
 use Rattle.elf_model.specs.BoundSymbols.{file_before, file_of_version}
@@ -30,7 +30,7 @@ use Rattle.elf_scope.specs.declared.symbols.Symbols.{Symbols}
 use Rattle.elf_scope.specs.declared.symbols.VersionWords.{VersionWords}
 use Rattle.elf_loader.specs.Naming.{NamesBefore}
 use Rattle.elf_loader.specs.declared.naming.NamedBy.{NamedBy}
-use Rattle.elf_binding.specs.Sought.{RefusesAs, TellsHashed, TellsSought, TellsWhole, asked_if}
+use Rattle.elf_binding.specs.Sought.{RefusesAs, TellsSought, TellsWhole, asked_if}
 
 -- A WHOLE NAME
 module _ (strings : List ℕ) (index at : ℕ) where

@@ -1,5 +1,5 @@
 -- The tables of a file that define versions.
-use Rattle.std.specs.Prelude.{if◌then◌else◌, Option, None, Some}
+use Rattle.std.specs.Prelude.{◌≡◌, if◌then◌else◌, Option, None, Some}
 use Rattle.elf_model.specs.BoundSymbols.{is_definition}
 use Rattle.elf_scope.specs.declared.symbols.RecordTable.{RecordTable}
 use Rattle.elf_scope.specs.declared.symbols.Symbols.{Symbols}
@@ -18,4 +18,9 @@ definitions_of symbols = record {
   words = symbols.words;
   definitions = definition_if symbols.definitions;
   needs = definition_if symbols.needs;
+  rows = symbols.rows;
 }
+
+-- symbols have no table of records
+abbrev pub HasNoTable : Symbols → Type 0
+HasNoTable symbols = (symbols.definitions ≡ None) × (symbols.needs ≡ None)

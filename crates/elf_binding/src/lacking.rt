@@ -1,6 +1,6 @@
 //! Whether a file lacks a version.
-ghost use Rattle.std.specs.Prelude.{◌≡◌, ◌≤◌, length};
-ghost use Rattle.elf_binding.specs.Lacking.{definition_if, definitions_of};
+ghost use Rattle.std.specs.Prelude.{◌≡◌, ◌≤◌, length, MatchBool};
+ghost use Rattle.elf_binding.specs.Lacking.{HasNoTable, definition_if, definitions_of};
 ghost use Rattle.elf_binding.specs.Sought.{TellsLacks};
 ghost use Rattle.elf_headers.specs.Ledger.{Did, why_stopped};
 ghost use Rattle.elf_loader.specs.Comparing.{comparing_bytes};
@@ -37,11 +37,18 @@ pub(crate) fn lacks_version<S: Source>(
         return Ok(false);
     }
     let own = definitions_of(symbols);
-    if own.definitions.is_none() && own.needs.is_none() {
+    if is_bare(&own) {
         return Ok(false);
     }
     let numbers = wanted_numbers(src, &own, &Asked::Version(version))?;
     Ok(numbers.is_empty())
+}
+
+/// Whether symbols have no table of records.
+fn is_bare(symbols: &Symbols) -> bool
+    ensures { MatchBool result (HasNoTable symbols.now) (HasNoTable symbols.now → ⊥) }
+{
+    symbols.definitions.is_none() && symbols.needs.is_none()
 }
 
 /// The symbols with those of their tables of records alone that are definitions.

@@ -64,7 +64,8 @@ definitions_among (table ∷ tables) =
     if is_definition table.kind then table ∷ definitions_among tables else definitions_among tables
 
 abbrev pub is_none_of : List ℕ → Bool
-is_none_of numbers = length numbers == 0
+is_none_of [] = true
+is_none_of (number ∷ numbers) = false
 
 unfoldable pub lacks_among : List ℕ → (version : List ℕ) → List RecordTable → Result Bool Refusal
 lacks_among file version [] = Ok false

@@ -1,5 +1,5 @@
 -- The count between a limit that is set and taken away.
-use Rattle.std.proofs.Common.{◌≡◌, ◌+◌, ◌≤◌, refl, arith}
+use Rattle.std.proofs.Common.{◌+◌, ◌≤◌, refl, arith}
 use Rattle.elf_headers.proofs.LedgerLaws.{Charges-more}
 use Rattle.elf_binding.proofs.DefinerLaws.{place_of}
 use Rattle.elf_binding.proofs.SpendLaws.{spent_off}
