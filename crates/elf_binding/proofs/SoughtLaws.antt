@@ -1,7 +1,8 @@
 -- What a symbol asks others for, by what is read of it.
-use Rattle.std.proofs.Common.{◌≡◌, ℕ, ◌<◌, ◌≤◌, ◌%◌, ◌^◌, nat_lt, Bool, true, false, List, [], ◌∷◌, Option, None, Some, Result, Ok, Err, refl, sym, ap, subst, ◌∙◌, arith}
+use Rattle.std.proofs.Common.{◌≡◌, ℕ, ◌<◌, ◌≤◌, ◌%◌, ◌^◌, min, nat_lt, Bool, true, false, List, [], ◌∷◌, Option, None, Some, Result, Ok, Err, refl, sym, subst, ◌∙◌, arith}
 use Rattle.std.proofs.lemmas.Bool.Decides.{nat_tests}
 use Rattle.elf_model.specs.Bindings.{SOUGHT_BYTES, is_sought, sought_at, sought_by_number, sought_version, symbols_hashed, whole_name}
+use Rattle.elf_model.specs.BoundSymbols.{file_before, file_of_version}
 use Rattle.elf_model.specs.Bytes.{field}
 use Rattle.elf_model.specs.Checks.{first_refusal}
 use Rattle.elf_model.specs.LoaderFind.{counts_check}
@@ -29,7 +30,7 @@ use Rattle.elf_scope.specs.declared.symbols.Symbols.{Symbols}
 use Rattle.elf_scope.specs.declared.symbols.VersionWords.{VersionWords}
 use Rattle.elf_loader.specs.Naming.{NamesBefore}
 use Rattle.elf_loader.specs.declared.naming.NamedBy.{NamedBy}
-use Rattle.elf_binding.specs.Sought.{RefusesAs, TellsHashed, TellsSought, TellsWhole, asked_if}
+use Rattle.elf_binding.specs.Sought.{RefusesAs, TellsSought, TellsWhole, asked_if}
 
 -- A WHOLE NAME
 module _ (strings : List ℕ) (index at : ℕ) where
@@ -150,6 +151,42 @@ module _ (file : List ℕ) (told : AreSymbolsOf) (symbols : Symbols) (y : ℕ) (
       pub numbered : 2 ≤ word % 2 ^ 15 → sought_version file told y ≡ sought_by_number file told.records (word % 2 ^ 15) (row_at words.words y)
       numbered many = numbered_at told.words refl (rw some at is.words) many
 
+-- THE NEEDED FILE of the version of a symbol
+module _ (file : List ℕ) (told : AreSymbolsOf) (symbols : Symbols) (y : ℕ) (is : IsSymbols file told symbols) where
+  of_no_words : (words : Option AreWordsOf) → told.words ≡ words → AreWords words None → file_of_version file told y ≡ None
+  unfolding file_of_version
+  of_no_words None e are = rw (e, file_of_version) refl
+  of_no_words (Some words) e are = absurd are
+
+  pub of_none : symbols.words ≡ None → file_of_version file told y ≡ None
+  of_none none = of_no_words told.words refl (rw none at is.words)
+
+  module _ (words : VersionWords) (some : symbols.words ≡ Some words) (word : ℕ) (entry : words.words.entry ≡ 2) (read : word ≡ field file (row_at words.words y) 2) where
+    of_plain_at : (of : Option AreWordsOf) → told.words ≡ of → AreWords of (Some words) → word % 2 ^ 15 < 2 → file_of_version file told y ≡ None
+    unfolding file_of_version
+    of_plain_at None e are few = absurd are
+    of_plain_at (Some of) e are few =
+        let place : row_at words.words y ≡ version_word_at of y = rw (entry, are.place) (omega arith) in
+        let is_word : word ≡ versym file (version_word_at of y) = subst (λ (p : ℕ). word ≡ field file p 2) place read in
+        let small : nat_lt (number_in (versym file (version_word_at of y))) 2 ≡ true = rw (← is_word) (grind (arith, nat_tests)) in
+        rw (e, file_of_version) (rw (small) refl)
+
+    pub of_plain : word % 2 ^ 15 < 2 → file_of_version file told y ≡ None
+    of_plain few = of_plain_at told.words refl (rw some at is.words) few
+
+    of_numbered_at : (of : Option AreWordsOf) → told.words ≡ of → AreWords of (Some words) → 2 ≤ word % 2 ^ 15
+        → file_of_version file told y ≡ file_before file (word % 2 ^ 15) None (readings file told.records)
+    unfolding file_of_version
+    of_numbered_at None e are many = absurd are
+    of_numbered_at (Some of) e are many =
+        let place : row_at words.words y ≡ version_word_at of y = rw (entry, are.place) (omega arith) in
+        let is_word : word ≡ versym file (version_word_at of y) = subst (λ (p : ℕ). word ≡ field file p 2) place read in
+        let large : nat_lt (number_in (versym file (version_word_at of y))) 2 ≡ false = rw (← is_word) (grind (arith, nat_tests)) in
+        rw (e, file_of_version) (rw (large) (rw (← is_word) refl))
+
+    pub of_numbered : 2 ≤ word % 2 ^ 15 → file_of_version file told y ≡ file_before file (word % 2 ^ 15) None (readings file told.records)
+    of_numbered many = of_numbered_at told.words refl (rw some at is.words) many
+
 -- what is told by the number is what is told of the symbol
 pub versioned_as : (told by : Result Asked Refusal) (fault : Fault) → told ≡ by → RefusesAs by fault → RefusesAs told fault
 versioned_as told by (Refused refusal) e tells = λ unless. e ∙ tells unless
@@ -201,7 +238,7 @@ module _ (file : List ℕ) (told : AreSymbolsOf) (symbols : Symbols) (index : �
 
 -- HOW MANY SYMBOLS a file has
 module _ (file : List ℕ) (told : IsScopeOf) where
-  pub hashed : first_refusal (counts_check file told ∷ []) ≡ None → symbols_hashed file told ≡ Ok (hashed_symbol_count file told)
+  pub hashed : first_refusal (counts_check file told ∷ []) ≡ None → symbols_hashed file told ≡ Ok (min (hashed_symbol_count file told) told.table.symbols)
   unfolding symbols_hashed
   hashed e = rw (e, symbols_hashed) refl
 
@@ -210,7 +247,10 @@ module _ (file : List ℕ) (told : IsScopeOf) where
   uncounted (Refused refusal) counts = λ unless. let e = counts unless in rw (e, symbols_hashed) refl
   uncounted (Source fault at) counts = tt
 
-  pub extends : (result : Result ℕ Fault) → first_refusal (counts_check file told ∷ []) ≡ None → IsRead result (hashed_symbol_count file told) → TellsHashed (symbols_hashed file told) result
-  extends (Ok count) e read = hashed e ∙ ap Ok (sym read)
-  extends (Err (Refused refusal)) e read = λ unless. absurd (unless read)
-  extends (Err (Source fault at)) e read = tt
+  pub extends : (count room : ℕ) → first_refusal (counts_check file told ∷ []) ≡ None → count ≡ hashed_symbol_count file told → room ≡ told.table.symbols
+      → symbols_hashed file told ≡ Ok (min count room)
+  extends count room e read most = rw (read, most) (hashed e)
+
+  pub unextended : (fault : Fault) → IsRead (Err fault) (hashed_symbol_count file told) → RefusesAs (symbols_hashed file told) fault
+  unextended (Refused refusal) read = λ unless. absurd (unless read)
+  unextended (Source fault at) read = tt

@@ -1,15 +1,18 @@
 -- What a symbol of a file asks others for, as it is read.
-use Rattle.std.specs.Prelude.{ℕ, ◌≡◌, ◌+◌, ◌*◌, ◌/◌, ◌<◌, Bool, true, false, List, Option, None, Some, Result, Ok, Err}
+use Rattle.std.specs.Prelude.{ℕ, ◌≡◌, ◌+◌, ◌*◌, ◌/◌, ◌<◌, Bool, true, false, List, Option, None, Some, Result, Ok, Err, IfOk, IfSome}
 use Rattle.elf_model.specs.Bindings.{SOUGHT_BYTES, is_weak, sought_at, symbols_hashed, whole_name}
+use Rattle.elf_model.specs.BoundSymbols.{file_of_version, lacks_version}
 use Rattle.elf_model.specs.Budget.{IsBudget}
 use Rattle.elf_model.specs.Loader.{Asked, NoVersion, Version, Wanted, symbol_offset}
 use Rattle.elf_model.specs.LoaderFind.{record_cost}
 use Rattle.elf_model.specs.LoaderScope.{Scope as IsScopeOf, scope_of}
 use Rattle.elf_model.specs.Names.{name_bytes}
+use Rattle.elf_model.specs.Versions.{Met}
 use Rattle.elf_model.specs.declared.causes.Refusal.{Refusal}
 use Rattle.elf_headers.specs.Ledger.{why_stopped}
 use Rattle.elf_headers.specs.declared.fault.Fault.{Fault}
 use Rattle.elf_headers.specs.declared.fault.Fault.TheVariants.{Refused, Source}
+use Rattle.elf_loader.specs.Naming.{IsFileIf}
 use Rattle.elf_binding.specs.Kept.{KeptObject}
 use Rattle.elf_binding.specs.Looks.{Pays, Spends}
 use Rattle.elf_binding.specs.declared.sought.SoughtSymbol.{SoughtSymbol}
@@ -46,6 +49,10 @@ TellsSought told weak name version (Ok (Some sought)) =
     (told ≡ Ok (Some (record { name = name; asked = asked_if sought.versioned version }))) × (sought.weak ≡ weak)
 TellsSought told weak name version (Err fault) = RefusesAs told fault
 
+-- the record of the needed file, of whose versions one is asked for, is the one that is told
+abbrev pub SeeksOf : List ℕ → Option Met → Result (Option SoughtSymbol) Fault → Type 0
+SeeksOf file told result = IfOk result (λ found. IfSome found (λ sought. IsFileIf file told sought.file))
+
 -- how many bytes that may ask for in a source of this size, whatever its bytes are: the symbol, its name, the word of its version,
 -- the records of versions and the name of one
 abbrev pub sought_bytes : ℕ → ℕ
@@ -60,6 +67,9 @@ pub record Seeks (index : ℕ) (name version : List ℕ) (old new : KeptObject) 
   pub known :
       (file : List ℕ) (told : IsScopeOf) → old.src.seen.file ≡ Some file → scope_of file old.headers ≡ Ok told → index < told.table.symbols
       → TellsSought (sought_at file told.symbols index) (is_weak file (symbol_offset told.symbols index)) name version result
+  pub of_file :
+      (file : List ℕ) (told : IsScopeOf) → old.src.seen.file ≡ Some file → scope_of file old.headers ≡ Ok told → index < told.table.symbols
+      → SeeksOf file (file_of_version file told.symbols index) result
 
 -- a number of symbols is told, or the refusal of the table's counts, unless that is for want of budget
 abbrev pub TellsHashed : Result ℕ Refusal → Result ℕ Fault → Type 0
@@ -71,7 +81,9 @@ pub record CountsHashed (old new : KeptObject) (left_old left_new : Option ℕ) 
   pub costs : Spends old.src new.src left_old (why_stopped result) (16 + old.src.seen.size)
   pub same_headers : new.headers ≡ old.headers
   pub pays : Pays left_old left_new old.src.asked new.src.asked
-  pub known : (file : List ℕ) (told : IsScopeOf) → old.src.seen.file ≡ Some file → scope_of file old.headers ≡ Ok told → TellsHashed (symbols_hashed file told) result
+  pub known :
+      (file : List ℕ) → old.src.seen.file ≡ Some file
+      → (told : IsScopeOf) × (scope_of file old.headers ≡ Ok told) × TellsHashed (symbols_hashed file told) result
 
 -- WHAT A READ OF THE NAME OF A NEEDED FILE DID, which stands at an index of the symbols' strings
 pub record ReadsFileName (index at : ℕ) (name : List ℕ) (old new : KeptObject) (left_old left_new : Option ℕ) (result : Result (Unit {0}) Fault) : Type 0 where
@@ -82,8 +94,17 @@ pub record ReadsFileName (index at : ℕ) (name : List ℕ) (old new : KeptObjec
       (file : List ℕ) (told : IsScopeOf) → old.src.seen.file ≡ Some file → scope_of file old.headers ≡ Ok told → 0 < told.table.symbols
       → TellsWhole (whole_name told.symbols.strings index at) name result
 
--- WHAT A LOOK FOR A VERSION AMONG THE DEFINITIONS DID: no more is asked for than the records and as many names
+-- whether a file lacks a version is told, or the refusal of its definitions, unless that is for want of budget
+abbrev pub TellsLacks : Result Bool Refusal → Result Bool Fault → Type 0
+TellsLacks told (Ok lacks) = told ≡ Ok lacks
+TellsLacks told (Err fault) = RefusesAs told fault
+
+-- WHAT A LOOK FOR A VERSION AMONG THE DEFINITIONS DID: no more is asked for than the records and as many names, and in a known file
+-- the answer is the definition's
 pub record LooksForVersion (version : List ℕ) (old new : KeptObject) (left_old left_new : Option ℕ) (result : Result Bool Fault) : Type 0 where
   pub costs : Spends old.src new.src left_old (why_stopped result) (old.src.seen.size / 8 * record_cost (Version version))
   pub same_headers : new.headers ≡ old.headers
   pub pays : Pays left_old left_new old.src.asked new.src.asked
+  pub known :
+      (file : List ℕ) → old.src.seen.file ≡ Some file
+      → (told : IsScopeOf) × (scope_of file old.headers ≡ Ok told) × TellsLacks (lacks_version file told.symbols version) result

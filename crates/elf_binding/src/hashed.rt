@@ -10,7 +10,7 @@ use elf_hash::{HashPlace, counts, symbol_extent};
 use elf_headers::Fault;
 use elf_source::{Counted, Source};
 
-/// How many symbols a file has, by its hash table alone.
+/// How many symbols a file has, by its hash table, of those that there is room for.
 ///
 /// # Errors
 /// Those of [`counts`], and of [`symbol_extent`].
@@ -24,5 +24,6 @@ pub(crate) fn hashed_symbols<S: Source>(
         TellsHashed (symbols_hashed file told) result) }
 {
     let table = counts(src, place)?;
-    symbol_extent(src, &table)
+    let count = symbol_extent(src, &table)?;
+    Ok(count.min(place.symbols))
 }

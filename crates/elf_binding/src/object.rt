@@ -112,8 +112,8 @@ impl<S: Source> Object<S> {
         found
     }
 
-    /// How many symbols it has, by its hash table alone: the first is none (gABI 4, Symbol Table). No more
-    /// is asked for than what is left of a budget, where there is one; what was asked for is taken off.
+    /// How many symbols it has, by its hash table, of those that there is room for: the first is none (gABI
+    /// 4, Symbol Table). No more is asked for than what is left of a budget, where there is one; what was asked for is taken off.
     /// Afterwards no limit is set.
     ///
     /// # Errors

@@ -1,10 +1,12 @@
 //! What a symbol of a file asks others for.
-ghost use Rattle.std.specs.Prelude.{◌≡◌, ℕ, ◌+◌, ◌*◌, ◌<◌, ◌∷◌, [], List};
-ghost use Rattle.elf_binding.specs.Sought.{TellsAsked, TellsSought, TellsVersionIf, TellsWhole};
+ghost use Rattle.std.specs.Prelude.{◌≡◌, ℕ, ◌+◌, ◌*◌, ◌<◌, ◌∷◌, [], List, None, Some, IfOk};
+ghost use Rattle.elf_binding.specs.Sought.{SeeksOf, TellsAsked, TellsSought, TellsVersionIf, TellsWhole};
 ghost use Rattle.elf_headers.specs.Ledger.{Did, why_stopped};
+ghost use Rattle.elf_loader.specs.Naming.{IsFileIf};
 ghost use Rattle.elf_loader.specs.Tables.{most_versions};
 ghost use Rattle.elf_model.specs.Bindings.{SOUGHT_BYTES, is_sought, is_weak, sought_at, sought_by_number, sought_version, whole_name};
-ghost use Rattle.elf_model.specs.Loader.{Symbols as AreSymbolsOf, is_among, symbol_offset};
+ghost use Rattle.elf_model.specs.BoundSymbols.{file_before, file_of_version};
+ghost use Rattle.elf_model.specs.Loader.{Symbols as AreSymbolsOf, is_among, readings, symbol_offset};
 ghost use Rattle.elf_model.specs.Names.{name_bytes};
 ghost use Rattle.elf_model.specs.Numbers.{STB_GLOBAL, STB_WEAK, STB_GNU_UNIQUE};
 ghost use Rattle.elf_record.specs.Sym.{IsSym};
@@ -68,11 +70,13 @@ pub(crate) fn sought_symbol<S: Source>(
 ) -> Result<Option<SoughtSymbol>, Fault>
     requires below { index < symbols.now.table.count }
     requires lies { SymbolsLie src.old.seen.size symbols.now }
-    ensures { Did src.old src.new (why_stopped result) (24 + name_bytes SOUGHT_BYTES
+    ensures did { Did src.old src.new (why_stopped result) (24 + name_bytes SOUGHT_BYTES
         + (2 + most_versions symbols.now * 28 + name_bytes SOUGHT_BYTES))
         (λ file. (told : AreSymbolsOf) → IsSymbols file told symbols.now →
         TellsSought (sought_at file told index) (is_weak file (symbol_offset told index))
         name.new version.new result) }
+    ensures file { (bytes : List ℕ) → src.old.seen.file ≡ Some bytes → (told : AreSymbolsOf) →
+        IsSymbols bytes told symbols.now → SeeksOf bytes (file_of_version bytes told index) result }
 {
     let symbol = symbols.table.symbol(src, index)?;
     if !is_sought(&symbol) {
@@ -100,12 +104,14 @@ pub(crate) fn sought_of<S: Source>(
     version: &mut NameBuf,
 ) -> Result<Option<SoughtSymbol>, Fault>
     requires lies { SymbolsLie src.old.seen.size symbols.now }
-    ensures { Did src.old src.new (why_stopped result) (24 + name_bytes SOUGHT_BYTES
+    ensures did { Did src.old src.new (why_stopped result) (24 + name_bytes SOUGHT_BYTES
         + (2 + most_versions symbols.now * 28 + name_bytes SOUGHT_BYTES))
         (λ file. (told : AreSymbolsOf) → IsSymbols file told symbols.now →
         index < symbols.now.table.count →
         TellsSought (sought_at file told index) (is_weak file (symbol_offset told index))
         name.new version.new result) }
+    ensures file { (bytes : List ℕ) → src.old.seen.file ≡ Some bytes → (told : AreSymbolsOf) →
+        IsSymbols bytes told symbols.now → SeeksOf bytes (file_of_version bytes told index) result }
 {
     if index >= symbols.table.len() {
         return Ok(None);
@@ -167,10 +173,13 @@ fn sought_version<S: Source>(
     version: &mut NameBuf,
 ) -> Result<SoughtVersion, Fault>
     requires lies { SymbolsLie src.old.seen.size symbols.now }
-    ensures { Did src.old src.new (why_stopped result)
+    ensures did { Did src.old src.new (why_stopped result)
         (2 + most_versions symbols.now * 28 + name_bytes SOUGHT_BYTES)
         (λ file. (told : AreSymbolsOf) → IsSymbols file told symbols.now →
         TellsVersionIf (sought_version file told index) version.new result) }
+    ensures file { (bytes : List ℕ) → src.old.seen.file ≡ Some bytes → (told : AreSymbolsOf) →
+        IsSymbols bytes told symbols.now →
+        IfOk result (λ asked. IsFileIf bytes (file_of_version bytes told index) asked.file) }
 {
     let Some(words) = &symbols.words else {
         return Ok(NO_VERSION);
@@ -203,10 +212,13 @@ fn by_number<S: Source>(
     version: &mut NameBuf,
 ) -> Result<Option<VersionRecord>, Fault>
     requires lies { SymbolsLie src.old.seen.size symbols.now }
-    ensures { Did src.old src.new (why_stopped result)
+    ensures did { Did src.old src.new (why_stopped result)
         (most_versions symbols.now * 28 + name_bytes SOUGHT_BYTES)
         (λ file. (told : AreSymbolsOf) → IsSymbols file told symbols.now →
         TellsAsked (sought_by_number file told.records number at) version.new result) }
+    ensures file { (bytes : List ℕ) → src.old.seen.file ≡ Some bytes → (told : AreSymbolsOf) →
+        IsSymbols bytes told symbols.now → IfOk result
+        (IsFileIf bytes (file_before bytes number None (readings bytes told.records))) }
 {
     let Some(named) = name_of(src, symbols, number)? else {
         return refused(at, Cause::VersionIndex);

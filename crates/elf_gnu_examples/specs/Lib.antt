@@ -15,3 +15,4 @@ pub mod ExamplesRecords
 pub mod ExamplesWords
 pub mod ExamplesViews
 pub mod ExamplesBindings
+pub mod ExamplesBoundSymbols

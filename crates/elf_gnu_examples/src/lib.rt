@@ -4,6 +4,7 @@
 
 mod before_rows;
 mod binding_rows;
+mod bound_rows;
 mod chain_rows;
 mod choice_rows;
 mod hash_rows;

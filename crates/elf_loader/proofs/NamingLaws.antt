@@ -1,5 +1,6 @@
 -- Looking for the record that names the version of a number, record by record.
 use Rattle.std.proofs.Common.{◌≡◌, ℕ, ◌+◌, ◌-◌, ◌*◌, ◌≤◌, Bool, true, false, List, [], ◌∷◌, Option, None, Some, Result, Ok, Err, refl, ◌∙◌, arith}
+use Rattle.elf_model.specs.BoundSymbols.{file_before, file_or}
 use Rattle.elf_model.specs.Budget.{IsBudget}
 use Rattle.elf_model.specs.Loader.{Meets, Misses, Naming, RecordReading, RecordTable, Refuses, naming_of, one_later, readings_of}
 use Rattle.elf_model.specs.Versions.{Met, names_number}
@@ -12,7 +13,8 @@ use Rattle.elf_headers.proofs.LedgerLaws.{Charges-more, Charges-then}
 use Rattle.elf_scope.specs.Symbols.{IsRecordTable}
 use Rattle.elf_scope.specs.declared.symbols.RecordTable.{RecordTable as Given}
 use Rattle.elf_versions.specs.Reading.{SpendsRecord, StartsVersions, TellsVersion, Walking, versions_left}
-use Rattle.elf_loader.specs.Naming.{NamedAs, NamesBefore}
+use Rattle.elf_loader.specs.Naming.{HasFile, IsFileIf, NamedAs, NamesBefore, NamesFile, NamesFileBehind}
+use Rattle.elf_versions.specs.declared.record.VersionRecord.{VersionRecord}
 use Rattle.elf_loader.specs.declared.naming.NamedBy.{NamedBy}
 use Rattle.elf_loader.proofs.TablesLaws.{more-pays}
 use Rattle.elf_loader.proofs.LeftReadings.{ended-left, left_of, refused-left, start-left}
@@ -162,3 +164,41 @@ names-then file a b c naming all mid left (Err (Source fault at)) e p q =
 pub naming-nothing : (file : List ℕ) (number : ℕ) → naming_of file number [] ≡ record { found = None; refused = None; read = 0 }
 unfolding naming_of
 naming-nothing file number = refl
+
+-- THE NEEDED FILE of a version: before the first record, behind one that has not the number, at one that has it, and behind all
+module _ (file : List ℕ) (number : ℕ) where
+  pub file-starts : (told : RecordTable) (records : Given) (others : List RecordReading) (c : Walking) (met : Option Met)
+      → StartsVersions records.kind records.head records.table c → IsRecordTable file told records
+      → file_before file number met (readings_of file told others) ≡ file_before file number met (left_of file told.strings others c)
+  file-starts told records others c met starts is = let e = start-left file told records others c starts is in rw e refl
+
+  pub file-later : (names : List ℕ) (met : Met) (old new : List RecordReading) (before : Option Met) → old ≡ Meets names met ∷ new → names_number file number met ≡ false
+      → file_before file number before old ≡ file_before file number (file_or met before) new
+  unfolding file_before
+  file-later names met old new before first other = rw (first, file_before) (rw other refl)
+
+  pub file-here : (names : List ℕ) (met : Met) (old new : List RecordReading) (before : Option Met) → old ≡ Meets names met ∷ new → names_number file number met ≡ true
+      → file_before file number before old ≡ before
+  unfolding file_before
+  file-here names met old new before first here = rw (first, file_before) (rw here refl)
+
+  pub file-ended : (strings : List ℕ) (others : List RecordReading) (old new : Walking) (before : Option Met)
+      → TellsVersion file (versions_left file old) (versions_left file new) (Ok None)
+      → file_before file number before (left_of file strings others old) ≡ file_before file number before others
+  file-ended strings others old new before ends =
+      let e = ended-left file strings old.held.table.at old.held.table.count old.standing old.left others ends in rw e refl
+
+  pub file-none : (all : List RecordReading) (before : Option VersionRecord) → NamesFile file number all all before before (Ok None)
+  file-none all before = λ met was. (met, was, refl)
+
+  pub file-some : (all whole left : List RecordReading) (after : Option VersionRecord) (by : NamedBy) → whole ≡ all → NamesFile file number all left None after (Ok (Some by))
+      → HasFile file (file_before file number None whole) (Ok (Some by))
+  file-some all whole left after by e names = rw e (names None tt)
+
+  pub file-then : (all whole left none : List RecordReading) (mid after : Option VersionRecord) (result : Result (Option NamedBy) Fault) → whole ≡ all
+      → NamesFile file number all left None mid (Ok None) → NamesFile file number left none mid after result
+      → HasFile file (file_before file number None whole) result
+  file-then all whole left none mid after (Ok (Some by)) e first second =
+      let f = first None tt in rw (e, f.2) (second f.0 f.1)
+  file-then all whole left none mid after (Ok None) e first second = tt
+  file-then all whole left none mid after (Err fault) e first second = tt

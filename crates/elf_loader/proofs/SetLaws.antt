@@ -1,9 +1,9 @@
 -- A number is put into a set of bits.
-use Rattle.std.proofs.Common.{◌≡◌, ◌≢◌, ℕ, ◌*◌, ◌/◌, ◌%◌, ◌^◌, ◌<◌, ◌==◌, ◌||◌, false, List, length, get_or, inl, inr, refl, ap, sym, arith}
-use Rattle.std.proofs.lemmas.Bool.{cases_eq}
+use Rattle.std.proofs.Common.{◌≡◌, ◌≢◌, ℕ, suc, ◌*◌, ◌/◌, ◌%◌, ◌^◌, ◌<◌, ◌≤◌, ◌==◌, ◌||◌, false, List, length, get_or, inl, inr, refl, ap, sym, arith}
+use Rattle.std.proofs.lemmas.Bool.{cases_eq, cases_lt}
 use Rattle.std.proofs.lemmas.Bool.Decides.{nat_tests}
-use Rattle.std.proofs.lemmas.List.{get_or-set_same, get_or-set_other}
-use Rattle.std.proofs.lemmas.Nat.Bits.{bit_at-lt, bit_at-pow_other, bit_at-pow_same, bit_at_or}
+use Rattle.std.proofs.lemmas.List.{get_or_past, get_or-set_same, get_or-set_other}
+use Rattle.std.proofs.lemmas.Nat.Bits.{bit_at-lt, bit_at-pow_other, bit_at-pow_same, bit_at-zero, bit_at_or}
 use Rattle.std.proofs.Math.ListN.{set}
 use Rattle.std.proofs.Math.Pow.{pow-lt}
 use Rattle.std.specs.Int.{bit_at}
@@ -53,3 +53,27 @@ has-more words number other inside =
 -- the bit is in a word
 pub bit-fits : (number : ℕ) → 1 * 2 ^ (number % 64) % 2 ^ 64 ≡ 2 ^ (number % 64)
 bit-fits number = let small = pow-lt {i = number % 64} {j = 64} (omega arith) in omega (arith, small)
+
+-- a number past all words is not in it
+pub past-none : (words : List ℕ) (number : ℕ) → length words ≡ 16 → 1024 ≤ number → has_number words number ≡ false
+past-none words number many past =
+    let none = get_or_past words (number / 64) 0 (omega (arith, many, past)) in
+    let zero = bit_at-zero (number % 64) in
+    rw (none, zero) refl
+
+-- none is, where none below that is
+pub none-all : (words : List ℕ) → length words ≡ 16 → ((number : ℕ) → number < 1024 → has_number words number ≡ false) → (number : ℕ) → has_number words number ≡ false
+none-all words many few number =
+    elim (cases_lt number 1024) [
+      | inl low ↦ few number low
+      | inr past ↦ past-none words number many past
+    ]
+
+-- one more is not
+pub none-more : (words : List ℕ) (end : ℕ) → ((number : ℕ) → number < end → has_number words number ≡ false) → has_number words end ≡ false
+    → (number : ℕ) → number < suc end → has_number words number ≡ false
+none-more words end few here number most =
+    elim (cases_lt number end) [
+      | inl low ↦ few number low
+      | inr past ↦ let same : number ≡ end = omega (arith, most, past) in rw same here
+    ]

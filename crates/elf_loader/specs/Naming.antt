@@ -1,6 +1,7 @@
 -- What looking for the name of a number gives.
 use Rattle.std.specs.Prelude.{ℕ, ◌≡◌, ◌+◌, ◌*◌, List, Option, None, Some, Result, Ok, Err, IfSome}
 use Rattle.elf_model.specs.Budget.{IsBudget}
+use Rattle.elf_model.specs.BoundSymbols.{file_before}
 use Rattle.elf_model.specs.Loader.{Naming, RecordReading, naming_of}
 use Rattle.elf_model.specs.Versions.{Met}
 use Rattle.elf_source.specs.Source.{Counting}
@@ -9,6 +10,7 @@ use Rattle.elf_headers.specs.declared.fault.Fault.{Fault}
 use Rattle.elf_headers.specs.declared.fault.Fault.TheVariants.{Refused, Source}
 use Rattle.elf_table.specs.Tables.{StringsWithin, strings_in}
 use Rattle.elf_versions.specs.Reading.{IsVersion}
+use Rattle.elf_versions.specs.declared.record.VersionRecord.{VersionRecord}
 use Rattle.elf_loader.specs.declared.naming.NamedBy.{NamedBy}
 
 -- some records are read that have not the number; the others are left
@@ -37,3 +39,26 @@ NamesRecord before after number result most Of =
 -- the strings of its name lie within a source of this size
 abbrev pub NamedLies : ℕ → Option NamedBy → Type 0
 NamedLies size named = IfSome named (λ by. StringsWithin size by.names)
+
+-- the record of a needed file is one that is met, or there is none
+abbrev pub IsFileIf : List ℕ → Option Met → Option VersionRecord → Type 0
+IsFileIf file None None = Unit {0}
+IsFileIf file (Some met) (Some given) = IsVersion file met given
+IsFileIf file None (Some given) = ⊥
+IsFileIf file (Some met) None = ⊥
+
+-- the record of the needed file of a version is the one that is told
+abbrev pub HasFile : List ℕ → Option Met → Result (Option NamedBy) Fault → Type 0
+HasFile file told (Ok (Some by)) = IsFileIf file told by.file
+HasFile file told (Ok None) = Unit {0}
+HasFile file told (Err fault) = Unit {0}
+
+-- the same behind some records; where none of these has the number, the last needed file that is met is told before the others
+abbrev pub NamesFileBehind : List ℕ → ℕ → Option Met → (left : List RecordReading) → (after : Option VersionRecord) → Result (Option NamedBy) Fault → Type 0
+NamesFileBehind file number told left after (Ok (Some by)) = IsFileIf file told by.file
+NamesFileBehind file number told left after (Ok None) = (met : Option Met) × IsFileIf file met after × (told ≡ file_before file number met left)
+NamesFileBehind file number told left after (Err fault) = Unit {0}
+
+abbrev pub NamesFile : List ℕ → ℕ → (all left : List RecordReading) → (before after : Option VersionRecord) → Result (Option NamedBy) Fault → Type 0
+NamesFile file number all left before after result =
+    (met : Option Met) → IsFileIf file met before → NamesFileBehind file number (file_before file number met all) left after result

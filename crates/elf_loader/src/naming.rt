@@ -1,7 +1,8 @@
 //! The record that names the version of a number.
-ghost use Rattle.std.specs.Prelude.{◌≡◌, ℕ, List, IfOk, IfSome};
-ghost use Rattle.elf_loader.specs.Naming.{NamedLies, NamesRecord};
+ghost use Rattle.std.specs.Prelude.{◌≡◌, ℕ, List, Option, None, Some, IfOk, IfSome};
+ghost use Rattle.elf_loader.specs.Naming.{HasFile, IsFileIf, NamedLies, NamesFile, NamesRecord};
 ghost use Rattle.elf_loader.specs.Tables.{OfAnyTable, OfTable, OfTables, most_of, most_versions};
+ghost use Rattle.elf_model.specs.BoundSymbols.{file_before, file_or};
 ghost use Rattle.elf_model.specs.Versions.{Met, most_records, names_number};
 ghost use Rattle.elf_scope.specs.Symbols.{RecordsWithin, SymbolsLie};
 ghost use Rattle.elf_versions.specs.Reading.{IsVersion};
@@ -25,7 +26,7 @@ pub struct NamedBy {
 }
 
 /// The first record of a table that names the version of a number, if one does, with the strings of
-/// its name. No record behind it is read.
+/// its name. No record behind it is read. `file` is the last record of a needed file that was met.
 ///
 /// # Errors
 /// As for [`VersionCursor::advance`], of what comes before.
@@ -33,29 +34,34 @@ pub(crate) fn name_in_table<S: Source>(
     src: &mut Counted<S>,
     records: &RecordTable,
     number: u16,
+    file: &mut Option<VersionRecord>,
 ) -> Result<Option<NamedBy>, Fault>
     requires within { RecordsWithin src.old.seen.size records.now }
     ensures did { NamesRecord src.old src.new number result
         (most_records records.now.kind records.now.table.count) (OfTable records.now) }
     ensures lies { IfOk result (NamedLies src.old.seen.size) }
+    ensures file { (bytes : List ℕ) → src.old.seen.file ≡ Some bytes → OfTable records.now bytes
+        (λ all left. NamesFile bytes number all left file.old file.new result) }
 {
     let mut cursor = VersionCursor::one_by_one(records.kind, records.head, records.table);
-    let mut file = None;
     'records: while let Some(given) = cursor.advance(src)? {
         if names_number(&given, number) {
             return Ok(Some(NamedBy {
                 record: given,
                 names: records.names,
-                file,
+                file: *file,
             }));
         }
-        file = file_of(&given, file);
+        *file = file_of(&given, *file);
     }
     Ok(None)
 }
 
 /// The record of the needed file that the next record is a version of, behind one more record.
-fn file_of(given: &VersionRecord, before: Option<VersionRecord>) -> Option<VersionRecord> {
+fn file_of(given: &VersionRecord, before: Option<VersionRecord>) -> Option<VersionRecord>
+    ensures { (bytes : List ℕ) (met : Met) (told : Option Met) → IsVersion bytes met given.now →
+        IsFileIf bytes told before → IsFileIf bytes (file_or met told) result }
+{
     match given.kind {
         VersionKind::File => Some(*given),
         _ => before,
@@ -76,11 +82,14 @@ pub fn name_of<S: Source>(
     ensures did { NamesRecord src.old src.new number result (most_versions symbols.now)
         (OfTables symbols.now) }
     ensures lies { IfOk result (NamedLies src.old.seen.size) }
+    ensures file { (bytes : List ℕ) → src.old.seen.file ≡ Some bytes → OfTables symbols.now bytes
+        (λ all left. HasFile bytes (file_before bytes number None all) result) }
 {
-    if let Some(named) = name_in_any(src, &symbols.definitions, number)? {
+    let mut file = None;
+    if let Some(named) = name_in_any(src, &symbols.definitions, number, &mut file)? {
         return Ok(Some(named));
     }
-    name_in_any(src, &symbols.needs, number)
+    name_in_any(src, &symbols.needs, number, &mut file)
 }
 
 // The first record of a table that names the version of a number, if there is a table and one does.
@@ -88,15 +97,18 @@ fn name_in_any<S: Source>(
     src: &mut Counted<S>,
     records: &Option<RecordTable>,
     number: u16,
+    file: &mut Option<VersionRecord>,
 ) -> Result<Option<NamedBy>, Fault>
     requires within { IfSome records.now (RecordsWithin src.old.seen.size) }
     ensures did { NamesRecord src.old src.new number result (most_of records.now)
         (OfAnyTable records.now) }
     ensures lies { IfOk result (NamedLies src.old.seen.size) }
+    ensures file { (bytes : List ℕ) → src.old.seen.file ≡ Some bytes → OfAnyTable records.now bytes
+        (λ all left. NamesFile bytes number all left file.old file.new result) }
 {
     match records {
         None => Ok(None),
-        Some(records) => name_in_table(src, records, number),
+        Some(records) => name_in_table(src, records, number, file),
     }
 }
 

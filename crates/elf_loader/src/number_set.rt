@@ -1,5 +1,5 @@
 //! A set of numbers of versions.
-ghost use Rattle.std.specs.Prelude.{◌≡◌, ℕ, ◌<◌, ◌==◌, ◌||◌, false};
+ghost use Rattle.std.specs.Prelude.{◌≡◌, ℕ, ◌<◌, ◌==◌, ◌||◌, false, true, MatchBool};
 ghost use Rattle.elf_loader.specs.NumberSets.{has_number};
 
 use std::marker::Model;
@@ -38,6 +38,20 @@ impl NumberSet {
         ensures { result ≡ has_number self.now number }
     {
         number < NUMBERS && self.words[usize::from(number / 64)] >> (number % 64) & 1 == 1
+    }
+
+    /// Whether no number is in the set.
+    pub fn is_empty(&self) -> bool
+        ensures { MatchBool result ((number : ℕ) → has_number self.now number ≡ false)
+            ((number : ℕ) × (has_number self.now number ≡ true)) }
+    {
+        let _ = &self.words;
+        for number in 0..NUMBERS {
+            if self.contains(number) {
+                return false;
+            }
+        }
+        true
     }
 
     /// Puts a number below 1,024 into the set.

@@ -2,7 +2,7 @@
 -- after another, and the first that defines the name is the definer (gABI 5, Shared Object Dependencies and Hash Table; Linux
 -- Standard Base Core, Symbol Versioning). The files are those that are shown to a lookup: by their program headers, where no
 -- section headers are told of.
-use Rattle.std.specs.Prelude.{ℕ, suc, ◌+◌, ◌*◌, ◌==◌, ◌&&◌, nat_lt, not, if◌then◌else◌, Bool, true, false, List, [], ◌∷◌, length, Option, None, Some, Result, Ok, Err}
+use Rattle.std.specs.Prelude.{ℕ, suc, ◌+◌, ◌*◌, ◌==◌, ◌&&◌, nat_lt, not, min, if◌then◌else◌, Bool, true, false, List, [], ◌∷◌, length, Option, None, Some, Result, Ok, Err}
 use Rattle.elf_model.specs.Chains.{Walked}
 use Rattle.elf_model.specs.Checks.{first_refusal}
 use Rattle.elf_model.specs.GnuHash.{gnu_hash, gnu_looked_up}
@@ -169,9 +169,9 @@ sought_at file symbols y =
       ]
     ]
 
--- HOW MANY SYMBOLS a file has, by its hash table alone, or the refusal of the table's counts
+-- HOW MANY SYMBOLS a file has, by its hash table, of those that there is room for; or the refusal of the table's counts
 unfoldable pub symbols_hashed : List ℕ → Scope → Result ℕ Refusal
 symbols_hashed file scope = elim (first_refusal (counts_check file scope ∷ [])) [
   | Some refusal ↦ Err refusal
-  | None ↦ Ok (hashed_symbol_count file scope)
+  | None ↦ Ok (min (hashed_symbol_count file scope) scope.table.symbols)
 ]

@@ -80,3 +80,5 @@ pub mod Traits
 pub mod TraitWords
 pub mod TraitCost
 pub mod Bindings
+pub mod BindingLines
+pub mod BoundSymbols

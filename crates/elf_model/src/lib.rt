@@ -1,7 +1,7 @@
 //! What the words of elfsee mean: the fields of an ELF64 file, the checks, the lines of a listing
 //! and the report, as definitions in `specs/`. As code there are only the causes of a refusal, the
-//! states of a file, how a line is written, what a relocation type is, and functions with no body whose contracts are laws
-//! about the definitions.
+//! states of a file and of a symbol, how a line is written, what a relocation type is, and functions with no body whose
+//! contracts are laws about the definitions.
 #![tactic(auto)]
 
 mod apply_laws;
@@ -34,6 +34,6 @@ pub use causes::{Cause, Refusal};
 pub use formats::Format;
 pub use missing::{LayoutAddress, Missing};
 pub use relocation_types::{Base, Formula, Range, RelocationType};
-pub use states::{FileSort, FileState};
+pub use states::{BindingState, FileSort, FileState};
 pub use traits::{ProgramKind, Relro, SearchPath, SegmentTraits, TraitColumn, Traits};
 pub use versions::VersionKind;

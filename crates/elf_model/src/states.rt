@@ -1,4 +1,4 @@
-//! What is told of a file among many.
+//! What is told of a file among many, and of a symbol that an object of a program asks others for.
 use crate::causes::Refusal;
 
 /// The state of a file among many.
@@ -27,4 +27,27 @@ pub enum FileSort {
     Archive,
     /// Of another kind.
     Foreign,
+}
+
+/// The state of a symbol that an object asks others for.
+#[derive(Clone, Copy)]
+pub enum BindingState {
+    /// An object defines it.
+    Bound {
+        /// The index of the object.
+        object: u16,
+        /// The index of the symbol there.
+        symbol: u64,
+    },
+    /// No object defines it, and it is weak.
+    Weak,
+    /// No object defines it.
+    Unbound,
+    /// No object defines it, and the one of which it asks for a version defines versions without that one.
+    NoVersion,
+    /// The lookup is refused in an object.
+    Refused {
+        /// The index of the object.
+        object: u16,
+    },
 }

@@ -4,18 +4,17 @@ ghost use Rattle.arrayvec.specs.ArrayVec.{array_vec_len};
 ghost use Rattle.elf_model.specs.Fields.{with_fields};
 ghost use Rattle.elf_source.specs.Output.{Puts};
 ghost use Rattle.elf_fields.specs.Fronts.{front_of};
-ghost use Rattle.elf_needs.specs.BindingLines.{binding_front, binding_line, binding_word, definer_fields};
+ghost use Rattle.elf_model.specs.BindingLines.{binding_front, binding_line, binding_word, definer_fields};
 
-use crate::states::BindingState;
 use elf_fields::{
     Columns, Line, LineFront, Object, Render, begin_named, put_decimal, put_name_or_decimal,
     put_text, show_named,
 };
-use elf_model::Format;
+use elf_model::{BindingState, Format};
 use elf_source::{Out, OutFault, Sink};
 
 /// The `B` line of a symbol up to its name.
-#[tactic(auto, unfolding(crate::specs::BindingLines::binding_front))]
+#[tactic(auto, unfolding(elf_model::specs::BindingLines::binding_front))]
 fn binding_row<R: Render>(front: &mut LineFront, object: u16, symbol: u64, state: BindingState)
     ensures front { front_of front.new ≡ binding_front R.FORMAT object symbol state }
     ensures key { length front.new.key.now ≤ 16 }
@@ -52,7 +51,7 @@ fn put_definer<R: Render>(line: &mut Line, state: BindingState)
 }
 
 /// The word of a state in a symbol's line.
-#[tactic(auto, unfolding(crate::specs::BindingLines::binding_word))]
+#[tactic(auto, unfolding(elf_model::specs::BindingLines::binding_word))]
 fn binding_word(state: BindingState) -> &'static str
     ensures word { result.now ≡ binding_word state }
     ensures short { length result.now ≤ 8 }

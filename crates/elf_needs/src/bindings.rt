@@ -2,11 +2,12 @@
 use crate::binding_rows::show_binding;
 use crate::open_objects::OpenObjects;
 use crate::sought_names::SoughtNames;
-use crate::states::{BindingState, is_unbound, unbound_state};
+use crate::states::{is_unbound, unbound_state};
 use crate::walk::{NeedsFault, ObjectWalk};
 use elf_binding::{Blame, BoundName, SoughtSymbol, bind};
 use elf_headers::Fault;
 use elf_lines::show_refusal;
+use elf_model::BindingState;
 use elf_record::{Cause, Refusal};
 use elf_source::{Sink, Source};
 

@@ -22,5 +22,6 @@ pub use object_rows::{show_object, show_too_many};
 pub use open_objects::OpenObjects;
 pub use room::NeedsRoom;
 pub use search::SearchedFolders;
-pub use states::{BindingState, ObjectState};
+pub use elf_model::BindingState;
+pub use states::ObjectState;
 pub use walk::{NeedsFault, NeedsSettings, ObjectWalk, OpenFiles};

@@ -1,5 +1,10 @@
 //! The name and the version that a symbol asks others for.
+ghost use Rattle.std.specs.Prelude.{◌≡◌};
+ghost use Rattle.arrayvec.specs.ArrayVec.{array_vec_len};
+ghost use Rattle.elf_binding.specs.Sought.{asked_if};
 ghost use Rattle.elf_loader.specs.Lookups.{AreShort};
+ghost use Rattle.elf_model.specs.BindingLines.{sought_name};
+ghost use Rattle.elf_model.specs.Loader.{asked_name};
 ghost use Rattle.elf_wanted.specs.Wants.{the_wanted};
 
 use arrayvec::ArrayVec;
@@ -36,19 +41,11 @@ impl SoughtNames {
         }
     }
 
-    /// Puts the name together with the version, if there is one.
-    pub(crate) fn show(&mut self, versioned: bool) {
-        self.shown.clear();
-        let _ = self.shown.try_extend_from_slice(self.name.bytes());
-        if versioned {
-            let _ = self.shown.try_push(b'@');
-            let _ = self.shown.try_extend_from_slice(self.version.bytes());
-        }
-    }
-
     /// What is looked for.
     pub(crate) fn wanted(&self, versioned: bool) -> Wanted<'_>
-        ensures { AreShort (the_wanted result) }
+        ensures short { AreShort (the_wanted result) }
+        ensures name { (the_wanted result).name ≡ self.now.name }
+        ensures asked { (the_wanted result).asked ≡ asked_if versioned self.now.version }
     {
         let name = self.name.bytes();
         if !versioned {
@@ -61,5 +58,18 @@ impl SoughtNames {
             name,
             asked: Asked::Version(self.version.bytes()),
         }
+    }
+}
+
+/// Puts a name together with its version, if there is one.
+pub(crate) fn show_name(name: &NameBuf, version: &NameBuf, versioned: bool, shown: &mut ShownName)
+    ensures { shown.new.items ≡ sought_name name.now
+        (asked_name (asked_if versioned version.now)) }
+{
+    shown.clear();
+    shown.try_extend_from_slice(name.bytes()).unwrap();
+    if versioned {
+        shown.try_push(b'@').unwrap();
+        shown.try_extend_from_slice(version.bytes()).unwrap();
     }
 }

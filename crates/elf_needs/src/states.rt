@@ -1,8 +1,8 @@
 //! What is told of an object that a program needs, and of a symbol that it asks others for.
 ghost use Rattle.std.specs.Prelude.{◌≡◌};
-ghost use Rattle.elf_needs.specs.BindingLines.{is_unbound, unbound_state};
+ghost use Rattle.elf_model.specs.BindingLines.{is_unbound, unbound_state};
 
-use elf_model::Refusal;
+use elf_model::{BindingState, Refusal};
 
 /// The state of an object.
 #[derive(Clone, Copy)]
@@ -13,29 +13,6 @@ pub enum ObjectState {
     Missing,
     /// It was found, and is refused.
     Refused(Refusal),
-}
-
-/// The state of a symbol that an object asks others for.
-#[derive(Clone, Copy)]
-pub enum BindingState {
-    /// An object defines it.
-    Bound {
-        /// The index of the object.
-        object: u16,
-        /// The index of the symbol there.
-        symbol: u64,
-    },
-    /// No object defines it, and it is weak.
-    Weak,
-    /// No object defines it.
-    Unbound,
-    /// No object defines it, and the one of which it asks for a version defines versions without that one.
-    NoVersion,
-    /// The lookup is refused in an object.
-    Refused {
-        /// The index of the object.
-        object: u16,
-    },
 }
 
 /// The state of a symbol that no object defines, where the object of which it asks for a version lacks that

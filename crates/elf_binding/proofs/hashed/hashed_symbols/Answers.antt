@@ -5,7 +5,7 @@ use Rattle.elf_hash.specs.Scopes.{place_of_table}
 use Rattle.elf_hash.specs.declared.place.HashPlace.{HashPlace}
 use Rattle.elf_headers.proofs.LedgerLaws.{Did-as, Did-then}
 use Rattle.elf_binding.proofs.DefinerLaws.{few_counts}
-use Rattle.elf_binding.proofs.SoughtLaws.{extends, uncounted}
+use Rattle.elf_binding.proofs.SoughtLaws.{extends, uncounted, unextended}
 use Rattle.elf_binding.proofs.hashed.hashed_symbols.Goals as goal
 
 pub returns-in_err-table : goal.returns-in_err-table
@@ -16,12 +16,22 @@ returns-in_err-table g c =
     (Did-as _ (omega (arith, few)) c.in_err-table.ensures.did
     (λ file counts costs told is. uncounted file told _ (counts told is)))
 
+pub returns-in_err-count : goal.returns-in_err-count
+returns-in_err-count g c =
+    let p = err_from_is_err_and c.from_residual-in_err-count.result c.from_residual-in_err-count.ensures.1 in
+    let few = few_counts c.args.place.now.kind in
+    let table : place_of_table c.in_ok-table.table ≡ c.args.place.now = c.in_ok-table.ensures.same in
+    let same = ap (λ (p : HashPlace). p.size) table in
+    rw (p.1, p.2)
+    (Did-as _ (omega (arith, few, same)) (Did-then c.in_ok-table.ensures.did c.in_err-count.ensures.did)
+    (λ file read costs told is. unextended file told _ (read.1 told (read.0 told is).1).tells))
+
 pub returns : goal.returns
 returns g c =
     let few = few_counts c.args.place.now.kind in
     let table : place_of_table c.in_ok-table.table ≡ c.args.place.now = c.in_ok-table.ensures.same in
     let same = ap (λ (p : HashPlace). p.size) table in
-    Did-as _ (omega (arith, few, same)) (Did-then c.in_ok-table.ensures.did c.symbol_extent.ensures.did)
+    Did-as _ (omega (arith, few, same)) (Did-then c.in_ok-table.ensures.did c.in_ok-count.ensures.did)
     (λ file read costs told is.
     let counts = read.0 told is in
-    extends file told _ counts.0 (read.1 told counts.1).tells)
+    rw (c.min.ensures) (extends file told c.in_ok-count.count c.args.place.now.symbols counts.0 (read.1 told counts.1).tells is.table.symbols))

@@ -7,15 +7,15 @@ use Rattle.elf_model.specs.Loader.{symbol_offset}
 use Rattle.elf_binding.proofs.SoughtLaws.{asks, nameless, nothing, symbol_is, versionless}
 use Rattle.elf_binding.proofs.sought.sought_symbol.Goals as goal
 
-pub returns-then-not-is_sought : goal.returns-then-not-is_sought
-returns-then-not-is_sought g c =
+pub returns-then-not-is_sought-clause-did : goal.returns-then-not-is_sought-clause-did
+returns-then-not-is_sought-clause-did g c =
     Did-as _ (omega arith) (Did-of c.symbol.ensures.reads tt c.in_ok-symbol.ensures.read)
     (λ file read costs told is.
     let here = symbol_is file told c.args.symbols.now c.args.index c.in_ok-symbol.symbol is c.args.symbols.now.rows c.requires.below read in
     nothing file told c.args.symbols.now c.args.index c.in_ok-symbol.symbol is c.args.symbols.now.rows c.requires.below read (sym (c.is_sought.ensures file _ here) ∙ c.if-not-is_sought.true))
 
-pub returns-in_err-whole_name : goal.returns-in_err-whole_name
-returns-in_err-whole_name g c =
+pub returns-in_err-whole_name-clause-did : goal.returns-in_err-whole_name-clause-did
+returns-in_err-whole_name-clause-did g c =
     let p = err_from_is_err_and c.from_residual-in_err-whole_name.result c.from_residual-in_err-whole_name.ensures.1 in
     let off = c.from.ensures in
     let place = c.place-place.ensures in
@@ -26,26 +26,32 @@ returns-in_err-whole_name g c =
     nameless file told c.args.symbols.now c.args.index c.in_ok-symbol.symbol is c.args.symbols.now.rows c.requires.below read.0 (sym (c.is_sought.ensures file _ here) ∙ c.if-not-is_sought.false)
     (is_weak file (symbol_offset told c.args.index)) c.whole_name.new.name c.args.version.now _ (rw (off, place) at read.1)))
 
-pub returns-in_err-asked : goal.returns-in_err-asked
-returns-in_err-asked g c =
+pub returns-in_err-asked-clause-did : goal.returns-in_err-asked-clause-did
+returns-in_err-asked-clause-did g c =
     let p = err_from_is_err_and c.from_residual-in_err-asked.result c.from_residual-in_err-asked.ensures.1 in
     let off = c.from.ensures in
     let place = c.place-place.ensures in
     rw (p.1, p.2)
-    (Did-as _ (omega arith) (Did-then (Did-then (Did-of c.symbol.ensures.reads tt c.in_ok-symbol.ensures.read) c.in_ok-whole_name.ensures) c.in_err-asked.ensures)
+    (Did-as _ (omega arith) (Did-then (Did-then (Did-of c.symbol.ensures.reads tt c.in_ok-symbol.ensures.read) c.in_ok-whole_name.ensures) c.in_err-asked.ensures.did)
     (λ file read costs told is.
     let here = symbol_is file told c.args.symbols.now c.args.index c.in_ok-symbol.symbol is c.args.symbols.now.rows c.requires.below read.0.0 in
     versionless file told c.args.symbols.now c.args.index c.in_ok-symbol.symbol is c.args.symbols.now.rows c.requires.below read.0.0 (sym (c.is_sought.ensures file _ here) ∙ c.if-not-is_sought.false)
     c.whole_name.new.name (rw (off, place) at read.0.1) (is_weak file (symbol_offset told c.args.index)) c.sought_version.new.version _ (read.1 told is)))
 
-pub returns : goal.returns
-returns g c =
+pub returns-clause-did : goal.returns-clause-did
+returns-clause-did g c =
     let off = c.from.ensures in
     let place = c.place-place.ensures in
-    Did-as _ (omega arith) (Did-then (Did-then (Did-of c.symbol.ensures.reads tt c.in_ok-symbol.ensures.read) c.in_ok-whole_name.ensures) c.in_ok-asked.ensures)
+    Did-as _ (omega arith) (Did-then (Did-then (Did-of c.symbol.ensures.reads tt c.in_ok-symbol.ensures.read) c.in_ok-whole_name.ensures) c.in_ok-asked.ensures.did)
     (λ file read costs told is.
     let here = symbol_is file told c.args.symbols.now c.args.index c.in_ok-symbol.symbol is c.args.symbols.now.rows c.requires.below read.0.0 in (
       asks file told c.args.symbols.now c.args.index c.in_ok-symbol.symbol is c.args.symbols.now.rows c.requires.below read.0.0 (sym (c.is_sought.ensures file _ here) ∙ c.if-not-is_sought.false)
           c.whole_name.new.name (rw (off, place) at read.0.1) c.sought_version.new.version c.in_ok-asked.asked.versioned (read.1 told is),
       c.is_weak.ensures file _ here,
     ))
+
+pub returns-clause-file : goal.returns-clause-file
+returns-clause-file g c =
+    λ file held told is.
+    c.in_ok-asked.ensures.file file
+    (c.in_ok-whole_name.ensures.costs.reads.keeps.same_file ∙ c.symbol.ensures.reads.keeps.same_file ∙ held) told is

@@ -2,8 +2,8 @@
 use Rattle.std.proofs.Common.{List, None, Ok, arith}
 use Rattle.elf_headers.proofs.LedgerLaws.{Charges-none, Did-as, Did-none}
 use Rattle.elf_model.specs.Loader.{RecordReading, naming_of}
-use Rattle.elf_loader.specs.Naming.{NamesBefore}
-use Rattle.elf_loader.proofs.NamingLaws.{names-none}
+use Rattle.elf_loader.specs.Naming.{NamesBefore, NamesFile}
+use Rattle.elf_loader.proofs.NamingLaws.{file-none, names-none}
 use Rattle.elf_loader.proofs.TablesLaws.{none-before, one-before}
 use Rattle.elf_loader.proofs.naming.name_in_any.Goals as goal
 
@@ -24,3 +24,18 @@ returns-in-Some-clause-did g c =
     one-before file told others c.in-Some.records
     (λ (all : List RecordReading). NamesBefore file c.args.src.now c.name_in_table.new.src (naming_of file c.args.number all) (naming_of file c.args.number others) c.name_in_table.result)
     (λ one is. read one others is) are))
+
+pub returns-in-None-clause-file : goal.returns-in-None-clause-file
+returns-in-None-clause-file g c =
+    rw c.in-None.is
+    (λ file held told others are.
+    none-before file told others (λ (all : List RecordReading). NamesFile file c.args.number all others c.args.file.now c.args.file.now (Ok None))
+    (file-none file c.args.number others c.args.file.now) are)
+
+pub returns-in-Some-clause-file : goal.returns-in-Some-clause-file
+returns-in-Some-clause-file g c =
+    rw c.in-Some.is
+    (λ file held told others are.
+    one-before file told others c.in-Some.records
+    (λ (all : List RecordReading). NamesFile file c.args.number all others c.args.file.now c.name_in_table.new.file c.name_in_table.result)
+    (λ one is. c.name_in_table.ensures.file file held one others is) are)

@@ -3,12 +3,13 @@ use Rattle.std.proofs.Common.{◌≡◌, ◌-◌, sym, ◌∙◌, arith}
 use Rattle.std.proofs.lemmas.Result.{err_from_is_err_and}
 use Rattle.elf_headers.proofs.Absent.{none-of}
 use Rattle.elf_headers.proofs.LedgerLaws.{Did-as, Did-none, Did-then}
+use Rattle.elf_model.specs.BoundSymbols.{file_or}
 use Rattle.elf_model.specs.Loader.{naming_of}
 use Rattle.elf_table.specs.Tables.{strings_in}
 use Rattle.elf_versions.specs.Reading.{unread}
 use Rattle.elf_versions.proofs.TakenLaws.{going-did}
 use Rattle.elf_loader.proofs.LeftReadings.{left_of}
-use Rattle.elf_loader.proofs.NamingLaws.{ended-as, fault-left, fault-names, here-as, later-as, spent-read, start-as}
+use Rattle.elf_loader.proofs.NamingLaws.{ended-as, fault-left, fault-names, file-ended, file-here, file-later, file-starts, here-as, later-as, spent-read, start-as}
 use Rattle.elf_loader.proofs.RecordWalk.{gone-most, gone_by, walk-gives, walk-next, walk-pays, walk-spends, walk-starts}
 use Rattle.elf_loader.proofs.naming.name_in_table.Goals as goal
 
@@ -22,6 +23,7 @@ records-init g c =
             c.one_by_one-cursor.ensures.agrees file,
             λ t others is. start-as file c.args.number t c.args.records.now others c.one_by_one-cursor.result _ (omega (arith, starts.left)) starts is,
           ));
+      last = λ file held t others is met was. (met, was, file-starts file c.args.number t c.args.records.now others c.one_by_one-cursor.result met starts is);
     }
 
 pub advance-requires : goal.advance-requires
@@ -80,6 +82,17 @@ records-preserved g c =
                 later-as file (strings_in file c.args.records.now.names) c.args.number gives.met (left_of file t.strings others l.cursor) (left_of file t.strings others new) _ _ _ (omega (arith, leaves.2, i.walks.fewer))
                 (walk-gives i.walks a.keeps file t others is leaves gives step.leads) (sym (c.names_number.ensures file gives.met gives.is) ∙ c.if-names_number.false) (before.1 t others is),
           ));
+      last = λ file held t others is met was.
+          let told = (Did-then i.so_far (going-did l.cursor.failed _ i.walks.going (rw c.in-Some.is at a.did))).known file held in
+          let step = told.1 told.0.0 in
+          let gives = step.tells i.walks.going in
+          let before = i.last file held t others is met was in (
+            file_or gives.met before.0,
+            c.file_of.ensures file gives.met before.0 gives.is before.1,
+            before.2
+            ∙ file-later file c.args.number (strings_in file c.args.records.now.names) gives.met (left_of file t.strings others l.cursor) (left_of file t.strings others new) before.0
+            (walk-gives i.walks a.keeps file t others is leaves gives step.leads) (sym (c.names_number.ensures file gives.met gives.is) ∙ c.if-names_number.false),
+          );
     }
 
 pub returns-clause-did : goal.returns-clause-did
@@ -99,3 +112,32 @@ returns-clause-did g c =
       costs _ (omega (arith, spent)),
       ended-as file t.strings c.args.number others l.cursor new _ _ (step.tells i.walks.going) (before.1 t others is),
     ))
+
+pub returns-then-names_number-clause-file : goal.returns-then-names_number-clause-file
+returns-then-names_number-clause-file g c =
+    let l = c.records in
+    let i = l.invariant in
+    let a = c.in_ok-given.ensures in
+    let new = c.advance.new.self in
+    let leaves = rw c.in-Some.is at a.leaves in
+    λ file held t others is met was.
+    let told = (Did-then i.so_far (going-did l.cursor.failed _ i.walks.going (rw c.in-Some.is at a.did))).known file held in
+    let step = told.1 told.0.0 in
+    let gives = step.tells i.walks.going in
+    let before = i.last file held t others is met was in
+    let here = file-here file c.args.number (strings_in file c.args.records.now.names) gives.met (left_of file t.strings others l.cursor) (left_of file t.strings others new) before.0
+        (walk-gives i.walks a.keeps file t others is leaves gives step.leads) (sym (c.names_number.ensures file gives.met gives.is) ∙ c.if-names_number.true) in
+    rw (before.2, here) before.1
+
+pub returns-clause-file : goal.returns-clause-file
+returns-clause-file g c =
+    let l = c.records in
+    let i = l.invariant in
+    let a = c.in_ok-given.ensures in
+    let new = c.advance.new.self in
+    let none = none-of c.in_ok-given.field-0 c.in_default.not-Some in
+    λ file held t others is met was.
+    let told = (Did-then i.so_far (going-did l.cursor.failed _ i.walks.going (rw none at a.did))).known file held in
+    let step = told.1 told.0.0 in
+    let before = i.last file held t others is met was in
+    (before.0, before.1, before.2 ∙ file-ended file c.args.number t.strings others l.cursor new before.0 (step.tells i.walks.going))

@@ -1,12 +1,12 @@
 -- The definitions, and then the needs.
-use Rattle.std.proofs.Common.{[], ap, arith}
+use Rattle.std.proofs.Common.{[], ap, ◌∙◌, arith}
 use Rattle.std.proofs.lemmas.Result.{err_from_is_err_and}
 use Rattle.elf_headers.proofs.LedgerLaws.{Did-as, Did-then}
 use Rattle.elf_model.specs.Loader.{naming_of}
 use Rattle.elf_scope.specs.Symbols.{table_if_any}
 use Rattle.elf_headers.proofs.Absent.{none-of}
 use Rattle.elf_loader.specs.Tables.{most_of, readings_before}
-use Rattle.elf_loader.proofs.NamingLaws.{fault-of, names-then, some-of}
+use Rattle.elf_loader.proofs.NamingLaws.{fault-of, file-some, file-then, names-then, some-of}
 use Rattle.elf_loader.proofs.TablesLaws.{part, read-parted, sum-pays}
 use Rattle.elf_loader.proofs.naming.name_of.Goals as goal
 
@@ -42,3 +42,22 @@ returns-clause-did g c =
     let e = read-parted file told (table_if_any c.args.symbols.now.definitions) (table_if_any c.args.symbols.now.needs) parts in
     names-then file c.args.src.now c.name_in_any.new.src c.name_in_any-2.new.src _ _ (naming_of file c.args.number (readings_before file parts.back [])) (naming_of file c.args.number []) c.name_in_any-2.result
     (ap (naming_of file c.args.number) e) (read.0 parts.front (readings_before file parts.back []) parts.are_front) (read.1 parts.back [] parts.are_back))
+
+pub returns-in-Some-clause-file : goal.returns-in-Some-clause-file
+returns-in-Some-clause-file g c =
+    λ file held told are.
+    let parts = part file told (table_if_any c.args.symbols.now.definitions) (table_if_any c.args.symbols.now.needs) are in
+    let e = read-parted file told (table_if_any c.args.symbols.now.definitions) (table_if_any c.args.symbols.now.needs) parts in
+    file-some file c.args.number _ _ (readings_before file parts.back []) c.name_in_any.new.file c.in-Some.named e
+    ((rw c.in-Some.is at c.in_ok-named.ensures.file) file held parts.front (readings_before file parts.back []) parts.are_front)
+
+pub returns-clause-file : goal.returns-clause-file
+returns-clause-file g c =
+    let none = none-of c.in_ok-named.field-0 c.in_default.not-Some in
+    λ file held told are.
+    let parts = part file told (table_if_any c.args.symbols.now.definitions) (table_if_any c.args.symbols.now.needs) are in
+    let e = read-parted file told (table_if_any c.args.symbols.now.definitions) (table_if_any c.args.symbols.now.needs) parts in
+    let held_on = c.in_ok-named.ensures.did.costs.reads.keeps.same_file ∙ held in
+    file-then file c.args.number _ _ (readings_before file parts.back []) [] c.name_in_any.new.file c.name_in_any-2.new.file c.name_in_any-2.result e
+    ((rw none at c.in_ok-named.ensures.file) file held parts.front (readings_before file parts.back []) parts.are_front)
+    (c.name_in_any-2.ensures.file file held_on parts.back [] parts.are_back)

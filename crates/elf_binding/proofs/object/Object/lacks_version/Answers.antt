@@ -17,4 +17,12 @@ returns g c =
     let few = mul-le-mul_right (record_cost (Version c.args.version.now)) (most_all scope.symbols source.seen.size kept.lies.symbols) in
     let spent = spent_off c.args.left.now c.take_off.new.left set (Charges-more (source.seen.size / 8 * record_cost (Version c.args.version.now)) (omega (arith, few)) did.costs) c.limit-2.ensures
     (rw (c.asked.ensures, c.asked-asked.ensures) at c.take_off.ensures) in
-    rw (← c.self.view_is) (record { costs = spent.0; same_headers = refl; pays = spent.1 })
+    rw (← c.self.view_is)
+    (record {
+      costs = spent.0;
+      same_headers = refl;
+      pays = spent.1;
+      known = λ file held.
+          let is = kept.known file held in
+          (is.told, is.found, did.known file (rw set.seen held) is.told is.is.symbols);
+    })

@@ -12,7 +12,7 @@ returns g c =
     let scope = c.self.inside.scope in
     let kept = c.self.invariant in
     let set = c.limit.ensures in
-    let did = c.sought_of-sought.ensures in
+    let did = c.sought_of-sought.ensures.did in
     let few = mul-le-mul_right 28 (most_all scope.symbols source.seen.size kept.lies.symbols) in
     let spent = spent_off c.args.left.now c.take_off.new.left set (Charges-more (sought_bytes source.seen.size) (omega (arith, few)) did.costs) c.limit-2.ensures
     (rw (c.asked.ensures, c.asked-asked.ensures) at c.take_off.ensures) in
@@ -26,4 +26,9 @@ returns g c =
           let same : is.told ≡ told = let e = is.found in let f = found in cc in
           let here = rw same at is.is in
           did.known file (rw set.seen held) told.symbols here.symbols (omega (arith, below, here.count, kept.lies.count));
+      of_file = λ file told held found below.
+          let is = kept.known file held in
+          let same : is.told ≡ told = let e = is.found in let f = found in cc in
+          let here = rw same at is.is in
+          c.sought_of-sought.ensures.file file (rw set.seen held) told.symbols here.symbols;
     })

@@ -1,5 +1,5 @@
 -- The count between a limit that is set and taken away.
-use Rattle.std.proofs.Common.{◌≡◌, ◌+◌, ◌≤◌, refl, arith}
+use Rattle.std.proofs.Common.{◌+◌, ◌≤◌, refl, arith}
 use Rattle.elf_headers.proofs.LedgerLaws.{Charges-more}
 use Rattle.elf_binding.proofs.DefinerLaws.{place_of}
 use Rattle.elf_binding.proofs.SpendLaws.{spent_off}
@@ -20,8 +20,7 @@ returns g c =
       costs = spent.0;
       same_headers = refl;
       pays = spent.1;
-      known = λ file told held found.
+      known = λ file held.
           let is = kept.known file held in
-          let same : is.told ≡ told = let e = is.found in let f = found in cc in
-          did.known file (rw set.seen held) told (place_of file told scope (rw same at is.is));
+          (is.told, is.found, did.known file (rw set.seen held) is.told (place_of file is.told scope is.is));
     })

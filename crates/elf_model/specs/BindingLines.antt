@@ -6,8 +6,8 @@ use Rattle.elf_model.specs.Lines.{named_line}
 use Rattle.elf_model.specs.Loader.{AT_SIGN}
 use Rattle.elf_model.specs.Names.Shown.{Whole}
 use Rattle.elf_model.specs.declared.formats.Format.{Format}
-use Rattle.elf_needs.specs.declared.states.BindingState.{BindingState}
-use Rattle.elf_needs.specs.declared.states.BindingState.TheVariants as state
+use Rattle.elf_model.specs.declared.states.BindingState.{BindingState}
+use Rattle.elf_model.specs.declared.states.BindingState.TheVariants as state
 
 -- the word of a state
 unfoldable pub binding_word : BindingState → List ℕ

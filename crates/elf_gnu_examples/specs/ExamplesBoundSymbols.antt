@@ -1,0 +1,71 @@
+-- Worked examples of what binds the symbols of some objects, and of the lines of that.
+use Rattle.std.specs.Prelude.{ℕ, ◌≡◌, ◌==◌, Bool, true, false, if◌then◌else◌, List, [], ◌∷◌, ◌++◌, codes, Option, None, Some}
+use Rattle.elf_model.specs.BoundSymbols.{BoundItem, BoundObjects, Faulty, Told, bound_items, any_unbound, bound_text}
+use Rattle.elf_model.specs.Bytes.{little}
+use Rattle.elf_model.specs.Fixtures.{with_bytes}
+use Rattle.elf_model.specs.FixturesVersions.{versioned_without_sections}
+use Rattle.elf_model.specs.declared.causes.Cause.TheVariants.{HashShape, NameOutside}
+use Rattle.elf_model.specs.declared.causes.Refusal.{Refusal}
+use Rattle.elf_model.specs.declared.formats.Format.TheVariants.{Columns}
+use Rattle.elf_model.specs.declared.states.BindingState.{BindingState}
+use Rattle.elf_model.specs.declared.states.BindingState.TheVariants as state
+
+-- a library that asks for a version of `puts`, of a needed file, and defines two versions of `f`; with a weak `puts`; that asks
+-- others for its last `f`; that has a hash table without a bucket; and whose `puts` has a name outside the strings
+abbrev library : List ℕ
+library = versioned_without_sections
+
+abbrev weak : List ℕ
+weak = with_bytes 0xfc (little 1 0x22) library
+
+abbrev asking : List ℕ
+asking = with_bytes 0x146 (little 2 0) library
+
+abbrev shapeless : List ℕ
+shapeless = with_bytes 0xb0 (little 4 0) library
+
+abbrev nameless : List ℕ
+nameless = with_bytes 0xf8 (little 4 0x30) asking
+
+-- the objects 0 and so on but for 1, which is not looked in; the needed file is the object of an index, if it is one
+abbrev objects_of : List (List ℕ) → Option ℕ → BoundObjects
+objects_of files libc = record { files = files; indexes = 0 ∷ 2 ∷ 3 ∷ []; headers = 8; called = λ name. libc }
+
+-- what is told of `puts`
+abbrev puts : ℕ → BindingState → BoundItem
+puts object found = Told object 1 found (codes "puts@GLIBC_2.2.5")
+
+abbrev AreBound : List (List ℕ) → Option ℕ → List BoundItem → Type 0
+AreBound files libc items = bound_items (objects_of files libc) ≡ items
+
+-- the first object that defines it is the definer, by its index among all
+abbrev pub FirstBinds : Type 0
+FirstBinds =
+    AreBound (asking ∷ library ∷ library ∷ []) None
+    (puts 0 state.Unbound ∷ Told 0 4 (state.Bound 2 4) (codes "f@V2") ∷ puts 2 state.Unbound ∷ puts 3 state.Unbound ∷ [])
+
+-- none defines it: a weak one may be undefined; the object of the needed file has versions and not that one; or it is not looked
+-- in, or there is none
+abbrev pub NoneBinds : Type 0
+NoneBinds =
+    AreBound (weak ∷ library ∷ []) (Some 2) (puts 0 state.Weak ∷ puts 2 state.NoVersion ∷ [])
+    × AreBound (library ∷ []) (Some 1) (puts 0 state.Unbound ∷ [])
+    × AreBound (library ∷ []) None (puts 0 state.Unbound ∷ [])
+
+-- a lookup that is refused in an object ends there, and is told of the symbol; a fault of an object's own symbols is the last that
+-- is told of it
+abbrev pub FaultsAreTold : Type 0
+FaultsAreTold =
+    AreBound (library ∷ shapeless ∷ []) None
+    (puts 0 (state.Refused 2) ∷ Faulty (record { at = 0x250; cause = HashShape }) ∷ [])
+    × AreBound (nameless ∷ library ∷ []) None (Faulty (record { at = 0xf8; cause = NameOutside }) ∷ puts 2 state.Unbound ∷ [])
+
+-- the lines, and whether they tell that something is missing
+abbrev pub LinesTell : Type 0
+LinesTell =
+    let all = bound_items (objects_of (asking ∷ weak ∷ []) None) in
+    (bound_text Columns all
+        ≡ codes "B     0          1 unbound  -     -          puts@GLIBC_2.2.5\n" ++ codes "B     0          4 bound        2          4 f@V2\n"
+        ++ codes "B     2          1 weak     -     -          puts@GLIBC_2.2.5\n")
+    × (any_unbound all ≡ true)
+    × (any_unbound (bound_items (objects_of (weak ∷ []) None)) ≡ false)

@@ -1,0 +1,192 @@
+-- From where the symbols come that the objects of a program ask others for: each object's symbols in order, with what binds each,
+-- as a loader of the GNU system binds them over all objects in order (gABI 5, Shared Object Dependencies), and the lines of these.
+use Rattle.std.specs.Prelude.{ℕ, zero, suc, ◌-◌, ◌==◌, ◌||◌, nat_lt, if◌then◌else◌, Bool, true, false, List, [], ◌∷◌, ◌++◌, length, get_or, position, Option, None, Some, Result, Ok, Err}
+use Rattle.elf_model.specs.BindingLines.{binding_line, is_unbound, sought_name, unbound_state}
+use Rattle.elf_model.specs.Bindings.{Binding, BoundTo, BoundToNone, StoppedIn, bound_in, is_weak, sought_at, symbols_hashed, whole_name}
+use Rattle.elf_model.specs.Lines.{refusal_line}
+use Rattle.elf_model.specs.Loader.{Meets, Misses, RecordReading, RecordTable, Refuses, Symbols, Wanted, asked_name, compared_with, readings, symbol_offset, version_word_at}
+use Rattle.elf_model.specs.LoaderScope.{Scope, scope_of}
+use Rattle.elf_model.specs.Records.{versym}
+use Rattle.elf_model.specs.Versions.{Met, name_index, named_at, names_number, number_in}
+use Rattle.elf_model.specs.declared.causes.Refusal.{Refusal}
+use Rattle.elf_model.specs.declared.formats.Format.{Format}
+use Rattle.elf_model.specs.declared.states.BindingState.{BindingState}
+use Rattle.elf_model.specs.declared.states.BindingState.TheVariants as state
+use Rattle.elf_model.specs.declared.versions.VersionKind.{VersionKind}
+use Rattle.elf_model.specs.declared.versions.VersionKind.TheVariants.{Definition, File, Need}
+
+-- THE OBJECTS THAT ARE LOOKED IN, in order: the bytes of each one's file, its index among all objects of the program, how many
+-- headers are permitted in each, and the index of the first object that has a name: one that it was needed by or gives itself
+pub record BoundObjects : Type 0 where
+  pub files : List (List ℕ)
+  pub indexes : List ℕ
+  pub headers : ℕ
+  pub called : List ℕ → Option ℕ
+
+-- the index of the object at a place, and the file of the object of an index, if it is looked in
+abbrev pub index_at : BoundObjects → ℕ → ℕ
+index_at objects place = get_or objects.indexes place 0
+
+abbrev pub place_of : BoundObjects → ℕ → Option ℕ
+place_of objects index = position (λ other. other == index) objects.indexes
+
+-- THE NEEDED FILE of which the version of a number is one: the last that is met before the record of that number, where records
+-- of needed files are met before it
+abbrev pub file_or : Met → Option Met → Option Met
+file_or met before = elim met.kind [ Definition ↦ before | File ↦ Some met | Need ↦ before ]
+
+unfoldable pub file_before : List ℕ → (number : ℕ) → Option Met → List RecordReading → Option Met
+file_before file number before [] = None
+file_before file number before (Misses refusal ∷ others) = None
+file_before file number before (Refuses refusal ∷ others) = None
+file_before file number before (Meets strings met ∷ others) =
+    elim (names_number file number met) [
+      | true ↦ before
+      | false ↦ file_before file number (file_or met before) others
+    ]
+
+-- that of the version of a symbol, which has a word
+unfoldable pub file_of_version : List ℕ → Symbols → ℕ → Option Met
+file_of_version file symbols y = elim symbols.words [
+  | None ↦ None
+  | Some words ↦
+      let number = number_in (versym file (version_word_at words y)) in
+      if nat_lt number 2 then None else file_before file number None (readings file symbols.records)
+]
+
+-- A FILE LACKS A VERSION: it has definitions of versions, and none by that name. A record of theirs may be refused
+abbrev pub is_definition : VersionKind → Bool
+is_definition kind = elim kind [ Definition ↦ true | File ↦ false | Need ↦ false ]
+
+unfoldable pub definitions_among : List RecordTable → List RecordTable
+definitions_among [] = []
+definitions_among (table ∷ tables) =
+    if is_definition table.kind then table ∷ definitions_among tables else definitions_among tables
+
+abbrev pub is_none_of : List ℕ → Bool
+is_none_of [] = true
+is_none_of (number ∷ numbers) = false
+
+unfoldable pub lacks_among : List ℕ → (version : List ℕ) → List RecordTable → Result Bool Refusal
+lacks_among file version [] = Ok false
+lacks_among file version (table ∷ tables) =
+    let compared = compared_with file version (readings file (table ∷ tables)) in
+    elim compared.refused [ Some refusal ↦ Err refusal | None ↦ Ok (is_none_of compared.numbers) ]
+
+unfoldable pub lacks_version : List ℕ → Symbols → (version : List ℕ) → Result Bool Refusal
+lacks_version file symbols version = elim symbols.words [
+  | None ↦ Ok false
+  | Some words ↦ lacks_among file version (definitions_among symbols.records)
+]
+
+-- the same of the object of a name; it lacks none where there is no such object, or it is not looked in, or is refused
+unfoldable pub file_lacks : (headers : ℕ) → (version : List ℕ) → List ℕ → Bool
+file_lacks headers version file = elim (scope_of file headers) [
+  | Err refusal ↦ false
+  | Ok scope ↦ elim (lacks_version file scope.symbols version) [ Err refusal ↦ false | Ok lacks ↦ lacks ]
+]
+
+unfoldable pub object_lacks : BoundObjects → (name version : List ℕ) → Bool
+object_lacks objects name version = elim (objects.called name) [
+  | None ↦ false
+  | Some index ↦ elim (place_of objects index) [
+    | None ↦ false
+    | Some place ↦
+        if nat_lt place (length objects.files) then file_lacks objects.headers version (get_or objects.files place []) else false
+  ]
+]
+
+-- whether the object lacks a version of which a symbol asks for it; a weak symbol is not asked about. A fault of that object's name
+-- is at the record of the needed file
+unfoldable pub lacks_asked : BoundObjects → List ℕ → Symbols → ℕ → Option (List ℕ) → Result Bool Refusal
+lacks_asked objects file symbols y None = Ok false
+lacks_asked objects file symbols y (Some version) =
+    if is_weak file (symbol_offset symbols y) then Ok false
+    else elim (file_of_version file symbols y) [
+      | None ↦ Ok false
+      | Some met ↦ elim (whole_name symbols.strings (name_index file met) (named_at file met)) [
+        | Err refusal ↦ Err refusal
+        | Ok name ↦ Ok (object_lacks objects name version)
+      ]
+    ]
+
+-- WHAT BINDS A SYMBOL, which asks for this
+unfoldable pub state_by : BoundObjects → List ℕ → Symbols → ℕ → Wanted → Binding → Result BindingState Refusal
+state_by objects file symbols y wanted (BoundTo place symbol) = Ok (state.Bound (index_at objects place) symbol)
+state_by objects file symbols y wanted (StoppedIn place refusal) = Ok (state.Refused (index_at objects place))
+state_by objects file symbols y wanted BoundToNone = elim (lacks_asked objects file symbols y (asked_name wanted.asked)) [
+  | Err refusal ↦ Err refusal
+  | Ok lacks ↦ Ok (unbound_state (is_weak file (symbol_offset symbols y)) lacks)
+]
+
+abbrev pub state_in : BoundObjects → List ℕ → Symbols → ℕ → Wanted → Result BindingState Refusal
+state_in objects file symbols y wanted =
+    state_by objects file symbols y wanted (bound_in objects.headers wanted objects.files)
+
+-- WHAT IS TOLD OF AN OBJECT: what binds a symbol of it, which has an index there, under the name that it asks for; or the refusal
+-- of its own symbol, name or version, with which it ends
+pub data BoundItem : Type 0 where
+  Told : (object symbol : ℕ) → BindingState → (name : List ℕ) → BoundItem
+  Faulty : Refusal → BoundItem
+
+-- of one symbol of the object at a place: nothing where it asks for nothing
+abbrev pub told_as : (object symbol : ℕ) → Wanted → Result BindingState Refusal → Option BoundItem
+told_as object symbol wanted (Err refusal) = Some (Faulty refusal)
+told_as object symbol wanted (Ok found) = Some (Told object symbol found (sought_name wanted.name (asked_name wanted.asked)))
+
+unfoldable pub bound_item : BoundObjects → (place : ℕ) → List ℕ → Symbols → ℕ → Option BoundItem
+bound_item objects place file symbols y = elim (sought_at file symbols y) [
+  | Err refusal ↦ Some (Faulty refusal)
+  | Ok None ↦ None
+  | Ok (Some wanted) ↦ told_as (index_at objects place) y wanted (state_in objects file symbols y wanted)
+]
+
+-- what comes behind an item, or behind nothing: a fault is the last
+abbrev pub before_items : Option BoundItem → List BoundItem → List BoundItem
+before_items None items = items
+before_items (Some (Faulty refusal)) items = Faulty refusal ∷ []
+before_items (Some (Told object symbol found name)) items = Told object symbol found name ∷ items
+
+-- of so many symbols from one on
+unfoldable pub items_from : BoundObjects → (place : ℕ) → List ℕ → Symbols → (first count : ℕ) → List BoundItem
+items_from objects place file symbols y zero = []
+items_from objects place file symbols y (suc count) =
+    before_items (bound_item objects place file symbols y) (items_from objects place file symbols (suc y) count)
+
+-- of all symbols of an object, of which the first is none
+unfoldable pub counted_items : BoundObjects → (place : ℕ) → List ℕ → Scope → Result ℕ Refusal → List BoundItem
+counted_items objects place file scope (Err refusal) = Faulty refusal ∷ []
+counted_items objects place file scope (Ok count) = items_from objects place file scope.symbols 1 (count - 1)
+
+unfoldable pub object_items : BoundObjects → (place : ℕ) → List ℕ → List BoundItem
+object_items objects place file = elim (scope_of file objects.headers) [
+  | Err refusal ↦ []
+  | Ok scope ↦ counted_items objects place file scope (symbols_hashed file scope)
+]
+
+-- of the objects from a place on, whose files these are
+unfoldable pub objects_items : BoundObjects → (place : ℕ) → List (List ℕ) → List BoundItem
+objects_items objects place [] = []
+objects_items objects place (file ∷ files) = object_items objects place file ++ objects_items objects (suc place) files
+
+-- THE BINDINGS OF A PROGRAM'S OBJECTS
+abbrev pub bound_items : BoundObjects → List BoundItem
+bound_items objects = objects_items objects 0 objects.files
+
+-- the line of an item, and those of some
+abbrev pub item_line : Format → BoundItem → List ℕ
+item_line format (Told object symbol found name) = binding_line format object symbol found name
+item_line format (Faulty refusal) = refusal_line format refusal
+
+abbrev pub bound_text : Format → List BoundItem → List ℕ
+bound_text format [] = []
+bound_text format (item ∷ items) = item_line format item ++ bound_text format items
+
+-- an item tells that a symbol is missing, or cannot be told; and one of some does, so that the exit status is 1
+abbrev pub is_failed : BoundItem → Bool
+is_failed (Told object symbol found name) = is_unbound found
+is_failed (Faulty refusal) = true
+
+abbrev pub any_unbound : List BoundItem → Bool
+any_unbound [] = false
+any_unbound (item ∷ items) = is_failed item || any_unbound items
