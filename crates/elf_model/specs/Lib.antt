@@ -77,6 +77,7 @@ pub mod FixturesVersions
 pub mod Properties
 pub mod TraitNumbers
 pub mod Traits
+pub mod Links
 pub mod TraitWords
 pub mod TraitCost
 pub mod Bindings

@@ -1,0 +1,154 @@
+-- HOW A FILE IS LINKED, as its dynamic entries tell a loader (gABI 5, Dynamic Section and Shared Object Dependencies): which
+-- libraries it needs, what it is called as one, and where libraries are looked for. The definitions are over a file that tells of no
+-- section headers.
+use Rattle.std.specs.Prelude.{ℕ, zero, suc, ◌+◌, ◌-◌, ◌*◌, ◌/◌, ◌==◌, ◌||◌, nat_lt, Bool, true, false, if◌then◌else◌, List, [], ◌∷◌, ◌++◌, length, Option, None, Some, Result, Ok, Err}
+use Rattle.elf_model.specs.Checks.{first_refusal, header_checks, load_checks}
+use Rattle.elf_model.specs.Dynamic.{dynamic_count, listed_value}
+use Rattle.elf_model.specs.LoaderScope.{dynamic_segment_index, scope_by_segments}
+use Rattle.elf_model.specs.Mapped.{strings_at}
+use Rattle.elf_model.specs.Names.{name_bytes, shown}
+use Rattle.elf_model.specs.Names.Shown.{Whole, Cut}
+use Rattle.elf_model.specs.Numbers.{DT_NEEDED, DT_RPATH, DT_RUNPATH, DT_SONAME, DT_STRSZ, DT_STRTAB}
+use Rattle.elf_model.specs.Records.{FILE_HEADER_SIZE, PROGRAM_HEADER_SIZE, d_tag, d_un, p_filesz, p_offset, segment_at}
+use Rattle.elf_model.specs.Style.{without_sections}
+use Rattle.elf_model.specs.Tables.{DYNAMIC_SIZE, segment_dynamic_checks}
+use Rattle.elf_model.specs.Traits.{has_none}
+use Rattle.elf_model.specs.declared.causes.Cause.TheVariants.{TooLong}
+use Rattle.elf_model.specs.declared.causes.Refusal.{Refusal}
+
+-- how many bytes a text has at most
+abbrev pub LINK_TEXT_BYTES : ℕ
+LINK_TEXT_BYTES = 4096
+
+-- a library that is needed: where the entry stands that tells of it, and its name
+pub record NeededName : Type 0 where
+  pub at : ℕ
+  pub name : List ℕ
+
+-- WHAT A FILE'S ENTRIES TELL: the libraries that it needs, in order; its name as a library; where libraries are looked for, and the
+-- same in its place. Of the last three the first entry counts
+pub record LinkTexts : Type 0 where
+  pub needed : List NeededName
+  pub soname : Option (List ℕ)
+  pub rpath : Option (List ℕ)
+  pub runpath : Option (List ℕ)
+
+abbrev pub no_links : LinkTexts
+no_links = record { needed = []; soname = None; rpath = None; runpath = None }
+
+-- ROOM: for so many texts, of so many bytes together
+pub record TextRoom : Type 0 where
+  pub bytes : ℕ
+  pub texts : ℕ
+
+abbrev pub has_room : TextRoom → List ℕ → Bool
+has_room room text = if nat_lt room.bytes (length text) then false else nat_lt 0 room.texts
+
+-- what is left of it behind a text
+abbrev pub room_behind : TextRoom → List ℕ → TextRoom
+room_behind room text = record { bytes = room.bytes - length text; texts = room.texts - 1 }
+
+-- entries that have a text, the index of which in their strings is their value
+abbrev pub is_link : ℕ → Bool
+is_link tag = tag == DT_NEEDED || (tag == DT_SONAME || (tag == DT_RPATH || tag == DT_RUNPATH))
+
+-- THE TEXT of the entry at an offset, in the strings that entries locate by an address and a size: these and the text are refused at
+-- the entry, and so is a text that is longer than is read or for which there is no room
+unfoldable pub link_text : List ℕ → (address size : Option ℕ) → TextRoom → ℕ → Result (List ℕ) Refusal
+link_text file address size room at = elim (strings_at file at address size) [
+  | Err refusal ↦ Err refusal
+  | Ok strings ↦ elim (shown strings (d_un file at) LINK_TEXT_BYTES) [
+    | Err cause ↦ Err (record { at = at; cause = cause })
+    | Ok (Cut front) ↦ Err (record { at = at; cause = TooLong })
+    | Ok (Whole text) ↦ elim (has_room room text) [
+      | false ↦ Err (record { at = at; cause = TooLong })
+      | true ↦ Ok text
+    ]
+  ]
+]
+
+-- a text that was told, or one where an entry has a tag
+abbrev pub first_text : Option (List ℕ) → Bool → List ℕ → Option (List ℕ)
+first_text (Some told) is text = Some told
+first_text None true text = Some text
+first_text None false text = None
+
+-- a library more, where an entry has that tag
+abbrev pub needed_behind : List NeededName → Bool → NeededName → List NeededName
+needed_behind needed true name = needed ++ name ∷ []
+needed_behind needed false name = needed
+
+-- with the text of an entry of a tag, which stands at an offset
+unfoldable pub linked_by : (tag at : ℕ) → List ℕ → LinkTexts → LinkTexts
+linked_by tag at text links = record {
+  needed = needed_behind links.needed (tag == DT_NEEDED) (record { at = at; name = text });
+  soname = first_text links.soname (tag == DT_SONAME) text;
+  rpath = first_text links.rpath (tag == DT_RPATH) text;
+  runpath = first_text links.runpath (tag == DT_RUNPATH) text;
+}
+
+-- what entries tell, and the room that is left
+pub record LinkState : Type 0 where
+  pub links : LinkTexts
+  pub room : TextRoom
+
+-- with the entry at an offset
+unfoldable pub linked_with : List ℕ → (address size : Option ℕ) → (at : ℕ) → LinkState → Result LinkState Refusal
+linked_with file address size at linked = elim (is_link (d_tag file at)) [
+  | false ↦ Ok linked
+  | true ↦ elim (link_text file address size linked.room at) [
+    | Err refusal ↦ Err refusal
+    | Ok text ↦ Ok (record { links = linked_by (d_tag file at) at text linked.links; room = room_behind linked.room text })
+  ]
+]
+
+-- with so many entries from an offset on
+unfoldable pub linked_from : List ℕ → (address size : Option ℕ) → (at : ℕ) → LinkState → ℕ → Result LinkState Refusal
+linked_from file address size at linked zero = Ok linked
+linked_from file address size at linked (suc n) = elim (linked_with file address size at linked) [
+  | Err refusal ↦ Err refusal
+  | Ok more ↦ linked_from file address size (at + DYNAMIC_SIZE) more n
+]
+
+-- what the listed entries of a table of n tell, those up to and with the first DT_NULL
+unfoldable pub linked_in : List ℕ → (at n : ℕ) → TextRoom → Result LinkState Refusal
+linked_in file at n room =
+    linked_from file (listed_value file at n DT_STRTAB) (listed_value file at n DT_STRSZ) at
+    (record { links = no_links; room = room }) (dynamic_count file at n)
+
+-- what a lookup is made in is refused; a file without a hash table has none
+unfoldable pub lookup_refusal : List ℕ → Option Refusal
+lookup_refusal file = elim (scope_by_segments file) [
+  | Ok scope ↦ None
+  | Err refusal ↦ elim (has_none refusal.cause) [ true ↦ None | false ↦ Some refusal ]
+]
+
+-- what a file tells once its headers are loaded, or its first refusal: of what a lookup is made in; of the first segment of dynamic
+-- entries; of an entry
+unfoldable pub loaded_links : List ℕ → TextRoom → Result LinkState Refusal
+loaded_links file room = elim (lookup_refusal file) [
+  | Some refusal ↦ Err refusal
+  | None ↦ elim (dynamic_segment_index file) [
+    | None ↦ Ok (record { links = no_links; room = room })
+    | Some i ↦ elim (first_refusal (segment_dynamic_checks file (segment_at file i))) [
+      | Some refusal ↦ Err refusal
+      | None ↦ linked_in file (p_offset file (segment_at file i)) (p_filesz file (segment_at file i) / DYNAMIC_SIZE) room
+    ]
+  ]
+]
+
+unfoldable pub links_by_segments : List ℕ → (headers : ℕ) → TextRoom → Result LinkState Refusal
+links_by_segments file headers room = elim (first_refusal (header_checks file ++ load_checks file headers)) [
+  | Some refusal ↦ Err refusal
+  | None ↦ loaded_links file room
+]
+
+-- HOW A FILE IS LINKED, with so many headers permitted and so much room for its texts: whatever its section headers tell
+unfoldable pub links_of : List ℕ → (headers : ℕ) → TextRoom → Result LinkState Refusal
+links_of file headers room = links_by_segments (without_sections file) headers room
+
+-- how many bytes it asks for at most, by the file's length and how many headers are permitted: the headers, the dynamic entries three
+-- times, and a text for each
+unfoldable pub links_ceiling : (size headers : ℕ) → ℕ
+links_ceiling size headers =
+    FILE_HEADER_SIZE + headers * PROGRAM_HEADER_SIZE + 3 * size + size / DYNAMIC_SIZE * name_bytes LINK_TEXT_BYTES
