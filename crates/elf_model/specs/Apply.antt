@@ -54,7 +54,7 @@ value_checks taken (Ok value) = []
 value_checks taken (Err refusal) = record { fails = taken; refusal = refusal } ∷ []
 
 -- a value, or 0 where it is not there
-abbrev pub value_or_zero : Result ℕ Refusal → ℕ
+abbrev value_or_zero : Result ℕ Refusal → ℕ
 value_or_zero (Ok value) = value
 value_or_zero (Err refusal) = 0
 

@@ -62,7 +62,7 @@ layout_names_cost layout =
     + (lookup_cost layout.lookup layout.table + lookup_cost layout.lookup layout.thread))
 
 -- what one pass through the entries for a section may cost: for each the entry, a symbol and the layout's names
-abbrev pub pass_cost : List ℕ → ℕ → Layout → ℕ
+abbrev pass_cost : List ℕ → ℕ → Layout → ℕ
 pass_cost file section layout = length (entries_for file section) * (RELA_SIZE + SYMBOL_SIZE + layout_names_cost layout)
 
 -- the cost of applying once the section headers are read: so many passes through the entries, and the section

@@ -43,7 +43,7 @@ abbrev pub archive_length_checks : ℕ → List Check
 archive_length_checks size = refuse (not (nat_lt size (2 ^ 63))) 0 TooLong ∷ refuse (nat_lt size MAGIC_SIZE) 0 Short ∷ []
 
 -- the magic string
-abbrev pub magic_checks : List ℕ → List Check
+abbrev magic_checks : List ℕ → List Check
 magic_checks file =
     refuse (field file 0 8 == THIN_MAGIC) 0 Thin
     ∷ refuse (not (field file 0 8 == ARCHIVE_MAGIC)) 0 NotArchive
@@ -134,7 +134,7 @@ member_data file at =
     ]
 
 -- the place of the first slash
-abbrev pub slash_in : List ℕ → Option ℕ
+abbrev slash_in : List ℕ → Option ℕ
 slash_in bytes = position (λ b. b == 47) bytes
 
 -- the place of the first newline
@@ -273,7 +273,7 @@ unfoldable pub members_of : List ℕ → ℕ → Members
 members_of file cap = members_from (length file) file cap before_members
 
 -- the line of a member up to its name: its index, the offset and the size of its data
-abbrev pub member_fields : ℕ → ℕ → ℕ → Fields
+abbrev member_fields : ℕ → ℕ → ℕ → Fields
 member_fields index at size = record {
   letter = codes "A";
   fields = Decimal (codes "index") 5 index ∷ Hexadecimal (codes "offset") 16 at ∷ Hexadecimal (codes "size") 16 size ∷ [];

@@ -59,7 +59,7 @@ fault_fields (state.Refused refusal) =
 fault_fields _ = Hyphen ∷ []
 
 -- a file's state, and its fault
-abbrev pub check_fields : FileState → Fields
+abbrev check_fields : FileState → Fields
 check_fields found = record { letter = codes "C"; fields = Word (codes "state") 12 (state_word found) ∷ fault_fields found }
 
 -- a file's line up to its path

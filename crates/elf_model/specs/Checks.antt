@@ -83,7 +83,7 @@ early_checks_of e size headers =
     ∷ []
 
 -- what a file's header tells
-abbrev pub counts_in : List ℕ → Counts
+abbrev counts_in : List ℕ → Counts
 counts_in file = record {
   phoff = e_phoff file;
   shoff = e_shoff file;

@@ -23,7 +23,7 @@ use Rattle.elf_model.specs.declared.relocation_types.Formula.{Formula}
 use Rattle.elf_model.specs.declared.relocation_types.RelocationType.{RelocationType}
 
 -- no address is given for a section
-abbrev pub is_unplaced : Layout → ℕ → Bool
+abbrev is_unplaced : Layout → ℕ → Bool
 is_unplaced layout section = is_none (address_in layout.sections section)
 
 -- the symbol's section, where its index is one of a section, and it has no address

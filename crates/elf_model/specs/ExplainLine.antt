@@ -12,12 +12,12 @@ use Rattle.elf_model.specs.declared.relocation_types.Base.{Base}
 use Rattle.elf_model.specs.declared.relocation_types.Base.TheVariants.{Symbol, Linkage, Table, Thread}
 
 -- there is no name
-abbrev pub is_unnamed : Shown → Bool
+abbrev is_unnamed : Shown → Bool
 is_unnamed (Whole name) = length name == 0
 is_unnamed (Cut front) = false
 
 -- no item has this name: it is empty, or longer than the name of an item
-abbrev pub has_no_item : Shown → Bool
+abbrev has_no_item : Shown → Bool
 has_no_item (Whole name) = length name == 0
 has_no_item (Cut front) = true
 
@@ -42,7 +42,7 @@ abbrev pub item_text : List ℕ → List ℕ → List ℕ → List ℕ
 item_text word name tail = (word ++ name) ++ tail
 
 -- the item of a definition of a name
-abbrev pub definition_text : List ℕ → List ℕ
+abbrev definition_text : List ℕ → List ℕ
 definition_text name = item_text (codes "def:") name (codes "=ADDR would help\n")
 
 -- the item of a name that gives what a base tells; L is S without an entry, so that a definition would do too

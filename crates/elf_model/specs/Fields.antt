@@ -26,7 +26,7 @@ pub record Fields : Type 0 where
   pub letter : List ℕ
   pub fields : List Field
 
-abbrev pub key_of : Field → List ℕ
+abbrev key_of : Field → List ℕ
 key_of (Decimal key width n) = key
 key_of (Hexadecimal key digits n) = key
 key_of (Signed key n) = key
@@ -73,7 +73,7 @@ name_or_value (Some name) n = quoted name
 name_or_value None n = decimal n
 
 -- a field as the value of a member: each number in decimal, and each text as a string
-abbrev pub member_value : Field → List ℕ
+abbrev member_value : Field → List ℕ
 member_value (Decimal key width n) = decimal n
 member_value (Hexadecimal key digits n) = decimal n
 member_value (Signed key n) = signed_decimal n
@@ -104,7 +104,7 @@ with_fields format line [] = line
 with_fields format line (field ∷ fields) = with_fields format (with_field format line field space) fields
 
 -- a line's letter and fields
-abbrev pub fields_text : Format → Fields → List ℕ
+abbrev fields_text : Format → Fields → List ℕ
 fields_text format row = with_fields format (begun format row.letter) row.fields
 
 -- what stands before a line's name, how the line is written, and the key of the name

@@ -16,7 +16,7 @@ use Rattle.elf_model.specs.declared.states.FileSort.{FileSort}
 use Rattle.elf_model.specs.declared.states.FileSort.TheVariants as sort
 
 -- the line before what is listed of a file: its path
-abbrev pub path_fields : Fields
+abbrev path_fields : Fields
 path_fields = record { letter = codes "@"; fields = [] }
 
 unfoldable pub path_front : Format → LineFront
@@ -54,7 +54,7 @@ permits_bytes None n = true
 permits_bytes (Some budget) n = not (nat_lt budget n)
 
 -- a file begins with the magic string of an archive
-abbrev pub begins_as_archive : List ℕ → Bool
+abbrev begins_as_archive : List ℕ → Bool
 begins_as_archive file = nat_le MAGIC_SIZE (length file) && field file 0 8 == ARCHIVE_MAGIC
 
 -- WHAT A FILE IS, by its first bytes. One that has fewer than a magic number is of another kind; one whose first bytes the budget

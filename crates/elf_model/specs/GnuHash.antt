@@ -33,7 +33,7 @@ abbrev pub gnu_shift : List ℕ → ℕ → ℕ
 gnu_shift file place = field file (place + 12) 4
 
 -- where a word of the filter stands
-abbrev pub bloom_at : ℕ → ℕ → ℕ
+abbrev bloom_at : ℕ → ℕ → ℕ
 bloom_at place i = place + (16 + 8 * i)
 
 -- where the word of a bucket stands
@@ -67,7 +67,7 @@ abbrev pub is_set : ℕ → ℕ → Bool
 is_set word bit = word / 2 ^ bit % 2 == 1
 
 -- the word of the filter for a hash
-abbrev pub filter_word : List ℕ → ℕ → ℕ → ℕ
+abbrev filter_word : List ℕ → ℕ → ℕ → ℕ
 filter_word file place hash = field file (bloom_at place (hash / 64 % gnu_nbloom file place)) 8
 
 -- THE FILTER: two bits of that word are set for each hash that the table holds, by the hash and by its upper bits

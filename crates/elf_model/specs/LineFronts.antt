@@ -9,7 +9,7 @@ use Rattle.elf_model.specs.NameTables.{section_types, section_flags_text, symbol
 use Rattle.elf_model.specs.declared.formats.Format.{Format}
 
 -- a section: its index, type, flags, address, offset in the file, size, link and info
-abbrev pub section_fields : Bool → ℕ → List ℕ → ℕ → ℕ → Fields
+abbrev section_fields : Bool → ℕ → List ℕ → ℕ → ℕ → Fields
 section_fields gnu machine bytes at index = record {
   letter = codes "S";
   fields =
@@ -28,11 +28,11 @@ unfoldable pub section_front : Format → Bool → ℕ → List ℕ → ℕ → 
 section_front format gnu machine bytes at index = front format (codes "name") (section_fields gnu machine bytes at index)
 
 -- a number by its name in a table of names
-abbrev pub named_number : List ℕ → ℕ → List (ℕ × List ℕ) → ℕ → Field
+abbrev named_number : List ℕ → ℕ → List (ℕ × List ℕ) → ℕ → Field
 named_number key width names n = NameOrDecimal key width (name_of names n) n
 
 -- a symbol: the index of its section and its own, value, size, type, binding, visibility and place
-abbrev pub symbol_fields : Bool → ℕ → List ℕ → ℕ → ℕ → ℕ → Fields
+abbrev symbol_fields : Bool → ℕ → List ℕ → ℕ → ℕ → ℕ → Fields
 symbol_fields gnu machine bytes at section index = record {
   letter = codes "Y";
   fields =
@@ -51,7 +51,7 @@ unfoldable pub symbol_front : Format → Bool → ℕ → List ℕ → ℕ → �
 symbol_front format gnu machine bytes at section index = front format (codes "name") (symbol_fields gnu machine bytes at section index)
 
 -- a relocation entry: the index of its section, offset, type, symbol and addend
-abbrev pub relocation_fields : Bool → ℕ → List ℕ → ℕ → ℕ → Fields
+abbrev relocation_fields : Bool → ℕ → List ℕ → ℕ → ℕ → Fields
 relocation_fields gnu machine bytes at section = record {
   letter = codes "R";
   fields =
@@ -67,7 +67,7 @@ unfoldable pub relocation_front : Format → Bool → ℕ → List ℕ → ℕ �
 relocation_front format gnu machine bytes at section = front format (codes "name") (relocation_fields gnu machine bytes at section)
 
 -- a note: the index of its section or program header, type, and the sizes of its name and its descriptor
-abbrev pub note_fields : ℕ → ℕ → ℕ → ℕ → Fields
+abbrev note_fields : ℕ → ℕ → ℕ → ℕ → Fields
 note_fields index kind namesz descsz = record {
   letter = codes "N";
   fields =
@@ -82,7 +82,7 @@ unfoldable pub note_front : Format → ℕ → ℕ → ℕ → ℕ → LineFront
 note_front format index kind namesz descsz = front format (codes "name") (note_fields index kind namesz descsz)
 
 -- a dynamic entry: its index in its table, tag and value
-abbrev pub dynamic_fields : Bool → List ℕ → ℕ → ℕ → Fields
+abbrev dynamic_fields : Bool → List ℕ → ℕ → ℕ → Fields
 dynamic_fields gnu bytes at index = record {
   letter = codes "D";
   fields =

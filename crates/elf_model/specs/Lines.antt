@@ -14,7 +14,7 @@ use Rattle.elf_model.specs.declared.formats.Format.TheVariants.{Columns, Object}
 
 -- the file header: type, machine, entry point, where the program headers and the section headers are, flags, how many of them
 -- there are
-abbrev pub header_fields : List ℕ → Fields
+abbrev header_fields : List ℕ → Fields
 header_fields file = record {
   letter = codes "H";
   fields =
@@ -35,7 +35,7 @@ header_line format file = closed_line format (header_fields file) (Decimal (code
 
 -- a program header: its index, type, permissions, offset in the file, virtual and physical address, size in the file and in
 -- memory; with the names of the GNU system's types, where it is told so
-abbrev pub segment_fields : Bool → List ℕ → ℕ → ℕ → Fields
+abbrev segment_fields : Bool → List ℕ → ℕ → ℕ → Fields
 segment_fields gnu bytes at index = record {
   letter = codes "P";
   fields =

@@ -217,7 +217,7 @@ pub record Naming : Type 0 where
 abbrev pub one_later : Naming → Naming
 one_later naming = record { found = naming.found; refused = naming.refused; read = suc naming.read }
 
-abbrev pub named_until : ℕ → Refusal → Naming
+abbrev named_until : ℕ → Refusal → Naming
 named_until read refusal = record { found = None; refused = Some refusal; read = read }
 
 unfoldable pub naming_of : List ℕ → ℕ → List RecordReading → Naming

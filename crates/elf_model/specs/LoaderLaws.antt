@@ -124,7 +124,7 @@ ComparedNumbersAreRecords =
     × (compared.read ≡ length (records_in file definitions).met + length (records_in file needs).met)
 
 -- comparing is refused at a record: it is refused itself, or it names a version and the name has a fault
-abbrev pub RefusesToCompare : List ℕ → (wanted : List ℕ) → Refusal → RecordReading → Type 0
+abbrev RefusesToCompare : List ℕ → (wanted : List ℕ) → Refusal → RecordReading → Type 0
 RefusesToCompare file wanted refusal (Refuses other) = refusal ≡ other
 RefusesToCompare file wanted refusal (Misses other) = refusal ≡ other
 RefusesToCompare file wanted refusal (Meets strings met) =

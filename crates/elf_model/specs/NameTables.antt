@@ -100,7 +100,7 @@ flags_with_letters [] = 0
 flags_with_letters (entry ∷ entries) = entry.0 + flags_with_letters entries
 
 -- the mark of flags that are not told
-abbrev pub flags_mark : List ℕ
+abbrev flags_mark : List ℕ
 flags_mark = codes "?"
 
 -- the letters of the flags of a table that are set, then the mark where any other bit is

@@ -42,7 +42,7 @@ address_named strings index (item ∷ items) =
     ]
 
 -- a refusal at an offset in the place of a value
-abbrev pub refusal_at : {A : Type 0} → ℕ → Cause → Result A Refusal
+abbrev refusal_at : {A : Type 0} → ℕ → Cause → Result A Refusal
 refusal_at at cause = Err (record { at = at; cause = cause })
 
 -- an address that is looked for by a symbol's name, or a value in its place where there is none; the name's fault is

@@ -91,7 +91,7 @@ notes_rows style index [] = []
 notes_rows style index (note ∷ notes) = note_row style index note ∷ notes_rows style index notes
 
 -- the end of a table of notes at an offset: a fault at the place where it is cut
-abbrev pub cut_rows : ℕ → Option ℕ → List ListingItem
+abbrev cut_rows : ℕ → Option ℕ → List ListingItem
 cut_rows table_at None = []
 cut_rows table_at (Some place) = refused_row (table_at + place) NoteCut
 

@@ -15,7 +15,7 @@ unfoldable pub sysv_bucket_of : List ℕ → ℕ → ℕ → ℕ
 sysv_bucket_of file place hash = sysv_bucket_at place (hash % sysv_nbucket file place)
 
 -- the word that follows a symbol index in its chain
-abbrev pub sysv_next : List ℕ → ℕ → ℕ → ℕ
+abbrev sysv_next : List ℕ → ℕ → ℕ → ℕ
 sysv_next file place y = field file (sysv_chain_at file place y) 4
 
 -- the words of a walk: the bucket's, and from each word the word of its chain

@@ -125,10 +125,10 @@ suffixed_relocations = record {
 }
 
 -- symbols, and relocation entries, with or without versions behind the names of symbols
-abbrev pub symbols_kind : Bool → TableKind
+abbrev symbols_kind : Bool → TableKind
 symbols_kind versions = elim versions [ true ↦ suffixed_symbols | false ↦ symbols ]
 
-abbrev pub relocations_kind : Bool → TableKind
+abbrev relocations_kind : Bool → TableKind
 relocations_kind versions = elim versions [ true ↦ suffixed_relocations | false ↦ relocations ]
 
 -- the kinds of tables that section headers describe, with or without versions behind the names of symbols, and those that

@@ -28,7 +28,7 @@ kind_word kind.Core = codes "core"
 kind_word kind.Other = codes "other"
 
 -- what is not told, since the file has no program headers
-abbrev pub not_told : List ℕ
+abbrev not_told : List ℕ
 not_told = codes "-"
 
 -- a word of what program headers tell
@@ -77,7 +77,7 @@ path_word path.Rpath = codes "rpath"
 path_word path.Absent = codes "-"
 
 -- THE LINE of a file's traits up to its path
-abbrev pub trait_fields : Traits → Fields
+abbrev trait_fields : Traits → Fields
 trait_fields t = record {
   letter = codes "T";
   fields =

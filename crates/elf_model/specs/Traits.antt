@@ -33,7 +33,7 @@ use Rattle.elf_model.specs.declared.traits.SegmentTraits.{SegmentTraits}
 use Rattle.elf_model.specs.declared.traits.Traits.{Traits}
 
 -- SEGMENTS. The program header of an index is of a type
-abbrev pub is_segment : List ℕ → (type index : ℕ) → Bool
+abbrev is_segment : List ℕ → (type index : ℕ) → Bool
 is_segment file type i = p_type file (segment_at file i) == type
 
 -- the first program header of a type
@@ -63,11 +63,11 @@ dynamic_entry_value file tag = elim (dynamic_segment_index file) [
   | Some i ↦ listed_value file (p_offset file (segment_at file i)) (p_filesz file (segment_at file i) / DYNAMIC_SIZE) tag
 ]
 
-abbrev pub has_dynamic_entry : List ℕ → ℕ → Bool
+abbrev has_dynamic_entry : List ℕ → ℕ → Bool
 has_dynamic_entry file tag = is_some (dynamic_entry_value file tag)
 
 -- the entry with a tag has all of some flags; one that is not there has none
-abbrev pub entry_has : List ℕ → (tag bits : ℕ) → Bool
+abbrev entry_has : List ℕ → (tag bits : ℕ) → Bool
 entry_has file tag bits = has_bits (unwrap_or (dynamic_entry_value file tag) 0) bits
 
 -- all symbols are bound before the program begins (gABI 5, DT_BIND_NOW and DF_BIND_NOW; the GNU system's DF_1_NOW)

@@ -26,7 +26,7 @@ kind_text File = codes "FILE"
 kind_text Need = codes "NEED"
 
 -- a record of definitions or needs up to its name: the index of its section, its kind, number, flags and hash
-abbrev pub version_fields : VersionKind → (section number flags hash : ℕ) → Fields
+abbrev version_fields : VersionKind → (section number flags hash : ℕ) → Fields
 version_fields kind section number flags hash = record {
   letter = codes "V";
   fields =
@@ -100,7 +100,7 @@ version_strings file kind =
 
 -- the version of a symbol up to its name: the indexes of the section of version numbers and of the symbol, the number, and
 -- whether the version is hidden
-abbrev pub symbol_version_fields : (section index word : ℕ) → Fields
+abbrev symbol_version_fields : (section index word : ℕ) → Fields
 symbol_version_fields section index word = record {
   letter = codes "X";
   fields =

@@ -37,7 +37,7 @@ abbrev pub number_in : ℕ → ℕ
 number_in word = word % 2 ^ 15
 
 -- the flag of the definition that names the file itself
-abbrev pub VER_FLG_BASE : ℕ
+abbrev VER_FLG_BASE : ℕ
 VER_FLG_BASE = 1
 
 -- A RECORD THAT IS MET: its kind and its offset in the file
@@ -98,7 +98,7 @@ met_at table stand = record { kind = stand.kind; at = table + stand.place }
 
 -- the checks of a record, in a table at an offset and of some bytes, in this order: it is in the table; the version of its
 -- layout is 1; its number is not too large; its name is in the table
-abbrev pub place_checks : (size : ℕ) → Stand → List Check
+abbrev place_checks : (size : ℕ) → Stand → List Check
 place_checks size stand = refuse (nat_lt size (stand.place + record_size stand.kind)) stand.from VersionCut ∷ []
 
 abbrev pub word_checks : List ℕ → (size place : ℕ) → Met → List Check
