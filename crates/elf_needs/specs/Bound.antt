@@ -120,6 +120,12 @@ TellsFault format (Refused refusal) old new (Err Read) = ⊥
 TellsFault format (Refused refusal) old new (Err (Out fault)) = TakesFront old new (refusal_line format refusal) × OutFails new fault
 TellsFault format (Source fault at) old new result = (result ≡ Err Read) × (new ≡ old)
 
+-- whether lines tell that something is missing, where all are written
+abbrev pub failing_of : Came → Option Bool
+failing_of (Whole fails) = Some fails
+failing_of Ended = Some true
+failing_of Cut = None
+
 -- so many of the items are written, and the others are left
 pub record WritesSoFar (format : Format) (all left : List BoundItem) (old new : Written) (fails : Bool) : Type 0 where
   pub front : List BoundItem

@@ -1,5 +1,6 @@
 //! What names are looked for among, and what writing lines came to.
-ghost use Rattle.std.specs.Prelude.{◌≡◌, ◌==◌, get_or, position};
+ghost use Rattle.std.specs.Prelude.{◌≡◌, ◌==◌, ◌||◌, get_or, position};
+ghost use Rattle.elf_needs.specs.Bound.{failing_of};
 
 use crate::known::Objects;
 use elf_model::Format;
@@ -44,4 +45,22 @@ pub(crate) fn place_of(indexes: &[u16], index: u16) -> Option<usize>
     ensures { result ≡ position (λ other. other == index) indexes.now }
 {
     indexes.iter().position(|other| *other == index)
+}
+
+/// Whether lines that were written tell that something is missing; None where the budget is used up.
+pub(crate) fn failing(came: Came) -> Option<bool>
+    ensures { result ≡ failing_of came }
+{
+    match came {
+        Came::Whole { fails } => Some(fails),
+        Came::Ended => Some(true),
+        Came::Cut => None,
+    }
+}
+
+/// One or the other.
+pub(crate) fn either(one: bool, other: bool) -> bool
+    ensures { result ≡ (one || other) }
+{
+    one || other
 }

@@ -5,7 +5,7 @@ ghost use Rattle.elf_model.specs.BoundSymbols.{before_items, bound_item, bound_i
 ghost use Rattle.elf_model.specs.LoaderScope.{Scope as IsScopeOf, scope_of};
 ghost use Rattle.elf_needs.specs.Bound.{AsksAll, IsLimited, TellsFault, TellsSymbol, WritesLines, bound_among};
 
-use crate::among::{Among, Came, index_at};
+use crate::among::{Among, Came, either, failing, index_at};
 use crate::binding_rows::show_binding;
 use crate::bound_states::{SymbolAt, item_of};
 use crate::faults::is_budget;
@@ -65,11 +65,11 @@ fn bind_all<S: Source, W: Sink>(
     let mut names = SoughtNames::new();
     let mut fails = false;
     for place in 0..objects.len() {
-        match bind_object(objects, among, place, &mut names, left, out)? {
-            Came::Whole { fails: more } => fails = fails || more,
-            Came::Ended => fails = true,
-            Came::Cut => return Ok(Came::Cut),
-        }
+        let came = bind_object(objects, among, place, &mut names, left, out)?;
+        let Some(more) = failing(came) else {
+            return Ok(Came::Cut);
+        };
+        fails = either(fails, more);
     }
     Ok(Came::Whole { fails })
 }
@@ -99,11 +99,12 @@ fn bind_object<S: Source, W: Sink>(
     let mut fails = false;
     for symbol in 1..count {
         let at = SymbolAt { place, symbol };
-        match bind_symbol(objects, among, at, names, left, out)? {
-            Came::Whole { fails: more } => fails = fails || more,
+        let more = match bind_symbol(objects, among, at, names, left, out)? {
+            Came::Whole { fails } => fails,
             Came::Ended => return Ok(Came::Ended),
             Came::Cut => return Ok(Came::Cut),
-        }
+        };
+        fails = either(fails, more);
     }
     Ok(Came::Whole { fails })
 }
@@ -135,12 +136,12 @@ fn bind_symbol<S: Source, W: Sink>(
         Err(fault) => return tell(fault, among.format, out),
     };
     let object = index_at(among.indexes, at.place);
-    show_binding(object, at.symbol, state, &names.shown, among.format, out).map_err(
-        NeedsFault::Out,
-    )?;
-    Ok(Came::Whole {
-        fails: is_unbound(state),
-    })
+    match show_binding(object, at.symbol, state, &names.shown, among.format, out) {
+        Ok(()) => Ok(Came::Whole {
+            fails: is_unbound(state),
+        }),
+        Err(fault) => Err(NeedsFault::Out(fault)),
+    }
 }
 
 /// Writes the line of a fault of an object's own symbols, or that the budget is used up.

@@ -16,5 +16,4 @@ invariant-loop-symbol g l = record {
       (items_from (bound_among headers files l.among) l.place (get_or files l.place []) told.symbols 1 (l.count - 1))
       (items_from (bound_among headers files l.among) l.place (get_or files l.place []) told.symbols l.symbol (l.count - l.symbol))
       l.fn.out l.out l.fails;
-  end : l.symbol-end ≡ l.count;
 }

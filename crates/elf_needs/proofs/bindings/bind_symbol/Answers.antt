@@ -21,8 +21,18 @@ returns-in-Err-clause-known g c =
     (rw (c.in-Err.is) at (c.item_of.ensures.known headers files told are found below))
     (only_of c.args.left.now c.in-Err.fault (rw (c.in-Err.is) at c.item_of.ensures.limited)) c.tell.ensures
 
-pub returns-in_err-map_err-clause-known : goal.returns-in_err-map_err-clause-known
-returns-in_err-map_err-clause-known g c = ?
+pub returns-in-Err-show_binding-clause-known : goal.returns-in-Err-show_binding-clause-known
+returns-in-Err-show_binding-clause-known g c =
+    let puts = rw (c.index_at-object.ensures, c.deref.ensures.0, c.in-Err-show_binding.is) at c.show_binding.ensures.puts in
+    λ headers files told are found below.
+    symbol_out c.args.among.now.format (bound_item (bound_among headers files c.args.among.now) c.args.at.place (get_or files c.args.at.place []) told.symbols c.args.at.symbol)
+    (get_or c.args.among.now.indexes.now c.args.at.place 0) c.args.at.symbol c.item_of.new.names.shown.items (IsLimited c.args.left.now) c.in-Ok-Some.state
+    (rw (c.in-Ok-Some.is, c.in-Ok-Some.field-0-is) at (c.item_of.ensures.known headers files told are found below)) c.args.out.now c.show_binding.new.out _ puts.0 puts.1
 
-pub returns-clause-known : goal.returns-clause-known
-returns-clause-known g c = ?
+pub returns-in-Ok-clause-known : goal.returns-in-Ok-clause-known
+returns-in-Ok-clause-known g c =
+    let puts = rw (c.index_at-object.ensures, c.deref.ensures.0, c.in-Ok.is) at c.show_binding.ensures.puts in
+    λ headers files told are found below.
+    symbol_told c.args.among.now.format (bound_item (bound_among headers files c.args.among.now) c.args.at.place (get_or files c.args.at.place []) told.symbols c.args.at.symbol)
+    (get_or c.args.among.now.indexes.now c.args.at.place 0) c.args.at.symbol c.item_of.new.names.shown.items (IsLimited c.args.left.now) c.in-Ok-Some.state
+    (rw (c.in-Ok-Some.is, c.in-Ok-Some.field-0-is) at (c.item_of.ensures.known headers files told are found below)) c.args.out.now c.show_binding.new.out c.is_unbound.result puts.0 c.is_unbound.ensures
