@@ -19,13 +19,16 @@ use Rattle.elf_needs.specs.Called.{called_by}
 use Rattle.elf_needs.specs.declared.among.Among.{Among}
 use Rattle.elf_needs.specs.declared.among.Came.{Came}
 use Rattle.elf_needs.specs.declared.among.Came.TheVariants.{Cut, Ended, Whole}
+use Rattle.elf_needs.specs.declared.known.Objects.{Objects}
 use Rattle.elf_needs.specs.declared.walk.NeedsFault.{NeedsFault}
 use Rattle.elf_needs.specs.declared.walk.NeedsFault.TheVariants.{Out, Read}
 
--- the objects whose files these are, with so many headers permitted in each, as the definitions have them
+-- the objects whose files these are, with so many headers permitted in each, their indexes among all objects, and all objects
+abbrev pub bound_of : (headers : ℕ) → (files : List (List ℕ)) → (indexes : List ℕ) → Objects → BoundObjects
+bound_of headers files indexes known = record { files = files; indexes = indexes; headers = headers; called = called_by known }
+
 abbrev pub bound_among : (headers : ℕ) → List (List ℕ) → Among → BoundObjects
-bound_among headers files among =
-    record { files = files; indexes = among.indexes.now; headers = headers; called = called_by among.known.now }
+bound_among headers files among = bound_of headers files among.indexes.now among.known.now
 
 -- an object is as it was, but for how many bytes it was asked for; and each of some
 pub record SameObject (old new : KeptObject) : Type 0 where
@@ -132,3 +135,16 @@ pub record WritesSoFar (format : Format) (all left : List BoundItem) (old new : 
   pub split : all ≡ front ++ left
   pub takes : Takes old new (bound_text format front)
   pub fails_is : fails ≡ any_unbound front
+
+-- the exit status behind lines: 1 where they tell that a symbol is missing, or cannot be told, or where they are cut; else as before
+abbrev pub status_after : Came → ℕ → ℕ
+status_after (Whole false) status = status
+status_after (Whole true) status = 1
+status_after Ended status = 1
+status_after Cut status = 1
+
+-- WHAT WRITING THE BINDINGS OF ALL OBJECTS DID
+abbrev pub WritesBindings : Format → List BoundItem → (limited : Type 0) → Written → Written → (status : ℕ) → Result ℕ NeedsFault → Type 0
+WritesBindings format all limited old new before (Ok status) =
+    (came : Came) × WritesLines format all limited old new (Ok came) × (status ≡ status_after came before)
+WritesBindings format all limited old new before (Err fault) = WritesLines format all limited old new (Err fault)

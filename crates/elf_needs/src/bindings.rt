@@ -3,7 +3,7 @@ ghost use Rattle.std.specs.Prelude.{◌≡◌, ◌<◌, ℕ, [], List, Ok, get_o
 ghost use Rattle.elf_binding.specs.Binds.{AreObjectsOf};
 ghost use Rattle.elf_model.specs.BoundSymbols.{before_items, bound_item, bound_items, object_items};
 ghost use Rattle.elf_model.specs.LoaderScope.{Scope as IsScopeOf, scope_of};
-ghost use Rattle.elf_needs.specs.Bound.{AsksAll, IsLimited, TellsFault, TellsSymbol, WritesLines, bound_among};
+ghost use Rattle.elf_needs.specs.Bound.{AsksAll, IsLimited, TellsFault, TellsSymbol, WritesBindings, WritesLines, bound_among, bound_of, status_after};
 
 use crate::among::{Among, Came, either, failing, index_at};
 use crate::binding_rows::show_binding;
@@ -32,18 +32,34 @@ impl<W: Sink> ObjectWalk<'_, '_, W> {
     pub fn bind<S: Source + Drop>(
         &mut self,
         opened: &mut OpenObjects<S>,
-    ) -> Result<u8, NeedsFault> {
+    ) -> Result<u8, NeedsFault>
+        ensures asks { AsksAll opened.old.objects.items opened.new.objects.items
+            self.old.search.left self.new.search.left }
+        ensures known { (headers : ℕ) (files : List (List ℕ)) →
+            AreObjectsOf headers opened.old.objects.items files →
+            WritesBindings self.old.format
+            (bound_items (bound_of headers files opened.old.indexes.items self.old.objects))
+            (IsLimited self.old.search.left) self.old.out self.new.out self.old.status result }
+    {
         let among = Among {
             indexes: &opened.indexes,
             known: &self.objects,
             format: self.format,
         };
         let left = &mut self.search.left;
-        match bind_all(&mut opened.objects, &among, left, &mut self.out)? {
-            Came::Whole { fails: false } => {}
-            Came::Whole { fails: true } | Came::Ended | Came::Cut => self.status = 1,
-        }
+        let came = bind_all(&mut opened.objects, &among, left, &mut self.out)?;
+        self.status = status_after(came, self.status);
         Ok(self.status)
+    }
+}
+
+/// The exit status behind lines.
+fn status_after(came: Came, status: u8) -> u8
+    ensures { result ≡ status_after came status }
+{
+    match came {
+        Came::Whole { fails: false } => status,
+        Came::Whole { fails: true } | Came::Ended | Came::Cut => 1,
     }
 }
 
