@@ -1,1 +1,3 @@
+pub mod Bound
+pub mod Called
 pub mod ObjectLines

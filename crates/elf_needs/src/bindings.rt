@@ -1,24 +1,23 @@
 //! From where the symbols come that the objects of a program ask others for.
+ghost use Rattle.std.specs.Prelude.{◌≡◌, ◌<◌, ℕ, [], List, Ok, get_or, length};
+ghost use Rattle.elf_binding.specs.Binds.{AreObjectsOf};
+ghost use Rattle.elf_model.specs.BoundSymbols.{before_items, bound_item, bound_items, object_items};
+ghost use Rattle.elf_model.specs.LoaderScope.{Scope as IsScopeOf, scope_of};
+ghost use Rattle.elf_needs.specs.Bound.{AsksAll, IsLimited, TellsFault, TellsSymbol, WritesBindings, WritesLines, bound_among, bound_of, status_after};
+
+use crate::among::{Among, Came, either, failing, index_at};
 use crate::binding_rows::show_binding;
+use crate::bound_states::{SymbolAt, item_of};
+use crate::faults::is_budget;
 use crate::open_objects::OpenObjects;
 use crate::sought_names::SoughtNames;
-use crate::states::{is_unbound, unbound_state};
+use crate::states::is_unbound;
 use crate::walk::{NeedsFault, ObjectWalk};
-use elf_binding::{Blame, BoundName, SoughtSymbol, bind};
+use elf_binding::Object;
 use elf_headers::Fault;
 use elf_lines::show_refusal;
-use elf_model::BindingState;
-use elf_record::{Cause, Refusal};
-use elf_source::{Sink, Source};
-
-/// Whether the lines go on.
-#[derive(Clone, Copy, PartialEq, Eq)]
-enum Further {
-    /// They do.
-    Yes,
-    /// The budget is used up.
-    No,
-}
+use elf_model::Format;
+use elf_source::{Out, Sink, Source};
 
 impl<W: Sink> ObjectWalk<'_, '_, W> {
     /// Writes a line for each symbol that the listed objects ask others for, in their order: the object
@@ -33,142 +32,147 @@ impl<W: Sink> ObjectWalk<'_, '_, W> {
     pub fn bind<S: Source + Drop>(
         &mut self,
         opened: &mut OpenObjects<S>,
-    ) -> Result<u8, NeedsFault> {
-        let mut names = SoughtNames::new();
-        for place in 0..opened.objects.len() {
-            if self.bind_object(opened, place, &mut names)? == Further::No {
-                return Ok(self.status);
-            }
-        }
-        Ok(self.status)
-    }
-
-    /// Writes the lines of the object at a place.
-    fn bind_object<S: Source + Drop>(
-        &mut self,
-        opened: &mut OpenObjects<S>,
-        place: usize,
-        names: &mut SoughtNames,
-    ) -> Result<Further, NeedsFault> {
-        let count = match opened.symbol_count(place, &mut self.search.left) {
-            Ok(count) => count,
-            Err(fault) => return self.tell(fault),
-        };
-        for symbol in 1..count {
-            let left = &mut self.search.left;
-            match opened.sought(place, symbol, left, &mut names.name, &mut names.version) {
-                Ok(None) => {}
-                Ok(Some(sought)) => {
-                    if self.bind_symbol(opened, (place, symbol), sought, names)? == Further::No {
-                        return Ok(Further::No);
-                    }
-                }
-                Err(fault) => return self.tell(fault),
-            }
-        }
-        Ok(Further::Yes)
-    }
-
-    /// Looks for what a symbol asks for, and writes its line.
-    fn bind_symbol<S: Source + Drop>(
-        &mut self,
-        opened: &mut OpenObjects<S>,
-        at: (usize, u64),
-        sought: SoughtSymbol,
-        names: &mut SoughtNames,
-    ) -> Result<Further, NeedsFault> {
-        names.show(sought.versioned);
-        let wanted = names.wanted(sought.versioned);
-        let state = match bind(&mut opened.objects, &mut self.search.left, &wanted) {
-            Ok(BoundName::Bound { object, symbol }) => BindingState::Bound {
-                object: opened.index(object),
-                symbol,
-            },
-            Ok(BoundName::Unbound) => match self.lacks(opened, at.0, &sought, names) {
-                Ok(lacks) => unbound_state(sought.weak, lacks),
-                Err(fault) => return self.tell(fault),
-            },
-            Err(Blame { object, fault }) => {
-                if is_told_alone(fault) {
-                    return self.tell(fault);
-                }
-                BindingState::Refused {
-                    object: opened.index(object),
-                }
-            }
-        };
-        if is_unbound(state) {
-            self.status = 1;
-        }
-        let object = opened.index(at.0);
-        show_binding(
-            object,
-            at.1,
-            state,
-            &names.shown,
-            self.format,
-            &mut self.out,
-        )
-        .map_err(NeedsFault::Out)?;
-        Ok(Further::Yes)
-    }
-
-    /// Whether the object of which a symbol that is not weak asks for a version lacks that one. It does not
-    /// where its records are at fault.
-    ///
-    /// # Errors
-    /// A fault of the name of the needed file; a read failed; or the budget is used up.
-    fn lacks<S: Source + Drop>(
-        &mut self,
-        opened: &mut OpenObjects<S>,
-        place: usize,
-        sought: &SoughtSymbol,
-        names: &mut SoughtNames,
-    ) -> Result<bool, Fault> {
-        if sought.weak {
-            return Ok(false);
-        }
-        let Some(file) = &sought.file else {
-            return Ok(false);
+    ) -> Result<u8, NeedsFault>
+        ensures asks { AsksAll opened.old.objects.items opened.new.objects.items
+            self.old.search.left self.new.search.left }
+        ensures known { (headers : ℕ) (files : List (List ℕ)) →
+            AreObjectsOf headers opened.old.objects.items files →
+            WritesBindings self.old.format
+            (bound_items (bound_of headers files opened.old.indexes.items self.old.objects))
+            (IsLimited self.old.search.left) self.old.out self.new.out self.old.status result }
+    {
+        let among = Among {
+            indexes: &opened.indexes,
+            known: &self.objects,
+            format: self.format,
         };
         let left = &mut self.search.left;
-        opened.needed_file(place, file, left, &mut names.file)?;
-        let Some(index) = self.objects.called(names.file.bytes()) else {
-            return Ok(false);
-        };
-        let Some(place) = opened.place(index) else {
-            return Ok(false);
-        };
-        match opened.lacks_version(place, &names.version, &mut self.search.left) {
-            Ok(lacks) => Ok(lacks),
-            Err(fault) if is_told_alone(fault) => Err(fault),
-            Err(_) => Ok(false),
-        }
-    }
-
-    /// Writes the line of a fault of an object's own symbols, or that the budget is used up.
-    fn tell(&mut self, fault: Fault) -> Result<Further, NeedsFault> {
-        let Fault::Refused(refusal) = fault else {
-            return Err(NeedsFault::Read);
-        };
-        self.status = 1;
-        show_refusal(refusal, self.format, &mut self.out).map_err(NeedsFault::Out)?;
-        if is_budget(refusal) {
-            return Ok(Further::No);
-        }
-        Ok(Further::Yes)
+        let came = bind_all(&mut opened.objects, &among, left, &mut self.out)?;
+        self.status = status_after(came, self.status);
+        Ok(self.status)
     }
 }
 
-/// Whether a fault of a lookup is no refusal of the file: a read failed, or the budget is used up.
-fn is_told_alone(fault: Fault) -> bool {
-    match fault {
-        Fault::Refused(refusal) => is_budget(refusal),
-        Fault::Source { .. } => true,
+/// The exit status behind lines.
+fn status_after(came: Came, status: u8) -> u8
+    ensures { result ≡ status_after came status }
+{
+    match came {
+        Came::Whole { fails: false } => status,
+        Came::Whole { fails: true } | Came::Ended | Came::Cut => 1,
     }
 }
 
-/// Whether a refusal is that the budget is used up.
-fn is_budget(refusal: Refusal) -> bool {
-    matches!(refusal.cause, Cause::Budget)
+/// Writes the lines of all objects that are looked in.
+///
+/// # Errors
+/// A read or the output failed.
+fn bind_all<S: Source, W: Sink>(
+    objects: &mut [Object<S>],
+    among: &Among<'_>,
+    left: &mut Option<u64>,
+    out: &mut Out<W>,
+) -> Result<Came, NeedsFault>
+    ensures asks { AsksAll objects.old objects.new left.old left.new }
+    ensures known { (headers : ℕ) (files : List (List ℕ)) → AreObjectsOf headers objects.old files →
+        WritesLines among.now.format (bound_items (bound_among headers files among.now))
+        (IsLimited left.old) out.old out.new result }
+{
+    let mut names = SoughtNames::new();
+    let mut fails = false;
+    for place in 0..objects.len() {
+        let came = bind_object(objects, among, place, &mut names, left, out)?;
+        let Some(more) = failing(came) else {
+            return Ok(Came::Cut);
+        };
+        fails = either(fails, more);
+    }
+    Ok(Came::Whole { fails })
+}
+
+/// Writes the lines of the object at a place.
+///
+/// # Errors
+/// A read or the output failed.
+fn bind_object<S: Source, W: Sink>(
+    objects: &mut [Object<S>],
+    among: &Among<'_>,
+    place: usize,
+    names: &mut SoughtNames,
+    left: &mut Option<u64>,
+    out: &mut Out<W>,
+) -> Result<Came, NeedsFault>
+    requires { place < length objects.old }
+    ensures asks { AsksAll objects.old objects.new left.old left.new }
+    ensures known { (headers : ℕ) (files : List (List ℕ)) → AreObjectsOf headers objects.old files →
+        WritesLines among.now.format (object_items (bound_among headers files among.now) place
+        (get_or files place [])) (IsLimited left.old) out.old out.new result }
+{
+    let count = match objects[place].symbol_count(left) {
+        Ok(count) => count,
+        Err(fault) => return tell(fault, among.format, out),
+    };
+    let mut fails = false;
+    for symbol in 1..count {
+        let at = SymbolAt { place, symbol };
+        let more = match bind_symbol(objects, among, at, names, left, out)? {
+            Came::Whole { fails } => fails,
+            Came::Ended => return Ok(Came::Ended),
+            Came::Cut => return Ok(Came::Cut),
+        };
+        fails = either(fails, more);
+    }
+    Ok(Came::Whole { fails })
+}
+
+/// Looks for what a symbol asks for, and writes its line, if it asks for something.
+///
+/// # Errors
+/// A read or the output failed.
+fn bind_symbol<S: Source, W: Sink>(
+    objects: &mut [Object<S>],
+    among: &Among<'_>,
+    at: SymbolAt,
+    names: &mut SoughtNames,
+    left: &mut Option<u64>,
+    out: &mut Out<W>,
+) -> Result<Came, NeedsFault>
+    requires { at.place < length objects.old }
+    ensures asks { AsksAll objects.old objects.new left.old left.new }
+    ensures known { (headers : ℕ) (files : List (List ℕ)) (told : IsScopeOf) →
+        AreObjectsOf headers objects.old files →
+        scope_of (get_or files at.place []) headers ≡ Ok told → at.symbol < told.table.symbols →
+        TellsSymbol among.now.format (bound_item (bound_among headers files among.now) at.place
+        (get_or files at.place []) told.symbols at.symbol) (IsLimited left.old) out.old out.new
+        result }
+{
+    let state = match item_of(objects, among, at, names, left) {
+        Ok(Some(state)) => state,
+        Ok(None) => return Ok(Came::Whole { fails: false }),
+        Err(fault) => return tell(fault, among.format, out),
+    };
+    let object = index_at(among.indexes, at.place);
+    match show_binding(object, at.symbol, state, &names.shown, among.format, out) {
+        Ok(()) => Ok(Came::Whole {
+            fails: is_unbound(state),
+        }),
+        Err(fault) => Err(NeedsFault::Out(fault)),
+    }
+}
+
+/// Writes the line of a fault of an object's own symbols, or that the budget is used up.
+///
+/// # Errors
+/// A read or the output failed.
+fn tell<W: Sink>(fault: Fault, format: Format, out: &mut Out<W>) -> Result<Came, NeedsFault>
+    ensures { TellsFault format fault out.old out.new result }
+{
+    let Fault::Refused(refusal) = fault else {
+        return Err(NeedsFault::Read);
+    };
+    show_refusal(refusal, format, out).map_err(NeedsFault::Out)?;
+    if is_budget(refusal) {
+        return Ok(Came::Cut);
+    }
+    Ok(Came::Ended)
 }

@@ -1,4 +1,7 @@
 //! The objects that are known so far.
+ghost use Rattle.std.specs.Prelude.{◌≡◌, option_map, position};
+ghost use Rattle.elf_needs.specs.Called.{called_by, is_called, is_text, short_index, text_of};
+
 use elf_links::{FileLinks, LinkStore, Need, Texts};
 use elf_search::folder_of_path;
 use std::alloc::{AllocError, Global};
@@ -93,7 +96,10 @@ impl Objects {
     }
 
     /// The text of an index, if one is told.
-    pub(crate) fn text(&self, index: Option<u32>) -> Option<&[u8]> {
+    pub(crate) fn text(&self, index: Option<u32>) -> Option<&[u8]>
+        ensures { option_map (λ t. t.now) result
+            ≡ text_of self.now.links.texts index }
+    {
         match index {
             Some(index) => Some(self.links.texts.get(index)),
             None => None,
@@ -119,23 +125,41 @@ impl Objects {
     }
 
     /// The index of the first object that has a name.
-    pub(crate) fn called(&self, name: &[u8]) -> Option<u16> {
-        for (index, known) in self.known.iter().enumerate() {
-            if self.is_called(known, name) {
-                return u16::try_from(index).ok();
-            }
-        }
-        None
+    pub(crate) fn called(&self, name: &[u8]) -> Option<u16>
+        ensures { result ≡ called_by self.now name.now }
+    {
+        short_index(self.first_called(name))
+    }
+
+    /// The place of the first object that has a name.
+    fn first_called(&self, name: &[u8]) -> Option<usize>
+        ensures { result ≡ position (is_called self.now.links.texts name.now) self.now.known.items }
+    {
+        self.known.iter().position(|known| self.is_called(known, name))
     }
 
     /// Whether one object has a name.
-    fn is_called(&self, known: &Known, name: &[u8]) -> bool {
+    fn is_called(&self, known: &Known, name: &[u8]) -> bool
+        ensures { result ≡ is_called self.now.links.texts name.now known.now }
+    {
         is_text(self.text(known.name), name) || is_text(self.text(known.links.soname), name)
     }
 }
 
+/// An index of 16 bits, if it is one.
+fn short_index(found: Option<usize>) -> Option<u16>
+    ensures { result ≡ short_index found }
+{
+    match found {
+        Some(index) if index < 1 << 16 => Some(index as u16),
+        Some(_) | None => None,
+    }
+}
+
 /// Whether a text is told, and is a name.
-fn is_text(text: Option<&[u8]>, name: &[u8]) -> bool {
+fn is_text(text: Option<&[u8]>, name: &[u8]) -> bool
+    ensures { result ≡ is_text (option_map (λ t. t.now) text.entry) name.now }
+{
     match text {
         Some(text) => text.len() == name.len() && text == name,
         None => false,

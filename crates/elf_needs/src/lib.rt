@@ -4,9 +4,12 @@
 //! once.
 #![tactic(auto)]
 
+mod among;
 mod binding_rows;
 mod bindings;
+mod bound_states;
 mod candidates;
+mod faults;
 mod known;
 mod object_rows;
 mod open_objects;

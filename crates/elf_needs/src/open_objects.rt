@@ -1,12 +1,10 @@
 //! The objects of a program whose files are kept open, so that names are looked for in them.
 use crate::candidates::take_off_bytes;
-use elf_binding::{Object, SoughtSymbol};
+use elf_binding::Object;
 use elf_headers::{Fault, HeaderStore};
 use elf_pages::PagedSource;
 use elf_record::{Cause, Refusal};
 use elf_source::{Counted, Source};
-use elf_table::NameBuf;
-use elf_versions::VersionRecord;
 use std::alloc::{AllocError, Global};
 
 /// Objects whose files are kept open, in their order, each with its index among all. Those without a
@@ -15,7 +13,7 @@ use std::alloc::{AllocError, Global};
 pub struct OpenObjects<S: Source + Drop> {
     /// The objects.
     pub(crate) objects: Vec<Object<S>>,
-    indexes: Vec<u16>,
+    pub(crate) indexes: Vec<u16>,
     most: usize,
 }
 
@@ -36,90 +34,6 @@ impl<S: Source + Drop> OpenObjects<S> {
     fn push(&mut self, index: u16, object: Object<S>) {
         if self.indexes.push(index).is_ok() {
             let _ = self.objects.push(object);
-        }
-    }
-
-    /// The index among all objects of the one at a place.
-    pub(crate) fn index(&self, place: usize) -> u16 {
-        match self.indexes.get(place) {
-            Some(index) => *index,
-            None => 0,
-        }
-    }
-
-    /// The place of the object of an index, if it is kept open.
-    pub(crate) fn place(&self, index: u16) -> Option<usize> {
-        for (place, other) in self.indexes.iter().enumerate() {
-            if *other == index {
-                return Some(place);
-            }
-        }
-        None
-    }
-
-    /// Reads the name of a needed file of the object at a place.
-    ///
-    /// # Errors
-    /// Those of [`Object::needed_file`].
-    pub(crate) fn needed_file(
-        &mut self,
-        place: usize,
-        file: &VersionRecord,
-        left: &mut Option<u64>,
-        name: &mut NameBuf,
-    ) -> Result<(), Fault> {
-        match self.objects.get_mut(place) {
-            Some(object) => object.needed_file(left, file, name),
-            None => Ok(()),
-        }
-    }
-
-    /// Whether the object at a place defines versions, and none by a name of at most 4,096 bytes.
-    ///
-    /// # Errors
-    /// Those of [`Object::lacks_version`].
-    pub(crate) fn lacks_version(
-        &mut self,
-        place: usize,
-        version: &NameBuf,
-        left: &mut Option<u64>,
-    ) -> Result<bool, Fault> {
-        match self.objects.get_mut(place) {
-            Some(object) => object.lacks_version(left, version.bytes()),
-            None => Ok(false),
-        }
-    }
-
-    /// How many symbols the object at a place has; none where there is no object.
-    ///
-    /// # Errors
-    /// Those of [`Object::symbol_count`].
-    pub(crate) fn symbol_count(
-        &mut self,
-        place: usize,
-        left: &mut Option<u64>,
-    ) -> Result<u64, Fault> {
-        match self.objects.get_mut(place) {
-            Some(object) => object.symbol_count(left),
-            None => Ok(0),
-        }
-    }
-
-    /// What the symbol of an index asks others for, of the object at a place.
-    ///
-    /// # Errors
-    /// Those of [`Object::sought`].
-    pub(crate) fn sought(
-        &mut self,
-        place: usize,
-        symbol: u64,
-        left: &mut Option<u64>,
-        name: &mut NameBuf,
-        version: &mut NameBuf,
-    ) -> Result<Option<SoughtSymbol>, Fault> {
-        match self.objects.get_mut(place) {
-            Some(object) => object.sought(left, symbol, name, version),
-            None => Ok(None),
         }
     }
 }

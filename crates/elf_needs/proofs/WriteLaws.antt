@@ -1,0 +1,289 @@
+-- The lines of one item after another.
+use Rattle.std.proofs.Common.{◌≡◌, ℕ, zero, suc, ◌+◌, ◌-◌, ◌<◌, ◌≤◌, ◌||◌, ◌⊎◌, min, length, drop, get_or, arith, Bool, true, false, List, [], ◌∷◌, ◌++◌, inl, inr, Option, None, Some, Result, Ok, Err, refl, sym, ap, subst, ◌∙◌, append_assoc, append-nil}
+use Rattle.elf_model.proofs.BudgetLaws.{is_budget}
+use Rattle.elf_model.specs.BindingLines.{binding_line, is_unbound}
+use Rattle.elf_model.specs.Bindings.{symbols_hashed}
+use Rattle.elf_model.specs.BoundSymbols.{BoundItem, BoundObjects, Faulty, Told, any_unbound, before_items, bound_item, bound_text, counted_items, is_failed, item_line, items_from, object_items, objects_items}
+use Rattle.elf_model.specs.Budget.{IsBudget}
+use Rattle.elf_model.specs.Checks.{first_refusal}
+use Rattle.elf_model.specs.Lines.{refusal_line}
+use Rattle.elf_model.specs.Loader.{Symbols}
+use Rattle.elf_model.specs.LoaderFind.{counts_check}
+use Rattle.elf_model.specs.LoaderScope.{Scope as IsScopeOf, scope_of}
+use Rattle.elf_model.specs.Traits.{hashed_symbol_count}
+use Rattle.elf_binding.specs.Sought.{RefusesAs}
+use Rattle.elf_model.specs.declared.causes.Refusal.{Refusal}
+use Rattle.elf_model.specs.declared.formats.Format.{Format}
+use Rattle.elf_model.specs.declared.states.BindingState.{BindingState}
+use Rattle.elf_source.specs.Output.{OutFails, Puts, Takes, TakesFront, Written}
+use Rattle.elf_source.proofs.PutsLaws.{Takes-nothing, Takes-then, TakesFront-more, TakesFront-then}
+use Rattle.elf_source.specs.declared.faults.OutFault.{OutFault}
+use Rattle.elf_headers.specs.declared.fault.Fault.{Fault}
+use Rattle.elf_headers.specs.declared.fault.Fault.TheVariants.{Refused, Source}
+use Rattle.elf_needs.specs.Bound.{failing_of, IsCutText, IsLimited, LeadsOn, OnlyLimited, TellsFault, TellsItem, TellsSymbol, WritesFront, WritesLines, WritesSoFar}
+use Rattle.elf_needs.specs.declared.among.Came.{Came}
+use Rattle.elf_needs.specs.declared.among.Came.TheVariants.{Cut, Ended, Whole}
+use Rattle.elf_needs.specs.declared.walk.NeedsFault.{NeedsFault}
+use Rattle.elf_needs.specs.declared.walk.NeedsFault.TheVariants.{Out, Read}
+
+some_is : (a b : Bool) → ◌≡◌ {A = Option Bool} (Some a) (Some b) → a ≡ b
+some_is a b e = cc
+
+none_not : (a : Bool) → ◌≡◌ {A = Option Bool} None (Some a) → ⊥
+none_not a e = cc
+
+-- the text of items behind others, and whether they tell that something is missing
+text_then : (format : Format) (a b : List BoundItem) → bound_text format (a ++ b) ≡ bound_text format a ++ bound_text format b
+text_then format [] b = refl
+text_then format (item ∷ a) b = ap (λ (text : List ℕ). item_line format item ++ text) (text_then format a b) ∙ sym (append_assoc (item_line format item) (bound_text format a) (bound_text format b))
+
+or_assoc : (a b c : Bool) → (a || (b || c)) ≡ ((a || b) || c)
+or_assoc true b c = refl
+or_assoc false b c = refl
+
+fail_then : (a b : List BoundItem) → any_unbound (a ++ b) ≡ (any_unbound a || any_unbound b)
+fail_then [] b = refl
+fail_then (item ∷ a) b = ap (λ (e : Bool). is_failed item || e) (fail_then a b) ∙ or_assoc (is_failed item) (any_unbound a) (any_unbound b)
+
+or_false : (a : Bool) → (a || false) ≡ a
+or_false true = refl
+or_false false = refl
+
+pub or_true : (a : Bool) → (a || true) ≡ true
+or_true true = refl
+or_true false = refl
+
+-- NOTHING IS WRITTEN YET
+pub so_far_none : (format : Format) (all : List BoundItem) (a : Written) → WritesSoFar format all all a a false
+so_far_none format all a = record { front = []; split = refl; takes = Takes-nothing a; fails_is = refl }
+
+-- some more are
+pub so_far_more :
+    {format : Format} {all : List BoundItem} (left items rest : List BoundItem) {a b c : Written} {fails : Bool} (more : Bool) → WritesSoFar format all left a b fails → left ≡ items ++ rest
+    → Takes b c (bound_text format items) → more ≡ any_unbound items → WritesSoFar format all rest a c (fails || more)
+so_far_more {format} {all} left items rest {a} {b} {c} {fails} more before parts takes is = record {
+  front = before.front ++ items;
+  split = before.split ∙ ap (λ (l : List BoundItem). before.front ++ l) parts ∙ sym (append_assoc before.front items rest);
+  takes = subst (λ (text : List ℕ). Takes a c text) (sym (text_then format before.front items)) (Takes-then _ _ before.takes takes);
+  fails_is = rw (before.fails_is, is) (sym (fail_then before.front items));
+}
+
+-- ALL ARE
+pub so_far_all : {format : Format} {all : List BoundItem} {a b : Written} {fails : Bool} (limited : Type 0) → WritesSoFar format all [] a b fails → WritesLines format all limited a b (Ok (Whole fails))
+so_far_all {format} {all} {a} {b} {fails} limited before =
+    let whole : all ≡ before.front = before.split ∙ append-nil before.front in
+    (subst (λ (l : List BoundItem). Takes a b (bound_text format l)) (sym whole) before.takes, before.fails_is ∙ ap any_unbound (sym whole))
+
+-- a text that is cut, behind lines and before others
+cut_behind : {format : Format} {items : List BoundItem} {text : List ℕ} (all front rest : List BoundItem) → all ≡ front ++ (items ++ rest) → IsCutText format items text
+    → IsCutText format all (bound_text format front ++ text)
+cut_behind {format} {items} {text} all front rest split cut = record {
+  front = front ++ cut.front;
+  rest = cut.rest ++ rest;
+  split = split ∙ ap (λ (l : List BoundItem). front ++ (l ++ rest)) cut.split ∙ ap (λ (l : List BoundItem). front ++ l) (append_assoc cut.front cut.rest rest)
+      ∙ sym (append_assoc front cut.front (cut.rest ++ rest));
+  refusal = cut.refusal;
+  for_budget = cut.for_budget;
+  text_is = ap (λ (t : List ℕ). bound_text format front ++ t) cut.text_is ∙ sym (append_assoc (bound_text format front) (bound_text format cut.front) (refusal_line format cut.refusal))
+      ∙ ap (λ (t : List ℕ). t ++ refusal_line format cut.refusal) (sym (text_then format front cut.front));
+}
+
+whole_of : {format : Format} {all left : List BoundItem} {a b : Written} {fails : Bool} (items rest : List BoundItem) (before : WritesSoFar format all left a b fails) → left ≡ items ++ rest → all ≡ before.front ++ (items ++ rest)
+whole_of items rest before parts = before.split ∙ ap (λ (l : List BoundItem). before.front ++ l) parts
+
+-- THEY END where some more come to an end
+module _ {format : Format} {all : List BoundItem} (left items rest : List BoundItem) {a b : Written} (c : Written) {fails : Bool} (inner outer : Type 0) (out_of : inner → outer) (before : WritesSoFar format all left a b fails) (parts : left ≡ items ++ rest) where
+  pub ends_cut : WritesLines format items inner b c (Ok Cut) → WritesLines format all outer a c (Ok Cut)
+  ends_cut writes =
+      (out_of writes.0, bound_text format before.front ++ writes.1, cut_behind all before.front rest (whole_of items rest before parts) writes.2, Takes-then _ _ before.takes writes.3)
+
+  pub ends_fault : (fault : NeedsFault) → WritesLines format items inner b c (Err fault) → WritesLines format all outer a c (Err fault)
+  ends_fault Read writes = record {
+    front = before.front ++ writes.front;
+    rest = writes.rest ++ rest;
+    split = whole_of items rest before parts ∙ ap (λ (l : List BoundItem). before.front ++ (l ++ rest)) writes.split ∙ ap (λ (l : List BoundItem). before.front ++ l) (append_assoc writes.front writes.rest rest)
+        ∙ sym (append_assoc before.front writes.front (writes.rest ++ rest));
+    takes = subst (λ (text : List ℕ). Takes a c text) (sym (text_then format before.front writes.front)) (Takes-then _ _ before.takes writes.takes);
+  }
+  ends_fault (Out fault) writes = go writes.1
+    where
+      go : (writes.0 ≡ bound_text format items) ⊎ (inner × IsCutText format items writes.0) → WritesLines format all outer a c (Err (Out fault))
+      go (inl is) =
+          let text : bound_text format all ≡ (bound_text format before.front ++ writes.0) ++ bound_text format rest =
+                  ap (bound_text format) (whole_of items rest before parts) ∙ text_then format before.front (items ++ rest) ∙ ap (λ (t : List ℕ). bound_text format before.front ++ t) (text_then format items rest)
+                  ∙ sym (append_assoc (bound_text format before.front) (bound_text format items) (bound_text format rest)) ∙ ap (λ (t : List ℕ). (bound_text format before.front ++ t) ++ bound_text format rest) (sym is) in
+          (bound_text format all, inl refl, subst (λ (t : List ℕ). TakesFront a c t) (sym text) (TakesFront-more _ _ (TakesFront-then _ _ before.takes writes.2)), writes.3)
+      go (inr cut) =
+          (bound_text format before.front ++ writes.0, inr (out_of cut.0, cut_behind all before.front rest (whole_of items rest before parts) cut.1), TakesFront-then _ _ before.takes writes.2, writes.3)
+
+-- a fault's line is the last of an object, behind which none is left
+pub ends_last : {format : Format} {all : List BoundItem} (left items : List BoundItem) {a b : Written} (c : Written) {fails : Bool} (inner outer : Type 0) → WritesSoFar format all left a b fails → left ≡ items
+    → WritesLines format items inner b c (Ok Ended) → WritesLines format all outer a c (Ok Ended)
+ends_last {format} {all} left items {a} {b} c {fails} inner outer before same writes =
+    let whole : all ≡ before.front ++ items = before.split ∙ ap (λ (l : List BoundItem). before.front ++ l) same in
+    (
+      subst (λ (text : List ℕ). Takes a c text) (sym (ap (bound_text format) whole ∙ text_then format before.front items)) (Takes-then _ _ before.takes writes.0),
+      ap any_unbound whole ∙ fail_then before.front items ∙ ap (λ (e : Bool). any_unbound before.front || e) writes.1 ∙ or_true (any_unbound before.front),
+    )
+
+-- what lines tell that are all written
+pub failing_some : (format : Format) (items : List BoundItem) (limited : Type 0) (b c : Written) (came : Came) (more : Bool) → WritesLines format items limited b c (Ok came) → failing_of came ≡ Some more
+    → Takes b c (bound_text format items) × (more ≡ any_unbound items)
+failing_some format items limited b c (Whole fails) more writes e = let same : fails ≡ more = some_is fails more e in (writes.0, sym same ∙ writes.1)
+failing_some format items limited b c Ended more writes e = let same : true ≡ more = some_is true more e in (writes.0, sym same ∙ sym writes.1)
+failing_some format items limited b c Cut more writes e = absurd (none_not more e)
+
+pub failing_none : (came : Came) → failing_of came ≡ None → came ≡ Cut
+failing_none (Whole fails) e = absurd (none_not fails (sym e))
+failing_none Ended e = absurd (none_not true (sym e))
+failing_none Cut e = refl
+
+-- THE LINE OF A FAULT
+pub only_of : (left : Option ℕ) (fault : Fault) → OnlyLimited left fault → (refusal : Refusal) → fault ≡ Refused refusal → IsBudget refusal → IsLimited left
+only_of left (Refused refusal) only other is budget = let same : refusal ≡ other = cc in only (subst IsBudget (sym same) budget)
+only_of left (Source fault at) only other is budget = absurd (apart is)
+  where
+    apart : Source fault at ≡ Refused other → ⊥
+    apart e = cc
+
+module _ (format : Format) (all : List BoundItem) (limited : Type 0) where
+  cut_first : (refusal : Refusal) → IsBudget refusal → IsCutText format all (refusal_line format refusal)
+  cut_first refusal budget = record { front = []; rest = all; split = refl; refusal = refusal; for_budget = budget; text_is = refl }
+
+  line_alone : (refusal : Refusal) → all ≡ Faulty refusal ∷ [] → (bound_text format all ≡ refusal_line format refusal) × (any_unbound all ≡ true)
+  line_alone refusal is = rw is (append-nil (refusal_line format refusal), refl)
+
+  pub faulted_lines : (fault : Fault) (a b : Written) (result : Result Came NeedsFault) → ((refusal : Refusal) → fault ≡ Refused refusal → (IsBudget refusal → ⊥) → all ≡ Faulty refusal ∷ [])
+      → ((refusal : Refusal) → fault ≡ Refused refusal → IsBudget refusal → limited) → TellsFault format fault a b result → WritesLines format all limited a b result
+  faulted_lines (Refused refusal) a b (Ok (Whole fails)) tells only told = absurd told
+  faulted_lines (Refused refusal) a b (Ok Ended) tells only told =
+      let line = line_alone refusal (tells refusal refl told.0) in
+      (subst (λ (t : List ℕ). Takes a b t) (sym line.0) told.1, line.1)
+  faulted_lines (Refused refusal) a b (Ok Cut) tells only told = (only refusal refl told.0, refusal_line format refusal, cut_first refusal told.0, told.1)
+  faulted_lines (Refused refusal) a b (Err Read) tells only told = absurd told
+  faulted_lines (Refused refusal) a b (Err (Out fault)) tells only told = go (is_budget refusal.cause)
+    where
+      go : (IsBudget refusal) ⊎ (IsBudget refusal → ⊥) → WritesLines format all limited a b (Err (Out fault))
+      go (inl budget) = (refusal_line format refusal, inr (only refusal refl budget, cut_first refusal budget), told.0, told.1)
+      go (inr unless) = (refusal_line format refusal, inl (sym (line_alone refusal (tells refusal refl unless)).0), told.0, told.1)
+  faulted_lines (Source fault at) a b result tells only told =
+      rw (told.0, told.1) (record { front = []; rest = all; split = refl; takes = Takes-nothing a })
+
+-- OF A SYMBOL
+module _ (format : Format) (item : Option BoundItem) (object symbol : ℕ) (name : List ℕ) (limited : Type 0) where
+  item_is : (fault : Fault) → TellsItem item object symbol name (Err fault) → (refusal : Refusal) → fault ≡ Refused refusal → (IsBudget refusal → ⊥) → item ≡ Some (Faulty refusal)
+  item_is (Refused refusal) tells other is unless = let same : refusal ≡ other = cc in subst (λ (r : Refusal). item ≡ Some (Faulty r)) same (tells (subst (λ (r : Refusal). IsBudget r → ⊥) (sym same) unless))
+  item_is (Source fault at) tells other is unless = absurd (apart is)
+    where
+      apart : Source fault at ≡ Refused other → ⊥
+      apart e = cc
+
+  leads_fault : (fault : Fault) (a b : Written) (result : Result Came NeedsFault) → TellsItem item object symbol name (Err fault) → TellsFault format fault a b result → LeadsOn item result
+  leads_fault (Refused refusal) a b (Ok (Whole fails)) tells told = absurd told
+  leads_fault (Refused refusal) a b (Ok Ended) tells told = let is = tells told.0 in λ rest. rw is refl
+  leads_fault (Refused refusal) a b (Ok Cut) tells told = tt
+  leads_fault (Refused refusal) a b (Err fault) tells told = tt
+  leads_fault (Source fault at) a b result tells told = rw (told.0) tt
+
+  pub symbol_fault : (fault : Fault) (a b : Written) (result : Result Came NeedsFault) → TellsItem item object symbol name (Err fault)
+      → ((refusal : Refusal) → fault ≡ Refused refusal → IsBudget refusal → limited) → TellsFault format fault a b result → TellsSymbol format item limited a b result
+  symbol_fault fault a b result tells only told = record {
+    writes = faulted_lines format (before_items item []) limited fault a b result
+        (λ refusal is unless. ap (λ (i : Option BoundItem). before_items i []) (item_is fault tells refusal is unless)) only told;
+    leads = leads_fault fault a b result tells told;
+  }
+
+  pub symbol_none : (a : Written) → item ≡ None → TellsSymbol format item limited a a (Ok (Whole false))
+  symbol_none a is = rw is (record { writes = (Takes-nothing a, refl); leads = λ rest. refl })
+
+  module _ (found : BindingState) (is : item ≡ Some (Told object symbol found name)) where
+    pub symbol_told : (a b : Written) (fails : Bool) → Takes a b (binding_line format object symbol found name) → fails ≡ is_unbound found → TellsSymbol format item limited a b (Ok (Whole fails))
+    symbol_told a b fails takes e = rw is (record {
+      writes = (subst (λ (t : List ℕ). Takes a b t) (sym (append-nil (binding_line format object symbol found name))) takes, e ∙ sym (or_false (is_unbound found)));
+      leads = λ rest. refl;
+    })
+
+    pub symbol_out : (a b : Written) (fault : OutFault) → TakesFront a b (binding_line format object symbol found name) → OutFails b fault → TellsSymbol format item limited a b (Err (Out fault))
+    symbol_out a b fault takes fails = rw is (record {
+      writes = (binding_line format object symbol found name, inl (sym (append-nil (binding_line format object symbol found name))), takes, fails);
+      leads = tt;
+    })
+
+-- AN OBJECT'S
+module _ (objects : BoundObjects) (place : ℕ) (file : List ℕ) (told : IsScopeOf) (found : scope_of file objects.headers ≡ Ok told) where
+  pub items_are : (count : ℕ) → symbols_hashed file told ≡ Ok count → object_items objects place file ≡ items_from objects place file told.symbols 1 (count - 1)
+  unfolding object_items counted_items
+  items_are count e = rw (found, object_items) (rw (e, counted_items) refl)
+
+  pub items_fault : (refusal : Refusal) → symbols_hashed file told ≡ Err refusal → object_items objects place file ≡ Faulty refusal ∷ []
+  unfolding object_items counted_items
+  items_fault refusal e = rw (found, object_items) (rw (e, counted_items) refl)
+
+  pub items_refused : (fault : Fault) → RefusesAs (symbols_hashed file told) fault → (refusal : Refusal) → fault ≡ Refused refusal → (IsBudget refusal → ⊥) → object_items objects place file ≡ Faulty refusal ∷ []
+  items_refused (Refused refusal) tells other is unless =
+      let same : refusal ≡ other = cc in
+      items_fault other (subst (λ (r : Refusal). symbols_hashed file told ≡ Err r) same (tells (subst (λ (r : Refusal). IsBudget r → ⊥) (sym same) unless)))
+  items_refused (Source fault at) tells other is unless = absurd (apart is)
+    where
+      apart : Source fault at ≡ Refused other → ⊥
+      apart e = cc
+
+ok_is : (m n : ℕ) → ◌≡◌ {A = Result ℕ Refusal} (Ok m) (Ok n) → m ≡ n
+ok_is m n e = cc
+
+err_not : (refusal : Refusal) (n : ℕ) → ◌≡◌ {A = Result ℕ Refusal} (Err refusal) (Ok n) → ⊥
+err_not refusal n e = cc
+
+pub hashed_fits : (file : List ℕ) (told : IsScopeOf) (count : ℕ) → symbols_hashed file told ≡ Ok count → count ≤ told.table.symbols
+unfolding symbols_hashed
+hashed_fits file told count e = go (first_refusal (counts_check file told ∷ [])) refl
+  where
+    go : (r : Option Refusal) → first_refusal (counts_check file told ∷ []) ≡ r → count ≤ told.table.symbols
+    go (Some refusal) is = absurd (err_not refusal count (rw (is, symbols_hashed) at e))
+    go None is = let same = ok_is (min (hashed_symbol_count file told) told.table.symbols) count (rw (is, symbols_hashed) at e) in omega (arith, same)
+
+pub items_none : (objects : BoundObjects) (place : ℕ) (file : List ℕ) (symbols : Symbols) (y count : ℕ) → count ≤ y → items_from objects place file symbols y (count - y) ≡ []
+unfolding items_from
+items_none objects place file symbols y count past = let none : count - y ≡ 0 = omega (arith, past) in rw (none, items_from) refl
+
+pub items_next : (objects : BoundObjects) (place : ℕ) (file : List ℕ) (symbols : Symbols) (y count : ℕ) → y < count
+    → items_from objects place file symbols y (count - y) ≡ before_items (bound_item objects place file symbols y) (items_from objects place file symbols (y + 1) (count - (y + 1)))
+unfolding items_from
+items_next objects place file symbols y count less =
+    let more : count - y ≡ suc (count - (y + 1)) = omega (arith, less) in
+    let next : y + 1 ≡ suc y = omega arith in
+    rw (more, next, items_from) refl
+
+-- ALL OBJECTS'
+front_file : (n : ℕ) (files : List (List ℕ)) → n < length files → drop n files ≡ get_or files n [] ∷ drop (suc n) files
+front_file n [] less = absurd (omega (arith, less))
+front_file zero (file ∷ files) less = refl
+front_file (suc n) (file ∷ files) less = front_file n files (omega (arith, less))
+
+no_file : (n : ℕ) (files : List (List ℕ)) → length files ≤ n → drop n files ≡ []
+no_file zero [] past = refl
+no_file (suc n) [] past = refl
+no_file zero (file ∷ files) past = absurd (omega (arith, past))
+no_file (suc n) (file ∷ files) past = no_file n files (omega (arith, past))
+
+first_items : (objects : BoundObjects) (place : ℕ) (file : List ℕ) (files : List (List ℕ)) → objects_items objects place (file ∷ files) ≡ object_items objects place file ++ objects_items objects (suc place) files
+unfolding objects_items
+first_items objects place file files = refl
+
+pub objects_next : (objects : BoundObjects) (place : ℕ) (files : List (List ℕ)) → place < length files
+    → objects_items objects place (drop place files) ≡ object_items objects place (get_or files place []) ++ objects_items objects (place + 1) (drop (place + 1) files)
+objects_next objects place files less =
+    let front = front_file place files less in
+    let next : place + 1 ≡ suc place = omega arith in
+    ap (objects_items objects place) front ∙ first_items objects place (get_or files place []) (drop (suc place) files)
+    ∙ ap (λ (p : ℕ). object_items objects place (get_or files place []) ++ objects_items objects p (drop p files)) (sym next)
+
+pub objects_none : (objects : BoundObjects) (place : ℕ) (files : List (List ℕ)) → length files ≤ place → objects_items objects place (drop place files) ≡ []
+unfolding objects_items
+objects_none objects place files past = let none = no_file place files past in rw (none, objects_items) refl
+
+-- what is left behind one symbol's items, whatever they are
+pub parts_of : (item : Option BoundItem) (rest : List BoundItem) → (behind : List BoundItem) × (before_items item rest ≡ before_items item [] ++ behind)
+parts_of None rest = (rest, refl)
+parts_of (Some (Faulty refusal)) rest = ([], refl)
+parts_of (Some (Told object symbol found name)) rest = (rest, refl)

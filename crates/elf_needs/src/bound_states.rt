@@ -1,0 +1,180 @@
+//! What binds a symbol that an object of a program asks others for.
+ghost use Rattle.std.specs.Prelude.{◌≡◌, ◌<◌, ◌≤◌, ℕ, [], List, Option, None, Some, Ok, IfErr, get_or, length};
+ghost use Rattle.elf_binding.specs.Binds.{AreObjectsOf};
+ghost use Rattle.elf_binding.specs.Sought.{RefusesAs, asked_if};
+ghost use Rattle.elf_loader.specs.Naming.{IsFileIf};
+ghost use Rattle.elf_model.specs.Bindings.{is_weak};
+ghost use Rattle.elf_model.specs.BoundSymbols.{bound_item, file_of_version, index_at, lacks_asked, object_lacks, state_in};
+ghost use Rattle.elf_model.specs.Loader.{asked_name, symbol_offset};
+ghost use Rattle.elf_model.specs.LoaderScope.{Scope as IsScopeOf, scope_of};
+ghost use Rattle.elf_needs.specs.Bound.{AsksAll, OnlyLimited, TellsItem, TellsState, TellsWhether, bound_among};
+
+use crate::among::{Among, index_at, place_of};
+use crate::faults::is_told_alone;
+use crate::sought_names::{SoughtNames, show_name};
+use crate::states::unbound_state;
+use elf_binding::{Blame, BoundName, Object, SoughtSymbol, bind};
+use elf_headers::Fault;
+use elf_model::BindingState;
+use elf_source::Source;
+
+/// A symbol of an object that is looked in: the place of the object, and the symbol's index there.
+#[derive(Clone, Copy)]
+pub(crate) struct SymbolAt {
+    pub place: usize,
+    pub symbol: u64,
+}
+
+/// What binds a symbol, and the name that it asks for with its version, into `names.shown`; None where it
+/// asks for nothing.
+///
+/// # Errors
+/// Those of [`Object::sought`], and of [`state_of`].
+pub(crate) fn item_of<S: Source>(
+    objects: &mut [Object<S>],
+    among: &Among<'_>,
+    at: SymbolAt,
+    names: &mut SoughtNames,
+    left: &mut Option<u64>,
+) -> Result<Option<BindingState>, Fault>
+    requires { at.place < length objects.old }
+    ensures asks { AsksAll objects.old objects.new left.old left.new }
+    ensures limited { IfErr result (OnlyLimited left.old) }
+    ensures known { (headers : ℕ) (files : List (List ℕ)) (told : IsScopeOf) →
+        AreObjectsOf headers objects.old files →
+        scope_of (get_or files at.place []) headers ≡ Ok told → at.symbol < told.table.symbols →
+        TellsItem (bound_item (bound_among headers files among.now) at.place
+        (get_or files at.place []) told.symbols at.symbol)
+        (get_or among.now.indexes.now at.place 0) at.symbol names.new.shown.items result }
+{
+    let one = &mut objects[at.place];
+    let sought = one.sought(left, at.symbol, &mut names.name, &mut names.version)?;
+    let Some(sought) = sought else {
+        return Ok(None);
+    };
+    show_name(&names.name, &names.version, sought.versioned, &mut names.shown);
+    let state = state_of(objects, among, at, &sought, names, left)?;
+    Ok(Some(state))
+}
+
+/// What binds a symbol that asks for the name and the version that were read.
+///
+/// # Errors
+/// A read failed, or the budget is used up; or a fault of the name of the needed file.
+fn state_of<S: Source>(
+    objects: &mut [Object<S>],
+    among: &Among<'_>,
+    at: SymbolAt,
+    sought: &SoughtSymbol,
+    names: &mut SoughtNames,
+    left: &mut Option<u64>,
+) -> Result<BindingState, Fault>
+    requires { at.place < length objects.old }
+    ensures asks { AsksAll objects.old objects.new left.old left.new }
+    ensures limited { IfErr result (OnlyLimited left.old) }
+    ensures shown { names.new.shown ≡ names.old.shown }
+    ensures known { (headers : ℕ) (files : List (List ℕ)) (told : IsScopeOf) →
+        AreObjectsOf headers objects.old files →
+        scope_of (get_or files at.place []) headers ≡ Ok told → 0 < told.table.symbols →
+        sought.now.weak ≡ is_weak (get_or files at.place []) (symbol_offset told.symbols at.symbol) →
+        IsFileIf (get_or files at.place [])
+        (file_of_version (get_or files at.place []) told.symbols at.symbol) sought.now.file →
+        TellsState (state_in (bound_among headers files among.now) (get_or files at.place [])
+        told.symbols at.symbol (record { name = names.old.name;
+        asked = asked_if sought.now.versioned names.old.version })) result }
+{
+    let wanted = names.wanted(sought.versioned);
+    match bind(objects, left, &wanted) {
+        Ok(BoundName::Bound { object, symbol }) => Ok(BindingState::Bound {
+            object: index_at(among.indexes, object),
+            symbol,
+        }),
+        Ok(BoundName::Unbound) => {
+            let lacks = lacks_version(objects, among, at, sought, names, left)?;
+            Ok(unbound_state(sought.weak, lacks))
+        }
+        Err(Blame { object, fault }) => {
+            if is_told_alone(fault) {
+                return Err(fault);
+            }
+            Ok(BindingState::Refused {
+                object: index_at(among.indexes, object),
+            })
+        }
+    }
+}
+
+/// Whether the object of which a symbol that is not weak asks for a version lacks that one. It does not
+/// where its records are at fault.
+///
+/// # Errors
+/// A fault of the name of the needed file; a read failed; or the budget is used up.
+fn lacks_version<S: Source>(
+    objects: &mut [Object<S>],
+    among: &Among<'_>,
+    at: SymbolAt,
+    sought: &SoughtSymbol,
+    names: &mut SoughtNames,
+    left: &mut Option<u64>,
+) -> Result<bool, Fault>
+    requires { at.place < length objects.old }
+    ensures asks { AsksAll objects.old objects.new left.old left.new }
+    ensures limited { IfErr result (OnlyLimited left.old) }
+    ensures shown { names.new.shown ≡ names.old.shown }
+    ensures known { (headers : ℕ) (files : List (List ℕ)) (told : IsScopeOf) →
+        AreObjectsOf headers objects.old files →
+        scope_of (get_or files at.place []) headers ≡ Ok told → 0 < told.table.symbols →
+        sought.now.weak ≡ is_weak (get_or files at.place []) (symbol_offset told.symbols at.symbol) →
+        IsFileIf (get_or files at.place [])
+        (file_of_version (get_or files at.place []) told.symbols at.symbol) sought.now.file →
+        TellsWhether (lacks_asked (bound_among headers files among.now) (get_or files at.place [])
+        told.symbols at.symbol (asked_name (asked_if sought.now.versioned names.old.version)))
+        result }
+{
+    if !sought.versioned {
+        return Ok(false);
+    }
+    if sought.weak {
+        return Ok(false);
+    }
+    let Some(file) = &sought.file else {
+        return Ok(false);
+    };
+    objects[at.place].needed_file(left, file, &mut names.file)?;
+    lacks_in(objects, among, names.file.bytes(), names.version.bytes(), left)
+}
+
+/// Whether the object of a name is looked in and lacks a version of at most 4,096 bytes. It does not where
+/// its records are at fault.
+///
+/// # Errors
+/// A read failed; or the budget is used up.
+fn lacks_in<S: Source>(
+    objects: &mut [Object<S>],
+    among: &Among<'_>,
+    name: &[u8],
+    version: &[u8],
+    left: &mut Option<u64>,
+) -> Result<bool, Fault>
+    requires { length version.now ≤ 4096 }
+    ensures asks { AsksAll objects.old objects.new left.old left.new }
+    ensures limited { IfErr result (OnlyLimited left.old) }
+    ensures known { (headers : ℕ) (files : List (List ℕ)) → AreObjectsOf headers objects.old files →
+        TellsWhether (Ok (object_lacks (bound_among headers files among.now) name.now version.now))
+        result }
+{
+    let Some(index) = among.known.called(name) else {
+        return Ok(false);
+    };
+    let Some(place) = place_of(among.indexes, index) else {
+        return Ok(false);
+    };
+    if place >= objects.len() {
+        return Ok(false);
+    }
+    match objects[place].lacks_version(left, version) {
+        Ok(lacks) => Ok(lacks),
+        Err(fault) if is_told_alone(fault) => Err(fault),
+        Err(_) => Ok(false),
+    }
+}

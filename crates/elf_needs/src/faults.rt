@@ -1,0 +1,24 @@
+//! Faults that are told of no file alone.
+ghost use Rattle.elf_model.specs.Budget.{IsBudget};
+ghost use Rattle.elf_needs.specs.Bound.{IsToldAlone};
+ghost use Rattle.std.specs.Prelude.{MatchBool};
+
+use elf_headers::Fault;
+use elf_record::{Cause, Refusal};
+
+/// Whether a fault of a lookup is no refusal of the file: a read failed, or the budget is used up.
+pub(crate) fn is_told_alone(fault: Fault) -> bool
+    ensures { MatchBool result (IsToldAlone fault) (IsToldAlone fault → ⊥) }
+{
+    match fault {
+        Fault::Refused(refusal) => is_budget(refusal),
+        Fault::Source { .. } => true,
+    }
+}
+
+/// Whether a refusal is that the budget is used up.
+pub(crate) fn is_budget(refusal: Refusal) -> bool
+    ensures { MatchBool result (IsBudget refusal) (IsBudget refusal → ⊥) }
+{
+    matches!(refusal.cause, Cause::Budget)
+}
