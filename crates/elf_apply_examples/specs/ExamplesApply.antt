@@ -34,7 +34,7 @@ OverflowRefusesAll =
     × RefusesToApply (relocated (zeros 128) (relocation 0 12 1 ++ relocation 126 12 0x10000)) empty_layout 0xd8 Overflow
 
 -- the bytes of four entries over the ends of 64 bytes, in both orders
-abbrev FourEntries : List ℕ
+abbrev pub FourEntries : List ℕ
 FourEntries = (2 ∷ 1 ∷ []) ++ zeros 60 ++ (4 ∷ 6 ∷ 5 ∷ []) ++ zeros 61 ++ (8 ∷ 7 ∷ [])
 
 abbrev pub EitherOrderIsApplied : Type 0

@@ -42,7 +42,7 @@ TypesTakeTheirTerms =
     × WritesSection (eight_relocated 1 0 []) full_layout (0xfc ∷ 0x2f ∷ zeros 6)
 
 -- section 1 and a definition of `f`, both at 2^63
-abbrev high_layout : Layout
+abbrev pub high_layout : Layout
 high_layout = record { lookup = Compared; sections = (1, 2 ^ 63) ∷ []; definitions = (codes "f", 2 ^ 63) ∷ []; linkage = []; table = []; thread = [] }
 
 -- an address has 64 bits: as the symbol's section, as its definition, as its own value, and as the place; one that would

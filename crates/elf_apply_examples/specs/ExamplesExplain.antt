@@ -23,7 +23,7 @@ abbrev pub lacks : ℕ → ℕ → LayoutAddress → Option Missing
 lacks kind name wanted = Some (record { kind = kind; name = name; wanted = wanted })
 
 -- the entry of the call with another type
-abbrev typed_call : ℕ → List ℕ
+abbrev pub typed_call : ℕ → List ℕ
 typed_call kind = with_bytes 0x50 (little 4 kind) one_call
 
 -- the name where a definition, or an entry of a table, is missing; nothing for want of one for symbol 0

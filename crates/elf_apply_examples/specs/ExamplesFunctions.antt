@@ -12,15 +12,15 @@ use Rattle.elf_apply_examples.specs.ExamplesApply.{WritesSection, RefusesSection
 use Rattle.elf_apply_examples.specs.ExamplesExplain.{MissesInCall, ExplainsAs, lacks}
 
 -- the call's symbol, with a type, a section index and a value
-abbrev symbol_of : ℕ → ℕ → ℕ → List ℕ
+abbrev pub symbol_of : ℕ → ℕ → ℕ → List ℕ
 symbol_of type index value = little 1 (0x10 + type) ++ zeros 1 ++ little 2 index ++ little 8 value
 
 -- the call of a symbol of a type, at 0x30 in section 1, by an entry of a relocation type
-abbrev call_of : ℕ → ℕ → List ℕ
+abbrev pub call_of : ℕ → ℕ → List ℕ
 call_of type kind = with_bytes 0x50 (little 4 kind) (with_symbol 4 (symbol_of type 1 0x30))
 
 -- the same where the entry relocates the eight bytes of its section
-abbrev eight_of : ℕ → ℕ → List ℕ
+abbrev pub eight_of : ℕ → ℕ → List ℕ
 eight_of type kind = with_bytes 0x48 (little 8 0 ++ little 4 kind) (with_bytes 0xf8 (little 8 8) (with_symbol 4 (symbol_of type 1 0x30)))
 
 -- calls and pointers to an indirect function go to its procedure linkage table entry: R_X86_64_PC32, PLT32, 32, 32S, 16, 64

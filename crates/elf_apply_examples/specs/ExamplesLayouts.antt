@@ -23,7 +23,7 @@ WeakAloneIsZero =
     × WritesSection (with_symbol 4 (little 1 0x2a)) placed_layout (0xe8 ∷ 0xfb ∷ 0xef ∷ 0xff ∷ 0xff ∷ [])
 
 -- section 1, the last index of a section, and the first that is reserved, all at 0x1000
-abbrev last_layout : Layout
+abbrev pub last_layout : Layout
 last_layout = record { lookup = Compared; sections = (1, 0x1000) ∷ (0xfeff, 0x1000) ∷ (0xff00, 0x1000) ∷ []; definitions = []; linkage = []; table = []; thread = [] }
 
 abbrev pub ReservedIndicesAreUnplaced : Type 0
@@ -134,7 +134,7 @@ EntriesPastTheLastSection =
     (applied file 3 1 empty_layout ≡ Ok (0x44 ∷ 0x33 ∷ 0xff ∷ 0xff ∷ zeros 4)) × (apply_cost file 3 1 empty_layout ≡ 456)
 
 -- section 1, a definition of `f` and its procedure linkage table entry at addresses of their own
-abbrev layout_of : ℕ → List (List ℕ × ℕ) → List (List ℕ × ℕ) → Layout
+abbrev pub layout_of : ℕ → List (List ℕ × ℕ) → List (List ℕ × ℕ) → Layout
 layout_of address definitions linkage = record { lookup = Compared; sections = (1, address) ∷ []; definitions = definitions; linkage = linkage; table = []; thread = [] }
 
 -- an address may be 0: a definition's, a linkage table entry's, a section's as the place and as the symbol's

@@ -12,7 +12,7 @@ use Rattle.elf_apply_examples.specs.ExamplesApplyOrder.{eight_relocated}
 use Rattle.elf_model.specs.declared.causes.Cause.TheVariants.{Undefined, Unplaced, PlaceOutside, SymbolIndex, NameOutside}
 
 -- sections 1 and 4 at addresses of their own, and a procedure linkage table entry of `f`
-abbrev two_sections : Layout
+abbrev pub two_sections : Layout
 two_sections = record { lookup = Compared; sections = (1, 0x1000) ∷ (4, 0x5000) ∷ []; definitions = []; linkage = (codes "f", 0x2000) ∷ []; table = []; thread = [] }
 
 -- the call's entry for section 4, of eight bytes: the place is in that section, and section 1 has no entries
@@ -24,7 +24,7 @@ OtherSectionIsApplied =
     × WritesSection file two_sections (0xe8 ∷ zeros 4)
 
 -- the call with three symbols, which stand behind its section headers: symbol 0, `f`, which is not defined, and an absolute one
-abbrev three_symbols : ℕ → List ℕ
+abbrev pub three_symbols : ℕ → List ℕ
 three_symbols named =
     with_bytes 0x54 (little 4 named) (with_bytes 0x170 (little 8 0x1d8 ++ little 8 0x48) one_call)
     ++ symbol 0 0x10 0xfff1 0x2000 0 ++ symbol 1 0x10 0 0 0 ++ symbol 0 0x10 0xfff1 0x3000 0
@@ -39,7 +39,7 @@ SymbolsByTheirIndex =
     × RefusesToApply (three_symbols 0x10002) placed_layout 0x48 SymbolIndex
 
 -- one entry of a type at an offset of eight bytes
-abbrev one_entry : ℕ → ℕ → List ℕ
+abbrev pub one_entry : ℕ → ℕ → List ℕ
 one_entry type offset = relocated (zeros 8) (relocation offset type 0x1000)
 
 -- each type's bytes end with the section, and one byte on they are outside

@@ -11,7 +11,7 @@ use Rattle.elf_model.specs.declared.causes.Cause.TheVariants.{Unsupported, Overf
 use Rattle.elf_apply_examples.specs.ExamplesApply.{WritesSection, RefusesToApply}
 
 -- the call with another type in the place of R_X86_64_PLT32
-abbrev of_type : ℕ → List ℕ
+abbrev pub of_type : ℕ → List ℕ
 of_type type = with_bytes 0x50 (little 4 type) one_call
 
 -- section 1 at 0x1000, with such global offset table entries and such of offsets from the thread pointer

@@ -1,5 +1,5 @@
 //! A file that names are looked for in.
-ghost use Rattle.std.specs.Prelude.{◌≡◌, ◌≤◌, ◌+◌, ◌*◌, length};
+ghost use Rattle.std.specs.Prelude.{◌≡◌, ◌≤◌, ◌+◌, ◌*◌, length, true};
 ghost use Rattle.elf_headers.specs.Ledger.{Did};
 ghost use Rattle.elf_binding.specs.Kept.{KeepsScope, source_of, why_back};
 ghost use Rattle.elf_binding.specs.Looks.{Looks, Prepares};
@@ -43,8 +43,9 @@ impl<S: Source> Model for Object<S> {
 }
 
 impl<S: Source> Object<S> {
-    /// Finds what a lookup in a file is made in, as [`find_scope`] does, once, and keeps it. The headers
-    /// are loaded into the store, which is free again afterwards.
+    /// Finds what a lookup in a file is made in, as [`find_scope`] does, once, and keeps it: by its program
+    /// headers, since the source hides where section headers are. The headers are loaded into the store, which
+    /// is free again afterwards.
     ///
     /// # Errors
     /// Those of [`find_scope`]; the source is given back.
@@ -52,6 +53,7 @@ impl<S: Source> Object<S> {
         source: Counted<S>,
         store: &mut HeaderStore,
     ) -> Result<Object<S>, (Counted<S>, Fault)>
+        requires by_segments { source.hides ≡ true }
         ensures did { Did source (source_of result) (why_back result)
             (64 + 64 * store.old.slots + source.seen.size)
             (λ file. KeepsScope file store.old.slots source result) }

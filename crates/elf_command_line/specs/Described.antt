@@ -11,7 +11,7 @@ use Rattle.elf_command_line.specs.declared.words.WordKind.{WordKind}
 use Rattle.elf_command_line.specs.declared.words.WordKind.TheVariants.{Flag, Value, Repeated, Number, Count, Part, Needed, Index, Any}
 
 -- the rule of a word of this name and kind, where a parser takes the name of a part
-abbrev rule_of_kind : ValueParser → Text → WordKind → Rule
+abbrev pub rule_of_kind : ValueParser → Text → WordKind → Rule
 rule_of_kind part name Flag = flag name
 rule_of_kind part name (Value value) = valued name
 rule_of_kind part name (Repeated value) = repeated name

@@ -13,7 +13,7 @@ use Rattle.elf_model.specs.declared.states.FileState.{FileState}
 use Rattle.elf_model.specs.declared.states.FileState.TheVariants as state
 
 -- the state of a file by its whole report
-abbrev whole_state : List ℕ → FileState
+abbrev pub whole_state : List ℕ → FileState
 whole_state file = state_of None file (report_fault file 3 63 ALL)
 
 -- a refusal for a cause at an offset

@@ -66,7 +66,7 @@ FirstFourBytesTell =
     × (is_elf (126 ∷ 69 ∷ 76 ∷ 70 ∷ 2 ∷ []) ≡ false) × (is_elf (127 ∷ 69 ∷ 76 ∷ 71 ∷ 2 ∷ []) ≡ false)
 
 -- an archive of one member
-abbrev of_one : List ℕ → List ℕ
+abbrev pub of_one : List ℕ → List ℕ
 of_one content = archive_of (member (codes "a.o/") content)
 
 -- a style is that of the members' listings: the GNU system's names, and tables by the program headers, of which there are none
@@ -112,7 +112,7 @@ CeilingsOfArchives =
     × (archive_ceiling 734 3 (standard 62) ≡ 8 + 12 * (64 + 64 + (64 + 3 * 184)) + (64 + 3 * (184 + 734 + 45 * 96)))
 
 -- an archive of one member without data, and what is allowed of its members' lines within a budget, or without one
-abbrev Allows : Option ℕ → List ℕ → Option Refusal → Type 0
+abbrev pub Allows : Option ℕ → List ℕ → Option Refusal → Type 0
 Allows budget text fault = IsArchiveBudgeted true budget (archive_of (member (codes "a/") [])) 3 (standard 63) 0 text fault
 
 -- it costs 68 bytes: a budget of these allows the listing alone, and so does none

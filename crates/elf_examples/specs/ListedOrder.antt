@@ -20,14 +20,14 @@ with_counts phnum shentsize shnum shstrndx =
     with_bytes 0x38 (little 2 phnum ++ little 2 shentsize ++ little 2 shnum ++ little 2 shstrndx) one_symbol_table
 
 -- the first check of a file header that fails, and the first load check with so many headers permitted
-abbrev HeaderStops : List ℕ → ℕ → Cause → Type 0
+abbrev pub HeaderStops : List ℕ → ℕ → Cause → Type 0
 HeaderStops file at cause = first_refusal (header_checks file) ≡ Some (record { at = at; cause = cause })
 
-abbrev LoadStops : List ℕ → ℕ → ℕ → Cause → Type 0
+abbrev pub LoadStops : List ℕ → ℕ → ℕ → Cause → Type 0
 LoadStops file headers at cause = first_refusal (load_checks file headers) ≡ Some (record { at = at; cause = cause })
 
 -- all load checks pass
-abbrev LoadPasses : List ℕ → ℕ → Type 0
+abbrev pub LoadPasses : List ℕ → ℕ → Type 0
 LoadPasses file headers = first_refusal (load_checks file headers) ≡ None
 
 -- a byte of the identification that is one less or one more than it is to be

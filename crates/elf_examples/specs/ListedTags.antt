@@ -54,7 +54,7 @@ UnnamedTagsHaveNoString =
     ++ codes "D     5 800000000000000f 0000000000000063 \n"
 
 -- a file with two program headers, of these types, the second of a note behind them
-abbrev two_segments : ℕ → ℕ → List ℕ
+abbrev pub two_segments : ℕ → ℕ → List ℕ
 two_segments first second =
     with_bytes 0x36 (little 2 56 ++ little 2 2) (with_bytes 0x20 (little 8 0x40) (file_header 2 0 0 0))
     ++ program_header first 4 0xb0 0x400000 20 4 ++ program_header second 4 0xb0 0x400000 20 4

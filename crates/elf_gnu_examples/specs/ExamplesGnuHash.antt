@@ -28,37 +28,37 @@ unfoldable pub gnu_table_of : List ℕ → List ℕ → List ℕ
 gnu_table_of filter chains = zeros 8 ++ words (3 ∷ 5 ∷ 2 ∷ 9 ∷ []) ++ filter ++ words (0 ∷ 6 ∷ 9 ∷ []) ++ words chains
 
 -- the table has so many bytes, and the symbols are so many
-abbrev table_with : (size symbols : ℕ) → HashTable
+abbrev pub table_with : (size symbols : ℕ) → HashTable
 table_with size symbols = record { place = 8; size = size; symbols = symbols }
 
 -- the hash of `printf`, for which the second bucket is, and the first word of the filter, of which bits 56 and 21
-abbrev its_hash : ℕ
+abbrev pub its_hash : ℕ
 its_hash = 0x156b2bb8
 
-abbrev its_filter : List ℕ
+abbrev pub its_filter : List ℕ
 its_filter = little 8 0x0100000000200000 ++ zeros 8
 
 -- chain words from symbol 5 on: the hash at symbol 6, another at symbol 7, the hash again at symbol 8, which is the last of the
 -- chain
-abbrev its_chains : List ℕ
+abbrev pub its_chains : List ℕ
 its_chains = 0 ∷ 0x156b2bb8 ∷ 0x156b2bbe ∷ 0x156b2bb9 ∷ 0x156b2bb9 ∷ []
 
 -- the symbol of an index answers; symbol 7 cannot be tried
-abbrev answers_at : ℕ → ℕ → Result Bool Refusal
+abbrev pub answers_at : ℕ → ℕ → Result Bool Refusal
 answers_at index y = if y == 7 then Err (record { at = 700; cause = NameOutside }) else Ok (y == index)
 
 -- a lookup of a hash finds the symbol of an index, once so many are tried and so many words are read
-abbrev GivesSymbol : List ℕ → (hash index tried read : ℕ) → Type 0
+abbrev pub GivesSymbol : List ℕ → (hash index tried read : ℕ) → Type 0
 GivesSymbol file hash index tried read =
     gnu_looked_up file (table_with 80 14) hash (answers_at index) ≡ record { answer = Ok (Some index); tried = tried; read = read }
 
 -- it finds none
-abbrev GivesNone : List ℕ → (hash index tried read : ℕ) → Type 0
+abbrev pub GivesNone : List ℕ → (hash index tried read : ℕ) → Type 0
 GivesNone file hash index tried read =
     gnu_looked_up file (table_with 80 14) hash (answers_at index) ≡ record { answer = Ok None; tried = tried; read = read }
 
 -- it is refused at a word that leads nowhere
-abbrev LeadsNowhere : List ℕ → HashTable → (at tried read : ℕ) → Type 0
+abbrev pub LeadsNowhere : List ℕ → HashTable → (at tried read : ℕ) → Type 0
 LeadsNowhere file table at tried read =
     gnu_looked_up file table its_hash (answers_at 99)
     ≡ record { answer = Err (record { at = at; cause = HashIndex }); tried = tried; read = read }

@@ -9,16 +9,16 @@ use Rattle.elf_model.specs.Style.{looked_at}
 use Rattle.elf_gnu_examples.specs.LoaderWords.{LoaderCosts, Fails, LoaderFinds, found_2, of_v2, second_f}
 
 -- a lookup by the program headers
-abbrev FindsBySegments : List ℕ → List ℕ → List ℕ → Type 0
+abbrev pub FindsBySegments : List ℕ → List ℕ → List ℕ → Type 0
 FindsBySegments file text lines = LoaderFinds (looked_at true file) text lines
 
-abbrev FailsBySegments : List ℕ → List ℕ → List ℕ → Type 0
+abbrev pub FailsBySegments : List ℕ → List ℕ → List ℕ → Type 0
 FailsBySegments file text line = Fails (looked_at true file) text line
 
-abbrev AsksBySegments : List ℕ → List ℕ → ℕ → Type 0
+abbrev pub AsksBySegments : List ℕ → List ℕ → ℕ → Type 0
 AsksBySegments file text cost = LoaderCosts (looked_at true file) text cost
 
-abbrev second_with_v2 : List ℕ
+abbrev pub second_with_v2 : List ℕ
 second_with_v2 =
     codes "Y     1          4 00000000000002a9 0000000000000001 FUNC    GLOBAL DEFAULT       7 f\n" ++ codes "X     1          4     3 - V2\n" ++ found_2
 
@@ -47,7 +47,7 @@ SegmentsAreChecked =
     × FailsBySegments (with_bytes 0xb0 (little 4 0) versioned_library) (codes "f") (codes "! 0000000000000250 hash-shape\n")
 
 -- the library as a file of Alpha, with a hash table of the gABI whose words have 8 bytes by its header, and 4
-abbrev alpha : List ℕ → List ℕ
+abbrev pub alpha : List ℕ → List ℕ
 alpha file = with_bytes 0x12 (little 2 0x9026) file
 
 -- words of 8 bytes are refused in Alpha's files alone, and in tables of the gABI alone; where their size is not told, by the

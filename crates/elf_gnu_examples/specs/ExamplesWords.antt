@@ -6,13 +6,13 @@ use Rattle.elf_model.specs.FixturesVersions.{versioned_library, versioned_withou
 use Rattle.elf_gnu_examples.specs.LoaderWords.{LoaderCosts, Fails, LoaderFinds, absent_2, first_f, found_1, found_2, of_v1, of_v2, second_f}
 
 -- the library without a section of definitions and without one of needs, and the one without section headers without their entries
-abbrev without_records : List ℕ
+abbrev pub without_records : List ℕ
 without_records = with_bytes 0x474 (little 4 1) (with_bytes 0x434 (little 4 1) versioned_library)
 
-abbrev without_rows : List ℕ
+abbrev pub without_rows : List ℕ
 without_rows = with_bytes 0x2c0 (little 8 0x63) (with_bytes 0x2a0 (little 8 0x63) versioned_without_sections)
 
-abbrev first_by_segments : List ℕ
+abbrev pub first_by_segments : List ℕ
 first_by_segments = codes "Y     1          3 00000000000002a8 0000000000000001 FUNC    GLOBAL DEFAULT       7 f\n"
 
 -- by the sections: the first symbol of the name answers, for a name alone and for any version of it; no version is told

@@ -96,7 +96,7 @@ MembersStand =
     ++ codes "A     1 00000000000001b8 0000000000000000 b.o\n"
 
 -- an archive of a member that is refused
-abbrev with_cut_member : List ℕ
+abbrev pub with_cut_member : List ℕ
 with_cut_member = archive_of (member (codes "a.o/") (127 ∷ 69 ∷ 76 ∷ 70 ∷ 2 ∷ []) ++ member (codes "b.o/") one_symbol_table)
 
 -- where the line of a member does not stand alone, it stands before a row of the names, or the line of the member's refusal

@@ -23,20 +23,20 @@ unfoldable pub asked_within : ℕ → List (List ℕ) → List ℕ → List ℕ
 asked_within cap texts file =
     report_of Columns (suffixed_symbol_rows file (with_versions cap Columns (RowsOf (map (wanted_text true) texts))) 2 (section_at file 2))
 
-abbrev asked_listed : List (List ℕ) → List ℕ → List ℕ
+abbrev pub asked_listed : List (List ℕ) → List ℕ → List ℕ
 asked_listed = asked_within 63
 
 -- the lines of its symbols
-abbrev puts_line : List ℕ
+abbrev pub puts_line : List ℕ
 puts_line = codes "Y     2          1 0000000000000000 0000000000000000 FUNC    GLOBAL DEFAULT   UND   puts@GLIBC_2.2.5\n"
 
-abbrev hidden_line : List ℕ
+abbrev pub hidden_line : List ℕ
 hidden_line = codes "Y     2          3 00000000000002a8 0000000000000001 FUNC    GLOBAL DEFAULT       7 f@V1\n"
 
-abbrev default_line : List ℕ
+abbrev pub default_line : List ℕ
 default_line = codes "Y     2          4 00000000000002a9 0000000000000001 FUNC    GLOBAL DEFAULT       7 f@@V2\n"
 
-abbrev before_line : List ℕ
+abbrev pub before_line : List ℕ
 before_line =
     codes "Y     2          0 0000000000000000 0000000000000000 NOTYPE  LOCAL  DEFAULT   UND   \n" ++ puts_line
     ++ codes "Y     2          2 00000000000002a0 0000000000000008 OBJECT  UNIQUE DEFAULT       7 g\n"
@@ -94,7 +94,7 @@ OtherTablesHaveTheirs =
     asked_listed (codes "f@V1" ∷ []) (with_bytes 0x418 (little 4 3) versioned_library) ≡ []
 
 -- a relocation entry of `puts`, and one of symbol 0, in the place of the dynamic entries
-abbrev relocated_library : (symbol : ℕ) → List ℕ
+abbrev pub relocated_library : (symbol : ℕ) → List ℕ
 relocated_library symbol =
     with_bytes 0x4b4 (little 4 4)
     (with_bytes 0x4d0 (little 8 24) (with_bytes 0x4d8 (little 4 2) (with_bytes 0x4e8 (little 8 24)

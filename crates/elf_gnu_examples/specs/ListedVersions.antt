@@ -24,7 +24,7 @@ unfoldable pub versions_listed : List ℕ → List ℕ
 versions_listed file = parts_listed VERSIONS file
 
 -- it has so many lines, and ends in one
-abbrev EndsInLine : List ℕ → ℕ → List ℕ → Type 0
+abbrev pub EndsInLine : List ℕ → ℕ → List ℕ → Type 0
 EndsInLine file count last =
     let text = versions_listed file in
     (length (filter (λ b. b == 10) text) ≡ count) × (drop (length text - length last) text ≡ last)
@@ -120,7 +120,7 @@ DefinitionsComeFirst =
     EndsInLine (with_bytes 0x226 (little 2 3) (with_bytes 0x1a2 (little 2 3) versioned_library)) 11 (codes "X     4          5     3 - V2\n")
 
 -- a library that defines two versions of a symbol and needs one
-abbrev version_lines : List ℕ
+abbrev pub version_lines : List ℕ
 version_lines =
     codes "V     5 DEF      1 0001 02f895ef libf.so\n"
     ++ codes "V     5 DEF      2 0000 00000591 V1\n"
@@ -196,7 +196,7 @@ NoneWithoutSections =
     (versions_listed versioned_without_sections ≡ []) × (length versioned_library ≡ 1264) × (length versioned_without_sections ≡ 752)
 
 -- definitions that lie over each other, 13 bytes apart: as many are met as have room one behind the other
-abbrev overlapping : List ℕ
+abbrev pub overlapping : List ℕ
 overlapping = take 1000 (concat (replicate 77 (1 ∷ 0 ∷ 0 ∷ 13 ∷ 0 ∷ 0 ∷ 0 ∷ 0 ∷ 0 ∷ 0 ∷ 0 ∷ 0 ∷ 8 ∷ [])))
 
 abbrev pub OverlappingAreCut : Type 0
@@ -205,7 +205,7 @@ OverlappingAreCut =
     (codes "V     1 DEF      0 0d00 00000000 \n" ++ codes "! 00000000000002bd version-cut\n")
 
 -- how many bytes are asked for at most: of the library, with and without sections, and where checks fail
-abbrev parts_cost : ℕ → List ℕ → ℕ
+abbrev pub parts_cost : ℕ → List ℕ → ℕ
 parts_cost parts file = listing_cost file 8 standard_style parts
 
 abbrev pub VersionsCost : Type 0

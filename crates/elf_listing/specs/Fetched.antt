@@ -34,7 +34,7 @@ pub record FetchesSymbol {S W : Type 0} {s : Sources S} {w : Sinks W} (old new :
       → NameRead (symbol_named file old.style.cap.bytes header at symbol).0 result new.name (symbol_named file old.style.cap.bytes header at symbol).1
 
 -- how a name ends that was read with whether its symbol is defined
-abbrev end_read : Result EntryName Fault → Result NameEnd Fault
+abbrev pub end_read : Result EntryName Fault → Result NameEnd Fault
 end_read (Ok symbol) = Ok symbol.end
 end_read (Err fault) = Err fault
 

@@ -62,7 +62,7 @@ row_items (SuffixedRelocations section linked suffixes) file style table_at inde
     suffixed_relocation_row file style section (section_at file section) index
 
 -- the tables that a kind's names are read from lie within a source of this size
-abbrev KindWithin : ℕ → ListedAs → Type 0
+abbrev pub KindWithin : ℕ → ListedAs → Type 0
 KindWithin size Segments = Unit {0}
 KindWithin size (Symbols section names) = StringsWithin size names
 KindWithin size (Relocations section linked) = IfSome linked (SymbolsWithin size)
@@ -89,7 +89,7 @@ KindOf file table_at (SuffixedRelocations section linked suffixes) =
     × AreSuffixes file (sh_link file (section_at file section)) suffixes.now
 
 -- an index of a kind's rows fits the column's type
-abbrev IndexFits : ListedAs → ℕ → Type 0
+abbrev pub IndexFits : ListedAs → ℕ → Type 0
 IndexFits Segments index = index < 2 ^ 16
 IndexFits (Symbols section names) index = Unit {0}
 IndexFits (Relocations section linked) index = Unit {0}

@@ -20,7 +20,7 @@ use Rattle.elf_listing.specs.declared.parts.Part.TheVariants.{Headers, Segments,
 
 -- WHAT A PART LISTS: its bit among the parts of a listing; how many headers it goes over, those in the store; the items of the
 -- header of an index, in a file; and how many bytes it asks for at most with its table, by the store
-record PartListed : Type 0 where
+pub record PartListed : Type 0 where
   pub bit : ℕ
   pub count : Stored → ℕ
   pub items : List ℕ → Style → ℕ → List ListingItem
@@ -42,7 +42,7 @@ of_sections kind = record {
   cost = λ loaded store cap i. table_cost kind (store_sections store) i loaded.size cap;
 }
 
-abbrev of_segments : TableKind → PartListed
+abbrev pub of_segments : TableKind → PartListed
 of_segments kind = record {
   bit = kind.part;
   count = λ store. store.segments;
@@ -51,7 +51,7 @@ of_segments kind = record {
 }
 
 -- the section headers, each with its name; and the program headers, which ask for nothing more
-abbrev part_of_section_headers : PartListed
+abbrev pub part_of_section_headers : PartListed
 part_of_section_headers = record {
   bit = SECTIONS;
   count = λ store. store.loaded;
@@ -59,7 +59,7 @@ part_of_section_headers = record {
   cost = λ loaded store cap i. cost_where (not (loaded.header.e_shstrndx == 0)) (name_bytes cap);
 }
 
-abbrev part_of_program_headers : PartListed
+abbrev pub part_of_program_headers : PartListed
 part_of_program_headers = record {
   bit = SEGMENTS;
   count = λ store. store.segments;

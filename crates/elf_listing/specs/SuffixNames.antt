@@ -22,7 +22,7 @@ use Rattle.elf_listing.specs.declared.listing.Listing.{Listing}
 use Rattle.elf_listing.specs.declared.suffixes.Suffixes.{Suffixes}
 
 -- a word of the file was read, or a read failed
-abbrev WordRead : List ℕ → ℕ → Result ℕ Fault → Type 0
+abbrev pub WordRead : List ℕ → ℕ → Result ℕ Fault → Type 0
 WordRead file at (Ok word) = word ≡ versym file at
 WordRead file at (Err fault) = IsOfRead fault
 

@@ -52,7 +52,7 @@ pub record EndsEntries (old new : EntryReading) : Type 0 where
   pub none_left : (bytes : List ℕ) → entries_left bytes old ≡ 0
 
 -- a step that fails, as that of a cursor over rows does
-record FailsEntries (old new : EntryReading) (fault : Fault) : Type 0 where
+pub record FailsEntries (old new : EntryReading) (fault : Fault) : Type 0 where
   pub fails : FailsRows old.cursor new.cursor fault
   pub same_end : new.ended ≡ old.ended
 

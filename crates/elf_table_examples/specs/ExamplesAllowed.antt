@@ -14,7 +14,7 @@ use Rattle.elf_model.specs.declared.causes.Cause.TheVariants.{Budget}
 use Rattle.elf_model.specs.declared.states.FileState.{FileState}
 
 -- the line of a read at an offset that has no room in a budget, alone, with status 1
-abbrev budget_answer : ℕ → Answer
+abbrev pub budget_answer : ℕ → Answer
 budget_answer at = record { text = refusal_line Columns (record { at = at; cause = Budget }); status = 1 }
 
 -- without a budget, and within one of the cost, the whole is answered

@@ -7,7 +7,7 @@ use Rattle.elf_model.specs.declared.formats.Format.TheVariants.{Columns, Object}
 use Rattle.elf_table_examples.specs.ExamplesHash.{hash_comes_last}
 
 -- the answer of a lookup
-abbrev LookupGives : List ℕ → List ℕ → List ℕ → ℕ → Type 0
+abbrev pub LookupGives : List ℕ → List ℕ → List ℕ → ℕ → Type 0
 LookupGives file wanted text status = find_answer Columns file 4 wanted ≡ record { text = text; status = status }
 
 -- names that are found, also where the index of the symbol is not the number of names compared, and in a section of symbols

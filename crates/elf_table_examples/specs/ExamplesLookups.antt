@@ -24,7 +24,7 @@ LongerHashes =
 
 -- one bucket, whose chain goes from symbol 19 down to symbol 1 and ends; the words stand at 0x1a8, the symbols at 0x204,
 -- the first of which is `a` and all others are `b`
-abbrev long_chain : List ℕ
+abbrev pub long_chain : List ℕ
 long_chain =
     with_bytes 0x100 (little 8 0x1a8 ++ little 8 0x5c) (with_symbols_header 24 (little 8 0x204 ++ little 8 0x1e0))
     ++ words (1 ∷ 20 ∷ 19 ∷ 0 ∷ numbers_from 0 19)

@@ -10,7 +10,7 @@ abbrev pub one_name : List ℕ
 one_name = 0 ∷ codes "abc" ++ zeros 1
 
 -- a name with no NUL behind it
-abbrev open_name : List ℕ
+abbrev pub open_name : List ℕ
 open_name = 0 ∷ codes "abc"
 
 -- a name of exactly cap bytes is whole, a longer one is cut to cap bytes

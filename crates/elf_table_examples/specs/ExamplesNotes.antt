@@ -19,14 +19,14 @@ abbrev pub note : ℕ → List ℕ → List ℕ → Note
 note kind name descriptor = record { kind = kind; name = name; descriptor = descriptor }
 
 -- notes to the table's end, and notes up to a place where the table is cut
-abbrev uncut : List Note → Walk
+abbrev pub uncut : List Note → Walk
 uncut notes = record { notes = notes; cut = None }
 
-abbrev cut_note_at : List Note → ℕ → Walk
+abbrev pub cut_note_at : List Note → ℕ → Walk
 cut_note_at notes place = record { notes = notes; cut = Some place }
 
 -- a build identifier: the name `GNU` and a NUL, a descriptor of 20 bytes, 36 bytes in all
-abbrev build_id : Note
+abbrev pub build_id : Note
 build_id = note 3 (codes "GNU" ++ 0 ∷ []) counting
 
 -- one note that fills its table

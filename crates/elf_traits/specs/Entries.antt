@@ -52,7 +52,7 @@ abbrev pub AreTraitEntries : List ℕ → TraitEntries → Type 0
 AreTraitEntries file found = EachValue (λ value tag. value ≡ dynamic_entry_value file tag) found
 
 -- the first segment of dynamic entries is refused
-record EntriesRefused (file : List ℕ) (refusal : Refusal) : Type 0 where
+pub record EntriesRefused (file : List ℕ) (refusal : Refusal) : Type 0 where
   pub index : ℕ
   pub first : dynamic_segment_index file ≡ Some index
   pub fails : first_refusal (segment_dynamic_checks file (segment_at file index)) ≡ Some refusal
