@@ -65,7 +65,7 @@ abbrev pub LinesTell : Type 0
 LinesTell =
     let all = bound_items (objects_of (asking ∷ weak ∷ []) None) in
     (bound_text Columns all
-        ≡ codes "B     0          1 unbound  -     -          puts@GLIBC_2.2.5\n" ++ codes "B     0          4 bound        2          4 f@V2\n"
-        ++ codes "B     2          1 weak     -     -          puts@GLIBC_2.2.5\n")
+    ≡ codes "B     0          1 unbound  -     -          puts@GLIBC_2.2.5\n" ++ codes "B     0          4 bound        2          4 f@V2\n"
+    ++ codes "B     2          1 weak     -     -          puts@GLIBC_2.2.5\n")
     × (any_unbound all ≡ true)
     × (any_unbound (bound_items (objects_of (weak ∷ []) None)) ≡ false)

@@ -15,12 +15,12 @@ use Rattle.elf_binding.specs.Sought.{RefusesAs}
 use Rattle.elf_model.specs.declared.causes.Refusal.{Refusal}
 use Rattle.elf_model.specs.declared.formats.Format.{Format}
 use Rattle.elf_model.specs.declared.states.BindingState.{BindingState}
-use Rattle.elf_source.specs.Output.{OutFails, Puts, Takes, TakesFront, Written}
+use Rattle.elf_source.specs.Output.{OutFails, Takes, TakesFront, Written}
 use Rattle.elf_source.proofs.PutsLaws.{Takes-nothing, Takes-then, TakesFront-more, TakesFront-then}
 use Rattle.elf_source.specs.declared.faults.OutFault.{OutFault}
 use Rattle.elf_headers.specs.declared.fault.Fault.{Fault}
 use Rattle.elf_headers.specs.declared.fault.Fault.TheVariants.{Refused, Source}
-use Rattle.elf_needs.specs.Bound.{failing_of, IsCutText, IsLimited, LeadsOn, OnlyLimited, TellsFault, TellsItem, TellsSymbol, WritesFront, WritesLines, WritesSoFar}
+use Rattle.elf_needs.specs.Bound.{failing_of, IsCutText, IsLimited, LeadsOn, OnlyLimited, TellsFault, TellsItem, TellsSymbol, WritesLines, WritesSoFar}
 use Rattle.elf_needs.specs.declared.among.Came.{Came}
 use Rattle.elf_needs.specs.declared.among.Came.TheVariants.{Cut, Ended, Whole}
 use Rattle.elf_needs.specs.declared.walk.NeedsFault.{NeedsFault}
@@ -110,8 +110,8 @@ module _ {format : Format} {all : List BoundItem} (left items rest : List BoundI
       go : (writes.0 ≡ bound_text format items) ⊎ (inner × IsCutText format items writes.0) → WritesLines format all outer a c (Err (Out fault))
       go (inl is) =
           let text : bound_text format all ≡ (bound_text format before.front ++ writes.0) ++ bound_text format rest =
-                  ap (bound_text format) (whole_of items rest before parts) ∙ text_then format before.front (items ++ rest) ∙ ap (λ (t : List ℕ). bound_text format before.front ++ t) (text_then format items rest)
-                  ∙ sym (append_assoc (bound_text format before.front) (bound_text format items) (bound_text format rest)) ∙ ap (λ (t : List ℕ). (bound_text format before.front ++ t) ++ bound_text format rest) (sym is) in
+          ap (bound_text format) (whole_of items rest before parts) ∙ text_then format before.front (items ++ rest) ∙ ap (λ (t : List ℕ). bound_text format before.front ++ t) (text_then format items rest)
+          ∙ sym (append_assoc (bound_text format before.front) (bound_text format items) (bound_text format rest)) ∙ ap (λ (t : List ℕ). (bound_text format before.front ++ t) ++ bound_text format rest) (sym is) in
           (bound_text format all, inl refl, subst (λ (t : List ℕ). TakesFront a c t) (sym text) (TakesFront-more _ _ (TakesFront-then _ _ before.takes writes.2)), writes.3)
       go (inr cut) =
           (bound_text format before.front ++ writes.0, inr (out_of cut.0, cut_behind all before.front rest (whole_of items rest before parts) cut.1), TakesFront-then _ _ before.takes writes.2, writes.3)
@@ -120,8 +120,7 @@ module _ {format : Format} {all : List BoundItem} (left items rest : List BoundI
 pub ends_last : {format : Format} {all : List BoundItem} (left items : List BoundItem) {a b : Written} (c : Written) {fails : Bool} (inner outer : Type 0) → WritesSoFar format all left a b fails → left ≡ items
     → WritesLines format items inner b c (Ok Ended) → WritesLines format all outer a c (Ok Ended)
 ends_last {format} {all} left items {a} {b} c {fails} inner outer before same writes =
-    let whole : all ≡ before.front ++ items = before.split ∙ ap (λ (l : List BoundItem). before.front ++ l) same in
-    (
+    let whole : all ≡ before.front ++ items = before.split ∙ ap (λ (l : List BoundItem). before.front ++ l) same in (
       subst (λ (text : List ℕ). Takes a c text) (sym (ap (bound_text format) whole ∙ text_then format before.front items)) (Takes-then _ _ before.takes writes.0),
       ap any_unbound whole ∙ fail_then before.front items ∙ ap (λ (e : Bool). any_unbound before.front || e) writes.1 ∙ or_true (any_unbound before.front),
     )

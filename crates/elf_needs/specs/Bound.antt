@@ -1,7 +1,5 @@
 -- What binding the symbols of a program's objects did, over files that are kept open.
-use Rattle.std.specs.Prelude.{ℕ, ◌≡◌, ◌<◌, ◌≤◌, ◌==◌, ◌||◌, ◌⊎◌, if◌then◌else◌, nat_lt, Bool, true, false, List, [], ◌∷◌, ◌++◌, length, get_or, position, slice_index_or, Option, None, Some, Result, Ok, Err, IfErr}
-use Rattle.elf_model.specs.BindingLines.{is_unbound}
-use Rattle.elf_model.specs.Bindings.{is_weak, whole_name}
+use Rattle.std.specs.Prelude.{ℕ, ◌≡◌, ◌<◌, ◌≤◌, ◌⊎◌, Bool, true, false, List, [], ◌++◌, length, get_or, Option, None, Some, Result, Ok, Err}
 use Rattle.elf_model.specs.BoundSymbols.{BoundItem, BoundObjects, Faulty, Told, any_unbound, before_items, bound_text}
 use Rattle.elf_model.specs.Budget.{IsBudget}
 use Rattle.elf_model.specs.Lines.{refusal_line}

@@ -29,10 +29,7 @@ impl<W: Sink> ObjectWalk<'_, '_, W> {
     /// # Errors
     /// A read or the output failed.
     #[inline(never)]
-    pub fn bind<S: Source + Drop>(
-        &mut self,
-        opened: &mut OpenObjects<S>,
-    ) -> Result<u8, NeedsFault>
+    pub fn bind<S: Source + Drop>(&mut self, opened: &mut OpenObjects<S>) -> Result<u8, NeedsFault>
         ensures asks { AsksAll opened.old.objects.items opened.new.objects.items
             self.old.search.left self.new.search.left }
         ensures known { (headers : ℕ) (files : List (List ℕ)) →

@@ -52,7 +52,12 @@ pub(crate) fn item_of<S: Source>(
     let Some(sought) = sought else {
         return Ok(None);
     };
-    show_name(&names.name, &names.version, sought.versioned, &mut names.shown);
+    show_name(
+        &names.name,
+        &names.version,
+        sought.versioned,
+        &mut names.shown,
+    );
     let state = state_of(objects, among, at, &sought, names, left)?;
     Ok(Some(state))
 }
@@ -80,8 +85,10 @@ fn state_of<S: Source>(
         IsFileIf (get_or files at.place [])
         (file_of_version (get_or files at.place []) told.symbols at.symbol) sought.now.file →
         TellsState (state_in (bound_among headers files among.now) (get_or files at.place [])
-        told.symbols at.symbol (record { name = names.old.name;
-        asked = asked_if sought.now.versioned names.old.version })) result }
+        told.symbols at.symbol (record {
+          name = names.old.name;
+          asked = asked_if sought.now.versioned names.old.version;
+        })) result }
 {
     let wanted = names.wanted(sought.versioned);
     match bind(objects, left, &wanted) {
@@ -141,7 +148,13 @@ fn lacks_version<S: Source>(
         return Ok(false);
     };
     objects[at.place].needed_file(left, file, &mut names.file)?;
-    lacks_in(objects, among, names.file.bytes(), names.version.bytes(), left)
+    lacks_in(
+        objects,
+        among,
+        names.file.bytes(),
+        names.version.bytes(),
+        left,
+    )
 }
 
 /// Whether the object of a name is looked in and lacks a version of at most 4,096 bytes. It does not where

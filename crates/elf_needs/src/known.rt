@@ -135,7 +135,9 @@ impl Objects {
     fn first_called(&self, name: &[u8]) -> Option<usize>
         ensures { result ≡ position (is_called self.now.links.texts name.now) self.now.known.items }
     {
-        self.known.iter().position(|known| self.is_called(known, name))
+        self.known
+            .iter()
+            .position(|known| self.is_called(known, name))
     }
 
     /// Whether one object has a name.

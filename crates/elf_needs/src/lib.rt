@@ -20,11 +20,11 @@ mod states;
 mod walk;
 
 pub use binding_rows::show_binding;
+pub use elf_model::BindingState;
 pub use known::MOST_OBJECTS;
 pub use object_rows::{show_object, show_too_many};
 pub use open_objects::OpenObjects;
 pub use room::NeedsRoom;
 pub use search::SearchedFolders;
-pub use elf_model::BindingState;
 pub use states::ObjectState;
 pub use walk::{NeedsFault, NeedsSettings, ObjectWalk, OpenFiles};

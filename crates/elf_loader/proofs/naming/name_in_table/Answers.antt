@@ -90,8 +90,8 @@ records-preserved g c =
             file_or gives.met before.0,
             c.file_of.ensures file gives.met before.0 gives.is before.1,
             before.2
-            ∙ file-later file c.args.number (strings_in file c.args.records.now.names) gives.met (left_of file t.strings others l.cursor) (left_of file t.strings others new) before.0
-            (walk-gives i.walks a.keeps file t others is leaves gives step.leads) (sym (c.names_number.ensures file gives.met gives.is) ∙ c.if-names_number.false),
+                ∙ file-later file c.args.number (strings_in file c.args.records.now.names) gives.met (left_of file t.strings others l.cursor) (left_of file t.strings others new) before.0
+                (walk-gives i.walks a.keeps file t others is leaves gives step.leads) (sym (c.names_number.ensures file gives.met gives.is) ∙ c.if-names_number.false),
           );
     }
 
@@ -126,7 +126,7 @@ returns-then-names_number-clause-file g c =
     let gives = step.tells i.walks.going in
     let before = i.last file held t others is met was in
     let here = file-here file c.args.number (strings_in file c.args.records.now.names) gives.met (left_of file t.strings others l.cursor) (left_of file t.strings others new) before.0
-        (walk-gives i.walks a.keeps file t others is leaves gives step.leads) (sym (c.names_number.ensures file gives.met gives.is) ∙ c.if-names_number.true) in
+    (walk-gives i.walks a.keeps file t others is leaves gives step.leads) (sym (c.names_number.ensures file gives.met gives.is) ∙ c.if-names_number.true) in
     rw (before.2, here) before.1
 
 pub returns-clause-file : goal.returns-clause-file

@@ -1,10 +1,10 @@
 -- The needed file's name is read, and its object looked in.
-use Rattle.std.proofs.Common.{◌≡◌, List, [], get_or, Some, Ok, sym, ap, ◌∙◌, arith}
+use Rattle.std.proofs.Common.{[], get_or, ap, ◌∙◌, arith}
 use Rattle.std.proofs.lemmas.Result.{err_from_is_err_and}
 use Rattle.elf_headers.proofs.Absent.{none-of}
 use Rattle.elf_model.specs.LoaderScope.{scope_of}
 use Rattle.elf_needs.specs.Bound.{bound_among}
-use Rattle.elf_needs.proofs.AskLaws.{are_kept, asks_one, asks_then, file_here, limited_of, limited_then, spends_same}
+use Rattle.elf_needs.proofs.AskLaws.{are_kept, asks_one, asks_then, file_here, spends_same}
 use Rattle.elf_needs.proofs.StateLaws.{lacks_fileless, lacks_named, lacks_unnamed, lacks_unversioned, lacks_weak}
 use Rattle.elf_needs.proofs.bound_states.lacks_version.Goals as goal
 
@@ -54,5 +54,5 @@ returns-clause-known g c =
     let here = file_here headers c.args.at.place c.args.objects.now files c.index-objects-at.result are c.requires in
     let tells = c.in_ok-needed_file.ensures.known (get_or files c.args.at.place []) told here.0 (ap (scope_of (get_or files c.args.at.place [])) here.1 ∙ found) some in
     let named = lacks_named (bound_among headers files c.args.among.now) (get_or files c.args.at.place []) told.symbols c.args.at.symbol c.args.names.now.version c.args.sought.now.versioned c.args.sought.now.weak
-        c.if-not-sought.false weak c.if-sought.false c.in-Some.file c.args.sought.now.file is c.in-Some.is c.needed_file.new.name tells in
+    c.if-not-sought.false weak c.if-sought.false c.in-Some.file c.args.sought.now.file is c.in-Some.is c.needed_file.new.name tells in
     rw named (rw (c.bytes.ensures.value, c.bytes-2.ensures.value) at (c.lacks_in.ensures.known headers files (are_kept headers files asks are)))
