@@ -122,7 +122,8 @@ fn definer_unless<S: Source>(
     requires plain { HasNoNul (the_wanted wanted.now).asked }
     ensures { DefinesOn src.old src.new scope.now (the_wanted wanted.now) result 28
         (lookup_bytes 28 src.old.seen.size (the_wanted wanted.now)) (λ file told leaves.
-        IsReadyTable file told table.now → leaves 0 (definer_in file told (the_wanted wanted.now))) }
+        IsReadyTable file told table.now →
+        leaves 0 (definer_in file told (the_wanted wanted.now))) }
 {
     if excludes(src, table, wanted.name)? {
         return Ok(None);

@@ -1,17 +1,17 @@
 -- What objects were asked for, one call after another.
-use Rattle.std.proofs.Common.{◌≡◌, ℕ, zero, suc, ◌+◌, ◌<◌, ◌≤◌, ◌⊎◌, List, [], ◌∷◌, length, length-set, get_or, get_or-set_other, get_or-set_same, set, inl, inr, Option, None, Some, Result, Ok, Err, IfSome, refl, sym, ap, subst, ◌∙◌, arith}
+use Rattle.std.proofs.Common.{◌≡◌, ℕ, zero, suc, ◌+◌, ◌<◌, ◌≤◌, ◌⊎◌, List, [], ◌∷◌, length, length-set, get_or, get_or-set_other, get_or-set_same, set, inl, inr, Option, None, Some, Result, Err, refl, ap, ◌∙◌, arith}
 use Rattle.std.proofs.lemmas.Bool.{cases_eq, cases_lt}
 use Rattle.std.proofs.lemmas.List.Sums.{sum_by-set}
 use Rattle.elf_model.specs.Loader.{Wanted}
 use Rattle.elf_source.specs.Source.{Counting}
 use Rattle.elf_headers.specs.declared.fault.Fault.{Fault}
 use Rattle.elf_headers.specs.declared.fault.Fault.TheVariants.{Refused, Source}
-use Rattle.elf_binding.specs.Binds.{AreObjectsOf, AskedFirst, AskedOf, Binds, asked_of_all, reached}
+use Rattle.elf_binding.specs.Binds.{AreObjectsOf, AskedFirst, Binds, asked_of_all, reached}
 use Rattle.elf_binding.specs.Kept.{KeptObject}
 use Rattle.elf_binding.specs.Looks.{FailsIn, FaultLeaves, Pays, Spends}
 use Rattle.elf_binding.specs.declared.binding.Blame.{Blame}
 use Rattle.elf_binding.specs.declared.binding.BoundName.{BoundName}
-use Rattle.elf_needs.specs.Bound.{AsksAll, IsLimited, OnlyLimited, SameObject, SameObjects}
+use Rattle.elf_needs.specs.Bound.{AsksAll, IsLimited, OnlyLimited, SameObject}
 
 same_none : (o : KeptObject) → SameObject o o
 same_none o = record { same_file = refl; same_headers = refl; grows = omega arith }

@@ -1,10 +1,9 @@
 -- What binds a symbol, by the lookup over the objects and the object of its version's file.
-use Rattle.std.proofs.Common.{◌≡◌, ℕ, ◌<◌, ◌≤◌, ◌==◌, nat_lt, Bool, true, false, List, [], length, get_or, position, Option, None, Some, Result, Ok, Err, refl, sym, ap, subst, ◌∙◌, arith}
+use Rattle.std.proofs.Common.{◌≡◌, ℕ, ◌<◌, ◌≤◌, nat_lt, Bool, true, false, List, [], length, get_or, Option, None, Some, Result, Ok, Err, refl, sym, ◌∙◌, arith}
 use Rattle.std.proofs.lemmas.Bool.Decides.{nat_tests}
 use Rattle.elf_model.specs.BindingLines.{sought_name, unbound_state}
-use Rattle.elf_model.specs.Bindings.{BoundTo, BoundToNone, StoppedIn, bound_in, is_weak, sought_at, whole_name}
-use Rattle.elf_model.specs.Bindings as model
-use Rattle.elf_model.specs.BoundSymbols.{BoundItem, BoundObjects, Faulty, Told, bound_item, file_lacks, file_of_version, index_at, lacks_asked, lacks_version, object_lacks, place_of, state_by, state_in}
+use Rattle.elf_model.specs.Bindings.{BoundTo, BoundToNone, bound_in, is_weak, sought_at, whole_name}
+use Rattle.elf_model.specs.BoundSymbols.{BoundObjects, Told, bound_item, file_lacks, file_of_version, lacks_asked, lacks_version, object_lacks, place_of, state_by, state_in}
 use Rattle.elf_model.specs.Loader.{Asked, Symbols, Wanted, asked_name, symbol_offset}
 use Rattle.elf_model.specs.LoaderScope.{Scope, scope_of}
 use Rattle.elf_model.specs.Versions.{Met, name_index, named_at}
@@ -18,8 +17,7 @@ use Rattle.elf_binding.specs.Sought.{RefusesAs, TellsLacks, TellsSought, TellsWh
 use Rattle.elf_binding.specs.declared.binding.Blame.{Blame}
 use Rattle.elf_loader.specs.Naming.{IsFileIf}
 use Rattle.elf_versions.specs.declared.record.VersionRecord.{VersionRecord}
-use Rattle.elf_binding.specs.declared.sought.SoughtSymbol.{SoughtSymbol}
-use Rattle.elf_needs.specs.Bound.{IsToldAlone, TellsItem, TellsState, TellsWhether}
+use Rattle.elf_needs.specs.Bound.{IsToldAlone, TellsItem}
 
 pub wanted_is : (wanted : Wanted) (name : List ℕ) (asked : Asked) → wanted.name ≡ name → wanted.asked ≡ asked → wanted ≡ record { name = name; asked = asked }
 wanted_is wanted name asked n a = rw (← n, ← a) refl

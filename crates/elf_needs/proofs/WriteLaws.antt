@@ -15,12 +15,12 @@ use Rattle.elf_binding.specs.Sought.{RefusesAs}
 use Rattle.elf_model.specs.declared.causes.Refusal.{Refusal}
 use Rattle.elf_model.specs.declared.formats.Format.{Format}
 use Rattle.elf_model.specs.declared.states.BindingState.{BindingState}
-use Rattle.elf_source.specs.Output.{OutFails, Puts, Takes, TakesFront, Written}
+use Rattle.elf_source.specs.Output.{OutFails, Takes, TakesFront, Written}
 use Rattle.elf_source.proofs.PutsLaws.{Takes-nothing, Takes-then, TakesFront-more, TakesFront-then}
 use Rattle.elf_source.specs.declared.faults.OutFault.{OutFault}
 use Rattle.elf_headers.specs.declared.fault.Fault.{Fault}
 use Rattle.elf_headers.specs.declared.fault.Fault.TheVariants.{Refused, Source}
-use Rattle.elf_needs.specs.Bound.{failing_of, IsCutText, IsLimited, LeadsOn, OnlyLimited, TellsFault, TellsItem, TellsSymbol, WritesFront, WritesLines, WritesSoFar}
+use Rattle.elf_needs.specs.Bound.{failing_of, IsCutText, IsLimited, LeadsItems, OnlyLimited, TellsFault, TellsItem, WritesSymbol, WritesLines, WritesSoFar}
 use Rattle.elf_needs.specs.declared.among.Came.{Came}
 use Rattle.elf_needs.specs.declared.among.Came.TheVariants.{Cut, Ended, Whole}
 use Rattle.elf_needs.specs.declared.walk.NeedsFault.{NeedsFault}
@@ -177,7 +177,7 @@ module _ (format : Format) (item : Option BoundItem) (object symbol : ℕ) (name
       apart : Source fault at ≡ Refused other → ⊥
       apart e = cc
 
-  leads_fault : (fault : Fault) (a b : Written) (result : Result Came NeedsFault) → TellsItem item object symbol name (Err fault) → TellsFault format fault a b result → LeadsOn item result
+  leads_fault : (fault : Fault) (a b : Written) (result : Result Came NeedsFault) → TellsItem item object symbol name (Err fault) → TellsFault format fault a b result → LeadsItems item result
   leads_fault (Refused refusal) a b (Ok (Whole fails)) tells told = absurd told
   leads_fault (Refused refusal) a b (Ok Ended) tells told = let is = tells told.0 in λ rest. rw is refl
   leads_fault (Refused refusal) a b (Ok Cut) tells told = tt
@@ -185,24 +185,24 @@ module _ (format : Format) (item : Option BoundItem) (object symbol : ℕ) (name
   leads_fault (Source fault at) a b result tells told = rw (told.0) tt
 
   pub symbol_fault : (fault : Fault) (a b : Written) (result : Result Came NeedsFault) → TellsItem item object symbol name (Err fault)
-      → ((refusal : Refusal) → fault ≡ Refused refusal → IsBudget refusal → limited) → TellsFault format fault a b result → TellsSymbol format item limited a b result
+      → ((refusal : Refusal) → fault ≡ Refused refusal → IsBudget refusal → limited) → TellsFault format fault a b result → WritesSymbol format item limited a b result
   symbol_fault fault a b result tells only told = record {
     writes = faulted_lines format (before_items item []) limited fault a b result
         (λ refusal is unless. ap (λ (i : Option BoundItem). before_items i []) (item_is fault tells refusal is unless)) only told;
     leads = leads_fault fault a b result tells told;
   }
 
-  pub symbol_none : (a : Written) → item ≡ None → TellsSymbol format item limited a a (Ok (Whole false))
+  pub symbol_none : (a : Written) → item ≡ None → WritesSymbol format item limited a a (Ok (Whole false))
   symbol_none a is = rw is (record { writes = (Takes-nothing a, refl); leads = λ rest. refl })
 
   module _ (found : BindingState) (is : item ≡ Some (Told object symbol found name)) where
-    pub symbol_told : (a b : Written) (fails : Bool) → Takes a b (binding_line format object symbol found name) → fails ≡ is_unbound found → TellsSymbol format item limited a b (Ok (Whole fails))
+    pub symbol_told : (a b : Written) (fails : Bool) → Takes a b (binding_line format object symbol found name) → fails ≡ is_unbound found → WritesSymbol format item limited a b (Ok (Whole fails))
     symbol_told a b fails takes e = rw is (record {
       writes = (subst (λ (t : List ℕ). Takes a b t) (sym (append-nil (binding_line format object symbol found name))) takes, e ∙ sym (or_false (is_unbound found)));
       leads = λ rest. refl;
     })
 
-    pub symbol_out : (a b : Written) (fault : OutFault) → TakesFront a b (binding_line format object symbol found name) → OutFails b fault → TellsSymbol format item limited a b (Err (Out fault))
+    pub symbol_out : (a b : Written) (fault : OutFault) → TakesFront a b (binding_line format object symbol found name) → OutFails b fault → WritesSymbol format item limited a b (Err (Out fault))
     symbol_out a b fault takes fails = rw is (record {
       writes = (binding_line format object symbol found name, inl (sym (append-nil (binding_line format object symbol found name))), takes, fails);
       leads = tt;

@@ -1,7 +1,5 @@
 -- What binding the symbols of a program's objects did, over files that are kept open.
-use Rattle.std.specs.Prelude.{ℕ, ◌≡◌, ◌<◌, ◌≤◌, ◌==◌, ◌||◌, ◌⊎◌, if◌then◌else◌, nat_lt, Bool, true, false, List, [], ◌∷◌, ◌++◌, length, get_or, position, slice_index_or, Option, None, Some, Result, Ok, Err, IfErr}
-use Rattle.elf_model.specs.BindingLines.{is_unbound}
-use Rattle.elf_model.specs.Bindings.{is_weak, whole_name}
+use Rattle.std.specs.Prelude.{ℕ, ◌≡◌, ◌<◌, ◌≤◌, ◌⊎◌, Bool, true, false, List, [], ◌++◌, length, get_or, Option, None, Some, Result, Ok, Err}
 use Rattle.elf_model.specs.BoundSymbols.{BoundItem, BoundObjects, Faulty, Told, any_unbound, before_items, bound_text}
 use Rattle.elf_model.specs.Budget.{IsBudget}
 use Rattle.elf_model.specs.Lines.{refusal_line}
@@ -61,9 +59,9 @@ IsToldAlone (Refused refusal) = IsBudget refusal
 IsToldAlone (Source fault at) = Unit {0}
 
 -- the state of a symbol is the definition's, or the refusal is, unless that is for want of budget
-abbrev pub TellsState : Result BindingState Refusal → Result BindingState Fault → Type 0
-TellsState told (Ok found) = told ≡ Ok found
-TellsState told (Err fault) = RefusesAs told fault
+abbrev pub TellsBindingState : Result BindingState Refusal → Result BindingState Fault → Type 0
+TellsBindingState told (Ok found) = told ≡ Ok found
+TellsBindingState told (Err fault) = RefusesAs told fault
 
 abbrev pub TellsWhether : Result Bool Refusal → Result Bool Fault → Type 0
 TellsWhether told (Ok lacks) = told ≡ Ok lacks
@@ -103,16 +101,16 @@ WritesLines format all limited old new (Err (Out fault)) =
     (text : List ℕ) × ((text ≡ bound_text format all) ⊎ (limited × IsCutText format all text)) × TakesFront old new text × OutFails new fault
 
 -- how the items of an object go on behind those of one symbol: a fault is the last
-abbrev pub LeadsOn : Option BoundItem → Result Came NeedsFault → Type 0
-LeadsOn item (Ok (Whole fails)) = (rest : List BoundItem) → before_items item rest ≡ before_items item [] ++ rest
-LeadsOn item (Ok Ended) = (rest : List BoundItem) → before_items item rest ≡ before_items item []
-LeadsOn item (Ok Cut) = Unit {0}
-LeadsOn item (Err fault) = Unit {0}
+abbrev pub LeadsItems : Option BoundItem → Result Came NeedsFault → Type 0
+LeadsItems item (Ok (Whole fails)) = (rest : List BoundItem) → before_items item rest ≡ before_items item [] ++ rest
+LeadsItems item (Ok Ended) = (rest : List BoundItem) → before_items item rest ≡ before_items item []
+LeadsItems item (Ok Cut) = Unit {0}
+LeadsItems item (Err fault) = Unit {0}
 
 -- WHAT WRITING THE LINE OF A SYMBOL DID
-pub record TellsSymbol (format : Format) (item : Option BoundItem) (limited : Type 0) (old new : Written) (result : Result Came NeedsFault) : Type 0 where
+pub record WritesSymbol (format : Format) (item : Option BoundItem) (limited : Type 0) (old new : Written) (result : Result Came NeedsFault) : Type 0 where
   pub writes : WritesLines format (before_items item []) limited old new result
-  pub leads : LeadsOn item result
+  pub leads : LeadsItems item result
 
 -- what writing the line of a fault did: that of a refusal, which ends the lines of an object, or all of them for want of budget
 abbrev pub TellsFault : Format → Fault → Written → Written → Result Came NeedsFault → Type 0

@@ -5,8 +5,8 @@ use Rattle.elf_needs.specs.declared.known.Known.{Known}
 use Rattle.elf_needs.specs.declared.known.Objects.{Objects}
 
 -- the text of an index, where one is told; and a text that is told is a name
-abbrev pub text_of : List (List ℕ) → Option ℕ → Option (List ℕ)
-text_of texts index = option_map (λ i. slice_index_or texts i []) index
+abbrev pub text_told : List (List ℕ) → Option ℕ → Option (List ℕ)
+text_told texts index = option_map (λ i. slice_index_or texts i []) index
 
 abbrev pub is_text : Option (List ℕ) → List ℕ → Bool
 is_text None name = false
@@ -14,7 +14,7 @@ is_text (Some text) name = bytes_eq text name
 
 -- an object has a name: it was needed by that, or calls itself so (gABI 5, DT_SONAME)
 abbrev pub is_called : List (List ℕ) → List ℕ → Known → Bool
-is_called texts name known = is_text (text_of texts known.name) name || is_text (text_of texts known.links.soname) name
+is_called texts name known = is_text (text_told texts known.name) name || is_text (text_told texts known.links.soname) name
 
 -- an index of 16 bits, if it is one
 abbrev pub short_index : Option ℕ → Option ℕ

@@ -3,7 +3,7 @@ ghost use Rattle.std.specs.Prelude.{◌≡◌, ◌<◌, ℕ, [], List, Ok, get_o
 ghost use Rattle.elf_binding.specs.Binds.{AreObjectsOf};
 ghost use Rattle.elf_model.specs.BoundSymbols.{before_items, bound_item, bound_items, object_items};
 ghost use Rattle.elf_model.specs.LoaderScope.{Scope as IsScopeOf, scope_of};
-ghost use Rattle.elf_needs.specs.Bound.{AsksAll, IsLimited, TellsFault, TellsSymbol, WritesBindings, WritesLines, bound_among, bound_of, status_after};
+ghost use Rattle.elf_needs.specs.Bound.{AsksAll, IsLimited, TellsFault, WritesSymbol, WritesBindings, WritesLines, bound_among, bound_of, status_after};
 
 use crate::among::{Among, Came, either, failing, index_at};
 use crate::binding_rows::show_binding;
@@ -139,7 +139,7 @@ fn bind_symbol<S: Source, W: Sink>(
     ensures known { (headers : ℕ) (files : List (List ℕ)) (told : IsScopeOf) →
         AreObjectsOf headers objects.old files →
         scope_of (get_or files at.place []) headers ≡ Ok told → at.symbol < told.table.symbols →
-        TellsSymbol among.now.format (bound_item (bound_among headers files among.now) at.place
+        WritesSymbol among.now.format (bound_item (bound_among headers files among.now) at.place
         (get_or files at.place []) told.symbols at.symbol) (IsLimited left.old) out.old out.new
         result }
 {

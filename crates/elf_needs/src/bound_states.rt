@@ -7,7 +7,7 @@ ghost use Rattle.elf_model.specs.Bindings.{is_weak};
 ghost use Rattle.elf_model.specs.BoundSymbols.{bound_item, file_of_version, index_at, lacks_asked, object_lacks, state_in};
 ghost use Rattle.elf_model.specs.Loader.{asked_name, symbol_offset};
 ghost use Rattle.elf_model.specs.LoaderScope.{Scope as IsScopeOf, scope_of};
-ghost use Rattle.elf_needs.specs.Bound.{AsksAll, OnlyLimited, TellsItem, TellsState, TellsWhether, bound_among};
+ghost use Rattle.elf_needs.specs.Bound.{AsksAll, OnlyLimited, TellsItem, TellsBindingState, TellsWhether, bound_among};
 
 use crate::among::{Among, index_at, place_of};
 use crate::faults::is_told_alone;
@@ -81,10 +81,11 @@ fn state_of<S: Source>(
     ensures known { (headers : ℕ) (files : List (List ℕ)) (told : IsScopeOf) →
         AreObjectsOf headers objects.old files →
         scope_of (get_or files at.place []) headers ≡ Ok told → 0 < told.table.symbols →
-        sought.now.weak ≡ is_weak (get_or files at.place []) (symbol_offset told.symbols at.symbol) →
+        sought.now.weak
+        ≡ is_weak (get_or files at.place []) (symbol_offset told.symbols at.symbol) →
         IsFileIf (get_or files at.place [])
         (file_of_version (get_or files at.place []) told.symbols at.symbol) sought.now.file →
-        TellsState (state_in (bound_among headers files among.now) (get_or files at.place [])
+        TellsBindingState (state_in (bound_among headers files among.now) (get_or files at.place [])
         told.symbols at.symbol (record {
           name = names.old.name;
           asked = asked_if sought.now.versioned names.old.version;
@@ -131,7 +132,8 @@ fn lacks_version<S: Source>(
     ensures known { (headers : ℕ) (files : List (List ℕ)) (told : IsScopeOf) →
         AreObjectsOf headers objects.old files →
         scope_of (get_or files at.place []) headers ≡ Ok told → 0 < told.table.symbols →
-        sought.now.weak ≡ is_weak (get_or files at.place []) (symbol_offset told.symbols at.symbol) →
+        sought.now.weak
+        ≡ is_weak (get_or files at.place []) (symbol_offset told.symbols at.symbol) →
         IsFileIf (get_or files at.place [])
         (file_of_version (get_or files at.place []) told.symbols at.symbol) sought.now.file →
         TellsWhether (lacks_asked (bound_among headers files among.now) (get_or files at.place [])

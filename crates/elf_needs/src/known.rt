@@ -1,6 +1,6 @@
 //! The objects that are known so far.
 ghost use Rattle.std.specs.Prelude.{◌≡◌, option_map, position};
-ghost use Rattle.elf_needs.specs.Called.{called_by, is_called, is_text, short_index, text_of};
+ghost use Rattle.elf_needs.specs.Called.{called_by, is_called, is_text, short_index, text_told};
 
 use elf_links::{FileLinks, LinkStore, Need, Texts};
 use elf_search::folder_of_path;
@@ -98,7 +98,7 @@ impl Objects {
     /// The text of an index, if one is told.
     pub(crate) fn text(&self, index: Option<u32>) -> Option<&[u8]>
         ensures { option_map (λ t. t.now) result
-            ≡ text_of self.now.links.texts index }
+            ≡ text_told self.now.links.texts index }
     {
         match index {
             Some(index) => Some(self.links.texts.get(index)),

@@ -1,5 +1,5 @@
 -- One object more, whose lines are all written, or not; and no object is left.
-use Rattle.std.proofs.Common.{◌≡◌, ◌<◌, ◌+◌, Ok, List, [], drop, get_or, length, sym, ap, ◌∙◌, arith}
+use Rattle.std.proofs.Common.{◌<◌, ◌+◌, [], drop, get_or, length, sym, ◌∙◌, arith}
 use Rattle.std.proofs.lemmas.Result.{err_from_is_err_and}
 use Rattle.elf_headers.proofs.Absent.{none-of}
 use Rattle.elf_model.specs.BoundSymbols.{object_items, objects_items}

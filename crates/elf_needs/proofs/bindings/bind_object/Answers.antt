@@ -1,5 +1,5 @@
 -- The symbols are counted, and the lines of one more are written, or not; and no symbol is left.
-use Rattle.std.proofs.Common.{◌≡◌, ◌<◌, ◌≤◌, ◌+◌, ◌-◌, Ok, Err, List, [], get_or, length, sym, ap, subst, ◌∙◌, arith}
+use Rattle.std.proofs.Common.{◌+◌, ◌-◌, Err, List, [], get_or, sym, ap, subst, ◌∙◌, arith}
 use Rattle.std.proofs.lemmas.Result.{err_from_is_err_and}
 use Rattle.elf_model.specs.BoundSymbols.{BoundItem, before_items, bound_item, items_from, object_items}
 use Rattle.elf_model.specs.LoaderScope.{scope_of}

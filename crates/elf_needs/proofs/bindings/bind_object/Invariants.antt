@@ -1,5 +1,5 @@
 -- The lines of the symbols before this one are written.
-use Rattle.std.proofs.Common.{◌≡◌, ℕ, ◌-◌, ◌≤◌, List, [], get_or, Ok}
+use Rattle.std.proofs.Common.{◌≡◌, ℕ, ◌-◌, List, [], get_or, Ok}
 use Rattle.elf_model.specs.Bindings.{symbols_hashed}
 use Rattle.elf_model.specs.BoundSymbols.{items_from}
 use Rattle.elf_model.specs.LoaderScope.{Scope as IsScopeOf, scope_of}

@@ -1,6 +1,5 @@
 -- The symbol asks for nothing, its line is written, or the line of a fault.
-use Rattle.std.proofs.Common.{◌≡◌, List, [], get_or, sym, ◌∙◌}
-use Rattle.std.proofs.lemmas.Result.{err_from_is_err_and}
+use Rattle.std.proofs.Common.{[], get_or}
 use Rattle.elf_needs.specs.Bound.{IsLimited, bound_among}
 use Rattle.elf_model.specs.BoundSymbols.{bound_item}
 use Rattle.elf_needs.proofs.WriteLaws.{only_of, symbol_fault, symbol_none, symbol_out, symbol_told}

@@ -1,5 +1,5 @@
 -- The symbol is read, and what binds it is looked for.
-use Rattle.std.proofs.Common.{◌≡◌, true, List, [], get_or, None, Some, Ok, sym, ap, ◌∙◌, arith}
+use Rattle.std.proofs.Common.{true, [], get_or, ap, ◌∙◌, arith}
 use Rattle.std.proofs.lemmas.Result.{err_from_is_err_and}
 use Rattle.elf_headers.proofs.Absent.{none-of}
 use Rattle.elf_model.specs.LoaderScope.{scope_of}

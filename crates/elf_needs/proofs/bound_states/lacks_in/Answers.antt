@@ -1,5 +1,5 @@
 -- The object of a name is found or not, and looked in.
-use Rattle.std.proofs.Common.{◌≡◌, ◌<◌, List, [], length, get_or, None, Some, Ok, sym, ap, ◌∙◌, arith}
+use Rattle.std.proofs.Common.{◌<◌, [], length, get_or, Ok, sym, ap, ◌∙◌, arith}
 use Rattle.elf_headers.proofs.Absent.{none-of}
 use Rattle.elf_model.specs.LoaderScope.{scope_of}
 use Rattle.elf_needs.specs.Bound.{bound_among}

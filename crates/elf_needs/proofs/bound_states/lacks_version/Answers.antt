@@ -1,10 +1,10 @@
 -- The needed file's name is read, and its object looked in.
-use Rattle.std.proofs.Common.{◌≡◌, List, [], get_or, Some, Ok, sym, ap, ◌∙◌, arith}
+use Rattle.std.proofs.Common.{[], get_or, ap, ◌∙◌, arith}
 use Rattle.std.proofs.lemmas.Result.{err_from_is_err_and}
 use Rattle.elf_headers.proofs.Absent.{none-of}
 use Rattle.elf_model.specs.LoaderScope.{scope_of}
 use Rattle.elf_needs.specs.Bound.{bound_among}
-use Rattle.elf_needs.proofs.AskLaws.{are_kept, asks_one, asks_then, file_here, limited_of, limited_then, spends_same}
+use Rattle.elf_needs.proofs.AskLaws.{are_kept, asks_one, asks_then, file_here, spends_same}
 use Rattle.elf_needs.proofs.StateLaws.{lacks_fileless, lacks_named, lacks_unnamed, lacks_unversioned, lacks_weak}
 use Rattle.elf_needs.proofs.bound_states.lacks_version.Goals as goal
 
