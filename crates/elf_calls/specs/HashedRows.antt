@@ -25,7 +25,7 @@ abbrev pub by_flags : ℕ → List ℕ → List ℕ
 by_flags flags file = looked_at (flags == 1) file
 
 -- limits in their range, room for a header, and no other flag
-abbrev pub MayOpenHashed : CallerLimits → (room flags : ℕ) → Type 0
+abbrev MayOpenHashed : CallerLimits → (room flags : ℕ) → Type 0
 MayOpenHashed limits room flags = AreInRange limits room × (flags ≤ 1)
 
 -- what a call opens

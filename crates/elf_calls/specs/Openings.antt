@@ -22,17 +22,19 @@ IsOpenedTable status old new end None = (status ≡ 4) × (new ≡ old) × (end 
 abbrev pub TellsOpened : {A : Type 0} → (Option (Result (Option A) Refusal) → Type 0) → ℕ → A → A → End → Type 0
 TellsOpened {A} opens status old new end = (opened : Option (Result (Option A) Refusal)) × opens opened × IsOpenedTable status old new end opened
 
--- what a call has of a section of rows of a kind: limits in their range, and room for a header
+-- what a call has of a reading, for which so many headers are permitted: limits in their range, and room for a header
+abbrev pub OpensBy : {A : Type 0} → (ℕ → Result (Option A) Refusal → Type 0) → CallerLimits → ℕ → Option (Result (Option A) Refusal) → Type 0
+OpensBy reads limits room (Some read) = AreInRange limits room × reads (headers_of limits room) read
+OpensBy reads limits room None = AreInRange limits room → ⊥
+
+-- of a section of rows of a kind
 abbrev pub OpensRows : RowKind → List ℕ → CallerLimits → ℕ → ℕ → Option (Result (Option RowsLeft) Refusal) → Type 0
-OpensRows kind file limits room section (Some read) = AreInRange limits room × ReadsRows kind file (headers_of limits room) section read
-OpensRows kind file limits room section None = AreInRange limits room → ⊥
+OpensRows kind file limits room section opened = OpensBy (λ headers. ReadsRows kind file headers section) limits room opened
 
--- the same of the section names
+-- of the section names
 abbrev pub OpensNames : List ℕ → CallerLimits → ℕ → Option (Result (Option ByteRange) Refusal) → Type 0
-OpensNames file limits room (Some read) = AreInRange limits room × ReadsSectionNames file (headers_of limits room) read
-OpensNames file limits room None = AreInRange limits room → ⊥
+OpensNames file limits room opened = OpensBy (ReadsSectionNames file) limits room opened
 
--- the same of a section of version definitions or needs
+-- of a section of version definitions or needs
 abbrev pub OpensRecords : List ℕ → CallerLimits → ℕ → ℕ → Option (Result (Option RecordsLeft) Refusal) → Type 0
-OpensRecords file limits room section (Some read) = AreInRange limits room × ReadsRecords file (headers_of limits room) section read
-OpensRecords file limits room section None = AreInRange limits room → ⊥
+OpensRecords file limits room section opened = OpensBy (λ headers. ReadsRecords file headers section) limits room opened

@@ -6,7 +6,6 @@ ghost use Rattle.elf_calls.specs.Openings.{OpensNames, TellsOpened};
 
 use elf_calls::{CallerLimits, End, limits_of, tell, tell_opened};
 use elf_memory::{ByteRange, find_name};
-use elf_record::Refusal;
 use elf_rows::names_in;
 
 /// Finds where the name at an offset in a string table lies, without its NUL. The string table is
@@ -45,17 +44,9 @@ pub extern "C" fn elfsee_section_names(
     ensures { TellsOpened (OpensNames file.now limits.now (length room.now))
         result strings.old strings.new end.new }
 {
-    tell_opened(open_names(file, limits, room.len()), strings, end)
-}
-
-/// Where they lie, with so many bytes of room; None for a call with a number outside its range.
-fn open_names(
-    file: &[u8],
-    limits: &CallerLimits,
-    room: usize,
-) -> Option<Result<Option<ByteRange>, Refusal>>
-    ensures { OpensNames file.now limits.now room result }
-{
-    let limits = limits_of(limits, room)?;
-    Some(names_in(file, limits.headers))
+    tell_opened(
+        limits_of(limits, room.len()).map(|limits| names_in(file, limits.headers)),
+        strings,
+        end,
+    )
 }

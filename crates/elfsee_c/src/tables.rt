@@ -4,7 +4,6 @@ ghost use Rattle.elf_rows.specs.declared.kind.RowKind.TheVariants.{Symbols, Relo
 ghost use Rattle.elf_calls.specs.Openings.{OpensRows, TellsOpened};
 
 use elf_calls::{CallerLimits, End, limits_of, tell_opened};
-use elf_record::Refusal;
 use elf_rows::{RowKind, RowsLeft, rows_in};
 
 /// Checks the table of symbols that a section of a file is, and sets `rows` before its first. So many
@@ -28,7 +27,12 @@ pub extern "C" fn elfsee_symbols(
         result rows.old rows.new end.new }
 {
     tell_opened(
-        open_rows(file, limits, section, room.len(), RowKind::Symbols),
+        limits_of(limits, room.len()).map(|limits| rows_in(
+            file,
+            limits.headers,
+            section,
+            RowKind::Symbols,
+        )),
         rows,
         end,
     )
@@ -50,7 +54,12 @@ pub extern "C" fn elfsee_relocations(
         result rows.old rows.new end.new }
 {
     tell_opened(
-        open_rows(file, limits, section, room.len(), RowKind::Relocations),
+        limits_of(limits, room.len()).map(|limits| rows_in(
+            file,
+            limits.headers,
+            section,
+            RowKind::Relocations,
+        )),
         rows,
         end,
     )
@@ -72,7 +81,12 @@ pub extern "C" fn elfsee_dynamic(
         result rows.old rows.new end.new }
 {
     tell_opened(
-        open_rows(file, limits, section, room.len(), RowKind::Dynamic),
+        limits_of(limits, room.len()).map(|limits| rows_in(
+            file,
+            limits.headers,
+            section,
+            RowKind::Dynamic,
+        )),
         rows,
         end,
     )
@@ -94,22 +108,13 @@ pub extern "C" fn elfsee_version_words(
         result rows.old rows.new end.new }
 {
     tell_opened(
-        open_rows(file, limits, section, room.len(), RowKind::VersionWords),
+        limits_of(limits, room.len()).map(|limits| rows_in(
+            file,
+            limits.headers,
+            section,
+            RowKind::VersionWords,
+        )),
         rows,
         end,
     )
-}
-
-/// Checks the table, with so many bytes of room; None for a call with a number outside its range.
-fn open_rows(
-    file: &[u8],
-    limits: &CallerLimits,
-    section: u16,
-    room: usize,
-    kind: RowKind,
-) -> Option<Result<Option<RowsLeft>, Refusal>>
-    ensures { OpensRows kind file.now limits.now room section result }
-{
-    let limits = limits_of(limits, room)?;
-    Some(rows_in(file, limits.headers, section, kind))
 }
