@@ -1,5 +1,5 @@
--- What opening a table of a file in memory answers, as numbers.
-use Rattle.std.specs.Prelude.{ℕ, ◌≡◌, List, Option, None, Some, Result}
+-- What opening a table of a file in memory answers, where limits and room are in their ranges.
+use Rattle.std.specs.Prelude.{ℕ, List, Option, None, Some, Result}
 use Rattle.elf_model.specs.declared.causes.Refusal.{Refusal}
 use Rattle.elf_rows.specs.Openings.{ReadsSectionNames, ReadsRows}
 use Rattle.elf_rows.specs.VersionRecords.{ReadsRecords}
@@ -7,20 +7,8 @@ use Rattle.elf_rows.specs.declared.kind.RowKind.{RowKind}
 use Rattle.elf_memory.specs.declared.name.ByteRange.{ByteRange}
 use Rattle.elf_rows.specs.declared.records.RecordsLeft.{RecordsLeft}
 use Rattle.elf_rows.specs.declared.rows.RowsLeft.{RowsLeft}
-use Rattle.elf_calls.specs.Ends.{IsTold, no_end}
 use Rattle.elf_calls.specs.Limits.{AreInRange, headers_of}
-use Rattle.elf_calls.specs.declared.end.End.{End}
 use Rattle.elf_calls.specs.declared.limits.CallerLimits.{CallerLimits}
-
--- AN OPENED TABLE AS NUMBERS: as a row that is read; status 4, with nothing changed, where a number of the call is outside
--- its range
-abbrev pub IsOpenedTable : {A : Type 0} → ℕ → A → A → End → Option (Result (Option A) Refusal) → Type 0
-IsOpenedTable status old new end (Some read) = IsTold status old new end read
-IsOpenedTable status old new end None = (status ≡ 4) × (new ≡ old) × (end ≡ no_end)
-
--- WHAT A CALL OPENS, AS NUMBERS: an answer of that opening, told so
-abbrev pub TellsOpened : {A : Type 0} → (Option (Result (Option A) Refusal) → Type 0) → ℕ → A → A → End → Type 0
-TellsOpened {A} opens status old new end = (opened : Option (Result (Option A) Refusal)) × opens opened × IsOpenedTable status old new end opened
 
 -- what a call has of a reading, for which so many headers are permitted: limits in their range, and room for a header
 abbrev pub OpensBy : {A : Type 0} → (ℕ → Result (Option A) Refusal → Type 0) → CallerLimits → ℕ → Option (Result (Option A) Refusal) → Type 0

@@ -18,11 +18,11 @@ use Rattle.elf_rows.specs.Symbols.{HasFields}
 use Rattle.elf_table.specs.declared.names.NameEnd.{NameEnd}
 use Rattle.elf_table.specs.declared.names.NameEnd.TheVariants.{Whole, Cut}
 use Rattle.elf_calls.specs.Found.{no_symbol}
-use Rattle.elf_calls.specs.Ends.{TellsCause, TellsNone}
+use Rattle.elf_rows.specs.Ends.{TellsCause, TellsNone}
 use Rattle.elf_calls.specs.Limits.{AreInRange, budget_of, headers_of}
 use Rattle.elf_calls.specs.Queries.{QueryAsked, IsPermitted, goes_by_segments, wanted_by}
 use Rattle.elf_calls.specs.Wants.{IsWanting}
-use Rattle.elf_calls.specs.declared.end.End.{End}
+use Rattle.elf_rows.specs.declared.end.End.{End}
 use Rattle.elf_calls.specs.declared.limits.CallerLimits.{CallerLimits}
 use Rattle.elf_calls.specs.declared.resolved.Resolved.{Resolved}
 

@@ -1,10 +1,13 @@
 //! The rows of tables of an ELF64 file that lies in memory, as a caller keeps them: symbols, relocation
 //! entries, dynamic entries and symbol versions, field by field, and places in tables that are plain
-//! numbers. No number that a caller sets is a wrong one: each step tests them.
+//! numbers. No number that a caller sets is a wrong one: each step tests them. What a read answers is told
+//! in the numbers that C has.
 #![tactic(auto)]
 
+mod causes;
 mod dynamic;
 mod dynamic_table;
+mod end;
 mod hashed;
 mod held;
 mod held_tables;
@@ -20,9 +23,11 @@ mod segment_entries;
 mod symbol;
 mod table_row;
 mod tables;
+mod telling;
 mod version_words;
 
 pub use dynamic::Dynamic;
+pub use end::End;
 pub use hashed::hashed_rows;
 pub use kind::RowKind;
 pub use names::names_in;
@@ -35,4 +40,5 @@ pub use segment_entries::{segment_dynamic, segment_dynamic_within};
 pub use symbol::Symbol;
 pub use table_row::{TableRow, next_rows};
 pub use tables::{dynamic_within, rows_in};
+pub use telling::{tell, tell_opened};
 pub use version_words::VersionWord;

@@ -4,10 +4,11 @@ ghost use Rattle.elf_model.specs.Find.{find_cost};
 ghost use Rattle.elf_calls.specs.Found.{CallLooks, HasLookup};
 ghost use Rattle.elf_calls.specs.Limits.{budget_of, headers_of};
 
-use elf_calls::{CallerLimits, End, LookupNumbers, limits_of, look_in, tell_found};
+use elf_calls::{CallerLimits, LookupNumbers, limits_of, look_in, tell_found};
 use elf_hash::Lookup;
 use elf_headers::HeaderStore;
 use elf_record::Refusal;
+use elf_rows::End;
 
 /// The most bytes of a name that is looked up.
 const WANTED_NAME_BYTES: usize = 4_096;

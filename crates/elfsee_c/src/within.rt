@@ -14,12 +14,11 @@ ghost use Rattle.elf_calls.specs.Limits.{budget_of};
 ghost use Rattle.elf_calls.specs.Openings.{OpensRows};
 ghost use Rattle.elf_calls.specs.Within.{OpensAlways, OpensEntries, StepsBudgeted, TellsEntries};
 
-use elf_calls::{
-    CallerLimits, End, count_entries, entries_left, limits_of, next_within, tell_opened,
-};
+use elf_calls::{CallerLimits, count_entries, entries_left, limits_of, next_within};
 use elf_record::Refusal;
 use elf_rows::{
-    Dynamic, Relocation, RowsLeft, Symbol, VersionWord, dynamic_within, segment_dynamic_within,
+    Dynamic, End, Relocation, RowsLeft, Symbol, VersionWord, dynamic_within,
+    segment_dynamic_within, tell_opened,
 };
 
 /// Checks the table of dynamic entries that a section of a file is, as

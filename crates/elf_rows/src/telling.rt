@@ -1,6 +1,5 @@
 //! What a read of a row and the opening of a table answer, as C sees it.
-ghost use Rattle.elf_calls.specs.Ends.{IsTold};
-ghost use Rattle.elf_calls.specs.Openings.{IsOpenedTable};
+ghost use Rattle.elf_rows.specs.Ends.{IsOpenedTable, IsTold};
 
 use crate::end::End;
 use elf_record::Refusal;
