@@ -19,6 +19,7 @@ import itertools
 import os
 import signal
 import sys
+from typing import List, Optional, Sequence, Tuple
 
 sys.path.insert(0, os.path.join(os.path.dirname(os.path.abspath(__file__)), "..", "library", "python"))
 import elfsee
@@ -35,7 +36,7 @@ class TooMany(Exception):
 
 
 @functools.lru_cache(maxsize=None)
-def library_folders():
+def library_folders() -> List[str]:
     """Where the loader looks for libraries: its usual folders, and those that its configuration names."""
     folders, more = list(FOLDERS), "/etc/ld.so.conf.d"
     for name in sorted(os.listdir(more)) if os.path.isdir(more) else []:
@@ -44,15 +45,15 @@ def library_folders():
     return folders
 
 
-def value_of(entries, tag):
+def value_of(entries: Sequence[elfsee.Dynamic], tag: int) -> int:
     return next((entry.value for entry in entries if entry.tag == tag), 0)
 
 
-def texts_of(entries, *tags):
-    return [os.fsdecode(entry.string) for entry in entries if entry.tag in tags]
+def texts_of(entries: Sequence[elfsee.Dynamic], *tags: int) -> List[str]:
+    return [os.fsdecode(entry.string) for entry in entries if entry.tag in tags and entry.string is not None]
 
 
-def missing_libraries(path, entries, paths):
+def missing_libraries(path: str, entries: Sequence[elfsee.Dynamic], paths: Sequence[str]) -> List[str]:
     """The needed libraries that stand neither in the paths of the file nor where the loader looks."""
     origin = os.path.dirname(os.path.abspath(path))
     folders = [folder.replace("${ORIGIN}", origin).replace("$ORIGIN", origin) for folder in paths] + library_folders()
@@ -60,7 +61,7 @@ def missing_libraries(path, entries, paths):
     return [name for name in names if not any(os.path.exists(os.path.join(folder, name)) for folder in folders)]
 
 
-def told_of(path, file):
+def told_of(path: str, file: elfsee.File) -> Tuple[str, List[str]]:
     """What is told of a file, and whether it misses a library."""
     segments = {segment.type: segment for segment in file.segments()}
     entries = list(itertools.islice(file.dynamic(), MOST_ENTRIES + 1))
@@ -84,7 +85,7 @@ def told_of(path, file):
         " ".join(map(elfsee.spelt, missing)) or "none"), missing
 
 
-def checked(path):
+def checked(path: str) -> Tuple[Optional[str], bool]:
     """What is told of a path, if it is a program or a library, and whether that is a fault."""
     try:
         if os.path.islink(path) or not os.path.isfile(path):
@@ -107,7 +108,7 @@ def checked(path):
         return "cannot be read: there is no memory for it", True
 
 
-def main(top):
+def main(top: str) -> int:
     faults = 0
     for folder, _, names in sorted(os.walk(top)):
         for path in (os.path.join(folder, name) for name in sorted(names)):

@@ -1,6 +1,6 @@
 -- A listing of the rows of some names, by that of every row which the same bytes ask for.
 use Rattle.std.proofs.Common.{◌≡◌, ℕ, Bool, true, false, if◌then◌else◌, List, None, Some, refl, sym, ap, subst, ◌∙◌}
-use Rattle.elf_model.specs.Choice.{RowChoice, EveryRow, RowsOf, wanted_text}
+use Rattle.elf_model.specs.Choice.{EveryRow}
 use Rattle.elf_model.specs.Style.{Style}
 use Rattle.elf_wanted.specs.Names.{texts_of}
 use Rattle.elf_name_lists.specs.NamedRows.{named_style}

@@ -1,5 +1,5 @@
 -- The symbols of a hash table in a file in memory, of which what its header tells of section headers is hidden or not.
-use Rattle.std.proofs.Common.{◌≡◌, ℕ, Bool, true, false, List, length, Option, Some, Err, refl, ap, ◌∙◌, arith}
+use Rattle.std.proofs.Common.{◌≡◌, ℕ, Bool, true, false, List, Option, Some, Err, refl, ap, ◌∙◌, arith}
 use Rattle.elf_model.specs.Style.{looked_at}
 use Rattle.elf_model.specs.declared.causes.Refusal.{Refusal}
 use Rattle.elf_source.specs.Source.{Counting, Seen, SetsLimit, file_by, honest}

@@ -1,6 +1,5 @@
 -- What a layout lacks, as it is told: the bytes of a symbol's name are few.
-use Rattle.std.proofs.Common.{◌≡◌, inl, inr, ℕ, ◌+◌, ◌-◌, ◌<◌, ◌≤◌, ◌==◌, Bool, true, false, List, [], ◌++◌, length, length-take, take, drop, Option, None, Some, Result, Ok, Err, option_map, refl, sym, ap, ◌∙◌, arith}
-use Rattle.std.specs.Prelude.{IfSome}
+use Rattle.std.proofs.Common.{◌≡◌, ℕ, ◌-◌, ◌<◌, ◌≤◌, ◌==◌, Bool, true, false, List, [], ◌++◌, length, length-take, take, drop, Option, None, Some, Result, Ok, Err, option_map, refl, sym, ap, arith}
 use Rattle.elf_model.specs.Explain.{ITEM_NAME_SIZE, Lack, explained, lack_of, lack_with, missing, refused_in, told_symbol_name}
 use Rattle.elf_model.specs.Names.{Shown, shown}
 use Rattle.elf_model.specs.Names.Shown.{Whole, Cut}
@@ -11,7 +10,6 @@ use Rattle.elf_model.specs.declared.causes.Cause.{Cause}
 use Rattle.elf_model.specs.declared.causes.Refusal.{Refusal}
 use Rattle.elf_model.specs.declared.missing.Missing.{Missing}
 use Rattle.elf_model.proofs.NameLaws.{shown_cut, shown_whole}
-use Rattle.elf_model.specs.ApplyCost.{apply_cost_by_order}
 use Rattle.elf_model.specs.Budget.{IsBudget}
 use Rattle.elf_model.specs.Checks.{first_refusal, header_checks, load_checks}
 use Rattle.elf_source.specs.Source.{Counting, SetsLimit}
@@ -22,15 +20,8 @@ use Rattle.elf_layout.specs.declared.lent.LentName.{LentName}
 use Rattle.elf_table.specs.declared.names.NameEnd.{NameEnd}
 use Rattle.elf_table.specs.declared.names.NameEnd.TheVariants.{Whole as IsWhole, Cut as IsCut}
 use Rattle.elf_table.specs.NamesRead.{shown_by}
-use Rattle.elf_calls.specs.Applied.{AppliesFor}
-use Rattle.elf_calls.specs.LentLayouts.{CannotTell, CountsWritten, ExplainsTold, MayLendLayout, PlacesInMemory, TellsMissing, TellsSymbol, lent_layout}
-use Rattle.elf_calls.specs.Limits.{AreInRange, budget_of, headers_of}
-use Rattle.elf_calls.specs.declared.lent_layout.CallerLayout.{CallerLayout}
-use Rattle.elf_calls.specs.declared.limits.CallerLimits.{CallerLimits}
+use Rattle.elf_calls.specs.LentLayouts.{CannotTell, TellsSymbol}
 use Rattle.elf_calls.proofs.BudgetLaws.{rest_wanting, wanting}
-use Rattle.elf_calls.specs.declared.end.End.{End}
-use Rattle.elf_calls.specs.declared.told.Told.{Told}
-use Rattle.elf_calls.specs.declared.told.Told.TheVariants.{Done, Refused, Full, BadCall}
 use Rattle.elf_calls.specs.Resolved.{cut_number}
 use Rattle.elf_calls.specs.declared.missing.CallerMissing.{CallerMissing}
 use Rattle.std.specs.declared.cmp.Ordering.{Ordering}

@@ -7,12 +7,11 @@ use Rattle.elf_source.specs.Source.{Counting, SetsLimit}
 use Rattle.elf_headers.specs.declared.fault.Fault.TheVariants.{Refused as Refuses}
 use Rattle.elf_loader.specs.Lookups.{LooksUp}
 use Rattle.elf_calls.specs.Resolved.{ResolvesIn}
-use Rattle.elf_calls.specs.declared.resolved.Resolution.TheVariants.{Refused}
 use Rattle.elf_calls.proofs.BudgetLaws.{wanting}
 
 -- a refusal is the lookup's own, or the budget is less than it costs
 pub resolve_refused : (file : List ℕ) (headers size : ℕ) (wanted : Wanted) (told : List ℕ) (budget : Option ℕ) (s0 s1 s2 : Counting) (refusal : Refusal) → SetsLimit s0 s1 budget → s0.asked ≡ 0
-    → size ≡ s1.seen.size → LooksUp file headers wanted told s1 s2 (Err (Refuses refusal)) → ResolvesIn file headers budget size wanted told (Refused refusal)
+    → size ≡ s1.seen.size → LooksUp file headers wanted told s1 s2 (Err (Refuses refusal)) → ResolvesIn file headers budget size wanted told (Err refusal)
 resolve_refused file headers size wanted told budget s0 s1 s2 refusal set first sized looks = (
   looks.tells,
   λ is.

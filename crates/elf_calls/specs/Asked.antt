@@ -24,11 +24,11 @@ LentTexts = List (Bor (List ℕ))
 abbrev pub parts_in : List ℕ → ℕ
 parts_in asked = field asked 0 2
 
-abbrev pub flags_in : List ℕ → ℕ
+abbrev flags_in : List ℕ → ℕ
 flags_in asked = field asked 2 2
 
 -- numbers of the GNU system have names, by a flag of 4; the version of a symbol stands behind its name, by one of 16
-abbrev pub is_gnu_in : List ℕ → Bool
+abbrev is_gnu_in : List ℕ → Bool
 is_gnu_in asked = has (flags_in asked) 4
 
 abbrev pub has_versions_in : List ℕ → Bool
@@ -80,7 +80,7 @@ MayStand versions names i =
     × ((j : ℕ) (d : Bor (List ℕ)) → j + 1 ≡ i → is_lt (slice_cmp nat_cmp (slice_index_or names i d).now (slice_index_or names j d).now) ≡ false)
 
 -- rows may be chosen by these names, where there are some
-abbrev pub ChoosesBy : List ℕ → Option LentTexts → Type 0
+abbrev ChoosesBy : List ℕ → Option LentTexts → Type 0
 ChoosesBy asked None = ⊤
 ChoosesBy asked (Some names) = IsChosenPart (parts_in asked) × MayChoose (has_versions_in asked) names
 

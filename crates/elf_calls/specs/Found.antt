@@ -1,19 +1,19 @@
 -- What a lookup in a file in memory gives its caller.
-use Rattle.std.specs.Prelude.{ℕ, ◌≡◌, ◌≤◌, List, length, Option, IfSome}
+use Rattle.std.specs.Prelude.{ℕ, ◌≡◌, ◌≤◌, List, length, Option, None, Some, Result, Ok, Err, IfSome}
 use Rattle.elf_model.specs.Budget.{IsBudget}
 use Rattle.elf_model.specs.Find.{find_cost, looked}
-use Rattle.elf_model.specs.Hash.{Refused as IsRefused}
+use Rattle.elf_model.specs.Hash.{Refused}
+use Rattle.elf_model.specs.declared.causes.Refusal.{Refusal}
 use Rattle.elf_hash.specs.Lookups.{AnswersSysvLookup}
-use Rattle.elf_hash.specs.declared.lookup.Lookup.TheVariants.{Found as IsThere, Absent}
-use Rattle.elf_calls.specs.Ends.{TellsCause, TellsNone}
+use Rattle.elf_hash.specs.declared.lookup.Lookup.{Lookup}
+use Rattle.elf_hash.specs.declared.lookup.Lookup.TheVariants.{Found, Absent}
+use Rattle.elf_rows.specs.Ends.{TellsCause, TellsNone}
 use Rattle.elf_calls.specs.Limits.{AreInRange, budget_of, headers_of}
 use Rattle.elf_rows.specs.Symbols.{HasFields}
 use Rattle.elf_rows.specs.declared.symbol.Symbol.{Symbol}
 use Rattle.elf_calls.specs.Wants.{IsWanting}
-use Rattle.elf_calls.specs.declared.end.End.{End}
+use Rattle.elf_rows.specs.declared.end.End.{End}
 use Rattle.elf_calls.specs.declared.found.LookupNumbers.{LookupNumbers}
-use Rattle.elf_calls.specs.declared.found.Looked.{Looked}
-use Rattle.elf_calls.specs.declared.found.Looked.TheVariants.{Answered, Refused, BadCall}
 use Rattle.elf_calls.specs.declared.limits.CallerLimits.{CallerLimits}
 
 -- a symbol of zeros, where none was found
@@ -33,33 +33,32 @@ nothing_behind steps = record {
 
 -- a lookup within a budget, with so many headers permitted: its answer, or its refusal, unless that is for want of budget,
 -- which comes only where the lookup costs more
-abbrev pub LooksIn : List ℕ → ℕ → Option ℕ → List ℕ → Looked → Type 0
-LooksIn file headers budget name (Answered lookup) = AnswersSysvLookup file (looked file headers name) lookup
-LooksIn file headers budget name (Refused refusal) =
-    ((IsBudget refusal → ⊥) → (looked file headers name).answer ≡ IsRefused refusal)
+abbrev pub LooksIn : List ℕ → ℕ → Option ℕ → List ℕ → Result Lookup Refusal → Type 0
+LooksIn file headers budget name (Ok lookup) = AnswersSysvLookup file (looked file headers name) lookup
+LooksIn file headers budget name (Err refusal) =
+    ((IsBudget refusal → ⊥) → (looked file headers name).answer ≡ Refused refusal)
     × (IsBudget refusal → IsWanting budget (find_cost file headers name) (length file) refusal)
-LooksIn file headers budget name BadCall = ⊥
 
 -- limits in their ranges, room for a header, and a name of at most 4,096 bytes
-abbrev pub MayLook : CallerLimits → ℕ → List ℕ → Type 0
+abbrev MayLook : CallerLimits → ℕ → List ℕ → Type 0
 MayLook limits room name = AreInRange limits room × (length name ≤ 4096)
 
 -- a lookup in a file; or what was passed is outside its ranges, and nothing is asked for
-abbrev pub CallLooks : List ℕ → CallerLimits → ℕ → List ℕ → ℕ → Looked → Type 0
-CallLooks file limits room name asked BadCall = (MayLook limits room name → ⊥) × (asked ≡ 0)
-CallLooks file limits room name asked looked = MayLook limits room name × LooksIn file (headers_of limits room) (budget_of limits) name looked
+abbrev pub CallLooks : List ℕ → CallerLimits → ℕ → List ℕ → ℕ → Option (Result Lookup Refusal) → Type 0
+CallLooks file limits room name asked None = (MayLook limits room name → ⊥) × (asked ≡ 0)
+CallLooks file limits room name asked (Some looked) = MayLook limits room name × LooksIn file (headers_of limits room) (budget_of limits) name looked
 
 -- what is told as numbers
-abbrev pub TellsLooked : ℕ → LookupNumbers → End → Looked → Type 0
-TellsLooked status found end (Answered (IsThere section index symbol steps)) =
+abbrev pub TellsLooked : ℕ → LookupNumbers → End → Option (Result Lookup Refusal) → Type 0
+TellsLooked status found end (Some (Ok (Found section index symbol steps))) =
     (status ≡ 0) × (found.section ≡ section) × (found.index ≡ index) × HasFields symbol found.symbol × (found.steps ≡ steps) × (found.none ≡ 0) × (found.none_behind ≡ 0) × TellsNone end
-TellsLooked status found end (Answered (Absent steps)) = (status ≡ 2) × (found ≡ nothing_behind steps) × TellsNone end
-TellsLooked status found end (Refused refusal) = (status ≡ 1) × (found ≡ nothing_behind 0) × TellsCause end refusal
-TellsLooked status found end BadCall = (status ≡ 4) × (found ≡ nothing_behind 0) × TellsNone end
+TellsLooked status found end (Some (Ok (Absent steps))) = (status ≡ 2) × (found ≡ nothing_behind steps) × TellsNone end
+TellsLooked status found end (Some (Err refusal)) = (status ≡ 1) × (found ≡ nothing_behind 0) × TellsCause end refusal
+TellsLooked status found end None = (status ≡ 4) × (found ≡ nothing_behind 0) × TellsNone end
 
 -- WHAT A CALLER HAS of a lookup, with so many bytes of room: what it answers, as the numbers have it
 pub record HasLookup (file : List ℕ) (limits : CallerLimits) (room : ℕ) (name : List ℕ) (status : ℕ) (found : LookupNumbers) (end : End) : Type 0 where
-  pub answer : Looked
+  pub answer : Option (Result Lookup Refusal)
   pub looks : CallLooks file limits room name end.asked answer
   pub tells : TellsLooked status found end answer
   pub nothing : (end.written ≡ 0) × (end.none ≡ 0)

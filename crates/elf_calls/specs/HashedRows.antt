@@ -7,9 +7,9 @@ use Rattle.elf_headers.specs.declared.fault.Fault.TheVariants.{Refused}
 use Rattle.elf_rows.specs.Hashed.{TellsHashedRows, hashed_cost}
 use Rattle.elf_rows.specs.declared.rows.RowsLeft.{RowsLeft}
 use Rattle.elf_calls.specs.Limits.{AreInRange, budget_of, headers_of}
-use Rattle.elf_calls.specs.Openings.{IsOpenedTable}
+use Rattle.elf_rows.specs.Ends.{IsOpenedTable}
 use Rattle.elf_calls.specs.Wants.{IsWanting}
-use Rattle.elf_calls.specs.declared.end.End.{End}
+use Rattle.elf_rows.specs.declared.end.End.{End}
 use Rattle.elf_calls.specs.declared.limits.CallerLimits.{CallerLimits}
 
 -- such symbols within a budget, in a file of so many bytes: a place before the first; or the refusal, which comes for want of budget
@@ -25,7 +25,7 @@ abbrev pub by_flags : ℕ → List ℕ → List ℕ
 by_flags flags file = looked_at (flags == 1) file
 
 -- limits in their range, room for a header, and no other flag
-abbrev pub MayOpenHashed : CallerLimits → (room flags : ℕ) → Type 0
+abbrev MayOpenHashed : CallerLimits → (room flags : ℕ) → Type 0
 MayOpenHashed limits room flags = AreInRange limits room × (flags ≤ 1)
 
 -- what a call opens

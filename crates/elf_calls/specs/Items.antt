@@ -3,7 +3,7 @@ use Rattle.std.specs.Prelude.{ℕ, zero, suc, ◌≡◌, ◌<◌, ◌^◌, Bool,
 use Rattle.elf_layout.specs.Layouts.{Adds, IsName}
 use Rattle.elf_layout.specs.declared.layout.Item.{Item as Laid}
 use Rattle.elf_layout.specs.declared.layout.Item.TheVariants.{Section, Define, Entry, Table, Thread}
-use Rattle.elf_model.specs.Placing.{Layout, Compared, no_items}
+use Rattle.elf_model.specs.Placing.{Layout, no_items}
 use Rattle.elf_calls.specs.declared.items.CallerItem.{CallerItem}
 
 -- an address stands behind others, of which there may be so many, and none of these has its index or name

@@ -1,5 +1,5 @@
 -- A layout of any size, which a caller lends, and what it lacks where a section was refused.
-use Rattle.std.specs.Prelude.{ℕ, ◌≡◌, ◌+◌, ◌-◌, ◌<◌, ◌≤◌, ◌⊎◌, List, ◌++◌, take, length, Option, None, Some, Result, Ok, Err, IfSome}
+use Rattle.std.specs.Prelude.{ℕ, ◌≡◌, ◌+◌, ◌<◌, ◌≤◌, ◌⊎◌, List, ◌++◌, take, length, Option, None, Some, IfSome}
 use Rattle.std.specs.Ordering.{nat_cmp}
 use Rattle.elf_model.specs.ApplyCost.{apply_cost_by_order}
 use Rattle.elf_model.specs.Budget.{IsBudget}
@@ -11,7 +11,6 @@ use Rattle.elf_model.specs.Placing.{Layout, Searched}
 use Rattle.elf_model.specs.declared.causes.Refusal.{Refusal}
 use Rattle.elf_model.specs.declared.missing.LayoutAddress.{LayoutAddress}
 use Rattle.elf_model.specs.declared.missing.LayoutAddress.TheVariants.{Place, Named, Entry}
-use Rattle.elf_model.specs.declared.relocation_types.Base.{Base}
 use Rattle.elf_model.specs.declared.relocation_types.Base.TheVariants.{Symbol, Linkage, Table, Thread}
 use Rattle.elf_explain.specs.Explained.{explain_bytes}
 use Rattle.elf_layout.specs.Kept.{lent_as}
@@ -20,12 +19,12 @@ use Rattle.elf_layout.specs.declared.addresses.LentLayout.{LentLayout}
 use Rattle.elf_calls.specs.Applied.{AppliesFor}
 use Rattle.elf_calls.specs.Limits.{AreInRange, budget_of, headers_of}
 use Rattle.elf_calls.specs.Told.{IsStatus, Untouched}
-use Rattle.elf_calls.specs.declared.end.End.{End}
+use Rattle.elf_rows.specs.declared.end.End.{End}
 use Rattle.elf_calls.specs.declared.lent_layout.CallerLayout.{CallerLayout}
 use Rattle.elf_calls.specs.declared.limits.CallerLimits.{CallerLimits}
 use Rattle.elf_calls.specs.declared.missing.CallerMissing.{CallerMissing}
 use Rattle.elf_calls.specs.declared.told.Told.{Told}
-use Rattle.elf_calls.specs.declared.told.Told.TheVariants.{Done, Refused, Full, BadCall}
+use Rattle.elf_calls.specs.declared.told.Told.TheVariants.{Refused, BadCall}
 
 -- A LAYOUT MAY BE LENT: the indices of its sections rise, and of each sort its names are such as an item may have, and rise
 pub record MayLendLayout (layout : CallerLayout) : Type 0 where

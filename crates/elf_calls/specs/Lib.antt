@@ -1,8 +1,6 @@
 pub mod Applied
 pub mod Asked
-pub mod Causes
 pub mod Costs
-pub mod Ends
 pub mod Found
 pub mod HashedRows
 pub mod Items

@@ -1,5 +1,5 @@
--- What opening a table of a file in memory answers, as numbers.
-use Rattle.std.specs.Prelude.{ℕ, ◌≡◌, List, Option, None, Some, Result}
+-- What opening a table of a file in memory answers, where limits and room are in their ranges.
+use Rattle.std.specs.Prelude.{ℕ, List, Option, None, Some, Result}
 use Rattle.elf_model.specs.declared.causes.Refusal.{Refusal}
 use Rattle.elf_rows.specs.Openings.{ReadsSectionNames, ReadsRows}
 use Rattle.elf_rows.specs.VersionRecords.{ReadsRecords}
@@ -7,32 +7,22 @@ use Rattle.elf_rows.specs.declared.kind.RowKind.{RowKind}
 use Rattle.elf_memory.specs.declared.name.ByteRange.{ByteRange}
 use Rattle.elf_rows.specs.declared.records.RecordsLeft.{RecordsLeft}
 use Rattle.elf_rows.specs.declared.rows.RowsLeft.{RowsLeft}
-use Rattle.elf_calls.specs.Ends.{IsTold, no_end}
 use Rattle.elf_calls.specs.Limits.{AreInRange, headers_of}
-use Rattle.elf_calls.specs.declared.end.End.{End}
 use Rattle.elf_calls.specs.declared.limits.CallerLimits.{CallerLimits}
 
--- AN OPENED TABLE AS NUMBERS: as a row that is read; status 4, with nothing changed, where a number of the call is outside
--- its range
-abbrev pub IsOpenedTable : {A : Type 0} → ℕ → A → A → End → Option (Result (Option A) Refusal) → Type 0
-IsOpenedTable status old new end (Some read) = IsTold status old new end read
-IsOpenedTable status old new end None = (status ≡ 4) × (new ≡ old) × (end ≡ no_end)
+-- what a call has of a reading, for which so many headers are permitted: limits in their range, and room for a header
+abbrev pub OpensBy : {A : Type 0} → (ℕ → Result (Option A) Refusal → Type 0) → CallerLimits → ℕ → Option (Result (Option A) Refusal) → Type 0
+OpensBy reads limits room (Some read) = AreInRange limits room × reads (headers_of limits room) read
+OpensBy reads limits room None = AreInRange limits room → ⊥
 
--- WHAT A CALL OPENS, AS NUMBERS: an answer of that opening, told so
-abbrev pub TellsOpened : {A : Type 0} → (Option (Result (Option A) Refusal) → Type 0) → ℕ → A → A → End → Type 0
-TellsOpened {A} opens status old new end = (opened : Option (Result (Option A) Refusal)) × opens opened × IsOpenedTable status old new end opened
-
--- what a call has of a section of rows of a kind: limits in their range, and room for a header
+-- of a section of rows of a kind
 abbrev pub OpensRows : RowKind → List ℕ → CallerLimits → ℕ → ℕ → Option (Result (Option RowsLeft) Refusal) → Type 0
-OpensRows kind file limits room section (Some read) = AreInRange limits room × ReadsRows kind file (headers_of limits room) section read
-OpensRows kind file limits room section None = AreInRange limits room → ⊥
+OpensRows kind file limits room section opened = OpensBy (λ headers. ReadsRows kind file headers section) limits room opened
 
--- the same of the section names
+-- of the section names
 abbrev pub OpensNames : List ℕ → CallerLimits → ℕ → Option (Result (Option ByteRange) Refusal) → Type 0
-OpensNames file limits room (Some read) = AreInRange limits room × ReadsSectionNames file (headers_of limits room) read
-OpensNames file limits room None = AreInRange limits room → ⊥
+OpensNames file limits room opened = OpensBy (ReadsSectionNames file) limits room opened
 
--- the same of a section of version definitions or needs
+-- of a section of version definitions or needs
 abbrev pub OpensRecords : List ℕ → CallerLimits → ℕ → ℕ → Option (Result (Option RecordsLeft) Refusal) → Type 0
-OpensRecords file limits room section (Some read) = AreInRange limits room × ReadsRecords file (headers_of limits room) section read
-OpensRecords file limits room section None = AreInRange limits room → ⊥
+OpensRecords file limits room section opened = OpensBy (λ headers. ReadsRecords file headers section) limits room opened

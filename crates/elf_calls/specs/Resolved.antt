@@ -1,29 +1,29 @@
 -- What a loader's lookup in a file in memory gives its caller.
-use Rattle.std.specs.Prelude.{ℕ, ◌≡◌, ◌≤◌, not, true, false, List, length, Option, None, Some, IfSome}
+use Rattle.std.specs.Prelude.{ℕ, ◌≡◌, ◌≤◌, true, false, List, length, Option, None, Some, Result, Ok, Err, IfSome}
 use Rattle.elf_loader.specs.Lookups.{AnswersLoaderLookup}
 use Rattle.elf_loader.specs.declared.found.FoundVersion.{FoundVersion}
 use Rattle.elf_loader.specs.declared.found.VersionName.{VersionName}
 use Rattle.elf_loader.specs.declared.found.VersionName.TheVariants.{Wanted as IsWanted, Unnamed, Told}
 use Rattle.elf_loader.specs.declared.lookup.FoundSymbol.{FoundSymbol}
-use Rattle.elf_loader.specs.declared.lookup.SymbolLookup.TheVariants.{Found as IsThere, Absent}
+use Rattle.elf_loader.specs.declared.lookup.SymbolLookup.{SymbolLookup}
+use Rattle.elf_loader.specs.declared.lookup.SymbolLookup.TheVariants.{Found, Absent}
 use Rattle.elf_model.specs.Budget.{IsBudget}
-use Rattle.elf_model.specs.Hash.{Refused as IsRefused}
+use Rattle.elf_model.specs.Hash.{Refused}
 use Rattle.elf_model.specs.Loader.{Wanted, is_hidden}
 use Rattle.elf_model.specs.LoaderFind.{loader_cost, loader_looked}
 use Rattle.elf_model.specs.Style.{looked_at}
 use Rattle.elf_model.specs.Versions.{number_in}
+use Rattle.elf_model.specs.declared.causes.Refusal.{Refusal}
 use Rattle.elf_rows.specs.Symbols.{HasFields}
 use Rattle.elf_table.specs.declared.names.NameEnd.{NameEnd}
 use Rattle.elf_table.specs.declared.names.NameEnd.TheVariants.{Whole, Cut}
 use Rattle.elf_calls.specs.Found.{no_symbol}
-use Rattle.elf_calls.specs.Ends.{TellsCause, TellsNone}
+use Rattle.elf_rows.specs.Ends.{TellsCause, TellsNone}
 use Rattle.elf_calls.specs.Limits.{AreInRange, budget_of, headers_of}
 use Rattle.elf_calls.specs.Queries.{QueryAsked, IsPermitted, goes_by_segments, wanted_by}
 use Rattle.elf_calls.specs.Wants.{IsWanting}
-use Rattle.elf_calls.specs.declared.end.End.{End}
+use Rattle.elf_rows.specs.declared.end.End.{End}
 use Rattle.elf_calls.specs.declared.limits.CallerLimits.{CallerLimits}
-use Rattle.elf_calls.specs.declared.resolved.Resolution.{Resolution}
-use Rattle.elf_calls.specs.declared.resolved.Resolution.TheVariants.{Answered, Refused, BadCall}
 use Rattle.elf_calls.specs.declared.resolved.Resolved.{Resolved}
 
 -- nothing was found, and so many symbols were tried
@@ -49,24 +49,23 @@ file_of asks file = looked_at (goes_by_segments asks.flags) file
 
 -- a lookup within a budget, in a file of so many bytes and with so many headers permitted: its answer, with the name of a version
 -- in these bytes; or its refusal, unless that is for want of budget, which comes only where the lookup costs more
-abbrev pub ResolvesIn : List ℕ → ℕ → Option ℕ → ℕ → Wanted → List ℕ → Resolution → Type 0
-ResolvesIn file headers budget size wanted told (Answered lookup) =
+abbrev pub ResolvesIn : List ℕ → ℕ → Option ℕ → ℕ → Wanted → List ℕ → Result SymbolLookup Refusal → Type 0
+ResolvesIn file headers budget size wanted told (Ok lookup) =
     AnswersLoaderLookup file wanted.asked told (loader_looked file headers wanted) lookup
-ResolvesIn file headers budget size wanted told (Refused refusal) =
-    ((IsBudget refusal → ⊥) → (loader_looked file headers wanted).lookup.answer ≡ IsRefused refusal)
+ResolvesIn file headers budget size wanted told (Err refusal) =
+    ((IsBudget refusal → ⊥) → (loader_looked file headers wanted).lookup.answer ≡ Refused refusal)
     × (IsBudget refusal → IsWanting budget (loader_cost file headers wanted) size refusal)
-ResolvesIn file headers budget size wanted told BadCall = ⊥
 
 -- limits in their ranges, room for a header, flags that are known, and a name and a version of at most 4,096 bytes
-abbrev pub MayResolve : CallerLimits → ℕ → QueryAsked → Type 0
+abbrev MayResolve : CallerLimits → ℕ → QueryAsked → Type 0
 MayResolve limits room asks = AreInRange limits room × IsPermitted asks
 
 -- a lookup in a file; or what was passed is outside its ranges, and nothing is asked for
-abbrev pub Resolves : List ℕ → CallerLimits → ℕ → QueryAsked → List ℕ → ℕ → Resolution → Type 0
-Resolves file limits room asks told asked BadCall = (MayResolve limits room asks → ⊥) × (asked ≡ 0)
-Resolves file limits room asks told asked resolution =
+abbrev pub Resolves : List ℕ → CallerLimits → ℕ → QueryAsked → List ℕ → ℕ → Option (Result SymbolLookup Refusal) → Type 0
+Resolves file limits room asks told asked None = (MayResolve limits room asks → ⊥) × (asked ≡ 0)
+Resolves file limits room asks told asked (Some answer) =
     MayResolve limits room asks
-    × ResolvesIn (file_of asks file) (headers_of limits room) (budget_of limits) (length file) (wanted_by asks) told resolution
+    × ResolvesIn (file_of asks file) (headers_of limits room) (budget_of limits) (length file) (wanted_by asks) told answer
 
 -- the numbers of a symbol
 abbrev pub HasSymbol : Resolved → FoundSymbol → Type 0
@@ -86,7 +85,7 @@ cut_number Whole = 0
 cut_number Cut = 1
 
 -- the name of a version: so many bytes from an offset on, where it is told, and no bytes where it is the wanted one or none
-abbrev pub TellsName : Resolved → ℕ → ℕ → VersionName → Type 0
+abbrev TellsName : Resolved → ℕ → ℕ → VersionName → Type 0
 TellsName resolved at told IsWanted = (resolved.version ≡ record { at = 0; len = 0 }) × (resolved.is_cut ≡ 0)
 TellsName resolved at told Unnamed = (resolved.version ≡ record { at = 0; len = 0 }) × (resolved.is_cut ≡ 0)
 TellsName resolved at told (Told end) = (resolved.version ≡ record { at = at; len = told }) × (resolved.is_cut ≡ cut_number end)
@@ -102,18 +101,18 @@ TellsFoundVersion resolved told (Some version) =
     × TellsName resolved version.name_at told version.name
 
 -- what is told as numbers
-abbrev pub TellsResolved : ℕ → Resolved → End → ℕ → Resolution → Type 0
-TellsResolved status resolved end told (Answered (IsThere found)) =
+abbrev pub TellsResolved : ℕ → Resolved → End → ℕ → Option (Result SymbolLookup Refusal) → Type 0
+TellsResolved status resolved end told (Some (Ok (Found found))) =
     (status ≡ 0) × HasSymbol resolved found × TellsFoundVersion resolved told found.version × TellsNone end
-TellsResolved status resolved end told (Answered (Absent tried)) = (status ≡ 2) × (resolved ≡ nothing_resolved tried) × TellsNone end
-TellsResolved status resolved end told (Refused refusal) = (status ≡ 1) × (resolved ≡ nothing_resolved 0) × TellsCause end refusal
-TellsResolved status resolved end told BadCall = (status ≡ 4) × (resolved ≡ nothing_resolved 0) × TellsNone end
+TellsResolved status resolved end told (Some (Ok (Absent tried))) = (status ≡ 2) × (resolved ≡ nothing_resolved tried) × TellsNone end
+TellsResolved status resolved end told (Some (Err refusal)) = (status ≡ 1) × (resolved ≡ nothing_resolved 0) × TellsCause end refusal
+TellsResolved status resolved end told None = (status ≡ 4) × (resolved ≡ nothing_resolved 0) × TellsNone end
 
 -- WHAT A CALLER HAS of a loader's lookup, with so many bytes of room: what it answers, as the numbers have it, with what is told of
 -- the name of a version
 pub record IsResolved (file : List ℕ) (limits : CallerLimits) (room : ℕ) (asks : QueryAsked) (status : ℕ) (resolved : Resolved) (end : End) : Type 0 where
   pub told : List ℕ
-  pub answer : Resolution
+  pub answer : Option (Result SymbolLookup Refusal)
   pub resolves : Resolves file limits room asks told end.asked answer
   pub tells : TellsResolved status resolved end (length told) answer
   pub nothing : (end.written ≡ 0) × (end.none ≡ 0)

@@ -5,11 +5,10 @@ use Rattle.elf_model.specs.declared.causes.Refusal.{Refusal}
 use Rattle.elf_rows.specs.ListedEntries.{ReadsListed}
 use Rattle.elf_rows.specs.Rows.{StepsRows, next_at, rows_left}
 use Rattle.elf_rows.specs.declared.rows.RowsLeft.{RowsLeft}
-use Rattle.elf_calls.specs.Causes.{cause_number}
-use Rattle.elf_calls.specs.Ends.{no_end, refused_end}
+use Rattle.elf_rows.specs.Causes.{cause_number}
+use Rattle.elf_rows.specs.Ends.{IsOpenedTable, no_end, refused_end}
 use Rattle.elf_calls.specs.Limits.{budget_of}
-use Rattle.elf_calls.specs.Openings.{IsOpenedTable}
-use Rattle.elf_calls.specs.declared.end.End.{End}
+use Rattle.elf_rows.specs.declared.end.End.{End}
 use Rattle.elf_calls.specs.declared.limits.CallerLimits.{CallerLimits}
 
 -- how many bytes may still be read where so many were asked for: 2^64 - 1 where there is no budget

@@ -2,8 +2,6 @@
 ghost use Rattle.std.specs.Prelude.{◌≡◌};
 ghost use Rattle.elf_calls.specs.Found.{no_symbol, nothing_behind};
 
-use elf_hash::Lookup;
-use elf_record::Refusal;
 use elf_rows::Symbol;
 
 /// What a lookup found; all 0 where it found nothing, but for the steps.
@@ -52,15 +50,4 @@ pub fn no_symbol() -> Symbol
         info: 0,
         other: 0,
     }
-}
-
-/// What a caller is told of a lookup.
-#[derive(Clone, Copy)]
-pub enum Looked {
-    /// The name was found, or there is none.
-    Answered(Lookup),
-    /// The file is refused, or the read budget is used up.
-    Refused(Refusal),
-    /// The limits, the room or the length of the name are outside their ranges.
-    BadCall,
 }

@@ -4,7 +4,7 @@ ghost use Rattle.elf_layout.specs.Layouts.{IsName};
 ghost use Rattle.elf_model.specs.Placing.{Layout as Placed};
 ghost use Rattle.elf_calls.specs.Items.{GivesItem, LaysOut, LaysItem};
 
-use elf_layout::Layout;
+use elf_layout::{ITEM_NAME_BYTES, Layout};
 
 /// An address of a section.
 const SECTION: u32 = 0;
@@ -17,8 +17,6 @@ const TABLE: u32 = 3;
 /// An address of the entry in the global offset table of a symbol's offset from the thread pointer.
 const THREAD: u32 = 4;
 
-/// The most bytes of a name.
-const ITEM_NAME_BYTES: usize = 255;
 /// The largest index of a section.
 const LAST_INDEX: u32 = 65_535;
 

@@ -1,20 +1,24 @@
 //! A name looked up in a file in memory as a loader does, and what a caller is told of it.
 ghost use Rattle.std.specs.Prelude.{◌≡◌, ◌≤◌, IfSome, length};
 ghost use Rattle.elf_model.specs.LoaderFind.{loader_cost};
-ghost use Rattle.elf_calls.specs.Ends.{TellsNone};
+ghost use Rattle.elf_rows.specs.Ends.{TellsNone};
 ghost use Rattle.elf_calls.specs.Queries.{IsPermitted, asks_of, wanted_by};
 ghost use Rattle.elf_calls.specs.Resolved.{ResolvesIn, TellsResolved, file_of, nothing_resolved};
 
 use crate::counts::short;
-use crate::end::End;
 use crate::query::Query;
-use crate::resolved::{Resolution, Resolved};
+use crate::resolved::Resolved;
 use elf_headers::{Fault, HeaderStore};
 use elf_loader::{SymbolLookup, look_up};
+use elf_record::Refusal;
+use elf_rows::End;
 use elf_source::{Counted, MemorySource};
 use elf_table::NameBuf;
 
 /// Looks it up within a read budget, where there is one.
+///
+/// # Errors
+/// Those of [`look_up`].
 pub fn resolve_in(
     file: &[u8],
     store: &mut HeaderStore,
@@ -22,7 +26,7 @@ pub fn resolve_in(
     query: &Query<'_>,
     told: &mut NameBuf,
     asked: &mut u64,
-) -> Resolution
+) -> Result<SymbolLookup, Refusal>
     requires { IsPermitted (asks_of query.now) }
     ensures resolves { ResolvesIn (file_of (asks_of query.now) file.now) store.old.slots budget
         (length file.now) (wanted_by (asks_of query.now)) told.new result }
@@ -37,40 +41,40 @@ pub fn resolve_in(
     *asked = short(src.asked());
     let _ = src.into_inner();
     match found {
-        Ok(lookup) => Resolution::Answered(lookup),
-        Err(Fault::Refused(refusal)) => Resolution::Refused(refusal),
+        Ok(lookup) => Ok(lookup),
+        Err(Fault::Refused(refusal)) => Err(refusal),
         Err(Fault::Source { .. }) => unreachable!(),
     }
 }
 
-/// Tells what was found as numbers, and answers the status. Of the name of a version `told` bytes
-/// are held.
+/// Tells what was found as numbers, and answers the status. None is a call with a number outside its
+/// range. Of the name of a version `told` bytes are held.
 pub fn tell_resolved(
-    resolution: &Resolution,
+    answer: &Option<Result<SymbolLookup, Refusal>>,
     told: u64,
     resolved: &mut Resolved,
     end: &mut End,
 ) -> u32
     requires nothing { resolved.old ≡ nothing_resolved 0 }
     requires none { TellsNone end.old }
-    ensures tells { TellsResolved result resolved.new end.new told resolution.now }
+    ensures tells { TellsResolved result resolved.new end.new told answer.now }
     ensures written { end.new.written ≡ end.old.written }
     ensures asked { end.new.asked ≡ end.old.asked }
     ensures none { end.new.none ≡ end.old.none }
 {
-    match resolution {
-        Resolution::Answered(SymbolLookup::Found(found)) => {
+    match answer {
+        Some(Ok(SymbolLookup::Found(found))) => {
             resolved.tell(found, told);
             0
         }
-        Resolution::Answered(SymbolLookup::Absent { tried }) => {
+        Some(Ok(SymbolLookup::Absent { tried })) => {
             resolved.tried = *tried;
             2
         }
-        Resolution::Refused(refusal) => {
+        Some(Err(refusal)) => {
             end.refuse(*refusal);
             1
         }
-        Resolution::BadCall => 4,
+        None => 4,
     }
 }

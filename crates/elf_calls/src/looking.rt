@@ -1,25 +1,28 @@
 //! A name looked up in a file in memory, and what a caller is told of it.
 ghost use Rattle.std.specs.Prelude.{◌≡◌, ◌≤◌, IfSome, length};
 ghost use Rattle.elf_model.specs.Find.{find_cost};
-ghost use Rattle.elf_calls.specs.Ends.{TellsNone};
+ghost use Rattle.elf_rows.specs.Ends.{TellsNone};
 ghost use Rattle.elf_calls.specs.Found.{LooksIn, TellsLooked, nothing_behind};
 
 use crate::counts::short;
-use crate::end::End;
-use crate::found::{Looked, LookupNumbers};
+use crate::found::LookupNumbers;
 use elf_hash::{Lookup, find};
 use elf_headers::{Fault, HeaderStore};
-use elf_rows::Symbol;
+use elf_record::Refusal;
+use elf_rows::{End, Symbol};
 use elf_source::{Counted, MemorySource};
 
 /// Looks a name of at most 4,096 bytes up within a read budget, where there is one.
+///
+/// # Errors
+/// Those of [`find`].
 pub fn look_in(
     file: &[u8],
     store: &mut HeaderStore,
     budget: Option<u64>,
     name: &[u8],
     asked: &mut u64,
-) -> Looked
+) -> Result<Lookup, Refusal>
     requires { length name.now ≤ 4096 }
     ensures looks { LooksIn file.now store.old.slots budget name.now result }
     ensures cost { asked.new ≤ find_cost file.now store.old.slots name.now }
@@ -31,14 +34,19 @@ pub fn look_in(
     *asked = short(src.asked());
     let _ = src.into_inner();
     match found {
-        Ok(lookup) => Looked::Answered(lookup),
-        Err(Fault::Refused(refusal)) => Looked::Refused(refusal),
+        Ok(lookup) => Ok(lookup),
+        Err(Fault::Refused(refusal)) => Err(refusal),
         Err(Fault::Source { .. }) => unreachable!(),
     }
 }
 
-/// Tells what was found as numbers, and answers the status.
-pub fn tell_found(looked: &Looked, found: &mut LookupNumbers, end: &mut End) -> u32
+/// Tells what was found as numbers, and answers the status. None is a call with a number outside its
+/// range.
+pub fn tell_found(
+    looked: &Option<Result<Lookup, Refusal>>,
+    found: &mut LookupNumbers,
+    end: &mut End,
+) -> u32
     requires nothing { found.old ≡ nothing_behind 0 }
     requires none { TellsNone end.old }
     ensures tells { TellsLooked result found.new end.new looked.now }
@@ -47,13 +55,15 @@ pub fn tell_found(looked: &Looked, found: &mut LookupNumbers, end: &mut End) -> 
     ensures none { end.new.none ≡ end.old.none }
 {
     match looked {
-        Looked::Answered(
-            Lookup::Found {
-                section,
-                index,
-                symbol,
-                steps,
-            },
+        Some(
+            Ok(
+                Lookup::Found {
+                    section,
+                    index,
+                    symbol,
+                    steps,
+                },
+            ),
         ) => {
             found.symbol = Symbol::of(symbol);
             found.section = *section;
@@ -61,14 +71,14 @@ pub fn tell_found(looked: &Looked, found: &mut LookupNumbers, end: &mut End) -> 
             found.steps = *steps;
             0
         }
-        Looked::Refused(refusal) => {
+        Some(Err(refusal)) => {
             end.refuse(*refusal);
             1
         }
-        Looked::Answered(Lookup::Absent { steps }) => {
+        Some(Ok(Lookup::Absent { steps })) => {
             found.steps = *steps;
             2
         }
-        Looked::BadCall => 4,
+        None => 4,
     }
 }

@@ -3,9 +3,8 @@ ghost use Rattle.std.specs.Prelude.{◌≡◌, Some};
 ghost use Rattle.elf_calls.specs.Resolved.{HasSymbol, SameSymbol, TellsFoundVersion, nothing_resolved};
 
 use crate::found::no_symbol;
-use elf_loader::{FoundSymbol, FoundVersion, SymbolLookup, VersionName};
+use elf_loader::{FoundSymbol, FoundVersion, VersionName};
 use elf_memory::ByteRange;
-use elf_record::Refusal;
 use elf_rows::Symbol;
 use elf_table::NameEnd;
 
@@ -95,15 +94,4 @@ impl Resolved {
             self.is_cut = u32::from(end == NameEnd::Cut);
         }
     }
-}
-
-/// What a caller is told of a loader's lookup.
-#[derive(Clone, Copy)]
-pub enum Resolution {
-    /// A symbol was found, or none answers.
-    Answered(SymbolLookup),
-    /// The file is refused, or the read budget is used up.
-    Refused(Refusal),
-    /// The limits, the room, the flags or the length of a name are outside their ranges.
-    BadCall,
 }

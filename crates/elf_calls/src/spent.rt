@@ -1,14 +1,39 @@
-//! How much of a budget rows have left, and what they count.
-ghost use Rattle.std.specs.Prelude.{◌≡◌, ◌*◌, ◌/◌, ◌<◌, min};
+//! Rows within a budget: how much of it they have left, and what they count.
+ghost use Rattle.std.specs.Prelude.{◌≡◌, ◌*◌, ◌/◌, ◌<◌, ◌≤◌, ℕ, IfSome, length, min, slice_index_or};
+ghost use Rattle.elf_rows.specs.Rows.{next_at};
 ghost use Rattle.elf_calls.specs.Limits.{budget_of};
-ghost use Rattle.elf_calls.specs.Within.{asked_more, budget_left, entries_looked, step_end};
+ghost use Rattle.elf_calls.specs.Within.{StepsBudgeted, asked_more, budget_left, entries_looked, step_end};
 
 use crate::counts::short;
-use crate::end::End;
 use crate::limits::{CallerLimits, budget_of};
 use elf_record::sizes::DYNAMIC_BYTES;
 use elf_record::{Cause, Refusal};
-use elf_rows::RowsLeft;
+use elf_rows::{End, RowsLeft, TableRow, next_rows};
+
+/// Reads the next rows to the front of `out` and steps over them, as [`next_rows`] does, and no more
+/// than the budget of the limits has left; answers how many. Their bytes count in `asked`. Where more
+/// rows are left, and room for them, the budget ended it: then `end` tells so, at the next row.
+pub fn next_within<R: TableRow>(
+    file: &[u8],
+    limits: &CallerLimits,
+    asked: &mut u64,
+    rows: &mut RowsLeft,
+    out: &mut [R],
+    end: &mut End,
+) -> usize
+    ensures steps { StepsBudgeted (length file.now) R.BYTES limits.now asked.old asked.new
+        rows.old rows.new (length out.old) result end.new }
+    ensures budget { IfSome (budget_of limits.now)
+        (λ bytes. asked.old ≤ bytes → asked.new ≤ bytes) }
+    ensures read { (k : ℕ) (none : R) → k < result →
+        R.stands file.now (next_at rows.old R.BYTES k) (slice_index_or out.new k none) }
+{
+    let room = room_left(limits, *asked, R::BYTES, out.len());
+    let count = next_rows(file, rows, &mut out[..room]);
+    count_bytes(u128::from(R::BYTES) * count as u128, asked);
+    tell_rest(file.len(), rows, R::BYTES, out.len() - count, end);
+    count
+}
 
 /// How many bytes may still be read where `asked` were asked for; 2^64 - 1 where there is no budget.
 fn budget_left(limits: &CallerLimits, asked: u64) -> u64
@@ -28,7 +53,7 @@ pub fn entries_left(limits: &CallerLimits, asked: u64) -> u64
 }
 
 /// How many entries of `entry` bytes that are, no more than there is room for.
-pub fn room_left(limits: &CallerLimits, asked: u64, entry: u64, room: usize) -> usize
+fn room_left(limits: &CallerLimits, asked: u64, entry: u64, room: usize) -> usize
     requires { 0 < entry }
     ensures { result ≡ min room (budget_left (budget_of limits.now) asked / entry) }
 {
@@ -36,7 +61,7 @@ pub fn room_left(limits: &CallerLimits, asked: u64, entry: u64, room: usize) -> 
 }
 
 /// Counts so many bytes more; `asked` stays at 2^64 - 1 where it would pass that.
-pub fn count_bytes(bytes: u128, asked: &mut u64)
+fn count_bytes(bytes: u128, asked: &mut u64)
     ensures { asked.new ≡ asked_more asked.old bytes }
 {
     *asked = short(u128::from(*asked).saturating_add(bytes));
@@ -62,7 +87,7 @@ pub fn count_entries(opened: &Option<Result<Option<RowsLeft>, Refusal>>, most: u
 }
 
 /// Tells whether the budget ended a step: where more rows are left, and room for `free` rows.
-pub fn tell_rest(size: usize, rows: &RowsLeft, entry: u64, free: usize, end: &mut End)
+fn tell_rest(size: usize, rows: &RowsLeft, entry: u64, free: usize, end: &mut End)
     requires { 0 < entry }
     ensures { end.new ≡ step_end size entry rows.now free }
 {

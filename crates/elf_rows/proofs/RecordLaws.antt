@@ -1,14 +1,13 @@
 -- What a walk over the records of symbol versions leaves, by plain numbers.
-use Rattle.std.proofs.Common.{◌≡◌, ◌⊎◌, inl, inr, ℕ, suc, ◌+◌, ◌-◌, ◌^◌, ◌<◌, ◌≤◌, ◌==◌, min, nat_le, Bool, true, false, List, [], ◌∷◌, length, Option, None, Some, option_map, refl, sym, ap, subst, ◌∙◌, arith}
+use Rattle.std.proofs.Common.{◌≡◌, inl, inr, ℕ, ◌+◌, ◌-◌, ◌^◌, ◌<◌, ◌≤◌, ◌==◌, min, nat_le, true, List, [], ◌∷◌, length, Option, None, Some, option_map, refl, sym, ap, ◌∙◌, arith}
 use Rattle.std.specs.Prelude.{IfSome}
 use Rattle.std.proofs.lemmas.Bool.{cases_Bool, cases_lt}
 use Rattle.std.proofs.lemmas.Bool.Decides.{nat_tests}
 use Rattle.elf_model.specs.Records.{vn_next}
-use Rattle.elf_model.specs.Versions.{Met, Stand, Versions, along, along_needs, met_at, met_from, next_stand, next_word, no_versions, record_size, with_met}
+use Rattle.elf_model.specs.Versions.{Met, Stand, Versions, along, along_needs, met_from, next_stand, next_word, no_versions, record_size, with_met}
 use Rattle.elf_model.specs.declared.causes.Cause.TheVariants.{VersionCut}
 use Rattle.elf_model.specs.declared.versions.VersionKind.{VersionKind}
 use Rattle.elf_model.specs.declared.versions.VersionKind.TheVariants.{Definition, File, Need}
-use Rattle.elf_model.proofs.VersionSteps.{met-ended}
 use Rattle.elf_table.specs.Tables.{Rows}
 use Rattle.elf_versions.specs.Reading.{Fits, Walking, stand_of, versions_left}
 use Rattle.elf_versions.specs.declared.stepping.Standing.{Standing}

@@ -5,7 +5,7 @@ use Rattle.elf_table.specs.Sections.{string_table_at, strings, table_at}
 use Rattle.elf_table.specs.Tables.{Rows as Table, Strings}
 
 -- the string table of so many dynamic entries is the one that the section with this header links to; none of no entries
-abbrev pub AreNames : List ℕ → ℕ → ℕ → Strings → Type 0
+abbrev AreNames : List ℕ → ℕ → ℕ → Strings → Type 0
 AreNames file header count names = (0 < count → string_table_at file header ≡ Ok names) × (count ≡ 0 → names ≡ strings 0 0)
 
 -- the table of the section with this header and its string table, whose checks pass, or the first check that fails

@@ -1,4 +1,6 @@
+pub mod Causes
 pub mod DynamicTables
+pub mod Ends
 pub mod Entries
 pub mod Hashed
 pub mod ListedEntries

@@ -22,7 +22,7 @@ CountsListed file at count most (Some listed) = (listed ≡ dynamic_count file a
 CountsListed file at count most None = most < dynamic_count file at count
 
 -- a refusal for want of budget, at the first entry behind so many
-abbrev pub is_past : ℕ → ℕ → Refusal
+abbrev is_past : ℕ → ℕ → Refusal
 is_past at most = record { at = at + 16 * most; cause = Budget }
 
 -- those that are listed, which are not more than so many; or they are more
@@ -31,7 +31,7 @@ ListsWithin file all most (Ok rows) = (rows ≡ all_listed file all) × (rows.co
 ListsWithin file all most (Err refusal) = (most < dynamic_count file all.at all.count) × (refusal ≡ is_past all.at most)
 
 -- a reading would give more rows than so many, and is refused for want of budget behind these
-abbrev pub LooksPast : (Result (Option RowsLeft) Refusal → Type 0) → ℕ → Refusal → Type 0
+abbrev LooksPast : (Result (Option RowsLeft) Refusal → Type 0) → ℕ → Refusal → Type 0
 LooksPast reads most refusal = (rows : RowsLeft) × reads (Ok (Some rows)) × (most < rows.count) × (refusal ≡ is_past rows.at most)
 
 -- WHAT A CALLER HAS of dynamic entries where no more than so many are looked at: what that reading gives, if these are not more;

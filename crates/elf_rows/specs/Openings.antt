@@ -46,7 +46,7 @@ linked_names (Some symbols) = symbols.1
 
 -- the rows of a kind of the section with this header, whose checks pass: symbols with their string table; relocation entries with
 -- the string table of the symbols that they refer to; dynamic entries up to and with the first DT_NULL, with their string table; words of symbols' versions
-abbrev pub AreOpenedRows : RowKind → List ℕ → ℕ → RowsLeft → Type 0
+abbrev AreOpenedRows : RowKind → List ℕ → ℕ → RowsLeft → Type 0
 AreOpenedRows Symbols file at rows = (table : Table) × (names : Strings) × (symbols_at file at ≡ Ok (table, names)) × (rows ≡ rows_from_first table names)
 AreOpenedRows Relocations file at rows =
     (table : Table) × (linked : Option (Table × Strings)) × (table.entry ≡ 24) × AreRelocations file at table linked × (rows ≡ rows_from_first table (linked_names linked))
@@ -55,7 +55,7 @@ AreOpenedRows Dynamic file at rows =
 AreOpenedRows VersionWords file at rows = (first_refusal (all_checks symbol_versions.checks file at) ≡ None) × (rows ≡ version_words file at)
 
 -- the first check of such a table that fails
-abbrev pub RefusesRows : RowKind → List ℕ → ℕ → Fault → Type 0
+abbrev RefusesRows : RowKind → List ℕ → ℕ → Fault → Type 0
 RefusesRows Symbols file at fault = symbols_at file at ≡ Err fault
 RefusesRows Relocations file at fault = Relocates file at (Err fault)
 RefusesRows Dynamic file at fault = IsDynamicTable file at (Err fault)
@@ -67,11 +67,11 @@ OpensTable kind file at (Ok rows) = AreOpenedRows kind file at rows
 OpensTable kind file at (Err fault) = RefusesRows kind file at fault
 
 -- the file has a section of this index, and it holds rows of a kind
-abbrev pub HasRows : RowKind → List ℕ → ℕ → Type 0
+abbrev HasRows : RowKind → List ℕ → ℕ → Type 0
 HasRows kind file section = (section < e_shnum file) × (holds kind file (section_at file section) ≡ true)
 
 -- it has none, or that holds no such rows
-abbrev pub LacksRows : RowKind → List ℕ → ℕ → Type 0
+abbrev LacksRows : RowKind → List ℕ → ℕ → Type 0
 LacksRows kind file section = (e_shnum file ≤ section) ⊎ (holds kind file (section_at file section) ≡ false)
 
 -- WHAT A CALLER HAS of a section of rows of a kind: its rows, whose checks pass; that there is no such section; or the first check
@@ -84,7 +84,7 @@ ReadsRows kind file headers section (Err refusal) =
     ⊎ ((load_refused file headers ≡ None) × HasRows kind file section × RefusesRows kind file (section_at file section) (Refused refusal))
 
 -- the range that a string table is
-abbrev pub range_of : Strings → ByteRange
+abbrev range_of : Strings → ByteRange
 range_of names = record { at = names.at; len = names.size }
 
 -- WHAT A CALLER HAS of the section names: their string table; that there is none; or the first check that fails until the

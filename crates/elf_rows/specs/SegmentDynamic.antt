@@ -30,11 +30,11 @@ AreSegmentEntries file place at bytes (Err refusal) =
     first_refusal (unless_empty bytes (whole_checks_of (length file) at bytes place 16)) ≡ Some refusal
 
 -- the file has a segment of this index, of type DYNAMIC
-abbrev pub HasEntries : List ℕ → ℕ → Type 0
+abbrev HasEntries : List ℕ → ℕ → Type 0
 HasEntries file index = (index < e_phnum file) × (p_type file (segment_at file index) ≡ PT_DYNAMIC)
 
 -- all entries of a segment
-abbrev pub all_entries : List ℕ → ℕ → RowsLeft
+abbrev all_entries : List ℕ → ℕ → RowsLeft
 all_entries file index = entries_at (p_offset file (segment_at file index)) (p_filesz file (segment_at file index))
 
 -- a place before the first of all entries of a segment, which lie within the file; that there is no such segment, or that it holds

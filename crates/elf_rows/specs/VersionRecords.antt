@@ -12,7 +12,7 @@ use Rattle.elf_model.specs.declared.versions.VersionKind.TheVariants.{Definition
 use Rattle.elf_headers.specs.declared.fault.Fault.{Fault}
 use Rattle.elf_table.specs.Relocations.{RefusedBy}
 use Rattle.elf_table.specs.Sections.{names_at, strings}
-use Rattle.elf_table.specs.Tables.{Rows as Table, Strings}
+use Rattle.elf_table.specs.Tables.{Strings}
 use Rattle.elf_rows.specs.LoadRefused.{load_refused}
 use Rattle.elf_versions.specs.declared.stepping.Standing.{Standing}
 use Rattle.elf_rows.specs.declared.record_row.RecordRow.{RecordRow}

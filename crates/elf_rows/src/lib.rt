@@ -1,10 +1,13 @@
 //! The rows of tables of an ELF64 file that lies in memory, as a caller keeps them: symbols, relocation
 //! entries, dynamic entries and symbol versions, field by field, and places in tables that are plain
-//! numbers. No number that a caller sets is a wrong one: each step tests them.
+//! numbers. No number that a caller sets is a wrong one: each step tests them. What a read answers is told
+//! in the numbers that C has.
 #![tactic(auto)]
 
+mod causes;
 mod dynamic;
 mod dynamic_table;
+mod end;
 mod hashed;
 mod held;
 mod held_tables;
@@ -18,21 +21,24 @@ mod relocations;
 mod rows;
 mod segment_entries;
 mod symbol;
-mod symbols;
+mod table_row;
 mod tables;
+mod telling;
 mod version_words;
 
-pub use dynamic::{Dynamic, next_dynamic};
+pub use dynamic::Dynamic;
+pub use end::End;
 pub use hashed::hashed_rows;
 pub use kind::RowKind;
 pub use names::names_in;
 pub use record_row::RecordRow;
 pub use record_tables::records_in;
 pub use records::{RecordsLeft, next_record};
-pub use relocations::{Relocation, next_relocations};
+pub use relocations::Relocation;
 pub use rows::RowsLeft;
 pub use segment_entries::{segment_dynamic, segment_dynamic_within};
 pub use symbol::Symbol;
-pub use symbols::next_symbols;
+pub use table_row::{TableRow, next_rows};
 pub use tables::{dynamic_within, rows_in};
-pub use version_words::{VersionWord, next_version_words};
+pub use telling::{tell, tell_opened};
+pub use version_words::VersionWord;

@@ -1,13 +1,13 @@
-//! Relocation entries, and steps over them.
-ghost use Rattle.std.specs.Prelude.{◌≡◌, ◌+◌, ◌*◌, ◌<◌, ◌≤◌, ℕ, List, length, slice_index_or};
+//! Relocation entries.
+ghost use Rattle.std.proofs.Common.{rules};
+ghost use Rattle.std.specs.Prelude.{ℕ, List};
 ghost use Rattle.elf_record.specs.Rela.{IsRela};
 ghost use Rattle.elf_rows.specs.Entries.{IsRelocation};
-ghost use Rattle.elf_rows.specs.Rows.{StepsRows, next_at};
-ghost use Rattle.elf_rows.specs.declared.relocations.Relocation.{Relocation as IsOne};
 
-use crate::rows::RowsLeft;
+use crate::table_row::TableRow;
 use elf_memory::chunk_at;
 use elf_record::Rela;
+use elf_record::sizes::RELOCATION_BYTES;
 
 /// A relocation entry with an addend, field by field (gABI 4, Relocation).
 #[repr(C)]
@@ -22,42 +22,18 @@ pub struct Relocation {
     pub addend: i64,
 }
 
-/// Reads the next relocation entries to the front of `out`, as many as there are and as it has room
-/// for, steps over them, and answers how many (gABI 4, Relocation).
-pub fn next_relocations(file: &[u8], rows: &mut RowsLeft, out: &mut [Relocation]) -> usize
-    ensures steps { StepsRows (length file.now) 24 rows.old rows.new (length out.old) result }
-    ensures read { (k : ℕ) (none : IsOne) → k < result →
-        IsRelocation file.now (next_at rows.old 24 k) (slice_index_or out.new k none) }
-{
-    let count = rows.next(file.len(), 24, out.len());
-    if count > 0 {
-        let first = rows.at + 24 * rows.index;
-        read_relocations(file, first as usize, count, out);
-        rows.index += count as u64;
-    }
-    count
-}
+impl TableRow for Relocation {
+    const BYTES: u64 = RELOCATION_BYTES;
 
-/// Reads so many relocation entries from the offset `first` on to the front of `out`.
-fn read_relocations(file: &[u8], first: usize, count: usize, out: &mut [Relocation])
-    requires within { first + 24 * count ≤ length file.now }
-    requires room { count ≤ length out.old }
-    ensures { (k : ℕ) (none : IsOne) → k < count →
-        IsRelocation file.now (first + 24 * k) (slice_index_or out.new k none) }
-{
-    let mut done = 0;
-    while done < count {
-        out[done] = relocation_at(file, first + 24 * done);
-        done += 1;
-    }
-}
+    ghost BYTES = { 24 };
 
-/// The relocation entry at an offset of the file.
-fn relocation_at(file: &[u8], at: usize) -> Relocation
-    requires { at + 24 ≤ length file.now }
-    ensures { IsRelocation file.now at result }
-{
-    fields_of(&Rela::decode(chunk_at(file, at)))
+    ghost stands = { IsRelocation };
+
+    ghost some = { Prim.search rules };
+
+    fn read(file: &[u8], at: usize) -> Relocation {
+        fields_of(&Rela::decode(chunk_at(file, at)))
+    }
 }
 
 /// The fields of a relocation entry.

@@ -1,9 +1,13 @@
 //! A symbol of a file in memory.
+ghost use Rattle.std.proofs.Common.{rules};
 ghost use Rattle.std.specs.Prelude.{ℕ, List};
 ghost use Rattle.elf_record.specs.Sym.{IsSym};
 ghost use Rattle.elf_rows.specs.Symbols.{HasFields, IsSymbol};
 
+use crate::table_row::TableRow;
+use elf_memory::chunk_at;
 use elf_record::Sym;
+use elf_record::sizes::SYMBOL_BYTES;
 
 /// A symbol of a file, field by field (gABI 4, Symbol Table).
 #[repr(C)]
@@ -38,5 +42,19 @@ impl Symbol {
             info: symbol.st_info,
             other: symbol.st_other,
         }
+    }
+}
+
+impl TableRow for Symbol {
+    const BYTES: u64 = SYMBOL_BYTES;
+
+    ghost BYTES = { 24 };
+
+    ghost stands = { IsSymbol };
+
+    ghost some = { Prim.search rules };
+
+    fn read(file: &[u8], at: usize) -> Symbol {
+        Symbol::of(&Sym::decode(chunk_at(file, at)))
     }
 }

@@ -3,11 +3,12 @@ ghost use Rattle.std.specs.Prelude.{◌≡◌, ◌≤◌, length};
 ghost use Rattle.elf_calls.specs.Applied.{AppliesInMemory, IsApplied};
 
 use elf_calls::{
-    CallOutcome, CallerLimits, End, Job, Told, WantedSection, lay_out, limits_of, short, tell_told,
+    CallOutcome, CallerLimits, Job, Told, WantedSection, lay_out, limits_of, short, tell_told,
     write_section,
 };
 use elf_headers::HeaderStore;
 use elf_layout::{Addresses, Layout};
+use elf_rows::End;
 
 /// The largest index of a section.
 const LAST_INDEX: u32 = 65_535;

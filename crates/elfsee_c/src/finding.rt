@@ -4,8 +4,11 @@ ghost use Rattle.elf_model.specs.Find.{find_cost};
 ghost use Rattle.elf_calls.specs.Found.{CallLooks, HasLookup};
 ghost use Rattle.elf_calls.specs.Limits.{budget_of, headers_of};
 
-use elf_calls::{CallerLimits, End, Looked, LookupNumbers, limits_of, look_in, tell_found};
+use elf_calls::{CallerLimits, LookupNumbers, limits_of, look_in, tell_found};
+use elf_hash::Lookup;
 use elf_headers::HeaderStore;
+use elf_record::Refusal;
+use elf_rows::End;
 
 /// The most bytes of a name that is looked up.
 const WANTED_NAME_BYTES: usize = 4_096;
@@ -33,14 +36,14 @@ pub extern "C" fn elfsee_find(
     tell_found(&looked, found, end)
 }
 
-/// Looks the name up. The count of bytes that were asked for is written to `end`.
+/// Looks the name up; None for a call with a number outside its range. The count of bytes that were asked for is written to `end`.
 fn look_up(
     file: &[u8],
     limits: &CallerLimits,
     room: &mut [u8],
     name: &[u8],
     end: &mut End,
-) -> Looked
+) -> Option<Result<Lookup, Refusal>>
     requires { end.old.asked ≡ 0 }
     ensures looks { CallLooks file.now limits.now (length room.old) name.now end.new.asked result }
     ensures cost { end.new.asked ≤ find_cost file.now (headers_of limits.now (length room.old))
@@ -50,12 +53,10 @@ fn look_up(
     ensures cause { (end.new.cause ≡ end.old.cause) × (end.new.at ≡ end.old.at) }
     ensures none { end.new.none ≡ end.old.none }
 {
-    let Some(limits) = limits_of(limits, room.len()) else {
-        return Looked::BadCall;
-    };
+    let limits = limits_of(limits, room.len())?;
     if name.len() > WANTED_NAME_BYTES {
-        return Looked::BadCall;
+        return None;
     }
     let mut store = HeaderStore::over(room, limits.headers);
-    look_in(file, &mut store, limits.budget, name, &mut end.asked)
+    Some(look_in(file, &mut store, limits.budget, name, &mut end.asked))
 }

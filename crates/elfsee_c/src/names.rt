@@ -1,13 +1,12 @@
 //! The exports that tell where names in string tables lie.
 ghost use Rattle.std.specs.Prelude.{length};
 ghost use Rattle.elf_memory.specs.Names.{FindsName};
-ghost use Rattle.elf_calls.specs.Ends.{TellsRead};
-ghost use Rattle.elf_calls.specs.Openings.{OpensNames, TellsOpened};
+ghost use Rattle.elf_rows.specs.Ends.{TellsOpened, TellsRead};
+ghost use Rattle.elf_calls.specs.Openings.{OpensNames};
 
-use elf_calls::{CallerLimits, End, limits_of, tell, tell_opened};
+use elf_calls::{CallerLimits, limits_of};
 use elf_memory::{ByteRange, find_name};
-use elf_record::Refusal;
-use elf_rows::names_in;
+use elf_rows::{End, names_in, tell, tell_opened};
 
 /// Finds where the name at an offset in a string table lies, without its NUL. The string table is
 /// the bytes of `strings`, as far as they lie within the file (gABI 4, String Table).
@@ -45,17 +44,9 @@ pub extern "C" fn elfsee_section_names(
     ensures { TellsOpened (OpensNames file.now limits.now (length room.now))
         result strings.old strings.new end.new }
 {
-    tell_opened(open_names(file, limits, room.len()), strings, end)
-}
-
-/// Where they lie, with so many bytes of room; None for a call with a number outside its range.
-fn open_names(
-    file: &[u8],
-    limits: &CallerLimits,
-    room: usize,
-) -> Option<Result<Option<ByteRange>, Refusal>>
-    ensures { OpensNames file.now limits.now room result }
-{
-    let limits = limits_of(limits, room)?;
-    Some(names_in(file, limits.headers))
+    tell_opened(
+        limits_of(limits, room.len()).map(|limits| names_in(file, limits.headers)),
+        strings,
+        end,
+    )
 }

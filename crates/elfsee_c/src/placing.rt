@@ -3,11 +3,12 @@ ghost use Rattle.std.specs.Prelude.{◌≡◌, ◌≤◌, length};
 ghost use Rattle.elf_calls.specs.LentLayouts.{CountsWritten, IsPlaced, PlacesInMemory};
 
 use elf_calls::{
-    CallerLayout, CallerLimits, CallerMissing, End, Told, WantedSection, limits_of, place_section,
+    CallerLayout, CallerLimits, CallerMissing, Told, WantedSection, limits_of, place_section,
     tell_told,
 };
 use elf_headers::HeaderStore;
 use elf_layout::Addresses;
+use elf_rows::End;
 
 /// Writes the bytes of a section of a file that lies in memory, with its relocations applied, into
 /// memory of the caller, as [`elfsee_apply`](crate::applying::elfsee_apply) does, in a layout of any

@@ -1,15 +1,16 @@
 //! The export that looks a name up in a file in memory as a loader does.
 ghost use Rattle.std.specs.Prelude.{◌≡◌, ◌≤◌, IfSome, length};
 ghost use Rattle.elf_model.specs.LoaderFind.{loader_cost};
-ghost use Rattle.elf_calls.specs.Ends.{TellsNone};
+ghost use Rattle.elf_rows.specs.Ends.{TellsNone};
 ghost use Rattle.elf_calls.specs.Limits.{budget_of, headers_of};
 ghost use Rattle.elf_calls.specs.Queries.{IsPermitted, asks_of, wanted_by};
 ghost use Rattle.elf_calls.specs.Resolved.{IsResolved, Resolves, ResolvesIn, TellsResolved, file_of, nothing_resolved};
 
-use elf_calls::{
-    CallerLimits, End, Query, Resolution, Resolved, limits_of, resolve_in, tell_resolved,
-};
+use elf_calls::{CallerLimits, Query, Resolved, limits_of, resolve_in, tell_resolved};
 use elf_headers::HeaderStore;
+use elf_loader::SymbolLookup;
+use elf_record::Refusal;
+use elf_rows::End;
 use elf_table::NameBuf;
 
 /// Looks a name up in a file that lies in memory, alone or with a version, as a loader of the GNU
@@ -46,12 +47,12 @@ pub extern "C" fn elfsee_look_up(
         version,
     };
     let mut told = NameBuf::new();
-    let resolution = resolve(file, limits, &query, room, &mut told, end);
-    tell_resolved(&resolution, told.bytes().len() as u64, resolved, end)
+    let answer = resolve(file, limits, &query, room, &mut told, end);
+    tell_resolved(&answer, told.bytes().len() as u64, resolved, end)
 }
 
-/// Looks it up. `told` holds what is told of the name of a version, and the count of bytes that
-/// were asked for is written to `end`.
+/// Looks it up; None for a call with a number outside its range. `told` holds what is told of the name
+/// of a version, and the count of bytes that were asked for is written to `end`.
 fn resolve(
     file: &[u8],
     limits: &CallerLimits,
@@ -59,7 +60,7 @@ fn resolve(
     room: &mut [u8],
     told: &mut NameBuf,
     end: &mut End,
-) -> Resolution
+) -> Option<Result<SymbolLookup, Refusal>>
     requires { end.old.asked ≡ 0 }
     ensures resolves { Resolves file.now limits.now (length room.old) (asks_of query.now) told.new
         end.new.asked result }
@@ -70,12 +71,10 @@ fn resolve(
     ensures cause { (end.new.cause ≡ end.old.cause) × (end.new.at ≡ end.old.at) }
     ensures none { end.new.none ≡ end.old.none }
 {
-    let Some(limits) = limits_of(limits, room.len()) else {
-        return Resolution::BadCall;
-    };
+    let limits = limits_of(limits, room.len())?;
     if !query.is_permitted() {
-        return Resolution::BadCall;
+        return None;
     }
     let mut store = HeaderStore::over(room, limits.headers);
-    resolve_in(file, &mut store, limits.budget, query, told, &mut end.asked)
+    Some(resolve_in(file, &mut store, limits.budget, query, told, &mut end.asked))
 }

@@ -7,11 +7,12 @@ ghost use Rattle.elf_calls.specs.Limits.{AreCaps, budget_of, headers_of};
 ghost use Rattle.elf_calls.specs.Shown.{HasAskedListing, HasListing, ShowsInMemory};
 
 use elf_calls::{
-    CallOutcome, CallerLimits, CallerListing, End, Told, caps_of, list, listing_of,
-    named_listing_of, short, tell_told,
+    CallOutcome, CallerLimits, CallerListing, Told, caps_of, list, listing_of, named_listing_of,
+    short, tell_told,
 };
 use elf_headers::HeaderStore;
 use elf_record::Parts;
+use elf_rows::End;
 
 /// Lists a file that lies in memory into memory of the caller, as far as `parts` has it. `room` is
 /// where the file's headers lie meanwhile.

@@ -9,10 +9,7 @@ ghost use Rattle.elf_rows.specs.declared.relocations.Relocation.{Relocation as O
 ghost use Rattle.elf_rows.specs.declared.symbol.Symbol.{Symbol as OneSymbol};
 ghost use Rattle.elf_rows.specs.declared.version_words.VersionWord.{VersionWord as OneWord};
 
-use elf_rows::{
-    Dynamic, Relocation, RowsLeft, Symbol, VersionWord, next_dynamic, next_relocations,
-    next_symbols, next_version_words,
-};
+use elf_rows::{Dynamic, Relocation, RowsLeft, Symbol, VersionWord, next_rows};
 
 /// Reads the next symbols to the front of `out`, as many as there are and as it has room for, steps
 /// over them, and answers how many (gABI 4, Symbol Table).
@@ -22,7 +19,7 @@ pub extern "C" fn elfsee_next_symbols(file: &[u8], rows: &mut RowsLeft, out: &mu
     ensures read { (k : ℕ) (none : OneSymbol) → k < result →
         IsSymbol file.now (next_at rows.old 24 k) (slice_index_or out.new k none) }
 {
-    next_symbols(file, rows, out)
+    next_rows(file, rows, out)
 }
 
 /// Reads the next relocation entries, as [`elfsee_next_symbols`] does symbols (gABI 4, Relocation).
@@ -36,7 +33,7 @@ pub extern "C" fn elfsee_next_relocations(
     ensures read { (k : ℕ) (none : OneRelocation) → k < result →
         IsRelocation file.now (next_at rows.old 24 k) (slice_index_or out.new k none) }
 {
-    next_relocations(file, rows, out)
+    next_rows(file, rows, out)
 }
 
 /// Reads the next dynamic entries, as [`elfsee_next_symbols`] does symbols (gABI 5, Dynamic Section).
@@ -50,7 +47,7 @@ pub extern "C" fn elfsee_next_dynamic(
     ensures read { (k : ℕ) (none : OneDynamic) → k < result →
         IsDynamic file.now (next_at rows.old 16 k) (slice_index_or out.new k none) }
 {
-    next_dynamic(file, rows, out)
+    next_rows(file, rows, out)
 }
 
 /// Reads the next words of symbols' versions to the front of `out`, as many as there are and as it has
@@ -65,5 +62,5 @@ pub extern "C" fn elfsee_next_version_words(
     ensures read { (k : ℕ) (none : OneWord) → k < result →
         IsVersionWord file.now (next_at rows.old 2 k) (slice_index_or out.new k none) }
 {
-    next_version_words(file, rows, out)
+    next_rows(file, rows, out)
 }

@@ -1,11 +1,11 @@
 //! The exports that open the rows of a section of a file in memory.
 ghost use Rattle.std.specs.Prelude.{length};
 ghost use Rattle.elf_rows.specs.declared.kind.RowKind.TheVariants.{Symbols, Relocations, Dynamic, VersionWords};
-ghost use Rattle.elf_calls.specs.Openings.{OpensRows, TellsOpened};
+ghost use Rattle.elf_calls.specs.Openings.{OpensRows};
+ghost use Rattle.elf_rows.specs.Ends.{TellsOpened};
 
-use elf_calls::{CallerLimits, End, limits_of, tell_opened};
-use elf_record::Refusal;
-use elf_rows::{RowKind, RowsLeft, rows_in};
+use elf_calls::{CallerLimits, limits_of};
+use elf_rows::{End, RowKind, RowsLeft, rows_in, tell_opened};
 
 /// Checks the table of symbols that a section of a file is, and sets `rows` before its first. So many
 /// headers are permitted as the limits say, and as the room has 64 bytes for; no byte of it is looked at.
@@ -28,7 +28,12 @@ pub extern "C" fn elfsee_symbols(
         result rows.old rows.new end.new }
 {
     tell_opened(
-        open_rows(file, limits, section, room.len(), RowKind::Symbols),
+        limits_of(limits, room.len()).map(|limits| rows_in(
+            file,
+            limits.headers,
+            section,
+            RowKind::Symbols,
+        )),
         rows,
         end,
     )
@@ -50,7 +55,12 @@ pub extern "C" fn elfsee_relocations(
         result rows.old rows.new end.new }
 {
     tell_opened(
-        open_rows(file, limits, section, room.len(), RowKind::Relocations),
+        limits_of(limits, room.len()).map(|limits| rows_in(
+            file,
+            limits.headers,
+            section,
+            RowKind::Relocations,
+        )),
         rows,
         end,
     )
@@ -72,7 +82,12 @@ pub extern "C" fn elfsee_dynamic(
         result rows.old rows.new end.new }
 {
     tell_opened(
-        open_rows(file, limits, section, room.len(), RowKind::Dynamic),
+        limits_of(limits, room.len()).map(|limits| rows_in(
+            file,
+            limits.headers,
+            section,
+            RowKind::Dynamic,
+        )),
         rows,
         end,
     )
@@ -94,22 +109,13 @@ pub extern "C" fn elfsee_version_words(
         result rows.old rows.new end.new }
 {
     tell_opened(
-        open_rows(file, limits, section, room.len(), RowKind::VersionWords),
+        limits_of(limits, room.len()).map(|limits| rows_in(
+            file,
+            limits.headers,
+            section,
+            RowKind::VersionWords,
+        )),
         rows,
         end,
     )
-}
-
-/// Checks the table, with so many bytes of room; None for a call with a number outside its range.
-fn open_rows(
-    file: &[u8],
-    limits: &CallerLimits,
-    section: u16,
-    room: usize,
-    kind: RowKind,
-) -> Option<Result<Option<RowsLeft>, Refusal>>
-    ensures { OpensRows kind file.now limits.now room section result }
-{
-    let limits = limits_of(limits, room)?;
-    Some(rows_in(file, limits.headers, section, kind))
 }

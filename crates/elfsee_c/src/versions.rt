@@ -1,12 +1,11 @@
 //! The exports that go over the version definitions and needs of a file in memory.
 ghost use Rattle.std.specs.Prelude.{length};
 ghost use Rattle.elf_rows.specs.VersionRecords.{StepsRecord};
-ghost use Rattle.elf_calls.specs.Ends.{TellsRead};
-ghost use Rattle.elf_calls.specs.Openings.{OpensRecords, TellsOpened};
+ghost use Rattle.elf_rows.specs.Ends.{TellsOpened, TellsRead};
+ghost use Rattle.elf_calls.specs.Openings.{OpensRecords};
 
-use elf_calls::{CallerLimits, End, limits_of, tell, tell_opened};
-use elf_record::Refusal;
-use elf_rows::{RecordRow, RecordsLeft, next_record, records_in};
+use elf_calls::{CallerLimits, limits_of};
+use elf_rows::{End, RecordRow, RecordsLeft, next_record, records_in, tell, tell_opened};
 
 /// Checks the table of version definitions or needs that a section of a file is, and sets `records`
 /// before its first. So many headers are permitted as the limits say, and as the room has 64 bytes for;
@@ -29,7 +28,7 @@ pub extern "C" fn elfsee_version_records(
         result records.old records.new end.new }
 {
     tell_opened(
-        open_records(file, limits, section, room.len()),
+        limits_of(limits, room.len()).map(|limits| records_in(file, limits.headers, section)),
         records,
         end,
     )
@@ -51,17 +50,4 @@ pub extern "C" fn elfsee_next_version_record(
         result row.old row.new end.new }
 {
     tell(next_record(file, records), row, end)
-}
-
-/// Checks the table, with so many bytes of room; None for a call with a number outside its range.
-fn open_records(
-    file: &[u8],
-    limits: &CallerLimits,
-    section: u16,
-    room: usize,
-) -> Option<Result<Option<RecordsLeft>, Refusal>>
-    ensures { OpensRecords file.now limits.now room section result }
-{
-    let limits = limits_of(limits, room)?;
-    Some(records_in(file, limits.headers, section))
 }

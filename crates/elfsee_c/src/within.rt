@@ -14,27 +14,12 @@ ghost use Rattle.elf_calls.specs.Limits.{budget_of};
 ghost use Rattle.elf_calls.specs.Openings.{OpensRows};
 ghost use Rattle.elf_calls.specs.Within.{OpensAlways, OpensEntries, StepsBudgeted, TellsEntries};
 
-use elf_calls::{
-    CallerLimits, End, count_bytes, count_entries, entries_left, limits_of, room_left, tell_opened,
-    tell_rest,
-};
+use elf_calls::{CallerLimits, count_entries, entries_left, limits_of, next_within};
 use elf_record::Refusal;
 use elf_rows::{
-    Dynamic, Relocation, RowsLeft, Symbol, VersionWord, dynamic_within, next_dynamic,
-    next_relocations, next_symbols, next_version_words, segment_dynamic_within,
+    Dynamic, End, Relocation, RowsLeft, Symbol, VersionWord, dynamic_within,
+    segment_dynamic_within, tell_opened,
 };
-
-/// Steps over rows of `$entry` bytes by `$next`, over no more than the budget has left; counts their bytes,
-/// and tells whether the budget ended it.
-macro_rules! step_within {
-    ($next:ident, $entry:literal, $file:ident, $limits:ident, $asked:ident, $rows:ident, $out:ident, $end:ident) => {{
-        let room = room_left($limits, *$asked, $entry, $out.len());
-        let count = $next($file, $rows, &mut $out[..room]);
-        count_bytes($entry * count as u128, $asked);
-        tell_rest($file.len(), $rows, $entry, $out.len() - count, $end);
-        count
-    }};
-}
 
 /// Checks the table of dynamic entries that a section of a file is, as
 /// [`elfsee_dynamic`](crate::tables::elfsee_dynamic) does, within the budget of the limits: each entry
@@ -83,7 +68,7 @@ pub extern "C" fn elfsee_segment_dynamic_within(
         (λ bytes. asked.old ≤ bytes → asked.new ≤ bytes) }
 {
     let most = entries_left(limits, *asked);
-    let opened = open_segment_within(file, segment, most);
+    let opened = Some(segment_dynamic_within(file, segment, most));
     count_entries(&opened, most, asked);
     tell_opened(opened, rows, end)
 }
@@ -107,7 +92,7 @@ pub extern "C" fn elfsee_next_symbols_within(
     ensures read { (k : ℕ) (none : OneSymbol) → k < result →
         IsSymbol file.now (next_at rows.old 24 k) (slice_index_or out.new k none) }
 {
-    step_within!(next_symbols, 24, file, limits, asked, rows, out, end)
+    next_within(file, limits, asked, rows, out, end)
 }
 
 /// Reads the next relocation entries, as [`elfsee_next_symbols_within`] does symbols.
@@ -127,7 +112,7 @@ pub extern "C" fn elfsee_next_relocations_within(
     ensures read { (k : ℕ) (none : OneRelocation) → k < result →
         IsRelocation file.now (next_at rows.old 24 k) (slice_index_or out.new k none) }
 {
-    step_within!(next_relocations, 24, file, limits, asked, rows, out, end)
+    next_within(file, limits, asked, rows, out, end)
 }
 
 /// Reads the next dynamic entries, as [`elfsee_next_symbols_within`] does symbols; each counts 16 bytes.
@@ -147,7 +132,7 @@ pub extern "C" fn elfsee_next_dynamic_within(
     ensures read { (k : ℕ) (none : OneDynamic) → k < result →
         IsDynamic file.now (next_at rows.old 16 k) (slice_index_or out.new k none) }
 {
-    step_within!(next_dynamic, 16, file, limits, asked, rows, out, end)
+    next_within(file, limits, asked, rows, out, end)
 }
 
 /// Reads the next words of symbols' versions, as
@@ -170,7 +155,7 @@ pub extern "C" fn elfsee_next_version_words_within(
     ensures read { (k : ℕ) (none : OneWord) → k < result →
         IsVersionWord file.now (next_at rows.old 2 k) (slice_index_or out.new k none) }
 {
-    step_within!(next_version_words, 2, file, limits, asked, rows, out, end)
+    next_within(file, limits, asked, rows, out, end)
 }
 
 /// Checks the table of dynamic entries of which no more than `most` are looked at, with so many bytes
@@ -186,15 +171,4 @@ fn open_within(
 {
     let limits = limits_of(limits, room)?;
     Some(dynamic_within(file, limits.headers, section, most))
-}
-
-/// Checks the dynamic entries of a segment of which no more than `most` are looked at; never None.
-fn open_segment_within(
-    file: &[u8],
-    segment: u16,
-    most: u64,
-) -> Option<Result<Option<RowsLeft>, Refusal>>
-    ensures { OpensEntries (OpensAlways (ReadsSegmentDynamic file.now segment)) most result }
-{
-    Some(segment_dynamic_within(file, segment, most))
 }

@@ -1,5 +1,5 @@
 -- The file of a source in memory is known, so what is found is the file's.
-use Rattle.std.proofs.Common.{rules, ◌≡◌, List, length, Some, Ok, Err, ap, ◌∙◌, arith}
+use Rattle.std.proofs.Common.{rules, ◌≡◌, length, Ok, Err, ap, ◌∙◌, arith}
 use Rattle.elf_model.specs.Style.{looked_at}
 use Rattle.elf_source.specs.Source.{Seen, honest}
 use Rattle.elf_headers.specs.declared.fault.Fault.TheVariants.{Refused as Refuses}

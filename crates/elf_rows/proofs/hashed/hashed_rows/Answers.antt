@@ -1,7 +1,6 @@
 -- What a lookup is made in, the counts of its table, and what the words of that tell.
-use Rattle.std.proofs.Common.{◌≡◌, ℕ, List, refl, ap, arith}
+use Rattle.std.proofs.Common.{refl, ap, arith}
 use Rattle.std.proofs.lemmas.Result.{err_from_is_err_and}
-use Rattle.elf_hash.specs.Scopes.{place_of_table}
 use Rattle.elf_hash.specs.declared.place.HashPlace.{HashPlace}
 use Rattle.elf_headers.proofs.LedgerLaws.{Charges-more, Did-as, Did-then}
 use Rattle.elf_rows.proofs.HashedLaws.{places_hashed, costs_counts, costs_words, counted, few_counts, place_of, rows_within, uncounted, unread, unscoped}

@@ -1,5 +1,5 @@
 -- All records of the section are left where its table passes its checks.
-use Rattle.std.proofs.Common.{◌≡◌, ◌<◌, List, ℕ, None, Some, refl, sym, subst, ◌∙◌, arith}
+use Rattle.std.proofs.Common.{◌≡◌, ◌<◌, List, ℕ, None, Some, sym, subst, ◌∙◌, arith}
 use Rattle.elf_model.specs.Records.{e_shnum, section_at}
 use Rattle.elf_model.specs.declared.versions.VersionKind.{VersionKind}
 use Rattle.elf_rows.specs.LoadRefused.{load_refused}

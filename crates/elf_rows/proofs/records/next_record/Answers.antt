@@ -1,12 +1,11 @@
 -- A cursor that goes on where the numbers say steps as they do.
-use Rattle.std.proofs.Common.{rules, ◌≡◌, ◌-◌, ◌+◌, ◌≤◌, Some, None, Ok, Err, option_map, refl, sym, ap, subst, ◌∙◌, arith, length}
-use Rattle.std.specs.Prelude.{IfSome}
-use Rattle.elf_model.specs.Versions.{met_from, next_stand, record_size, with_met}
+use Rattle.std.proofs.Common.{rules, ◌≡◌, ◌-◌, Some, None, Ok, Err, option_map, refl, sym, ap, ◌∙◌, arith, length}
+use Rattle.elf_model.specs.Versions.{met_from, next_stand, with_met}
 use Rattle.elf_model.proofs.VersionSteps.{met-ended}
 use Rattle.elf_source.specs.Source.{Seen}
 use Rattle.elf_headers.specs.declared.fault.Fault.TheVariants.{Refused}
 use Rattle.elf_table.specs.Tables.{Rows}
-use Rattle.elf_versions.specs.Reading.{Fits, HeldTable, IsCursorOf, KnowsAhead, stand_of, versions_left}
+use Rattle.elf_versions.specs.Reading.{HeldTable, IsCursorOf, stand_of, versions_left}
 use Rattle.elf_rows.specs.VersionRecords.{bytes_within, records_left, standing_in}
 use Rattle.elf_rows.proofs.RecordLaws.{goes_on, left_is, met_inside}
 use Rattle.elf_rows.proofs.records.next_record.Goals as goal

@@ -1,5 +1,5 @@
 -- What was listed is told as numbers.
-use Rattle.std.proofs.Common.{None, Some, length}
+use Rattle.std.proofs.Common.{None, length}
 use Rattle.elf_calls.specs.Asked.{AsksListing, parts_in, style_in}
 use Rattle.elf_calls.specs.Limits.{AreCaps}
 use Rattle.elfsee_c.proofs.AskedLaws.{told_listing}

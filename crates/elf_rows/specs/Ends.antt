@@ -1,8 +1,8 @@
 -- How a call ended, as numbers.
 use Rattle.std.specs.Prelude.{ℕ, ◌≡◌, Option, None, Some, Result, Ok, Err}
 use Rattle.elf_model.specs.declared.causes.Refusal.{Refusal}
-use Rattle.elf_calls.specs.declared.end.End.{End}
-use Rattle.elf_calls.specs.Causes.{cause_number}
+use Rattle.elf_rows.specs.declared.end.End.{End}
+use Rattle.elf_rows.specs.Causes.{cause_number}
 
 -- the cause of a refusal and the file offset that it names
 abbrev pub TellsCause : End → Refusal → Type 0
@@ -30,3 +30,13 @@ IsTold status old new end (Err refusal) = (status ≡ 1) × (new ≡ old) × (en
 -- WHAT A CALL READS, AS NUMBERS: an answer of that reading, told so
 abbrev pub TellsRead : {A : Type 0} → (Result (Option A) Refusal → Type 0) → ℕ → A → A → End → Type 0
 TellsRead {A} reads status old new end = (read : Result (Option A) Refusal) × reads read × IsTold status old new end read
+
+-- AN OPENED TABLE AS NUMBERS: as a row that is read; status 4, with nothing changed, where a number of the call is outside
+-- its range
+abbrev pub IsOpenedTable : {A : Type 0} → ℕ → A → A → End → Option (Result (Option A) Refusal) → Type 0
+IsOpenedTable status old new end (Some read) = IsTold status old new end read
+IsOpenedTable status old new end None = (status ≡ 4) × (new ≡ old) × (end ≡ no_end)
+
+-- WHAT A CALL OPENS, AS NUMBERS: an answer of that opening, told so
+abbrev pub TellsOpened : {A : Type 0} → (Option (Result (Option A) Refusal) → Type 0) → ℕ → A → A → End → Type 0
+TellsOpened {A} opens status old new end = (opened : Option (Result (Option A) Refusal)) × opens opened × IsOpenedTable status old new end opened

@@ -1,6 +1,6 @@
 //! The causes of refusals as numbers.
 ghost use Rattle.std.specs.Prelude.{◌≡◌};
-ghost use Rattle.elf_calls.specs.Causes.{cause_number};
+ghost use Rattle.elf_rows.specs.Causes.{cause_number};
 
 use elf_record::Cause;
 

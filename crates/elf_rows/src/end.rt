@@ -1,6 +1,6 @@
 //! How a call ended, as C sees it.
 ghost use Rattle.std.specs.Prelude.{◌≡◌};
-ghost use Rattle.elf_calls.specs.Ends.{TellsCause};
+ghost use Rattle.elf_rows.specs.Ends.{TellsCause};
 
 use crate::causes::cause_number;
 use elf_record::Refusal;
