@@ -103,10 +103,13 @@ module _ (began mid old new : Written) (line : List ℕ) (held : HeldLine) (p : 
   held_consumes a b n (Err (Refused refusal)) result grows is q = rw is q
   held_consumes a b n (Err (Source fault at)) result grows is q = rw is q
   held_consumes a b n (Err (Out fault)) result grows is q =
-      rw is.1 (q.0, record {
-        failed = line_fails began mid old line held p new grows.bytes grows.takes ends ∙ q.1.failed;
-        tells = is.2;
-      })
+      rw is.1 (
+        q.0,
+        record {
+          failed = line_fails began mid old line held p new grows.bytes grows.takes ends ∙ q.1.failed;
+          tells = is.2;
+        },
+      )
 
   -- what was written, for every source
   pub held_grows : Grows mid old → Grows began new

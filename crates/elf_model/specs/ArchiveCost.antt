@@ -75,7 +75,7 @@ IsArchiveBudgeted alone None file headers style parts text fault =
 IsArchiveBudgeted alone (Some budget) file headers style parts text fault =
     IsReport style.format (archive_items alone file headers style parts) text fault
     ⊎ ((budget < archive_cost file headers style parts)
-      × IsCut style.format (length file) (archive_items alone file headers style parts) text fault)
+    × IsCut style.format (length file) (archive_items alone file headers style parts) text fault)
 
 -- the listing of a member is refused
 abbrev pub any_refused : List ℕ → ℕ → Style → ℕ → Bool

@@ -36,6 +36,6 @@ returns-clause-text g c = λ file held.
     let items = told c.args.choice.style.format inside in
     rw c.if-choice.false (
       held_writes c.args.out.now c.hold_member.new.out c.list_member-listed.new.out c.end_listed.new.out _ c.in_ok-line.line c.in_ok-line.ensures.holds c.end_listed.ensures.line
-      c.list_member-listed.result c.end_listed.result items (told_clean c.args.choice.style.format inside) c.end_listed.ensures.listed shown.0,
+          c.list_member-listed.result c.end_listed.result items (told_clean c.args.choice.style.format inside) c.end_listed.ensures.listed shown.0,
       held_refused c.list_member-listed.result c.end_listed.result c.end_listed.new.out (is_refused file c.args.store.now.slots (style_of c.args.choice.style) c.args.choice.parts.0 m) c.end_listed.ensures.listed shown.1,
     )
