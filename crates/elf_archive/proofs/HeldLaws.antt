@@ -8,7 +8,7 @@ use Rattle.elf_model.specs.declared.causes.Refusal.{Refusal}
 use Rattle.elf_model.specs.declared.formats.Format.{Format}
 use Rattle.elf_model.proofs.ListingLemmas.{listings_append}
 use Rattle.elf_source.specs.Growth.{Grows}
-use Rattle.elf_source.specs.Output.{BreaksOff, EndsLine, HeldBack, Written, before_text}
+use Rattle.elf_source.specs.Output.{BreaksOff, EndsLine, HeldBack, Takes, Written, before_text}
 use Rattle.elf_source.specs.Source.{Counting}
 use Rattle.elf_source.specs.declared.faults.OutFault.{OutFault}
 use Rattle.elf_source.specs.declared.holding_sink.HeldLine.{HeldLine}
@@ -16,6 +16,8 @@ use Rattle.elf_source.proofs.LineLaws.{broken_takes, line_ends, line_fails, line
 use Rattle.elf_headers.specs.declared.stop.Stop.{Stop}
 use Rattle.elf_headers.specs.declared.stop.Stop.TheVariants.{Refused, Source, Out}
 use Rattle.elf_listing.specs.Shows.{EndsRefused, Front, Stopped, Writes, WroteItems}
+use Rattle.elf_listing.proofs.RowLaws.{Whole-line}
+use Rattle.elf_listing.proofs.ShowLaws.{Stopped-then, Whole-then}
 use Rattle.elf_archive.specs.Listed.{Consumes, AnswersBehind}
 
 -- items that are told have no fault
@@ -39,6 +41,11 @@ some_clean (byte ∷ text) line items none = none
 -- where items begin with lines of which there is a byte, the line stands
 stands : (text line : List ℕ) (items : List ListingItem) (byte : ℕ) (bytes : List ℕ) → text ≡ byte ∷ bytes → before_some text (Line line ∷ items) ≡ Line line ∷ items
 stands text line items byte bytes is = rw is refl
+
+-- a line that stands alone
+pub line_writes : (began mid new : Written) (line : List ℕ) (items : List ListingItem) (result : Result Bool Stop) → Takes began mid line → Writes mid new result items → Writes began new result (Line line ∷ items)
+line_writes began mid new line items (Ok refused) p q = Whole-then (Whole-line line p) q
+line_writes began mid new line items (Err stop) p q = Stopped-then began mid new stop (Line line ∷ []) items (Whole-line line p) q
 
 -- nothing was written of an output that was broken off
 pub broken_stops : (old new : Written) (fault : OutFault) (items : List ListingItem) → BreaksOff old new fault → Stopped old new (Out fault) items

@@ -12,8 +12,9 @@ use Rattle.elf_model.specs.declared.causes.Refusal.{Refusal}
 use Rattle.elf_model.specs.declared.formats.Format.{Format}
 use Rattle.elf_source.specs.Source.{Counting, Faults, OverLimit, Reads}
 use Rattle.elf_source.specs.Ranges.{IsWholeRange}
-use Rattle.elf_source.specs.Output.{Written, Takes, TakesFront, OutFails}
+use Rattle.elf_source.specs.Output.{BreaksOff, HeldBack, Written, Takes, TakesFront, OutFails}
 use Rattle.elf_source.specs.declared.faults.OutFault.{OutFault}
+use Rattle.elf_source.specs.declared.holding_sink.HeldLine.{HeldLine}
 use Rattle.elf_headers.specs.Permitted.{style_of}
 use Rattle.elf_headers.specs.declared.caps.Caps.{Caps}
 use Rattle.elf_headers.specs.declared.stop.Stop.{Stop}
@@ -71,6 +72,11 @@ abbrev pub ListsMember : (alone : Bool) → List ℕ → ℕ → Style → ℕ �
 ListsMember alone file headers style parts m old new result =
     Writes old new result (member_items alone file headers style parts m)
     × IfOk result (λ refused. refused ≡ is_refused file headers style parts m)
+
+-- a line is held back, or the output fails for good with nothing of the line
+abbrev pub HoldsOrBreaks : Written → Written → Result HeldLine OutFault → List ℕ → Type 0
+HoldsOrBreaks old new (Ok held) line = HeldBack old new line held
+HoldsOrBreaks old new (Err fault) line = BreaksOff old new fault
 
 -- the answer behind a listing whose line was ended: the same, where the output failed with the count as it is then
 abbrev pub AnswersBehind : Result Bool Stop → Written → Result Bool Stop → Type 0

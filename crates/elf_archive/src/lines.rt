@@ -1,8 +1,8 @@
 //! The line of a member, put at once or held back.
 ghost use Rattle.std.specs.Prelude.{◌≡◌, ◌-◌, ◌≤◌};
 ghost use Rattle.elf_model.specs.Archive.{member_line};
-ghost use Rattle.elf_source.specs.Output.{EndsLine, HoldsLine, Puts};
-ghost use Rattle.elf_archive.specs.Listed.{AnswersBehind};
+ghost use Rattle.elf_source.specs.Output.{EndsLine, Puts};
+ghost use Rattle.elf_archive.specs.Listed.{AnswersBehind, HoldsOrBreaks};
 ghost use Rattle.elf_archive.specs.Members.{member_of};
 
 use crate::member::{Extent, Member};
@@ -50,7 +50,7 @@ pub(crate) fn hold_member<W: Sink>(
     format: Format,
     out: &mut Out<HoldingSink<W>>,
 ) -> Result<HeldLine, OutFault>
-    ensures holds { HoldsLine out.old out.new result
+    ensures holds { HoldsOrBreaks out.old out.new result
         (member_line format (member_of member.now name.now)) }
 {
     let mut buffer = [0; HELD_LINE_BYTES];

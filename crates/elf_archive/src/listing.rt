@@ -113,7 +113,8 @@ fn list_archive<S: Source, W: Sink>(
         (archive_cost file store.old.slots (style_of choice.entry.style) choice.entry.parts.0) }
     ensures text { (file : List ℕ) → src.old.seen.file ≡ Some file →
         Writes out.old out.new result
-        (archive_items choice.entry.alone file store.old.slots (style_of choice.entry.style) choice.entry.parts.0) }
+        (archive_items choice.entry.alone file store.old.slots (style_of choice.entry.style)
+        choice.entry.parts.0) }
     ensures refused { (file : List ℕ) → src.old.seen.file ≡ Some file →
         IfOk result (λ any. any ≡
         any_refused file store.old.slots (style_of choice.entry.style) choice.entry.parts.0) }
@@ -183,12 +184,12 @@ fn list_next<S: Source, W: Sink>(
         src.old src.new out.new result }
     ensures cost { (file : List ℕ) → src.old.seen.file ≡ Some file →
         Consumes src.old src.new out.new result
-        (next_cost file store.old.slots (style_of choice.entry.style) choice.entry.parts.0 cursor.old
-        (next_member file choice.entry.style.cap.bytes cursor.old)) }
+        (next_cost file store.old.slots (style_of choice.entry.style) choice.entry.parts.0
+        cursor.old (next_member file choice.entry.style.cap.bytes cursor.old)) }
     ensures text { (file : List ℕ) → src.old.seen.file ≡ Some file →
         Writes out.old out.new result
-        (next_items choice.entry.alone file store.old.slots (style_of choice.entry.style) choice.entry.parts.0
-        (next_member file choice.entry.style.cap.bytes cursor.old)) }
+        (next_items choice.entry.alone file store.old.slots (style_of choice.entry.style)
+        choice.entry.parts.0 (next_member file choice.entry.style.cap.bytes cursor.old)) }
     ensures steps { (file : List ℕ) → src.old.seen.file ≡ Some file →
         StepsListing file store.old.slots (style_of choice.entry.style) choice.entry.parts.0
         cursor.old cursor.new result }
@@ -258,10 +259,12 @@ fn list_member<S: Source, W: Sink>(
         (4 + style_ceiling extent.size store.old.slots (style_of choice.entry.style)) }
     ensures cost { (file : List ℕ) → src.old.seen.file ≡ Some file → (member : Listed) →
         member.extent ≡ extent_of extent → Consumes src.old src.new out.new result
-        (member_cost file store.old.slots (style_of choice.entry.style) choice.entry.parts.0 member) }
+        (member_cost file store.old.slots (style_of choice.entry.style) choice.entry.parts.0
+        member) }
     ensures text { (file : List ℕ) → src.old.seen.file ≡ Some file → (member : Listed) →
-        member.extent ≡ extent_of extent → ListsTold choice.entry.style.format out.old out.new result
-        (member_listing file store.old.slots (style_of choice.entry.style) choice.entry.parts.0 member) }
+        member.extent ≡ extent_of extent →
+        ListsTold choice.entry.style.format out.old out.new result (member_listing file
+        store.old.slots (style_of choice.entry.style) choice.entry.parts.0 member) }
 {
     if choice.parts.known(choice.style.gnu).0 == 0 {
         return Ok(false);

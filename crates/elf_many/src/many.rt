@@ -71,7 +71,8 @@ impl<W: Sink, E: Write + Drop, A: EachFile + Drop> Many<W, E, A> {
         path: &[u8],
     ) -> Result<(), OutFault>
         requires { StandsWhole src.old }
-        ensures { TellsSource (A.tells self.old.rule path.now src.old src.new) result self.old self.new }
+        ensures { TellsSource (A.tells self.old.rule path.now src.old src.new)
+            result self.old self.new }
     {
         let found = self.each.tell(src, path, &mut self.out)?;
         self.count_file(found);

@@ -142,7 +142,8 @@ fn check_member<S: Source, W: Sink>(
         (member_cost file store.old.slots (style_of style.entry) parts.0 member) }
     ensures fault { (file : List ℕ) → src.old.seen.file ≡ Some file → (member : Listed) →
         member.extent ≡ extent_of extent →
-        FindsFault (member_fault file store.old.slots (style_of style.entry) parts.0 member) result }
+        FindsFault (member_fault file store.old.slots (style_of style.entry) parts.0 member)
+        result }
 {
     if parts.known(style.gnu).0 == 0 {
         return Ok(());

@@ -32,7 +32,8 @@ pub fn check_sorted<S: Source>(
         FindsSorted caps.entry parts.0 file result }
     ensures cost { (file : List ℕ) → src.old.seen.file ≡ Some file →
         src.new.asked ≤ src.old.asked
-        + sorted_cost caps.entry file caps.entry.limits.headers (style_of caps.entry.style) parts.0 }
+        + sorted_cost caps.entry file caps.entry.limits.headers (style_of caps.entry.style)
+        parts.0 }
     // For every source.
     ensures read { FailsRead src.old src.new result }
     ensures asks { AsksInSorted caps.entry src.old src.new }

@@ -2,7 +2,8 @@
 ghost use Rattle.std.specs.Prelude.{◌≡◌, ◌≤◌, length};
 ghost use Rattle.elf_fields.specs.Fronts.{front_of};
 ghost use Rattle.elf_model.specs.FileLists.{path_front, path_line};
-ghost use Rattle.elf_source.specs.Output.{HoldsLine, Puts};
+ghost use Rattle.elf_archive.specs.Listed.{HoldsOrBreaks};
+ghost use Rattle.elf_source.specs.Output.{Puts};
 
 use elf_archive::HELD_LINE_BYTES;
 use elf_fields::{Columns, LineFront, Object, Render, begin_named, show_named};
@@ -47,7 +48,7 @@ pub fn hold_path<W: Sink>(
     format: Format,
     out: &mut Out<HoldingSink<W>>,
 ) -> Result<HeldLine, OutFault>
-    ensures holds { HoldsLine out.old out.new result (path_line format path.now) }
+    ensures holds { HoldsOrBreaks out.old out.new result (path_line format path.now) }
 {
     let mut buffer = [0; HELD_LINE_BYTES];
     let mut line = Out::new(SliceSink::new(&mut buffer));

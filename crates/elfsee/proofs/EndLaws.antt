@@ -37,5 +37,5 @@ archive_runs caps parts old new before after listed answer same status grows lea
 
 -- where nothing is held, what was taken went on
 pub all_below : (below : Option (List ℕ)) (held : List ℕ) → held ≡ [] → append_known below held ≡ below
-all_below None held none = rw none refl
+all_below None held none = refl
 all_below (Some all) held none = rw none (ap Some (append-nil all))

@@ -8,7 +8,8 @@ use elf_many_checks::{CheckRule, Checks};
 use elf_many_traits::{TraitLines, TraitRule};
 use elf_model::Format;
 use elf_program::{
-    CANNOT_OPEN, Ended, Ending, OUT_OF_MEMORY, OUTPUT_BYTES, PIPE_BYTES, READ_FAULT, end_lines,
+    CANNOT_OPEN, Ended, Ending, LineSink, OUT_OF_MEMORY, OUTPUT_BYTES, PIPE_BYTES, READ_FAULT,
+    end_lines,
 };
 use elf_source::{HoldingSink, Out, OutFault, Sink, WriteSink};
 use elf_words::{Checking, ManyFiles, TraitsAsked};

@@ -3,6 +3,7 @@ use Rattle.std.proofs.Common.{rules, ◌≡◌, true, false, refl, ◌∙◌, ar
 use Rattle.std.proofs.lemmas.Result.{err_from_is_err_and}
 use Rattle.elf_model.specs.Archive.{bytes_in, is_elf, lists_members}
 use Rattle.elf_model.specs.Cost.{listing_cost, style_ceiling}
+use Rattle.elf_source.proofs.GrowthLaws.{grows_not}
 use Rattle.elf_source.proofs.PutsLaws.{Takes-nothing}
 use Rattle.elf_source.proofs.ReadsLaws.{Reads-none, Reads-to}
 use Rattle.elf_headers.specs.Permitted.{style_of}
@@ -11,6 +12,9 @@ use Rattle.elf_archive.specs.Members.{extent_of}
 use Rattle.elf_archive.proofs.ConsumeLaws.{Consumes-fault, Consumes-then, still_whole}
 use Rattle.elf_archive.proofs.ListingLaws.{member_listed, member_elf}
 use Rattle.elf_archive.proofs.listing.list_member.Goals as goal
+
+pub returns-in_err-begins_elf-clause-grows : goal.returns-in_err-begins_elf-clause-grows
+returns-in_err-begins_elf-clause-grows g c = grows_not _
 
 pub returns-in_err-begins_elf-clause-cost : goal.returns-in_err-begins_elf-clause-cost
 returns-in_err-begins_elf-clause-cost g c = λ file held member is.

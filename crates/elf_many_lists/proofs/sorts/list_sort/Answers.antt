@@ -1,5 +1,7 @@
 -- A file's listing by its sort.
+use Rattle.std.proofs.Common.{Bool, subst}
 use Rattle.std.proofs.lemmas.Result.{err_from_is_err_and}
+use Rattle.elf_archive.specs.Listed.{ReportsArchive}
 use Rattle.elf_many_lists.proofs.HeadedLaws.{archive_listed, elf_ended, elf_stopped}
 use Rattle.elf_many_lists.proofs.sorts.list_sort.Goals as goal
 
@@ -20,7 +22,9 @@ returns-in_ok-show-in-Elf-clause-cost g c = λ file held. rw c.in-Elf.is (c.in_o
 
 pub returns-in-Archive-clause-lists : goal.returns-in-Archive-clause-lists
 returns-in-Archive-clause-lists g c = λ file held.
-    rw c.in-Archive.is (archive_listed file c.args.caps c.args.parts.0 c.args.out.now c.show_archive.new.out c.show_archive.result (c.show_archive.ensures.text file held))
+    let text =
+    subst (λ (alone : Bool). ReportsArchive alone file c.args.caps c.args.parts.0 c.args.out.now c.show_archive.new.out c.show_archive.result) c.are_alone-alone.ensures (c.show_archive.ensures.text file held) in
+    rw c.in-Archive.is (archive_listed file c.args.caps c.args.parts.0 c.args.out.now c.show_archive.new.out c.show_archive.result text)
 
 pub returns-in-Archive-clause-cost : goal.returns-in-Archive-clause-cost
 returns-in-Archive-clause-cost g c = λ file held. rw c.in-Archive.is (c.show_archive.ensures.cost file held)
