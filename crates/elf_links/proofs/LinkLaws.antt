@@ -13,7 +13,7 @@ use Rattle.elf_headers.specs.declared.fault.Fault.TheVariants.{Refused, Source}
 use Rattle.elf_table.specs.Sections.{strings}
 use Rattle.elf_table.specs.Tables.{Strings}
 use Rattle.elf_table.specs.Views.{strings_mapped}
-use Rattle.elf_links.specs.Entries.{AreNeeds, IsNeed, IsText, KeepsLinks, KeepsText, TellsLinks, TellsStrings, TellsText, first_index, text_by, with_index}
+use Rattle.elf_links.specs.Entries.{AreNeeds, IsNeed, IsHeldText, KeepsLinks, KeepsText, TellsLinks, TellsStrings, TellsText, first_index, text_by, with_index}
 use Rattle.elf_links.specs.Held.{HeldLinks}
 use Rattle.elf_links.specs.declared.links.FileLinks.{FileLinks}
 use Rattle.elf_links.specs.declared.links.Need.{Need}
@@ -65,12 +65,12 @@ last_below : (xs : List (List ℕ)) (text : List ℕ) → length xs < length (xs
 last_below xs text = let n = length-append xs (text ∷ []) in omega (arith, n)
 
 module _ (texts : List (List ℕ)) (text : List ℕ) where
-  text_kept : (index : Option ℕ) (told : Option (List ℕ)) → IsText texts index told → IsText (texts ++ text ∷ []) index told
+  text_kept : (index : Option ℕ) (told : Option (List ℕ)) → IsHeldText texts index told → IsHeldText (texts ++ text ∷ []) index told
   text_kept None told is = is
   text_kept (Some i) told is = (longer texts text i is.0, is.1 ∙ ap (λ (t : List ℕ). Some t) (sym (kept_at texts (text ∷ []) i is.0)))
 
-  text_first : (index : Option ℕ) (told : Option (List ℕ)) (is : Bool) → IsText texts index told
-      → IsText (texts ++ text ∷ []) (first_index index is (length texts)) (first_text told is text)
+  text_first : (index : Option ℕ) (told : Option (List ℕ)) (is : Bool) → IsHeldText texts index told
+      → IsHeldText (texts ++ text ∷ []) (first_index index is (length texts)) (first_text told is text)
   text_first None told true is = rw is (last_below texts text, ap (λ (t : List ℕ). Some t) (sym (last_at texts text)))
   text_first None told false is = rw is refl
   text_first (Some i) told b is = rw is.1 (text_kept (Some i) _ (is.0, refl))

@@ -34,17 +34,17 @@ use Rattle.elf_table.specs.Views.{dynamic_table_at}
 use Rattle.elf_links.proofs.LoopLaws.{keeps_none}
 use Rattle.elf_links.specs.Entries.{TellsLinks}
 use Rattle.elf_links.specs.Held.{HeldLinks}
-use Rattle.elf_links.specs.Reading.{TellsLookup, linked_in_segments, passed_over}
+use Rattle.elf_links.specs.Reading.{TellsLookupRefusal, linked_in_segments, lookup_passed}
 use Rattle.elf_links.specs.declared.links.FileLinks.{FileLinks}
 
 -- A LOOKUP: a file without a hash table is passed over, so that a call did not stop
-pub passed_did : {a b : Counting} {n : ℕ} {P : List ℕ → Type 0} (fault : Fault) → Did a b (Some fault) n P → Did a b (why_stopped (passed_over fault)) n P
+pub passed_did : {a b : Counting} {n : ℕ} {P : List ℕ → Type 0} (fault : Fault) → Did a b (Some fault) n P → Did a b (why_stopped (lookup_passed fault)) n P
 passed_did (Source fault at) did = did
 passed_did {a} {b} {n} {P} (Refused refusal) did = go (has_none refusal.cause) refl
   where
-    go : (h : Bool) → has_none refusal.cause ≡ h → Did a b (why_stopped (passed_over (Refused refusal))) n P
-    go true is = rw (is, passed_over) (record { costs = record { reads = did.costs.reads; says = tt }; known = did.known })
-    go false isnt = rw (isnt, passed_over) did
+    go : (h : Bool) → has_none refusal.cause ≡ h → Did a b (why_stopped (lookup_passed (Refused refusal))) n P
+    go true is = rw (is, lookup_passed) (record { costs = record { reads = did.costs.reads; says = tt }; known = did.known })
+    go false isnt = rw (isnt, lookup_passed) did
 
 not_both : (b : Bool) → b ≡ true → b ≡ false → ⊥
 not_both true t f = cc
@@ -66,13 +66,13 @@ module _ (file : List ℕ) where
   unfolding lookup_refusal
   lookup_fails refusal e isnt = rw (e, isnt, lookup_refusal) refl
 
-  pub passed_tells : (fault : Fault) → IsScopeFound file (scope_by_segments file) (Err fault) → TellsLookup (lookup_refusal file) (passed_over fault)
+  pub passed_tells : (fault : Fault) → IsScopeFound file (scope_by_segments file) (Err fault) → TellsLookupRefusal (lookup_refusal file) (lookup_passed fault)
   passed_tells (Source fault at) finds = tt
   passed_tells (Refused refusal) finds = go (has_none refusal.cause) refl
     where
-      go : (b : Bool) → has_none refusal.cause ≡ b → TellsLookup (lookup_refusal file) (passed_over (Refused refusal))
-      go true is = rw (is, passed_over) (lookup_none refusal (finds (not_budget refusal is)) is)
-      go false isnt = rw (isnt, passed_over) (λ other. lookup_fails refusal (finds other) isnt)
+      go : (b : Bool) → has_none refusal.cause ≡ b → TellsLookupRefusal (lookup_refusal file) (lookup_passed (Refused refusal))
+      go true is = rw (is, lookup_passed) (lookup_none refusal (finds (not_budget refusal is)) is)
+      go false isnt = rw (isnt, lookup_passed) (λ other. lookup_fails refusal (finds other) isnt)
 
   module _ (room : TextRoom) where
     loaded_fails : (refusal : Refusal) → lookup_refusal file ≡ Some refusal → loaded_links file room ≡ Err refusal
@@ -83,7 +83,7 @@ module _ (file : List ℕ) where
     unfolding loaded_links
     loaded_is e = rw (e, loaded_links) refl
 
-    pub lookup_stops : (old new : HeldLinks) (fault : Fault) → TellsLookup (lookup_refusal file) (Err fault) → TellsLinks (loaded_links file room) old new (Err fault)
+    pub lookup_stops : (old new : HeldLinks) (fault : Fault) → TellsLookupRefusal (lookup_refusal file) (Err fault) → TellsLinks (loaded_links file room) old new (Err fault)
     lookup_stops old new (Refused refusal) tells = λ other. loaded_fails refusal (tells other)
     lookup_stops old new (Source fault at) tells = tt
 

@@ -61,9 +61,9 @@ with_index links tag index = record {
 }
 
 -- a text of an index, if there is one, is a text that is told
-abbrev pub IsText : List (List ℕ) → Option ℕ → Option (List ℕ) → Type 0
-IsText texts None told = told ≡ None
-IsText texts (Some index) told = (index < length texts) × (told ≡ Some (slice_index_or texts index []))
+abbrev pub IsHeldText : List (List ℕ) → Option ℕ → Option (List ℕ) → Type 0
+IsHeldText texts None told = told ≡ None
+IsHeldText texts (Some index) told = (index < length texts) × (told ≡ Some (slice_index_or texts index []))
 
 -- a need, whose name is of an index
 pub record IsNeed (texts : List (List ℕ)) (need : Need) (told : NeededName) : Type 0 where
@@ -84,9 +84,9 @@ pub record KeepsLinks (old new : HeldLinks) (links : FileLinks) (state : LinkSta
   pub needed : List Need
   pub needs : new.needs ≡ old.needs ++ needed
   pub are : AreNeeds new.held.texts needed state.links.needed
-  pub soname : IsText new.held.texts links.soname state.links.soname
-  pub rpath : IsText new.held.texts links.rpath state.links.rpath
-  pub runpath : IsText new.held.texts links.runpath state.links.runpath
+  pub soname : IsHeldText new.held.texts links.soname state.links.soname
+  pub rpath : IsHeldText new.held.texts links.rpath state.links.rpath
+  pub runpath : IsHeldText new.held.texts links.runpath state.links.runpath
   pub room : new.held.room ≡ state.room
 
 -- what is told is kept, or it is refused, unless that is for want of budget

@@ -12,15 +12,15 @@ use Rattle.elf_headers.specs.declared.fault.Fault.{Fault}
 use Rattle.elf_headers.specs.declared.fault.Fault.TheVariants.{Refused, Source}
 
 -- a fault of what a lookup is made in: a file without a hash table has none
-abbrev pub passed_over : Fault → Result (Unit {0}) Fault
-passed_over (Refused refusal) = elim (has_none refusal.cause) [ true ↦ Ok tt | false ↦ Err (Refused refusal) ]
-passed_over (Source fault at) = Err (Source fault at)
+abbrev pub lookup_passed : Fault → Result (Unit {0}) Fault
+lookup_passed (Refused refusal) = elim (has_none refusal.cause) [ true ↦ Ok tt | false ↦ Err (Refused refusal) ]
+lookup_passed (Source fault at) = Err (Source fault at)
 
 -- it is not refused, or it is, unless that is for want of budget
-abbrev pub TellsLookup : Option Refusal → Result (Unit {0}) Fault → Type 0
-TellsLookup told (Ok passed) = told ≡ None
-TellsLookup told (Err (Refused refusal)) = (IsBudget refusal → ⊥) → told ≡ Some refusal
-TellsLookup told (Err (Source fault at)) = Unit {0}
+abbrev pub TellsLookupRefusal : Option Refusal → Result (Unit {0}) Fault → Type 0
+TellsLookupRefusal told (Ok passed) = told ≡ None
+TellsLookupRefusal told (Err (Refused refusal)) = (IsBudget refusal → ⊥) → told ≡ Some refusal
+TellsLookupRefusal told (Err (Source fault at)) = Unit {0}
 
 -- what the first segment of dynamic entries tells
 abbrev pub linked_in_segments : List ℕ → TextRoom → Result LinkState Refusal

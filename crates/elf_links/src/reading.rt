@@ -5,8 +5,9 @@ ghost use Rattle.elf_headers.specs.Load.{Views};
 ghost use Rattle.elf_model.specs.Links.{links_by_segments, links_ceiling, links_of};
 ghost use Rattle.elf_model.specs.Links.{loaded_links, lookup_refusal};
 ghost use Rattle.elf_model.specs.Records.{e_shnum};
+ghost use Rattle.elf_source.specs.Source.{Reads};
 ghost use Rattle.elf_links.specs.Entries.{TellsLinks};
-ghost use Rattle.elf_links.specs.Reading.{TellsLookup, linked_in_segments, passed_over};
+ghost use Rattle.elf_links.specs.Reading.{TellsLookupRefusal, linked_in_segments, lookup_passed};
 
 use crate::entries::{EntryTexts, listed_links, no_links};
 use crate::links::{FileLinks, LinkStore};
@@ -31,7 +32,9 @@ const LITTLE_ENDIAN: u8 = 1;
 ///
 /// # Errors
 /// A fault of a read, or a refusal for want of budget.
-pub fn machine_of<S: Source>(src: &mut Counted<S>) -> Result<Option<u16>, Fault> {
+pub fn machine_of<S: Source>(src: &mut Counted<S>) -> Result<Option<u16>, Fault>
+    ensures { Reads src.old src.new 20 }
+{
     if src.length() < FRONT_BYTES as u64 {
         return Ok(None);
     }
@@ -153,7 +156,7 @@ fn check_lookup<S: Source>(src: &mut Counted<S>, view: &SegmentView<'_>) -> Resu
     requires small { view.now.loaded.size < 2 ^ 63 }
     ensures { Did src.old src.new (why_stopped result) src.old.seen.size
         (λ file. Views file view.now.loaded view.now.store.now →
-        TellsLookup (lookup_refusal file) result) }
+        TellsLookupRefusal (lookup_refusal file) result) }
 {
     match find_in_segments(src, view) {
         Ok(_) => Ok(()),
@@ -163,7 +166,7 @@ fn check_lookup<S: Source>(src: &mut Counted<S>, view: &SegmentView<'_>) -> Resu
 
 /// No fault where there is no hash table, else the fault.
 fn without_hash(fault: Fault) -> Result<(), Fault>
-    ensures { result ≡ passed_over fault }
+    ensures { result ≡ lookup_passed fault }
 {
     match fault {
         Fault::Refused(
