@@ -1,1 +1,5 @@
 pub mod TextLaws
+pub mod OnLinks
+pub mod LinkLaws
+pub mod LoopLaws
+pub mod ReadingLaws

@@ -2,6 +2,7 @@
 use Rattle.std.proofs.Common.{◌≡◌, ℕ, zero, suc, ◌+◌, ◌≤◌, List, [], ◌∷◌, ◌++◌, length, take, map, refl, ap, ◌∙◌, arith}
 use Rattle.std.proofs.lemmas.List.Elements.{All-head, All-tail}
 use Rattle.std.specs.Prelude.{All}
+use Rattle.elf_links.specs.Held.{HeldTexts}
 use Rattle.elf_links.specs.Pieces.{text_piece}
 
 front_of : (n : ℕ) (xs ys : List ℕ) → n ≤ length xs → take n (xs ++ ys) ≡ take n xs
@@ -43,3 +44,10 @@ module _ {X : Type 0} (start len : X → ℕ) where
 pub length_map : {X Y : Type 0} (f : X → Y) (xs : List X) → length (map f xs) ≡ length xs
 length_map f [] = refl
 length_map f (x ∷ xs) = ap suc (length_map f xs)
+
+-- texts that are held, in other words
+abbrev pub held_of : List (List ℕ) → (bytes texts : ℕ) → HeldTexts
+held_of texts bytes count = record { texts = texts; room = record { bytes = bytes; texts = count } }
+
+pub held_as : {texts others : List (List ℕ)} {a b n m : ℕ} → texts ≡ others → a ≡ b → n ≡ m → held_of texts a n ≡ held_of others b m
+held_as texts bytes count = rw (texts, bytes, count) refl

@@ -6,6 +6,7 @@ mod entries;
 mod links;
 mod reading;
 mod texts;
+pub mod worked;
 
 pub use links::{FileLinks, LinkStore, Need};
 pub use reading::{machine_of, read_links};

@@ -1,5 +1,7 @@
 //! Texts in memory that is taken once.
-ghost use Rattle.std.specs.Prelude.{◌≡◌, ◌<◌, ◌++◌, ◌∷◌, [], ℕ, List, IfOk, IfSome, IsNone, length, slice_index_or};
+ghost use Rattle.std.specs.Prelude.{◌≡◌, ◌<◌, ◌++◌, ◌∷◌, [], ℕ, List, IfOk, IfSome, IsNone, is_some, nat_lt, ◌&&◌, length, slice_index_or};
+ghost use Rattle.elf_model.specs.Links.{has_room};
+ghost use Rattle.elf_links.specs.Held.{with_text};
 ghost use Rattle.elf_links.specs.Pieces.{text_piece};
 
 use std::alloc::{AllocError, Global};
@@ -23,25 +25,40 @@ struct Place {
 }
 
 impl Model for Texts {
-    ghost use Rattle.std.specs.Prelude.{◌≡◌, ◌≤◌, ◌+◌, ℕ, List, map, All, length};
+    ghost use Rattle.std.specs.Prelude.{◌≡◌, ◌≤◌, ◌<◌, ◌+◌, ◌-◌, ◌^◌, ℕ, List, map, All, length, vec_capacity};
     ghost use Rattle.elf_links.specs.Pieces.{text_piece};
+    ghost use Rattle.elf_links.specs.Held.{HeldTexts};
 
-    ghost Value = { List (List ℕ) };
+    ghost Value = { HeldTexts };
 
-    ghost view = { λ n. map (λ p. text_piece n.bytes.items p.start p.len) n.places.items };
+    ghost view = { λ n. record {
+      texts = map (λ p. text_piece n.bytes.items p.start p.len) n.places.items;
+      room = record {
+        bytes = n.most_bytes - length n.bytes.items;
+        texts = n.most_texts - length n.places.items;
+      };
+    } };
 
-    ghost invariant = { λ n. All (λ p. p.start + p.len ≤ length n.bytes.items) n.places.items };
+    ghost invariant = { λ n. All (λ p. p.start + p.len ≤ length n.bytes.items) n.places.items
+        × (length n.bytes.items ≤ n.most_bytes) × (n.most_bytes ≤ vec_capacity n.bytes)
+        × (length n.places.items ≤ n.most_texts) × (n.most_texts ≤ vec_capacity n.places)
+        × (n.most_bytes < 2 ^ 32) × (n.most_texts < 2 ^ 32) };
 }
 
 impl Texts {
-    /// No text, with room for so many texts of so many bytes together. The memory is taken from `alloc`
-    /// here: `bytes` and 8 for each text.
+    /// No text, with room for so many texts of so many bytes together, each below 2^32. The memory is taken
+    /// from `alloc` here: `bytes` and 8 for each text.
     ///
     /// # Errors
     /// Where memory is refused.
-    pub fn new(alloc: Global, bytes: usize, texts: usize) -> Result<Texts, AllocError>
-        ensures { IfOk result (λ held. held ≡ []) }
+    pub fn new(alloc: Global, bytes: u32, texts: u32) -> Result<Texts, AllocError>
+        ensures { IfOk result (λ held. held ≡ record {
+          texts = [];
+          room = record { bytes = bytes; texts = texts };
+        }) }
     {
+        let bytes = bytes as usize;
+        let texts = texts as usize;
         Ok(Texts {
             bytes: Vec::with_capacity(alloc, bytes)?,
             places: Vec::with_capacity(alloc, texts)?,
@@ -50,9 +67,16 @@ impl Texts {
         })
     }
 
+    /// How many there are.
+    pub fn len(&self) -> usize
+        ensures { result ≡ length self.now.texts }
+    {
+        self.places.len()
+    }
+
     /// The text of an index; where there is none of that index the empty text.
     pub fn get(&self, index: u32) -> &[u8]
-        ensures { result.now ≡ slice_index_or self.now index [] }
+        ensures { result.now ≡ slice_index_or self.now.texts index [] }
     {
         match self.places.get(index as usize) {
             Some(place) => text_at(&self.bytes, *place),
@@ -63,30 +87,21 @@ impl Texts {
     /// Puts a text behind the others, and answers its index. None where there is no room for it, or it has
     /// 65,536 bytes or more: nothing changes then.
     pub fn push(&mut self, text: &[u8]) -> Option<u32>
-        ensures pushed { IfSome result (λ index. self.new ≡ self.old ++ text.now ∷ []) }
-        ensures index { IfSome result (λ index. index ≡ length self.old) }
+        ensures pushed { IfSome result (λ index. self.new ≡ with_text self.old text.now) }
+        ensures index { IfSome result (λ index. index ≡ length self.old.texts) }
         ensures full { IsNone result → self.new ≡ self.old }
+        ensures fits { is_some result ≡ (has_room self.old.room text.now && nat_lt (length text.now) 65536) }
     {
-        if self.bytes.len() > self.most_bytes || text.len() > self.most_bytes - self.bytes.len() {
+        if text.len() > self.most_bytes - self.bytes.len() || self.places.len() >= self.most_texts {
             return None;
         }
-        if self.places.len() >= self.most_texts {
-            return None;
-        }
-        let (Ok(start), Ok(len), Ok(index)) = (
-            u32::try_from(self.bytes.len()),
-            u16::try_from(text.len()),
-            u32::try_from(self.places.len()),
-        ) else {
+        let Ok(len) = u16::try_from(text.len()) else {
             return None;
         };
-        if self.bytes.extend_from_slice(text).is_err() {
-            return None;
-        }
-        if self.places.push(Place { start, len }).is_err() {
-            self.bytes.truncate(start as usize);
-            return None;
-        }
+        let start = self.bytes.len() as u32;
+        let index = self.places.len() as u32;
+        self.bytes.extend_from_slice(text).unwrap();
+        self.places.push(Place { start, len }).unwrap();
         Some(index)
     }
 }

@@ -1,3 +1,4 @@
 pub mod Bound
+pub mod Budget
 pub mod Called
 pub mod ObjectLines

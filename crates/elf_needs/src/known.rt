@@ -9,12 +9,13 @@ use std::alloc::{AllocError, Global};
 /// The most objects of a program.
 pub const MOST_OBJECTS: usize = 512;
 
-/// How many bytes of paths each object has room for.
-const PATH_ROOM: usize = 4_096;
-/// How many bytes of texts, and how many texts, there is room for with each object; all share it.
-const TEXT_ROOM: usize = 8_192;
+/// How many bytes of paths there is room for: 4,096 for each object.
+const PATH_ROOM: u32 = 2_097_152;
+/// How many bytes of texts, and how many texts, there is room for, which all objects share: 8,192 and 64 for
+/// each.
+const TEXT_ROOM: u32 = 4_194_304;
 
-const TEXTS_EACH: usize = 64;
+const MOST_TEXTS: u32 = 32_768;
 
 /// An object: where it is, and what it needs.
 #[derive(Clone, Copy)]
@@ -49,8 +50,8 @@ impl Objects {
     /// Where memory is refused.
     pub(crate) fn new(alloc: Global) -> Result<Objects, AllocError> {
         Ok(Objects {
-            links: LinkStore::new(alloc, MOST_OBJECTS * TEXT_ROOM, MOST_OBJECTS * TEXTS_EACH)?,
-            paths: Texts::new(alloc, MOST_OBJECTS * PATH_ROOM, MOST_OBJECTS)?,
+            links: LinkStore::new(alloc, TEXT_ROOM, MOST_TEXTS)?,
+            paths: Texts::new(alloc, PATH_ROOM, MOST_OBJECTS as u32)?,
             known: Vec::with_capacity(alloc, MOST_OBJECTS)?,
         })
     }
@@ -89,10 +90,7 @@ impl Objects {
 
     /// The need of an index, if there is one.
     pub(crate) fn need(&self, index: usize) -> Option<Need> {
-        match self.links.needs.get(index) {
-            Some(need) => Some(*need),
-            None => None,
-        }
+        self.links.need(index)
     }
 
     /// The text of an index, if one is told.
@@ -101,7 +99,7 @@ impl Objects {
             ≡ text_told self.now.links.texts index }
     {
         match index {
-            Some(index) => Some(self.links.texts.get(index)),
+            Some(index) => Some(self.links.text(index)),
             None => None,
         }
     }

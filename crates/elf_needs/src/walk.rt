@@ -1,4 +1,7 @@
 //! The objects of a program, in a loader's order.
+ghost use Rattle.std.specs.Prelude.{◌≡◌};
+ghost use Rattle.elf_needs.specs.Budget.{left_behind};
+
 use crate::candidates::{FileSource, take_off};
 use crate::known::{Known, MOST_OBJECTS, Objects};
 use crate::object_rows::{show_object, show_too_many};
@@ -173,7 +176,7 @@ impl<W: Sink> ObjectWalk<'_, '_, W> {
                 return Ok(Onward::Yes);
             };
             let objects = &self.objects;
-            if objects.has_name(objects.links.texts.get(need.name)) {
+            if objects.has_name(objects.links.text(need.name)) {
                 continue;
             }
             if self.objects.len() >= MOST_OBJECTS {
@@ -199,7 +202,7 @@ impl<W: Sink> ObjectWalk<'_, '_, W> {
         R::File: FileExt,
     {
         let objects = &self.objects;
-        let name = objects.links.texts.get(need.name);
+        let name = objects.links.text(need.name);
         let found = self.search.find(rt, objects, needer, name)?;
         let by = u16::try_from(index).ok();
         match found {
@@ -217,7 +220,7 @@ impl<W: Sink> ObjectWalk<'_, '_, W> {
             needs_end: 0,
         };
         let index = self.add(by, Some(name), None, &told);
-        let shown = self.objects.links.texts.get(name);
+        let shown = self.objects.links.text(name);
         show_object(index, by, told.state, shown, self.format, &mut self.out).map_err(
             NeedsFault::Out,
         )
@@ -250,8 +253,11 @@ impl<W: Sink> ObjectWalk<'_, '_, W> {
     /// Reads what a file needs. What was asked of it is taken off the budget. It is not made part of its
     /// callers, whose stack would hold its buffers twice.
     #[inline(never)]
-    fn read<S: Source>(&mut self, source: &mut Counted<S>) -> Result<Told, NeedsFault> {
-        let needs = self.objects.links.needs.len();
+    fn read<S: Source>(&mut self, source: &mut Counted<S>) -> Result<Told, NeedsFault>
+        ensures limit { source.new.most ≡ source.old.most }
+        ensures off { self.new.search.left ≡ left_behind self.old.search.left source.new.asked }
+    {
+        let needs = self.objects.links.needs();
         let links = read_links(source, &mut self.store, &mut self.objects.links);
         take_off(&mut self.search.left, source);
         match links {
@@ -259,7 +265,7 @@ impl<W: Sink> ObjectWalk<'_, '_, W> {
                 state: ObjectState::Found,
                 links,
                 needs,
-                needs_end: self.objects.links.needs.len(),
+                needs_end: self.objects.links.needs(),
             }),
             Err(Fault::Refused(refusal)) => Ok(Told {
                 state: ObjectState::Refused(refusal),
