@@ -43,7 +43,7 @@ where
 }
 
 /// Opens the program, and lists the objects that it needs to an output. The folder of the program is told
-/// by its path with all links followed.
+/// by its path with all links followed, which takes memory before the program is opened.
 ///
 /// # Errors
 /// There is no memory, or the program can't be opened.
@@ -59,14 +59,14 @@ where
 {
     let (room, opened) = rooms;
     let mut opened = opened;
-    let source = match open(rt, asked.file) {
-        Ok(source) => Counted::new(source),
-        Err(ending) => return Err(ending),
-    };
     let real = match rt.canonicalize(rt.alloc(), opened_path(asked.file)) {
         Ok(real) => real,
         Err(error) if error.kind() == ErrorKind::OutOfMemory => return Err(OUT_OF_MEMORY),
         Err(_) => return Err(CANNOT_OPEN),
+    };
+    let source = match open(rt, asked.file) {
+        Ok(source) => Counted::new(source),
+        Err(ending) => return Err(ending),
     };
     let out = Out::new(WriteSink::new(output));
     let mut walk = ObjectWalk::new(&settings(asked), store, room, out);
