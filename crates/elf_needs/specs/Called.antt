@@ -23,4 +23,4 @@ short_index (Some index) = if nat_lt index (2 ^ 16) then Some index else None
 
 -- the index of the first object that has a name
 abbrev pub called_by : Objects → List ℕ → Option ℕ
-called_by objects name = short_index (position (is_called objects.links.texts name) objects.known.items)
+called_by objects name = short_index (position (is_called objects.links.held.texts name) objects.known.items)

@@ -96,7 +96,7 @@ impl Objects {
     /// The text of an index, if one is told.
     pub(crate) fn text(&self, index: Option<u32>) -> Option<&[u8]>
         ensures { option_map (λ t. t.now) result
-            ≡ text_told self.now.links.texts index }
+            ≡ text_told self.now.links.held.texts index }
     {
         match index {
             Some(index) => Some(self.links.text(index)),
@@ -131,7 +131,7 @@ impl Objects {
 
     /// The place of the first object that has a name.
     fn first_called(&self, name: &[u8]) -> Option<usize>
-        ensures { result ≡ position (is_called self.now.links.texts name.now) self.now.known.items }
+        ensures { result ≡ position (is_called self.now.links.held.texts name.now) self.now.known.items }
     {
         self.known
             .iter()
@@ -140,7 +140,7 @@ impl Objects {
 
     /// Whether one object has a name.
     fn is_called(&self, known: &Known, name: &[u8]) -> bool
-        ensures { result ≡ is_called self.now.links.texts name.now known.now }
+        ensures { result ≡ is_called self.now.links.held.texts name.now known.now }
     {
         is_text(self.text(known.name), name) || is_text(self.text(known.links.soname), name)
     }
