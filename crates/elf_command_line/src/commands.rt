@@ -294,7 +294,7 @@ pub fn list<'a>(alloc: Global, parts: &'a [&'a str]) -> Result<Command<'a>, Allo
     command_of(alloc, &LIST_FILES, ValueParser::Names(parts))
 }
 
-/// The command that tells how files are hardened.
+/// The command that lists how files are hardened.
 ///
 /// # Errors
 /// There is no memory for it; nothing of it is left then.
@@ -304,7 +304,7 @@ pub fn traits<'a>(alloc: Global) -> Result<Command<'a>, AllocError>
     command_of(alloc, &TRAITS, ValueParser::Names(&[]))
 }
 
-/// The command that tells which libraries a program needs.
+/// The command that lists which libraries a program needs.
 ///
 /// # Errors
 /// There is no memory for it; nothing of it is left then.
