@@ -99,7 +99,7 @@ item_argument = record (new_rule (codes "ITEM")) { range = Some (record { start_
 abbrev pub layout_option : Rule
 layout_option = record (new_rule (codes "layout")) { long = Some (codes "layout"); value_names = 1 }
 
--- whether it is told which item is missing
+-- whether the item that would help is printed, where an address is missing
 abbrev pub explain_option : Rule
 explain_option = flag (codes "explain")
 
@@ -161,7 +161,7 @@ default_option = record (new_rule (codes "default")) { long = Some (codes "defau
 abbrev pub root_option : Rule
 root_option = record (new_rule (codes "root")) { long = Some (codes "root"); value_names = 1 }
 
--- whether it is told from where each symbol comes
+-- whether the file that each symbol is bound to is printed too
 abbrev pub symbols_option : Rule
 symbols_option = flag (codes "symbols")
 
@@ -192,7 +192,7 @@ archive_command parts = with_rule (with_chosen_rows parts (new_app (codes "archi
 abbrev pub with_files : PartWords → App
 with_files parts = with_subcommand (with_many parts.listed) (archive_command parts.archived).top
 
--- what tells the program's version, and takes no word
+-- the command that prints the version of the program, and takes no word
 abbrev pub version_command : App
 version_command = new_app (codes "version")
 

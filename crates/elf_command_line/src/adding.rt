@@ -13,13 +13,13 @@ use std::alloc::{AllocError, Global};
 /// A command, as it is described.
 pub(crate) struct Described {
     pub(crate) name: &'static str,
-    /// What help tells before the arguments, and behind them.
+    /// What help prints before the arguments, and behind them.
     pub(crate) about: &'static str,
     pub(crate) more: &'static str,
     pub(crate) words: &'static [Word],
 }
 
-/// A command of this name, with what its help tells before and behind its arguments.
+/// A command of this name, with what its help prints before and behind its arguments.
 pub(crate) fn new_command<'a>(
     alloc: Global,
     name: &'a str,

@@ -11,169 +11,15 @@ ghost use Rattle.elf_command_line.specs.CommandLine.{needs_command, sample_comma
 ghost use Rattle.elf_command_line.specs.CommandLine.{with_files, with_many, with_many_files, with_one_file, without_command};
 
 use crate::adding::{Described, command_of, new_command, with_command, with_commands};
+use crate::options::{
+    AS_LOADED, AS_LOADER, BINDINGS, BY_SEGMENTS, DEFAULT, EXPLAIN, FILE, GNU, HEADERS, INSIDE,
+    ITEM, JSON, LAYOUT, LIBRARY_PATH, LIST, MAX_READ, NAME, NAME_LIST, NAMES, ONLY, PATH, REQUIRE,
+    ROOT, ROW_NAME, SECTION, WITH_VERSIONS,
+};
 use crate::texts::{ABOUT, CHECKED, FOUND, HARDENED, ITEMS, LISTED, MEMBERS, MORE, NEEDED, SHOWN};
-use crate::words::{Word, WordKind};
 use clap::Command;
 use clap::builder::ValueParser;
 use std::alloc::{AllocError, Global};
-
-const HEADERS: Word = Word {
-    name: "headers",
-    kind: WordKind::Count(ValueParser::Signed(1, 65279), "4096"),
-    help: "Permit N section headers, and as many program headers: 1 to 65279",
-};
-
-const NAMES: Word = Word {
-    name: "names",
-    kind: WordKind::Count(ValueParser::Signed(1, 4096), "256"),
-    help: "Show N bytes of a name: 1 to 4096",
-};
-
-const MAX_READ: Word = Word {
-    name: "max-read",
-    kind: WordKind::Number(ValueParser::Unsigned(0, 9_223_372_036_854_775_807)),
-    help: "Read at most N bytes of the file: 0 to 9223372036854775807 [default: any]",
-};
-
-const ONLY: Word = Word {
-    name: "only",
-    kind: WordKind::Part,
-    help: "List one part [default: all]",
-};
-
-const GNU: Word = Word {
-    name: "gnu",
-    kind: WordKind::Flag,
-    help: "Name the numbers of the GNU system too, and list symbol versions",
-};
-
-const BY_SEGMENTS: Word = Word {
-    name: "by-segments",
-    kind: WordKind::Flag,
-    help: "Find tables by the program headers, as a loader does",
-};
-
-const JSON: Word = Word {
-    name: "json",
-    kind: WordKind::Flag,
-    help: "Write each line as a JSON object",
-};
-
-const FILE: Word = Word {
-    name: "FILE",
-    kind: WordKind::Needed,
-    help: "The file to read; - is standard input",
-};
-
-// Whether the name is looked up as a loader of the GNU system does it.
-const AS_LOADER: Word = Word {
-    name: "gnu",
-    kind: WordKind::Flag,
-    help: "Take the symbol that a loader of the GNU system takes, by its version too",
-};
-
-// Whether that loader's way to the tables is gone also where there are section headers.
-const AS_LOADED: Word = Word {
-    name: "by-segments",
-    kind: WordKind::Flag,
-    help: "With --gnu: find the tables by the program headers, as the loader does",
-};
-
-const NAME: Word = Word {
-    name: "NAME",
-    kind: WordKind::Needed,
-    help: "The name to look up: 1 to 4096 bytes",
-};
-
-const LAYOUT: Word = Word {
-    name: "layout",
-    kind: WordKind::Value("LIST"),
-    help: "Take the items in the file LIST too, one a line, as many as there are",
-};
-
-const EXPLAIN: Word = Word {
-    name: "explain",
-    kind: WordKind::Flag,
-    help: "Where an address is missing, tell the type, the symbol and the item that would help",
-};
-
-const SECTION: Word = Word {
-    name: "SECTION",
-    kind: WordKind::Index(ValueParser::Signed(0, 65535)),
-    help: "The index of the section to write: 0 to 65535",
-};
-
-const ITEM: Word = Word {
-    name: "ITEM",
-    kind: WordKind::Any,
-    help: "An address: at:INDEX=ADDR, or NAME=ADDR behind def:, plt:, got: or tpgot:",
-};
-
-const LIST: Word = Word {
-    name: "files0-from",
-    kind: WordKind::Value("FILE"),
-    help: "Take the paths in FILE too, each ended by NUL; - is standard input",
-};
-
-const INSIDE: Word = Word {
-    name: "members",
-    kind: WordKind::Flag,
-    help: "Go into archives too, which are passed over else",
-};
-
-const PATH: Word = Word {
-    name: "PATH",
-    kind: WordKind::Any,
-    help: "A file, or a folder of files",
-};
-
-const REQUIRE: Word = Word {
-    name: "require",
-    kind: WordKind::Value("WORDS"),
-    help: "Tell of each program and library which of these words it lacks, as in stack=nx,relro=full",
-};
-
-const WITH_VERSIONS: Word = Word {
-    name: "versions",
-    kind: WordKind::Flag,
-    help: "With --gnu: show behind the name of a symbol its version too, as NAME@VERSION",
-};
-
-const ROW_NAME: Word = Word {
-    name: "name",
-    kind: WordKind::Repeated("NAME"),
-    help: "Show the rows of this name alone; at most 64 times",
-};
-
-const NAME_LIST: Word = Word {
-    name: "name-list",
-    kind: WordKind::Value("LIST"),
-    help: "Show the rows of the names in the file LIST too, one a line",
-};
-
-const LIBRARY_PATH: Word = Word {
-    name: "library-path",
-    kind: WordKind::Value("DIRS"),
-    help: "Look for libraries in these folders too, as a loader does by LD_LIBRARY_PATH",
-};
-
-const DEFAULT: Word = Word {
-    name: "default",
-    kind: WordKind::Value("DIRS"),
-    help: "Look in these folders last, not in those of a system",
-};
-
-const ROOT: Word = Word {
-    name: "root",
-    kind: WordKind::Value("DIR"),
-    help: "Look below DIR for each path that begins with a slash",
-};
-
-const BINDINGS: Word = Word {
-    name: "symbols",
-    kind: WordKind::Flag,
-    help: "Tell from which object each symbol comes, too",
-};
 
 const SHOW: Described = Described {
     name: "show",
@@ -448,7 +294,7 @@ pub fn list<'a>(alloc: Global, parts: &'a [&'a str]) -> Result<Command<'a>, Allo
     command_of(alloc, &LIST_FILES, ValueParser::Names(parts))
 }
 
-/// The command that tells how files are hardened.
+/// The command that lists how files are hardened.
 ///
 /// # Errors
 /// There is no memory for it; nothing of it is left then.
@@ -458,7 +304,7 @@ pub fn traits<'a>(alloc: Global) -> Result<Command<'a>, AllocError>
     command_of(alloc, &TRAITS, ValueParser::Names(&[]))
 }
 
-/// The command that tells which libraries a program needs.
+/// The command that lists which libraries a program needs.
 ///
 /// # Errors
 /// There is no memory for it; nothing of it is left then.

@@ -3,6 +3,7 @@
 
 mod adding;
 mod commands;
+mod options;
 mod texts;
 mod words;
 

@@ -1,4 +1,4 @@
-//! What help tells of the program and its commands.
+//! The texts of help, for the program and for each command.
 
 pub(crate) const ABOUT: &str = "\
 Lists what is in an ELF64 file, looks names up in it, and applies its relocations.

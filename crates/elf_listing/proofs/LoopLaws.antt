@@ -1,5 +1,5 @@
 -- The loop of a listing over a cursor's rows.
-use Rattle.std.proofs.Common.{◌≡◌, ℕ, ◌+◌, ◌*◌, ◌<◌, ◌≤◌, Bool, true, false, List, [], Option, None, Some, Ok, Err, refl, sym, ap, ◌∙◌, arith}
+use Rattle.std.proofs.Common.{◌≡◌, ℕ, ◌+◌, ◌*◌, ◌<◌, ◌≤◌, Bool, true, false, List, Option, None, Some, Ok, Err, refl, sym, ap, ◌∙◌, arith}
 use Rattle.elf_model.specs.Bytes.{slice}
 use Rattle.elf_model.specs.Listing.{ListingItem, each}
 use Rattle.elf_source.specs.Output.{Written}
@@ -42,10 +42,6 @@ rows_stopped row i count a b c stop below before this =
     let more = each-front row (i + 1) count (omega arith) in
     let shown = rw (← each-more row i) at (Stopped-then a b c stop (each row 0 i) (row i) before this) in
     rw more.1 (Stopped-more a c stop (each row 0 (i + 1)) more.0 shown)
-
--- a cursor that holds nothing agrees with every file
-pub agrees_none : (file : List ℕ) (c : Reading) → c.held ≡ [] → HoldsRows file c
-agrees_none file c none = rw none refl
 
 -- what a new cursor may ask for is its table
 pub account_begins : (c : Reading) (table : Rows) (kind : ListedAs) (cap : ℕ) → table.entry ≡ row_size kind → c.failed ≡ None → c.unread ≡ size_of table → c.left ≡ table.count

@@ -36,7 +36,8 @@ impl<S: Source, W: Sink> Listing<'_, '_, '_, '_, S, W> {
         }
     }
 
-    /// Shows a part of one header. A table is a call of its own, so that its windows leave the stack with it.
+    /// Shows a part of one header. A table is a call of its own, so that its windows leave the stack
+    /// with it.
     fn header(&mut self, part: Part, index: u16) -> Result<(), Stop>
         requires awaits { Awaits part self.old.src.now.seen.file (style_of self.old.style) }
         requires below { index < (listed_by part).count self.old.file.store.now }

@@ -66,7 +66,8 @@ impl<S: Source, W: Sink> Listing<'_, '_, '_, '_, S, W> {
     /// symbols as the style has it.
     fn named(&mut self, parts: Parts) -> Result<(), Stop>
         ensures { let versions = self.old.style.versions in
-            ListsPair parts.0 (symbols_part versions) (relocations_part versions) self.old self.new result }
+            ListsPair parts.0 (symbols_part versions) (relocations_part versions)
+            self.old self.new result }
     {
         if self.style.versions {
             return self.pair(parts, Part::SuffixedSymbols, Part::SuffixedRelocations);

@@ -38,9 +38,9 @@ const TABLES: Parts = Parts(254);
 /// a style with the names of the GNU system, the symbol versions; at the first fault its line ends
 /// the listing. Notes and dynamic entries are those of the sections, and
 /// in a file without sections those of the segments; by a style that finds tables by the program
-/// headers all files are listed as if their file header told of no sections. The store has a slot for each header that the
-/// caps permit, and is loaded with the file's section headers, or with the program headers of a
-/// file without any. At most 2^127 bytes were asked of the source before. Where the caps have a
+/// headers all files are listed as if their file header gave no section headers. The store has a slot
+/// for each header that the caps permit, and is loaded with the file's section headers, or with the
+/// program headers of a file without any. At most 2^127 bytes were asked of the source before. Where the caps have a
 /// budget no more is read, and the line of a refusal for want of budget may end the listing sooner;
 /// afterwards no limit is set.
 ///
@@ -154,10 +154,12 @@ fn list_viewed<S: Source, W: Sink>(
     ensures alone { has_tables parts.0 ≡ false → src.new.asked ≡ src.old.asked }
     ensures cost { (file : List ℕ) → src.old.seen.file ≡ Some file →
         Costs src.old src.new out.new result
-        (behind_header (view_of (style_of style.entry) file) store.old.slots (style_of style.entry) parts.0) }
+        (behind_header (view_of (style_of style.entry) file)
+        store.old.slots (style_of style.entry) parts.0) }
     ensures text { (file : List ℕ) → src.old.seen.file ≡ Some file →
         Writes out.old out.new result
-        (load_items (view_of (style_of style.entry) file) store.old.slots (style_of style.entry) parts.0) }
+        (load_items (view_of (style_of style.entry) file)
+        store.old.slots (style_of style.entry) parts.0) }
 {
     if !style.by_segments {
         return list_loaded(src, store, header, style, parts, out);

@@ -69,7 +69,8 @@ impl<S: Source, W: Sink> Listing<'_, '_, '_, '_, S, W> {
         version: &mut NameBuf,
     ) -> Result<Option<SuffixEnd>, Fault>
         requires { SuffixesWithin self.old.src.now.seen.size suffixes.now }
-        ensures { FetchesOfEntry self.old self.new version.new result suffixes.now symbol is_defined }
+        ensures { FetchesOfEntry
+            self.old self.new version.new result suffixes.now symbol is_defined }
     {
         if symbol == 0 {
             return Ok(None);

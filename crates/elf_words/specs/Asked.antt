@@ -62,7 +62,7 @@ abbrev pub item_words : List Row → List Text
 item_words rows = unwrap_or (all_of (codes "ITEM") rows) []
 
 -- the section with this index, below 2^16, is written, of the file whose path stands among the values, in the layout that the
--- words give; and whether it is told which item is missing
+-- words give; and whether the item that would help is printed, where an address is missing
 pub record IsApplying (command : Text) (rows : List Row) (file : Option (Bor Text)) (section : ℕ) (layout : Layout) (explain : Bool) : Type 0 where
   pub apply : command ≡ codes "apply"
   pub path : IsFileNamed rows file

@@ -32,10 +32,8 @@ pub(crate) fn archive_asked<'a>(
 ) -> Result<Option<AskedCommand<'a>>, RequestFault>
     ensures { Becomes (Some (codes "archive", rows_of (found_of options.now))) result }
 {
-    match names_of(alloc, options) {
-        Ok(names) => Ok(archive_of(options, names)),
-        Err(fault) => Err(fault),
-    }
+    let names = names_of(alloc, options)?;
+    Ok(archive_of(options, names))
 }
 
 /// What `archive` asks for, of the rows of these names.

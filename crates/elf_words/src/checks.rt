@@ -21,13 +21,13 @@ pub enum AskedCommand<'a> {
     Check(Checking<'a>),
     /// Many files are listed.
     List(ListAsked<'a>),
-    /// How many files are hardened is told.
+    /// How each of many files is hardened is printed.
     Traits(TraitsAsked<'a>),
-    /// What a program needs is told.
+    /// The libraries that a program needs are printed.
     Needs(NeedsAsked<'a>),
     /// The members of an archive are listed.
     Archive(Archiving<'a>),
-    /// The version of the program is told.
+    /// The version of the program is printed.
     Version,
 }
 
@@ -214,7 +214,7 @@ pub struct NeedsAsked<'a> {
     pub limits: Limits,
     /// How a line is written.
     pub format: Format,
-    /// Whether it is told from where each symbol comes, too.
+    /// Whether the file that each symbol is bound to is printed too.
     pub symbols: bool,
 }
 

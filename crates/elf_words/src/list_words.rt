@@ -31,10 +31,8 @@ pub(crate) fn list_asked<'a>(
 ) -> Result<Option<AskedCommand<'a>>, RequestFault>
     ensures { Becomes (Some (codes "list", rows_of (found_of options.now))) result }
 {
-    match names_of(alloc, options) {
-        Ok(names) => list_with(alloc, options, names),
-        Err(fault) => Err(fault),
-    }
+    let names = names_of(alloc, options)?;
+    list_with(alloc, options, names)
 }
 
 /// What `list` asks for, of the rows of these names.

@@ -35,10 +35,8 @@ pub(crate) fn names_of<'a>(
     if !asks_names(options) {
         return Ok(None);
     }
-    match check_names(options) {
-        Ok(()) => names_with(alloc, options),
-        Err(fault) => Err(fault),
-    }
+    check_names(options)?;
+    names_with(alloc, options)
 }
 
 /// The names among the words, with the file that has more.

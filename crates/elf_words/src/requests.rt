@@ -52,7 +52,7 @@ pub enum Task<'a> {
         section: u16,
         /// The addresses of sections, names and their entries.
         layout: &'a Layout,
-        /// Whether it is told which item is missing, where an address is.
+        /// Whether the item that would help is printed, where an address is missing.
         explain: bool,
     },
     /// The same, in addresses that are kept otherwise.
@@ -61,7 +61,7 @@ pub enum Task<'a> {
         section: u16,
         /// The addresses of sections, names and their entries.
         addresses: &'a Addresses<'a>,
-        /// Whether it is told which item is missing, where an address is.
+        /// Whether the item that would help is printed, where an address is missing.
         explain: bool,
     },
 }
@@ -102,7 +102,7 @@ impl<'a> Request<'a> {
 /// Why words are no request.
 #[derive(Debug, Drop, Error)]
 pub enum RequestFault {
-    /// The words ask for nothing that there is, or for help: what is to be told about that.
+    /// The words ask for nothing that there is, or for help: the text that is printed about that.
     #[error("bad words")]
     Words(clap::Error),
     /// The words ask for a name that can't be looked for.

@@ -27,10 +27,9 @@ pub(crate) fn show_asked<'a>(
 ) -> Result<Option<AskedCommand<'a>>, RequestFault>
     ensures { Becomes (Some (codes "show", rows_of (found_of options.now))) result }
 {
-    match names_of(alloc, options) {
-        Ok(Some(names)) => Ok(chosen_of(options, names)),
-        Ok(None) => Ok(every_row_of(options)),
-        Err(fault) => Err(fault),
+    match names_of(alloc, options)? {
+        Some(names) => Ok(chosen_of(options, names)),
+        None => Ok(every_row_of(options)),
     }
 }
 

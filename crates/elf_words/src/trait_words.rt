@@ -30,10 +30,8 @@ pub(crate) fn traits_asked<'a>(
 ) -> Result<Option<AskedCommand<'a>>, RequestFault>
     ensures { Becomes (Some (codes "traits", rows_of (found_of options.now))) result }
 {
-    match required_of(alloc, options) {
-        Ok(required) => traits_with(alloc, options, required),
-        Err(fault) => Err(fault),
-    }
+    let required = required_of(alloc, options)?;
+    traits_with(alloc, options, required)
 }
 
 /// What `traits` asks for that requires these words.

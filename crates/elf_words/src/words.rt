@@ -39,7 +39,8 @@ use std::convert::AsStr;
 /// a name that is not of 1 to 4,096 bytes without NUL; `NamesFull` where they ask for the rows of more
 /// than 64 names; `BadItem`, `LayoutRepeat` and `LayoutFull`
 /// for the first word that is no item of a layout, gives an item again, or gives one more of a sort
-/// than a layout holds; `BadTrait` where a word that is required of traits is none; `Memory` where there is none for reading them.
+/// than a layout holds; `BadTrait` where a word that is required of traits is none; `Memory` where
+/// there is none for reading them.
 pub fn request<'a, S: AsStr>(
     alloc: Global,
     words: &'a [S],
@@ -147,10 +148,10 @@ fn file_asked<'a>(
     command: &str,
     options: &ArgMatches<'a>,
 ) -> Result<Option<AskedCommand<'a>>, RequestFault>
-    requires { (command.now ≢ codes "show") × (command.now ≢ codes "check") × (command.now ≢ codes "list")
-        × (command.now ≢ codes "traits") × (command.now ≢ codes "needs")
-        × (command.now ≢ codes "archive") × (command.now ≢ codes "version")
-        × (command.now ≢ codes "apply") }
+    requires { (command.now ≢ codes "show") × (command.now ≢ codes "check")
+        × (command.now ≢ codes "list") × (command.now ≢ codes "traits")
+        × (command.now ≢ codes "needs") × (command.now ≢ codes "archive")
+        × (command.now ≢ codes "version") × (command.now ≢ codes "apply") }
     ensures { Becomes (Some (command.now, rows_of (found_of options.now))) result }
 {
     match of_file(command, options) {
