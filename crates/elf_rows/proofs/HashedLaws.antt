@@ -1,5 +1,5 @@
 -- The symbols that a hash table is of, stage by stage.
-use Rattle.std.proofs.Common.{◌≡◌, ℕ, ◌+◌, ◌*◌, ◌≤◌, List, [], ◌∷◌, Option, None, Some, Ok, Err, refl, sym, ap, subst, ◌∙◌, arith}
+use Rattle.std.proofs.Common.{◌≡◌, ℕ, ◌+◌, ◌*◌, ◌≤◌, min, List, [], ◌∷◌, Option, None, Some, Ok, Err, refl, sym, ap, subst, ◌∙◌, arith}
 use Rattle.elf_model.specs.Bindings.{symbols_hashed}
 use Rattle.elf_model.specs.Checks.{first_refusal}
 use Rattle.elf_model.specs.LoaderFind.{counts_check}
@@ -46,7 +46,7 @@ module _ (file : List ℕ) (headers : ℕ) where
   unscoped (Source fault at) found = tt
 
   module _ (told : IsScopeOf) (found : scope_of file headers ≡ Ok told) where
-    hashed : first_refusal (counts_check file told ∷ []) ≡ None → symbols_hashed file told ≡ Ok (hashed_symbol_count file told)
+    hashed : first_refusal (counts_check file told ∷ []) ≡ None → symbols_hashed file told ≡ Ok (min (hashed_symbol_count file told) told.table.symbols)
     unfolding symbols_hashed
     hashed e = rw (e, symbols_hashed) refl
 
@@ -65,10 +65,11 @@ module _ (file : List ℕ) (headers : ℕ) where
     unread (Source fault at) read = tt
 
     -- all of them are told
-    pub counted : (count : ℕ) (rows : RowsLeft) → first_refusal (counts_check file told ∷ []) ≡ None → count ≡ hashed_symbol_count file told → PlacesHashed file told.symbols count rows
-        → TellsHashedRows file headers (Ok rows)
-    counted count rows e is hashed_rows =
-        let n : symbols_hashed file told ≡ Ok count = hashed e ∙ ap Ok (sym is) in
+    pub counted : (count : ℕ) (rows : RowsLeft) → first_refusal (counts_check file told ∷ []) ≡ None → count ≡ hashed_symbol_count file told → count ≤ told.table.symbols
+        → PlacesHashed file told.symbols count rows → TellsHashedRows file headers (Ok rows)
+    counted count rows e is few hashed_rows =
+        let all : min (hashed_symbol_count file told) told.table.symbols ≡ count = omega (arith, is, few) in
+        let n : symbols_hashed file told ≡ Ok count = hashed e ∙ ap Ok all in
         let both : hashed_of file headers ≡ Ok (told.symbols, count) = rw (found, n, hashed_of) refl in
         (told.symbols, count, both, hashed_rows)
 

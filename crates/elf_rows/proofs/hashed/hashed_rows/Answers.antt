@@ -65,7 +65,7 @@ returns-clause-did g c =
     let words = read.1 found.0 counts.1 in
     record {
       costs = costs_words file slots found.0 found.1 scope.hash.kind refl read.0.0.costs c.in_ok-table.ensures.did.costs words.costs;
-      tells = counted file slots found.0 found.1 c.in_ok-count.count c.rows_of.result counts.0 words.tells
+      tells = counted file slots found.0 found.1 c.in_ok-count.count c.rows_of.result counts.0 words.tells (omega (arith, c.in_ok-count.ensures.few, symbols, found.2.count))
           (places_hashed file slots found.0 scope c.in_ok-count.count c.rows_of.result found.2.symbols (omega (arith, c.in_ok-count.ensures.few, symbols, lies.count)) c.rows_of.ensures);
     })
 
