@@ -149,6 +149,6 @@ links_of file headers room = links_by_segments (without_sections file) headers r
 
 -- how many bytes it asks for at most, by the file's length and how many headers are permitted: the headers, the dynamic entries three
 -- times, and a text for each
-unfoldable links_ceiling : (size headers : ℕ) → ℕ
+unfoldable pub links_ceiling : (size headers : ℕ) → ℕ
 links_ceiling size headers =
     FILE_HEADER_SIZE + headers * PROGRAM_HEADER_SIZE + 3 * size + size / DYNAMIC_SIZE * name_bytes LINK_TEXT_BYTES
