@@ -1,11 +1,11 @@
 -- One object more, whose lines are all written, or not; and no object is left.
-use Rattle.std.proofs.Common.{◌<◌, ◌+◌, [], drop, get_or, length, sym, ◌∙◌, arith}
+use Rattle.std.proofs.Common.{◌<◌, ◌+◌, [], drop, get_or, length, refl, sym, ◌∙◌, arith}
 use Rattle.std.proofs.lemmas.Result.{err_from_is_err_and}
 use Rattle.elf_headers.proofs.Absent.{none-of}
-use Rattle.elf_model.specs.BoundSymbols.{object_items, objects_items}
+use Rattle.elf_model.specs.BoundSymbols.{bound_items, object_items, objects_items}
 use Rattle.elf_needs.specs.Bound.{IsLimited, bound_among}
-use Rattle.elf_needs.proofs.AskLaws.{are_kept, as_many, asks_then, limited_from}
-use Rattle.elf_needs.proofs.WriteLaws.{ends_cut, ends_fault, failing_none, failing_some, objects_next, objects_none, so_far_all, so_far_more}
+use Rattle.elf_needs.proofs.AskLaws.{are_kept, as_many, asks_none, asks_then, limited_from}
+use Rattle.elf_needs.proofs.WriteLaws.{ends_cut, ends_fault, failing_none, failing_some, objects_next, objects_none, so_far_all, so_far_more, so_far_none}
 use Rattle.elf_needs.proofs.bindings.bind_all.Goals as goal
 
 pub returns-in_err-came-clause-asks : goal.returns-in_err-came-clause-asks
@@ -61,3 +61,10 @@ returns-clause-known g c =
     let objects = bound_among headers files c.args.among.now in
     let none = objects_none objects l.place files (omega (arith, as_many headers c.args.objects.now files are, i.end, c.loop-place-test.false)) in
     so_far_all (IsLimited c.args.left.now) (rw none at (i.known headers files are))
+
+pub loop-place-init : goal.loop-place-init
+loop-place-init g c = record {
+  asks = asks_none c.args.objects.now c.args.left.now;
+  known = λ headers files are. so_far_none c.args.among.now.format (bound_items (bound_among headers files c.args.among.now)) c.args.out.now;
+  end = refl;
+}
