@@ -13,7 +13,7 @@ use Rattle.elf_model.specs.Tables.{entry_count}
 use Rattle.elf_model.proofs.ApplySteps.{cost_with-passed}
 use Rattle.elf_model.proofs.ChangeSteps.{length-places_from}
 use Rattle.elf_model.proofs.CheckSteps.{first_refusal-none, first_refusal-some}
-use Rattle.elf_model.proofs.CostLemmas.{sum_over-le}
+use Rattle.elf_model.proofs.SumLemmas.{sum_over-le}
 use Rattle.elf_model.proofs.Slices.{field-slice}
 use Rattle.elf_record.specs.Ehdr.{IsEhdr}
 use Rattle.elf_record.specs.declared.ehdr.Ehdr.{Ehdr}

@@ -25,9 +25,9 @@ use Rattle.elf_hash.specs.declared.kind.HashKind.{HashKind}
 use Rattle.elf_hash.specs.declared.kind.HashKind.TheVariants.{Gnu, Sysv}
 use Rattle.elf_hash.specs.declared.table.HashTable.{HashTable}
 use Rattle.elf_hash.specs.declared.walked.Walked.{Walked}
-use Rattle.elf_scope.specs.Scopes.{IsScope}
-use Rattle.elf_scope.specs.declared.scope.Scope.{Scope}
-use Rattle.elf_scope.specs.declared.symbols.Symbols.{Symbols}
+use Rattle.elf_lookup_tables.specs.Scopes.{IsScope}
+use Rattle.elf_lookup_tables.specs.declared.scope.Scope.{Scope}
+use Rattle.elf_lookup_tables.specs.declared.symbols.Symbols.{Symbols}
 use Rattle.elf_loader.specs.Answering.{StandsAs}
 use Rattle.elf_loader.specs.Comparing.{Collects}
 use Rattle.elf_loader.specs.Lookups.{trial_bytes}

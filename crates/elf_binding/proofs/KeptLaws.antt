@@ -5,9 +5,9 @@ use Rattle.elf_source.specs.Source.{Counting}
 use Rattle.elf_headers.specs.Ledger.{Did}
 use Rattle.elf_headers.specs.declared.fault.Fault.{Fault}
 use Rattle.elf_headers.specs.declared.fault.Fault.TheVariants.{Refused, Source}
-use Rattle.elf_scope.specs.Finding.{FindsScope}
-use Rattle.elf_scope.specs.Scopes.{IsScopeFound, ScopeLies}
-use Rattle.elf_scope.specs.declared.scope.Scope.{Scope}
+use Rattle.elf_lookup_tables.specs.Finding.{FindsScope}
+use Rattle.elf_lookup_tables.specs.Scopes.{IsScopeFound, ScopeLies}
+use Rattle.elf_lookup_tables.specs.declared.scope.Scope.{Scope}
 use Rattle.elf_binding.specs.Kept.{IsKept, TellsKept}
 
 -- what was found in a source is what is kept of it

@@ -13,10 +13,10 @@ use Rattle.elf_source.specs.Source.{Counting}
 use Rattle.elf_loader.specs.Comparing.{Collects, comparing_bytes}
 use Rattle.elf_loader.specs.Tables.{most_of, most_versions}
 use Rattle.elf_loader.specs.NumberSets.{has_number}
-use Rattle.elf_scope.specs.Symbols.{AreRecordTables, AreWords, IsSymbols, table_if_any}
-use Rattle.elf_scope.specs.declared.symbols.RecordTable.{RecordTable}
-use Rattle.elf_scope.specs.declared.symbols.Symbols.{Symbols}
-use Rattle.elf_scope.specs.declared.symbols.VersionWords.{VersionWords}
+use Rattle.elf_lookup_tables.specs.Symbols.{AreRecordTables, AreWords, IsSymbols, table_if_any}
+use Rattle.elf_lookup_tables.specs.declared.symbols.RecordTable.{RecordTable}
+use Rattle.elf_lookup_tables.specs.declared.symbols.Symbols.{Symbols}
+use Rattle.elf_lookup_tables.specs.declared.symbols.VersionWords.{VersionWords}
 use Rattle.elf_binding.specs.Lacking.{definition_if, definitions_of}
 use Rattle.elf_binding.specs.Sought.{RefusesAs, TellsLacks}
 

@@ -5,3 +5,4 @@ pub mod LackLaws
 pub mod ReadyLaws
 pub mod SoughtLaws
 pub mod SpendLaws
+pub mod PageLaws

@@ -10,9 +10,9 @@ use Rattle.elf_model.specs.declared.causes.Cause.TheVariants.{NameOutside}
 use Rattle.elf_table.specs.Tables.{strings_in}
 use Rattle.std.proofs.lemmas.Bool.{eqb-false, eqb-true, ltb-true, ne_eqb}
 use Rattle.elf_model.specs.declared.causes.Refusal.{Refusal}
-use Rattle.elf_scope.specs.Symbols.{AreRecordTables, IsSymbols, table_if_any}
-use Rattle.elf_scope.specs.declared.symbols.RecordTable.{RecordTable}
-use Rattle.elf_scope.specs.declared.symbols.Symbols.{Symbols}
+use Rattle.elf_lookup_tables.specs.Symbols.{AreRecordTables, IsSymbols, table_if_any}
+use Rattle.elf_lookup_tables.specs.declared.symbols.RecordTable.{RecordTable}
+use Rattle.elf_lookup_tables.specs.declared.symbols.Symbols.{Symbols}
 use Rattle.elf_model.proofs.Slices.{slice-size}
 use Rattle.elf_model.specs.Checks.{first_refusal}
 use Rattle.elf_model.specs.LoaderFind.{counts_check, record_cost}
@@ -20,8 +20,8 @@ use Rattle.elf_model.specs.Names.{pad64}
 use Rattle.elf_table.specs.NamesRead.{ComparesName}
 use Rattle.elf_hash.specs.Scopes.{IsTable}
 use Rattle.elf_hash.specs.declared.table.HashTable.{HashTable}
-use Rattle.elf_scope.specs.Scopes.{IsScope}
-use Rattle.elf_scope.specs.declared.scope.Scope.{Scope}
+use Rattle.elf_lookup_tables.specs.Scopes.{IsScope}
+use Rattle.elf_lookup_tables.specs.declared.scope.Scope.{Scope}
 use Rattle.elf_binding.specs.Ready.{EndsInNul, HasNoNul, IsReadyIf, NamesEnd, has_zero, ready_bytes, table_where}
 
 -- bytes whose last one is a NUL

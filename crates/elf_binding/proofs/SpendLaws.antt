@@ -11,8 +11,8 @@ use Rattle.elf_headers.specs.declared.fault.Fault.{Fault}
 use Rattle.elf_headers.specs.declared.fault.Fault.TheVariants.{Refused, Source}
 use Rattle.elf_headers.proofs.LedgerLaws.{Charges-more}
 use Rattle.elf_loader.specs.Lookups.{lookup_bytes}
-use Rattle.elf_scope.specs.Scopes.{IsScope, ScopeLies}
-use Rattle.elf_scope.specs.declared.scope.Scope.{Scope}
+use Rattle.elf_lookup_tables.specs.Scopes.{IsScope, ScopeLies}
+use Rattle.elf_lookup_tables.specs.declared.scope.Scope.{Scope}
 use Rattle.elf_binding.specs.Definers.{DefinesBehind}
 use Rattle.elf_hash.specs.declared.table.HashTable.{HashTable}
 use Rattle.std.specs.Result.{result_unwrap_or}

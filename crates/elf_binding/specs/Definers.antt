@@ -11,10 +11,10 @@ use Rattle.elf_hash.specs.declared.answer.TrialAnswer.{TrialAnswer}
 use Rattle.elf_headers.specs.Ledger.{Charges, Did, why_stopped}
 use Rattle.elf_headers.specs.declared.fault.Fault.{Fault}
 use Rattle.elf_headers.specs.declared.fault.Fault.TheVariants.{Refused, Source}
-use Rattle.elf_scope.specs.Scopes.{IsScope}
-use Rattle.elf_scope.specs.Symbols.{IsSymbols}
-use Rattle.elf_scope.specs.declared.scope.Scope.{Scope}
-use Rattle.elf_scope.specs.declared.symbols.Symbols.{Symbols}
+use Rattle.elf_lookup_tables.specs.Scopes.{IsScope}
+use Rattle.elf_lookup_tables.specs.Symbols.{IsSymbols}
+use Rattle.elf_lookup_tables.specs.declared.scope.Scope.{Scope}
+use Rattle.elf_lookup_tables.specs.declared.symbols.Symbols.{Symbols}
 
 -- it is the trial of the symbols of a file: of each it says whether it defines what is wanted
 pub record SaysDefines (file : List ℕ) (symbols : Symbols) (wanted : Wanted) (is_wanted : ℕ → Bool) (says : ℕ → Result Bool Refusal) : Type 0 where

@@ -9,9 +9,9 @@ use Rattle.elf_headers.specs.declared.fault.Fault.TheVariants.{Refused, Source}
 use Rattle.elf_hash.specs.Scopes.{place_of_table}
 use Rattle.elf_hash.specs.declared.table.HashTable.{HashTable}
 use Rattle.elf_binding.specs.Ready.{IsReadyIf}
-use Rattle.elf_scope.specs.Finding.{scope_cost}
-use Rattle.elf_scope.specs.Scopes.{IsScope, ScopeLies}
-use Rattle.elf_scope.specs.declared.scope.Scope.{Scope}
+use Rattle.elf_lookup_tables.specs.Finding.{scope_cost}
+use Rattle.elf_lookup_tables.specs.Scopes.{IsScope, ScopeLies}
+use Rattle.elf_lookup_tables.specs.declared.scope.Scope.{Scope}
 
 -- its source, and how many headers were permitted where what a lookup is made in was found
 pub record KeptObject : Type 0 where

@@ -5,3 +5,4 @@ pub mod Lacking
 pub mod Looks
 pub mod Ready
 pub mod Sought
+pub mod Pages

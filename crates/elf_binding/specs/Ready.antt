@@ -8,7 +8,7 @@ use Rattle.elf_model.specs.LoaderScope.{Scope as IsScopeOf}
 use Rattle.elf_model.specs.Names.{same}
 use Rattle.elf_headers.specs.declared.fault.Fault.{Fault}
 use Rattle.elf_table.specs.Tables.{strings_in}
-use Rattle.elf_scope.specs.declared.symbols.RecordTable.{RecordTable}
+use Rattle.elf_lookup_tables.specs.declared.symbols.RecordTable.{RecordTable}
 use Rattle.elf_hash.specs.Scopes.{IsTable}
 use Rattle.elf_hash.specs.declared.table.HashTable.{HashTable}
 

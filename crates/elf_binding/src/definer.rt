@@ -10,15 +10,15 @@ ghost use Rattle.elf_loader.specs.NumberSets.{has_number};
 ghost use Rattle.elf_model.specs.Bindings.{definer_by, definer_in, definer_walk};
 ghost use Rattle.elf_model.specs.LoaderFind.{record_cost, wanted_numbers};
 ghost use Rattle.elf_model.specs.Names.{pad64};
-ghost use Rattle.elf_scope.specs.Symbols.{SymbolsLie};
+ghost use Rattle.elf_lookup_tables.specs.Symbols.{SymbolsLie};
 ghost use Rattle.elf_wanted.specs.Wants.{the_wanted};
 
 use crate::ready::has_nul;
 use elf_hash::{HashTable, Trial, TrialAnswer, Walked, counts, excludes, walk};
 use elf_headers::Fault;
 use elf_loader::{NumberSet, WantedTrial, wanted_numbers};
+use elf_lookup_tables::Scope;
 use elf_record::numbers::SHN_UNDEF;
-use elf_scope::Scope;
 use elf_source::{Counted, Source};
 use elf_wanted::Wanted;
 

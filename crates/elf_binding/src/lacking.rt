@@ -8,12 +8,12 @@ ghost use Rattle.elf_loader.specs.Tables.{most_versions};
 ghost use Rattle.elf_model.specs.BoundSymbols.{lacks_version};
 ghost use Rattle.elf_model.specs.Loader.{Version};
 ghost use Rattle.elf_model.specs.LoaderScope.{Scope as IsScopeOf};
-ghost use Rattle.elf_scope.specs.Symbols.{IsSymbols, SymbolsLie};
+ghost use Rattle.elf_lookup_tables.specs.Symbols.{IsSymbols, SymbolsLie};
 
 use elf_headers::Fault;
 use elf_loader::wanted_numbers;
+use elf_lookup_tables::{RecordTable, Symbols};
 use elf_record::VersionKind;
-use elf_scope::{RecordTable, Symbols};
 use elf_source::{Counted, Source};
 use elf_wanted::Asked;
 

@@ -15,7 +15,7 @@ use crate::sought::{SoughtSymbol, sought_of, whole_name};
 use crate::spending::take_off;
 use elf_hash::HashTable;
 use elf_headers::{Fault, HeaderStore};
-use elf_scope::{Scope, find_scope};
+use elf_lookup_tables::{Scope, find_scope};
 use elf_source::{Counted, Source};
 use elf_table::NameBuf;
 use elf_versions::VersionRecord;

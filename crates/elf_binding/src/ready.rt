@@ -4,14 +4,14 @@ ghost use Rattle.elf_binding.specs.Ready.{HasNoNul, NamesEnd, TellsReady, ready_
 ghost use Rattle.elf_hash.specs.Scopes.{place_of_table};
 ghost use Rattle.elf_headers.specs.Ledger.{Did, why_stopped};
 ghost use Rattle.elf_model.specs.LoaderScope.{Scope as IsScopeOf};
-ghost use Rattle.elf_scope.specs.Scopes.{IsScope, ScopeLies};
-ghost use Rattle.elf_scope.specs.Symbols.{RecordsWithin};
+ghost use Rattle.elf_lookup_tables.specs.Scopes.{IsScope, ScopeLies};
+ghost use Rattle.elf_lookup_tables.specs.Symbols.{RecordsWithin};
 ghost use Rattle.elf_wanted.specs.Wants.{asked_of};
 
 use elf_hash::{HashTable, counts};
 use elf_headers::Fault;
 use elf_loader::wanted_numbers;
-use elf_scope::{RecordTable, Scope};
+use elf_lookup_tables::{RecordTable, Scope};
 use elf_source::{Counted, Source};
 use elf_wanted::Asked;
 

@@ -10,15 +10,15 @@ ghost use Rattle.elf_model.specs.Loader.{Symbols as AreSymbolsOf, is_among, read
 ghost use Rattle.elf_model.specs.Names.{name_bytes};
 ghost use Rattle.elf_model.specs.Numbers.{STB_GLOBAL, STB_WEAK, STB_GNU_UNIQUE};
 ghost use Rattle.elf_record.specs.Sym.{IsSym};
-ghost use Rattle.elf_scope.specs.Symbols.{IsSymbols, SymbolsLie};
+ghost use Rattle.elf_lookup_tables.specs.Symbols.{IsSymbols, SymbolsLie};
 ghost use Rattle.elf_table.specs.Tables.{StringsWithin, strings_in};
 
 use elf_headers::{Cap, Fault, refused};
 use elf_loader::{name_of, read_half};
+use elf_lookup_tables::Symbols;
 use elf_record::gnu_numbers::STB_GNU_UNIQUE;
 use elf_record::numbers::{SHN_UNDEF, STB_GLOBAL, STB_WEAK};
 use elf_record::{Cause, Sym};
-use elf_scope::Symbols;
 use elf_source::{Counted, Source};
 use elf_table::{NameBuf, NameEnd, Names};
 use elf_versions::VersionRecord;

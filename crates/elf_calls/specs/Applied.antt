@@ -10,7 +10,7 @@ use Rattle.elf_calls.specs.Told.{IsStatus, Untouched}
 use Rattle.elf_calls.specs.Wants.{IsWanting}
 use Rattle.elf_calls.specs.declared.applied.WantedSection.{WantedSection}
 use Rattle.elf_calls.specs.declared.items.Job.{Job}
-use Rattle.elf_rows.specs.declared.end.End.{End}
+use Rattle.elf_memory_rows.specs.declared.end.End.{End}
 use Rattle.elf_calls.specs.declared.limits.CallerLimits.{CallerLimits}
 use Rattle.elf_calls.specs.declared.told.Told.{Told}
 use Rattle.elf_calls.specs.declared.told.Told.TheVariants.{Done, Refused, Full, BadCall}

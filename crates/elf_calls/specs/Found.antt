@@ -7,12 +7,12 @@ use Rattle.elf_model.specs.declared.causes.Refusal.{Refusal}
 use Rattle.elf_hash.specs.Lookups.{AnswersSysvLookup}
 use Rattle.elf_hash.specs.declared.lookup.Lookup.{Lookup}
 use Rattle.elf_hash.specs.declared.lookup.Lookup.TheVariants.{Found, Absent}
-use Rattle.elf_rows.specs.Ends.{TellsCause, TellsNone}
+use Rattle.elf_memory_rows.specs.Ends.{TellsCause, TellsNone}
 use Rattle.elf_calls.specs.Limits.{AreInRange, budget_of, headers_of}
-use Rattle.elf_rows.specs.Symbols.{HasFields}
-use Rattle.elf_rows.specs.declared.symbol.Symbol.{Symbol}
+use Rattle.elf_memory_rows.specs.Symbols.{HasFields}
+use Rattle.elf_memory_rows.specs.declared.symbol.Symbol.{Symbol}
 use Rattle.elf_calls.specs.Wants.{IsWanting}
-use Rattle.elf_rows.specs.declared.end.End.{End}
+use Rattle.elf_memory_rows.specs.declared.end.End.{End}
 use Rattle.elf_calls.specs.declared.found.LookupNumbers.{LookupNumbers}
 use Rattle.elf_calls.specs.declared.limits.CallerLimits.{CallerLimits}
 

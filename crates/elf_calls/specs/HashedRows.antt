@@ -4,12 +4,12 @@ use Rattle.elf_model.specs.Budget.{IsBudget}
 use Rattle.elf_model.specs.Style.{looked_at}
 use Rattle.elf_model.specs.declared.causes.Refusal.{Refusal}
 use Rattle.elf_headers.specs.declared.fault.Fault.TheVariants.{Refused}
-use Rattle.elf_rows.specs.Hashed.{TellsHashedRows, hashed_cost}
-use Rattle.elf_rows.specs.declared.rows.RowsLeft.{RowsLeft}
+use Rattle.elf_memory_rows.specs.Hashed.{TellsHashedRows, hashed_cost}
+use Rattle.elf_memory_rows.specs.declared.rows.RowsLeft.{RowsLeft}
 use Rattle.elf_calls.specs.Limits.{AreInRange, budget_of, headers_of}
-use Rattle.elf_rows.specs.Ends.{IsOpenedTable}
+use Rattle.elf_memory_rows.specs.Ends.{IsOpenedTable}
 use Rattle.elf_calls.specs.Wants.{IsWanting}
-use Rattle.elf_rows.specs.declared.end.End.{End}
+use Rattle.elf_memory_rows.specs.declared.end.End.{End}
 use Rattle.elf_calls.specs.declared.limits.CallerLimits.{CallerLimits}
 
 -- such symbols within a budget, in a file of so many bytes: a place before the first; or the refusal, which comes for want of budget

@@ -19,7 +19,7 @@ use Rattle.elf_layout.specs.declared.addresses.LentLayout.{LentLayout}
 use Rattle.elf_calls.specs.Applied.{AppliesFor}
 use Rattle.elf_calls.specs.Limits.{AreInRange, budget_of, headers_of}
 use Rattle.elf_calls.specs.Told.{IsStatus, Untouched}
-use Rattle.elf_rows.specs.declared.end.End.{End}
+use Rattle.elf_memory_rows.specs.declared.end.End.{End}
 use Rattle.elf_calls.specs.declared.lent_layout.CallerLayout.{CallerLayout}
 use Rattle.elf_calls.specs.declared.limits.CallerLimits.{CallerLimits}
 use Rattle.elf_calls.specs.declared.missing.CallerMissing.{CallerMissing}

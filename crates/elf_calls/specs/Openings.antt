@@ -1,12 +1,12 @@
 -- What opening a table of a file in memory answers, where limits and room are in their ranges.
 use Rattle.std.specs.Prelude.{ℕ, List, Option, None, Some, Result}
 use Rattle.elf_model.specs.declared.causes.Refusal.{Refusal}
-use Rattle.elf_rows.specs.Openings.{ReadsSectionNames, ReadsRows}
-use Rattle.elf_rows.specs.VersionRecords.{ReadsRecords}
-use Rattle.elf_rows.specs.declared.kind.RowKind.{RowKind}
+use Rattle.elf_memory_rows.specs.Openings.{ReadsSectionNames, ReadsRows}
+use Rattle.elf_memory_rows.specs.VersionRecords.{ReadsRecords}
+use Rattle.elf_memory_rows.specs.declared.kind.RowKind.{RowKind}
 use Rattle.elf_memory.specs.declared.name.ByteRange.{ByteRange}
-use Rattle.elf_rows.specs.declared.records.RecordsLeft.{RecordsLeft}
-use Rattle.elf_rows.specs.declared.rows.RowsLeft.{RowsLeft}
+use Rattle.elf_memory_rows.specs.declared.records.RecordsLeft.{RecordsLeft}
+use Rattle.elf_memory_rows.specs.declared.rows.RowsLeft.{RowsLeft}
 use Rattle.elf_calls.specs.Limits.{AreInRange, headers_of}
 use Rattle.elf_calls.specs.declared.limits.CallerLimits.{CallerLimits}
 

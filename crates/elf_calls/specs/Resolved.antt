@@ -14,15 +14,15 @@ use Rattle.elf_model.specs.LoaderFind.{loader_cost, loader_looked}
 use Rattle.elf_model.specs.Style.{looked_at}
 use Rattle.elf_model.specs.Versions.{number_in}
 use Rattle.elf_model.specs.declared.causes.Refusal.{Refusal}
-use Rattle.elf_rows.specs.Symbols.{HasFields}
+use Rattle.elf_memory_rows.specs.Symbols.{HasFields}
 use Rattle.elf_table.specs.declared.names.NameEnd.{NameEnd}
 use Rattle.elf_table.specs.declared.names.NameEnd.TheVariants.{Whole, Cut}
 use Rattle.elf_calls.specs.Found.{no_symbol}
-use Rattle.elf_rows.specs.Ends.{TellsCause, TellsNone}
+use Rattle.elf_memory_rows.specs.Ends.{TellsCause, TellsNone}
 use Rattle.elf_calls.specs.Limits.{AreInRange, budget_of, headers_of}
 use Rattle.elf_calls.specs.Queries.{QueryAsked, IsPermitted, goes_by_segments, wanted_by}
 use Rattle.elf_calls.specs.Wants.{IsWanting}
-use Rattle.elf_rows.specs.declared.end.End.{End}
+use Rattle.elf_memory_rows.specs.declared.end.End.{End}
 use Rattle.elf_calls.specs.declared.limits.CallerLimits.{CallerLimits}
 use Rattle.elf_calls.specs.declared.resolved.Resolved.{Resolved}
 

@@ -9,7 +9,7 @@ use Rattle.elf_headers.specs.declared.caps.Caps.{Caps}
 use Rattle.elf_calls.specs.Asked.{AsksListing, LentTexts, parts_in, style_in}
 use Rattle.elf_calls.specs.Limits.{AreCaps, budget_of, headers_of}
 use Rattle.elf_calls.specs.Told.{IsStatus, Untouched}
-use Rattle.elf_rows.specs.declared.end.End.{End}
+use Rattle.elf_memory_rows.specs.declared.end.End.{End}
 use Rattle.elf_calls.specs.declared.limits.CallerLimits.{CallerLimits}
 use Rattle.elf_calls.specs.declared.told.Told.{Told}
 use Rattle.elf_calls.specs.declared.told.Told.TheVariants.{Done, Refused, Full, BadCall}

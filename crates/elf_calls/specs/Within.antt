@@ -2,13 +2,13 @@
 use Rattle.std.specs.Prelude.{ℕ, ◌≡◌, ◌+◌, ◌-◌, ◌*◌, ◌/◌, ◌^◌, ◌==◌, min, nat_lt, if◌then◌else◌, Option, None, Some, Result, Ok, Err}
 use Rattle.elf_model.specs.declared.causes.Cause.TheVariants.{Budget}
 use Rattle.elf_model.specs.declared.causes.Refusal.{Refusal}
-use Rattle.elf_rows.specs.ListedEntries.{ReadsListed}
-use Rattle.elf_rows.specs.Rows.{StepsRows, next_at, rows_left}
-use Rattle.elf_rows.specs.declared.rows.RowsLeft.{RowsLeft}
-use Rattle.elf_rows.specs.Causes.{cause_number}
-use Rattle.elf_rows.specs.Ends.{IsOpenedTable, no_end, refused_end}
+use Rattle.elf_memory_rows.specs.ListedEntries.{ReadsListed}
+use Rattle.elf_memory_rows.specs.Rows.{StepsRows, next_at, rows_left}
+use Rattle.elf_memory_rows.specs.declared.rows.RowsLeft.{RowsLeft}
+use Rattle.elf_memory_rows.specs.Causes.{cause_number}
+use Rattle.elf_memory_rows.specs.Ends.{IsOpenedTable, no_end, refused_end}
 use Rattle.elf_calls.specs.Limits.{budget_of}
-use Rattle.elf_rows.specs.declared.end.End.{End}
+use Rattle.elf_memory_rows.specs.declared.end.End.{End}
 use Rattle.elf_calls.specs.declared.limits.CallerLimits.{CallerLimits}
 
 -- how many bytes may still be read where so many were asked for: 2^64 - 1 where there is no budget

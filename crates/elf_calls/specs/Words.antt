@@ -2,7 +2,7 @@
 use Rattle.std.specs.Prelude.{ℕ, ◌≡◌, ◌<◌, ◌⊎◌, nat_lt, true, false, List, ◌++◌, length, drop, Option, None, Some}
 use Rattle.elf_model.specs.Causes.{cause_word}
 use Rattle.elf_model.specs.declared.causes.Cause.{Cause}
-use Rattle.elf_rows.specs.Causes.{cause_number}
+use Rattle.elf_memory_rows.specs.Causes.{cause_number}
 
 -- the cause of a number; none for 0, for the two numbers that no cause has, and for those above all causes
 abbrev pub IsNumbered : ℕ → Option Cause → Type 0

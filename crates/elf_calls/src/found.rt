@@ -2,7 +2,7 @@
 ghost use Rattle.std.specs.Prelude.{◌≡◌};
 ghost use Rattle.elf_calls.specs.Found.{no_symbol, nothing_behind};
 
-use elf_rows::Symbol;
+use elf_memory_rows::Symbol;
 
 /// What a lookup found; all 0 where it found nothing, but for the steps.
 #[repr(C)]

@@ -1,13 +1,13 @@
 //! The symbols that a loader knows of a file in memory.
 ghost use Rattle.std.specs.Prelude.{◌≤◌, IfSome, length};
 ghost use Rattle.elf_model.specs.Style.{looked_at};
-ghost use Rattle.elf_rows.specs.Hashed.{hashed_cost};
+ghost use Rattle.elf_memory_rows.specs.Hashed.{hashed_cost};
 ghost use Rattle.elf_calls.specs.HashedRows.{ReadsHashed};
 
 use crate::counts::short;
 use elf_headers::{Fault, HeaderStore};
+use elf_memory_rows::{RowsLeft, hashed_rows};
 use elf_record::Refusal;
-use elf_rows::{RowsLeft, hashed_rows};
 use elf_source::{Counted, MemorySource};
 
 /// Finds them within a read budget, where there is one: with `by_segments` by the program headers also

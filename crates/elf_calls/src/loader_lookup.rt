@@ -1,7 +1,7 @@
 //! A name looked up in a file in memory as a loader does, and what a caller is told of it.
 ghost use Rattle.std.specs.Prelude.{◌≡◌, ◌≤◌, IfSome, length};
 ghost use Rattle.elf_model.specs.LoaderFind.{loader_cost};
-ghost use Rattle.elf_rows.specs.Ends.{TellsNone};
+ghost use Rattle.elf_memory_rows.specs.Ends.{TellsNone};
 ghost use Rattle.elf_calls.specs.Queries.{IsPermitted, asks_of, wanted_by};
 ghost use Rattle.elf_calls.specs.Resolved.{ResolvesIn, TellsResolved, file_of, nothing_resolved};
 
@@ -10,8 +10,8 @@ use crate::query::Query;
 use crate::resolved::Resolved;
 use elf_headers::{Fault, HeaderStore};
 use elf_loader::{SymbolLookup, look_up};
+use elf_memory_rows::End;
 use elf_record::Refusal;
-use elf_rows::End;
 use elf_source::{Counted, MemorySource};
 use elf_table::NameBuf;
 

@@ -1,15 +1,15 @@
 //! A name looked up in a file in memory, and what a caller is told of it.
 ghost use Rattle.std.specs.Prelude.{◌≡◌, ◌≤◌, IfSome, length};
 ghost use Rattle.elf_model.specs.Find.{find_cost};
-ghost use Rattle.elf_rows.specs.Ends.{TellsNone};
+ghost use Rattle.elf_memory_rows.specs.Ends.{TellsNone};
 ghost use Rattle.elf_calls.specs.Found.{LooksIn, TellsLooked, nothing_behind};
 
 use crate::counts::short;
 use crate::found::LookupNumbers;
 use elf_hash::{Lookup, find};
 use elf_headers::{Fault, HeaderStore};
+use elf_memory_rows::{End, Symbol};
 use elf_record::Refusal;
-use elf_rows::{End, Symbol};
 use elf_source::{Counted, MemorySource};
 
 /// Looks a name of at most 4,096 bytes up within a read budget, where there is one.

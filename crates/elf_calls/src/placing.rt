@@ -3,7 +3,7 @@ ghost use Rattle.std.specs.Prelude.{◌≡◌, ◌+◌, ◌-◌, ◌≤◌, IfSo
 ghost use Rattle.elf_model.specs.ApplyCost.{apply_cost_by_order};
 ghost use Rattle.elf_explain.specs.Explained.{explain_bytes};
 ghost use Rattle.elf_calls.specs.Applied.{AppliesFor};
-ghost use Rattle.elf_rows.specs.Ends.{no_end};
+ghost use Rattle.elf_memory_rows.specs.Ends.{no_end};
 ghost use Rattle.elf_calls.specs.LentLayouts.{CountsWritten, ExplainsRefusal, ExplainsTold};
 
 use crate::applied::{WantedSection, write_section};
@@ -13,8 +13,8 @@ use crate::missing::CallerMissing;
 use crate::told::Told;
 use elf_explain::explain;
 use elf_headers::{Fault, HeaderStore};
+use elf_memory_rows::End;
 use elf_record::Refusal;
-use elf_rows::End;
 use elf_source::{Counted, MemorySource};
 use elf_table::NameBuf;
 

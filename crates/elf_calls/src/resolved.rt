@@ -5,7 +5,7 @@ ghost use Rattle.elf_calls.specs.Resolved.{HasSymbol, SameSymbol, TellsFoundVers
 use crate::found::no_symbol;
 use elf_loader::{FoundSymbol, FoundVersion, VersionName};
 use elf_memory::ByteRange;
-use elf_rows::Symbol;
+use elf_memory_rows::Symbol;
 use elf_table::NameEnd;
 
 /// What a loader's lookup found; all 0 where it found nothing, but for the symbols that were tried.

@@ -1,14 +1,14 @@
 //! Rows within a budget: how much of it they have left, and what they count.
 ghost use Rattle.std.specs.Prelude.{◌≡◌, ◌*◌, ◌/◌, ◌<◌, ◌≤◌, ℕ, IfSome, length, min, slice_index_or};
-ghost use Rattle.elf_rows.specs.Rows.{next_at};
+ghost use Rattle.elf_memory_rows.specs.Rows.{next_at};
 ghost use Rattle.elf_calls.specs.Limits.{budget_of};
 ghost use Rattle.elf_calls.specs.Within.{StepsBudgeted, asked_more, budget_left, entries_looked, step_end};
 
 use crate::counts::short;
 use crate::limits::{CallerLimits, budget_of};
+use elf_memory_rows::{End, RowsLeft, TableRow, next_rows};
 use elf_record::sizes::DYNAMIC_BYTES;
 use elf_record::{Cause, Refusal};
-use elf_rows::{End, RowsLeft, TableRow, next_rows};
 
 /// Reads the next rows to the front of `out` and steps over them, as [`next_rows`] does, and no more
 /// than the budget of the limits has left; answers how many. Their bytes count in `asked`. Where more

@@ -1,11 +1,11 @@
 //! What a caller is told of a listing, or of a section with its relocations applied.
 ghost use Rattle.std.specs.Prelude.{◌≡◌};
-ghost use Rattle.elf_rows.specs.Ends.{TellsNone};
+ghost use Rattle.elf_memory_rows.specs.Ends.{TellsNone};
 ghost use Rattle.elf_calls.specs.Told.{IsStatus, told_from};
 
 use elf_headers::Stop;
+use elf_memory_rows::End;
 use elf_record::Refusal;
-use elf_rows::End;
 
 /// What a call that writes to memory did.
 #[derive(Clone, Copy)]

@@ -8,7 +8,7 @@ use Rattle.elf_model.specs.Checks.{Check, first_refusal, length_checks, ident_ch
 use Rattle.elf_model.specs.Cost.{cost_where}
 use Rattle.elf_model.specs.declared.causes.Refusal.{Refusal}
 use Rattle.elf_model.proofs.CheckSteps.{first_refusal-none}
-use Rattle.elf_model.proofs.CostLemmas.{cost_where-le}
+use Rattle.elf_model.proofs.SumLemmas.{cost_where-le}
 use Rattle.elf_record.specs.Ehdr.{IsEhdr}
 use Rattle.elf_record.specs.declared.ehdr.Ehdr.{Ehdr}
 use Rattle.elf_source.specs.Source.{Counting, Reads, Seen}

@@ -15,7 +15,8 @@ use Rattle.elf_model.specs.Numbers.{PT_DYNAMIC}
 use Rattle.elf_model.specs.Records.{e_shnum, e_phnum, sh_offset, sh_size, p_type, p_offset, p_filesz, section_at, segment_at}
 use Rattle.elf_model.specs.declared.causes.Cause.TheVariants.{SizeNotWhole, TableOutside}
 use Rattle.elf_model.proofs.CheckSteps.{first_refusal-none, passes_front}
-use Rattle.elf_model.proofs.CostLemmas.{cost_where-le, cost_where-within, sum_over-le, sums_grow, tables_by, headers_none}
+use Rattle.elf_model.proofs.CostLemmas.{tables_by, headers_none}
+use Rattle.elf_model.proofs.SumLemmas.{cost_where-le, cost_where-within, sum_over-le, sums_grow}
 use Rattle.elf_model.proofs.StoreLemmas.{rows_cost, segments_cost_rows, by_kind, any_rows, any_segments, sections_counted, places_decide_nothing}
 use Rattle.elf_record.specs.Ehdr.{IsEhdr}
 use Rattle.elf_record.specs.declared.ehdr.Ehdr.{Ehdr}

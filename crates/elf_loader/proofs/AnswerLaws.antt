@@ -14,9 +14,9 @@ use Rattle.elf_headers.specs.declared.fault.Fault.TheVariants.{Refused, Source}
 use Rattle.elf_table.specs.Cursors.{row_at}
 use Rattle.elf_table.specs.NamesRead.{Refuses as RefusesName}
 use Rattle.elf_table.specs.Tables.{strings_in}
-use Rattle.elf_scope.specs.Symbols.{AreWords, IsSymbols}
-use Rattle.elf_scope.specs.declared.symbols.Symbols.{Symbols}
-use Rattle.elf_scope.specs.declared.symbols.VersionWords.{VersionWords}
+use Rattle.elf_lookup_tables.specs.Symbols.{AreWords, IsSymbols}
+use Rattle.elf_lookup_tables.specs.declared.symbols.Symbols.{Symbols}
+use Rattle.elf_lookup_tables.specs.declared.symbols.VersionWords.{VersionWords}
 use Rattle.elf_hash.specs.Trials.{Tries}
 use Rattle.elf_hash.specs.declared.answer.TrialAnswer.{TrialAnswer}
 use Rattle.elf_loader.specs.Answering.{SaysOf, StandsAs, TellsAnswer, TellsFit}

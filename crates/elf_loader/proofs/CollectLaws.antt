@@ -8,8 +8,8 @@ use Rattle.elf_headers.specs.Ledger.{Charges}
 use Rattle.elf_headers.specs.declared.fault.Fault.{Fault}
 use Rattle.elf_headers.specs.declared.fault.Fault.TheVariants.{Refused, Source}
 use Rattle.elf_headers.proofs.LedgerLaws.{Charges-more}
-use Rattle.elf_scope.specs.Symbols.{AreWords}
-use Rattle.elf_scope.specs.declared.symbols.VersionWords.{VersionWords}
+use Rattle.elf_lookup_tables.specs.Symbols.{AreWords}
+use Rattle.elf_lookup_tables.specs.declared.symbols.VersionWords.{VersionWords}
 use Rattle.elf_loader.specs.Comparing.{Collects, Compares}
 use Rattle.elf_loader.specs.NumberSets.{has_number}
 

@@ -18,8 +18,8 @@ use Rattle.elf_headers.specs.Ledger.{Charges}
 use Rattle.elf_headers.specs.declared.fault.Fault.{Fault}
 use Rattle.elf_headers.specs.declared.fault.Fault.TheVariants.{Refused, Source}
 use Rattle.elf_headers.proofs.LedgerLaws.{Charges-more, Charges-none}
-use Rattle.elf_scope.specs.Symbols.{AreWords, IsWords}
-use Rattle.elf_scope.specs.declared.symbols.VersionWords.{VersionWords as Words}
+use Rattle.elf_lookup_tables.specs.Symbols.{AreWords, IsWords}
+use Rattle.elf_lookup_tables.specs.declared.symbols.VersionWords.{VersionWords as Words}
 use Rattle.elf_table.specs.Cursors.{row_at}
 use Rattle.elf_loader.specs.Finding.{FindsVersion, IsVersionFound, LookupSpends, StandsTold, name_shown}
 use Rattle.elf_loader.specs.Telling.{TellsVersionName, told_bytes}

@@ -9,8 +9,8 @@ use Rattle.elf_model.specs.declared.causes.Cause.TheVariants.{VersionCut}
 use Rattle.elf_model.specs.declared.causes.Refusal.{Refusal}
 use Rattle.elf_model.proofs.ReadingLaws.{stands-next}
 use Rattle.elf_model.proofs.VersionSteps.{ends-inside, met-ended, met-most, met-record, met-refused}
-use Rattle.elf_scope.specs.Symbols.{IsRecordTable}
-use Rattle.elf_scope.specs.declared.symbols.RecordTable.{RecordTable as Given}
+use Rattle.elf_lookup_tables.specs.Symbols.{IsRecordTable}
+use Rattle.elf_lookup_tables.specs.declared.symbols.RecordTable.{RecordTable as Given}
 use Rattle.elf_versions.specs.Reading.{GivesVersion, LeadsOn, StartsVersions, Walking, stand_of, versions_left}
 use Rattle.elf_versions.specs.declared.record.VersionRecord.{VersionRecord}
 use Rattle.elf_versions.specs.declared.stepping.Standing.{Standing}

@@ -25,9 +25,9 @@ use Rattle.elf_hash.specs.declared.kind.HashKind.TheVariants.{Gnu, Sysv}
 use Rattle.elf_hash.specs.declared.table.HashTable.{HashTable}
 use Rattle.elf_hash.specs.declared.walked.Walked.{Walked}
 use Rattle.elf_hash.proofs.ScopeLaws.{walk_in_is}
-use Rattle.elf_scope.specs.Finding.{scope_cost}
-use Rattle.elf_scope.specs.Scopes.{IsScopeFound, IsScope}
-use Rattle.elf_scope.specs.declared.scope.Scope.{Scope}
+use Rattle.elf_lookup_tables.specs.Finding.{scope_cost}
+use Rattle.elf_lookup_tables.specs.Scopes.{IsScopeFound, IsScope}
+use Rattle.elf_lookup_tables.specs.declared.scope.Scope.{Scope}
 use Rattle.elf_loader.specs.Answering.{StandsAs}
 use Rattle.elf_loader.specs.Comparing.{Collects}
 use Rattle.elf_loader.specs.Finding.{FindsVersion, IsVersionFound}

@@ -10,8 +10,8 @@ use Rattle.elf_headers.specs.Ledger.{Charges}
 use Rattle.elf_headers.specs.declared.fault.Fault.{Fault}
 use Rattle.elf_headers.specs.declared.fault.Fault.TheVariants.{Refused, Source}
 use Rattle.elf_headers.proofs.LedgerLaws.{Charges-more, Charges-then}
-use Rattle.elf_scope.specs.Symbols.{IsRecordTable}
-use Rattle.elf_scope.specs.declared.symbols.RecordTable.{RecordTable as Given}
+use Rattle.elf_lookup_tables.specs.Symbols.{IsRecordTable}
+use Rattle.elf_lookup_tables.specs.declared.symbols.RecordTable.{RecordTable as Given}
 use Rattle.elf_versions.specs.Reading.{SpendsRecord, StartsVersions, TellsVersion, Walking, versions_left}
 use Rattle.elf_loader.specs.Naming.{HasFile, IsFileIf, NamedAs, NamesBefore, NamesFile, NamesFileBehind}
 use Rattle.elf_versions.specs.declared.record.VersionRecord.{VersionRecord}

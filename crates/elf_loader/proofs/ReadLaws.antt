@@ -14,9 +14,9 @@ use Rattle.elf_model.specs.declared.causes.Refusal.{Refusal}
 use Rattle.elf_model.specs.declared.versions.VersionKind.{VersionKind}
 use Rattle.elf_model.specs.declared.versions.VersionKind.TheVariants.{Definition, File, Need}
 use Rattle.elf_hash.specs.Walks.{walk_bytes}
-use Rattle.elf_scope.specs.Symbols.{RecordsWithin, SymbolsLie}
-use Rattle.elf_scope.specs.declared.symbols.RecordTable.{RecordTable}
-use Rattle.elf_scope.specs.declared.symbols.Symbols.{Symbols}
+use Rattle.elf_lookup_tables.specs.Symbols.{RecordsWithin, SymbolsLie}
+use Rattle.elf_lookup_tables.specs.declared.symbols.RecordTable.{RecordTable}
+use Rattle.elf_lookup_tables.specs.declared.symbols.Symbols.{Symbols}
 use Rattle.elf_loader.specs.Comparing.{comparing_bytes}
 use Rattle.elf_loader.specs.Finding.{LookupSpends}
 use Rattle.elf_loader.specs.Lookups.{lookup_bytes, trial_bytes}

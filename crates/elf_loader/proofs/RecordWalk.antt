@@ -7,8 +7,8 @@ use Rattle.elf_model.specs.declared.causes.Refusal.{Refusal}
 use Rattle.elf_model.specs.declared.versions.VersionKind.{VersionKind}
 use Rattle.elf_model.specs.declared.versions.VersionKind.TheVariants.{Definition, File, Need}
 use Rattle.elf_headers.specs.declared.fault.Fault.{Fault}
-use Rattle.elf_scope.specs.Symbols.{IsRecordTable}
-use Rattle.elf_scope.specs.declared.symbols.RecordTable.{RecordTable as Given}
+use Rattle.elf_lookup_tables.specs.Symbols.{IsRecordTable}
+use Rattle.elf_lookup_tables.specs.declared.symbols.RecordTable.{RecordTable as Given}
 use Rattle.elf_table.specs.Tables.{strings_in}
 use Rattle.elf_versions.specs.Reading.{GivesVersion, HeldTable, KeepsWalk, LeadsOn, LeavesWalk, SpendsRecord, StartsVersions, Walking, bytes_each, unheld, unread, versions_left}
 use Rattle.elf_versions.specs.declared.record.VersionRecord.{VersionRecord}

@@ -8,8 +8,8 @@ use Rattle.elf_headers.specs.Ledger.{Charges}
 use Rattle.elf_headers.specs.declared.fault.Fault.{Fault}
 use Rattle.elf_headers.specs.declared.fault.Fault.TheVariants.{Refused, Source}
 use Rattle.elf_headers.proofs.LedgerLaws.{Charges-more}
-use Rattle.elf_scope.specs.Symbols.{IsRecordTable}
-use Rattle.elf_scope.specs.declared.symbols.RecordTable.{RecordTable as Given}
+use Rattle.elf_lookup_tables.specs.Symbols.{IsRecordTable}
+use Rattle.elf_lookup_tables.specs.declared.symbols.RecordTable.{RecordTable as Given}
 use Rattle.elf_versions.specs.Reading.{SpendsRecord, StartsVersions, TellsVersion, Walking, versions_left}
 use Rattle.elf_loader.specs.Comparing.{ComparedAs, Compares, ComparesOne}
 use Rattle.elf_loader.proofs.CompareLaws.{as-none, as-then, compared-reads, missed-refuses, refused-reads, refused-refuses}

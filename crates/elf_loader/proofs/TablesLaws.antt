@@ -6,8 +6,8 @@ use Rattle.elf_headers.specs.Ledger.{Charges}
 use Rattle.elf_headers.specs.declared.fault.Fault.{Fault}
 use Rattle.elf_headers.specs.declared.fault.Fault.TheVariants.{Refused, Source}
 use Rattle.elf_headers.proofs.LedgerLaws.{Charges-more, Charges-then}
-use Rattle.elf_scope.specs.Symbols.{AreRecordTables, IsRecordTable}
-use Rattle.elf_scope.specs.declared.symbols.RecordTable.{RecordTable}
+use Rattle.elf_lookup_tables.specs.Symbols.{AreRecordTables, IsRecordTable}
+use Rattle.elf_lookup_tables.specs.declared.symbols.RecordTable.{RecordTable}
 use Rattle.elf_loader.specs.Comparing.{Compares}
 use Rattle.elf_loader.specs.Tables.{readings_before}
 use Rattle.elf_loader.proofs.CompareLaws.{as-none, as-then}

@@ -5,10 +5,10 @@ use Rattle.elf_model.specs.declared.causes.Refusal.{Refusal}
 use Rattle.elf_record.specs.Sym.{IsSym}
 use Rattle.elf_model.specs.Bytes.{field}
 use Rattle.elf_model.specs.Loader.{Symbols as AreSymbolsOf, Wanted, answers}
-use Rattle.elf_scope.specs.Symbols.{IsSymbols}
+use Rattle.elf_lookup_tables.specs.Symbols.{IsSymbols}
 use Rattle.elf_table.specs.Cursors.{row_at}
-use Rattle.elf_scope.specs.declared.symbols.Symbols.{Symbols}
-use Rattle.elf_scope.specs.declared.symbols.VersionWords.{VersionWords}
+use Rattle.elf_lookup_tables.specs.declared.symbols.Symbols.{Symbols}
+use Rattle.elf_lookup_tables.specs.declared.symbols.VersionWords.{VersionWords}
 use Rattle.elf_hash.specs.declared.answer.TrialAnswer.{TrialAnswer}
 use Rattle.elf_loader.specs.declared.fitting.Fit.{Fit}
 use Rattle.elf_headers.specs.declared.fault.Fault.{Fault}

@@ -12,8 +12,8 @@ use Rattle.elf_source.specs.Source.{Counting}
 use Rattle.elf_headers.specs.Ledger.{Charges, Did, why_stopped}
 use Rattle.elf_headers.specs.declared.fault.Fault.{Fault}
 use Rattle.elf_headers.specs.declared.fault.Fault.TheVariants.{Refused, Source}
-use Rattle.elf_scope.specs.Scopes.{IsScope, ScopeLies}
-use Rattle.elf_scope.specs.declared.scope.Scope.{Scope as ScopeCode}
+use Rattle.elf_lookup_tables.specs.Scopes.{IsScope, ScopeLies}
+use Rattle.elf_lookup_tables.specs.declared.scope.Scope.{Scope as ScopeCode}
 use Rattle.elf_loader.specs.Finding.{StandsTold, version_found}
 use Rattle.elf_loader.specs.Telling.{told_bytes}
 use Rattle.elf_loader.specs.declared.lookup.SymbolLookup.{SymbolLookup}

@@ -2,9 +2,9 @@
 use Rattle.std.specs.Prelude.{ℕ, ◌+◌, List, [], ◌∷◌, ◌++◌, Option, None, Some}
 use Rattle.elf_model.specs.Loader.{RecordTable as IsTableOf, RecordReading, readings, readings_of}
 use Rattle.elf_model.specs.Versions.{most_records}
-use Rattle.elf_scope.specs.Symbols.{AreRecordTables, IsRecordTable, table_if_any}
-use Rattle.elf_scope.specs.declared.symbols.RecordTable.{RecordTable}
-use Rattle.elf_scope.specs.declared.symbols.Symbols.{Symbols}
+use Rattle.elf_lookup_tables.specs.Symbols.{AreRecordTables, IsRecordTable, table_if_any}
+use Rattle.elf_lookup_tables.specs.declared.symbols.RecordTable.{RecordTable}
+use Rattle.elf_lookup_tables.specs.declared.symbols.Symbols.{Symbols}
 
 -- the records that a walk over some tables reads, in front of others
 unfoldable pub readings_before : List ℕ → List IsTableOf → List RecordReading → List RecordReading

@@ -6,14 +6,14 @@ ghost use Rattle.elf_loader.specs.NumberSets.{has_number};
 ghost use Rattle.elf_wanted.specs.Wants.{the_wanted};
 ghost use Rattle.elf_model.specs.Loader.{Symbols as AreSymbolsOf, answers};
 ghost use Rattle.elf_model.specs.Names.{pad64};
-ghost use Rattle.elf_scope.specs.Symbols.{IsSymbols, SymbolsLie};
+ghost use Rattle.elf_lookup_tables.specs.Symbols.{IsSymbols, SymbolsLie};
 
 use crate::fitting::version_fits;
 use crate::number_set::NumberSet;
 use crate::offered::is_offered;
 use elf_hash::{Trial, TrialAnswer};
 use elf_headers::Fault;
-use elf_scope::Symbols;
+use elf_lookup_tables::Symbols;
 use elf_source::{Counted, Source};
 use elf_wanted::Wanted;
 

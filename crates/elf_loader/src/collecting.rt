@@ -7,12 +7,12 @@ ghost use Rattle.elf_wanted.specs.Wants.{asked_of};
 ghost use Rattle.elf_model.specs.Loader.{asked_name};
 ghost use Rattle.elf_model.specs.LoaderFind.{record_cost, wanted_numbers};
 ghost use Rattle.elf_model.specs.LoaderScope.{Scope as IsScopeOf};
-ghost use Rattle.elf_scope.specs.Symbols.{IsSymbols, RecordsWithin, SymbolsLie};
+ghost use Rattle.elf_lookup_tables.specs.Symbols.{IsSymbols, RecordsWithin, SymbolsLie};
 
 use crate::comparing::compare_table;
 use crate::number_set::NumberSet;
 use elf_headers::Fault;
-use elf_scope::{RecordTable, Symbols};
+use elf_lookup_tables::{RecordTable, Symbols};
 use elf_source::{Counted, Source};
 use elf_wanted::Asked;
 

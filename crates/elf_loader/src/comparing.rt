@@ -6,14 +6,14 @@ ghost use Rattle.elf_loader.specs.Tables.{OfTable};
 ghost use Rattle.elf_model.specs.Loader.{RecordReading, Meets, compared_with};
 ghost use Rattle.elf_model.specs.Names.{pad64};
 ghost use Rattle.elf_model.specs.Versions.{Met, VERSION_NUMBERS, most_records, number_in};
-ghost use Rattle.elf_scope.specs.Symbols.{RecordsWithin};
+ghost use Rattle.elf_lookup_tables.specs.Symbols.{RecordsWithin};
 ghost use Rattle.elf_table.specs.Tables.{StringsWithin, strings_in};
 ghost use Rattle.elf_versions.specs.Reading.{IsVersion};
 
 use crate::number_set::NumberSet;
 use elf_headers::Fault;
+use elf_lookup_tables::RecordTable;
 use elf_record::version_number;
-use elf_scope::RecordTable;
 use elf_source::{Counted, Source};
 use elf_table::Names;
 use elf_versions::{VersionCursor, VersionRecord};

@@ -6,14 +6,14 @@ ghost use Rattle.elf_loader.specs.NumberSets.{has_number};
 ghost use Rattle.elf_wanted.specs.Wants.{asked_of};
 ghost use Rattle.elf_model.specs.Bytes.{field, slice};
 ghost use Rattle.elf_model.specs.Loader.{VersionWords as AreWordsOf, fits, version_fits};
-ghost use Rattle.elf_scope.specs.Symbols.{AreWords};
+ghost use Rattle.elf_lookup_tables.specs.Symbols.{AreWords};
 ghost use Rattle.elf_table.specs.Tables.{RowsWithin};
 ghost use Rattle.std.specs.Prelude.{Option};
 
 use crate::number_set::NumberSet;
 use elf_headers::{Fault, fill, refused};
+use elf_lookup_tables::VersionWords;
 use elf_record::{Cause, u16_at};
-use elf_scope::VersionWords;
 use elf_source::{Counted, Source};
 use elf_wanted::Asked;
 

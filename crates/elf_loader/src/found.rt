@@ -9,13 +9,13 @@ ghost use Rattle.elf_wanted.specs.Wants.{asked_of};
 ghost use Rattle.elf_model.specs.Loader.{VersionWords as AreWordsOf, version_word_at};
 ghost use Rattle.elf_model.specs.LoaderScope.{Scope as IsScopeOf};
 ghost use Rattle.elf_model.specs.Records.{versym};
-ghost use Rattle.elf_scope.specs.Symbols.{IsSymbols, IsWords, SymbolsLie};
+ghost use Rattle.elf_lookup_tables.specs.Symbols.{IsSymbols, IsWords, SymbolsLie};
 
 use crate::telling::told_name;
 use elf_hash::FoundInChain;
 use elf_headers::Fault;
+use elf_lookup_tables::{Symbols, VersionWords};
 use elf_record::version_number;
-use elf_scope::{Symbols, VersionWords};
 use elf_source::{Counted, Source};
 use elf_table::{NameBuf, NameEnd};
 use elf_wanted::Asked;

@@ -13,7 +13,7 @@ ghost use Rattle.elf_model.specs.Loader.{asked_name};
 ghost use Rattle.elf_model.specs.LoaderFind.{loaded_in, looked_by, record_cost, walk_in};
 ghost use Rattle.elf_model.specs.LoaderFind.{wanted_numbers};
 ghost use Rattle.elf_model.specs.Style.{looked_at};
-ghost use Rattle.elf_scope.specs.Scopes.{ScopeLies};
+ghost use Rattle.elf_lookup_tables.specs.Scopes.{ScopeLies};
 ghost use Rattle.elf_wanted.specs.Wants.{asked_of, the_wanted};
 
 use crate::answering::WantedTrial;
@@ -23,7 +23,7 @@ use crate::lookup::{FoundSymbol, SymbolLookup};
 use crate::number_set::NumberSet;
 use elf_hash::{HashTable, Walked, counts, walk};
 use elf_headers::{Fault, HeaderStore};
-use elf_scope::{Scope, find_scope};
+use elf_lookup_tables::{Scope, find_scope};
 use elf_source::{Counted, Source};
 use elf_table::NameBuf;
 use elf_wanted::Wanted;

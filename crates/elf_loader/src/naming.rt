@@ -4,12 +4,12 @@ ghost use Rattle.elf_loader.specs.Naming.{HasFile, IsFileIf, NamedLies, NamesFil
 ghost use Rattle.elf_loader.specs.Tables.{OfAnyTable, OfTable, OfTables, most_of, most_versions};
 ghost use Rattle.elf_model.specs.BoundSymbols.{file_before, file_or};
 ghost use Rattle.elf_model.specs.Versions.{Met, most_records, names_number};
-ghost use Rattle.elf_scope.specs.Symbols.{RecordsWithin, SymbolsLie};
+ghost use Rattle.elf_lookup_tables.specs.Symbols.{RecordsWithin, SymbolsLie};
 ghost use Rattle.elf_versions.specs.Reading.{IsVersion};
 
 use elf_headers::Fault;
+use elf_lookup_tables::{RecordTable, Symbols};
 use elf_record::{VersionKind, version_number};
-use elf_scope::{RecordTable, Symbols};
 use elf_source::{Counted, Source};
 use elf_table::Names;
 use elf_versions::{VersionCursor, VersionRecord};

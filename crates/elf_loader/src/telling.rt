@@ -5,12 +5,12 @@ ghost use Rattle.elf_loader.specs.Tables.{most_versions};
 ghost use Rattle.elf_loader.specs.Telling.{TellsVersionName, told_bytes};
 ghost use Rattle.elf_model.specs.Loader.{VersionWords as AreWordsOf, naming_of, readings, version_word_at};
 ghost use Rattle.elf_model.specs.LoaderScope.{Scope as IsScopeOf};
-ghost use Rattle.elf_scope.specs.Symbols.{IsSymbols, SymbolsLie};
+ghost use Rattle.elf_lookup_tables.specs.Symbols.{IsSymbols, SymbolsLie};
 
 use crate::naming::name_of;
 use elf_headers::{Cap, Fault, refused};
+use elf_lookup_tables::Symbols;
 use elf_record::Cause;
-use elf_scope::Symbols;
 use elf_source::{Counted, Source};
 use elf_table::{NameBuf, NameEnd};
 

@@ -21,53 +21,13 @@ use Rattle.elf_model.specs.Style.{Style, viewed}
 use Rattle.elf_model.specs.Suffixes.{first_numbers}
 use Rattle.elf_model.proofs.CheckSteps.{all_pass, pass-behind}
 use Rattle.elf_model.proofs.StyleLemmas.{view_length}
+use Rattle.elf_model.proofs.SumLemmas.{sums_split, cost_where-le, cost_where-within, cost_where-and, sum_over-le, and-second, and-first, fewer, headers_within}
 use Rattle.elf_model.specs.SuffixLaws.{SuffixesAreWithinMost}
 use Rattle.elf_model.specs.CostLaws.{CostIsWithinCeiling, LastCostIsAdded, SumsGrow}
-
--- sums are put together
-pub sums_split : (amount : ℕ → ℕ) (first count more : ℕ)
-    → sum_over amount first (count + more) ≡ sum_over amount first count + sum_over amount (first + count) more
-unfolding sum_over
-sums_split amount first zero more = rw (zero-add more, add-zero first) (omega arith)
-sums_split amount first (suc count) more =
-    let step = sums_split amount (suc first) count more in
-    let place : suc first + count ≡ first + suc count = omega arith in
-    let total : suc count + more ≡ suc (count + more) = omega arith in
-    ap (λ n. sum_over amount first n) total
-    ∙ ap (λ rest. amount first + rest) (step ∙ ap (λ n. sum_over amount (suc first) count + sum_over amount n more) place)
-    ∙ omega arith
-
-pub last_cost : LastCostIsAdded
-unfolding sum_over
-last_cost amount first count =
-    let s = sums_split amount first count 1 in
-    s ∙ omega arith
-
-pub sums_grow : SumsGrow
-sums_grow amount first count more h =
-    let e : more ≡ count + (more - count) = omega arith in
-    let s = sums_split amount first count (more - count) in
-    let t = ap (λ n. sum_over amount first n) e in
-    omega arith
 
 -- what one table costs at most, in a file of so many bytes
 abbrev pub table_bound : ℕ → ℕ → ℕ
 table_bound size cap = size + size / 16 * (32 + name_bytes cap)
-
-pub cost_where-le : (condition : Bool) (amount : ℕ) → cost_where condition amount ≤ amount
-cost_where-le true amount = omega arith
-cost_where-le false amount = omega arith
-
-pub cost_where-within : (condition : Bool) (amount bound : ℕ) → (condition ≡ true → amount ≤ bound) → cost_where condition amount ≤ bound
-cost_where-within true amount bound h = h refl
-cost_where-within false amount bound h = omega arith
-
--- entries are no more than those of 16 bytes would be
-fewer : (entry size table : ℕ) → 16 ≤ entry → table ≤ size → table / entry ≤ size / 16
-fewer entry size table e t =
-    let d : table / entry * entry ≤ table = div-mul-le_self table entry in
-    let m : table / entry * 16 ≤ table / entry * entry = mul-le-mul_left (table / entry) e in
-    le-div (table / entry) size 16 (omega arith) (omega arith)
 
 -- what the tables of one section header cost at most, with or without versions behind the names of symbols
 abbrev pub most_bound : Bool → (size cap : ℕ) → ℕ
@@ -116,11 +76,6 @@ table_within bytes at size place entry_size h =
     whole_within size (sh_offset bytes at) (sh_size bytes at) place entry_size
     (pass-second (not (sh_entsize bytes at == entry_size)) (record { at = place; cause = EntrySize }) (whole_checks_of size (sh_offset bytes at) (sh_size bytes at) place entry_size) h)
 
--- a cost under two conditions
-cost_where-and : (a b : Bool) (amount bound : ℕ) → (b ≡ true → amount ≤ bound) → cost_where (a && b) amount ≤ cost_where a bound
-cost_where-and true b amount bound h = cost_where-within b amount bound h
-cost_where-and false b amount bound h = omega arith
-
 -- a section is of one kind
 one_kind : (type bound : ℕ)
     → cost_where (type == 2 || type == 11) bound + cost_where (type == 4) bound + cost_where (type == 7) bound + cost_where (type == 6) bound
@@ -164,15 +119,6 @@ walk_within headers size type entry bytes e = by_found (first_typed headers type
         → (elim found as (λ _. ℕ) [ None ↦ 0 | Some i ↦ if is_inside headers i size then header_field headers sh_size i / entry * bytes else 0 ]) ≤ size / entry * bytes
     by_found None = omega arith
     by_found (Some i) = cost_where-within (is_inside headers i size) (header_field headers sh_size i / entry * bytes) (size / entry * bytes) (inside i)
-
--- a condition of two parts has the second
-and-second : (a b : Bool) → a && b ≡ true → b ≡ true
-and-second true b h = h
-and-second false b h = cc
-
-and-first : (a b : Bool) → a && b ≡ true → a ≡ true
-and-first true b h = refl
-and-first false b h = cc
 
 -- The tables of one section header, each within the bound.
 module _ (headers : HeaderTable) (i size cap : ℕ) where
@@ -347,16 +293,6 @@ module _ (headers : HeaderTable) (i size cap : ℕ) where
       let b = cost_where-le (has parts segment_dynamic.part) (table_cost segment_dynamic headers i size cap) in
       omega (arith, one, a, b, segment_notes_fit, segment_dynamic_fits)
 
--- a sum of costs within a bound
-pub sum_over-le : (amount : ℕ → ℕ) (bound first count : ℕ) → ((i : ℕ) → amount i ≤ bound) → sum_over amount first count ≤ count * bound
-unfolding sum_over
-sum_over-le amount bound first zero h = omega arith
-sum_over-le amount bound first (suc count) h =
-    let one = h first in
-    let more = sum_over-le amount bound (suc first) count h in
-    let s : (count + 1) * bound ≡ count * bound + 1 * bound = add-mul count 1 bound in
-    omega arith
-
 -- the numbers of headers are permitted
 pub loadable-within : (file : List ℕ) (headers : ℕ) → is_loadable file headers ≡ true → (e_shnum file ≤ headers) × (e_phnum file ≤ headers)
 unfolding is_loadable
@@ -375,14 +311,6 @@ headers_none versions file h = rw (h, table_headers) refl
 pub headers_some : (versions : Bool) (file : List ℕ) → (e_shnum file == 0) ≡ false → table_headers versions file ≡ by_sections versions file
 unfolding table_headers
 headers_some versions file h = rw (h, table_headers) refl
-
--- headers of some size each, with their tables
-pub headers_within : (each_header n bound count headers tables : ℕ) → count ≤ headers → each_header ≤ 120 + n → tables ≤ count * bound
-    → each_header * count + tables ≤ headers * (120 + n + bound)
-headers_within each_header n bound count headers tables few small within =
-    let m : count * (each_header + bound) ≤ headers * (120 + n + bound) = mul-le-mul few (omega arith) in
-    let e : count * (each_header + bound) ≡ count * each_header + count * bound = mul-add count each_header bound in
-    omega arith
 
 -- where there are no sections all tables are those of the program headers
 without_sections : (file : List ℕ) (style : Style) (parts headers : ℕ) → (e_shnum file == 0) ≡ true → e_phnum file ≤ headers

@@ -6,7 +6,7 @@ use Rattle.elf_model.specs.GnuHash.{gnu_first, gnu_start, gnu_symbol, gnu_tried,
 use Rattle.elf_model.specs.GnuHashLaws.{GnuLookupAnswers, GnuLookupIsOne, IsWithinTable, GnuLookupIsBounded, IsFound, GnuFoundAnswers, IsHeld, GnuAbsentMeansNone, GnuFoundIsFirst}
 use Rattle.elf_model.specs.Hash.{walk_word, IsFirst}
 use Rattle.elf_model.specs.declared.causes.Refusal.{Refusal}
-use Rattle.elf_model.proofs.CostLemmas.{sum_over-le}
+use Rattle.elf_model.proofs.SumLemmas.{sum_over-le}
 use Rattle.elf_model.proofs.WalkLaws.{none_found, searched_first, gives_one, not_both}
 
 -- the words of a walk that goes from each to the next number

@@ -6,6 +6,7 @@ pub mod BudgetLaws
 pub mod ChangeLaws
 pub mod ChangeSteps
 pub mod CheckSteps
+pub mod SumLemmas
 pub mod CostLemmas
 pub mod DynamicLaws
 pub mod GnuHashLaws

@@ -18,7 +18,8 @@ use Rattle.elf_model.specs.Names.{Shown, same, shown, pad64}
 use Rattle.elf_model.specs.Versions.{Met, Stand, number_in, names_version, names_number, name_index, most_records, versions_in}
 use Rattle.elf_model.specs.declared.causes.Cause.{Cause}
 use Rattle.elf_model.specs.declared.causes.Refusal.{Refusal}
-use Rattle.elf_model.proofs.CostLemmas.{cost_where-le, cost_where-within, whole_within, loadable-within}
+use Rattle.elf_model.proofs.CostLemmas.{whole_within, loadable-within}
+use Rattle.elf_model.proofs.SumLemmas.{cost_where-le, cost_where-within}
 use Rattle.elf_model.proofs.GnuHashLaws.{gnu_lookup_is_bounded}
 use Rattle.elf_model.proofs.LoaderScopes.{most_of, IsInside, scope_inside}
 use Rattle.elf_model.proofs.SysvWalkLaws.{sysv_walk_is_bounded}

@@ -21,7 +21,8 @@ use Rattle.elf_model.specs.Versions.{DEFINITION_SIZE, DEFINED_NAME_SIZE, NEED_SI
 use Rattle.elf_model.specs.Cost.{sum_over, cost_where, table_cost, kinds_cost, tables_cost, ceiling}
 use Rattle.elf_model.specs.CostLaws.{PlacesDecideNothing, RowsCostWhatTheFileCosts, SegmentsCostWhatTheFileCosts, kind_by_kind, TablesCostKindByKind, AnyRowsAreWithinCeiling, AnySegmentsAreWithinCeiling}
 use Rattle.elf_model.proofs.LookupSteps.{first_that-holds}
-use Rattle.elf_model.proofs.CostLemmas.{table_bound, most_bound, style_ceiling-is, section_kinds-le, segment_kinds-le, headers_within, sum_over-le, tables_by, headers_some}
+use Rattle.elf_model.proofs.CostLemmas.{table_bound, most_bound, style_ceiling-is, section_kinds-le, segment_kinds-le, tables_by, headers_some}
+use Rattle.elf_model.proofs.SumLemmas.{headers_within, sum_over-le}
 
 -- checks that pass for one place pass for another
 table-pass : (a b c : Bool) (p q : ℕ)

@@ -4,7 +4,7 @@ ghost use Rattle.elf_needs.specs.Budget.{left_behind};
 
 use crate::walk::NeedsFault;
 use elf_headers::Fault;
-use elf_links::machine_of;
+use elf_libraries::machine_of;
 use elf_source::{Counted, OffsetReader, Source, StreamSource};
 use std::os::unix::fs::FileExt;
 use std::rt::Files;

@@ -2,8 +2,7 @@
 ghost use Rattle.std.specs.Prelude.{◌≡◌, option_map, position};
 ghost use Rattle.elf_needs.specs.Called.{called_by, is_called, is_text, short_index, text_told};
 
-use elf_links::{FileLinks, LinkStore, Need, Texts};
-use elf_search::folder_of_path;
+use elf_libraries::{FileLinks, LinkStore, Need, Texts, folder_of_path};
 use std::alloc::{AllocError, Global};
 
 /// The most objects of a program.

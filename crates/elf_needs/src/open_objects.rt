@@ -1,8 +1,7 @@
 //! The objects of a program whose files are kept open, so that names are looked for in them.
 use crate::candidates::take_off_bytes;
-use elf_binding::Object;
+use elf_binding::{Object, PagedSource};
 use elf_headers::{Fault, HeaderStore};
-use elf_pages::PagedSource;
 use elf_record::{Cause, Refusal};
 use elf_source::{Counted, Source};
 use std::alloc::{AllocError, Global};

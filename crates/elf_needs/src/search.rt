@@ -4,7 +4,7 @@ ghost use Rattle.std.specs.Prelude.{◌≤◌, length};
 use crate::candidates::{FileSource, candidate};
 use crate::known::{Known, MOST_OBJECTS, Objects};
 use crate::walk::NeedsFault;
-use elf_search::{FolderLists, LibrarySearch, Needer, TriedPath, gather_folders, named_path};
+use elf_libraries::{FolderLists, LibrarySearch, Needer, TriedPath, gather_folders, named_path};
 use memchr::memchr;
 use std::os::unix::fs::FileExt;
 use std::rt::Files;

@@ -11,8 +11,8 @@ use Rattle.elf_headers.specs.declared.fault.Fault.TheVariants.{Refused, Source}
 use Rattle.elf_table.specs.Sections.{rows}
 use Rattle.elf_table.specs.Tables.{Rows, size_of}
 use Rattle.elf_table.specs.Views.{dynamic_table_at}
-use Rattle.elf_scope.proofs.FoundLaws.{dynamic_is}
-use Rattle.elf_scope.proofs.SettleLaws.{checked_fails}
+use Rattle.elf_lookup_tables.proofs.FoundLaws.{dynamic_is}
+use Rattle.elf_lookup_tables.proofs.SettleLaws.{checked_fails}
 use Rattle.elf_traits.specs.Entries.{TellsTraitEntries}
 
 module _ (file : List ℕ) (i : ℕ) (e : dynamic_segment_index file ≡ Some i) where

@@ -7,7 +7,7 @@ use Rattle.elf_model.specs.Records.{e_machine, e_phnum, p_type, segment_at}
 use Rattle.elf_model.specs.TraitCost.{properties_asked}
 use Rattle.elf_model.specs.Traits.{feature_word}
 use Rattle.elf_model.specs.declared.causes.Refusal.{Refusal}
-use Rattle.elf_model.proofs.CostLemmas.{last_cost, sums_grow}
+use Rattle.elf_model.proofs.SumLemmas.{last_cost, sums_grow}
 use Rattle.elf_headers.specs.declared.fault.Fault.{Fault}
 use Rattle.elf_headers.specs.declared.fault.Fault.TheVariants.{Refused, Source}
 use Rattle.elf_traits.specs.Features.{TellsValue}

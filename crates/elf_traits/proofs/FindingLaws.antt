@@ -20,7 +20,7 @@ use Rattle.elf_hash.specs.Extents.{extent_bytes}
 use Rattle.elf_traits.specs.Features.{TellsValue}
 use Rattle.elf_traits.specs.Finding.{marks_asked, marks_told}
 use Rattle.elf_hash.specs.Scopes.{place_of_table}
-use Rattle.elf_scope.proofs.FoundLaws.{size_within}
+use Rattle.elf_lookup_tables.proofs.FoundLaws.{size_within}
 use Rattle.elf_traits.specs.Known.{KnownLie, KnownLies, TellsKnown, counts_asked}
 use Rattle.elf_traits.specs.Marks.{TellsMarks, marks_of}
 use Rattle.elf_traits.specs.declared.known.KnownSymbols.{KnownSymbols}

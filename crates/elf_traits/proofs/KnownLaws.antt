@@ -14,8 +14,8 @@ use Rattle.elf_hash.specs.Kinds.{hash_kind_of}
 use Rattle.elf_hash.specs.Scopes.{HasCounts, IsPlaceIn, counts_bytes}
 use Rattle.elf_hash.specs.declared.kind.HashKind.{HashKind as Kind}
 use Rattle.elf_hash.specs.declared.table.HashTable.{HashTable}
-use Rattle.elf_scope.specs.Scopes.{IsScope, IsScopeFound}
-use Rattle.elf_scope.specs.declared.scope.Scope.{Scope}
+use Rattle.elf_lookup_tables.specs.Scopes.{IsScope, IsScopeFound}
+use Rattle.elf_lookup_tables.specs.declared.scope.Scope.{Scope}
 use Rattle.elf_traits.specs.Known.{AreKnown, TellsKnown, counts_asked, passed_over}
 
 -- a file without a hash table is passed over: then a call did not stop

@@ -8,7 +8,7 @@ use Rattle.elf_model.specs.Traits.{loaded_traits, traits_by_segments}
 use Rattle.elf_model.specs.declared.causes.Refusal.{Refusal}
 use Rattle.elf_model.specs.declared.traits.Traits.{Traits}
 use Rattle.elf_model.proofs.CheckSteps.{first_refusal-none, first_refusal-some}
-use Rattle.elf_model.proofs.CostLemmas.{cost_where-le}
+use Rattle.elf_model.proofs.SumLemmas.{cost_where-le}
 use Rattle.elf_record.specs.declared.ehdr.Ehdr.{Ehdr}
 use Rattle.elf_headers.specs.Faults.{HeaderRead, IsOfRead}
 use Rattle.elf_headers.specs.Load.{LoadedAs, early_of, load_cost}

@@ -10,7 +10,7 @@ use Rattle.elf_source.specs.Source.{Counting}
 use Rattle.elf_headers.specs.Ledger.{Charges, why_stopped}
 use Rattle.elf_headers.specs.declared.fault.Fault.{Fault}
 use Rattle.elf_hash.specs.Extents.{extent_bytes}
-use Rattle.elf_scope.specs.Segments.{entries_asked}
+use Rattle.elf_lookup_tables.specs.Segments.{entries_asked}
 use Rattle.elf_traits.specs.Features.{TellsValue}
 use Rattle.elf_traits.specs.Marks.{TellsMarks}
 use Rattle.elf_traits.specs.declared.marks.Marks.{Marks}

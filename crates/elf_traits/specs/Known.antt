@@ -8,8 +8,8 @@ use Rattle.elf_headers.specs.Ledger.{Charges, why_stopped}
 use Rattle.elf_headers.specs.declared.fault.Fault.{Fault}
 use Rattle.elf_headers.specs.declared.fault.Fault.TheVariants.{Refused, Source}
 use Rattle.elf_hash.specs.Scopes.{IsTable, place_of_table}
-use Rattle.elf_scope.specs.Segments.{entries_asked}
-use Rattle.elf_scope.specs.Symbols.{IsSymbols, SymbolsLie}
+use Rattle.elf_lookup_tables.specs.Segments.{entries_asked}
+use Rattle.elf_lookup_tables.specs.Symbols.{IsSymbols, SymbolsLie}
 use Rattle.elf_traits.specs.declared.known.KnownSymbols.{KnownSymbols}
 
 -- a fault of the tables that a lookup searches: without a hash table there are no symbols

@@ -6,8 +6,8 @@ ghost use Rattle.elf_traits.specs.Known.{FindsKnown, KnownLie, passed_over};
 
 use elf_hash::{HashTable, counts};
 use elf_headers::Fault;
+use elf_lookup_tables::{Symbols, find_in_segments};
 use elf_record::{Cause, Refusal};
-use elf_scope::{Symbols, find_in_segments};
 use elf_source::{Counted, Source};
 use elf_table::SegmentView;
 

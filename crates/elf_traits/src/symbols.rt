@@ -6,7 +6,7 @@ ghost use Rattle.elf_model.specs.Loader.{Symbols as AreSymbolsOf};
 ghost use Rattle.elf_model.specs.Traits.{marks_from, no_marks};
 ghost use Rattle.elf_names.specs.Ahead.{IsAheadOf, SpendsCredit, WhereAgrees};
 ghost use Rattle.elf_record.specs.Sym.{IsSym};
-ghost use Rattle.elf_scope.specs.Symbols.{IsSymbols, SymbolsLie};
+ghost use Rattle.elf_lookup_tables.specs.Symbols.{IsSymbols, SymbolsLie};
 ghost use Rattle.elf_table.specs.Tables.{RowsWithin, StringsWithin, strings_in};
 ghost use Rattle.elf_model.specs.Bytes.{slice};
 ghost use Rattle.elf_traits.specs.Marks.{TellsMarks, marks_in, marks_of, marks_with};
@@ -14,11 +14,11 @@ ghost use Rattle.elf_traits.specs.Marks.{TellsMarks, marks_in, marks_of, marks_w
 use crate::marks::{Marks, marked_by, no_marks};
 use crate::names::NAME_CAP;
 use elf_headers::Fault;
+use elf_lookup_tables::Symbols;
 use elf_names::{NameIndex, ReadAhead};
 use elf_record::Sym;
 use elf_record::numbers::SHN_UNDEF;
 use elf_record::sizes::SYMBOL_BYTES;
-use elf_scope::Symbols;
 use elf_source::{Counted, Source};
 use elf_table::{Cursor, NameBuf, NameEnd, Names, Row, Table};
 

@@ -1,2 +1,3 @@
 pub mod NameSearch
 mod JoinedLaws
+pub mod SpelledLaws

@@ -11,7 +11,7 @@ use Rattle.elf_headers.specs.declared.caps.Caps.{Caps}
 use Rattle.elf_headers.specs.declared.stop.Stop.{Stop}
 use Rattle.elf_listing.specs.Reports.{Leaves}
 use Rattle.elf_archive.specs.Listed.{ArchiveSays, AsksInArchive, ReportsArchive}
-use Rattle.elf_run.specs.ArchiveAnswers.{refused_by}
+use Rattle.elf_answers.specs.ArchiveAnswers.{refused_by}
 use Rattle.elfsee.specs.Ends.{RunsArchive}
 
 -- what a stop says is so of a status's answer too

@@ -15,10 +15,10 @@ use Rattle.elf_listing.specs.Reports.{Leaves}
 use Rattle.elf_archive.specs.Listed.{ArchiveSays, AsksInArchive, ReportsArchive}
 use Rattle.elf_many.specs.declared.lists.ListFault.{ListFault}
 use Rattle.elf_many.specs.declared.lists.ListFault.TheVariants as list
-use Rattle.elf_program.specs.Endings.{Ends, PutsRest, wants_rest}
-use Rattle.elf_program.specs.declared.outputs.Ended.{Ended}
-use Rattle.elf_program.specs.declared.outputs.Ended.TheVariants.{Status, Told, Unwritten}
-use Rattle.elf_run.specs.ArchiveAnswers.{refused_by}
+use Rattle.elf_endings.specs.Endings.{Ends, PutsRest, wants_rest}
+use Rattle.elf_endings.specs.declared.outputs.Ended.{Ended}
+use Rattle.elf_endings.specs.declared.outputs.Ended.TheVariants.{Status, Told, Unwritten}
+use Rattle.elf_answers.specs.ArchiveAnswers.{refused_by}
 
 -- there was no memory
 abbrev pub LacksMemory : ℕ → List ℕ → Type 0

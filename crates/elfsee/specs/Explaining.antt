@@ -5,8 +5,8 @@ use Rattle.elf_model.specs.declared.causes.Refusal.{Refusal}
 use Rattle.elf_source.specs.Source.{Counting}
 use Rattle.elf_source.specs.Output.{Written, Takes, TakesFront}
 use Rattle.elf_headers.specs.declared.stop.Stop.{Stop}
-use Rattle.elf_words.specs.declared.requests.Task.{Task}
-use Rattle.elf_words.specs.declared.requests.Task.TheVariants.{Apply, Place}
+use Rattle.elf_requests.specs.declared.requests.Task.{Task}
+use Rattle.elf_requests.specs.declared.requests.Task.TheVariants.{Apply, Place}
 
 -- whether a task asks what would help
 unfoldable pub asks_why : Task → Bool

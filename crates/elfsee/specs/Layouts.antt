@@ -3,8 +3,8 @@ use Rattle.std.specs.Prelude.{ℕ, ◌≡◌, ◌⊎◌, Bool, List, [], codes}
 use Rattle.elf_model.specs.Placing.{Layout}
 use Rattle.elf_layout.specs.declared.items.ItemsFault.{ItemsFault}
 use Rattle.elf_layout.specs.declared.items.ItemsFault.TheVariants.{Read, TooLarge, BadItem, Repeats, Memory}
-use Rattle.elf_words.specs.declared.requests.Task.{Task}
-use Rattle.elf_words.specs.declared.requests.Task.TheVariants.{Place}
+use Rattle.elf_requests.specs.declared.requests.Task.{Task}
+use Rattle.elf_requests.specs.declared.requests.Task.TheVariants.{Place}
 use Rattle.elfsee.specs.Ends.{LacksMemory}
 
 -- a task applies a section in these addresses

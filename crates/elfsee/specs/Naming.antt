@@ -6,8 +6,8 @@ use Rattle.elf_name_lists.specs.declared.NamesFault.TheVariants.{Read, TooLarge,
 use Rattle.elf_headers.specs.Permitted.{style_of}
 use Rattle.elf_headers.specs.declared.caps.Style.{Style}
 use Rattle.elf_record.specs.declared.parts.Parts.{Parts}
-use Rattle.elf_words.specs.declared.requests.Task.{Task}
-use Rattle.elf_words.specs.declared.requests.Task.TheVariants.{Show}
+use Rattle.elf_requests.specs.declared.requests.Task.{Task}
+use Rattle.elf_requests.specs.declared.requests.Task.TheVariants.{Show}
 use Rattle.elfsee.specs.Ends.{LacksMemory}
 
 -- a task lists these parts, of which the rows of these names alone are shown, in a style that is else this one

@@ -7,14 +7,14 @@ ghost use Rattle.elf_wanted.specs.Names.{NeverFall, texts_of};
 ghost use Rattle.elfsee.specs.Naming.{LacksNames};
 
 use crate::names::{read_list, sorted_names};
+use elf_answers::archive_status;
 use elf_archive::show_archive;
+use elf_endings::{Ending, OUT_OF_MEMORY, OUTPUT_BYTES, end_answer, open};
 use elf_headers::{Caps, HeaderRoom, HeaderStore, Limits, Style};
 use elf_name_lists::style_by_names;
-use elf_program::{Ending, OUT_OF_MEMORY, OUTPUT_BYTES, end_answer, open};
 use elf_record::Parts;
-use elf_run::archive_status;
+use elf_requests::Archiving;
 use elf_source::{Counted, HoldingSink, Out, RangeSource, Source, WriteSink};
-use elf_words::Archiving;
 use std::io::{self, BufWriter, Write};
 use std::os::unix::fs::FileExt;
 use std::rt::Files;

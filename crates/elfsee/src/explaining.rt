@@ -8,15 +8,15 @@ ghost use Rattle.elf_listing.specs.Shows.{StopSays};
 ghost use Rattle.elf_explain.specs.Explained.{explain_bytes, may_lack};
 ghost use Rattle.elfsee.specs.Explaining.{AsksRest, WroteUpTo, asks_why, lack_in, budget_rest};
 
+use elf_endings::{ERROR_LINE_BYTES, write_rest};
 use elf_explain::explain;
 use elf_headers::{HeaderStore, Stop};
 use elf_layout::Addresses;
 use elf_lines::show_lack;
-use elf_program::{ERROR_LINE_BYTES, write_rest};
 use elf_record::Refusal;
+use elf_requests::{Request, Task};
 use elf_source::{Counted, Out, Sink, Source, WriteSink};
 use elf_table::{NameBuf, NameEnd};
-use elf_words::{Request, Task};
 use std::alloc::Global;
 use std::io::{BufWriter, Stderr};
 

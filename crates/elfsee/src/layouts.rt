@@ -5,9 +5,9 @@ ghost use Rattle.elf_layout.specs.Listed.{AreReordered, AreSorted, Gathers};
 ghost use Rattle.elfsee.specs.Layouts.{EndsItems, EndsBadLine, PlacesIn};
 
 use crate::answer_request;
+use elf_endings::{Ending, OUT_OF_MEMORY};
 use elf_layout::{Addresses, Items, ItemsFault, Layout, LentLayout, TextEnd, read_text};
-use elf_program::{Ending, OUT_OF_MEMORY};
-use elf_words::{Laying, Request, Task};
+use elf_requests::{Laying, Request, Task};
 use std::alloc::Global;
 use std::io::{ErrorKind, Stderr, Write};
 use std::os::unix::fs::FileExt;

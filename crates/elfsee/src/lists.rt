@@ -8,11 +8,11 @@ ghost use Rattle.elfsee.specs.Naming.{LacksNames};
 
 use crate::many::visit_files;
 use crate::names::{read_list, sorted_names};
+use elf_each_file::{FileLists, HELD_BYTES, ListRule};
+use elf_endings::{Ending, OUT_OF_MEMORY};
 use elf_headers::{Caps, HeaderRoom};
-use elf_many_lists::{FileLists, HELD_BYTES, ListRule};
 use elf_name_lists::style_by_names;
-use elf_program::{Ending, OUT_OF_MEMORY};
-use elf_words::{ListAsked, ManyFiles};
+use elf_requests::{ListAsked, ManyFiles};
 use std::io::{Input, Stderr};
 use std::os::unix::fs::FileExt;
 use std::rt::Files;

@@ -10,24 +10,24 @@ mod names;
 mod needs;
 
 ghost use Rattle.std.specs.Prelude.{◌≡◌, ◌⊎◌, IfErr, IfOk, map, string_bytes};
-ghost use Rattle.elf_run.specs.Answers.{refused_line, refused_status};
-ghost use Rattle.elf_run.specs.Requests.{RunsTask};
-ghost use Rattle.elf_words.specs.Answered.{WordsAsk};
+ghost use Rattle.elf_answers.specs.Answers.{refused_line, refused_status};
+ghost use Rattle.elf_answers.specs.Requests.{RunsTask};
+ghost use Rattle.elf_requests.specs.Answered.{WordsAsk};
 ghost use Rattle.elfsee.specs.Ends.{EndsRunOver, LacksFile, LacksMemory, told_refusal};
-ghost use Rattle.elf_words.specs.declared.requests.RequestFault.{RequestFault};
+ghost use Rattle.elf_requests.specs.declared.requests.RequestFault.{RequestFault};
 
 use archives::list_archive;
-use elf_fixtures::sample;
-use elf_headers::{HeaderRoom, HeaderStore, Stop};
-use elf_layout::Layout;
-use elf_program::{
+use elf_answers::{refused, run};
+use elf_endings::{
     Ending, OUT_OF_MEMORY, OUTPUT_BYTES, end_answer, exit, open, read_words, tell_version,
     tell_words,
 };
+use elf_fixtures::sample;
+use elf_headers::{HeaderRoom, HeaderStore, Stop};
+use elf_layout::Layout;
 use elf_record::Refusal;
-use elf_run::{refused, run};
+use elf_requests::{AskedCommand, Request, RequestFault, request};
 use elf_source::{Counted, MemorySource, Out, Sink, Source, WriteSink};
-use elf_words::{AskedCommand, Request, RequestFault, request};
 use explaining::tell_why;
 use layouts::apply_laid;
 use lists::list_files;

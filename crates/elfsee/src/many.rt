@@ -2,17 +2,16 @@
 ghost use Rattle.std.specs.Prelude.{◌≡◌, ◌<◌, IfErr};
 ghost use Rattle.elfsee.specs.Ends.{EndsList, LacksMemory, StopsCheck};
 
-use elf_headers::{Caps, HeaderRoom, HeaderStore};
-use elf_many::{EachFile, FolderWalk, ListFault, Many, visit_list, visit_path};
-use elf_many_checks::{CheckRule, Checks};
-use elf_many_traits::{TraitLines, TraitRule};
-use elf_model::Format;
-use elf_program::{
+use elf_each_file::{CheckRule, Checks, TraitLines, TraitRule};
+use elf_endings::{
     CANNOT_OPEN, Ended, Ending, LineSink, OUT_OF_MEMORY, OUTPUT_BYTES, PIPE_BYTES, READ_FAULT,
     end_lines,
 };
+use elf_headers::{Caps, HeaderRoom, HeaderStore};
+use elf_many::{EachFile, FolderWalk, ListFault, Many, visit_list, visit_path};
+use elf_model::Format;
+use elf_requests::{Checking, ManyFiles, TraitsAsked};
 use elf_source::{HoldingSink, Out, OutFault, Sink, WriteSink};
-use elf_words::{Checking, ManyFiles, TraitsAsked};
 use std::fs;
 use std::io::{self, Input, Stderr};
 use std::os::unix::fs::{FileExt, FileTypeExt};

@@ -6,10 +6,10 @@ ghost use Rattle.elf_wanted.specs.Names.{NeverFall, texts_of};
 ghost use Rattle.elfsee.specs.Naming.{EndsNames, LacksNames, ShowsRowsOf};
 
 use crate::answer_request;
-use elf_listing_words::ListingAsked;
+use elf_endings::{Ending, OUT_OF_MEMORY};
+use elf_listing_requests::ListingAsked;
 use elf_name_lists::{NamesFault, gather_names, read_names, style_by_names};
-use elf_program::{Ending, OUT_OF_MEMORY};
-use elf_words::{Choosing, NamesAsked, Request, Task};
+use elf_requests::{Choosing, NamesAsked, Request, Task};
 use std::alloc::Global;
 use std::fs;
 use std::io::{ErrorKind, Stderr};

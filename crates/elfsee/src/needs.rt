@@ -1,15 +1,15 @@
 //! What a program needs.
 
+use elf_endings::{
+    CANNOT_OPEN, Ended, Ending, OUT_OF_MEMORY, OUTPUT_BYTES, READ_FAULT, end_run, open,
+};
 use elf_headers::{HeaderRoom, HeaderStore};
 use elf_needs::{
     MOST_OBJECTS, NeedsFault, NeedsRoom, NeedsSettings, ObjectWalk, OpenFiles, OpenObjects,
     SearchedFolders,
 };
-use elf_program::{
-    CANNOT_OPEN, Ended, Ending, OUT_OF_MEMORY, OUTPUT_BYTES, READ_FAULT, end_run, open,
-};
+use elf_requests::NeedsAsked;
 use elf_source::{Counted, Out, OutFault, WriteSink, opened_path};
-use elf_words::NeedsAsked;
 use std::io::{self, BufWriter, ErrorKind, Write};
 use std::os::unix::fs::FileExt;
 use std::rt::Files;

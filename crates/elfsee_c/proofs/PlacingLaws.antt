@@ -7,7 +7,7 @@ use Rattle.elf_explain.specs.Explained.{explain_bytes}
 use Rattle.elf_calls.specs.Applied.{AppliesFor}
 use Rattle.elf_calls.specs.LentLayouts.{ExplainsTold, MayLendLayout, PlacesInMemory, lent_layout}
 use Rattle.elf_calls.specs.Limits.{AreInRange, budget_of, headers_of}
-use Rattle.elf_rows.specs.declared.end.End.{End}
+use Rattle.elf_memory_rows.specs.declared.end.End.{End}
 use Rattle.elf_calls.specs.declared.lent_layout.CallerLayout.{CallerLayout}
 use Rattle.elf_calls.specs.declared.limits.CallerLimits.{CallerLimits}
 use Rattle.elf_calls.specs.declared.missing.CallerMissing.{CallerMissing}

@@ -8,7 +8,7 @@ use elf_calls::{
 };
 use elf_headers::HeaderStore;
 use elf_layout::{Addresses, Layout};
-use elf_rows::End;
+use elf_memory_rows::End;
 
 /// The largest index of a section.
 const LAST_INDEX: u32 = 65_535;

@@ -7,8 +7,8 @@ ghost use Rattle.elf_calls.specs.Limits.{budget_of, headers_of};
 use elf_calls::{CallerLimits, LookupNumbers, limits_of, look_in, tell_found};
 use elf_hash::Lookup;
 use elf_headers::HeaderStore;
+use elf_memory_rows::End;
 use elf_record::Refusal;
-use elf_rows::End;
 
 /// The most bytes of a name that is looked up.
 const WANTED_NAME_BYTES: usize = 4_096;

@@ -1,13 +1,13 @@
 //! The export that opens the symbols which a loader knows of a file in memory.
 ghost use Rattle.std.specs.Prelude.{◌≡◌, ◌≤◌, IfSome, length};
-ghost use Rattle.elf_rows.specs.Hashed.{hashed_cost};
+ghost use Rattle.elf_memory_rows.specs.Hashed.{hashed_cost};
 ghost use Rattle.elf_calls.specs.HashedRows.{HasHashed, OpensHashed, by_flags};
 ghost use Rattle.elf_calls.specs.Limits.{budget_of, headers_of};
 
 use elf_calls::{CallerLimits, limits_of, open_hashed};
 use elf_headers::HeaderStore;
+use elf_memory_rows::{End, RowsLeft, tell_opened};
 use elf_record::Refusal;
-use elf_rows::{End, RowsLeft, tell_opened};
 
 /// By the program headers also where there are section headers.
 const BY_SEGMENTS: u32 = 1;

@@ -1,9 +1,9 @@
 //! The exports that go over the members of an archive in memory.
 ghost use Rattle.elf_archive.specs.MemberRows.{OpensMembers, StepsMember};
-ghost use Rattle.elf_rows.specs.Ends.{TellsRead};
+ghost use Rattle.elf_memory_rows.specs.Ends.{TellsRead};
 
 use elf_archive::{MemberRow, MembersLeft, next_member, open_members};
-use elf_rows::{End, tell};
+use elf_memory_rows::{End, tell};
 
 /// Checks that a file that lies in memory is an archive, and sets `members` before its first member.
 ///

@@ -8,7 +8,7 @@ use elf_calls::{
 };
 use elf_headers::HeaderStore;
 use elf_layout::Addresses;
-use elf_rows::End;
+use elf_memory_rows::End;
 
 /// Writes the bytes of a section of a file that lies in memory, with its relocations applied, into
 /// memory of the caller, as [`elfsee_apply`](crate::applying::elfsee_apply) does, in a layout of any

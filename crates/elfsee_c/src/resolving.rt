@@ -1,7 +1,7 @@
 //! The export that looks a name up in a file in memory as a loader does.
 ghost use Rattle.std.specs.Prelude.{◌≡◌, ◌≤◌, IfSome, length};
 ghost use Rattle.elf_model.specs.LoaderFind.{loader_cost};
-ghost use Rattle.elf_rows.specs.Ends.{TellsNone};
+ghost use Rattle.elf_memory_rows.specs.Ends.{TellsNone};
 ghost use Rattle.elf_calls.specs.Limits.{budget_of, headers_of};
 ghost use Rattle.elf_calls.specs.Queries.{IsPermitted, asks_of, wanted_by};
 ghost use Rattle.elf_calls.specs.Resolved.{IsResolved, Resolves, ResolvesIn, TellsResolved, file_of, nothing_resolved};
@@ -9,8 +9,8 @@ ghost use Rattle.elf_calls.specs.Resolved.{IsResolved, Resolves, ResolvesIn, Tel
 use elf_calls::{CallerLimits, Query, Resolved, limits_of, resolve_in, tell_resolved};
 use elf_headers::HeaderStore;
 use elf_loader::SymbolLookup;
+use elf_memory_rows::End;
 use elf_record::Refusal;
-use elf_rows::End;
 use elf_table::NameBuf;
 
 /// Looks a name up in a file that lies in memory, alone or with a version, as a loader of the GNU

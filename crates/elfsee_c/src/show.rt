@@ -11,8 +11,8 @@ use elf_calls::{
     short, tell_told,
 };
 use elf_headers::HeaderStore;
+use elf_memory_rows::End;
 use elf_record::Parts;
-use elf_rows::End;
 
 /// Lists a file that lies in memory into memory of the caller, as far as `parts` has it. `room` is
 /// where the file's headers lie meanwhile.

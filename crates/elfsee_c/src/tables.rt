@@ -1,11 +1,11 @@
 //! The exports that open the rows of a section of a file in memory.
 ghost use Rattle.std.specs.Prelude.{length};
-ghost use Rattle.elf_rows.specs.declared.kind.RowKind.TheVariants.{Symbols, Relocations, Dynamic, VersionWords};
+ghost use Rattle.elf_memory_rows.specs.declared.kind.RowKind.TheVariants.{Symbols, Relocations, Dynamic, VersionWords};
 ghost use Rattle.elf_calls.specs.Openings.{OpensRows};
-ghost use Rattle.elf_rows.specs.Ends.{TellsOpened};
+ghost use Rattle.elf_memory_rows.specs.Ends.{TellsOpened};
 
 use elf_calls::{CallerLimits, limits_of};
-use elf_rows::{End, RowKind, RowsLeft, rows_in, tell_opened};
+use elf_memory_rows::{End, RowKind, RowsLeft, rows_in, tell_opened};
 
 /// Checks the table of symbols that a section of a file is, and sets `rows` before its first. So many
 /// headers are permitted as the limits say, and as the room has 64 bytes for; no byte of it is looked at.

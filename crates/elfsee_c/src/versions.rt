@@ -1,11 +1,11 @@
 //! The exports that go over the version definitions and needs of a file in memory.
 ghost use Rattle.std.specs.Prelude.{length};
-ghost use Rattle.elf_rows.specs.VersionRecords.{StepsRecord};
-ghost use Rattle.elf_rows.specs.Ends.{TellsOpened, TellsRead};
+ghost use Rattle.elf_memory_rows.specs.VersionRecords.{StepsRecord};
+ghost use Rattle.elf_memory_rows.specs.Ends.{TellsOpened, TellsRead};
 ghost use Rattle.elf_calls.specs.Openings.{OpensRecords};
 
 use elf_calls::{CallerLimits, limits_of};
-use elf_rows::{End, RecordRow, RecordsLeft, next_record, records_in, tell, tell_opened};
+use elf_memory_rows::{End, RecordRow, RecordsLeft, next_record, records_in, tell, tell_opened};
 
 /// Checks the table of version definitions or needs that a section of a file is, and sets `records`
 /// before its first. So many headers are permitted as the limits say, and as the room has 64 bytes for;

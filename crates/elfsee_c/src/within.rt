@@ -1,25 +1,25 @@
 //! The exports that read rows within a budget: what they read counts, over all tables.
 ghost use Rattle.std.specs.Prelude.{◌≡◌, ◌≤◌, ◌<◌, ℕ, IfSome, length, slice_index_or};
-ghost use Rattle.elf_rows.specs.Entries.{IsDynamic, IsRelocation};
-ghost use Rattle.elf_rows.specs.Rows.{next_at};
-ghost use Rattle.elf_rows.specs.SegmentDynamic.{ReadsSegmentDynamic};
-ghost use Rattle.elf_rows.specs.Symbols.{IsSymbol};
-ghost use Rattle.elf_rows.specs.VersionRecords.{IsVersionWord};
-ghost use Rattle.elf_rows.specs.declared.dynamic.Dynamic.{Dynamic as OneDynamic};
-ghost use Rattle.elf_rows.specs.declared.kind.RowKind.TheVariants.{Dynamic as DynamicRows};
-ghost use Rattle.elf_rows.specs.declared.relocations.Relocation.{Relocation as OneRelocation};
-ghost use Rattle.elf_rows.specs.declared.symbol.Symbol.{Symbol as OneSymbol};
-ghost use Rattle.elf_rows.specs.declared.version_words.VersionWord.{VersionWord as OneWord};
+ghost use Rattle.elf_memory_rows.specs.Entries.{IsDynamic, IsRelocation};
+ghost use Rattle.elf_memory_rows.specs.Rows.{next_at};
+ghost use Rattle.elf_memory_rows.specs.SegmentDynamic.{ReadsSegmentDynamic};
+ghost use Rattle.elf_memory_rows.specs.Symbols.{IsSymbol};
+ghost use Rattle.elf_memory_rows.specs.VersionRecords.{IsVersionWord};
+ghost use Rattle.elf_memory_rows.specs.declared.dynamic.Dynamic.{Dynamic as OneDynamic};
+ghost use Rattle.elf_memory_rows.specs.declared.kind.RowKind.TheVariants.{Dynamic as DynamicRows};
+ghost use Rattle.elf_memory_rows.specs.declared.relocations.Relocation.{Relocation as OneRelocation};
+ghost use Rattle.elf_memory_rows.specs.declared.symbol.Symbol.{Symbol as OneSymbol};
+ghost use Rattle.elf_memory_rows.specs.declared.version_words.VersionWord.{VersionWord as OneWord};
 ghost use Rattle.elf_calls.specs.Limits.{budget_of};
 ghost use Rattle.elf_calls.specs.Openings.{OpensRows};
 ghost use Rattle.elf_calls.specs.Within.{OpensAlways, OpensEntries, StepsBudgeted, TellsEntries};
 
 use elf_calls::{CallerLimits, count_entries, entries_left, limits_of, next_within};
-use elf_record::Refusal;
-use elf_rows::{
+use elf_memory_rows::{
     Dynamic, End, Relocation, RowsLeft, Symbol, VersionWord, dynamic_within,
     segment_dynamic_within, tell_opened,
 };
+use elf_record::Refusal;
 
 /// Checks the table of dynamic entries that a section of a file is, as
 /// [`elfsee_dynamic`](crate::tables::elfsee_dynamic) does, within the budget of the limits: each entry

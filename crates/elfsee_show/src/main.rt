@@ -4,14 +4,14 @@
 
 ghost use Rattle.std.specs.Prelude.{◌≡◌};
 
-use elf_fixtures::sample;
-use elf_headers::{Caps, HeaderRoom, HeaderStore};
-use elf_listing::show;
-use elf_listing_words::{ListingAsked, ShowRequest, WordsFault, shown_asked};
-use elf_program::{
+use elf_endings::{
     Ending, OUT_OF_MEMORY, OUTPUT_BYTES, end_answer, exit, open, read_words, tell_version,
     tell_words,
 };
+use elf_fixtures::sample;
+use elf_headers::{Caps, HeaderRoom, HeaderStore};
+use elf_listing::show;
+use elf_listing_requests::{ListingAsked, ShowRequest, WordsFault, shown_asked};
 use elf_source::{Counted, MemorySource, Out, Source, WriteSink};
 use std::alloc::Global;
 use std::io::{self, BufWriter, Stderr, Write};

@@ -1,6 +1,6 @@
 -- What is told of words ends as those of bad words do, or for want of memory.
 use Rattle.std.proofs.Common.{inl, inr}
-use Rattle.elf_words.specs.declared.requests.RequestFault.TheVariants.{Words, Memory}
+use Rattle.elf_requests.specs.declared.requests.RequestFault.TheVariants.{Words, Memory}
 use Rattle.elfsee.proofs.read_request.Goals as goal
 
 pub returns-in-Words-clause-refused : goal.returns-in-Words-clause-refused

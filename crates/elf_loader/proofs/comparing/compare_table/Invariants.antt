@@ -3,7 +3,7 @@ use Rattle.std.proofs.Common.{◌+◌, ◌-◌, ◌*◌, List, length, None}
 use Rattle.elf_headers.specs.Ledger.{Did}
 use Rattle.elf_model.specs.Loader.{RecordReading, RecordTable as IsTableOf, compared_with, readings_of}
 use Rattle.elf_model.specs.Names.{pad64}
-use Rattle.elf_scope.specs.Symbols.{IsRecordTable}
+use Rattle.elf_lookup_tables.specs.Symbols.{IsRecordTable}
 use Rattle.elf_versions.specs.Reading.{IsCursorOf}
 use Rattle.elf_loader.specs.Comparing.{ComparedAs}
 use Rattle.elf_loader.proofs.LeftReadings.{left_of}

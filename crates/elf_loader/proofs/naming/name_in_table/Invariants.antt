@@ -4,7 +4,7 @@ use Rattle.elf_headers.specs.Ledger.{Did}
 use Rattle.elf_model.specs.BoundSymbols.{file_before}
 use Rattle.elf_model.specs.Loader.{RecordReading, RecordTable as IsTableOf, naming_of, readings_of}
 use Rattle.elf_model.specs.Versions.{Met}
-use Rattle.elf_scope.specs.Symbols.{IsRecordTable}
+use Rattle.elf_lookup_tables.specs.Symbols.{IsRecordTable}
 use Rattle.elf_versions.specs.Reading.{IsCursorOf}
 use Rattle.elf_loader.specs.Naming.{IsFileIf, NamedAs}
 use Rattle.elf_loader.proofs.LeftReadings.{left_of}

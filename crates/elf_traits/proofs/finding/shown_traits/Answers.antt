@@ -6,7 +6,7 @@ use Rattle.elf_model.proofs.CheckSteps.{passes_front}
 use Rattle.elf_record.specs.declared.ehdr.Ehdr.{Ehdr}
 use Rattle.elf_headers.proofs.LoadLaws.{header_most}
 use Rattle.elf_headers.proofs.LedgerLaws.{Charges-then, Did-as, Did-of, Did-stop, Did-then}
-use Rattle.elf_scope.proofs.LoadedLaws.{segments_cost}
+use Rattle.elf_lookup_tables.proofs.LoadedLaws.{segments_cost}
 use Rattle.elf_traits.proofs.FeatureLaws.{product_most, value_of}
 use Rattle.elf_traits.proofs.ShownLaws.{ceiling_is, header_least, header_stops, load_none, load_stops, read_value, shown_cost, shown_is, shown_least}
 use Rattle.elf_traits.proofs.finding.shown_traits.Goals as goal

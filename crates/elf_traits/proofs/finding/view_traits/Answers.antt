@@ -4,7 +4,7 @@ use Rattle.elf_model.specs.declared.traits.Traits.{Traits}
 use Rattle.std.proofs.lemmas.Result.{err_from_is_err_and}
 use Rattle.elf_model.specs.TraitCost.{properties_asked, trait_entries_asked}
 use Rattle.elf_headers.proofs.LedgerLaws.{Charges-more, Charges-then, Did-as, Did-then}
-use Rattle.elf_scope.specs.Segments.{entries_asked}
+use Rattle.elf_lookup_tables.specs.Segments.{entries_asked}
 use Rattle.elf_traits.specs.Known.{counts_asked}
 use Rattle.elf_traits.proofs.FindingLaws.{entries_stop, known_is, known_lie, known_stops, marks_stop, symbols_cost, traits_are, word_stops}
 use Rattle.elf_traits.proofs.finding.view_traits.Goals as goal

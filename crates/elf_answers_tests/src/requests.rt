@@ -1,0 +1,158 @@
+//! Requests carried out on files in memory, and where each read fails or the output ends early.
+
+use elf_answers::run;
+use elf_endings::outcome;
+use elf_fakes::FailSource;
+use elf_headers::{Cap, HeaderRoom, HeaderStore, Limits, Stop, Style};
+use elf_record::Parts;
+use elf_requests::{Request, Task};
+use elf_source::{Counted, MemorySource, Out, OutFault, SliceSink, Source, SourceFault, WriteSink};
+use std::process::Abort;
+use std::test::Fail;
+
+/// All parts of a listing.
+pub(crate) const LISTED: Parts = Parts(127);
+
+/// A request with so many headers permitted.
+pub(crate) fn request(headers: u16, task: Task<'_>) -> Result<Request<'_>, Fail> {
+    let limits = Limits::new(headers, None).ok_or("limits")?;
+    Ok(Request {
+        file: None,
+        limits,
+        task,
+    })
+}
+
+/// A listing of some parts, with names of 63 bytes.
+pub(crate) fn listing(headers: u16, parts: Parts) -> Result<Request<'static>, Fail> {
+    let style = Style::standard(Cap::new(63).ok_or("cap")?);
+    request(headers, Task::Show { parts, style })
+}
+
+/// The same request within a budget.
+pub(crate) fn within<'a>(request: &Request<'a>, budget: u64) -> Request<'a> {
+    Request {
+        file: None,
+        limits: Limits {
+            headers: request.limits.headers,
+            budget: Some(budget),
+        },
+        task: request.task,
+    }
+}
+
+/// What was written, how it ended, how many bytes were asked for, and where the last read stopped.
+#[derive(Drop)]
+pub(crate) struct Finished {
+    pub(crate) text: Vec<u8>,
+    pub(crate) answer: Result<u8, Stop>,
+    pub(crate) asked: u128,
+    pub(crate) stopped: u64,
+}
+
+/// Carries a request out on what a source gives. No limit is left.
+pub(crate) fn carry_out<S: Source + Drop>(
+    rt: &(impl Abort + AllocGlobal),
+    request: &Request<'_>,
+    source: S,
+    store: &mut HeaderStore,
+) -> Finished {
+    assert!(rt; store.slots() == request.limits.headers);
+    let mut src = Counted::new(source);
+    let mut out = Out::new(WriteSink::new(Vec::new(rt.alloc())));
+    let answer = run(request, &mut src, store, &mut out);
+    assert!(rt; src.left() == None);
+    Finished {
+        text: out.into_inner().into_inner(),
+        answer,
+        asked: src.asked(),
+        stopped: src.stopped(),
+    }
+}
+
+/// Carries a request out on a file, and checks its text, its status, and that no more bytes were asked
+/// for than it costs.
+pub(crate) fn check_answer(
+    rt: &(impl Abort + AllocGlobal),
+    request: &Request<'_>,
+    file: &[u8],
+    text: &[u8],
+    status: u8,
+    cost: u128,
+) -> Result<(), Fail> {
+    let mut room = HeaderRoom::new(rt.alloc(), request.limits.headers)?;
+    let mut store = room.store();
+    let finished = carry_out(rt, request, MemorySource::new(file), &mut store);
+    assert!(rt;
+        outcome(&finished.answer) == (status, ""),
+        "status {status}"
+    );
+    assert!(rt; finished.text.as_slice() == text, "status {status}");
+    assert!(rt; finished.asked <= cost, "{cost} bytes");
+    Ok(())
+}
+
+/// Carries a request out with its first read failing, then its second, and so on until none fails:
+/// these are the offsets of its reads. What went out is a front of the answer, and nothing where one of
+/// the first `unwritten` reads failed. Afterwards the same store gives the whole answer.
+pub(crate) fn check_reads(
+    rt: &(impl Abort + AllocGlobal),
+    request: &Request<'_>,
+    file: &[u8],
+    offsets: &[u64],
+    unwritten: usize,
+) -> Result<(), Fail> {
+    let mut room = HeaderRoom::new(rt.alloc(), request.limits.headers)?;
+    let mut store = room.store();
+    let whole = carry_out(rt, request, MemorySource::new(file), &mut store);
+    for (k, at) in offsets.iter().enumerate() {
+        let source = FailSource::new(MemorySource::new(file), k as u64);
+        let failed = carry_out(rt, request, source, &mut store);
+        let (fault, at) = (SourceFault::Device, *at);
+        assert!(rt;
+            failed.answer == Err(Stop::Source { fault, at }),
+            "read {k}"
+        );
+        assert!(rt; failed.stopped == at, "read {k}");
+        assert!(rt; outcome(&failed.answer) == (3, "elfsee: read fault"));
+        assert!(rt; whole.text.starts_with(&failed.text), "read {k}");
+        assert!(rt; failed.text.is_empty() || k >= unwritten, "read {k}");
+        let again = carry_out(rt, request, MemorySource::new(file), &mut store);
+        assert!(rt; again.text == whole.text && again.answer == whole.answer);
+    }
+    let source = FailSource::new(MemorySource::new(file), offsets.len() as u64);
+    let unfailed = carry_out(rt, request, source, &mut store);
+    assert!(rt; unfailed.text == whole.text && unfailed.answer == whole.answer);
+    Ok(())
+}
+
+/// Carries a request out into a slice of no byte, then of one, and so on up to its text less the last
+/// byte. The slice is filled with the front of the text, and the fault tells how much that is.
+pub(crate) fn check_outputs(
+    rt: &(impl Abort + AllocGlobal),
+    request: &Request<'_>,
+    file: &[u8],
+) -> Result<(), Fail> {
+    let mut room = HeaderRoom::new(rt.alloc(), request.limits.headers)?;
+    let mut store = room.store();
+    let whole = carry_out(rt, request, MemorySource::new(file), &mut store).text;
+    let mut buffer = [0; 2048];
+    assert!(rt; whole.len() <= 2048);
+    for room in 0..whole.len() {
+        let mut src = Counted::new(MemorySource::new(file));
+        let mut out = Out::new(SliceSink::new(&mut buffer[..room]));
+        assert!(rt; store.slots() == request.limits.headers);
+        let answer = run(request, &mut src, &mut store, &mut out);
+        let written = room as u128;
+        assert!(rt;
+            answer == Err(Stop::Out(OutFault { written })),
+            "{room} bytes"
+        );
+        assert!(rt; outcome(&answer) == (3, "elfsee: write fault"));
+        assert!(rt;
+            out.into_inner().written() == &whole[..room],
+            "{room} bytes"
+        );
+    }
+    Ok(())
+}

@@ -1,0 +1,9 @@
+pub mod MemberLaws
+pub mod SortedLaws
+pub mod StateLaws
+pub mod WalkLaws
+pub mod FrontLaws
+pub mod HeadedLaws
+pub mod ListingToldLaws
+pub mod FoundLaws
+pub mod LackingLaws

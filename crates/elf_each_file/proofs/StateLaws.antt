@@ -1,0 +1,82 @@
+-- The state of a file, by what is known of its listing.
+use Rattle.elf_model.specs.Style.{Style}
+use Rattle.elf_headers.specs.Permitted.{style_of}
+use Rattle.std.proofs.Common.{◌≡◌, ℕ, ◌<◌, ◌≤◌, true, if◌then◌else◌, List, length, Option, None, Some, inl, refl, sym, ap, ◌∙◌, nat_lt, arith, ◌^◌}
+use Rattle.std.specs.Prelude.{Ok, Err}
+use Rattle.std.proofs.lemmas.Bool.Decides.{nat_tests}
+use Rattle.elf_model.specs.Budget.{IsBudgeted}
+use Rattle.elf_model.specs.Checking.{IsStateOf, is_not_elf, state_of}
+use Rattle.elf_model.specs.Checks.{first_refusal, header_checks}
+use Rattle.elf_model.specs.Listing.{report_of}
+use Rattle.elf_model.specs.Report.{listing}
+use Rattle.elf_model.specs.declared.causes.Refusal.{Refusal}
+use Rattle.elf_model.specs.declared.states.FileState.{FileState}
+use Rattle.elf_model.specs.declared.states.FileState.TheVariants as state
+use Rattle.elf_model.proofs.ListingLemmas.{header_fault}
+use Rattle.elf_source.specs.Output.{Written}
+use Rattle.elf_headers.specs.declared.caps.Caps.{Caps}
+use Rattle.elf_headers.specs.declared.stop.Stop.TheVariants.{Refused as StopRefused}
+use Rattle.elf_listing.specs.Reports.{Reports}
+use Rattle.elf_many.specs.Checked.{FindsShort, short_refusal}
+use Rattle.elf_many.proofs.StateLaws.{judged_long}
+use Rattle.elf_each_file.specs.Checked.{FindsState}
+
+short_first : (file : List ℕ) → length file < 64 → first_refusal (header_checks file) ≡ Some (short_refusal file)
+short_first file short =
+    let below : nat_lt (length file) (2 ^ 63) ≡ true = grind (arith, nat_tests) in
+    let few : nat_lt (length file) 64 ≡ true = grind (arith, nat_tests) in
+    rw (below, few) refl
+
+reported : (budget : Option ℕ) (file : List ℕ) (headers : ℕ) (style : Style) (parts : ℕ) (refusal : Refusal) → first_refusal (header_checks file) ≡ Some refusal
+    → IsBudgeted budget file headers style parts (report_of style.format (listing file headers style parts)) (Some refusal)
+reported None file headers style parts refusal first = record { text_is = refl; fault_is = sym (header_fault file headers style parts refusal first).1 }
+reported (Some bytes) file headers style parts refusal first = inl record { text_is = refl; fault_is = sym (header_fault file headers style parts refusal first).1 }
+
+-- the state of a short file
+short_state : (budget : Option ℕ) (file : List ℕ) (headers : ℕ) (style : Style) (parts : ℕ) (found : FileState) → length file < 64
+    → found ≡ state_of budget file (Some (short_refusal file)) → IsStateOf budget file headers style parts found
+short_state budget file headers style parts found short is = record {
+  text = report_of style.format (listing file headers style parts);
+  fault = Some (short_refusal file);
+  listed = reported budget file headers style parts (short_refusal file) (short_first file short);
+  state_is = is;
+}
+
+-- the state of a file that is too short is that of its listing
+pub short_found : (caps : Caps) (parts : ℕ) (file : List ℕ) (found : FileState) → length file < 64 → FindsShort caps.limits.budget file found
+    → FindsState caps parts file found
+short_found caps parts file state.Ok short is = short_state caps.limits.budget file caps.limits.headers (style_of caps.style) parts _ short is
+short_found caps parts file (state.Refused refusal) short is = short_state caps.limits.budget file caps.limits.headers (style_of caps.style) parts _ short is
+short_found caps parts file state.NoElf short is = short_state caps.limits.budget file caps.limits.headers (style_of caps.style) parts _ short is
+short_found caps parts file state.Unread short is = tt
+short_found caps parts file state.Memory short is = short_state caps.limits.budget file caps.limits.headers (style_of caps.style) parts _ short is
+
+-- a listing that came to its end
+pub ended : {X : Type 0} (file : List ℕ) (caps : Caps) (parts : ℕ) (old new : Written) (x : X) → Reports file caps parts old new (Ok x)
+    → IsStateOf caps.limits.budget file caps.limits.headers (style_of caps.style) parts state.Ok
+ended file caps parts old new x reports = record {
+  text = reports.text;
+  fault = reports.fault;
+  listed = reports.listed;
+  state_is = ap (state_of caps.limits.budget file) reports.wrote.1;
+}
+
+-- a listing that was refused, of a file that has room for a file header
+pub refused : {X : Type 0} (file : List ℕ) (caps : Caps) (parts : ℕ) (old new : Written) (refusal : Refusal) (found : FileState) → 64 ≤ length file
+    → Reports {X = X} file caps parts old new (Err (StopRefused refusal)) → found ≡ (if is_not_elf refusal.cause then state.NoElf else state.Refused refusal)
+    → IsStateOf caps.limits.budget file caps.limits.headers (style_of caps.style) parts found
+refused file caps parts old new refusal found long reports is = record {
+  text = reports.text;
+  fault = reports.fault;
+  listed = reports.listed;
+  state_is = is ∙ (judged_long caps.limits.budget file refusal long ∙ ap (state_of caps.limits.budget file) reports.wrote.1);
+}
+
+-- a state that is that of the listing is found
+pub finds : (caps : Caps) (parts : ℕ) (file : List ℕ) (found : FileState)
+    → IsStateOf caps.limits.budget file caps.limits.headers (style_of caps.style) parts found → FindsState caps parts file found
+finds caps parts file state.Ok is = is
+finds caps parts file (state.Refused refusal) is = is
+finds caps parts file state.NoElf is = is
+finds caps parts file state.Unread is = tt
+finds caps parts file state.Memory is = is

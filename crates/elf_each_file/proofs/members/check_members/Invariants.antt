@@ -1,0 +1,27 @@
+-- The members before the cursor's have no fault, and what may still be asked for is left for those behind.
+use Rattle.std.proofs.Common.{◌≡◌, ℕ, ◌+◌, ◌-◌, ◌≤◌, List, length, Some}
+use Rattle.elf_model.specs.Archive.{before_members}
+use Rattle.elf_model.specs.ArchiveCost.{allowance}
+use Rattle.elf_source.specs.Source.{Reads}
+use Rattle.elf_headers.specs.Permitted.{style_of}
+use Rattle.elf_archive.specs.Members.{WalkStandsIn}
+use Rattle.elf_each_file.proofs.WalkLaws.{CheckedSoFar}
+use Rattle.elf_each_file.proofs.members.check_members.Given as goal
+
+abbrev pub invariant-members : goal.invariant-members
+invariant-members g l =
+    let size = l.fn.src.seen.size in
+    let headers = l.fn.store.slots in
+    let style = style_of l.fn.style in
+    record {
+      stands : WalkStandsIn size l.cursor;
+      slots : l.store.slots ≡ headers;
+      bytes : ℕ;
+      within : bytes + allowance (size - l.cursor.at) headers style ≤ allowance (size - 8) headers style;
+      reads : Reads l.fn.src l.src bytes;
+      walks : (file : List ℕ) → l.fn.src.seen.file ≡ Some file
+          → CheckedSoFar file headers (style_of l.fn.style) l.fn.parts.0 (length file) before_members l.cursor l.fn.src l.src;
+    }
+
+abbrev pub decreases-members : goal.decreases-members
+decreases-members g l = l.fn.src.seen.size + 1 - l.cursor.at

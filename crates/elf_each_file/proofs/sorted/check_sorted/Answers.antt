@@ -1,0 +1,87 @@
+-- The state of a file behind the bytes that tell its sort.
+use Rattle.std.proofs.Common.{ℕ, true, List, Option, Some, sym, ap, subst, ◌∙◌, arith}
+use Rattle.elf_model.specs.declared.states.FileSort.{FileSort}
+use Rattle.elf_headers.specs.Permitted.{style_of}
+use Rattle.elf_each_file.proofs.ListingToldLaws.{fault_fails, front_within, sort_within}
+use Rattle.elf_each_file.specs.Members.{FindsBySort, IsCapsBehind, cost_by}
+use Rattle.elf_each_file.proofs.SortedLaws.{front_eight, sorted_found, state_behind}
+use Rattle.elf_each_file.proofs.sorted.check_sorted.Goals as goal
+
+pub returns-in-Err-clause-read : goal.returns-in-Err-clause-read
+returns-in-Err-clause-read g c = fault_fails c.args.src.now c.find_sort.new.src c.in-Err.field-0 c.in-Err.ensures.fails
+
+pub returns-in-Err-clause-cost : goal.returns-in-Err-clause-cost
+returns-in-Err-clause-cost g c = λ file held.
+    let few = front_eight c.args.caps.limits.budget c.args.src.now.seen.size in
+    omega (arith, c.in-Err.ensures.asks, few)
+
+pub returns-in-Err-clause-asks : goal.returns-in-Err-clause-asks
+returns-in-Err-clause-asks g c =
+    let few = front_eight c.args.caps.limits.budget c.args.src.now.seen.size in
+    let asks = c.in-Err.ensures.asks in
+    record {
+      ceiling = omega (arith, asks, few);
+      budget = front_within true c.args.caps.limits.budget c.args.src.now.seen.size c.args.src.now.asked c.find_sort.new.src.asked asks;
+    }
+
+pub check_by_sort-requires-clause-small : goal.check_by_sort-requires-clause-small
+check_by_sort-requires-clause-small g c =
+    let few = front_eight c.args.caps.limits.budget c.args.src.now.seen.size in
+    (c.requires.small.0 ∙ sym c.behind-left.ensures.headers, omega (arith, c.requires.small.1, c.in-Ok.ensures.asks, few))
+
+pub check_by_sort-requires-clause-whole : goal.check_by_sort-requires-clause-whole
+check_by_sort-requires-clause-whole g c =
+    let keeps = c.in-Ok.ensures.keeps in
+    record {
+      whole = keeps.same_whole ∙ (c.requires.whole.whole ∙ (ap (λ (size : ℕ). Some (record { size = size; file = c.args.src.now.seen.file })) (sym keeps.same_size)
+          ∙ ap (λ (file : Option (List ℕ)). Some (record { size = c.find_sort.new.src.seen.size; file = file })) (sym keeps.same_file)));
+      shows = c.in-Ok.ensures.shows ∙ c.requires.whole.shows;
+    }
+
+pub returns-clause-leaves : goal.returns-clause-leaves
+returns-clause-leaves g c =
+    let keeps = c.in-Ok.ensures.keeps in
+    let more = c.check_by_sort.ensures.leaves.keeps in
+    record {
+      keeps = record {
+        same_size = more.same_size ∙ keeps.same_size;
+        no_fewer = omega (arith, more.no_fewer, keeps.no_fewer);
+        same_file = more.same_file ∙ keeps.same_file;
+        same_whole = more.same_whole ∙ keeps.same_whole;
+      };
+      free = c.check_by_sort.ensures.leaves.free;
+    }
+
+pub returns-clause-state : goal.returns-clause-state
+returns-clause-state g c = λ file held.
+    let keeps = c.in-Ok.ensures.keeps in
+    let sized = c.args.src.now.seen.sized file held in
+    let finds = c.check_by_sort.ensures.state file (keeps.same_file ∙ held) in
+    sorted_found c.args.caps c.args.parts.0 file c.check_by_sort.result (record {
+      left = c.behind-left.result;
+      behind = subst (λ (n : ℕ). IsCapsBehind c.args.caps n c.behind-left.result) (c.length-size.ensures.value ∙ sym sized) c.behind-left.ensures;
+      finds = subst (λ (s : FileSort). FindsBySort s c.behind-left.result c.args.parts.0 file c.check_by_sort.result) (c.in-Ok.ensures.finds file held) finds;
+    })
+
+pub returns-clause-cost : goal.returns-clause-cost
+returns-clause-cost g c = λ file held.
+    let keeps = c.in-Ok.ensures.keeps in
+    let few = front_eight c.args.caps.limits.budget c.args.src.now.seen.size in
+    let most = rw (c.behind-left.ensures.headers, c.behind-left.ensures.style) at (c.check_by_sort.ensures.cost file (keeps.same_file ∙ held)) in
+    let same = ap (λ (s : FileSort). cost_by s file c.args.caps.limits.headers (style_of c.args.caps.style) c.args.parts.0) (c.in-Ok.ensures.finds file held) in
+    omega (arith, c.in-Ok.ensures.asks, few, most, same)
+
+pub returns-clause-read : goal.returns-clause-read
+returns-clause-read g c = state_behind c.args.src.now c.find_sort.new.src c.check_by_sort.new.src c.check_by_sort.result c.in-Ok.ensures.keeps.no_fewer c.check_by_sort.ensures.read
+
+pub returns-clause-asks : goal.returns-clause-asks
+returns-clause-asks g c =
+    let keeps = c.in-Ok.ensures.keeps in
+    let few = front_eight c.args.caps.limits.budget c.args.src.now.seen.size in
+    let most = rw (keeps.same_size, c.behind-left.ensures.headers, c.behind-left.ensures.style) at c.check_by_sort.ensures.asks.ceiling in
+    let left = rw c.length-size.ensures.value at c.behind-left.ensures.budget in
+    record {
+      ceiling = omega (arith, c.in-Ok.ensures.asks, few, most);
+      budget = sort_within true c.args.caps.limits.budget c.behind-left.result.limits.budget c.args.src.now.seen.size c.args.src.now.asked c.find_sort.new.src.asked c.check_by_sort.new.src.asked
+          left c.in-Ok.ensures.asks c.check_by_sort.ensures.asks.budget;
+    }

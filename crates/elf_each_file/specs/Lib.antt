@@ -1,0 +1,8 @@
+pub mod Checked
+pub mod Members
+pub mod ToldChecks
+pub mod Fronts
+pub mod Lists
+pub mod ToldListings
+pub mod Found
+pub mod ToldTraits

@@ -1,0 +1,100 @@
+//! The check of each of many files.
+ghost use Rattle.std.specs.Prelude.{◌≡◌, ◌+◌, ◌≤◌, ◌^◌, ℕ, List, Some};
+ghost use Rattle.elf_archive.specs.Listed.{IsAll};
+ghost use Rattle.elf_headers.specs.Permitted.{style_of};
+ghost use Rattle.elf_many.specs.Checked.{FailsRead};
+ghost use Rattle.elf_each_file.specs.ToldChecks.{AsksInCheck, Finds, cost_of_check};
+
+use crate::checking::check;
+use crate::sorted::check_sorted;
+use elf_headers::{Caps, HeaderStore};
+use elf_lines::show_check;
+use elf_many::{EachFile, status};
+use elf_model::FileState;
+use elf_record::Parts;
+use elf_source::{Counted, HoldingSink, Out, OutFault, RangeSource, Sink, Source};
+use std::marker::Model;
+
+/// The rule by which files are checked.
+#[derive(Clone, Copy)]
+pub struct CheckRule {
+    /// How much of the file may be read, and how rows of its listing are shown.
+    pub caps: Caps<'static>,
+    /// The parts of its listing that count.
+    pub parts: Parts,
+    /// Whether an archive has the state of its members' listings.
+    pub members: bool,
+}
+
+/// Checks files, and writes the line of each: what its own listing ends with, within what is asked for.
+#[derive(Drop)]
+pub struct Checks<'a> {
+    store: HeaderStore<'a>,
+    rule: CheckRule,
+}
+
+impl<'a> Model for Checks<'a> {
+    ghost use Rattle.std.specs.Prelude.{◌≡◌};
+    ghost use Rattle.elf_each_file.specs.declared.checks.CheckRule.{CheckRule};
+
+    ghost Value = { CheckRule };
+
+    ghost view = { λ c. c.rule };
+
+    ghost invariant = { λ c. c.store.slots ≡ c.rule.caps.limits.headers };
+}
+
+impl<'a> Checks<'a> {
+    /// A check by a rule, with a store, which has a slot for each header that the rule permits.
+    pub fn new(store: HeaderStore<'a>, rule: CheckRule) -> Self
+        requires { store.slots ≡ rule.caps.limits.headers }
+        ensures { result ≡ rule }
+    {
+        Checks { store, rule }
+    }
+}
+
+impl<'a> EachFile for Checks<'a> {
+    type Rule = CheckRule;
+
+    ghost use Rattle.elf_each_file.specs.ToldChecks.{TellsState};
+
+    ghost rule = { λ c. c };
+
+    ghost tells = { λ rule path. TellsState rule.members rule.caps rule.parts.0 path };
+
+    fn tell<S: Source, W: Sink>(
+        &mut self,
+        src: &mut Counted<RangeSource<S>>,
+        path: &[u8],
+        out: &mut Out<HoldingSink<W>>,
+    ) -> Result<u8, OutFault> {
+        let state = find_state(src, &mut self.store, &self.rule);
+        show_check(state, path, self.rule.caps.style.format, out)?;
+        Ok(status(state))
+    }
+}
+
+/// The state of one file by a rule: that of its listing, or where archives are gone into by what it is.
+fn find_state<S: Source>(
+    src: &mut Counted<RangeSource<S>>,
+    store: &mut HeaderStore,
+    rule: &CheckRule,
+) -> FileState
+    requires small { (store.old.slots ≡ rule.now.caps.limits.headers) × (src.old.asked ≤ 2 ^ 126) }
+    requires whole { IsAll src.old }
+    ensures slots { store.new.slots ≡ store.old.slots }
+    ensures state { (file : List ℕ) → src.old.seen.file ≡ Some file →
+        Finds rule.now.members rule.now.caps rule.now.parts.0 file result }
+    ensures cost { (file : List ℕ) → src.old.seen.file ≡ Some file →
+        src.new.asked ≤ src.old.asked + cost_of_check rule.now.members rule.now.caps file
+        rule.now.caps.limits.headers (style_of rule.now.caps.style) rule.now.parts.0 }
+    ensures read { FailsRead src.old src.new result }
+    ensures asks { AsksInCheck rule.now.members rule.now.caps src.old src.new }
+{
+    if rule.members {
+        check_sorted(src, store, rule.caps, rule.parts)
+    } else {
+        check(src, store, rule.caps, rule.parts)
+    }
+}

@@ -1,0 +1,52 @@
+//! A listing behind the line of its file's path.
+ghost use Rattle.std.specs.Prelude.{◌≡◌, ◌+◌, ◌≤◌, ◌^◌, ℕ, List, Some, IfErr};
+ghost use Rattle.elf_archive.specs.Listed.{IsAll};
+ghost use Rattle.elf_headers.specs.Permitted.{style_of};
+ghost use Rattle.elf_listing.specs.Reports.{Leaves};
+ghost use Rattle.elf_each_file.specs.Lists.{AsksForSort, ListsHeaded, SortSays, sort_cost};
+ghost use Rattle.elf_model.specs.FileLists.{path_line};
+
+use crate::path_lines::{hold_path, show_path};
+use crate::rule::ListRule;
+use crate::sorts::list_sort;
+use elf_archive::end_listed;
+use elf_headers::{HeaderStore, Stop};
+use elf_model::FileSort;
+use elf_source::{Counted, HoldingSink, Out, RangeSource, Sink, Source};
+
+/// Writes the line of a path, and behind it the listing of the file there as [`list_sort`] does; where rows
+/// are chosen by their names the line stands only before something that is listed. Answers whether the
+/// listing of a member was refused. Of the budget is left what the rule's caps have.
+///
+/// # Errors
+/// As of [`list_sort`], with a front of the line and the listing written, and as of [`hold_path`].
+pub fn list_headed<S: Source, W: Sink>(
+    src: &mut Counted<RangeSource<S>>,
+    store: &mut HeaderStore,
+    rule: &ListRule,
+    sort: FileSort,
+    path: &[u8],
+    out: &mut Out<HoldingSink<W>>,
+) -> Result<bool, Stop>
+    requires small { (store.old.slots ≡ rule.now.caps.limits.headers) × (src.old.asked ≤ 2 ^ 127) }
+    requires whole { IsAll src.old }
+    ensures slots { store.new.slots ≡ store.old.slots }
+    ensures leaves { Leaves src.old src.new }
+    ensures says { IfErr result (SortSays src.old src.new out.new) }
+    ensures lists { (file : List ℕ) → src.old.seen.file ≡ Some file →
+        ListsHeaded sort (path_line rule.now.caps.style.format path.now) file rule.now.caps.limits
+        (style_of rule.now.caps.style) rule.now.parts.0 out.old out.new result }
+    ensures cost { (file : List ℕ) → src.old.seen.file ≡ Some file →
+        src.new.asked ≤ src.old.asked + sort_cost sort file rule.now.caps.limits.headers
+        (style_of rule.now.caps.style) rule.now.parts.0 }
+    ensures asks { AsksForSort sort rule.now.caps src.old src.new }
+{
+    src.limit(None);
+    if !rule.caps.style.choice.by_name {
+        show_path(path, rule.caps.style.format, out)?;
+        return list_sort(src, store, rule.caps, rule.parts, sort, out);
+    }
+    let line = hold_path(path, rule.caps.style.format, out)?;
+    let listed = list_sort(src, store, rule.caps, rule.parts, sort, out);
+    end_listed(line, listed, out)
+}

@@ -1,0 +1,92 @@
+//! The check of a file by what it is, where archives are gone into.
+ghost use Rattle.std.specs.Prelude.{◌≡◌, ◌+◌, ◌≤◌, ◌^◌, ℕ, List, Some};
+ghost use Rattle.elf_archive.specs.Listed.{IsAll};
+ghost use Rattle.elf_headers.specs.Permitted.{style_of};
+ghost use Rattle.elf_listing.specs.Reports.{Leaves};
+ghost use Rattle.elf_many.specs.Checked.{FailsRead};
+ghost use Rattle.elf_each_file.specs.Members.{AsksInMembers, AsksInSorted, FindsBySort};
+ghost use Rattle.elf_each_file.specs.Members.{FindsSorted, IsCapsBehind, cost_by, sorted_cost};
+
+use crate::checking::check;
+use crate::members::check_archive;
+use crate::{budget_behind, find_sort, front_bytes};
+use elf_headers::{Caps, HeaderStore, Limits};
+use elf_model::{FileSort, FileState};
+use elf_record::Parts;
+use elf_source::{Counted, RangeSource, Source};
+
+/// Checks one file, of which its first bytes tell what it is: an ELF file as [`check`] does, an archive
+/// with its members as [`check_archive`] does; a file of another kind is no ELF file. These bytes count
+/// towards the budget. Of the source and the store the same holds as for `check_archive`.
+pub fn check_sorted<S: Source>(
+    src: &mut Counted<RangeSource<S>>,
+    store: &mut HeaderStore,
+    caps: Caps,
+    parts: Parts,
+) -> FileState
+    requires small { (store.old.slots ≡ caps.limits.headers) × (src.old.asked ≤ 2 ^ 126) }
+    requires whole { IsAll src.old }
+    ensures slots { store.new.slots ≡ store.old.slots }
+    ensures leaves { Leaves src.old src.new }
+    ensures state { (file : List ℕ) → src.old.seen.file ≡ Some file →
+        FindsSorted caps.entry parts.0 file result }
+    ensures cost { (file : List ℕ) → src.old.seen.file ≡ Some file →
+        src.new.asked ≤ src.old.asked
+        + sorted_cost caps.entry file caps.entry.limits.headers (style_of caps.entry.style)
+        parts.0 }
+    // For every source.
+    ensures read { FailsRead src.old src.new result }
+    ensures asks { AsksInSorted caps.entry src.old src.new }
+{
+    let size = src.length();
+    let sort = match find_sort(src, true, caps.limits.budget) {
+        Ok(sort) => sort,
+        Err(_) => return FileState::Unread,
+    };
+    let left = behind(caps, size);
+    check_by_sort(src, store, left, parts, sort)
+}
+
+/// Checks one file of a sort. Afterwards no limit is set.
+fn check_by_sort<S: Source>(
+    src: &mut Counted<RangeSource<S>>,
+    store: &mut HeaderStore,
+    caps: Caps,
+    parts: Parts,
+    sort: FileSort,
+) -> FileState
+    requires small { (store.old.slots ≡ caps.limits.headers) × (src.old.asked ≤ 2 ^ 127) }
+    requires whole { IsAll src.old }
+    ensures slots { store.new.slots ≡ store.old.slots }
+    ensures leaves { Leaves src.old src.new }
+    ensures state { (file : List ℕ) → src.old.seen.file ≡ Some file →
+        FindsBySort sort caps.entry parts.0 file result }
+    ensures cost { (file : List ℕ) → src.old.seen.file ≡ Some file →
+        src.new.asked ≤ src.old.asked
+        + cost_by sort file caps.entry.limits.headers (style_of caps.entry.style) parts.0 }
+    ensures read { FailsRead src.old src.new result }
+    ensures asks { AsksInMembers caps.entry src.old src.new }
+{
+    match sort {
+        FileSort::Elf => check(src, store, caps, parts),
+        FileSort::Archive => check_archive(src, store, caps, parts),
+        FileSort::Foreign => {
+            src.limit(None);
+            FileState::NoElf
+        }
+    }
+}
+
+/// The caps for what stands behind the bytes that tell what a file of so many bytes is: of the budget is
+/// left what they did not take.
+fn behind<'n>(caps: Caps<'n>, size: u64) -> Caps<'n>
+    ensures { IsCapsBehind caps.entry size result }
+{
+    Caps {
+        limits: Limits {
+            headers: caps.limits.headers,
+            budget: budget_behind(caps.limits.budget, front_bytes(true, size)),
+        },
+        style: caps.style,
+    }
+}

@@ -1,0 +1,67 @@
+//! The listing of a file, by its sort.
+ghost use Rattle.std.specs.Prelude.{◌≡◌, ◌+◌, ◌≤◌, ◌^◌, ℕ, List, Some, IfErr};
+ghost use Rattle.elf_archive.specs.Listed.{IsAll};
+ghost use Rattle.elf_headers.specs.Permitted.{style_of};
+ghost use Rattle.elf_listing.specs.Reports.{Leaves};
+ghost use Rattle.elf_each_file.specs.Lists.{AsksForSort, ListsSort, SortSays, sort_cost};
+ghost use Rattle.elf_model.specs.FileLists.{members_alone};
+ghost use Rattle.elf_source.specs.Growth.{Grows};
+
+use elf_archive::show_archive;
+use elf_headers::{Caps, HeaderStore, Stop, Style};
+use elf_listing::show;
+use elf_model::FileSort;
+use elf_record::Parts;
+use elf_source::{Counted, HoldingSink, Out, RangeSource, Sink, Source};
+
+/// Writes the listing of a file of a sort: of an ELF file its own, of an archive that of its members, whose
+/// lines stand alone where all rows are shown, of another file nothing. The last line is that of its refusal, if it has one. Answers whether the listing
+/// of a member was refused. The source is a range of all bytes of the file, with nothing hidden; of it and
+/// the store the same holds as for [`show_archive`].
+///
+/// # Errors
+/// As of [`show`] and [`show_archive`].
+pub fn list_sort<S: Source, W: Sink>(
+    src: &mut Counted<RangeSource<S>>,
+    store: &mut HeaderStore,
+    caps: Caps,
+    parts: Parts,
+    sort: FileSort,
+    out: &mut Out<HoldingSink<W>>,
+) -> Result<bool, Stop>
+    requires small { (store.old.slots ≡ caps.limits.headers) × (src.old.asked ≤ 2 ^ 127) }
+    requires whole { IsAll src.old }
+    ensures slots { store.new.slots ≡ store.old.slots }
+    ensures grows { Grows out.old out.new }
+    ensures leaves { Leaves src.old src.new }
+    ensures says { IfErr result (SortSays src.old src.new out.new) }
+    ensures lists { (file : List ℕ) → src.old.seen.file ≡ Some file →
+        ListsSort sort file caps.entry.limits (style_of caps.entry.style) parts.0
+        out.old out.new result }
+    ensures cost { (file : List ℕ) → src.old.seen.file ≡ Some file →
+        src.new.asked ≤ src.old.asked
+        + sort_cost sort file caps.entry.limits.headers (style_of caps.entry.style) parts.0 }
+    ensures asks { AsksForSort sort caps.entry src.old src.new }
+{
+    match sort {
+        FileSort::Elf => {
+            show(src, store, caps, parts, out)?;
+            Ok(false)
+        }
+        FileSort::Archive => {
+            let alone = are_alone(&caps.style);
+            show_archive(src, store, caps, parts, alone, out)
+        }
+        FileSort::Foreign => {
+            src.limit(None);
+            Ok(false)
+        }
+    }
+}
+
+/// Whether the lines of members stand alone.
+fn are_alone(style: &Style) -> bool
+    ensures { result ≡ members_alone (style_of style.now).choice }
+{
+    !style.choice.by_name
+}

@@ -1,0 +1,58 @@
+//! How a program ends.
+ghost use Rattle.std.specs.Prelude.{◌≡◌, IfErr, IfOk};
+ghost use Rattle.std.specs.Process.{exit_status as status_of};
+ghost use Rattle.elf_endings.specs.Endings.{error_line, exit_status};
+
+use elf_headers::Stop;
+use std::process::ExitCode;
+
+/// An exit status, and a line for standard error, which is empty where there is nothing to say.
+pub type Ending = (u8, &'static str);
+
+/// The words ask for nothing that there is, or for help: what is said about that stands before.
+pub const BAD_WORDS: Ending = (2, "");
+
+/// The words are no text.
+pub(crate) const NOT_UTF8: Ending = (2, "elfsee: words are not UTF-8");
+
+/// There was no memory.
+pub const OUT_OF_MEMORY: Ending = (3, "elfsee: out of memory");
+
+/// The file can't be opened.
+pub const CANNOT_OPEN: Ending = (3, "elfsee: cannot open");
+
+/// The file can't be read.
+pub const READ_FAULT: Ending = (3, "elfsee: read fault");
+
+/// The output can't be written.
+pub(crate) const WRITE_FAULT: Ending = (3, "elfsee: write fault");
+
+/// The exit status of a run, which is 1 for a refusal, and its line on standard error, which is empty
+/// for a status of 0 or 1.
+pub fn outcome(answer: &Result<u8, Stop>) -> Ending
+    ensures status { result.0 ≡ exit_status answer.now }
+    ensures line { result.1.now ≡ error_line answer.now }
+{
+    match answer {
+        Ok(status) => (*status, ""),
+        Err(Stop::Refused(_)) => (1, ""),
+        Err(Stop::Source { .. }) => READ_FAULT,
+        Err(Stop::Out(_)) => WRITE_FAULT,
+    }
+}
+
+/// Tells the line of an ending on standard error, if it has one, and answers its exit status. Where
+/// standard error can't be written either, the status alone says so.
+pub fn exit<R: Eprint>(rt: &R, ending: Result<Ending, Ending>) -> ExitCode
+    ensures ok { IfOk ending.entry (λ ending. status_of result ≡ ending.0) }
+    ensures err { IfErr ending.entry (λ ending. status_of result ≡ ending.0) }
+{
+    let (status, line) = match ending {
+        Ok(ending) => ending,
+        Err(ending) => ending,
+    };
+    if !line.is_empty() {
+        let _ = eprintln!(rt; "{line}");
+    }
+    ExitCode::from(status)
+}

@@ -1,0 +1,10 @@
+pub mod PartLaws
+pub mod TokenLaws
+pub mod PathLaws
+pub mod OnSearch
+pub mod FolderLaws
+pub mod TextLaws
+pub mod OnLinks
+pub mod LinkLaws
+pub mod LoopLaws
+pub mod ReadingLaws

@@ -1,0 +1,8 @@
+pub mod Searching
+pub mod Steps
+pub mod WorkedPaths
+pub mod Pieces
+pub mod Held
+pub mod Entries
+pub mod Reading
+pub mod WorkedLinks

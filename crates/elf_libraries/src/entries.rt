@@ -1,0 +1,165 @@
+//! The dynamic entries that tell how a file is linked.
+ghost use Rattle.std.specs.Prelude.{◌≡◌, ◌+◌, ◌*◌, ◌==◌, ℕ, List, None, Some, IfErr, IfOk, if◌then◌else◌};
+ghost use Rattle.elf_headers.specs.Faults.{IsOfCheck};
+ghost use Rattle.elf_headers.specs.Ledger.{Did, why_stopped};
+ghost use Rattle.elf_headers.specs.Load.{Views};
+ghost use Rattle.elf_model.specs.Dynamic.{dynamic_count};
+ghost use Rattle.elf_model.specs.Links.{is_link, linked_from, linked_with, no_links};
+ghost use Rattle.elf_model.specs.Links.{LinkState};
+ghost use Rattle.elf_model.specs.Mapped.{strings_at};
+ghost use Rattle.elf_model.specs.Records.{d_tag};
+ghost use Rattle.elf_record.specs.Dyn.{IsDyn};
+ghost use Rattle.elf_table.specs.Tables.{RowsWithin, StringsWithin, size_of};
+ghost use Rattle.elf_libraries.specs.Entries.{KeepsLinks, TellsLinks, TellsStrings, with_index};
+ghost use Rattle.elf_libraries.specs.Held.{HeldLinks};
+
+use crate::links::{FileLinks, LinkStore, Need};
+use elf_headers::{Fault, refused};
+use elf_note::{DynStrings, dynamic_rows, entry_in};
+use elf_record::numbers::{DT_NEEDED, DT_RPATH, DT_RUNPATH, DT_SONAME};
+use elf_record::{Cause, Dyn};
+use elf_source::{Counted, Source};
+use elf_table::{Names, SegmentView, Table};
+
+/// Where the texts of dynamic entries are: at the address that the entries tell, where a segment loads them.
+#[derive(Clone, Copy)]
+pub(crate) struct EntryTexts<'v, 'f> {
+    /// The file with its program headers.
+    pub view: &'v SegmentView<'f>,
+    /// The address and the size that the entries tell.
+    pub told: DynStrings,
+}
+
+/// What the listed entries of a table tell of how a file is linked. Each of its bytes is asked for at most
+/// once.
+///
+/// # Errors
+/// At an entry: `Unmapped` and `TableOutside` as [`SegmentView::mapped`] has them, a fault of its text, and
+/// `TooLong` where that has more than 4,096 bytes or finds no room. Else a fault of a read, or a refusal for
+/// want of budget.
+pub(crate) fn listed_links<S: Source>(
+    src: &mut Counted<S>,
+    strings: &EntryTexts<'_, '_>,
+    table: Table,
+    store: &mut LinkStore,
+) -> Result<FileLinks, Fault>
+    requires rows { table.entry ≡ 16 }
+    requires within { RowsWithin src.old.seen.size table }
+    requires size { strings.now.view.now.loaded.size ≡ src.old.seen.size }
+    ensures { Did src.old src.new (why_stopped result) (size_of table + table.count * 4160)
+        (λ file. Views file strings.now.view.now.loaded strings.now.view.now.store.now →
+        TellsLinks (linked_from file strings.now.told.address strings.now.told.size table.at
+        (record { links = no_links; room = store.old.held.room })
+        (dynamic_count file table.at table.count)) store.old store.new result) }
+{
+    let mut links = no_links();
+    let mut cursor = dynamic_rows(table);
+    'entries: while cursor.advance(src)? {
+        let row = cursor.row();
+        let entry = entry_in(&row);
+        links = with_entry(src, strings, row.at, &entry, links, store)?;
+    }
+    Ok(links)
+}
+
+/// What no entry tells.
+pub(crate) fn no_links() -> FileLinks
+    ensures { result ≡ record { soname = None; rpath = None; runpath = None } }
+{
+    FileLinks {
+        soname: None,
+        rpath: None,
+        runpath: None,
+    }
+}
+
+/// What entries tell, with one more, at a file offset.
+///
+/// # Errors
+/// Those of [`listed_links`].
+fn with_entry<S: Source>(
+    src: &mut Counted<S>,
+    strings: &EntryTexts<'_, '_>,
+    at: u64,
+    entry: &Dyn,
+    links: FileLinks,
+    store: &mut LinkStore,
+) -> Result<FileLinks, Fault>
+    requires { strings.now.view.now.loaded.size ≡ src.old.seen.size }
+    ensures { Did src.old src.new (why_stopped result) 4160
+        (λ file. Views file strings.now.view.now.loaded strings.now.view.now.store.now →
+        IsDyn file at entry.now → (before : HeldLinks) (state : LinkState) →
+        KeepsLinks before store.old links state →
+        TellsLinks (linked_with file strings.now.told.address strings.now.told.size at state)
+        before store.new result) }
+{
+    let tag = tag_of(entry);
+    if !is_link(tag) {
+        return Ok(links);
+    }
+    let names = mapped_strings(strings, at)?;
+    let text = store.read(src, names, entry.d_un, at)?;
+    if tag != DT_NEEDED {
+        return Ok(with_text(links, tag, text));
+    }
+    if store.keep_need(Need { at, name: text }) {
+        return Ok(links);
+    }
+    refused(at, Cause::TooLong)
+}
+
+/// The tag of an entry.
+fn tag_of(entry: &Dyn) -> u64
+    ensures { (file : List ℕ) (at : ℕ) → IsDyn file at entry.now → result ≡ d_tag file at }
+{
+    entry.d_tag.cast_unsigned()
+}
+
+/// Whether entries of a tag have a text here.
+fn is_link(tag: u64) -> bool
+    ensures { result ≡ is_link tag }
+{
+    tag == DT_NEEDED || tag == DT_SONAME || tag == DT_RPATH || tag == DT_RUNPATH
+}
+
+/// The string table that entries tell of, for the entry at a file offset.
+///
+/// # Errors
+/// `Unmapped` and `TableOutside` as [`SegmentView::mapped`] has them; `Unmapped` at the entry where no
+/// address or no size is told.
+fn mapped_strings(strings: &EntryTexts<'_, '_>, at: u64) -> Result<Names, Fault>
+    ensures within { IfOk result (StringsWithin strings.now.view.now.loaded.size) }
+    ensures refusal { IfErr result IsOfCheck }
+    ensures tells { (file : List ℕ) →
+        Views file strings.now.view.now.loaded strings.now.view.now.store.now → TellsStrings file
+        (strings_at file at strings.now.told.address strings.now.told.size) result }
+{
+    let Some(address) = strings.told.address else {
+        return refused(at, Cause::Unmapped);
+    };
+    let Some(size) = strings.told.size else {
+        return refused(at, Cause::Unmapped);
+    };
+    strings.view.mapped(address, size, at)
+}
+
+/// The links with a text, unless an entry before told of one.
+fn with_text(links: FileLinks, tag: u64, text: u32) -> FileLinks
+    ensures { result ≡ with_index links tag text }
+{
+    FileLinks {
+        soname: links.soname.or(text_of(tag, DT_SONAME, text)),
+        rpath: links.rpath.or(text_of(tag, DT_RPATH, text)),
+        runpath: links.runpath.or(text_of(tag, DT_RUNPATH, text)),
+    }
+}
+
+/// A text, where the tag is this one.
+fn text_of(tag: u64, wanted: u64, text: u32) -> Option<u32>
+    ensures { result ≡ (if tag == wanted then Some text else None) }
+{
+    if tag == wanted {
+        return Some(text);
+    }
+    None
+}

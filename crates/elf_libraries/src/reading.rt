@@ -1,0 +1,180 @@
+//! What one file needs.
+ghost use Rattle.std.specs.Prelude.{◌≡◌, ◌<◌, ◌^◌, ◌+◌, ◌*◌, ◌/◌, ℕ, List};
+ghost use Rattle.elf_headers.specs.Ledger.{Did, why_stopped};
+ghost use Rattle.elf_headers.specs.Load.{Views};
+ghost use Rattle.elf_model.specs.Links.{links_by_segments, links_ceiling, links_of};
+ghost use Rattle.elf_model.specs.Links.{loaded_links, lookup_refusal};
+ghost use Rattle.elf_model.specs.Records.{e_shnum};
+ghost use Rattle.elf_source.specs.Source.{Reads};
+ghost use Rattle.elf_libraries.specs.Entries.{TellsLinks};
+ghost use Rattle.elf_libraries.specs.Reading.{TellsLookupRefusal, linked_in_segments, lookup_passed};
+
+use crate::entries::{EntryTexts, listed_links, no_links};
+use crate::links::{FileLinks, LinkStore};
+use elf_headers::{Fault, HeaderStore, fill, header, load, refused};
+use elf_lookup_tables::find_in_segments;
+use elf_note::dynamic_strings;
+use elf_record::numbers::PT_DYNAMIC;
+use elf_record::{Cause, Refusal, u16_at, word};
+use elf_source::{Counted, Source};
+use elf_table::SegmentView;
+
+/// How many bytes of a file tell its class, its encoding and its machine (gABI 4, ELF Header).
+const FRONT_BYTES: usize = 20;
+/// The number of the magic number's four bytes (gABI 4, ELF Identification).
+const MAGIC: u32 = 0x464c_457f;
+/// The class of files of 64 bits, at byte 4, and the encoding that is little-endian, at byte 5.
+const CLASS_64: u8 = 2;
+
+const LITTLE_ENDIAN: u8 = 1;
+
+/// The machine of a file of 64 bits that is little-endian; None of any other file.
+///
+/// # Errors
+/// A fault of a read, or a refusal for want of budget.
+pub fn machine_of<S: Source>(src: &mut Counted<S>) -> Result<Option<u16>, Fault>
+    ensures { Reads src.old src.new 20 }
+{
+    if src.length() < FRONT_BYTES as u64 {
+        return Ok(None);
+    }
+    let mut front = [0; FRONT_BYTES];
+    fill(src, 0, &mut front)?;
+    if word(&[front[0], front[1], front[2], front[3]]) != MAGIC
+        || front[4] != CLASS_64
+        || front[5] != LITTLE_ENDIAN
+    {
+        return Ok(None);
+    }
+    Ok(Some(u16_at(&front, 18)))
+}
+
+/// How a file is linked, as a loader sees it: by its program headers, whatever its section headers are. The
+/// texts and the needs are kept in the store of links, behind those that are there; where this fails some
+/// may stand there that nothing tells of.
+///
+/// Where the source's file is known what is told and kept is the file's own, and so is the refusal.
+///
+/// # Errors
+/// The first that fails: the checks of [`header`] and of [`load`]; of [`find_in_segments`], but `NoHash`;
+/// of the first segment of dynamic entries; of each entry with a text, at the entry: its string table, its
+/// text, and `TooLong` where that has more than 4,096 bytes or finds no room. Else a fault of a read, or a
+/// refusal for want of budget.
+pub fn read_links<S: Source>(
+    src: &mut Counted<S>,
+    store: &mut HeaderStore,
+    links: &mut LinkStore,
+) -> Result<FileLinks, Fault>
+    ensures did { Did src.old src.new (why_stopped result)
+        (links_ceiling src.old.seen.size store.old.slots)
+        (λ file. TellsLinks (links_of file store.old.slots links.old.held.room)
+        links.old links.new result) }
+    ensures slots { store.new.slots ≡ store.old.slots }
+{
+    let hides = src.hides();
+    src.hide_sections(true);
+    let found = shown_links(src, store, links);
+    src.hide_sections(hides);
+    found
+}
+
+/// The same of the file that the source shows, whose header locates no section headers.
+///
+/// # Errors
+/// Those of [`read_links`].
+fn shown_links<S: Source>(
+    src: &mut Counted<S>,
+    store: &mut HeaderStore,
+    links: &mut LinkStore,
+) -> Result<FileLinks, Fault>
+    ensures did { Did src.old src.new (why_stopped result)
+        (links_ceiling src.old.seen.size store.old.slots)
+        (λ file. e_shnum file ≡ 0 →
+        TellsLinks (links_by_segments file store.old.slots links.old.held.room)
+        links.old links.new result) }
+    ensures slots { store.new.slots ≡ store.old.slots }
+{
+    let header = header(src)?;
+    if header.e_shnum != 0 {
+        return refused(0x3c, Cause::TooManyHeaders);
+    }
+    let loaded = load(src, store, &header)?;
+    loaded.load_segments(src, store)?;
+    view_links(src, &SegmentView { loaded, store }, links)
+}
+
+/// The same of a file whose program headers are loaded.
+///
+/// # Errors
+/// Those of [`read_links`] behind the load.
+fn view_links<S: Source>(
+    src: &mut Counted<S>,
+    view: &SegmentView<'_>,
+    links: &mut LinkStore,
+) -> Result<FileLinks, Fault>
+    requires size { view.now.loaded.size ≡ src.old.seen.size }
+    requires small { view.now.loaded.size < 2 ^ 63 }
+    ensures { Did src.old src.new (why_stopped result)
+        (3 * src.old.seen.size + src.old.seen.size / 16 * 4160)
+        (λ file. Views file view.now.loaded view.now.store.now →
+        TellsLinks (loaded_links file links.old.held.room) links.old links.new result) }
+{
+    check_lookup(src, view)?;
+    entry_links(src, view, links)
+}
+
+/// What the first segment of dynamic entries tells; nothing where there is none.
+///
+/// # Errors
+/// Those of [`SegmentView::dynamic`], and those of the entries.
+fn entry_links<S: Source>(
+    src: &mut Counted<S>,
+    view: &SegmentView<'_>,
+    links: &mut LinkStore,
+) -> Result<FileLinks, Fault>
+    requires { view.now.loaded.size ≡ src.old.seen.size }
+    ensures { Did src.old src.new (why_stopped result)
+        (2 * src.old.seen.size + src.old.seen.size / 16 * 4160)
+        (λ file. Views file view.now.loaded view.now.store.now →
+        TellsLinks (linked_in_segments file links.old.held.room) links.old links.new result) }
+{
+    let Some(segment) = view.first_segment(PT_DYNAMIC) else {
+        return Ok(no_links());
+    };
+    let table = view.dynamic(segment)?;
+    let told = dynamic_strings(table, src)?;
+    let strings = EntryTexts { view, told };
+    listed_links(src, &strings, table, links)
+}
+
+/// Checks what a lookup is made in; a file without a hash table has none.
+///
+/// # Errors
+/// Those of [`find_in_segments`] but `NoHash`.
+fn check_lookup<S: Source>(src: &mut Counted<S>, view: &SegmentView<'_>) -> Result<(), Fault>
+    requires size { view.now.loaded.size ≡ src.old.seen.size }
+    requires small { view.now.loaded.size < 2 ^ 63 }
+    ensures { Did src.old src.new (why_stopped result) src.old.seen.size
+        (λ file. Views file view.now.loaded view.now.store.now →
+        TellsLookupRefusal (lookup_refusal file) result) }
+{
+    match find_in_segments(src, view) {
+        Ok(_) => Ok(()),
+        Err(fault) => without_hash(fault),
+    }
+}
+
+/// No fault where there is no hash table, else the fault.
+fn without_hash(fault: Fault) -> Result<(), Fault>
+    ensures { result ≡ lookup_passed fault }
+{
+    match fault {
+        Fault::Refused(
+            Refusal {
+                at: _,
+                cause: Cause::NoHash,
+            },
+        ) => Ok(()),
+        _ => Err(fault),
+    }
+}

@@ -1,0 +1,78 @@
+//! The paths that are tried in the folders of a text.
+ghost use Rattle.std.specs.Prelude.{◌≡◌, ◌∷◌, [], true, false};
+ghost use Rattle.elf_libraries.specs.Searching.{folder_paths};
+ghost use Rattle.elf_libraries.specs.Steps.{folders_of};
+
+use crate::folder_entries::first_entry;
+use crate::folders::FolderList;
+use crate::paths::{TriedPath, put_entry};
+use std::marker::Model;
+
+/// The paths of a name in the folders of a text that were not tried yet.
+#[derive(Drop)]
+pub struct PathTries<'a> {
+    root: &'a [u8],
+    name: &'a [u8],
+    origin: Option<&'a [u8]>,
+    /// What is left of the text.
+    left: Option<&'a [u8]>,
+}
+
+impl<'a> Model for PathTries<'a> {
+    ghost use Rattle.std.specs.Prelude.{List, ℕ};
+    ghost use Rattle.elf_libraries.specs.Searching.{entry_paths};
+    ghost use Rattle.elf_libraries.specs.Steps.{left_entries, origin_of};
+
+    ghost Value = { List (List ℕ) };
+
+    ghost view = { λ t. entry_paths t.root.now t.name.now (origin_of t.origin) (left_entries t.left) };
+}
+
+impl<'a> PathTries<'a> {
+    /// The paths of a name in the folders of a text, below a root: what stands before each folder that is
+    /// written with a slash at its front.
+    #[tactic(auto, unfolding(crate::specs::Searching::entries_of, crate::specs::Searching::entry_paths))]
+    pub fn new(root: &'a [u8], name: &'a [u8], folders: FolderList<'a>) -> PathTries<'a>
+        ensures { result ≡ folder_paths root.now name.now (folders_of folders.entry) }
+    {
+        let left = if folders.text.is_empty() {
+            None
+        } else {
+            Some(folders.text)
+        };
+        PathTries {
+            root,
+            name,
+            origin: folders.origin,
+            left,
+        }
+    }
+
+    /// No path of a name.
+    #[tactic(auto, unfolding(crate::specs::Searching::entry_paths))]
+    pub(crate) fn none(root: &'a [u8], name: &'a [u8]) -> PathTries<'a>
+        ensures { result ≡ [] }
+    {
+        PathTries {
+            root,
+            name,
+            origin: None,
+            left: None,
+        }
+    }
+
+    /// Makes the next path. Answers whether there is one; else what the path holds means nothing.
+    pub fn next(&mut self, path: &mut TriedPath) -> bool
+        ensures next { result ≡ true → self.old ≡ path.new.items ∷ self.new }
+        ensures none { result ≡ false → self.old ≡ [] }
+    {
+        while let Some(text) = self.left {
+            let entry = first_entry(text);
+            self.left = entry.behind;
+            if put_entry(path, self.root, self.name, entry.text, self.origin) {
+                return true;
+            }
+        }
+        false
+    }
+}

@@ -1,5 +1,0 @@
-pub mod TextLaws
-pub mod OnLinks
-pub mod LinkLaws
-pub mod LoopLaws
-pub mod ReadingLaws

@@ -1,0 +1,26 @@
+-- The entry of the hash table decides.
+use Rattle.elf_hash.specs.Kinds.{hash_kind_of}
+use Rattle.elf_lookup_tables.proofs.ScopeLaws.{entries_find, entries_none}
+use Rattle.elf_headers.proofs.Absent.{none-of}
+use Rattle.elf_model.specs.Records.{segment_at}
+use Rattle.elf_lookup_tables.proofs.SettleLaws.{refuses}
+use Rattle.elf_lookup_tables.proofs.by_segments.by_entries.Goals as goal
+
+pub returns-in_default : goal.returns-in_default
+returns-in_default c =
+    rw c.refused.ensures
+    (refuses _ (λ budget. cc) (λ bytes views are other.
+    let at = segment_at bytes c.args.segment in
+    let all = c.hash_entry.ensures bytes at are in
+    entries_none bytes c.args.segment at (rw (none-of c.hash_entry.result c.in_default.not-Some) at all)))
+
+pub returns : goal.returns
+returns c = record {
+  held = λ bytes views are.
+      let at = segment_at bytes c.args.segment in
+      let all = c.hash_entry.ensures bytes at are in
+      let told = rw c.in-Some.is at all in
+      entries_find bytes c.args.segment at (hash_kind_of c.in-Some.kind, c.in-Some.row.at) told.0 _ (c.segment_scope.ensures.held bytes views are told.1);
+  within = c.segment_scope.ensures.within;
+  refusal = c.segment_scope.ensures.refusal;
+}

@@ -1,0 +1,35 @@
+-- The tables that a lookup searches in a file, and what finding them costs.
+use Rattle.std.specs.Prelude.{ℕ, ◌+◌, ◌*◌, ◌==◌, true, false, List, None, Some, Result}
+use Rattle.elf_model.specs.Checks.{first_refusal, before_headers}
+use Rattle.elf_model.specs.Cost.{cost_where}
+use Rattle.elf_model.specs.LoaderFind.{segments_asked}
+use Rattle.elf_model.specs.LoaderScope.{Scope as IsScopeOf, scope_by_sections, scope_by_segments, scope_of}
+use Rattle.elf_model.specs.Records.{FILE_HEADER_SIZE, SECTION_HEADER_SIZE, PROGRAM_HEADER_SIZE, e_shnum}
+use Rattle.elf_model.specs.declared.causes.Refusal.{Refusal}
+use Rattle.elf_record.specs.declared.ehdr.Ehdr.{Ehdr}
+use Rattle.elf_source.specs.Source.{Counting}
+use Rattle.elf_headers.specs.Ledger.{Charges, why_stopped}
+use Rattle.elf_headers.specs.declared.fault.Fault.{Fault}
+use Rattle.elf_lookup_tables.specs.Scopes.{IsScopeFound}
+use Rattle.elf_lookup_tables.specs.declared.scope.Scope.{Scope}
+
+-- the tables that a lookup searches in a file whose load checks pass
+abbrev pub scope_loaded : List ℕ → Result IsScopeOf Refusal
+scope_loaded file = elim (e_shnum file == 0) [ true ↦ scope_by_segments file | false ↦ scope_by_sections file ]
+
+-- how many bytes it may ask for, with so many headers permitted: the file header, and where the early checks pass the headers
+abbrev pub scope_cost : List ℕ → ℕ → ℕ
+scope_cost file headers = elim (first_refusal (before_headers file headers)) [
+  | Some refusal ↦ FILE_HEADER_SIZE
+  | None ↦ FILE_HEADER_SIZE + SECTION_HEADER_SIZE * e_shnum file + segments_asked file
+]
+
+-- THE TABLES THAT A LOOKUP SEARCHES in a file, where it is known
+pub record FindsScope (file : List ℕ) (headers : ℕ) (old new : Counting) (result : Result Scope Fault) : Type 0 where
+  pub costs : Charges old new (why_stopped result) (scope_cost file headers)
+  pub finds : IsScopeFound file (scope_of file headers) result
+
+-- how many bytes are asked for behind the section headers in a file of this size: the program headers and the dynamic entries,
+-- where there are no sections
+abbrev pub segments_bytes : Ehdr → ℕ → ℕ
+segments_bytes header size = cost_where (header.e_shnum == 0) (PROGRAM_HEADER_SIZE * header.e_phnum + size)

@@ -1,4 +1,0 @@
-pub mod MemberLaws
-pub mod SortedLaws
-pub mod StateLaws
-pub mod WalkLaws

@@ -1,2 +1,0 @@
-pub mod FoundLaws
-pub mod LackingLaws

@@ -1,0 +1,78 @@
+-- The pieces of a text, and the words that they spell.
+use Rattle.std.proofs.Common.{◌≡◌, ◌≢◌, ◌∙◌, ◌==◌, ◌<◌, ℕ, zero, suc, Bool, true, false, List, [], ◌∷◌, ◌++◌, length, get_or, map, Option, None, Some, refl, ap, sym, subst, inl, inr, arith, append_assoc}
+use Rattle.std.specs.Prelude.{◌⊎◌, ◌||◌, is_some, not}
+use Rattle.std.specs.List.{list_any}
+use Rattle.std.proofs.lemmas.Bool.Decides.{nat_tests}
+use Rattle.clap.specs.Walk.{Text}
+use Rattle.elf_model.specs.TraitWords.{Required}
+use Rattle.elf_wanted.specs.Required.{required_words}
+use Rattle.elf_wanted.specs.Spelled.{spelled_word}
+use Rattle.elf_wanted.specs.declared.required.RequiredWord.{RequiredWord}
+use Rattle.elf_requests.specs.AskedTraits.{AreRequired, IsWordFault, LacksWord, onto_first, pieces}
+use Rattle.elf_requests.specs.declared.requests.RequestFault.{RequestFault}
+use Rattle.elf_requests.specs.declared.requests.RequestFault.TheVariants.{BadTrait, Memory}
+
+-- a byte that is no comma stands at the front of the first piece
+piece_onto : (byte : ℕ) (bytes : Text) → byte ≢ 44 → pieces (byte ∷ bytes) ≡ onto_first byte (pieces bytes)
+unfolding pieces
+piece_onto byte bytes other =
+    let differ : (byte == 44) ≡ false = grind (arith, nat_tests, other) in
+    subst (λ (b : Bool). elim b as (λ _. List Text) [ true ↦ [] ∷ pieces bytes | false ↦ onto_first byte (pieces bytes) ] ≡ onto_first byte (pieces bytes)) (sym differ) refl
+
+-- what stands before the first comma is the first piece
+pub first_piece : (piece behind : Text) → ((i : ℕ) → i < length piece → get_or piece i 0 ≢ 44) → pieces (piece ++ 44 ∷ behind) ≡ piece ∷ pieces behind
+unfolding pieces
+first_piece [] behind lacks = refl
+first_piece (byte ∷ piece) behind lacks =
+    piece_onto byte (piece ++ 44 ∷ behind) (lacks zero (omega arith)) ∙ ap (onto_first byte) (first_piece piece behind (λ i low. lacks (suc i) (omega arith)))
+
+-- a text without a comma is one piece
+pub one_piece : (text : Text) → ((i : ℕ) → i < length text → get_or text i 0 ≢ 44) → pieces text ≡ text ∷ []
+unfolding pieces
+one_piece [] lacks = refl
+one_piece (byte ∷ bytes) lacks =
+    piece_onto byte bytes (lacks zero (omega arith)) ∙ ap (onto_first byte) (one_piece bytes (λ i low. lacks (suc i) (omega arith)))
+
+abbrev Spelled : Type 0
+Spelled = List (Option Required)
+
+abbrev no_word : Option Required → Bool
+no_word word = not (is_some word)
+
+-- a word more of the pieces
+pub word_more : (before after : Spelled) (text rest behind piece : Text) → before ++ map spelled_word (pieces rest) ≡ map spelled_word (pieces text)
+    → pieces rest ≡ piece ∷ pieces behind → after ≡ before ++ spelled_word piece ∷ [] → after ++ map spelled_word (pieces behind) ≡ map spelled_word (pieces text)
+word_more before after text rest behind piece so parts put =
+    ap (λ s. s ++ map spelled_word (pieces behind)) put ∙ append_assoc before (spelled_word piece ∷ []) (map spelled_word (pieces behind))
+    ∙ ap (λ p. before ++ map spelled_word p) (sym parts) ∙ so
+
+-- the last word
+pub word_last : (before after : Spelled) (text rest : Text) → before ++ map spelled_word (pieces rest) ≡ map spelled_word (pieces text)
+    → pieces rest ≡ rest ∷ [] → after ≡ before ++ spelled_word rest ∷ [] → map spelled_word (pieces text) ≡ after
+word_last before after text rest so parts put = sym so ∙ ap (λ p. before ++ map spelled_word p) parts ∙ sym put
+
+any_at : (before rest : Spelled) → list_any no_word (before ++ None ∷ rest) ≡ true
+any_at [] rest = refl
+any_at (word ∷ before) rest = behind (no_word word) (any_at before rest)
+  where
+    behind : (b : Bool) {more : Bool} → more ≡ true → (b || more) ≡ true
+    behind true is = refl
+    behind false is = is
+
+-- a piece that spells no word is the fault
+pub word_fault : (before : Spelled) (text rest piece : Text) (more : List Text) (fault : RequestFault) → before ++ map spelled_word (pieces rest) ≡ map spelled_word (pieces text)
+    → pieces rest ≡ piece ∷ more → (fault ≡ Memory) ⊎ ((fault ≡ BadTrait) × (spelled_word piece ≡ None)) → IsWordFault (Some text) fault
+word_fault before text rest piece more fault so parts (inl memory) = inl memory
+word_fault before text rest piece more fault so parts (inr bad) =
+    let here : map spelled_word (pieces text) ≡ before ++ None ∷ map spelled_word more =
+    sym so ∙ ap (λ p. before ++ map spelled_word p) parts ∙ ap (λ w. before ++ w ∷ map spelled_word more) bad.1 in
+    inr (bad.0, ap (list_any no_word) here ∙ any_at before (map spelled_word more))
+
+all_some : (words : List Required) → list_any no_word (map Some words) ≡ false
+all_some [] = refl
+all_some (word ∷ words) = all_some words
+
+-- where each piece spells a word none is missing
+pub none_lacking : (text : Option Text) (words : List RequiredWord) → AreRequired text words → LacksWord text → ⊥
+none_lacking text words are lacks =
+    let e : true ≡ false = sym lacks ∙ ap (list_any no_word) are ∙ all_some (required_words words) in cc

@@ -1,0 +1,33 @@
+use Rattle.std.proofs.Common.{rules, arith, ap, ◌∙◌}
+use Rattle.std.proofs.lemmas.Str.Pattern.{split_parts}
+use Rattle.elf_requests.specs.AskedTraits.{pieces}
+use Rattle.elf_requests.proofs.PieceLaws.{first_piece, one_piece, word_fault, word_last, word_more}
+use Rattle.elf_requests.proofs.trait_words.required_in.Goals as goal
+
+pub returns-in-Err-clause-refused : goal.returns-in-Err-clause-refused
+returns-in-Err-clause-refused c =
+    let rest = c.loop-piece.rest.now in
+    let cut = rw c.in-Some.is at (split_parts 44 rest c.split_once.result c.split_once.ensures.cases (omega arith)) in
+    word_fault _ c.args.text.now rest c.in-Some.piece.now _ c.in-Err.fault c.loop-piece.invariant.0
+    (ap pieces cut.0 ∙ first_piece c.in-Some.piece.now c.in-Some.behind.now cut.1) c.in-Err.ensures.refused
+
+pub loop-piece-preserved : goal.loop-piece-preserved
+loop-piece-preserved c =
+    let rest = c.loop-piece.rest.now in
+    let cut = rw c.in-Some.is at (split_parts 44 rest c.split_once.result c.split_once.ensures.cases (omega arith)) in (
+      word_more _ _ c.args.text.now rest c.in-Some.behind.now c.in-Some.piece.now c.loop-piece.invariant.0
+          (ap pieces cut.0 ∙ first_piece c.in-Some.piece.now c.in-Some.behind.now cut.1) c.in_default-put_required.ensures.put,
+      search rules,
+    )
+
+pub returns-in-Ok-clause-words : goal.returns-in-Ok-clause-words
+returns-in-Ok-clause-words c =
+    let rest = c.loop-piece.rest.now in
+    let lacks = rw c.in_default.is at (split_parts 44 rest c.split_once.result c.split_once.ensures.cases (omega arith)) in
+    word_last _ _ c.args.text.now rest c.loop-piece.invariant.0 (one_piece rest lacks) c.in-Ok.ensures.put
+
+pub returns-clause-refused : goal.returns-clause-refused
+returns-clause-refused c =
+    let rest = c.loop-piece.rest.now in
+    let lacks = rw c.in_default.is at (split_parts 44 rest c.split_once.result c.split_once.ensures.cases (omega arith)) in
+    word_fault _ c.args.text.now rest rest _ c.in-Err-put_required.fault c.loop-piece.invariant.0 (one_piece rest lacks) c.in-Err-put_required.ensures.refused

@@ -1,0 +1,12 @@
+-- Without a path and a list nothing is asked for.
+use Rattle.std.proofs.Common.{Ok, ap}
+use Rattle.clap.specs.Walk.{rows_of}
+use Rattle.clap.specs.Words.{found_of}
+use Rattle.elf_requests.proofs.CheckLaws.{nothing_by_traits}
+use Rattle.elf_requests.proofs.PieceLaws.{none_lacking}
+use Rattle.elf_requests.proofs.trait_words.traits_with.Goals as goal
+
+pub returns-in-Ok-None : goal.returns-in-Ok-None
+returns-in-Ok-None c =
+    nothing_by_traits (rows_of (found_of c.args.options.now)) (λ asked is. c.in-Ok-None.ensures.none (ap Ok c.in-Ok-None.field-0-is) asked.files is.files)
+    (none_lacking _ c.args.required.items c.requires)

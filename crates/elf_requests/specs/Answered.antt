@@ -1,0 +1,34 @@
+-- What the words of a command line ask for, and why they are refused.
+use Rattle.std.specs.Prelude.{◌≡◌, ◌⊎◌, List, Option}
+use Rattle.clap.specs.Walk.{Row, Text}
+use Rattle.clap.specs.Values.{kind_of}
+use Rattle.clap.specs.declared.error.Error.{Error}
+use Rattle.clap.specs.declared.error.kind.ErrorKind.TheVariants as kind
+use Rattle.elf_listing_requests.specs.Reading.{AreRead, AreRefused}
+use Rattle.elf_listing_requests.specs.declared.faults.WordsFault.{WordsFault}
+use Rattle.elf_listing_requests.specs.declared.faults.WordsFault.TheVariants.{Told, Memory as NoMemory}
+use Rattle.elf_requests.specs.Checks.{HasAnyFault, IsAsked, NothingAsked}
+use Rattle.elf_requests.specs.declared.checks.AskedCommand.{AskedCommand}
+use Rattle.elf_requests.specs.declared.requests.RequestFault.{RequestFault}
+use Rattle.elf_requests.specs.declared.requests.RequestFault.TheVariants.{Memory, Words}
+
+-- WHAT IS ASKED FOR: the command line takes the words, and what it makes of them is what is asked for
+abbrev pub WordsAsk : List Text → AskedCommand → Type 0
+WordsAsk words asked = (matches : Option (Text × List Row)) × AreRead words matches × IsAsked matches asked
+
+-- the fault of a request whose words are not read
+abbrev pub unread_words : WordsFault → RequestFault
+unread_words (Told error) = Words error
+unread_words NoMemory = Memory
+
+-- there was no memory; or nothing is asked for, which is told by the kind `Format`; or what is asked for has this fault
+abbrev pub IsRefusal : Option (Text × List Row) → RequestFault → Type 0
+IsRefusal matches fault =
+    (fault ≡ Memory)
+    ⊎ (HasAnyFault matches fault ⊎ ((error : Error) × (fault ≡ Words error) × (kind_of error ≡ kind.Format) × NothingAsked matches))
+
+-- WHY WORDS ARE REFUSED: the command line has a fault for them, or what it makes of them has one, or asks for nothing
+abbrev pub WordsRefused : List Text → RequestFault → Type 0
+WordsRefused words fault =
+    ((told : WordsFault) × (fault ≡ unread_words told) × AreRefused words told)
+    ⊎ ((matches : Option (Text × List Row)) × AreRead words matches × IsRefusal matches fault)

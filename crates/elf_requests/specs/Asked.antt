@@ -1,0 +1,112 @@
+-- What the words of a command line ask for, of one file.
+use Rattle.std.specs.Prelude.{Bool, true, false, ◌≡◌, ◌⊎◌, ◌<◌, ◌≤◌, ◌^◌, ℕ, length, unwrap_or, Result, Ok, Err, List, [], codes, Option, None, Some}
+use Rattle.std.specs.Borrow.{Bor}
+use Rattle.clap.specs.Walk.{Row, Text, all_of, first_of, one_of}
+use Rattle.elf_model.specs.Loader.{is_complete, wanted_of}
+use Rattle.elf_model.specs.declared.formats.Format.{Format}
+use Rattle.elf_model.specs.NameLaws.{IsWanted}
+use Rattle.elf_model.specs.Placing.{Layout, no_items}
+use Rattle.elf_listing_requests.specs.Listings.{IsOfFile}
+use Rattle.elf_listing_requests.specs.Options.{AreLimitOptions, AreParts, HasNumber, IsStyle, asked_format, asks_gnu, is_option_set, lacks_gnu}
+use Rattle.elf_listing_requests.specs.RowNames.{asks_names}
+use Rattle.elf_requests.specs.Layouts.{LaysWords}
+use Rattle.elf_requests.specs.declared.requests.Request.{Request}
+use Rattle.elf_requests.specs.declared.requests.RequestFault.{RequestFault}
+use Rattle.elf_requests.specs.declared.requests.RequestFault.TheVariants.{BadName}
+use Rattle.elf_requests.specs.declared.requests.Task.{Task}
+use Rattle.elf_requests.specs.declared.requests.WantedName.{WantedName}
+use Rattle.elf_requests.specs.declared.requests.WantedSymbol.{WantedSymbol}
+use Rattle.elf_requests.specs.declared.requests.Task.TheVariants.{Show, Find, Resolve, Apply, Place}
+
+-- the file whose path stands among the values
+abbrev pub IsFileNamed : List Row → Option (Bor Text) → Type 0
+IsFileNamed rows None = ⊥
+IsFileNamed rows (Some path) = first_of (codes "FILE") rows ≡ Some path.now
+
+-- a text that can be looked up: it has 1 to 4,096 bytes and no NUL, and where a loader of the GNU system looks it up, neither
+-- its name nor its version is empty
+pub record IsText (gnu : Bool) (text : Text) : Type 0 where
+  pub is_name : IsWanted text
+  pub most : length text ≤ 4096
+  pub complete : gnu ≡ true → is_complete (wanted_of text) ≡ true
+
+-- a lookup in the file whose path stands among the values, of the text that stands there too, and by whether it is one of a
+-- loader of the GNU system, as it is where the program headers alone are to be gone by; answered as the options ask for
+pub record AsksLookup (command : Text) (rows : List Row) (file : Option (Bor Text)) (gnu : Bool) (text : Text) (format : Format) : Type 0 where
+  pub find : command ≡ codes "find"
+  pub by_gnu : asks_gnu rows ≡ gnu
+  pub allowed : lacks_gnu rows ≡ false
+  pub path : IsFileNamed rows file
+  pub word : first_of (codes "NAME") rows ≡ Some text
+  pub written : format ≡ asked_format rows
+
+-- a name is looked up in the file's own SysV hash table
+abbrev pub IsFinding : Text → List Row → Option (Bor Text) → WantedName → Format → Type 0
+IsFinding command rows file wanted format = AsksLookup command rows file false wanted.bytes.now format
+
+-- a symbol is looked up as a loader of the GNU system does it, by the program headers alone or not
+pub record IsResolving (command : Text) (rows : List Row) (file : Option (Bor Text)) (wanted : WantedSymbol) (by_segments : Bool) (format : Format) : Type 0 where
+  pub lookup : AsksLookup command rows file true wanted.text.now format
+  pub viewed : by_segments ≡ is_option_set (first_of (codes "by-segments") rows)
+
+-- a task looks a text up, as a loader of the GNU system does it, by the program headers alone or not, or in the file's own SysV
+-- hash table, and answers in this format
+abbrev pub IsLookupTask : (gnu by_segments : Bool) → Format → Text → Task → Type 0
+IsLookupTask gnu by_segments format text (Find wanted written) = (gnu ≡ false) × (wanted.bytes.now ≡ text) × (written ≡ format)
+IsLookupTask gnu by_segments format text (Resolve wanted viewed written) =
+    (gnu ≡ true) × (wanted.text.now ≡ text) × (viewed ≡ by_segments) × (written ≡ format)
+IsLookupTask gnu by_segments format text _ = ⊥
+
+-- the words for the items of a layout
+abbrev pub item_words : List Row → List Text
+item_words rows = unwrap_or (all_of (codes "ITEM") rows) []
+
+-- the section with this index, below 2^16, is written, of the file whose path stands among the values, in the layout that the
+-- words give; and whether the item that would help is printed, where an address is missing
+pub record IsApplying (command : Text) (rows : List Row) (file : Option (Bor Text)) (section : ℕ) (layout : Layout) (explain : Bool) : Type 0 where
+  pub apply : command ≡ codes "apply"
+  pub path : IsFileNamed rows file
+  pub index : HasNumber (one_of (codes "SECTION") rows) (Some section)
+  pub small : section < 2 ^ 16
+  pub items : LaysWords no_items (item_words rows) (Ok layout)
+  pub explained : explain ≡ is_option_set (first_of (codes "explain") rows)
+
+-- a task with its file, by the values of the options; no words give addresses that are kept otherwise
+abbrev pub IsTask : Text → List Row → Option (Bor Text) → Task → Type 0
+IsTask command rows file (Show parts style) =
+    IsStyle rows style × AreParts rows parts × IsOfFile command rows file × (asks_names rows ≡ false)
+IsTask command rows file (Find wanted format) = IsFinding command rows file wanted format
+IsTask command rows file (Resolve wanted by_segments format) = IsResolving command rows file wanted by_segments format
+IsTask command rows file (Apply section layout explain) = IsApplying command rows file section layout.now explain
+IsTask command rows file (Place section addresses explain) = ⊥
+
+-- a command with the values of its arguments asks for just this
+abbrev pub AsksBy : Option (Text × List Row) → Request → Type 0
+AsksBy None request = ⊥
+AsksBy (Some (command, rows)) request = AreLimitOptions rows request.limits × IsTask command rows request.file request.task
+
+-- a lookup of a text that can't be looked up
+abbrev pub NamesBadly : Text → List Row → Type 0
+NamesBadly command rows =
+    (command ≡ codes "find")
+    × ((text : Text) × (lacks_gnu rows ≡ false) × (first_of (codes "NAME") rows ≡ Some text) × (IsText (asks_gnu rows) text → ⊥))
+
+-- a section to be written, in a layout of which the first word that is refused has this fault
+abbrev pub LaysBadly : Text → List Row → RequestFault → Type 0
+LaysBadly command rows fault = (command ≡ codes "apply") × LaysWords no_items (item_words rows) (Err fault)
+
+-- a command with the values of its arguments asks for something, and has this fault in its words for it
+abbrev pub HasFault : Option (Text × List Row) → RequestFault → Type 0
+HasFault None fault = ⊥
+HasFault (Some (command, rows)) fault = ((fault ≡ BadName) × NamesBadly command rows) ⊎ LaysBadly command rows fault
+
+-- nothing is asked for, not even with a fault in the words for it
+pub record AsksNothing (matches : Option (Text × List Row)) : Type 0 where
+  pub nothing : (request : Request) → AsksBy matches request → ⊥
+  pub faultless : (fault : RequestFault) → HasFault matches fault → ⊥
+
+-- what a command with the values of its arguments comes to: a request, nothing, or a fault
+abbrev pub ComesTo : Option (Text × List Row) → Result (Option Request) RequestFault → Type 0
+ComesTo matches (Ok (Some request)) = AsksBy matches request
+ComesTo matches (Ok None) = AsksNothing matches
+ComesTo matches (Err fault) = HasFault matches fault

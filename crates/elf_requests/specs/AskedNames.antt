@@ -1,0 +1,75 @@
+-- The names of which rows are asked for, and what is listed by them.
+use Rattle.std.specs.Prelude.{◌≡◌, ◌⊎◌, ◌≤◌, ◌<◌, ⊤, Bool, true, false, bytes_eq, length, List, [], ◌∷◌, codes, Option, None, Some, option_map}
+use Rattle.std.specs.List.{list_any}
+use Rattle.clap.specs.Walk.{Row, Text, first_of, texts}
+use Rattle.elf_listing_requests.specs.Options.{AreLimitOptions, IsStyle, asks_versions}
+use Rattle.elf_listing_requests.specs.RowNames.{AreChosenParts, asks_names, name_words}
+use Rattle.elf_record.specs.declared.parts.Parts.{Parts}
+use Rattle.elf_requests.specs.Asked.{IsFileNamed, IsText}
+use Rattle.elf_requests.specs.declared.checks.Choosing.{Choosing}
+use Rattle.elf_requests.specs.declared.checks.NamesAsked.{NamesAsked}
+use Rattle.elf_requests.specs.declared.requests.RequestFault.{RequestFault}
+use Rattle.elf_requests.specs.declared.requests.RequestFault.TheVariants.{BadName, Memory, NamesFull}
+
+-- each is a name: a text of 1 to 4,096 bytes without NUL; and where a name may have a version, neither is empty
+abbrev pub AreTexts : (versions : Bool) → List Text → Type 0
+AreTexts versions [] = ⊤
+AreTexts versions (word ∷ words) = IsText versions word × AreTexts versions words
+
+-- one is none
+abbrev pub HasBadText : (versions : Bool) → List Text → Type 0
+HasBadText versions [] = ⊥
+HasBadText versions (word ∷ words) = (IsText versions word → ⊥) ⊎ HasBadText versions words
+
+-- the names that stand among the values, at most 64, and the path of a file that has more; there is a name, or that file
+pub record AreNamesAsked (rows : List Row) (asked : NamesAsked) : Type 0 where
+  pub names : texts asked.names.items ≡ name_words rows
+  pub list : option_map (λ path. path.now) asked.list ≡ first_of (codes "name-list") rows
+  pub some : asks_names rows ≡ true
+  pub few : length (name_words rows) ≤ 64
+  pub each : AreTexts (asks_versions rows) (name_words rows)
+  pub versions : asked.versions ≡ asks_versions rows
+
+-- such names where they are asked for, else none
+abbrev pub AreNamesIf : List Row → Option NamesAsked → Type 0
+AreNamesIf rows None = asks_names rows ≡ false
+AreNamesIf rows (Some asked) = AreNamesAsked rows asked
+
+-- which rows are listed: with names those of them in the part that they choose from, else all of the parts that are asked for
+abbrev pub AreRows : Type 0 → List Row → Parts → Option NamesAsked → Type 0
+AreRows all rows parts None = (asks_names rows ≡ false) × all
+AreRows all rows parts (Some asked) = AreNamesAsked rows asked × AreChosenParts rows parts
+
+-- a listing of the file whose path stands among the values, of the rows of names
+pub record IsChoosing (command : Text) (rows : List Row) (asked : Choosing) : Type 0 where
+  pub show : command ≡ codes "show"
+  pub path : IsFileNamed rows asked.listing.file
+  pub limits : AreLimitOptions rows asked.listing.limits
+  pub style : IsStyle rows asked.listing.style
+  pub parts : AreChosenParts rows asked.listing.parts
+  pub names : AreNamesAsked rows asked.names
+
+-- a command with the values of its arguments asks for this listing
+abbrev pub ChosenBy : Option (Text × List Row) → Choosing → Type 0
+ChosenBy None asked = ⊥
+ChosenBy (Some (command, rows)) asked = IsChoosing command rows asked
+
+-- what is wrong with words for names: one is none, or there are too many
+abbrev pub AreBadWords : (versions : Bool) → List Text → RequestFault → Type 0
+AreBadWords versions words fault = ((fault ≡ BadName) × HasBadText versions words) ⊎ ((fault ≡ NamesFull) × (64 < length words))
+
+abbrev pub AreBadNames : List Row → RequestFault → Type 0
+AreBadNames rows fault = AreBadWords (asks_versions rows) (name_words rows) fault
+
+-- why there are none: no memory, or what is wrong with them
+abbrev pub IsNameFault : List Row → RequestFault → Type 0
+IsNameFault rows fault = (fault ≡ Memory) ⊎ AreBadNames rows fault
+
+-- the commands that take such names
+abbrev pub takes_names : Text → Bool
+takes_names command = list_any (bytes_eq command) (codes "show" ∷ codes "archive" ∷ codes "list" ∷ [])
+
+-- rows of names are asked for, with this fault in the words for them
+abbrev pub ChoosesBadly : Option (Text × List Row) → RequestFault → Type 0
+ChoosesBadly None fault = ⊥
+ChoosesBadly (Some (command, rows)) fault = (takes_names command ≡ true) × AreBadNames rows fault

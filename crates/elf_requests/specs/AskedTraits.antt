@@ -1,0 +1,62 @@
+-- What the words of a command line ask for, of how many files are hardened.
+use Rattle.std.specs.Prelude.{ℕ, ◌==◌, ◌≡◌, ◌⊎◌, true, false, not, is_some, List, [], ◌∷◌, codes, map, Option, None, Some}
+use Rattle.std.specs.List.{list_any}
+use Rattle.clap.specs.Walk.{Row, Text, first_of}
+use Rattle.elf_listing_requests.specs.Options.{AreLimitOptions, asked_format}
+use Rattle.elf_model.specs.TraitWords.{Required}
+use Rattle.elf_wanted.specs.Required.{required_words}
+use Rattle.elf_wanted.specs.Spelled.{spelled_word}
+use Rattle.elf_wanted.specs.declared.required.RequiredWord.{RequiredWord}
+use Rattle.elf_requests.specs.Files.{AreFiles}
+use Rattle.elf_requests.specs.declared.checks.TraitsAsked.{TraitsAsked}
+use Rattle.elf_requests.specs.declared.requests.RequestFault.{RequestFault}
+use Rattle.elf_requests.specs.declared.requests.RequestFault.TheVariants.{BadTrait, Memory}
+
+-- a byte more at the front of the first of some pieces
+abbrev pub onto_first : ℕ → List Text → List Text
+onto_first byte [] = (byte ∷ []) ∷ []
+onto_first byte (piece ∷ rest) = (byte ∷ piece) ∷ rest
+
+-- the pieces of a text, which commas part
+unfoldable pub pieces : Text → List Text
+pieces [] = [] ∷ []
+pieces (byte ∷ bytes) = elim (byte == 44) [ true ↦ [] ∷ pieces bytes | false ↦ onto_first byte (pieces bytes) ]
+
+-- what each piece of a text spells; without a text nothing is required
+abbrev pub spelled_in : Option Text → List (Option Required)
+spelled_in None = []
+spelled_in (Some text) = map spelled_word (pieces text)
+
+-- a piece spells no word
+abbrev pub LacksWord : Option Text → Type 0
+LacksWord text = list_any (λ word. not (is_some word)) (spelled_in text) ≡ true
+
+-- the words that the pieces of a text spell, in order
+abbrev pub AreRequired : Option Text → List RequiredWord → Type 0
+AreRequired text words = spelled_in text ≡ map Some (required_words words)
+
+-- why there are none: no memory, or a piece that spells no word
+abbrev pub IsWordFault : Option Text → RequestFault → Type 0
+IsWordFault text fault = (fault ≡ Memory) ⊎ ((fault ≡ BadTrait) × LacksWord text)
+
+-- the traits of the files that stand among the values, with the words that are required there
+pub record IsTraitsAsked (command : Text) (rows : List Row) (asked : TraitsAsked) : Type 0 where
+  pub traits : command ≡ codes "traits"
+  pub files : AreFiles rows asked.files
+  pub limits : AreLimitOptions rows asked.limits
+  pub format : asked.format ≡ asked_format rows
+  pub required : AreRequired (first_of (codes "require") rows) asked.required.items
+
+-- a command with the values of its arguments asks for these traits
+abbrev pub TellsBy : Option (Text × List Row) → TraitsAsked → Type 0
+TellsBy None asked = ⊥
+TellsBy (Some (command, rows)) asked = IsTraitsAsked command rows asked
+
+-- no traits are asked for
+abbrev pub NothingTold : Option (Text × List Row) → Type 0
+NothingTold matches = (asked : TraitsAsked) → TellsBy matches asked → ⊥
+
+-- traits are asked for, with words of which one is none
+abbrev pub RequiresBadly : Option (Text × List Row) → Type 0
+RequiresBadly None = ⊥
+RequiresBadly (Some (command, rows)) = (command ≡ codes "traits") × LacksWord (first_of (codes "require") rows)

@@ -1,0 +1,125 @@
+//! The words that ask for a listing of an archive.
+ghost use Rattle.std.specs.Prelude.{◌≡◌, IfSome, None, Option, Some, Ok, codes, false};
+ghost use Rattle.clap.specs.Walk.{rows_of};
+ghost use Rattle.clap.specs.Words.{found_of};
+ghost use Rattle.elf_model.specs.Text.{name_of};
+ghost use Rattle.elf_record.specs.declared.parts.Parts.{Parts};
+ghost use Rattle.elf_requests.specs.Archives.{AreMemberParts, IsArchiving, NothingArchived};
+ghost use Rattle.elf_listing_requests.specs.Options.{member_part_names};
+ghost use Rattle.elf_requests.specs.Archives.{is_member_part};
+ghost use Rattle.elf_requests.specs.AskedNames.{AreNamesIf, AreRows};
+ghost use Rattle.elf_requests.specs.Checks.{Becomes};
+ghost use Rattle.elf_requests.specs.declared.checks.NamesAsked.{NamesAsked};
+
+use crate::checks::{Archiving, AskedCommand, NamesAsked};
+use crate::name_words::names_of;
+use crate::requests::RequestFault;
+use clap::ArgMatches;
+use elf_listing_requests::{asks_gnu, chosen_parts_of, limits_of, style_of, text_of, whole};
+use elf_record::Parts;
+use std::alloc::Global;
+
+/// No part of a listing.
+const NO_PART: Parts = Parts(0);
+
+/// What `archive` with these arguments asks for, or None where they ask for nothing.
+///
+/// # Errors
+/// What is wrong with the names of which the rows are asked for; there is no memory for them.
+pub(crate) fn archive_asked<'a>(
+    alloc: Global,
+    options: &ArgMatches<'a>,
+) -> Result<Option<AskedCommand<'a>>, RequestFault>
+    ensures { Becomes (Some (codes "archive", rows_of (found_of options.now))) result }
+{
+    let names = names_of(alloc, options)?;
+    Ok(archive_of(options, names))
+}
+
+/// What `archive` asks for, of the rows of these names.
+fn archive_of<'a>(
+    options: &ArgMatches<'a>,
+    names: Option<NamesAsked<'a>>,
+) -> Option<AskedCommand<'a>>
+    requires { AreNamesIf (rows_of (found_of options.now)) names }
+    ensures { Becomes (Some (codes "archive", rows_of (found_of options.now))) (Ok result) }
+{
+    match archiving_of(options, names) {
+        Some(asked) => Some(AskedCommand::Archive(asked)),
+        None => None,
+    }
+}
+
+/// The listing of the archive whose path is among the arguments.
+fn archiving_of<'a>(
+    options: &ArgMatches<'a>,
+    names: Option<NamesAsked<'a>>,
+) -> Option<Archiving<'a>>
+    requires { AreNamesIf (rows_of (found_of options.now)) names }
+    ensures none { result ≡ None →
+        NothingArchived (Some (codes "archive", rows_of (found_of options.now))) }
+    ensures some { IfSome result (IsArchiving (codes "archive") (rows_of (found_of options.now))) }
+{
+    let parts = archived_parts_of(options, &names)?;
+    let file = text_of(options, "FILE")?;
+    let limits = limits_of(options)?;
+    let style = style_of(options)?;
+    Some(Archiving {
+        file,
+        limits,
+        parts,
+        style,
+        names,
+    })
+}
+
+/// The parts that the options ask for, by whether rows are chosen by names.
+fn archived_parts_of(options: &ArgMatches<'_>, names: &Option<NamesAsked<'_>>) -> Option<Parts>
+    requires { AreNamesIf (rows_of (found_of options.now)) names.now }
+    ensures some { IfSome result (λ parts. AreRows
+        (AreMemberParts (rows_of (found_of options.now)) parts)
+        (rows_of (found_of options.now)) parts names.now) }
+    ensures none { result ≡ None → (parts : Parts) (asked : Option NamesAsked)
+        → AreRows (AreMemberParts (rows_of (found_of options.now)) parts)
+        (rows_of (found_of options.now)) parts asked → ⊥ }
+{
+    match names {
+        Some(_) => chosen_parts_of(options),
+        None => member_parts_of(options),
+    }
+}
+
+/// The parts that the options ask for.
+fn member_parts_of(options: &ArgMatches<'_>) -> Option<Parts>
+    ensures some { IfSome result (AreMemberParts (rows_of (found_of options.now))) }
+    ensures none { result ≡ None → (parts : Parts)
+        → AreMemberParts (rows_of (found_of options.now)) parts → ⊥ }
+{
+    let gnu = asks_gnu(options);
+    match text_of(options, "only") {
+        Some(name) => member_part_named(name, gnu),
+        None => Some(whole(gnu)),
+    }
+}
+
+/// The part of an archive's listing, of the GNU system (`gnu`) or of the standards' alone, that has
+/// this name.
+#[tactic(auto, unfolding(elf_model::specs::Text::name_of))]
+fn member_part_named(name: &str, gnu: bool) -> Option<Parts>
+    ensures some { IfSome result
+        (λ parts. name_of (member_part_names gnu) parts.0 ≡ Some name.now) }
+    ensures none { result ≡ None → is_member_part gnu name.now ≡ false }
+{
+    match name {
+        "members" => Some(NO_PART),
+        "header" => Some(Parts::HEADER),
+        "sections" => Some(Parts::SECTIONS),
+        "segments" => Some(Parts::SEGMENTS),
+        "symbols" => Some(Parts::SYMBOLS),
+        "relocs" => Some(Parts::RELOCS),
+        "notes" => Some(Parts::NOTES),
+        "dynamic" => Some(Parts::DYNAMIC),
+        "versions" if gnu => Some(Parts::VERSIONS),
+        _ => None,
+    }
+}

@@ -1,0 +1,61 @@
+//! The words that ask for a check of many files.
+ghost use Rattle.std.specs.Prelude.{◌≡◌, IfSome, Some, None, codes};
+ghost use Rattle.clap.specs.Walk.{rows_of};
+ghost use Rattle.clap.specs.Words.{found_of};
+ghost use Rattle.elf_requests.specs.Checks.{Becomes, IsChecking, NothingChecked};
+ghost use Rattle.elf_requests.specs.Files.{AreFiles};
+
+use crate::checks::{AskedCommand, Checking, ManyFiles};
+use crate::file_words::files_of;
+use crate::requests::RequestFault;
+use clap::ArgMatches;
+use elf_listing_requests::{is_set, limits_of, parts_of, style_of};
+use std::alloc::{AllocError, Global};
+
+/// What `check` with these arguments asks for, or None where there is neither a path nor a file with
+/// paths.
+///
+/// # Errors
+/// There is no memory for the list of paths.
+pub(crate) fn check_asked<'a>(
+    alloc: Global,
+    options: &ArgMatches<'a>,
+) -> Result<Option<AskedCommand<'a>>, RequestFault>
+    ensures { Becomes (Some (codes "check", rows_of (found_of options.now))) result }
+{
+    match files_of(alloc, options) {
+        Ok(Some(files)) => Ok(check_of(options, files)),
+        Ok(None) => Ok(None),
+        Err(AllocError) => Err(RequestFault::Memory),
+    }
+}
+
+/// What `check` of these files asks for.
+fn check_of<'a>(options: &ArgMatches<'a>, files: ManyFiles<'a>) -> Option<AskedCommand<'a>>
+    requires { AreFiles (rows_of (found_of options.now)) files }
+    ensures { Becomes (Some (codes "check", rows_of (found_of options.now))) (Ok result) }
+{
+    match checking_of(options, files) {
+        Some(asked) => Some(AskedCommand::Check(asked)),
+        None => None,
+    }
+}
+
+/// The check of these files.
+fn checking_of<'a>(options: &ArgMatches<'a>, files: ManyFiles<'a>) -> Option<Checking<'a>>
+    requires { AreFiles (rows_of (found_of options.now)) files }
+    ensures none { result ≡ None →
+        NothingChecked (Some (codes "check", rows_of (found_of options.now))) }
+    ensures some { IfSome result (IsChecking (codes "check") (rows_of (found_of options.now))) }
+{
+    let limits = limits_of(options)?;
+    let style = style_of(options)?;
+    let parts = parts_of(options)?;
+    Some(Checking {
+        files,
+        limits,
+        parts,
+        style,
+        members: is_set(options, "members"),
+    })
+}

@@ -1,0 +1,65 @@
+//! The words that name many files.
+ghost use Rattle.std.specs.Prelude.{◌≡◌, IfOk, IfSome, None, Ok, [], codes, unwrap_or};
+ghost use Rattle.clap.specs.Walk.{all_of, rows_of, texts};
+ghost use Rattle.clap.specs.Words.{found_of};
+ghost use Rattle.elf_requests.specs.Files.{AreFiles, path_words};
+ghost use Rattle.elf_requests.specs.declared.checks.ManyFiles.{ManyFiles};
+
+use crate::checks::ManyFiles;
+use clap::ArgMatches;
+use elf_listing_requests::text_of;
+use std::alloc::{AllocError, Global};
+
+/// The files that are asked for, or None where there is neither a path nor a file with paths.
+///
+/// # Errors
+/// There is no memory for the list of paths.
+pub(crate) fn files_of<'a>(
+    alloc: Global,
+    options: &ArgMatches<'a>,
+) -> Result<Option<ManyFiles<'a>>, AllocError>
+    ensures some { IfOk result (λ files. IfSome files (AreFiles (rows_of (found_of options.now)))) }
+    ensures none { result ≡ Ok None → (files : ManyFiles)
+        → AreFiles (rows_of (found_of options.now)) files → ⊥ }
+{
+    match words_of(alloc, options, "PATH") {
+        Ok(paths) => Ok(files_with(options, paths)),
+        Err(AllocError) => Err(AllocError),
+    }
+}
+
+/// The files of these paths, and those in the file that is asked for.
+fn files_with<'a>(options: &ArgMatches<'a>, paths: Vec<&'a str>) -> Option<ManyFiles<'a>>
+    requires { texts paths.items ≡ path_words (rows_of (found_of options.now)) }
+    ensures some { IfSome result (AreFiles (rows_of (found_of options.now))) }
+    ensures none { result ≡ None → (files : ManyFiles)
+        → AreFiles (rows_of (found_of options.now)) files → ⊥ }
+{
+    let list = text_of(options, "files0-from");
+    if paths.is_empty() && list.is_none() {
+        return None;
+    }
+    Some(ManyFiles { paths, list })
+}
+
+/// The values of an argument.
+pub(crate) fn words_of<'a>(
+    alloc: Global,
+    options: &ArgMatches<'a>,
+    argument: &str,
+) -> Result<Vec<&'a str>, AllocError>
+    ensures { IfOk result (λ words. texts words.items
+        ≡ unwrap_or (all_of argument.now (rows_of (found_of options.now))) []) }
+{
+    match options.get_strs(argument) {
+        Some(words) => copied_words(alloc, words),
+        None => Ok(Vec::new(alloc)),
+    }
+}
+
+/// The same words once more, which still stand where they stood.
+fn copied_words<'a>(alloc: Global, words: &[&'a str]) -> Result<Vec<&'a str>, AllocError>
+    ensures { IfOk result (λ copy. copy.items ≡ words.now) }
+{
+    words.iter().copied().collect(alloc)
+}

@@ -1,0 +1,109 @@
+//! The words that ask for listings of many files.
+ghost use Rattle.std.specs.Prelude.{◌≡◌, IfSome, Ok, Option, Some, None, codes};
+ghost use Rattle.clap.specs.Walk.{rows_of};
+ghost use Rattle.clap.specs.Words.{found_of};
+ghost use Rattle.elf_listing_requests.specs.Options.{AreParts};
+ghost use Rattle.elf_record.specs.declared.parts.Parts.{Parts};
+ghost use Rattle.elf_requests.specs.AskedNames.{AreNamesIf, AreRows};
+ghost use Rattle.elf_requests.specs.Checks.{Becomes};
+ghost use Rattle.elf_requests.specs.Files.{AreFiles};
+ghost use Rattle.elf_requests.specs.Lists.{IsListAsked, NothingListed};
+ghost use Rattle.elf_requests.specs.declared.checks.NamesAsked.{NamesAsked};
+
+use crate::checks::{AskedCommand, ListAsked, ManyFiles, NamesAsked};
+use crate::file_words::files_of;
+use crate::name_words::names_of;
+use crate::requests::RequestFault;
+use clap::ArgMatches;
+use elf_listing_requests::{chosen_parts_of, is_set, limits_of, parts_of, style_of};
+use elf_record::Parts;
+use std::alloc::{AllocError, Global};
+
+/// What `list` with these arguments asks for, or None where there is neither a path nor a file with
+/// paths.
+///
+/// # Errors
+/// What is wrong with the names of which the rows are asked for; there is no memory for them or for the
+/// list of paths.
+pub(crate) fn list_asked<'a>(
+    alloc: Global,
+    options: &ArgMatches<'a>,
+) -> Result<Option<AskedCommand<'a>>, RequestFault>
+    ensures { Becomes (Some (codes "list", rows_of (found_of options.now))) result }
+{
+    let names = names_of(alloc, options)?;
+    list_with(alloc, options, names)
+}
+
+/// What `list` asks for, of the rows of these names.
+fn list_with<'a>(
+    alloc: Global,
+    options: &ArgMatches<'a>,
+    names: Option<NamesAsked<'a>>,
+) -> Result<Option<AskedCommand<'a>>, RequestFault>
+    requires { AreNamesIf (rows_of (found_of options.now)) names }
+    ensures { Becomes (Some (codes "list", rows_of (found_of options.now))) result }
+{
+    match files_of(alloc, options) {
+        Ok(Some(files)) => Ok(list_of(options, files, names)),
+        Ok(None) => Ok(None),
+        Err(AllocError) => Err(RequestFault::Memory),
+    }
+}
+
+/// What `list` of these files asks for.
+fn list_of<'a>(
+    options: &ArgMatches<'a>,
+    files: ManyFiles<'a>,
+    names: Option<NamesAsked<'a>>,
+) -> Option<AskedCommand<'a>>
+    requires files { AreFiles (rows_of (found_of options.now)) files }
+    requires names { AreNamesIf (rows_of (found_of options.now)) names }
+    ensures { Becomes (Some (codes "list", rows_of (found_of options.now))) (Ok result) }
+{
+    match listing_of_files(options, files, names) {
+        Some(asked) => Some(AskedCommand::List(asked)),
+        None => None,
+    }
+}
+
+/// The listings of these files.
+fn listing_of_files<'a>(
+    options: &ArgMatches<'a>,
+    files: ManyFiles<'a>,
+    names: Option<NamesAsked<'a>>,
+) -> Option<ListAsked<'a>>
+    requires files { AreFiles (rows_of (found_of options.now)) files }
+    requires names { AreNamesIf (rows_of (found_of options.now)) names }
+    ensures none { result ≡ None →
+        NothingListed (Some (codes "list", rows_of (found_of options.now))) }
+    ensures some { IfSome result (IsListAsked (codes "list") (rows_of (found_of options.now))) }
+{
+    let parts = listed_parts_of(options, &names)?;
+    let limits = limits_of(options)?;
+    let style = style_of(options)?;
+    Some(ListAsked {
+        files,
+        limits,
+        parts,
+        style,
+        members: is_set(options, "members"),
+        names,
+    })
+}
+
+/// The parts that the options ask for, by whether rows are chosen by names.
+fn listed_parts_of(options: &ArgMatches<'_>, names: &Option<NamesAsked<'_>>) -> Option<Parts>
+    requires { AreNamesIf (rows_of (found_of options.now)) names.now }
+    ensures some { IfSome result (λ parts. AreRows
+        (AreParts (rows_of (found_of options.now)) parts)
+        (rows_of (found_of options.now)) parts names.now) }
+    ensures none { result ≡ None → (parts : Parts) (asked : Option NamesAsked)
+        → AreRows (AreParts (rows_of (found_of options.now)) parts)
+        (rows_of (found_of options.now)) parts asked → ⊥ }
+{
+    match names {
+        Some(_) => chosen_parts_of(options),
+        None => parts_of(options),
+    }
+}

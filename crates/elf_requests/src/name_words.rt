@@ -1,0 +1,120 @@
+//! The words that choose rows by names.
+ghost use Rattle.std.specs.Prelude.{◌≡◌, ◌≤◌, IfErr, IfOk, length, true, false};
+ghost use Rattle.clap.specs.Walk.{rows_of, texts};
+ghost use Rattle.clap.specs.Words.{found_of};
+ghost use Rattle.elf_listing_requests.specs.Options.{asks_versions};
+ghost use Rattle.elf_listing_requests.specs.RowNames.{asks_names, name_words};
+ghost use Rattle.elf_requests.specs.AskedNames.{AreBadNames, AreBadWords, AreNamesAsked, AreNamesIf, AreTexts};
+ghost use Rattle.elf_requests.specs.Asked.{IsText};
+ghost use Rattle.elf_requests.specs.AskedNames.{HasBadText, IsNameFault};
+
+use crate::checks::NamesAsked;
+use crate::file_words::words_of;
+use crate::requests::RequestFault;
+use clap::ArgMatches;
+use elf_listing_requests::{asks_names, asks_versions, text_of};
+use elf_name_lists::is_row_name;
+use std::alloc::{AllocError, Global};
+
+/// How many names may stand among the words.
+const MOST_NAMES: usize = 64;
+
+/// The names of which the rows are asked for, or None where every row is.
+///
+/// # Errors
+/// `BadName` where one is not of 1 to 4,096 bytes without NUL, or with versions has an empty name or
+/// version; `NamesFull` where there are more than 64;
+/// `Memory` where there is none for them.
+pub(crate) fn names_of<'a>(
+    alloc: Global,
+    options: &ArgMatches<'a>,
+) -> Result<Option<NamesAsked<'a>>, RequestFault>
+    ensures names { IfOk result (AreNamesIf (rows_of (found_of options.now))) }
+    ensures refused { IfErr result (IsNameFault (rows_of (found_of options.now))) }
+{
+    if !asks_names(options) {
+        return Ok(None);
+    }
+    check_names(options)?;
+    names_with(alloc, options)
+}
+
+/// The names among the words, with the file that has more.
+fn names_with<'a>(
+    alloc: Global,
+    options: &ArgMatches<'a>,
+) -> Result<Option<NamesAsked<'a>>, RequestFault>
+    requires asked { asks_names (rows_of (found_of options.now)) ≡ true }
+    requires few { length (name_words (rows_of (found_of options.now))) ≤ 64 }
+    requires each { AreTexts (asks_versions (rows_of (found_of options.now)))
+        (name_words (rows_of (found_of options.now))) }
+    ensures names { IfOk result (AreNamesIf (rows_of (found_of options.now))) }
+    ensures refused { IfErr result (IsNameFault (rows_of (found_of options.now))) }
+{
+    match words_of(alloc, options, "name") {
+        Ok(names) => Ok(Some(NamesAsked {
+            names,
+            list: text_of(options, "name-list"),
+            versions: asks_versions(options),
+        })),
+        Err(AllocError) => Err(RequestFault::Memory),
+    }
+}
+
+/// Whether the names among the words can be looked for, and are few enough.
+///
+/// # Errors
+/// Those of [`names_of`], but for memory.
+fn check_names(options: &ArgMatches<'_>) -> Result<(), RequestFault>
+    ensures few { IfOk result (λ _. length (name_words (rows_of (found_of options.now))) ≤ 64) }
+    ensures each { IfOk result (λ _. AreTexts (asks_versions (rows_of (found_of options.now)))
+        (name_words (rows_of (found_of options.now)))) }
+    ensures refused { IfErr result (AreBadNames (rows_of (found_of options.now))) }
+{
+    let versions = asks_versions(options);
+    match options.get_strs("name") {
+        Some(words) => check_words(words, versions),
+        None => check_words(&[], versions),
+    }
+}
+
+/// Whether words are names that can be looked for, and few enough.
+///
+/// # Errors
+/// Those of [`names_of`], but for memory.
+fn check_words(words: &[&str], versions: bool) -> Result<(), RequestFault>
+    ensures few { IfOk result (λ _. length (texts words.now) ≤ 64) }
+    ensures each { IfOk result (λ _. AreTexts versions (texts words.now)) }
+    ensures refused { IfErr result (AreBadWords versions (texts words.now)) }
+{
+    if words.len() > MOST_NAMES {
+        return Err(RequestFault::NamesFull);
+    }
+    if are_names(words, versions) {
+        return Ok(());
+    }
+    Err(RequestFault::BadName)
+}
+
+/// Whether words are names that can be looked for.
+fn are_names(mut words: &[&str], versions: bool) -> bool
+    ensures each { result ≡ true → AreTexts versions (texts words.entry.now) }
+    ensures bad { result ≡ false → HasBadText versions (texts words.entry.now) }
+{
+    while let [word, rest @ ..] = words {
+        if !is_text(word, versions) {
+            return false;
+        }
+        words = rest;
+    }
+    true
+}
+
+/// Whether a word is a name that can be looked for; and where a name may have a version, has neither
+/// an empty name nor an empty version.
+fn is_text(word: &str, versions: bool) -> bool
+    ensures yes { result ≡ true → IsText versions word.now }
+    ensures no { result ≡ false → IsText versions word.now → ⊥ }
+{
+    is_row_name(word.as_bytes(), versions)
+}

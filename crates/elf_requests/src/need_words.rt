@@ -1,0 +1,54 @@
+//! The words that ask what a program needs.
+ghost use Rattle.std.specs.Prelude.{◌≡◌, IfSome, None, Ok, Some, codes, unwrap_or};
+ghost use Rattle.clap.specs.Walk.{first_of, rows_of};
+ghost use Rattle.clap.specs.Words.{found_of};
+ghost use Rattle.elf_requests.specs.AskedNeeds.{IsNeedsAsked, NothingNeeded};
+ghost use Rattle.elf_requests.specs.Checks.{Becomes};
+
+use crate::checks::{AskedCommand, NeedsAsked};
+use clap::ArgMatches;
+use elf_listing_requests::{format_of, is_set, limits_of, text_of};
+
+/// The folders that libraries are looked for in last, where the words give none.
+const DEFAULT_FOLDERS: &str =
+    "/lib/x86_64-linux-gnu:/usr/lib/x86_64-linux-gnu:/lib64:/usr/lib64:/lib:/usr/lib";
+
+/// What `needs` with these arguments asks for, or None where they ask for nothing.
+pub(crate) fn needs_asked<'a>(options: &ArgMatches<'a>) -> Option<AskedCommand<'a>>
+    ensures { Becomes (Some (codes "needs", rows_of (found_of options.now))) (Ok result) }
+{
+    match needs_of(options) {
+        Some(asked) => Some(AskedCommand::Needs(asked)),
+        None => None,
+    }
+}
+
+/// The program whose path is among the arguments, and where its libraries are looked for.
+fn needs_of<'a>(options: &ArgMatches<'a>) -> Option<NeedsAsked<'a>>
+    ensures none { result ≡ None →
+        NothingNeeded (Some (codes "needs", rows_of (found_of options.now))) }
+    ensures some { IfSome result (IsNeedsAsked (codes "needs") (rows_of (found_of options.now))) }
+{
+    let file = text_of(options, "FILE")?;
+    let limits = limits_of(options)?;
+    Some(NeedsAsked {
+        file,
+        library_path: text_or(options, "library-path", ""),
+        default: text_or(options, "default", DEFAULT_FOLDERS),
+        root: text_or(options, "root", ""),
+        limits,
+        format: format_of(options),
+        symbols: is_set(options, "symbols"),
+    })
+}
+
+/// The value of an argument, or another text where it has none.
+fn text_or<'a>(options: &ArgMatches<'a>, argument: &str, other: &'static str) -> &'a str
+    ensures { result.now
+        ≡ unwrap_or (first_of argument.now (rows_of (found_of options.now))) other.now }
+{
+    match text_of(options, argument) {
+        Some(text) => text,
+        None => other,
+    }
+}

@@ -1,0 +1,84 @@
+//! The words that ask for a listing of one file, or of those of its rows that have one of some names.
+ghost use Rattle.std.specs.Prelude.{◌≡◌, IfSome, None, Ok, Some, codes, false};
+ghost use Rattle.clap.specs.Walk.{rows_of};
+ghost use Rattle.clap.specs.Words.{found_of};
+ghost use Rattle.elf_listing_requests.specs.Options.{AreLimitOptions, IsStyle};
+ghost use Rattle.elf_listing_requests.specs.RowNames.{AreChosenParts, asks_names};
+ghost use Rattle.elf_listing_requests.specs.declared.listings.ListingAsked.{ListingAsked};
+ghost use Rattle.elf_requests.specs.Asked.{IsFileNamed};
+ghost use Rattle.elf_requests.specs.AskedNames.{AreNamesAsked};
+ghost use Rattle.elf_requests.specs.Checks.{Becomes};
+
+use crate::checks::{AskedCommand, Choosing, NamesAsked};
+use crate::name_words::names_of;
+use crate::requests::RequestFault;
+use crate::words::listing_asked;
+use clap::ArgMatches;
+use elf_listing_requests::{ListingAsked, chosen_parts_of, limits_of, style_of, text_of};
+use std::alloc::Global;
+
+/// What `show` with these arguments asks for, or None where they ask for nothing.
+///
+/// # Errors
+/// What is wrong with the names of which the rows are asked for; there is no memory for them.
+pub(crate) fn show_asked<'a>(
+    alloc: Global,
+    options: &ArgMatches<'a>,
+) -> Result<Option<AskedCommand<'a>>, RequestFault>
+    ensures { Becomes (Some (codes "show", rows_of (found_of options.now))) result }
+{
+    match names_of(alloc, options)? {
+        Some(names) => Ok(chosen_of(options, names)),
+        None => Ok(every_row_of(options)),
+    }
+}
+
+/// What `show` asks for, of every row.
+fn every_row_of<'a>(options: &ArgMatches<'a>) -> Option<AskedCommand<'a>>
+    requires { asks_names (rows_of (found_of options.now)) ≡ false }
+    ensures { Becomes (Some (codes "show", rows_of (found_of options.now))) (Ok result) }
+{
+    match listing_asked("show", options) {
+        Some(request) => Some(AskedCommand::File(request)),
+        None => None,
+    }
+}
+
+/// What `show` asks for, of the rows of these names.
+fn chosen_of<'a>(options: &ArgMatches<'a>, names: NamesAsked<'a>) -> Option<AskedCommand<'a>>
+    requires { AreNamesAsked (rows_of (found_of options.now)) names }
+    ensures { Becomes (Some (codes "show", rows_of (found_of options.now))) (Ok result) }
+{
+    match chosen_listing_of(options) {
+        Some(listing) => Some(AskedCommand::Chosen(Choosing { listing, names })),
+        None => None,
+    }
+}
+
+/// The listing of the file whose path is among the arguments, of parts whose rows are chosen by names.
+fn chosen_listing_of<'a>(options: &ArgMatches<'a>) -> Option<ListingAsked<'a>>
+    ensures file { IfSome result (λ listing.
+        IsFileNamed (rows_of (found_of options.now)) listing.file) }
+    ensures limits { IfSome result (λ listing.
+        AreLimitOptions (rows_of (found_of options.now)) listing.limits) }
+    ensures style { IfSome result (λ listing.
+        IsStyle (rows_of (found_of options.now)) listing.style) }
+    ensures parts { IfSome result (λ listing.
+        AreChosenParts (rows_of (found_of options.now)) listing.parts) }
+    ensures none { result ≡ None → (listing : ListingAsked)
+        → IsFileNamed (rows_of (found_of options.now)) listing.file
+        → AreLimitOptions (rows_of (found_of options.now)) listing.limits
+        → IsStyle (rows_of (found_of options.now)) listing.style
+        → AreChosenParts (rows_of (found_of options.now)) listing.parts → ⊥ }
+{
+    let file = Some(text_of(options, "FILE")?);
+    let limits = limits_of(options)?;
+    let parts = chosen_parts_of(options)?;
+    let style = style_of(options)?;
+    Some(ListingAsked {
+        file,
+        limits,
+        parts,
+        style,
+    })
+}

@@ -1,0 +1,295 @@
+//! The words of a command line.
+ghost use Rattle.std.specs.Prelude.{◌≡◌, ◌≢◌, IfErr, IfOk, IfSome, None, Ok, Err};
+ghost use Rattle.std.specs.Prelude.{Option, Some, codes, map};
+ghost use Rattle.std.specs.Borrow.{Bor};
+ghost use Rattle.clap.specs.Walk.{Text, rows_of};
+ghost use Rattle.clap.specs.Words.{found_of, subcommand_rows_of};
+ghost use Rattle.elf_listing_requests.specs.Options.{AreLimitOptions};
+ghost use Rattle.elf_requests.specs.Asked.{AsksBy, ComesTo, IsFileNamed, IsText, IsLookupTask, item_words};
+ghost use Rattle.elf_requests.specs.Answered.{IsRefusal, WordsAsk, WordsRefused, unread_words};
+ghost use Rattle.elf_requests.specs.Checks.{Becomes, IsAsked};
+ghost use Rattle.elf_model.specs.Placing.{no_items};
+ghost use Rattle.elf_requests.specs.Layouts.{LaysWords};
+ghost use Rattle.elf_headers.specs.declared.caps.Limits.{Limits};
+
+use crate::archive_words::archive_asked;
+use crate::check_words::check_asked;
+use crate::checks::{AskedCommand, Laying};
+use crate::items::lay;
+use crate::list_words::list_asked;
+use crate::names::{checked_name, checked_symbol};
+use crate::need_words::needs_asked;
+use crate::requests::{Request, RequestFault, Task};
+use crate::show_words::show_asked;
+use crate::trait_words::traits_asked;
+use clap::ArgMatches;
+use elf_layout::Layout;
+use elf_listing_requests::{
+    WordsFault, asks_gnu, find_lacks_gnu, format_of, is_set, limits_of, listing_of, matches_of,
+    small_number_of, text_of, unasked,
+};
+use elf_model::Format;
+use std::alloc::Global;
+use std::convert::AsStr;
+
+/// Reads the words of a command line, without the program's name.
+///
+/// # Errors
+/// `Words` for words that ask for nothing that there is, or for help; `BadName` where they ask for
+/// a name that is not of 1 to 4,096 bytes without NUL; `NamesFull` where they ask for the rows of more
+/// than 64 names; `BadItem`, `LayoutRepeat` and `LayoutFull`
+/// for the first word that is no item of a layout, gives an item again, or gives one more of a sort
+/// than a layout holds; `BadTrait` where a word that is required of traits is none; `Memory` where
+/// there is none for reading them.
+pub fn request<'a, S: AsStr>(
+    alloc: Global,
+    words: &'a [S],
+    layout: &'a mut Layout,
+) -> Result<AskedCommand<'a>, RequestFault>
+    ensures asked { IfOk result (WordsAsk (map S.text words.entry.now)) }
+    ensures refused { IfErr result (WordsRefused (map S.text words.entry.now)) }
+{
+    match matches_of(alloc, words) {
+        Ok(matches) => answered(alloc, &matches, layout),
+        Err(fault) => Err(of_words(fault)),
+    }
+}
+
+/// The fault of a request whose words are not read.
+fn of_words(fault: WordsFault) -> RequestFault
+    ensures { result ≡ unread_words fault }
+{
+    match fault {
+        WordsFault::Told(error) => RequestFault::Words(error),
+        WordsFault::Memory => RequestFault::Memory,
+    }
+}
+
+/// What words that the command line let through ask for, or why they are refused.
+fn answered<'a>(
+    alloc: Global,
+    matches: &ArgMatches<'a>,
+    layout: &'a mut Layout,
+) -> Result<AskedCommand<'a>, RequestFault>
+    ensures asked { IfOk result (IsAsked (subcommand_rows_of matches.now)) }
+    ensures refused { IfErr result (IsRefusal (subcommand_rows_of matches.now)) }
+{
+    match asked(alloc, matches, layout) {
+        Ok(Some(asked)) => Ok(asked),
+        Ok(None) => Err(of_words(unasked(alloc, matches))),
+        Err(fault) => Err(fault),
+    }
+}
+
+/// What words that the command line let through ask for, or None where they ask for nothing.
+fn asked<'a>(
+    alloc: Global,
+    matches: &ArgMatches<'a>,
+    layout: &'a mut Layout,
+) -> Result<Option<AskedCommand<'a>>, RequestFault>
+    ensures { Becomes (subcommand_rows_of matches.now) result }
+{
+    match matches.subcommand() {
+        Some((command, options)) => asked_by(alloc, command, options, layout),
+        None => Ok(None),
+    }
+}
+
+/// What a command with these arguments asks for.
+fn asked_by<'a>(
+    alloc: Global,
+    command: &str,
+    options: &ArgMatches<'a>,
+    layout: &'a mut Layout,
+) -> Result<Option<AskedCommand<'a>>, RequestFault>
+    ensures { Becomes (Some (command.now, rows_of (found_of options.now))) result }
+{
+    match command {
+        "show" => show_asked(alloc, options),
+        "check" => check_asked(alloc, options),
+        "list" => list_asked(alloc, options),
+        "traits" => traits_asked(alloc, options),
+        "needs" => Ok(needs_asked(options)),
+        "archive" => archive_asked(alloc, options),
+        "apply" => apply_asked(options, layout),
+        "version" => Ok(Some(AskedCommand::Version)),
+        _ => file_asked(command, options),
+    }
+}
+
+/// What `apply` with these arguments asks for: with the items of a file too, where one is named.
+fn apply_asked<'a>(
+    options: &ArgMatches<'a>,
+    layout: &'a mut Layout,
+) -> Result<Option<AskedCommand<'a>>, RequestFault>
+    ensures { Becomes (Some (codes "apply", rows_of (found_of options.now))) result }
+{
+    match applying(options, layout) {
+        Ok(Some(request)) => Ok(Some(with_list(options, request))),
+        Ok(None) => Ok(None),
+        Err(fault) => Err(fault),
+    }
+}
+
+/// A request to apply, with the file of items that is named, if any.
+fn with_list<'a>(options: &ArgMatches<'a>, request: Request<'a>) -> AskedCommand<'a>
+    requires { AsksBy (Some (codes "apply", rows_of (found_of options.now))) request }
+    ensures { IsAsked (Some (codes "apply", rows_of (found_of options.now))) result }
+{
+    match text_of(options, "layout") {
+        Some(list) => AskedCommand::Laid(Laying { request, list }),
+        None => AskedCommand::File(request),
+    }
+}
+
+/// What another command with these arguments asks for, which is none of many files, of an archive or
+/// of the version, and not `apply`.
+fn file_asked<'a>(
+    command: &str,
+    options: &ArgMatches<'a>,
+) -> Result<Option<AskedCommand<'a>>, RequestFault>
+    requires { (command.now ≢ codes "show") × (command.now ≢ codes "check")
+        × (command.now ≢ codes "list") × (command.now ≢ codes "traits")
+        × (command.now ≢ codes "needs") × (command.now ≢ codes "archive")
+        × (command.now ≢ codes "version") × (command.now ≢ codes "apply") }
+    ensures { Becomes (Some (command.now, rows_of (found_of options.now))) result }
+{
+    match of_file(command, options) {
+        Ok(Some(request)) => Ok(Some(AskedCommand::File(request))),
+        Ok(None) => Ok(None),
+        Err(fault) => Err(fault),
+    }
+}
+
+/// What another command with these arguments asks for, of one file.
+fn of_file<'a>(command: &str, options: &ArgMatches<'a>) -> Result<Option<Request<'a>>, RequestFault>
+    requires { command.now ≢ codes "apply" }
+    ensures { ComesTo (Some (command.now, rows_of (found_of options.now))) result }
+{
+    match command {
+        "find" => lookup(options),
+        _ => Ok(listing_asked(command, options)),
+    }
+}
+
+/// A listing, which is asked for as the programs that list read it.
+pub(crate) fn listing_asked<'a>(command: &str, options: &ArgMatches<'a>) -> Option<Request<'a>>
+    requires { (command.now ≢ codes "apply") × (command.now ≢ codes "find") }
+    ensures { ComesTo (Some (command.now, rows_of (found_of options.now))) (Ok result) }
+{
+    match listing_of(command, options) {
+        Some(listing) => Some(Request {
+            file: listing.file,
+            limits: listing.limits,
+            task: Task::Show {
+                parts: listing.parts,
+                style: listing.style,
+            },
+        }),
+        None => None,
+    }
+}
+
+/// A lookup in a file, within the limits that are asked for, as a loader of the GNU system does it
+/// where that is asked for. None where only such a lookup is what is asked for, and it is not.
+fn lookup<'a>(options: &ArgMatches<'a>) -> Result<Option<Request<'a>>, RequestFault>
+    ensures { ComesTo (Some (codes "find", rows_of (found_of options.now))) result }
+{
+    if find_lacks_gnu(options) {
+        return Ok(None);
+    }
+    let Some(word) = text_of(options, "NAME") else {
+        return Ok(None);
+    };
+    let by_segments = is_set(options, "by-segments");
+    let Some(task) = lookup_of(word, asks_gnu(options), by_segments, format_of(options)) else {
+        return Err(RequestFault::BadName);
+    };
+    Ok(in_file(options, task))
+}
+
+/// The lookup of a text, as a loader of the GNU system does it (`gnu`), by the program headers alone
+/// or not, or by the file's SysV hash table, which is answered in this format. None where the text is
+/// none that can be looked up so.
+fn lookup_of(text: &str, gnu: bool, by_segments: bool, format: Format) -> Option<Task<'_>>
+    ensures some { IfSome result (IsLookupTask gnu by_segments format text.now) }
+    ensures none { result ≡ None → IsText gnu text.now → ⊥ }
+{
+    if gnu {
+        let wanted = checked_symbol(text)?;
+        return Some(Task::Resolve {
+            wanted,
+            by_segments,
+            format,
+        });
+    }
+    let wanted = checked_name(text)?;
+    Some(Task::Find { wanted, format })
+}
+
+/// A section applied, within the limits and in the layout that are asked for.
+fn applying<'a>(
+    options: &ArgMatches<'a>,
+    layout: &'a mut Layout,
+) -> Result<Option<Request<'a>>, RequestFault>
+    ensures { ComesTo (Some (codes "apply", rows_of (found_of options.now))) result }
+{
+    let layout = layout_asked(options, layout)?;
+    let Some(section) = small_number_of(options, "SECTION") else {
+        return Ok(None);
+    };
+    let explain = is_set(options, "explain");
+    let task = Task::Apply {
+        section,
+        layout,
+        explain,
+    };
+    Ok(in_file(options, task))
+}
+
+/// The layout that is asked for, which has no item where no word gives one.
+fn layout_asked<'a>(
+    options: &ArgMatches<'_>,
+    layout: &'a mut Layout,
+) -> Result<&'a Layout, RequestFault>
+    ensures laid { IfOk result (λ layout.
+        LaysWords no_items (item_words (rows_of (found_of options.now))) (Ok layout.now)) }
+    ensures refused { IfErr result (λ fault.
+        LaysWords no_items (item_words (rows_of (found_of options.now))) (Err fault)) }
+{
+    lay_asked(options, layout)?;
+    Ok(layout)
+}
+
+/// Lays out the items that are asked for, and no other items.
+fn lay_asked(options: &ArgMatches<'_>, layout: &mut Layout) -> Result<(), RequestFault>
+    ensures laid { IfOk result (λ _.
+        LaysWords no_items (item_words (rows_of (found_of options.now))) (Ok layout.new)) }
+    ensures refused { IfErr result (λ fault.
+        LaysWords no_items (item_words (rows_of (found_of options.now))) (Err fault)) }
+{
+    match options.get_strs("ITEM") {
+        Some(words) => lay(layout, words),
+        None => lay(layout, &[]),
+    }
+}
+
+/// What is done with the file that is asked for, within the limits that are asked for.
+fn in_file<'a>(options: &ArgMatches<'a>, task: Task<'a>) -> Option<Request<'a>>
+    ensures task { IfSome result (λ request. request.task ≡ task.entry) }
+    ensures file { IfSome result (λ request.
+        IsFileNamed (rows_of (found_of options.now)) request.file) }
+    ensures limits { IfSome result (λ request.
+        AreLimitOptions (rows_of (found_of options.now)) request.limits) }
+    ensures none { result ≡ None → (file : Option (Bor Text)) (limits : Limits)
+        → IsFileNamed (rows_of (found_of options.now)) file
+        → AreLimitOptions (rows_of (found_of options.now)) limits → ⊥ }
+{
+    let path = text_of(options, "FILE")?;
+    let limits = limits_of(options)?;
+    Some(Request {
+        file: Some(path),
+        limits,
+        task,
+    })
+}

@@ -1,0 +1,10 @@
+-- Words that are required, as the definitions have them.
+use Rattle.std.specs.Prelude.{List, map}
+use Rattle.elf_model.specs.TraitWords.{Required}
+use Rattle.elf_wanted.specs.declared.required.RequiredWord.{RequiredWord}
+
+abbrev pub required_word : RequiredWord → Required
+required_word required = record { column = required.column; word = required.word.now }
+
+abbrev pub required_words : List RequiredWord → List Required
+required_words required = map required_word required
