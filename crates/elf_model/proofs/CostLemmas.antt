@@ -1,7 +1,6 @@
 -- Costs add up within the ceiling.
-use Rattle.std.proofs.Common.{◌≡◌, ℕ, suc, zero, if◌then◌else◌, Option, None, Some, ◌+◌, ◌-◌, ◌*◌, ◌/◌, ◌%◌, ◌≤◌, ◌==◌, ◌&&◌, ◌||◌, not, Bool, true, false, List, [], ◌∷◌, ◌++◌, length, refl, ap, ◌∙◌, arith, add-zero, zero-add}
-use Rattle.std.proofs.Math.Nat.{mul-le-mul_left, mul-le-mul_right, mul-le-mul, div-mul-le_self, add-mul, mul-add}
-use Rattle.std.proofs.lemmas.Bool.Decides.{nat_tests}
+use Rattle.std.proofs.Common.{◌≡◌, ℕ, if◌then◌else◌, Option, None, Some, ◌+◌, ◌*◌, ◌/◌, ◌%◌, ◌≤◌, ◌==◌, ◌&&◌, ◌||◌, not, Bool, true, false, List, [], ◌∷◌, ◌++◌, length, refl, ap, ◌∙◌, arith}
+use Rattle.std.proofs.Math.Nat.{mul-le-mul_left, mul-le-mul_right, mul-le-mul, div-mul-le_self, mul-add}
 use Rattle.std.proofs.lemmas.Bool.{ltb-false, eqb-true}
 use Rattle.std.proofs.lemmas.Nat.{le-div}
 use Rattle.elf_model.specs.Records.{e_shnum, e_phnum, e_shstrndx, sh_type, sh_offset, sh_size, sh_link, sh_entsize, p_type, p_offset, p_filesz}
@@ -21,9 +20,9 @@ use Rattle.elf_model.specs.Style.{Style, viewed}
 use Rattle.elf_model.specs.Suffixes.{first_numbers}
 use Rattle.elf_model.proofs.CheckSteps.{all_pass, pass-behind}
 use Rattle.elf_model.proofs.StyleLemmas.{view_length}
-use Rattle.elf_model.proofs.SumLemmas.{sums_split, cost_where-le, cost_where-within, cost_where-and, sum_over-le, and-second, and-first, fewer, headers_within}
+use Rattle.elf_model.proofs.SumLemmas.{cost_where-le, cost_where-within, cost_where-and, sum_over-le, and-second, and-first, fewer, headers_within, one_kind, two_kinds, one_segment_kind}
 use Rattle.elf_model.specs.SuffixLaws.{SuffixesAreWithinMost}
-use Rattle.elf_model.specs.CostLaws.{CostIsWithinCeiling, LastCostIsAdded, SumsGrow}
+use Rattle.elf_model.specs.CostLaws.{CostIsWithinCeiling}
 
 -- what one table costs at most, in a file of so many bytes
 abbrev pub table_bound : ℕ → ℕ → ℕ
@@ -75,16 +74,6 @@ table_within : (bytes : List ℕ) (at size place entry_size : ℕ) → pass (tab
 table_within bytes at size place entry_size h =
     whole_within size (sh_offset bytes at) (sh_size bytes at) place entry_size
     (pass-second (not (sh_entsize bytes at == entry_size)) (record { at = place; cause = EntrySize }) (whole_checks_of size (sh_offset bytes at) (sh_size bytes at) place entry_size) h)
-
--- a section is of one kind
-one_kind : (type bound : ℕ)
-    → cost_where (type == 2 || type == 11) bound + cost_where (type == 4) bound + cost_where (type == 7) bound + cost_where (type == 6) bound
-    + (cost_where (type == 0x6ffffffd) bound + cost_where (type == 0x6ffffffe) bound + cost_where (type == 0x6fffffff) bound) ≤ bound
-one_kind type bound = grind (arith, nat_tests)
-
--- and so it holds symbols or relocation entries, and not both
-two_kinds : (type most : ℕ) → cost_where (type == 2 || type == 11) most + cost_where (type == 4) most ≤ most
-two_kinds type most = grind (arith, nat_tests)
 
 -- a table costs nothing where the header is of another kind
 kind-le : (kind : TableKind) (headers : HeaderTable) (i size cap bound : ℕ)
@@ -262,10 +251,6 @@ module _ (headers : HeaderTable) (i size cap : ℕ) where
   pub section_kinds-le : (versions : Bool) (parts : ℕ) → kinds_cost (section_kinds versions) headers i size cap parts ≤ most_bound versions size cap
   section_kinds-le true parts = omega (arith, suffixed_kinds-le parts, plain_kinds-le parts)
   section_kinds-le false parts = omega (arith, plain_kinds-le parts)
-
--- a segment is of one kind
-one_segment_kind : (type size bound : ℕ) → size ≤ bound → cost_where (type == 4) size + cost_where (type == 2) bound ≤ bound
-one_segment_kind type size bound h = grind (arith, nat_tests)
 
 -- so many entries of 16 bytes, each gone through twice and with a name
 twice_within : (size table name : ℕ) → table ≤ size → table / 16 * (2 * 16 + name) ≤ size + size / 16 * (32 + name)
