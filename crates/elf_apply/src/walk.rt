@@ -1,7 +1,5 @@
 //! The walk over the relocation entries for a section.
 ghost use Rattle.std.specs.Prelude.{◌≡◌, ◌≤◌, ℕ, List, length, IfErr, IfOk};
-ghost use Rattle.elf_model.specs.Apply.{applies_to};
-ghost use Rattle.elf_record.specs.Shdr.{IsShdr};
 ghost use Rattle.elf_headers.specs.Faults.{IsOfCheck};
 ghost use Rattle.elf_headers.specs.Load.{Belongs};
 ghost use Rattle.elf_apply.specs.Walk.{BeginsWalk, FindsEntry, FoundGives, Goes, MayWalk};
@@ -10,8 +8,7 @@ ghost use Rattle.elf_apply.specs.Walk.{walk_left};
 
 use crate::entry::{EntrySymbols, Placed, Target, entry_change};
 use elf_headers::Fault;
-use elf_record::numbers::SHT_RELA;
-use elf_record::{Rela, Shdr};
+use elf_record::Rela;
 use elf_source::{Counted, Source};
 use elf_table::{Cursor, Row, Table};
 
@@ -99,7 +96,7 @@ impl Entries {
         }
         let row = self.cursor.row();
         let at = row.at;
-        let entry = Rela::decode(whole_row(&row));
+        let entry = Rela::decode(row.whole());
         match entry_change(src, target, &entry, at, &mut self.symbols)? {
             Some(placed) => Ok(WalkStep::Stores(placed)),
             None => Ok(WalkStep::Nothing),
@@ -125,7 +122,7 @@ impl Entries {
         }
         self.next += 1;
         let header = target.file.section(section);
-        if !applies(&header, target.section) {
+        if !header.applies_to(target.section) {
             return Ok(WalkStep::Nothing);
         }
         let found = target.file.relocations(section)?;
@@ -138,20 +135,4 @@ impl Entries {
         self.current = section;
         Ok(WalkStep::Nothing)
     }
-}
-
-/// Whether a section holds relocation entries for another (gABI 4, Relocation).
-fn applies(header: &Shdr, section: u16) -> bool
-    ensures { (bytes : List ℕ) (at : ℕ) → IsShdr bytes at header.now →
-        result ≡ applies_to bytes section at }
-{
-    header.sh_type == SHT_RELA && header.sh_info == u32::from(section)
-}
-
-/// The row's bytes as an array.
-fn whole_row<'a>(row: &'a Row<'_>) -> &'a [u8; 24]
-    requires { length row.now.bytes.now ≡ 24 }
-    ensures { result.now ≡ row.now.bytes.now }
-{
-    row.bytes.first_chunk().unwrap()
 }

@@ -1,13 +1,9 @@
 //! The section of relocation entries that a refusal points into.
 ghost use Rattle.std.specs.Prelude.{◌≡◌, ℕ, ◌<◌, List, IfSome};
-ghost use Rattle.elf_model.specs.Apply.{applies_to};
 ghost use Rattle.elf_model.specs.Records.{section_at};
-ghost use Rattle.elf_record.specs.Shdr.{IsShdr};
 ghost use Rattle.elf_headers.specs.Load.{Belongs};
 ghost use Rattle.elf_explain.specs.Explained.{EntryWithin, FoundEntries, HasEntry, has_row};
 
-use elf_record::Shdr;
-use elf_record::numbers::SHT_RELA;
 use elf_table::{File, Names, Table};
 
 /// Symbols with the string table of their names.
@@ -37,7 +33,7 @@ fn entry_in(file: &File<'_>, index: u16, section: u16, rela: u64) -> Option<Link
     ensures has { (bytes : List ℕ) → Belongs bytes file.now.loaded file.now.store.now →
         HasEntry bytes section rela (section_at bytes index) result }
 {
-    if !applies(&file.section(index), section) {
+    if !file.section(index).applies_to(section) {
         return None;
     }
     match file.relocations(index) {
@@ -49,14 +45,6 @@ fn entry_in(file: &File<'_>, index: u16, section: u16, rela: u64) -> Option<Link
         }
         Err(_) => None,
     }
-}
-
-/// Whether a section holds relocation entries for another (gABI 4, Relocation).
-fn applies(header: &Shdr, section: u16) -> bool
-    ensures { (bytes : List ℕ) (at : ℕ) → IsShdr bytes at header.now →
-        result ≡ applies_to bytes section at }
-{
-    header.sh_type == SHT_RELA && header.sh_info == u32::from(section)
 }
 
 /// Whether an entry of a table of relocation entries stands at a file offset.

@@ -1,5 +1,5 @@
 //! Why a read of a file's structure stops.
-ghost use Rattle.std.specs.Prelude.{◌≡◌, Err};
+ghost use Rattle.std.specs.Prelude.{◌≡◌, Err, Some};
 
 use elf_record::{Cause, Refusal};
 use elf_source::SourceFault;
@@ -26,4 +26,11 @@ pub fn refused<T>(at: u64, cause: Cause) -> Result<T, Fault>
     ensures { result ≡ Err (Fault.Refused (record { at = at; cause = cause })) }
 {
     Err(Fault::Refused(Refusal { at, cause }))
+}
+
+/// The refusal for a cause at a file offset, as a check answers it that may pass.
+pub fn refusal_at(at: u64, cause: Cause) -> Option<Refusal>
+    ensures { result ≡ Some (record { at = at; cause = cause }) }
+{
+    Some(Refusal { at, cause })
 }

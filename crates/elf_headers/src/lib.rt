@@ -18,7 +18,7 @@ mod store;
 
 pub use buffers::HEADERS_BUFFER_BYTES;
 pub use caps::{Cap, Caps, Limits, Style};
-pub use fault::{Fault, refused};
+pub use fault::{Fault, refusal_at, refused};
 pub use file_header::{header, refused_length};
 pub use filling::fill;
 pub use loaded::Loaded;

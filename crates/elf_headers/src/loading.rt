@@ -10,7 +10,7 @@ ghost use Rattle.elf_headers.specs.Faults.{Says};
 ghost use Rattle.elf_headers.specs.Load.{early_of, load_cost, Passes, Opens, LoadedAs};
 ghost use Rattle.elf_headers.specs.Store.{emptied, HoldsSections};
 
-use crate::fault::Fault;
+use crate::fault::{Fault, refusal_at};
 use crate::loaded::Loaded;
 use crate::ranges::ends_outside;
 use crate::store::HeaderStore;
@@ -106,10 +106,10 @@ fn refused_names(store: &HeaderStore, header: &Ehdr, size: u64) -> Option<Refusa
     let section = store.section(header.e_shstrndx);
     let place = header.e_shoff + SECTION_HEADER_BYTES * u64::from(header.e_shstrndx);
     if section.sh_type != SHT_STRTAB {
-        return refused(place, Cause::NotStrings);
+        return refusal_at(place, Cause::NotStrings);
     }
     if ends_outside(size, section.sh_offset, section.sh_size) {
-        return refused(place, Cause::TableOutside);
+        return refusal_at(place, Cause::TableOutside);
     }
     None
 }
@@ -123,41 +123,34 @@ pub fn refused_early(header: &Ehdr, size: u64, headers: u16) -> Option<Refusal>
     let sections = SECTION_HEADER_BYTES * u64::from(header.e_shnum);
     let segments = PROGRAM_HEADER_BYTES * u64::from(header.e_phnum);
     if header.e_phnum == PN_XNUM {
-        return refused(0x38, Cause::ExtendedNumbering);
+        return refusal_at(0x38, Cause::ExtendedNumbering);
     }
     if header.e_shstrndx == SHN_XINDEX {
-        return refused(0x3e, Cause::ExtendedNumbering);
+        return refusal_at(0x3e, Cause::ExtendedNumbering);
     }
     if header.e_shnum == 0 && header.e_shoff != 0 {
-        return refused(0x3c, Cause::ExtendedNumbering);
+        return refusal_at(0x3c, Cause::ExtendedNumbering);
     }
     if header.e_shnum > headers {
-        return refused(0x3c, Cause::TooManyHeaders);
+        return refusal_at(0x3c, Cause::TooManyHeaders);
     }
     if header.e_phnum > headers {
-        return refused(0x38, Cause::TooManyHeaders);
+        return refusal_at(0x38, Cause::TooManyHeaders);
     }
     if header.e_shnum != 0 && u64::from(header.e_shentsize) != SECTION_HEADER_BYTES {
-        return refused(0x3a, Cause::EntrySize);
+        return refusal_at(0x3a, Cause::EntrySize);
     }
     if header.e_phnum != 0 && u64::from(header.e_phentsize) != PROGRAM_HEADER_BYTES {
-        return refused(0x36, Cause::EntrySize);
+        return refusal_at(0x36, Cause::EntrySize);
     }
     if header.e_shnum != 0 && ends_outside(size, header.e_shoff, sections) {
-        return refused(0x28, Cause::TableOutside);
+        return refusal_at(0x28, Cause::TableOutside);
     }
     if header.e_phnum != 0 && ends_outside(size, header.e_phoff, segments) {
-        return refused(0x20, Cause::TableOutside);
+        return refusal_at(0x20, Cause::TableOutside);
     }
     if header.e_shnum != 0 && header.e_shstrndx >= header.e_shnum {
-        return refused(0x3e, Cause::BadLink);
+        return refusal_at(0x3e, Cause::BadLink);
     }
     None
-}
-
-/// The refusal for a cause at a file offset.
-fn refused(at: u64, cause: Cause) -> Option<Refusal>
-    ensures { result ≡ Some (record { at = at; cause = cause }) }
-{
-    Some(Refusal { at, cause })
 }

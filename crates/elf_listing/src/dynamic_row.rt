@@ -10,7 +10,6 @@ ghost use Rattle.elf_listing.specs.declared.dynamic_row.EntryStrings.TheVariants
 ghost use Rattle.elf_listing.specs.declared.rows.ListedAs.TheVariants.{Dynamic};
 
 use crate::listing::Listing;
-use crate::row::whole_row;
 use elf_headers::{Fault, Stop, refused};
 use elf_lines::{LineFront, Render, dynamic_front};
 use elf_names::NameIndex;
@@ -48,7 +47,7 @@ impl<S: Source, W: Sink> Listing<'_, '_, '_, '_, S, W> {
         ensures { ListsRow self.old self.new result (Dynamic strings.now) row.now }
     {
         let gnu = self.style.gnu;
-        let entry = Dyn::decode(whole_row(row));
+        let entry = Dyn::decode(row.whole());
         let end = self.read_string(&entry, strings, row.at)?;
         dynamic_front::<R>(front, row.index, &entry, gnu);
         self.named_line(front, end)

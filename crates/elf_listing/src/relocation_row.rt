@@ -8,7 +8,6 @@ ghost use Rattle.elf_listing.specs.declared.rows.ListedAs.TheVariants.{Relocatio
 
 use crate::choosing::Choosing;
 use crate::listing::Listing;
-use crate::row::whole_row;
 use elf_headers::{Fault, Stop, refused};
 use elf_lines::{LineFront, Render, relocation_front};
 use elf_names::NameIndex;
@@ -37,7 +36,7 @@ impl<S: Source, W: Sink> Listing<'_, '_, '_, '_, S, W> {
         ensures { ListsRow self.old self.new result (Relocations section linked) row.now }
     {
         let naming = self.naming();
-        let entry = Rela::decode(whole_row(row));
+        let entry = Rela::decode(row.whole());
         let symbol = entry.symbol();
         let end = self.read_symbol(linked, symbol, row.at)?;
         if !self.is_shown::<C>(end) {

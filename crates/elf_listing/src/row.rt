@@ -22,7 +22,7 @@ impl<S: Source, W: Sink> Listing<'_, '_, '_, '_, S, W> {
         requires row { RowFits self.old.src.now.seen.size Segments row.now }
         ensures { ListsRow self.old self.new result Segments row.now }
     {
-        let header = Phdr::decode(whole_row(row));
+        let header = Phdr::decode(row.whole());
         self.out.put(&segment_row::<R>(row.index as u16, &header, self.style.gnu))?;
         Ok(())
     }
@@ -42,7 +42,7 @@ impl<S: Source, W: Sink> Listing<'_, '_, '_, '_, S, W> {
         ensures { ListsRow self.old self.new result (Symbols section names.now) row.now }
     {
         let naming = self.naming();
-        let symbol = Sym::decode(whole_row(row));
+        let symbol = Sym::decode(row.whole());
         let off = u64::from(symbol.st_name);
         let end = self.read_name(NameIndex {
             names: *names,
@@ -74,12 +74,4 @@ pub(crate) fn is_cut(end: NameEnd) -> bool
         NameEnd::Whole => false,
         NameEnd::Cut => true,
     }
-}
-
-/// The row's bytes as an array.
-pub(crate) fn whole_row<'a, const N: usize>(row: &'a Row<'_>) -> &'a [u8; N]
-    requires { length row.now.bytes.now ≡ N }
-    ensures { result.now ≡ row.now.bytes.now }
-{
-    row.bytes.first_chunk().unwrap()
 }

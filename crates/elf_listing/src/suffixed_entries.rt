@@ -10,7 +10,6 @@ ghost use Rattle.elf_listing.specs.declared.rows.ListedAs.TheVariants.{SuffixedR
 use crate::choosing::Choosing;
 use crate::listing::Listing;
 use crate::read_suffix::SuffixEnd;
-use crate::row::whole_row;
 use crate::suffixes::Suffixes;
 use elf_headers::{Fault, Stop, refused};
 use elf_lines::{LineFront, Render, relocation_front};
@@ -48,7 +47,7 @@ impl<S: Source, W: Sink> Listing<'_, '_, '_, '_, S, W> {
             ListsRow self.old self.new result kind row.now }
     {
         let naming = self.naming();
-        let entry = Rela::decode(whole_row(row));
+        let entry = Rela::decode(row.whole());
         let symbol = entry.symbol();
         let read = self.read_linked(linked, symbol, row.at)?;
         let mut version = NameBuf::new();

@@ -6,7 +6,6 @@ ghost use Rattle.elf_listing.specs.declared.rows.ListedAs.TheVariants.{SuffixedS
 
 use crate::choosing::Choosing;
 use crate::listing::Listing;
-use crate::row::whole_row;
 use crate::suffixes::Suffixes;
 use elf_headers::Stop;
 use elf_lines::{LineFront, Render, symbol_front};
@@ -35,7 +34,7 @@ impl<S: Source, W: Sink> Listing<'_, '_, '_, '_, S, W> {
             ListsRow self.old self.new result kind row.now }
     {
         let naming = self.naming();
-        let symbol = Sym::decode(whole_row(row));
+        let symbol = Sym::decode(row.whole());
         let off = u64::from(symbol.st_name);
         let end = self.read_name(NameIndex {
             names: *names,

@@ -1,7 +1,9 @@
 //! Section headers.
 ghost use Rattle.std.specs.Prelude.{◌≡◌, ℕ, List, length};
+ghost use Rattle.elf_model.specs.Apply.{applies_to};
 
 use crate::fields::{put_u32, put_u64, u32_at, u64_at};
+use crate::numbers::SHT_RELA;
 use arrayvec::ArrayVec;
 
 /// A section header of an ELF64 file, 64 bytes (gABI 4, Section Header).
@@ -53,6 +55,14 @@ impl Shdr {
             sh_addralign: u64_at(bytes, 48),
             sh_entsize: u64_at(bytes, 56),
         }
+    }
+
+    /// Whether the section holds relocation entries for the section of an index (gABI 4, Relocation).
+    pub fn applies_to(&self, section: u16) -> bool
+        ensures { (file : List ℕ) (at : ℕ) → IsShdr file at self.now →
+            result ≡ applies_to file section at }
+    {
+        self.sh_type == SHT_RELA && self.sh_info == u32::from(section)
     }
 
     /// The record's bytes: those that `decode` reads these fields from, and no others.

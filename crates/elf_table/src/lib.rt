@@ -23,9 +23,6 @@ mod window;
 pub use buffers::TABLE_BUFFER_BYTES;
 pub use checks::{checked_strings, checked_table, holds_symbols};
 pub use cursor::Cursor;
-pub use elf_headers::{
-    Cap, Caps, Fault, HeaderRoom, HeaderStore, Limits, Loaded, Stop, Style, fill, header, load,
-};
 pub use file::File;
 pub use name_buf::NameBuf;
 pub use name_search::{find_nul, search_name};

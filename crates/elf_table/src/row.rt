@@ -1,4 +1,5 @@
 //! A row that a cursor gives.
+ghost use Rattle.std.specs.Prelude.{◌≡◌, length};
 
 /// A row of a table, lent from the window of the cursor that gave it.
 #[derive(Clone, Copy)]
@@ -9,4 +10,14 @@ pub struct Row<'a> {
     pub at: u64,
     /// The row's bytes, as many as a row of the table has.
     pub bytes: &'a [u8],
+}
+
+impl<'a> Row<'a> {
+    /// The row's bytes as an array of as many.
+    pub fn whole<const N: usize>(&self) -> &'a [u8; N]
+        requires { length self.now.bytes.now ≡ N }
+        ensures { result.now ≡ self.now.bytes.now }
+    {
+        self.bytes.first_chunk().unwrap()
+    }
 }

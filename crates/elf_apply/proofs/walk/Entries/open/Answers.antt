@@ -21,8 +21,8 @@ pub returns-then-section-sections-clause-walked : goal.returns-then-section-sect
 returns-then-section-sections-clause-walked c = λ file belongs reads.
     left-end file c.args.target.now c.args.self.now c.requires.none (omega (arith, c.if-section-sections.true, c.sections.ensures))
 
-pub returns-then-not-applies-clause-went : goal.returns-then-not-applies-clause-went
-returns-then-not-applies-clause-went c =
+pub returns-then-not-applies_to-clause-went : goal.returns-then-not-applies_to-clause-went
+returns-then-not-applies_to-clause-went c =
     let below : c.args.self.now.next < sections_of c.args.target.now = omega (arith, c.if-section-sections.false, c.sections.ensures) in
     record {
       goes = record {
@@ -36,19 +36,19 @@ returns-then-not-applies-clause-went c =
       counts = omega (
         arith,
         entries-next c.args.target.now c.args.self.now.next below,
-        entries-other c.args.target.now c.args.self.now.next (sym (c.applies.ensures _ 0 c.section-header.ensures.fields) ∙ c.if-not-applies.true),
+        entries-other c.args.target.now c.args.self.now.next (sym (c.applies_to.ensures _ 0 c.section-header.ensures.fields) ∙ c.if-not-applies_to.true),
       );
       gives = steps-passed c.args.target.now c.args.self.now _ refl below (omega (arith, c.requires.none));
     }
 
-pub returns-then-not-applies-clause-left : goal.returns-then-not-applies-clause-left
-returns-then-not-applies-clause-left c = cost-passed c.args.target.now c.args.self.now _ refl refl (omega (arith, c.if-section-sections.false, c.sections.ensures))
+pub returns-then-not-applies_to-clause-left : goal.returns-then-not-applies_to-clause-left
+returns-then-not-applies_to-clause-left c = cost-passed c.args.target.now c.args.self.now _ refl refl (omega (arith, c.if-section-sections.false, c.sections.ensures))
 
-pub returns-then-not-applies-clause-walked : goal.returns-then-not-applies-clause-walked
-returns-then-not-applies-clause-walked c = λ file belongs reads.
+pub returns-then-not-applies_to-clause-walked : goal.returns-then-not-applies_to-clause-walked
+returns-then-not-applies_to-clause-walked c = λ file belongs reads.
     let stands = c.section-header.ensures.stands file belongs in (
       left-passed file c.args.target.now c.args.self.now _ c.requires.none c.requires.none refl (omega (arith, c.if-section-sections.false, c.sections.ensures))
-          (section_none (target_as file c.args.target.now) (section_at file c.args.self.now.next) (sym (c.applies.ensures file (section_at file c.args.self.now.next) stands) ∙ c.if-not-applies.true)),
+          (section_none (target_as file c.args.target.now) (section_at file c.args.self.now.next) (sym (c.applies_to.ensures file (section_at file c.args.self.now.next) stands) ∙ c.if-not-applies_to.true)),
       record { agrees = reads.agrees; links = reads.links; placed = reads.placed },
     )
 
@@ -67,7 +67,7 @@ returns-clause-went c =
       counts = omega (
         arith,
         entries-next c.args.target.now c.args.self.now.next below,
-        entries-table c.args.target.now c.args.self.now.next c.in_ok-found.found.0 (sym (c.applies.ensures _ 0 c.section-header.ensures.fields) ∙ c.if-not-applies.false) c.in_ok-found.ensures.table,
+        entries-table c.args.target.now c.args.self.now.next c.in_ok-found.found.0 (sym (c.applies_to.ensures _ 0 c.section-header.ensures.fields) ∙ c.if-not-applies_to.false) c.in_ok-found.ensures.table,
         c.len.ensures,
         c.from.ensures,
       );
@@ -81,13 +81,13 @@ returns-clause-left c =
     let size : c.in_ok-found.found.0.count * c.in_ok-found.found.0.entry ≡ c.in_ok-found.found.0.count * 24 = ap (λ k. c.in_ok-found.found.0.count * k) c.in_ok-found.ensures.entry in
     let left : c.new-self.result.left * 24 ≡ c.in_ok-found.found.0.count * 24 = ap (λ k. k * 24) n.left in
     cost-opened c.args.target.now c.args.self.now _ n.failed (n.unread ∙ (size ∙ sym left)) refl (omega (arith, c.if-section-sections.false, c.sections.ensures))
-    (n.left ∙ entries-table c.args.target.now c.args.self.now.next c.in_ok-found.found.0 (sym (c.applies.ensures _ 0 c.section-header.ensures.fields) ∙ c.if-not-applies.false) c.in_ok-found.ensures.table)
+    (n.left ∙ entries-table c.args.target.now c.args.self.now.next c.in_ok-found.found.0 (sym (c.applies_to.ensures _ 0 c.section-header.ensures.fields) ∙ c.if-not-applies_to.false) c.in_ok-found.ensures.table)
 
 pub returns-clause-walked : goal.returns-clause-walked
 returns-clause-walked c = λ file belongs reads.
     let stands = c.section-header.ensures.stands file belongs in
     opened-rows file c.args.target.now c.args.self.now _ c.in_ok-found.found.0 c.new-self.ensures.table c.new-self.ensures.index c.new-self.ensures.left c.new-self.ensures.held refl refl
-    c.requires.none (omega (arith, c.if-section-sections.false, c.sections.ensures)) (sym (c.applies.ensures file (section_at file c.args.self.now.next) stands) ∙ c.if-not-applies.false)
+    c.requires.none (omega (arith, c.if-section-sections.false, c.sections.ensures)) (sym (c.applies_to.ensures file (section_at file c.args.self.now.next) stands) ∙ c.if-not-applies_to.false)
     (c.in_ok-found.ensures.held file belongs) refl
 
 pub returns-in_err-found-clause-left : goal.returns-in_err-found-clause-left
@@ -99,4 +99,4 @@ returns-in_err-found-clause-walked c = λ file belongs reads.
     let stands = c.section-header.ensures.stands file belongs in
     rw (p.1, p.2)
     (opened-fault file c.args.target.now c.args.self.now (record { cursor = c.args.self.now.cursor; symbols = c.args.self.now.symbols; current = c.args.self.now.current; next = c.args.self.now.next + 1; count = c.args.self.now.count }) _ c.requires.none (omega (arith, c.if-section-sections.false, c.sections.ensures))
-    (sym (c.applies.ensures file (section_at file c.args.self.now.next) stands) ∙ c.if-not-applies.false) (c.in_err-found.ensures.held file belongs))
+    (sym (c.applies_to.ensures file (section_at file c.args.self.now.next) stands) ∙ c.if-not-applies_to.false) (c.in_err-found.ensures.held file belongs))

@@ -11,7 +11,7 @@ pub returns-in_err-end : goal.returns-in_err-end
 returns-in_err-end g c =
     let p = err_from_is_err_and c.from_residual.result c.from_residual.ensures.1 in
     rw (p.1, p.2) (Lists-unread _ _ _ _ _ _ (omega arith) c.in_err-end.ensures.fetches (λ file held at of_kind row.
-    let decoded = c.decode-entry.ensures.stands file c.args.row.now.at (c.whole_row.ensures ∙ row.bytes) in
+    let decoded = c.decode-entry.ensures.stands file c.args.row.now.at (c.whole.ensures ∙ row.bytes) in
     let here : c.args.row.now.at ≡ sh_offset file (section_at file c.args.section) + c.args.row.now.index * 24 = omega (arith, of_kind.1, row.here) in
     let symbol = c.symbol-symbol.ensures ∙ ap (λ n. n / 2 ^ 32) decoded.r_info in
     rw (relocation_is file _ (style_of c.args.self.now.style) c.args.section (section_at file c.args.section) c.args.row.now.at _ c.args.row.now.index here refl symbol, c.in_err-end.ensures.fetches.1)
@@ -19,7 +19,7 @@ returns-in_err-end g c =
 
 pub returns : goal.returns
 returns g c = Lists-named _ _ _ _ _ _ _ _ (omega arith) c.in_ok-end.ensures.fetches c.named_line.ensures (λ file held at of_kind row.
-    let decoded = c.decode-entry.ensures.stands file c.args.row.now.at (c.whole_row.ensures ∙ row.bytes) in
+    let decoded = c.decode-entry.ensures.stands file c.args.row.now.at (c.whole.ensures ∙ row.bytes) in
     let here : c.args.row.now.at ≡ sh_offset file (section_at file c.args.section) + c.args.row.now.index * 24 = omega (arith, of_kind.1, row.here) in
     let symbol = c.symbol-symbol.ensures ∙ ap (λ n. n / 2 ^ 32) decoded.r_info in
     let front = rw (c.requires.format, c.naming-naming.ensures.gnu, c.naming-naming.ensures.machine file held) at (c.relocation_front.ensures.front file c.args.row.now.at decoded) in
@@ -31,7 +31,7 @@ returns g c = Lists-named _ _ _ _ _ _ _ _ (omega arith) c.in_ok-end.ensures.fetc
 
 pub returns-then-not-is_shown : goal.returns-then-not-is_shown
 returns-then-not-is_shown g c = Lists-hidden _ _ _ _ _ _ (omega arith) c.in_ok-end.ensures.fetches (λ file held at of_kind row.
-    let decoded = c.decode-entry.ensures.stands file c.args.row.now.at (c.whole_row.ensures ∙ row.bytes) in
+    let decoded = c.decode-entry.ensures.stands file c.args.row.now.at (c.whole.ensures ∙ row.bytes) in
     let here : c.args.row.now.at ≡ sh_offset file (section_at file c.args.section) + c.args.row.now.index * 24 = omega (arith, of_kind.1, row.here) in
     let symbol = c.symbol-symbol.ensures ∙ ap (λ n. n / 2 ^ 32) decoded.r_info in
     rw (

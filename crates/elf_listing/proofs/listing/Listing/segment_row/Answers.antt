@@ -16,7 +16,7 @@ returns-in_err-put g c = record {
       rw (p.1, p.2) (Spends-none _ _ _ _ (omega arith), c.in_err-put.ensures.puts.1);
   shows = λ file held at of_kind row.
       let p = err_from_is_err_and c.from_residual.result c.from_residual.ensures.1 in
-      let decoded = c.decode-header.ensures.stands file c.args.row.now.at (c.whole_row.ensures ∙ row.bytes) in
+      let decoded = c.decode-header.ensures.stands file c.args.row.now.at (c.whole.ensures ∙ row.bytes) in
       let here : c.args.row.now.at ≡ e_phoff file + c.args.row.now.index * 56 = omega (arith, of_kind, row.here) in
       let line = c.deref.ensures.0 ∙ (rw c.requires.format at (c.segment_row.ensures file c.args.row.now.at decoded)) in
       rw (p.1, p.2, segment_is file _ (style_of c.args.self.now.style) c.args.row.now.at c.args.row.now.index line here) (Stopped-line _ c.in_err-put.ensures.puts.0);
@@ -28,7 +28,7 @@ returns g c = record {
   keeps = record { same_src = refl; same_out = refl; same_file = refl; same_style = refl };
   spent = (Spends-none _ _ _ _ (omega arith), tt);
   shows = λ file held at of_kind row.
-      let decoded = c.decode-header.ensures.stands file c.args.row.now.at (c.whole_row.ensures ∙ row.bytes) in
+      let decoded = c.decode-header.ensures.stands file c.args.row.now.at (c.whole.ensures ∙ row.bytes) in
       let here : c.args.row.now.at ≡ e_phoff file + c.args.row.now.index * 56 = omega (arith, of_kind, row.here) in
       let line = c.deref.ensures.0 ∙ (rw c.requires.format at (c.segment_row.ensures file c.args.row.now.at decoded)) in
       rw (segment_is file _ (style_of c.args.self.now.style) c.args.row.now.at c.args.row.now.index line here) (Whole-line _ c.in_ok-put.ensures.puts.0);

@@ -20,7 +20,7 @@ returns-in_err-read g c =
     let p = err_from_is_err_and c.from_residual.result c.from_residual.ensures.1 in
     rw (p.1, p.2) (Lists-unread _ _ _ _ _ _ (omega arith) c.in_err-read.ensures.fetches (λ file held at_of of_kind row.
     let at = section_at file c.args.section in
-    let decoded = c.decode-entry.ensures.stands file c.args.row.now.at (c.whole_row.ensures ∙ row.bytes) in
+    let decoded = c.decode-entry.ensures.stands file c.args.row.now.at (c.whole.ensures ∙ row.bytes) in
     let here : c.args.row.now.at ≡ sh_offset file at + c.args.row.now.index * 24 = omega (arith, of_kind.1, row.here) in
     let symbol = c.symbol-symbol.ensures ∙ ap (λ n. n / 2 ^ 32) decoded.r_info in
     rw (suffixed_relocation_is file _ (style_of c.args.self.now.style) c.args.section at c.args.row.now.at _ c.args.row.now.index here refl symbol, c.in_err-read.ensures.fetches.1)
@@ -35,7 +35,7 @@ returns-in_err-suffix g c =
     let both = Fetches-then {X = NameEnd} _ _ _ c.in_ok-read.read (Err c.in_err-suffix.field-0.0) _ _ (24 + name_bytes cap + (2 + name_bytes cap)) (rw same (omega arith)) first c.in_err-suffix.ensures.fetches in
     rw (p.1, p.2) (Lists-unread _ _ _ _ _ _ (omega arith) both (λ file held at_of of_kind row.
     let at = section_at file c.args.section in
-    let decoded = c.decode-entry.ensures.stands file c.args.row.now.at (c.whole_row.ensures ∙ row.bytes) in
+    let decoded = c.decode-entry.ensures.stands file c.args.row.now.at (c.whole.ensures ∙ row.bytes) in
     let here : c.args.row.now.at ≡ sh_offset file at + c.args.row.now.index * 24 = omega (arith, of_kind.1, row.here) in
     let symbol = c.symbol-symbol.ensures ∙ ap (λ n. n / 2 ^ 32) decoded.r_info in
     let read = c.in_ok-read.ensures.read file at held of_kind.0 in
@@ -52,7 +52,7 @@ returns-then-not-is_suffixed_shown g c =
     let both = Fetches-then {X = NameEnd} _ _ _ c.in_ok-read.read (Ok Whole) _ _ (24 + name_bytes cap + (2 + name_bytes cap)) (rw same (omega arith)) first c.in_ok-suffix.ensures.fetches in
     Lists-hidden _ _ _ _ _ _ (omega arith) both (λ file held at_of of_kind row.
     let at = section_at file c.args.section in
-    let decoded = c.decode-entry.ensures.stands file c.args.row.now.at (c.whole_row.ensures ∙ row.bytes) in
+    let decoded = c.decode-entry.ensures.stands file c.args.row.now.at (c.whole.ensures ∙ row.bytes) in
     let here : c.args.row.now.at ≡ sh_offset file at + c.args.row.now.index * 24 = omega (arith, of_kind.1, row.here) in
     let symbol = c.symbol-symbol.ensures ∙ ap (λ n. n / 2 ^ 32) decoded.r_info in
     let read = c.in_ok-read.ensures.read file at held of_kind.0 in
@@ -73,7 +73,7 @@ returns g c =
     let both = Fetches-then {X = NameEnd} _ _ _ c.in_ok-read.read (Ok Whole) _ _ (24 + name_bytes cap + (2 + name_bytes cap)) (rw same (omega arith)) first c.in_ok-suffix.ensures.fetches in
     Lists-named _ _ _ _ _ _ _ _ (omega arith) both c.suffixed_line.ensures (λ file held at_of of_kind row.
     let at = section_at file c.args.section in
-    let decoded = c.decode-entry.ensures.stands file c.args.row.now.at (c.whole_row.ensures ∙ row.bytes) in
+    let decoded = c.decode-entry.ensures.stands file c.args.row.now.at (c.whole.ensures ∙ row.bytes) in
     let here : c.args.row.now.at ≡ sh_offset file at + c.args.row.now.index * 24 = omega (arith, of_kind.1, row.here) in
     let symbol = c.symbol-symbol.ensures ∙ ap (λ n. n / 2 ^ 32) decoded.r_info in
     let read = c.in_ok-read.ensures.read file at held of_kind.0 in

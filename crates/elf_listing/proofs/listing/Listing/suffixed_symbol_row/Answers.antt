@@ -18,7 +18,7 @@ pub returns-in_err-end : goal.returns-in_err-end
 returns-in_err-end g c =
     let p = err_from_is_err_and c.from_residual.result c.from_residual.ensures.1 in
     rw (p.1, p.2) (Lists-unread _ _ _ _ _ _ (omega arith) c.in_err-end.ensures.fetches (λ file held at of_kind row.
-    let decoded = c.decode-symbol.ensures.stands file c.args.row.now.at (c.whole_row.ensures ∙ row.bytes) in
+    let decoded = c.decode-symbol.ensures.stands file c.args.row.now.at (c.whole.ensures ∙ row.bytes) in
     let here : c.args.row.now.at ≡ sh_offset file (section_at file c.args.section) + c.args.row.now.index * 24 = omega (arith, of_kind.1, row.here) in
     rw (suffixed_symbol_is file (style_of c.args.self.now.style) _ _ _ _ _ _ refl of_kind.0 (c.from-off.ensures ∙ decoded.st_name) here, c.in_err-end.ensures.fetches.1) (Stopped-unnamed _ _ _ _ _ [] _ _ (c.in_err-end.ensures.read file held))))
 
@@ -30,7 +30,7 @@ returns-in_err-suffix g c =
     let cap = c.args.self.now.style.cap.bytes in
     let both = Fetches-then {X = NameEnd} _ _ _ c.in_ok-end.end (Err c.in_err-suffix.field-0.0) _ _ (name_bytes cap + (2 + name_bytes cap)) (rw same (omega arith)) first c.in_err-suffix.ensures.fetches in
     rw (p.1, p.2) (Lists-unread _ _ _ _ _ _ (omega arith) both (λ file held at of_kind row.
-    let decoded = c.decode-symbol.ensures.stands file c.args.row.now.at (c.whole_row.ensures ∙ row.bytes) in
+    let decoded = c.decode-symbol.ensures.stands file c.args.row.now.at (c.whole.ensures ∙ row.bytes) in
     let here : c.args.row.now.at ≡ sh_offset file (section_at file c.args.section) + c.args.row.now.index * 24 = omega (arith, of_kind.1, row.here) in
     let defined = ap (λ (n : ℕ). not (n == 0)) decoded.st_shndx in
     let read = c.in_ok-end.ensures.read file held in
@@ -45,7 +45,7 @@ returns-then-not-is_suffixed_shown g c =
     let cap = c.args.self.now.style.cap.bytes in
     let both = Fetches-then {X = NameEnd} _ _ _ c.in_ok-end.end (Ok Whole) _ _ (name_bytes cap + (2 + name_bytes cap)) (rw same (omega arith)) first c.in_ok-suffix.ensures.fetches in
     Lists-hidden _ _ _ _ _ _ (omega arith) both (λ file held at of_kind row.
-    let decoded = c.decode-symbol.ensures.stands file c.args.row.now.at (c.whole_row.ensures ∙ row.bytes) in
+    let decoded = c.decode-symbol.ensures.stands file c.args.row.now.at (c.whole.ensures ∙ row.bytes) in
     let here : c.args.row.now.at ≡ sh_offset file (section_at file c.args.section) + c.args.row.now.index * 24 = omega (arith, of_kind.1, row.here) in
     let defined = ap (λ (n : ℕ). not (n == 0)) decoded.st_shndx in
     let read = c.in_ok-end.ensures.read file held in
@@ -64,7 +64,7 @@ returns g c =
     let cap = c.args.self.now.style.cap.bytes in
     let both = Fetches-then {X = NameEnd} _ _ _ c.in_ok-end.end (Ok Whole) _ _ (name_bytes cap + (2 + name_bytes cap)) (rw same (omega arith)) first c.in_ok-suffix.ensures.fetches in
     Lists-named _ _ _ _ _ _ _ _ (omega arith) both c.suffixed_line.ensures (λ file held at of_kind row.
-    let decoded = c.decode-symbol.ensures.stands file c.args.row.now.at (c.whole_row.ensures ∙ row.bytes) in
+    let decoded = c.decode-symbol.ensures.stands file c.args.row.now.at (c.whole.ensures ∙ row.bytes) in
     let here : c.args.row.now.at ≡ sh_offset file (section_at file c.args.section) + c.args.row.now.index * 24 = omega (arith, of_kind.1, row.here) in
     let defined = ap (λ (n : ℕ). not (n == 0)) decoded.st_shndx in
     let front = rw (c.requires.format, c.naming-naming.ensures.gnu, c.naming-naming.ensures.machine file held) at (c.symbol_front.ensures.front file c.args.row.now.at decoded) in
