@@ -56,3 +56,9 @@ RefusedFiles =
     × TraitsAre (with_bytes 0x78 (little 4 1) program_with_traits) (codes "C refused      0000000000000078 load-overlap p\n")
     × TraitsAre (with_bytes 0xd0 (little 8 0x6f) program_with_traits) (codes "C refused      00000000000000b0 size-not-whole p\n")
     × TraitsAre (with_bytes 0x198 (little 4 0) program_with_traits) (codes "C refused      0000000000000238 hash-shape p\n")
+
+-- of two faults the one of the hash table is before the one of the notes, and that before the one of a symbol's name
+abbrev pub TraitRefusalsInOrder : Type 0
+TraitRefusalsInOrder =
+    TraitsAre (with_bytes 0x198 (little 4 0) (with_bytes 0x22c (little 4 0xffffffff) program_with_traits)) (codes "C refused      0000000000000238 hash-shape p\n")
+    × TraitsAre (with_bytes 0x22c (little 4 0xffffffff) (with_bytes 0x1e0 (little 4 32) program_with_traits)) (codes "C refused      0000000000000228 note-cut p\n")
