@@ -5,7 +5,7 @@ use Rattle.std.proofs.Common.{◌≡◌, ◌<◌, ◌⊎◌, ℕ, List, ◌++◌
 use Rattle.std.proofs.Math.Seq.{take-append_seam}
 use Rattle.std.proofs.lemmas.List.{take-append-drop}
 use Rattle.elf_model.specs.Answer.{Answer, IsShown, status_of, show_answer}
-use Rattle.elf_model.specs.Budget.{IsBudget, IsReport, IsCut, IsBudgeted}
+use Rattle.elf_model.specs.Budget.{IsBudget, IsCut, IsBudgeted}
 use Rattle.elf_model.specs.Lines.{refusal_line}
 use Rattle.elf_model.specs.Listing.{ListingItem, lines_of, fault_of}
 use Rattle.elf_model.specs.Report.{items, report, report_fault}

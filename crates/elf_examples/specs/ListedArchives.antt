@@ -1,10 +1,12 @@
 -- Listings of archives.
-use Rattle.std.specs.Prelude.{◌≡◌, ◌+◌, ◌*◌, [], ◌∷◌, ◌++◌, codes, true, false, None}
+use Rattle.std.specs.Prelude.{◌≡◌, ◌+◌, ◌*◌, [], ◌∷◌, ◌++◌, codes, take, true, false, None}
 use Rattle.elf_model.specs.Archive.{archive, archive_items, short_name}
-use Rattle.elf_model.specs.ArchiveCost.{any_refused, archive_cost}
+use Rattle.elf_model.specs.ArchiveCost.{any_refused, archive_ceiling, archive_cost}
 use Rattle.elf_model.specs.Listing.{fault_of, HEADER, ALL}
 use Rattle.elf_model.specs.Report.{report}
+use Rattle.elf_model.specs.Choice.{EveryRow}
 use Rattle.elf_model.specs.Style.{standard}
+use Rattle.elf_model.specs.declared.formats.Format.TheVariants.{Columns}
 use Rattle.elf_model.specs.Fixtures.{one_symbol_table, bare_header}
 use Rattle.elf_model.specs.FixturesArchive.{archive_of, library, member, member_header}
 
@@ -96,3 +98,18 @@ ArchivesCost =
     (archive_cost library 3 (standard 63) 0 ≡ 8 + 5 * 60 + 128)
     × (archive_cost (codes "!<arch>\n") 3 (standard 63) ALL ≡ 8)
     × (archive_cost (codes "!<thin>\n") 3 (standard 63) ALL ≡ 8)
+
+-- a member that is cut costs its header where that is whole, to the last byte, and its name where that stands elsewhere
+abbrev pub CutMembersCost : Type 0
+CutMembersCost =
+    (archive_cost (codes "!<arch>\nx") 3 (standard 63) ALL ≡ 8)
+    × (archive_cost (archive_of (take 59 (member_header (codes "a") (codes "1")))) 3 (standard 63) ALL ≡ 8)
+    × (archive_cost (archive_of (member_header (codes "a") (codes "1"))) 3 (standard 63) ALL ≡ 8 + 60)
+    × (archive_cost (archive_of (member_header (codes "/5") (codes "1"))) 3 (standard 63) ALL ≡ 8 + 60 + 128)
+    × (archive_cost (archive_of (member_header (codes "#1/5") (codes "1"))) 3 (standard 63) ALL ≡ 8 + 60 + 128)
+
+-- what none passes with versions behind names: 59 bytes have room for two symbols, two definitions and three needs
+abbrev pub CeilingsWithVersions : Type 0
+CeilingsWithVersions =
+    archive_ceiling 59 1 (record { cap = 63; gnu = true; by_segments = false; format = Columns; choice = EveryRow; versions = true })
+    ≡ 8 + (64 + (184 + 59 + 3 * 96) + (2 * 66 + 2 * 28 + 3 * 16))

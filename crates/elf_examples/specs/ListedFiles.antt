@@ -3,7 +3,7 @@ use Rattle.std.specs.Prelude.{ℕ, ◌≡◌, ◌^◌, ◌-◌, List, [], ◌∷
 use Rattle.elf_model.specs.declared.formats.Format.TheVariants.{Columns, Object}
 use Rattle.elf_model.specs.Bytes.{little}
 use Rattle.elf_model.specs.Choice.{EveryRow, RowsOf}
-use Rattle.elf_model.specs.FileLists.{archive_fault, budget_behind, file_sort, headed, list_status, path_line, placed_behind}
+use Rattle.elf_model.specs.FileLists.{archive_fault, budget_behind, file_sort, headed, list_status, members_alone, path_line, placed_behind}
 use Rattle.elf_model.specs.Fixtures.{bare_header, one_symbol_table, with_bytes}
 use Rattle.elf_model.specs.FixturesArchive.{archive_of, library, member}
 use Rattle.elf_model.specs.Listing.{SYMBOLS}
@@ -31,6 +31,7 @@ HeadedListings =
 abbrev pub ListStatuses : Type 0
 ListStatuses =
     (list_status None false ≡ 0) × (list_status None true ≡ 1) × (list_status (Some (record { at = 0; cause = Short })) false ≡ 1)
+    × (list_status (Some (record { at = 0; cause = Short })) true ≡ 1)
 
 abbrev magic : List ℕ
 magic = 127 ∷ 69 ∷ 76 ∷ 70 ∷ []
@@ -73,3 +74,15 @@ ArchiveFaults =
     × FaultIs (archive_of (member (codes "a.o/") bare_header ++ codes "x")) (at_fault 0x84 MemberCut)
     × FaultIs (archive_of (member (codes "a.o/") faulty ++ member (codes "b.o/") (take 70 faulty))) (at_fault 0x84 NameOutside)
     × (placed_behind 8 (record { at = 2 ^ 64 - 4; cause = Short }) ≡ record { at = 2 ^ 64 - 1; cause = Short })
+
+-- the lines of members stand alone where all rows are shown, and not where some names choose them
+abbrev pub MembersAlone : Type 0
+MembersAlone = (members_alone EveryRow ≡ true) × (members_alone (RowsOf []) ≡ false)
+
+-- a fault of a member is counted from where its data begin behind a name of four bytes; a member that is no ELF file has none, nor
+-- has one of which no part is listed
+abbrev pub FaultsBehindNames : Type 0
+FaultsBehindNames =
+    FaultIs (archive_of (member (codes "#1/4") (codes "ab.o" ++ faulty))) (at_fault 0x88 NameOutside)
+    × FaultIs (archive_of (member (codes "a.o/") (codes "text") ++ member (codes "b.o/") faulty)) (at_fault 0xc4 NameOutside)
+    × (archive_fault (archive_of (member (codes "b.o/") faulty)) 3 (standard 63) 0 ≡ None)

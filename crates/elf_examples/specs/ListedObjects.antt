@@ -1,10 +1,10 @@
 -- Lines as JSON objects.
-use Rattle.std.specs.Prelude.{ℕ, ◌^◌, ◌≡◌, true, false, List, [], ◌∷◌, ◌++◌, codes}
+use Rattle.std.specs.Prelude.{ℕ, ◌^◌, ◌≡◌, true, false, [], ◌∷◌, ◌++◌, codes}
 use Rattle.elf_model.specs.Archive.{member_front}
 use Rattle.elf_model.specs.Choice.{EveryRow}
 use Rattle.elf_model.specs.Checking.{check_line, unnamed_line}
 use Rattle.elf_model.specs.Fixtures.{one_symbol_table}
-use Rattle.elf_model.specs.LineFronts.{dynamic_front, note_front, relocation_front, section_front, symbol_front}
+use Rattle.elf_model.specs.LineFronts.{dynamic_front, note_front, relocation_front, section_front}
 use Rattle.elf_model.specs.Lines.{named_line, note_line, refusal_line, segment_line, steps_line}
 use Rattle.elf_model.specs.Listing.{ALL, SYMBOLS, report_of}
 use Rattle.elf_model.specs.Names.Shown.{Whole, Cut}

@@ -4,7 +4,7 @@ use Rattle.elf_model.specs.declared.formats.Format.TheVariants.{Columns}
 use Rattle.elf_model.specs.Bytes.{little}
 use Rattle.elf_model.specs.Choice.{EveryRow}
 use Rattle.elf_model.specs.Cost.{listing_cost}
-use Rattle.elf_model.specs.Listing.{report_of, fault_of, HEADER, SECTIONS, SEGMENTS, SYMBOLS, NOTES, DYNAMIC, ALL}
+use Rattle.elf_model.specs.Listing.{report_of, fault_of, SECTIONS, SEGMENTS, SYMBOLS, NOTES, DYNAMIC, ALL}
 use Rattle.elf_model.specs.Report.{report, listing}
 use Rattle.elf_model.specs.Style.{Style}
 use Rattle.elf_model.specs.Fixtures.{with_bytes, section_header}

@@ -1,5 +1,5 @@
 //! Listings of archives, each computed by the prover.
-ghost use Rattle.elf_examples.specs.ListedArchives.{MembersList, ArchiveOfNamesLists, RefusedMembersEndAlone, ThreeBytesAreNoElf, WhatIsNoArchiveIsRefused, CutMembersAreRefused, LastPaddingMayMiss, MemberNames, LongNames, ArchivesCost};
+ghost use Rattle.elf_examples.specs.ListedArchives.{ArchiveOfNamesLists, ArchivesCost, CeilingsWithVersions, CutMembersAreRefused, CutMembersCost, LastPaddingMayMiss, LongNames, MemberNames, MembersList, RefusedMembersEndAlone, ThreeBytesAreNoElf, WhatIsNoArchiveIsRefused};
 
 /// The members of a library, without their listings.
 #[tactic(auto, unfolding(elf_model::proofs::OnLiterals::on_literals))]
@@ -59,4 +59,16 @@ pub fn long_names()
 #[tactic(auto, unfolding(elf_model::proofs::OnLiterals::on_literals))]
 pub fn archives_cost()
     ensures { ArchivesCost }
+{}
+
+/// What members cost that are cut.
+#[tactic(auto, unfolding(elf_model::proofs::OnLiterals::on_literals))]
+pub fn cut_members_cost()
+    ensures { CutMembersCost }
+{}
+
+/// What no archive with versions behind names passes.
+#[tactic(auto, unfolding(elf_model::proofs::OnLiterals::on_literals, elf_model::specs::Cost::style_ceiling))]
+pub fn ceilings_with_versions()
+    ensures { CeilingsWithVersions }
 {}

@@ -1,5 +1,5 @@
 //! Many files listed, and archives checked, each example computed by the prover.
-ghost use Rattle.elf_examples.specs.ListedFiles.{ArchiveFaults, BudgetsBehind, FileSorts, HeadedListings, ListStatuses, PathLines};
+ghost use Rattle.elf_examples.specs.ListedFiles.{ArchiveFaults, BudgetsBehind, FaultsBehindNames, FileSorts, HeadedListings, ListStatuses, MembersAlone, PathLines};
 
 /// The line of a path.
 #[tactic(auto, unfolding(elf_model::proofs::OnLiterals::on_literals))]
@@ -35,4 +35,16 @@ pub fn budgets_behind()
 #[tactic(auto, unfolding(elf_model::proofs::OnLiterals::on_literals))]
 pub fn archive_faults()
     ensures { ArchiveFaults }
+{}
+
+/// Whether the lines of members stand alone.
+#[tactic(auto, unfolding(elf_model::proofs::OnLiterals::on_literals))]
+pub fn members_stand_alone()
+    ensures { MembersAlone }
+{}
+
+/// Faults of members behind a name in their data, and members without one.
+#[tactic(auto, unfolding(elf_model::proofs::OnLiterals::on_literals))]
+pub fn faults_behind_names()
+    ensures { FaultsBehindNames }
 {}

@@ -3,6 +3,7 @@ use Rattle.std.specs.Prelude.{ℕ, ◌≡◌, ◌+◌, ◌*◌, List, [], ◌∷
 use Rattle.elf_model.specs.Bindings.{Binding, BoundTo, BoundToNone, StoppedIn, bound_in, definer_asks, definer_looked, sought_at, symbols_hashed}
 use Rattle.elf_model.specs.Bytes.{little}
 use Rattle.elf_model.specs.Fixtures.{with_bytes}
+use Rattle.elf_model.specs.FixturesHash.{words}
 use Rattle.elf_model.specs.FixturesVersions.{hostile_library, versioned_without_sections}
 use Rattle.elf_model.specs.Loader.{Asked, NoVersion, Version, Wanted}
 use Rattle.elf_model.specs.LoaderScope.{scope_of}
@@ -84,6 +85,29 @@ SymbolsAsk =
     × SeeksAt (with_bytes 0xfc (little 1 0x02) library) 1 (Ok None)
     × SeeksAt (with_bytes 0xf8 (little 4 0) library) 1 (Ok None)
 
+-- a unique symbol asks, and one of another binding does not; the highest bit of the word is no part of the number; a number of a
+-- definition is a version too; a symbol that is defined asks for nothing, whatever its name is
+abbrev pub OtherSymbolsAsk : Type 0
+OtherSymbolsAsk =
+    SeeksAt (with_bytes 0xfc (little 1 0xa2) library) 1 (Ok puts)
+    × SeeksAt (with_bytes 0xfc (little 1 0x32) library) 1 (Ok None)
+    × SeeksAt (with_bytes 0x1a2 (little 2 0x8004) library) 1 (Ok puts)
+    × SeeksAt (with_bytes 0x1a2 (little 2 0x8001) library) 1 (Ok (Some (record { name = codes "puts"; asked = NoVersion })))
+    × SeeksAt (with_bytes 0x1a2 (little 2 2) library) 1 (Ok (Some (record { name = codes "puts"; asked = Version (codes "V1") })))
+    × SeeksAt (with_bytes 0x128 (little 4 0x30) library) 3 (Ok None)
+
+-- a word for two symbols, and for one: the second has none
+abbrev pub WordsOfSymbolsEnd : Type 0
+WordsOfSymbolsEnd =
+    SeeksAt (with_bytes 0x298 (little 8 0x2ec) library) 1 (Ok (Some (record { name = codes "puts"; asked = NoVersion })))
+    × SeeksAt (with_bytes 0x298 (little 8 0x2ee) library) 1 (Err (record { at = 0x290; cause = VersionCut }))
+
+-- the name is refused before the version, and the name of a version at its record
+abbrev pub SymbolsAreRefusedInOrder : Type 0
+SymbolsAreRefusedInOrder =
+    SeeksAt (with_bytes 0xf8 (little 4 0x30) (with_bytes 0x1a2 (little 2 9) library)) 1 (Err (record { at = 0xf8; cause = NameOutside }))
+    × SeeksAt (with_bytes 0x228 (little 4 0x30) library) 1 (Err (record { at = 0x220; cause = NameOutside }))
+
 -- its refusals: of its name, of a number that no record has, and of the records before
 abbrev pub SymbolsAreRefused : Type 0
 SymbolsAreRefused =
@@ -96,3 +120,9 @@ CountIs file count = elim (scope_of file 8) [ Ok scope ↦ symbols_hashed file s
 
 abbrev pub SymbolsAreCounted : Type 0
 SymbolsAreCounted = CountIs library (Ok 6)
+
+-- the highest of the buckets' words leads to the last chain, wherever it stands; a table without a bucket is refused
+abbrev pub HighestBucketsCount : Type 0
+HighestBucketsCount =
+    CountIs (with_bytes 0xc8 (words (3 ∷ 2 ∷ [])) library) (Ok 6)
+    × CountIs shapeless (Err (record { at = 0x250; cause = HashShape }))

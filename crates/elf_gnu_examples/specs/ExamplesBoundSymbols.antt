@@ -1,12 +1,12 @@
 -- Worked examples of what binds the symbols of some objects, and of the lines of that.
-use Rattle.std.specs.Prelude.{ℕ, ◌≡◌, ◌==◌, Bool, true, false, if◌then◌else◌, List, [], ◌∷◌, ◌++◌, codes, Option, None, Some}
+use Rattle.std.specs.Prelude.{ℕ, ◌≡◌, true, false, if◌then◌else◌, List, [], ◌∷◌, ◌++◌, codes, Option, None, Some}
+use Rattle.std.specs.Str.{bytes_eq}
 use Rattle.elf_model.specs.BoundSymbols.{BoundItem, BoundObjects, Faulty, Told, bound_items, any_unbound, bound_text}
 use Rattle.elf_model.specs.Bytes.{little}
 use Rattle.elf_model.specs.Fixtures.{with_bytes}
-use Rattle.elf_model.specs.FixturesVersions.{versioned_without_sections}
+use Rattle.elf_model.specs.FixturesVersions.{needed_file, needed_version, versioned_without_sections}
 use Rattle.elf_model.specs.declared.causes.Cause.TheVariants.{HashShape, NameOutside}
-use Rattle.elf_model.specs.declared.causes.Refusal.{Refusal}
-use Rattle.elf_model.specs.declared.formats.Format.TheVariants.{Columns}
+use Rattle.elf_model.specs.declared.formats.Format.TheVariants.{Columns, Object}
 use Rattle.elf_model.specs.declared.states.BindingState.{BindingState}
 use Rattle.elf_model.specs.declared.states.BindingState.TheVariants as state
 
@@ -69,3 +69,66 @@ LinesTell =
     ++ codes "B     2          1 weak     -     -          puts@GLIBC_2.2.5\n")
     × (any_unbound all ≡ true)
     × (any_unbound (bound_items (objects_of (weak ∷ []) None)) ≡ false)
+
+-- the objects 0 and 2, of which the second is the object of one name
+abbrev AreBoundBy : List ℕ → List ℕ → List ℕ → List BoundItem → Type 0
+AreBoundBy first second name items =
+    bound_items (record {
+      files = first ∷ second ∷ [];
+      indexes = 0 ∷ 2 ∷ [];
+      headers = 8;
+      called = λ other. if bytes_eq other name then Some 2 else None;
+    })
+    ≡ items
+
+abbrev libc : List ℕ
+libc = codes "libc.so.6"
+
+-- a library that needs the version GLIBC_2.2.5 of two files, under two numbers, and asks for `puts` with one of these
+abbrev two_files : (number : ℕ) → List ℕ
+two_files number =
+    with_bytes 0x1a2 (little 2 number) (with_bytes 0x2a0 (little 8 99) (with_bytes 0x2c8 (little 8 0x1b0)
+    (with_bytes 0x1b0 (needed_file 1 12 16 32 ++ needed_version 0 0 4 0x16 0 ++ needed_file 1 0x22 16 0 ++ needed_version 0 0 5 0x16 0) library)))
+
+-- the object of the needed file is asked whether it lacks the version: of that file, of several, before whose next the version stands
+abbrev pub NeededFilesAreAsked : Type 0
+NeededFilesAreAsked =
+    AreBoundBy library library libc (puts 0 state.NoVersion ∷ puts 2 state.NoVersion ∷ [])
+    × AreBoundBy library library (codes "libf.so") (puts 0 state.Unbound ∷ puts 2 state.Unbound ∷ [])
+    × AreBoundBy (two_files 5) library (codes "libf.so") (puts 0 state.NoVersion ∷ puts 2 state.Unbound ∷ [])
+    × AreBoundBy (two_files 4) library (codes "libf.so") (puts 0 state.Unbound ∷ puts 2 state.Unbound ∷ [])
+    × AreBoundBy (two_files 5) library libc (puts 0 state.Unbound ∷ puts 2 state.NoVersion ∷ [])
+    × AreBoundBy (two_files 4) library libc (puts 0 state.NoVersion ∷ puts 2 state.NoVersion ∷ [])
+
+-- it lacks none that it has; nor where it defines no versions, or has no words of them
+abbrev pub VersionsAreLacked : Type 0
+VersionsAreLacked =
+    AreBoundBy (with_bytes 0x228 (little 4 0x2a) library) library libc (Told 0 1 state.Unbound (codes "puts@V1") ∷ puts 2 state.NoVersion ∷ [])
+    × AreBoundBy library (with_bytes 0x2a0 (little 8 99) library) libc (puts 0 state.Unbound ∷ puts 2 state.Unbound ∷ [])
+    × AreBoundBy library (with_bytes 0x290 (little 8 99) library) libc (puts 0 state.Unbound ∷ Told 2 1 state.Unbound (codes "puts") ∷ [])
+
+-- the name of the needed file is read only where it is asked for
+abbrev pub NeededNamesAreRefused : Type 0
+NeededNamesAreRefused =
+    AreBound (with_bytes 0x214 (little 4 0x30) library ∷ []) None (Faulty (record { at = 0x210; cause = NameOutside }) ∷ [])
+    × AreBound (with_bytes 0x214 (little 4 0x30) weak ∷ []) None (puts 0 state.Weak ∷ [])
+
+-- the last symbol is one of them
+abbrev pub LastSymbolsAreBound : Type 0
+LastSymbolsAreBound =
+    AreBound (with_bytes 0x15e (little 2 0) library ∷ []) None (puts 0 state.Unbound ∷ Told 0 5 state.Unbound (codes "h@V2") ∷ [])
+
+-- the other lines, and as objects; what tells that something is missing
+abbrev pub OtherLinesTell : Type 0
+OtherLinesTell =
+    let fault = Faulty (record { at = 0x250; cause = HashShape }) in
+    (bound_text Columns (puts 0 state.NoVersion ∷ puts 0 (state.Refused 2) ∷ fault ∷ [])
+    ≡ codes "B     0          1 nover    -     -          puts@GLIBC_2.2.5\n" ++ codes "B     0          1 refused      2 -          puts@GLIBC_2.2.5\n"
+    ++ codes "! 0000000000000250 hash-shape\n")
+    × (bound_text Object (puts 0 state.Unbound ∷ puts 0 (state.Bound 2 4) ∷ [])
+    ≡ codes "{\"line\":\"B\",\"object\":0,\"symbol\":1,\"state\":\"unbound\",\"definer\":\"-\",\"definition\":\"-\",\"name\":\"puts@GLIBC_2.2.5\"}\n"
+    ++ codes "{\"line\":\"B\",\"object\":0,\"symbol\":1,\"state\":\"bound\",\"definer\":2,\"definition\":4,\"name\":\"puts@GLIBC_2.2.5\"}\n")
+    × (any_unbound (puts 0 state.Weak ∷ puts 0 (state.Bound 2 4) ∷ []) ≡ false)
+    × (any_unbound (puts 0 state.Weak ∷ puts 0 state.NoVersion ∷ []) ≡ true)
+    × (any_unbound (puts 0 (state.Refused 2) ∷ []) ≡ true)
+    × (any_unbound (puts 0 state.Weak ∷ fault ∷ []) ≡ true)

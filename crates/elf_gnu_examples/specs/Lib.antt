@@ -16,3 +16,4 @@ pub mod ExamplesWords
 pub mod ExamplesViews
 pub mod ExamplesBindings
 pub mod ExamplesBoundSymbols
+pub mod ExamplesLinks

@@ -1,13 +1,15 @@
 -- Worked examples of the versions behind the names of symbols.
-use Rattle.std.specs.Prelude.{◌≡◌, ℕ, List, [], ◌∷◌, ◌++◌, codes, map, true, false}
+use Rattle.std.specs.Prelude.{◌≡◌, ℕ, ◌+◌, ◌*◌, List, [], ◌∷◌, ◌++◌, codes, map, true, false}
 use Rattle.elf_model.specs.declared.formats.Format.{Format}
 use Rattle.elf_model.specs.declared.formats.Format.TheVariants.{Columns, Object}
 use Rattle.elf_model.specs.Bytes.{little}
 use Rattle.elf_model.specs.Choice.{RowChoice, EveryRow, RowsOf, wanted_text}
+use Rattle.elf_model.specs.Cost.{listing_cost, style_ceiling}
 use Rattle.elf_model.specs.Fixtures.{with_bytes}
 use Rattle.elf_model.specs.FixturesVersions.{versioned_library}
-use Rattle.elf_model.specs.Listing.{report_of}
+use Rattle.elf_model.specs.Listing.{report_of, RELOCS, SYMBOLS}
 use Rattle.elf_model.specs.Records.{section_at}
+use Rattle.elf_model.specs.Report.{listing}
 use Rattle.elf_model.specs.Style.{Style}
 use Rattle.elf_model.specs.Suffixes.{suffixed_relocation_rows, suffixed_symbol_rows}
 
@@ -114,3 +116,91 @@ ObjectsHaveVersions =
     ≡ codes "{\"line\":\"R\",\"table\":7,\"offset\":672,\"type\":\"GLOB_DAT\",\"symbol\":1,\"addend\":0,\"name\":\"puts\",\"version\":\"GLIBC_2.2.5\",\"default\":false}\n")
     × (report_of Columns (suffixed_relocation_rows (relocated_library 1) (with_versions 4 Columns EveryRow) 7 (section_at (relocated_library 1) 7))
     ≡ codes "R     7 00000000000002a0 GLOB_DAT   00000001 +0000000000000000 puts@GLIB\\+\n")
+
+-- the line of `g`, which has no version
+abbrev pub plain_line : List ℕ
+plain_line = codes "Y     2          2 00000000000002a0 0000000000000008 OBJECT  UNIQUE DEFAULT       7 g\n"
+
+-- the library with a second section of version numbers, of the same table, whose numbers stand at an offset
+abbrev second_numbers : (offset : ℕ) → List ℕ
+second_numbers offset =
+    with_bytes 0x4b4 (little 4 0x6fffffff)
+    (with_bytes 0x4c8 (little 8 offset ++ little 8 12 ++ little 4 2) (with_bytes 0x4e8 (little 8 2) versioned_library))
+
+-- of two sections of version numbers the first counts that is of the table
+abbrev pub FirstNumbersCount : Type 0
+FirstNumbersCount =
+    (asked_listed (codes "f@V1" ∷ []) (second_numbers 0x230) ≡ hidden_line)
+    × (asked_listed (codes "f@V1" ∷ []) (with_bytes 0x418 (little 4 3) (second_numbers 0x1a0)) ≡ hidden_line)
+
+-- the numbers 0 and 1 are of no version with the highest bit of their word too
+abbrev pub HiddenNumbersAreSmall : Type 0
+HiddenNumbersAreSmall =
+    (asked_listed (codes "g" ∷ []) (with_bytes 0x1a4 (little 2 0x8001) versioned_library) ≡ plain_line)
+    × (asked_listed (codes "g" ∷ []) (with_bytes 0x1a4 (little 2 0x8000) versioned_library) ≡ plain_line)
+
+-- the names of needs are in the strings of their own section
+abbrev pub SuffixesHaveTheirStrings : Type 0
+SuffixesHaveTheirStrings =
+    asked_listed (codes "puts" ∷ codes "f@V1" ∷ [])
+    (with_bytes 0x498 (little 4 7) (with_bytes 0x4b4 (little 4 3) (with_bytes 0x4c8 (little 8 0x171 ++ little 8 0x2f) versioned_library)))
+    ≡ codes "Y     2          1 0000000000000000 0000000000000000 FUNC    GLOBAL DEFAULT   UND   puts@LIBC_2.2.5\n" ++ hidden_line
+
+-- a fault of a version ends the rows though no text asks for its symbol; the name of a need is at fault at its record; and the
+-- fault of a symbol's name is before that of its version
+abbrev pub RefusalsAreNotChosen : Type 0
+RefusalsAreNotChosen =
+    (asked_listed (codes "g" ∷ []) (with_bytes 0x1a8 (little 2 9) versioned_library) ≡ plain_line ++ codes "! 00000000000001a8 version-index\n")
+    × (asked_listed (codes "e" ∷ []) (with_bytes 0x228 (little 4 48) versioned_library) ≡ codes "! 0000000000000220 name-outside\n")
+    × (asked_listed (codes "g" ∷ []) (with_bytes 0x140 (little 4 48) (with_bytes 0x1a8 (little 2 9) versioned_library))
+    ≡ plain_line ++ codes "! 0000000000000140 name-outside\n")
+
+-- what is refused before the first row, in order: the version numbers, the definitions with their section, the needs with theirs
+abbrev pub TablesAreRefusedInOrder : Type 0
+TablesAreRefusedInOrder =
+    let cut = with_bytes 0x1cc (little 2 2) versioned_library in
+    (symbols_listed (with_bytes 0x410 (little 8 9) cut) ≡ codes "! 00000000000003f0 size-not-whole\n")
+    × (symbols_listed (with_bytes 0x226 (little 2 1024) cut) ≡ codes "! 00000000000001cc version\n")
+    × (symbols_listed (with_bytes 0x450 (little 8 0xffff) versioned_library) ≡ codes "! 0000000000000430 table-outside\n")
+    × (symbols_listed (with_bytes 0x458 (little 4 0) versioned_library) ≡ codes "! 0000000000000430 bad-link\n")
+    × (symbols_listed (with_bytes 0x490 (little 8 0xffff) versioned_library) ≡ codes "! 0000000000000470 table-outside\n")
+
+-- the relocation entries of a file
+abbrev pub entries_listed : List ℕ → List ℕ
+entries_listed file = report_of Columns (suffixed_relocation_rows file (with_versions 63 Columns EveryRow) 7 (section_at file 7))
+
+-- without a symbol, or an entry, nothing is refused; with an entry the versions are, before it
+abbrev pub EmptyTablesAreNotRefused : Type 0
+EmptyTablesAreNotRefused =
+    (symbols_listed (with_bytes 0x390 (little 8 0) (with_bytes 0x1cc (little 2 2) versioned_library)) ≡ [])
+    × (entries_listed (with_bytes 0x4d0 (little 8 0) (with_bytes 0x1cc (little 2 2) (relocated_library 1))) ≡ [])
+    × (entries_listed (with_bytes 0x1cc (little 2 2) (relocated_library 1)) ≡ codes "! 00000000000001cc version\n")
+
+-- an entry of symbol 0 has no version, though the word of that symbol has one
+abbrev pub FirstSymbolHasNoVersion : Type 0
+FirstSymbolHasNoVersion =
+    entries_listed (with_bytes 0x1a0 (little 2 3) (relocated_library 0))
+    ≡ codes "R     7 00000000000002a0 GLOB_DAT   00000000 +0000000000000000 \n"
+
+-- a default version in an object, and one that is cut
+abbrev pub ObjectsHaveDefaults : Type 0
+ObjectsHaveDefaults =
+    (report_of Columns (suffixed_symbol_rows versioned_library (with_versions 63 Object (RowsOf (map (wanted_text true) (codes "f@@V2" ∷ [])))) 2 (section_at versioned_library 2))
+    ≡ codes "{\"line\":\"Y\",\"table\":2,\"index\":4,\"value\":681,\"size\":1,\"type\":\"FUNC\",\"binding\":\"GLOBAL\",\"visibility\":\"DEFAULT\",\"place\":7,\"name\":\"f\",\"version\":\"V2\",\"default\":true}\n")
+    × (report_of Columns (suffixed_relocation_rows (relocated_library 1) (with_versions 4 Object EveryRow) 7 (section_at (relocated_library 1) 7))
+    ≡ codes "{\"line\":\"R\",\"table\":7,\"offset\":672,\"type\":\"GLOB_DAT\",\"symbol\":1,\"addend\":0,\"name\":\"puts\",\"version\":\"GLIB\",\"version_cut\":true,\"default\":false}\n")
+
+-- a listing has them, and costs a word and a name more for each row, and a walk over four definitions and two needs; nothing more
+-- where the numbers are of another table
+abbrev pub SuffixesAreCounted : Type 0
+SuffixesAreCounted =
+    (report_of Columns (listing versioned_library 8 (with_versions 63 Columns (RowsOf (map (wanted_text true) (codes "f@V1" ∷ [])))) SYMBOLS) ≡ hidden_line)
+    × (listing_cost versioned_library 8 (with_versions 63 Columns EveryRow) SYMBOLS ≡ 64 + 8 * 64 + 6 * (24 + 64) + 6 * (2 + 64) + 4 * 28 + 2 * 16)
+    × (listing_cost (relocated_library 1) 8 (with_versions 63 Columns EveryRow) RELOCS ≡ 64 + 8 * 64 + (24 + 24 + 64) + (2 + 64) + 4 * 28 + 2 * 16)
+    × (listing_cost (with_bytes 0x418 (little 4 3) versioned_library) 8 (with_versions 63 Columns EveryRow) SYMBOLS ≡ 64 + 8 * 64 + 6 * (24 + 64))
+
+-- what they never pass with one header: 120 bytes have room for seven rows of 16 bytes, five symbols, six definitions, seven needs
+abbrev pub CeilingWithVersions : Type 0
+CeilingWithVersions =
+    style_ceiling 120 1 (with_versions 63 Columns EveryRow)
+    ≡ 64 + (64 + 56 + 64 + 120 + 7 * (32 + 64)) + (5 * (2 + 64) + 6 * 28 + 7 * 16)

@@ -1,5 +1,5 @@
 //! Worked bindings of names over files, each computed by the prover.
-ghost use Rattle.elf_gnu_examples.specs.ExamplesBindings.{FirstDefines, LookupsAsk, NoneDefines, RefusalsStop, SymbolsAreCounted, SymbolsAreRefused, SymbolsAsk};
+ghost use Rattle.elf_gnu_examples.specs.ExamplesBindings.{FirstDefines, HighestBucketsCount, LookupsAsk, NoneDefines, OtherSymbolsAsk, RefusalsStop, SymbolsAreCounted, SymbolsAreRefused, SymbolsAreRefusedInOrder, SymbolsAsk, WordsOfSymbolsEnd};
 
 /// The first file that defines a name is its definer.
 #[tactic(auto, unfolding(elf_model::proofs::OnLiterals::on_literals, elf_model::proofs::OnLoader::on_loader, elf_model::specs::Bindings::defines, elf_model::specs::Bindings::definer_walk, elf_model::specs::Bindings::definer_in, elf_model::specs::Bindings::definer_looked, elf_model::specs::Bindings::definer_asks, elf_model::specs::Bindings::bound_from, elf_model::specs::Bindings::is_sought, elf_model::specs::Bindings::whole_name, elf_model::specs::Bindings::sought_by_number, elf_model::specs::Bindings::sought_version, elf_model::specs::Bindings::sought_at, elf_model::specs::Bindings::symbols_hashed, elf_model::specs::Traits::hashed_symbol_count, elf_model::specs::Traits::gnu_symbols, elf_model::specs::Traits::highest_start))]
@@ -41,4 +41,28 @@ pub fn symbols_are_refused()
 #[tactic(auto, unfolding(elf_model::proofs::OnLiterals::on_literals, elf_model::proofs::OnLoader::on_loader, elf_model::specs::Bindings::defines, elf_model::specs::Bindings::definer_walk, elf_model::specs::Bindings::definer_in, elf_model::specs::Bindings::definer_looked, elf_model::specs::Bindings::definer_asks, elf_model::specs::Bindings::bound_from, elf_model::specs::Bindings::is_sought, elf_model::specs::Bindings::whole_name, elf_model::specs::Bindings::sought_by_number, elf_model::specs::Bindings::sought_version, elf_model::specs::Bindings::sought_at, elf_model::specs::Bindings::symbols_hashed, elf_model::specs::Traits::hashed_symbol_count, elf_model::specs::Traits::gnu_symbols, elf_model::specs::Traits::highest_start))]
 pub fn symbols_are_counted()
     ensures { SymbolsAreCounted }
+{}
+
+/// Other bindings, and other numbers of versions.
+#[tactic(auto, unfolding(elf_model::proofs::OnLiterals::on_literals, elf_model::proofs::OnLoader::on_loader, elf_model::specs::Bindings::defines, elf_model::specs::Bindings::definer_walk, elf_model::specs::Bindings::definer_in, elf_model::specs::Bindings::definer_looked, elf_model::specs::Bindings::definer_asks, elf_model::specs::Bindings::bound_from, elf_model::specs::Bindings::is_sought, elf_model::specs::Bindings::whole_name, elf_model::specs::Bindings::sought_by_number, elf_model::specs::Bindings::sought_version, elf_model::specs::Bindings::sought_at, elf_model::specs::Bindings::symbols_hashed, elf_model::specs::Traits::hashed_symbol_count, elf_model::specs::Traits::gnu_symbols, elf_model::specs::Traits::highest_start))]
+pub fn other_symbols_ask()
+    ensures { OtherSymbolsAsk }
+{}
+
+/// Words of versions for fewer symbols than there are.
+#[tactic(auto, unfolding(elf_model::proofs::OnLiterals::on_literals, elf_model::proofs::OnLoader::on_loader, elf_model::specs::Bindings::defines, elf_model::specs::Bindings::definer_walk, elf_model::specs::Bindings::definer_in, elf_model::specs::Bindings::definer_looked, elf_model::specs::Bindings::definer_asks, elf_model::specs::Bindings::bound_from, elf_model::specs::Bindings::is_sought, elf_model::specs::Bindings::whole_name, elf_model::specs::Bindings::sought_by_number, elf_model::specs::Bindings::sought_version, elf_model::specs::Bindings::sought_at, elf_model::specs::Bindings::symbols_hashed, elf_model::specs::Traits::hashed_symbol_count, elf_model::specs::Traits::gnu_symbols, elf_model::specs::Traits::highest_start))]
+pub fn words_of_symbols_end()
+    ensures { WordsOfSymbolsEnd }
+{}
+
+/// Symbols with two faults, and a version whose name has one.
+#[tactic(auto, unfolding(elf_model::proofs::OnLiterals::on_literals, elf_model::proofs::OnLoader::on_loader, elf_model::specs::Bindings::defines, elf_model::specs::Bindings::definer_walk, elf_model::specs::Bindings::definer_in, elf_model::specs::Bindings::definer_looked, elf_model::specs::Bindings::definer_asks, elf_model::specs::Bindings::bound_from, elf_model::specs::Bindings::is_sought, elf_model::specs::Bindings::whole_name, elf_model::specs::Bindings::sought_by_number, elf_model::specs::Bindings::sought_version, elf_model::specs::Bindings::sought_at, elf_model::specs::Bindings::symbols_hashed, elf_model::specs::Traits::hashed_symbol_count, elf_model::specs::Traits::gnu_symbols, elf_model::specs::Traits::highest_start))]
+pub fn symbols_are_refused_in_order()
+    ensures { SymbolsAreRefusedInOrder }
+{}
+
+/// Buckets in another order, and none.
+#[tactic(auto, unfolding(elf_model::proofs::OnLiterals::on_literals, elf_model::proofs::OnLoader::on_loader, elf_model::specs::Bindings::defines, elf_model::specs::Bindings::definer_walk, elf_model::specs::Bindings::definer_in, elf_model::specs::Bindings::definer_looked, elf_model::specs::Bindings::definer_asks, elf_model::specs::Bindings::bound_from, elf_model::specs::Bindings::is_sought, elf_model::specs::Bindings::whole_name, elf_model::specs::Bindings::sought_by_number, elf_model::specs::Bindings::sought_version, elf_model::specs::Bindings::sought_at, elf_model::specs::Bindings::symbols_hashed, elf_model::specs::Traits::hashed_symbol_count, elf_model::specs::Traits::gnu_symbols, elf_model::specs::Traits::highest_start))]
+pub fn highest_buckets_count()
+    ensures { HighestBucketsCount }
 {}

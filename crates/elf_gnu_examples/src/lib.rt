@@ -9,6 +9,7 @@ mod chain_rows;
 mod choice_rows;
 mod hash_rows;
 mod library_rows;
+mod link_rows;
 mod listed_versions;
 mod number_rows;
 mod offered_rows;

@@ -1,5 +1,5 @@
 //! Worked rows of the versions behind the names of symbols, each computed by the prover.
-ghost use Rattle.elf_gnu_examples.specs.ListedSuffixes.{EntriesHaveVersions, FrontsAreNotAskedFor, ObjectsHaveVersions, OtherTablesHaveTheirs, RowsAreRefused, SignsPartTexts, SymbolsHaveVersions, TablesAreRefused, TextsAskForVersions};
+ghost use Rattle.elf_gnu_examples.specs.ListedSuffixes.{CeilingWithVersions, EmptyTablesAreNotRefused, EntriesHaveVersions, FirstNumbersCount, FirstSymbolHasNoVersion, FrontsAreNotAskedFor, HiddenNumbersAreSmall, ObjectsHaveDefaults, ObjectsHaveVersions, OtherTablesHaveTheirs, RefusalsAreNotChosen, RowsAreRefused, SignsPartTexts, SuffixesAreCounted, SuffixesHaveTheirStrings, SymbolsHaveVersions, TablesAreRefused, TablesAreRefusedInOrder, TextsAskForVersions};
 
 /// Symbols with a version, a hidden one, a needed one, and none.
 #[tactic(auto, unfolding(elf_model::proofs::OnLiterals::on_literals, crate::proofs::OnExamples::on_examples))]
@@ -53,4 +53,64 @@ pub fn entries_have_versions()
 #[tactic(auto, unfolding(elf_model::proofs::OnLiterals::on_literals, crate::proofs::OnExamples::on_examples))]
 pub fn objects_have_versions()
     ensures { ObjectsHaveVersions }
+{}
+
+/// Two sections of version numbers.
+#[tactic(auto, unfolding(elf_model::proofs::OnLiterals::on_literals, crate::proofs::OnExamples::on_examples))]
+pub fn first_numbers_count()
+    ensures { FirstNumbersCount }
+{}
+
+/// The numbers 0 and 1 with the highest bit of their word.
+#[tactic(auto, unfolding(elf_model::proofs::OnLiterals::on_literals, crate::proofs::OnExamples::on_examples))]
+pub fn hidden_numbers_are_small()
+    ensures { HiddenNumbersAreSmall }
+{}
+
+/// Needs whose section links to other strings.
+#[tactic(auto, unfolding(elf_model::proofs::OnLiterals::on_literals, crate::proofs::OnExamples::on_examples))]
+pub fn suffixes_have_their_strings()
+    ensures { SuffixesHaveTheirStrings }
+{}
+
+/// Faults of rows that no text asks for.
+#[tactic(auto, unfolding(elf_model::proofs::OnLiterals::on_literals, crate::proofs::OnExamples::on_examples))]
+pub fn refusals_are_not_chosen()
+    ensures { RefusalsAreNotChosen }
+{}
+
+/// Tables with two faults, and faults of their sections.
+#[tactic(auto, unfolding(elf_model::proofs::OnLiterals::on_literals, crate::proofs::OnExamples::on_examples))]
+pub fn tables_are_refused_in_order()
+    ensures { TablesAreRefusedInOrder }
+{}
+
+/// Tables of no rows beside definitions that are cut.
+#[tactic(auto, unfolding(elf_model::proofs::OnLiterals::on_literals, crate::proofs::OnExamples::on_examples))]
+pub fn empty_tables_are_not_refused()
+    ensures { EmptyTablesAreNotRefused }
+{}
+
+/// An entry of symbol 0, whose word has a number.
+#[tactic(auto, unfolding(elf_model::proofs::OnLiterals::on_literals, crate::proofs::OnExamples::on_examples))]
+pub fn first_symbol_has_no_version()
+    ensures { FirstSymbolHasNoVersion }
+{}
+
+/// Objects with a default version, and with one that is cut.
+#[tactic(auto, unfolding(elf_model::proofs::OnLiterals::on_literals, crate::proofs::OnExamples::on_examples))]
+pub fn objects_have_defaults()
+    ensures { ObjectsHaveDefaults }
+{}
+
+/// A listing with versions, and what it costs.
+#[tactic(auto, unfolding(elf_model::proofs::OnLiterals::on_literals, crate::proofs::OnExamples::on_examples))]
+pub fn suffixes_are_counted()
+    ensures { SuffixesAreCounted }
+{}
+
+/// What no listing with versions passes.
+#[tactic(auto, unfolding(elf_model::proofs::OnLiterals::on_literals, crate::proofs::OnExamples::on_examples, elf_model::specs::Cost::style_ceiling))]
+pub fn ceiling_with_versions()
+    ensures { CeilingWithVersions }
 {}

@@ -98,7 +98,7 @@ change_of target at rela (Some type) =
       | None ↦ Put (record { at = r_offset target.file rela; bytes = low_bytes type (terms_of target at rela type) })
     ]
 
--- a relocation type, where a layout has addresses that its base may tell
+-- a relocation type, where a layout has addresses that its base may give
 unfoldable pub where_based : Layout → Option RelocationType → Option RelocationType
 where_based layout None = None
 where_based layout (Some type) = elim (has_base layout type.base) [ true ↦ Some type | false ↦ None ]

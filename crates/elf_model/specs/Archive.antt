@@ -94,7 +94,7 @@ pub record Extent : Type 0 where
 abbrev pub bytes_in : List ℕ → Extent → List ℕ
 bytes_in file extent = slice file extent.at extent.size
 
--- the size that a header at an offset tells, where it ends in its mark, and the size is a decimal number
+-- the size that a header at an offset has, where it ends in its mark, and the size is a decimal number
 unfoldable pub told_size : List ℕ → ℕ → Option ℕ
 told_size bytes at = if field bytes (at + 58) 2 == HEADER_MARK then padded_decimal (slice bytes (at + 48) 10) else None
 
@@ -111,7 +111,7 @@ member_size file at =
 abbrev pub name_field : List ℕ → ℕ → List ℕ
 name_field file at = slice file at 16
 
--- how many bytes at the front of a member's data are its name, where the name's field tells it as BSD's `ar` does: `#1/` and a
+-- how many bytes at the front of a member's data are its name, where the name's field says so as BSD's `ar` does: `#1/` and a
 -- decimal number (FreeBSD's ar(5))
 unfoldable pub bsd_name_size : List ℕ → Option ℕ
 bsd_name_size bytes =
@@ -150,7 +150,7 @@ short_name bytes =
       | Some place ↦ if place == 0 then trimmed SPACE bytes else take place bytes
     ]
 
--- the offset in the table of names that a name's field tells: a slash, and a decimal number
+-- the offset in the table of names that a name's field has: a slash, and a decimal number
 unfoldable pub long_offset : List ℕ → Option ℕ
 long_offset bytes = if slice_index bytes 0 == 47 then padded_decimal (slice bytes 1 15) else None
 
@@ -176,7 +176,7 @@ long_name file cap (Some table) offset =
 unfoldable pub bsd_name : List ℕ → (cap at size : ℕ) → Shown
 bsd_name file cap at size = capped cap (trimmed NUL (slice file at (min size (cap + 2))))
 
--- a name that is told by its field alone: that in the table of names, or that in the field itself
+-- a name that its field alone gives: that in the table of names, or that in the field itself
 unfoldable pub told_name : List ℕ → ℕ → Option Extent → List ℕ → Result Shown Cause
 told_name file cap names bytes =
     elim (long_offset bytes) [

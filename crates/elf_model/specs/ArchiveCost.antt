@@ -24,7 +24,7 @@ header_cost file cap p =
     cost_where (nat_le (p.at + MEMBER_HEADER_SIZE) (length file))
     (MEMBER_HEADER_SIZE + cost_where (is_elsewhere (name_field file p.at)) (long_name_bytes cap))
 
--- a member's listing costs the four bytes that tell whether it is an ELF file, and what that file's listing does
+-- a member's listing costs the four bytes that say whether it is an ELF file, and what that file's listing does
 unfoldable pub member_cost : List ℕ → ℕ → Style → ℕ → Member → ℕ
 member_cost file headers style parts m =
     let content = bytes_in file m.extent in
@@ -53,14 +53,14 @@ abbrev pub data_most : ℕ → Style → ℕ
 data_most size style =
     size + size / 16 * (32 + name_bytes style.cap) + (if style.versions then suffixes_most size style.cap else 0)
 
--- what members in so many bytes may cost: for each 60 bytes a header, a name elsewhere, the four bytes that tell an ELF file and
+-- what members in so many bytes may cost: for each 60 bytes a header, a name elsewhere, the four bytes that mark an ELF file and
 -- what an empty file may cost, and what the data may
 abbrev pub allowance : (room headers : ℕ) → Style → ℕ
 allowance room headers style =
     room / MEMBER_HEADER_SIZE * (64 + long_name_bytes style.cap + style_ceiling 0 headers style) + headers * data_most room style
 
 -- what no listing of an archive of so many bytes passes: for each 60 bytes a member's header, a name elsewhere, the four bytes
--- that tell an ELF file, and what an empty file may cost; and once what a file of all bytes may
+-- that mark an ELF file, and what an empty file may cost; and once what a file of all bytes may
 unfoldable pub archive_ceiling : (size headers : ℕ) → Style → ℕ
 archive_ceiling size headers style =
     MAGIC_SIZE

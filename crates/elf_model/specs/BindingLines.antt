@@ -23,7 +23,7 @@ unbound_state true lacks = state.Weak
 unbound_state false true = state.NoVersion
 unbound_state false false = state.Unbound
 
--- a symbol is missing, so that the program does not start, or cannot be told
+-- a symbol is missing, so that the program does not start, or its state is not known
 abbrev pub is_unbound : BindingState → Bool
 is_unbound (state.Bound object symbol) = false
 is_unbound state.Weak = false

@@ -1,7 +1,7 @@
 -- From where a symbol comes that a file asks others for, as a loader of the GNU system binds it: some files are looked in, one
 -- after another, and the first that defines the name is the definer (gABI 5, Shared Object Dependencies and Hash Table; Linux
 -- Standard Base Core, Symbol Versioning). The files are those that are shown to a lookup: by their program headers, where no
--- section headers are told of.
+-- section headers are known.
 use Rattle.std.specs.Prelude.{ℕ, suc, ◌+◌, ◌*◌, ◌==◌, ◌&&◌, nat_lt, not, min, if◌then◌else◌, Bool, true, false, List, [], ◌∷◌, length, Option, None, Some, Result, Ok, Err}
 use Rattle.elf_model.specs.Chains.{Walked}
 use Rattle.elf_model.specs.Checks.{first_refusal}
@@ -30,7 +30,7 @@ defines file symbols wanted is_wanted y = elim (answers file symbols wanted is_w
   | Ok true ↦ Ok (not (st_shndx file (symbol_offset symbols y) == SHN_UNDEF))
 ]
 
--- the walk for the symbol that defines it, where the numbers of the version by its name are told
+-- the walk for the symbol that defines it, where the numbers of the version by its name are known
 unfoldable pub definer_walk : List ℕ → Scope → Wanted → (ℕ → Bool) → Walked
 definer_walk file scope wanted is_wanted = elim scope.kind [
   | GnuTable ↦ gnu_looked_up file scope.table (gnu_hash wanted.name) (defines file scope.symbols wanted is_wanted)
@@ -54,7 +54,7 @@ abbrev pub definer_by : (records : ℕ) → Walked → DefinerLookup
 definer_by records walked = record { answer = walked.answer; tried = walked.tried; chain_words = walked.read; records = records }
 
 -- once the checks of what a lookup is made in pass: the table's counts, the numbers of the version, the walk. What the symbol's
--- version is called is not asked, as its line does not tell it
+-- version is called is not asked, as its line does not have it
 unfoldable pub definer_in : List ℕ → Scope → Wanted → DefinerLookup
 definer_in file scope wanted = elim (first_refusal (counts_check file scope ∷ [])) [
   | Some refusal ↦ unwalked 0 refusal

@@ -1,5 +1,5 @@
 -- Walks along the chains of a hash table of either kind, symbol by symbol, for the first symbol that answers. Whether the
--- symbol of an index answers, or why it cannot be tried, is told by a function, the trial.
+-- symbol of an index answers, or why it cannot be tried, is decided by a function, the trial.
 use Rattle.std.specs.Prelude.{ℕ, Bool, true, false, Option, None, Some, Result, Ok, Err}
 use Rattle.elf_model.specs.declared.causes.Refusal.{Refusal}
 
@@ -17,7 +17,7 @@ pub data WalkEnd : Type 0 where
   Answers : WalkEnd
   Last : WalkEnd
 
--- why a walk ends at a symbol that is tried: where it does not answer, as is told
+-- why a walk ends at a symbol that is tried: where it does not answer, as the trial says
 abbrev pub end_of_trial : Result Bool Refusal → Option WalkEnd → Option WalkEnd
 end_of_trial (Err refusal) otherwise = Some (Untried refusal)
 end_of_trial (Ok true) otherwise = Some Answers

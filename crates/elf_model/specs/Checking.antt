@@ -1,4 +1,4 @@
--- What is told of a file among many: its state, and its line.
+-- What is printed of a file among many: its state, and its line.
 use Rattle.std.specs.Prelude.{[], ◌∷◌, ℕ, ◌≡◌, ◌&&◌, ◌||◌, nat_lt, not, Bool, true, false, if◌then◌else◌, List, length, codes, Option, None, Some}
 use Rattle.elf_model.specs.Budget.{IsBudgeted}
 use Rattle.elf_model.specs.Causes.{cause_word}

@@ -57,7 +57,7 @@ is_outside file_size offset size = nat_lt file_size (offset + size)
 abbrev pub is_section_outside : List ℕ → ℕ → Bool
 is_section_outside file at = is_outside (length file) (sh_offset file at) (sh_size file at)
 
--- the places, sizes and numbers of the headers that a file header tells
+-- the places, sizes and numbers of the headers that a file header has
 pub record Counts : Type 0 where
   pub phoff : ℕ
   pub shoff : ℕ
@@ -82,7 +82,7 @@ early_checks_of e size headers =
     ∷ refuse (not (e.shnum == 0) && not (nat_lt e.shstrndx e.shnum)) 0x3e BadLink
     ∷ []
 
--- what a file's header tells
+-- what a file's header says
 abbrev counts_in : List ℕ → Counts
 counts_in file = record {
   phoff = e_phoff file;

@@ -1,4 +1,4 @@
--- What a layout lacks where a relocation entry was refused: the address of a section, or one that is told of a name.
+-- What a layout lacks where a relocation entry was refused: the address of a section, or one that is given for a name.
 use Rattle.std.specs.Prelude.{ℕ, ◌-◌, ◌/◌, ◌==◌, ◌&&◌, nat_lt, not, is_none, Bool, true, false, if◌then◌else◌, List, [], Option, None, Some, Result, Ok, Err}
 use Rattle.elf_model.specs.Apply.{applies_to, symbol_checks}
 use Rattle.elf_model.specs.Checks.{first_refusal, pass}
@@ -56,7 +56,7 @@ place_wanted formula layout section symbol =
 
 -- What is wanted where an entry of a type was refused for a cause, by the section index of its symbol and the symbol's type,
 -- or none for symbol 0. For want of a section's address: that of the section that is relocated where the formula takes P and
--- it has none, else that of the symbol's section. For want of a name's: what the type's base tells of it; for want of an
+-- it has none, else that of the symbol's section. For want of a name's: what the type's base gives for it; for want of an
 -- entry: that.
 unfoldable pub wanted : Cause → RelocationType → Layout → ℕ → Option (ℕ × ℕ) → Option LayoutAddress
 wanted Unplaced type layout section symbol = place_wanted type.formula layout section symbol
@@ -101,11 +101,11 @@ relocates_at file section rela header =
 unfoldable pub refused_in : List ℕ → ℕ → ℕ → Option ℕ
 refused_in file section rela = first_that (λ i. relocates_at file section rela (section_at file i)) 0 (e_shnum file)
 
--- how many bytes of the symbol's name are told: as many as the name of an item has at most
+-- how many bytes of the symbol's name are printed: as many as the name of an item has at most
 abbrev pub ITEM_NAME_SIZE : ℕ
 ITEM_NAME_SIZE = 255
 
--- the name of a symbol as it is told: where st_name is 0 it has none (gABI 4, Symbol Table)
+-- the name of a symbol as it is printed: where st_name is 0 it has none (gABI 4, Symbol Table)
 unfoldable pub told_symbol_name : List ℕ → ℕ → Result Shown Cause
 told_symbol_name strings index = elim (index == 0) [ true ↦ Ok (Whole []) | false ↦ shown strings index ITEM_NAME_SIZE ]
 

@@ -45,7 +45,7 @@ item_text word name tail = (word ++ name) ++ tail
 abbrev definition_text : List ℕ → List ℕ
 definition_text name = item_text (codes "def:") name (codes "=ADDR would help\n")
 
--- the item of a name that gives what a base tells; L is S without an entry, so that a definition would do too
+-- the item of a name that gives what a base asks for; L is S without an entry, so that a definition would do too
 unfoldable pub items_text : Base → List ℕ → List ℕ
 items_text Symbol name = definition_text name
 items_text Linkage name = item_text (codes "plt:") name (codes "=ADDR or ") ++ definition_text name
@@ -70,7 +70,7 @@ help_text Entry name = where_named name (entry_item_text (name_text name))
 unfoldable pub lack_line : Lack → List ℕ
 lack_line lack = entry_text lack.missing.kind lack.name ++ help_text lack.missing.wanted lack.name
 
--- what is told of a refusal: that line, or nothing
+-- what is printed of a refusal: that line, or nothing
 abbrev pub explanation : Option Lack → List ℕ
 explanation None = []
 explanation (Some lack) = lack_line lack

@@ -1,4 +1,4 @@
--- MANY FILES LISTED, or checked with the members of archives: what is told of one among them.
+-- MANY FILES LISTED, or checked with the members of archives: what is printed of one among them.
 use Rattle.std.specs.Prelude.{ℕ, ◌+◌, ◌-◌, ◌^◌, ◌==◌, ◌&&◌, nat_le, nat_lt, not, min, Bool, true, false, if◌then◌else◌, List, [], ◌∷◌, ◌++◌, length, option_map, Option, None, Some, codes}
 use Rattle.elf_model.specs.Archive.{ARCHIVE_MAGIC, MAGIC_SIZE, Member, archive_checks, member_listing, members_of}
 use Rattle.elf_model.specs.Bytes.{field}
@@ -43,7 +43,7 @@ abbrev pub list_status : Option Refusal → (member_refused : Bool) → ℕ
 list_status None member_refused = if member_refused then 1 else 0
 list_status (Some refusal) member_refused = 1
 
--- how many of its first bytes tell what a file of so many bytes is: where archives are gone into, those of their magic string
+-- how many of its first bytes decide what a file of so many bytes is: where archives are gone into, those of their magic string
 abbrev pub front_size : Bool → ℕ → ℕ
 front_size true size = if nat_lt size MAGIC_SIZE then ELF_MAGIC_SIZE else MAGIC_SIZE
 front_size false size = ELF_MAGIC_SIZE
@@ -58,7 +58,7 @@ abbrev begins_as_archive : List ℕ → Bool
 begins_as_archive file = nat_le MAGIC_SIZE (length file) && field file 0 8 == ARCHIVE_MAGIC
 
 -- WHAT A FILE IS, by its first bytes. One that has fewer than a magic number is of another kind; one whose first bytes the budget
--- has no room for is taken as an ELF file, whose listing then tells so
+-- has no room for is taken as an ELF file, whose listing then says so
 unfoldable pub file_sort : (members : Bool) → Option ℕ → List ℕ → FileSort
 file_sort members budget file =
     if nat_lt (length file) ELF_MAGIC_SIZE then sort.Foreign

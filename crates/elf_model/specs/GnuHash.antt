@@ -83,7 +83,7 @@ gnu_bucket_of file place hash = gnu_bucket_at file place (hash % gnu_nbucket fil
 abbrev pub gnu_start : List ℕ → ℕ → ℕ → ℕ
 gnu_start file place hash = field file (gnu_bucket_of file place hash) 4
 
--- a table tells that it holds no name of a hash: by its filter, or by an empty bucket
+-- a table says that it holds no name of a hash: by its filter, or by an empty bucket
 abbrev pub holds_none : List ℕ → ℕ → ℕ → Bool
 holds_none file place hash = not (may_hold file place hash) || gnu_start file place hash == 0
 
@@ -134,7 +134,7 @@ gnu_walked_at file place hash i Answers =
 gnu_walked_at file place hash i Last =
     record { answer = Ok None; tried = gnu_tried file place hash (suc i); read = suc i }
 
--- a table tells that it holds no name of the hash: no symbol is tried
+-- a table says that it holds no name of the hash: no symbol is tried
 pub record IsPassedOver (file : List ℕ) (table : HashTable) (hash : ℕ) (walked : Walked) : Type 0 where
   pub told : holds_none file table.place hash ≡ true
   pub gives : walked ≡ nothing_tried
@@ -151,7 +151,7 @@ pub record EndsInChain (file : List ℕ) (table : HashTable) (hash : ℕ) (trial
 abbrev pub IsGnuLookup : List ℕ → HashTable → ℕ → (ℕ → Result Bool Refusal) → Walked → Type 0
 IsGnuLookup file table hash trial walked = IsPassedOver file table hash walked ⊎ EndsInChain file table hash trial walked
 
--- The calculation. By the laws `GnuLookupAnswers` and `GnuLookupIsOne` it gives the one lookup that `IsGnuLookup` tells.
+-- The calculation. By the laws `GnuLookupAnswers` and `GnuLookupIsOne` it gives the one lookup that `IsGnuLookup` describes.
 
 -- what a walk gives by its end; by the law it has one
 abbrev pub gnu_walked_by : List ℕ → ℕ → ℕ → Option (ℕ × WalkEnd) → Walked

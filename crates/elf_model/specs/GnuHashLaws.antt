@@ -41,7 +41,7 @@ GnuFoundAnswers =
     → (gnu_looked_up file table hash trial).answer ≡ Ok (Some y)
     → IsFound file table hash trial y
 
--- a table holds symbol y for a hash: the filter and the bucket tell of it, no symbol of the chain before it is the last,
+-- a table holds symbol y for a hash: the filter and the bucket lead to it, no symbol of the chain before it is the last,
 -- and its chain word is of the hash
 pub record IsHeld (file : List ℕ) (table : HashTable) (hash y : ℕ) : Type 0 where
   pub told : holds_none file table.place hash ≡ false

@@ -163,7 +163,7 @@ pub record NeverEnds (file : List ℕ) (at : ℕ) (wanted : List ℕ) (lookup : 
 abbrev pub IsLookup : List ℕ → ℕ → List ℕ → Lookup → Type 0
 IsLookup file at wanted lookup = EndsWith file at wanted lookup ⊎ NeverEnds file at wanted lookup
 
--- The calculation. By the laws `LookupAnswers` and `LookupIsOne` it gives the one lookup that `IsLookup` tells.
+-- The calculation. By the laws `LookupAnswers` and `LookupIsOne` it gives the one lookup that `IsLookup` describes.
 
 -- the least number, from i on and among so many, at whose word a walk ends, and why
 unfoldable pub end_among : {E : Type 0} → (ℕ → Option E) → (ℕ → ℕ) → ℕ → ℕ → ℕ → Option (ℕ × E)

@@ -59,7 +59,7 @@ CycleIsEndless =
     → GoesOn (end_at_word file at wanted) (lookup_word file at wanted) (nchain file at)
     → IsEndless (end_at_word file at wanted) (lookup_word file at wanted)
 
--- a lookup is the cycle exactly where it never ends: its answer alone tells that it does
+-- a lookup is the cycle exactly where it never ends: its answer alone says that it does
 abbrev pub CycleExactly : Type 0
 CycleExactly =
     (file : List ℕ) (at : ℕ) (wanted : List ℕ)

@@ -23,7 +23,7 @@ file_segments file = record { count = e_phnum file; bytes = λ i. file; at = seg
 abbrev pub held_headers : ℕ → (ℕ → List ℕ) → HeaderTable
 held_headers count row = record { count = count; bytes = row; at = λ i. 0 }
 
--- what the header of an index tells in a field
+-- what the header of an index has in a field
 abbrev pub header_field : HeaderTable → (List ℕ → ℕ → ℕ) → ℕ → ℕ
 header_field headers field i = field (headers.bytes i) (headers.at i)
 
@@ -41,6 +41,6 @@ pub record TableKind : Type 0 where
   pub asks : HeaderTable → (index file_size cap : ℕ) → ℕ
   pub rows : List ℕ → Style → ℕ → ℕ → List ListingItem
 
--- as many entries as a header tells of ask for so many bytes each
+-- as many entries as a header counts ask for so many bytes each
 abbrev pub each_entry : (List ℕ → ℕ → ℕ) → (ℕ → ℕ) → HeaderTable → (index file_size cap : ℕ) → ℕ
 each_entry entries bytes headers index file_size cap = header_field headers entries index * bytes cap

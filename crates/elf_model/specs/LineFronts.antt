@@ -1,5 +1,5 @@
 -- The lines with a name, up to the name: the fields of one record, which stands at an offset of some bytes. Whether numbers of
--- the GNU system have names, and on which machine, it is told before.
+-- the GNU system have names, and on which machine, it is given before.
 use Rattle.std.specs.Prelude.{ℕ, Bool, List, [], ◌∷◌, codes}
 use Rattle.elf_model.specs.Fields.{Field, Fields, LineFront, front}
 use Rattle.elf_model.specs.Fields.Field.{Decimal, Hexadecimal, Signed, Word, NameOrDecimal, NameOrHexadecimal, NameOrNumber}

@@ -34,7 +34,7 @@ unfoldable pub header_line : Format → List ℕ → List ℕ
 header_line format file = closed_line format (header_fields file) (Decimal (codes "shstrndx") 5 (e_shstrndx file))
 
 -- a program header: its index, type, permissions, offset in the file, virtual and physical address, size in the file and in
--- memory; with the names of the GNU system's types, where it is told so
+-- memory; with the names of the GNU system's types, where that is asked for
 abbrev segment_fields : Bool → List ℕ → ℕ → ℕ → Fields
 segment_fields gnu bytes at index = record {
   letter = codes "P";

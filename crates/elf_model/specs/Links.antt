@@ -1,5 +1,5 @@
--- HOW A FILE IS LINKED, as its dynamic entries tell a loader (gABI 5, Dynamic Section and Shared Object Dependencies): which
--- libraries it needs, what it is called as one, and where libraries are looked for. The definitions are over a file that tells of no
+-- HOW A FILE IS LINKED, as its dynamic entries say to a loader (gABI 5, Dynamic Section and Shared Object Dependencies): which
+-- libraries it needs, what it is called as one, and where libraries are looked for. The definitions are over a file that has no
 -- section headers.
 use Rattle.std.specs.Prelude.{ℕ, zero, suc, ◌+◌, ◌-◌, ◌*◌, ◌/◌, ◌==◌, ◌||◌, nat_lt, Bool, true, false, if◌then◌else◌, List, [], ◌∷◌, ◌++◌, length, Option, None, Some, Result, Ok, Err}
 use Rattle.elf_model.specs.Checks.{first_refusal, header_checks, load_checks}
@@ -20,12 +20,12 @@ use Rattle.elf_model.specs.declared.causes.Refusal.{Refusal}
 abbrev pub LINK_TEXT_BYTES : ℕ
 LINK_TEXT_BYTES = 4096
 
--- a library that is needed: where the entry stands that tells of it, and its name
+-- a library that is needed: where its entry stands, and its name
 pub record NeededName : Type 0 where
   pub at : ℕ
   pub name : List ℕ
 
--- WHAT A FILE'S ENTRIES TELL: the libraries that it needs, in order; its name as a library; where libraries are looked for, and the
+-- WHAT A FILE'S ENTRIES SAY: the libraries that it needs, in order; its name as a library; where libraries are looked for, and the
 -- same in its place. Of the last three the first entry counts
 pub record LinkTexts : Type 0 where
   pub needed : List NeededName
@@ -67,7 +67,7 @@ link_text file address size room at = elim (strings_at file at address size) [
   ]
 ]
 
--- a text that was told, or one where an entry has a tag
+-- a text that was found, or one where an entry has a tag
 abbrev pub first_text : Option (List ℕ) → Bool → List ℕ → Option (List ℕ)
 first_text (Some told) is text = Some told
 first_text None true text = Some text
@@ -87,7 +87,7 @@ linked_by tag at text links = record {
   runpath = first_text links.runpath (tag == DT_RUNPATH) text;
 }
 
--- what entries tell, and the room that is left
+-- what entries say, and the room that is left
 pub record LinkState : Type 0 where
   pub links : LinkTexts
   pub room : TextRoom
@@ -110,7 +110,7 @@ linked_from file address size at linked (suc n) = elim (linked_with file address
   | Ok more ↦ linked_from file address size (at + DYNAMIC_SIZE) more n
 ]
 
--- what the listed entries of a table of n tell, those up to and with the first DT_NULL
+-- what the listed entries of a table of n say, those up to and with the first DT_NULL
 unfoldable pub linked_in : List ℕ → (at n : ℕ) → TextRoom → Result LinkState Refusal
 linked_in file at n room =
     linked_from file (listed_value file at n DT_STRTAB) (listed_value file at n DT_STRSZ) at
@@ -123,7 +123,7 @@ lookup_refusal file = elim (scope_by_segments file) [
   | Err refusal ↦ elim (has_none refusal.cause) [ true ↦ None | false ↦ Some refusal ]
 ]
 
--- what a file tells once its headers are loaded, or its first refusal: of what a lookup is made in; of the first segment of dynamic
+-- what a file says once its headers are loaded, or its first refusal: of what a lookup is made in; of the first segment of dynamic
 -- entries; of an entry
 unfoldable pub loaded_links : List ℕ → TextRoom → Result LinkState Refusal
 loaded_links file room = elim (lookup_refusal file) [
@@ -143,7 +143,7 @@ links_by_segments file headers room = elim (first_refusal (header_checks file ++
   | None ↦ loaded_links file room
 ]
 
--- HOW A FILE IS LINKED, with so many headers permitted and so much room for its texts: whatever its section headers tell
+-- HOW A FILE IS LINKED, with so many headers permitted and so much room for its texts: whatever its section headers say
 unfoldable pub links_of : List ℕ → (headers : ℕ) → TextRoom → Result LinkState Refusal
 links_of file headers room = links_by_segments (without_sections file) headers room
 

@@ -68,14 +68,14 @@ is_offered file at =
 abbrev pub is_hidden : ℕ → Bool
 is_hidden word = not (word == number_in word)
 
--- a version fits what is asked for, where the numbers of the version by its name are told: a name alone takes a version that
+-- a version fits what is asked for, where the numbers of the version by its name are known: a name alone takes a version that
 -- is not hidden, and a symbol without one, whose number is 0 or 1
 unfoldable pub fits : Asked → (ℕ → Bool) → ℕ → Bool
 fits NoVersion is_wanted word = nat_lt (number_in word) 2 || not (is_hidden word)
 fits (Version version) is_wanted word = is_wanted (number_in word)
 fits (DefaultVersion version) is_wanted word = is_wanted (number_in word) && not (is_hidden word)
 
--- THE WORDS OF SYMBOLS' VERSIONS: where the first stands in the file, how many there are, the offset of what tells of them,
+-- THE WORDS OF SYMBOLS' VERSIONS: where the first stands in the file, how many there are, the offset of what describes them,
 -- and its index
 pub record VersionWords : Type 0 where
   pub place : ℕ
@@ -87,7 +87,7 @@ pub record VersionWords : Type 0 where
 abbrev pub version_word_at : VersionWords → ℕ → ℕ
 version_word_at words y = words.place + VERSYM_SIZE * y
 
--- A TABLE OF DEFINITIONS OR NEEDS of versions: the kind of its first record, the offset of what tells of it, where it stands
+-- A TABLE OF DEFINITIONS OR NEEDS of versions: the kind of its first record, the offset of what describes it, where it stands
 -- in the file, how many bytes it has there, and the strings of its names
 pub record RecordTable : Type 0 where
   pub kind : VersionKind
@@ -96,7 +96,7 @@ pub record RecordTable : Type 0 where
   pub size : ℕ
   pub strings : List ℕ
 
--- WHAT A LOADER KNOWS OF THE SYMBOLS of a file: the index of what tells of them; where the first stands in the file; their
+-- WHAT A LOADER KNOWS OF THE SYMBOLS of a file: the index of what describes them; where the first stands in the file; their
 -- strings; the words of their versions, if there are such; and the definitions and the needs of versions, in this order
 pub record Symbols : Type 0 where
   pub index : ℕ
@@ -109,15 +109,15 @@ pub record Symbols : Type 0 where
 abbrev pub symbol_offset : Symbols → ℕ → ℕ
 symbol_offset symbols y = symbols.place + SYMBOL_SIZE * y
 
--- whether the version of a symbol fits: without words of versions each does; a symbol without a word is refused at what tells
--- of these
+-- whether the version of a symbol fits: without words of versions each does; a symbol without a word is refused at what describes
+-- these
 unfoldable pub version_fits : List ℕ → Option VersionWords → Asked → (ℕ → Bool) → ℕ → Result Bool Refusal
 version_fits file None asked is_wanted y = Ok true
 version_fits file (Some words) asked is_wanted y =
     if nat_lt y words.count then Ok (fits asked is_wanted (versym file (version_word_at words y)))
     else Err (record { at = words.head; cause = VersionCut })
 
--- WHETHER A SYMBOL ANSWERS: it has the wanted name, it is offered, and its version fits. It cannot be told where the name has
+-- WHETHER A SYMBOL ANSWERS: it has the wanted name, it is offered, and its version fits. It is not known where the name has
 -- a fault, at the symbol, or the symbol has no word of a version
 unfoldable pub answers : List ℕ → Symbols → Wanted → (ℕ → Bool) → ℕ → Result Bool Refusal
 answers file symbols wanted is_wanted y =

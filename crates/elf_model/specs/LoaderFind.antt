@@ -18,7 +18,7 @@ use Rattle.elf_model.specs.declared.causes.Refusal.{Refusal}
 use Rattle.elf_model.specs.LoaderScope.{GnuTable, SysvTable, Scope, scope_of, dynamic_segment_index}
 
 -- the check of a hash table's counts against its size. Of the GNU system's: it has a bucket; its filter's words are as many as
--- a power of two tells; its shift leaves bits of a hash
+-- a power of two says; its shift leaves bits of a hash
 unfoldable pub counts_check : List ℕ → Scope → Check
 counts_check file scope =
     let place = scope.table.place in
@@ -37,21 +37,21 @@ counts_check file scope =
           scope.head HashShape
     ]
 
--- the walk for the symbol that answers, where the numbers of the version by its name are told
+-- the walk for the symbol that answers, where the numbers of the version by its name are known
 unfoldable pub walk_in : List ℕ → Scope → Wanted → (ℕ → Bool) → Walked
 walk_in file scope wanted is_wanted = elim scope.kind [
   | GnuTable ↦ gnu_looked_up file scope.table (gnu_hash wanted.name) (answers file scope.symbols wanted is_wanted)
   | SysvTable ↦ sysv_walked file scope.table (sysv_hash wanted.name) (answers file scope.symbols wanted is_wanted)
 ]
 
--- the version of a symbol that is found: the index of what tells of its word, the word, and the name
+-- the version of a symbol that is found: the index of what describes its word, the word, and the name
 pub record FoundVersion : Type 0 where
   pub index : ℕ
   pub word : ℕ
   pub name : Shown
 
 -- WHAT A LOOKUP GIVES: its answer, and how many symbols it tries; the version of the symbol, where the file has versions; how
--- many chain words it reads, and how many records of versions; and whether it reads the name of a version to tell it
+-- many chain words it reads, and how many records of versions; and whether it reads the name of a version to give it
 pub record LoaderLookup : Type 0 where
   pub lookup : Lookup
   pub version : Option FoundVersion
@@ -69,7 +69,7 @@ refused_lookup tried chain_words records is_named refusal = record {
   is_named = is_named;
 }
 
--- how many bytes of the name of a version are told
+-- how many bytes of the name of a version are given
 abbrev pub TOLD_BYTES : ℕ
 TOLD_BYTES = 256
 
@@ -83,7 +83,7 @@ found_lookup scope y walked records is_named version = record {
   is_named = is_named;
 }
 
--- the version of a symbol is told by the record that has its number: the record's name; a fault of the name, at the record that
+-- the version of a symbol is given by the record that has its number: the record's name; a fault of the name, at the record that
 -- holds it, or the refusal that comes before; or that no record has it, at the symbol's word
 unfoldable pub told_by : List ℕ → Scope → VersionWords → ℕ → Walked → Naming → LoaderLookup
 told_by file scope words y walked naming =
@@ -102,7 +102,7 @@ told_by file scope words y walked naming =
       ]
     ]
 
--- the version of a symbol that is found: without words there is none; the wanted one is told as it is wanted; the numbers 0 and
+-- the version of a symbol that is found: without words there is none; the wanted one is given as it is wanted; the numbers 0 and
 -- 1 have no name
 unfoldable pub found_in : List ℕ → Scope → Asked → (records : ℕ) → ℕ → Walked → Option VersionWords → LoaderLookup
 found_in file scope asked records y walked None = found_lookup scope y walked records false None
@@ -165,7 +165,7 @@ loader_looked file headers wanted = elim (scope_of file headers) [
   | Ok scope ↦ loaded_in file scope wanted
 ]
 
--- HOW MANY BYTES IT MAY ASK FOR. What tells of the tables in a file without section headers: the program headers, and the first
+-- HOW MANY BYTES IT MAY ASK FOR. What describes the tables in a file without section headers: the program headers, and the first
 -- table of dynamic entries, where its checks pass
 unfoldable pub segments_asked : List ℕ → ℕ
 segments_asked file =
@@ -183,7 +183,7 @@ abbrev pub record_cost : Asked → ℕ
 record_cost asked = DEFINITION_SIZE + DEFINED_NAME_SIZE + elim (asked_name asked) [ None ↦ 0 | Some version ↦ pad64 (length version + 1) ]
 
 -- what is read once the headers are: the chain words; a symbol, the word of its version and its name for each that is tried;
--- the records of versions; and the name of one that is told
+-- the records of versions; and the name of one that is given
 unfoldable pub lookup_asks : Wanted → LoaderLookup → ℕ
 lookup_asks wanted loader =
     4 * loader.chain_words

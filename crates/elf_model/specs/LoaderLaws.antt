@@ -15,7 +15,7 @@ use Rattle.elf_model.specs.declared.causes.Cause.{Cause}
 use Rattle.elf_model.specs.declared.causes.Cause.TheVariants.{VersionCut}
 use Rattle.elf_model.specs.declared.causes.Refusal.{Refusal}
 
--- A SYMBOL IS ONE TO TAKE: by what a file tells of its symbols, it has the wanted name, it is offered, and its version fits
+-- A SYMBOL IS ONE TO TAKE: by what a file says of its symbols, it has the wanted name, it is offered, and its version fits
 pub record IsTaken (file : List ℕ) (headers : ℕ) (wanted : Wanted) (section index symbol : ℕ) : Type 0 where
   pub scope : Scope
   pub is_scope : scope_of file headers ≡ Ok scope

@@ -29,7 +29,7 @@ abbrev pub least_size : HashKind → ℕ
 least_size GnuTable = 16
 least_size SysvTable = 8
 
--- WHAT A LOOKUP IS MADE IN: the hash table, its kind and the offset of what tells of it, and the symbols
+-- WHAT A LOOKUP IS MADE IN: the hash table, its kind and the offset of what describes it, and the symbols
 pub record Scope : Type 0 where
   pub kind : HashKind
   pub head : ℕ
@@ -166,7 +166,7 @@ abbrev pub checks_of_row : Option ℕ → (ℕ → List Check) → List Check
 checks_of_row None checks = []
 checks_of_row (Some row) checks = checks row
 
--- the checks of what the entries tell of the symbols: where they are, their strings, and the words and records of versions,
+-- the checks of what the entries say of the symbols: where they are, their strings, and the words and records of versions,
 -- which are looked at where there are such words alone
 unfoldable pub rows_checks : List ℕ → (at hash_row : ℕ) → List Check
 rows_checks file at hash_row =
@@ -181,7 +181,7 @@ rows_checks file at hash_row =
     ++ checks_of_row (tagged_row file at DT_VERDEF) (rest_checks file)
     ++ checks_of_row (tagged_row file at DT_VERNEED) (rest_checks file))
 
--- a hash table of a kind has words of 8 bytes: Alpha's of the gABI have, and no entry tells of another size
+-- a hash table of a kind has words of 8 bytes: Alpha's of the gABI have, and no entry gives another size
 abbrev pub has_wide_kind : List ℕ → HashKind → Bool
 has_wide_kind file GnuTable = false
 has_wide_kind file SysvTable = e_machine file == EM_ALPHA
@@ -203,7 +203,7 @@ segment_strings file at = elim (tagged_row file at DT_STRTAB) [
   ]
 ]
 
--- the words of symbols' versions, which the entry of an index of program headers tells of
+-- the words of symbols' versions, which the program header of an index describes
 unfoldable pub segment_words : List ℕ → (index at : ℕ) → Option VersionWords
 segment_words file index at = elim (words_row file at) [
   | None ↦ None

@@ -49,7 +49,7 @@ mapped_place file v z = elim (mapped_at file v z) [ None ↦ 0 | Some at ↦ map
 abbrev pub mapped_bytes : List ℕ → ℕ → ℕ → List ℕ
 mapped_bytes file v z = slice file (mapped_place file v z) z
 
--- so many bytes at an address, for the dynamic entry at an offset, which is refused where either is not told; else they are
+-- so many bytes at an address, for the dynamic entry at an offset, which is refused where either is not known; else they are
 -- behind their checks, `mapped_checks`
 unfoldable pub strings_at : List ℕ → ℕ → Option ℕ → Option ℕ → Result (List ℕ) Refusal
 strings_at file dynamic_at None size = Err (record { at = dynamic_at; cause = Unmapped })
@@ -61,6 +61,6 @@ strings_at file dynamic_at (Some address) (Some size) =
     ]
 
 -- the strings of the n dynamic entries at an offset, for one of them: at the address of the first DT_STRTAB, as many bytes
--- as the first DT_STRSZ tells
+-- as the first DT_STRSZ says
 unfoldable pub mapped_strings : List ℕ → ℕ → ℕ → ℕ → Result (List ℕ) Refusal
 mapped_strings file at n dynamic_at = strings_at file dynamic_at (dynamic_value file at n DT_STRTAB) (dynamic_value file at n DT_STRSZ)

@@ -99,7 +99,7 @@ abbrev pub flags_with_letters : List (ℕ × List ℕ) → ℕ
 flags_with_letters [] = 0
 flags_with_letters (entry ∷ entries) = entry.0 + flags_with_letters entries
 
--- the mark of flags that are not told
+-- the mark of flags without a name
 abbrev flags_mark : List ℕ
 flags_mark = codes "?"
 
@@ -151,7 +151,7 @@ standard_symbol_types =
     (0, codes "NOTYPE") ∷ (1, codes "OBJECT") ∷ (2, codes "FUNC") ∷ (3, codes "SECTION") ∷ (4, codes "FILE")
     ∷ (5, codes "COMMON") ∷ (6, codes "TLS") ∷ []
 
--- the symbol type of the GNU system: a function that tells the address to use
+-- the symbol type of the GNU system: a function that gives the address to use
 unfoldable pub gnu_symbol_types : List (ℕ × List ℕ)
 gnu_symbol_types = (10, codes "IFUNC") ∷ []
 

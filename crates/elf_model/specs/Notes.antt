@@ -124,7 +124,7 @@ capped cap name = if nat_lt cap (length name) then Cut (take cap name) else Whol
 unfoldable pub note_shown : ℕ → Note → Shown
 note_shown cap note = capped cap (before_nul note.name)
 
--- The calculation. By the laws `WalkedFits` and `FittingIsWalked` the notes of `walked` are those that `Notes` tells, and by
+-- The calculation. By the laws `WalkedFits` and `FittingIsWalked` the notes of `walked` are those that `Notes` describes, and by
 -- `WalkedIsCut` and `CutIsWalked` its cut is that of `CutAt`.
 
 -- what stands at the start of the bytes that are left of a table: its end, nothing that is a note, or a note

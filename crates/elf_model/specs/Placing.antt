@@ -79,7 +79,7 @@ is_defined index = index == SHN_ABS || (not (index == SHN_UNDEF) && nat_lt index
 unfoldable pub is_system_specific : List ℕ → ℕ → Bool
 is_system_specific file symbol = is_defined (st_shndx file symbol) && not (nat_lt (st_type file symbol) STT_LOOS)
 
--- S of such a symbol. At the value of an indirect function stands the function that tells the address to use: calls and
+-- S of such a symbol. At the value of an indirect function stands the function that gives the address to use: calls and
 -- pointers go to its procedure linkage table entry, where the layout has one. Without one, and for any other type, the
 -- relocation entry is refused
 unfoldable pub system_value : List ℕ → List ℕ → Layout → ℕ → ℕ → Result ℕ Refusal
@@ -109,7 +109,7 @@ unfoldable pub linkage_value : List ℕ → List ℕ → Layout → ℕ → ℕ 
 linkage_value file strings layout rela symbol =
     named_or symbol (address_named strings (st_name file symbol) layout.linkage) (symbol_value file strings layout rela symbol)
 
--- B, the address of a symbol that a base tells
+-- B, the address of a symbol that a base gives
 unfoldable pub base_value : Base → List ℕ → List ℕ → Layout → ℕ → ℕ → Result ℕ Refusal
 base_value Symbol file strings layout rela symbol = symbol_value file strings layout rela symbol
 base_value Linkage file strings layout rela symbol = linkage_value file strings layout rela symbol
@@ -123,7 +123,7 @@ unnamed_value Linkage rela = Ok 0
 unnamed_value Table rela = refusal_at rela Unsupported
 unnamed_value Thread rela = refusal_at rela Unsupported
 
--- a layout has addresses that a base may tell: S and L have a value without any
+-- a layout has addresses that a base may give: S and L have a value without any
 unfoldable pub has_base : Layout → Base → Bool
 has_base layout Symbol = true
 has_base layout Linkage = true

@@ -14,7 +14,7 @@ use Rattle.elf_model.specs.declared.causes.Refusal.{Refusal}
 abbrev pub NT_GNU_PROPERTY_TYPE_0 : ℕ
 NT_GNU_PROPERTY_TYPE_0 = 5
 
--- the type of the property that tells which features of x86 all code of the file goes by, each a bit: indirect branches go to
+-- the type of the property that says which features of x86 all code of the file goes by, each a bit: indirect branches go to
 -- marked places alone; returns go by a stack of their own (x86-64 psABI, Program Property)
 abbrev pub GNU_PROPERTY_X86_FEATURE_1_AND : ℕ
 GNU_PROPERTY_X86_FEATURE_1_AND = 0xc0000002

@@ -145,7 +145,7 @@ st_type bytes at = st_info bytes at % 16
 abbrev pub st_visibility : List ℕ → ℕ → ℕ
 st_visibility bytes at = st_other bytes at % 4
 
--- A relocation entry with an addend, 24 bytes (gABI 4, Relocation). The addend is told as a number below 2^64.
+-- A relocation entry with an addend, 24 bytes (gABI 4, Relocation). The addend is a number below 2^64.
 abbrev pub r_offset : List ℕ → ℕ → ℕ
 r_offset bytes at = field bytes at 8
 
@@ -167,7 +167,7 @@ r_type bytes at = r_info bytes at % 2 ^ 32
 abbrev pub twos_complement : ℕ → ℤ
 twos_complement n = if nat_lt n (2 ^ 63) then pos n else negsuc (2 ^ 64 - 1 - n)
 
--- A dynamic entry, 16 bytes (gABI 5, Dynamic Section). The tag is told as a number below 2^64.
+-- A dynamic entry, 16 bytes (gABI 5, Dynamic Section). The tag is a number below 2^64.
 abbrev pub d_tag : List ℕ → ℕ → ℕ
 d_tag bytes at = field bytes at 8
 

@@ -20,21 +20,21 @@ pub record Style : Type 0 where
 abbrev pub standard : ℕ → Style
 standard cap = record { cap = cap; gnu = false; by_segments = false; format = Columns; choice = EveryRow; versions = false }
 
--- the places of a file header that tell of section headers: e_shoff, and e_shnum with e_shstrndx behind it
+-- the places of a file header that locate section headers: e_shoff, and e_shnum with e_shstrndx behind it
 unfoldable pub tells_of_sections : ℕ → Bool
 tells_of_sections place = (nat_le 40 place && nat_lt place 48) || (nat_le 60 place && nat_lt place 64)
 
--- bytes of a file from a place on, with zeros where its header tells of section headers
+-- bytes of a file from a place on, with zeros where its header locates section headers
 unfoldable pub without_sections_from : ℕ → List ℕ → List ℕ
 without_sections_from place [] = []
 without_sections_from place (byte ∷ bytes) =
     (if tells_of_sections place then 0 else byte) ∷ without_sections_from (suc place) bytes
 
--- a file whose header tells of no section headers
+-- a file whose header locates no section headers
 abbrev pub without_sections : List ℕ → List ℕ
 without_sections file = without_sections_from 0 file
 
--- a file as it is, or where tables are found by the program headers alone as one whose header tells of no section headers
+-- a file as it is, or where tables are found by the program headers alone as one whose header locates no section headers
 abbrev pub looked_at : Bool → List ℕ → List ℕ
 looked_at by_segments file = elim by_segments [ true ↦ without_sections file | false ↦ file ]
 

@@ -1,4 +1,4 @@
--- What holds of a file whose header tells of no section headers.
+-- What holds of a file whose header locates no section headers.
 use Rattle.std.specs.Prelude.{◌≡◌, ℕ, ◌+◌, ◌≤◌, ◌⊎◌, List, length}
 use Rattle.elf_model.specs.Checks.{header_checks}
 use Rattle.elf_model.specs.Records.{e_shoff, e_shnum, e_shstrndx}
@@ -9,7 +9,7 @@ use Rattle.elf_model.specs.Style.{without_sections, without_sections_from}
 abbrev pub ViewIsAsLong : Type 0
 ViewIsAsLong = (file : List ℕ) → length (without_sections file) ≡ length file
 
--- its bytes at a place are those of the file with zeros where the header tells of section headers
+-- its bytes at a place are those of the file with zeros where the header locates section headers
 abbrev pub ViewIsSeenInSlices : Type 0
 ViewIsSeenInSlices =
     (file : List ℕ) (at count : ℕ) → slice (without_sections file) at count ≡ without_sections_from at (slice file at count)
@@ -23,7 +23,7 @@ abbrev pub ViewIsTheFileElsewhere : Type 0
 ViewIsTheFileElsewhere =
     (file : List ℕ) (at count : ℕ) → (at + count ≤ 40) ⊎ ((48 ≤ at) × (at + count ≤ 60)) → slice (without_sections file) at count ≡ slice file at count
 
--- its header tells of no section headers
+-- its header locates no section headers
 abbrev pub ViewTellsOfNone : Type 0
 ViewTellsOfNone = (file : List ℕ) → let view = without_sections file in (e_shoff view ≡ 0) × (e_shnum view ≡ 0) × (e_shstrndx view ≡ 0)
 

@@ -44,7 +44,7 @@ abbrev pub suffix_of : Bool → ℕ → Result Shown Cause → Result Suffix Ref
 suffix_of default at (Ok name) = Ok (Suffixed default name)
 suffix_of default at (Err cause) = Err (record { at = at; cause = cause })
 
--- what the word at an offset tells of the symbol at an offset: the numbers 0 and 1 are of no version
+-- what the word at an offset says of the symbol at an offset: the numbers 0 and 1 are of no version
 unfoldable pub word_suffix : List ℕ → (cap word_at symbol_at : ℕ) → Result Suffix Refusal
 word_suffix file cap word_at symbol_at =
     let word = versym file word_at in
@@ -55,7 +55,7 @@ word_suffix file cap word_at symbol_at =
           suffix_of (is_default file symbol_at word) (named_at file met) (shown (version_strings file met.kind) (name_index file met) cap)
     ]
 
--- what a section of version numbers, whose header stands at an offset, tells of the symbol of an index: where it has no word
+-- what a section of version numbers, whose header stands at an offset, says of the symbol of an index: where it has no word
 -- for the symbol, that is a fault at the header
 unfoldable pub suffix_at : List ℕ → (cap at symbol_at index : ℕ) → Result Suffix Refusal
 suffix_at file cap at symbol_at index =

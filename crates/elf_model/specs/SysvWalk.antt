@@ -67,7 +67,7 @@ pub record GoesRound (file : List ℕ) (table : HashTable) (hash : ℕ) (trial :
 abbrev pub IsSysvWalk : List ℕ → HashTable → ℕ → (ℕ → Result Bool Refusal) → Walked → Type 0
 IsSysvWalk file table hash trial walked = EndsAtWord file table hash trial walked ⊎ GoesRound file table hash trial walked
 
--- The calculation. By the laws `SysvWalkAnswers` and `SysvWalkIsOne` it gives the one walk that `IsSysvWalk` tells.
+-- The calculation. By the laws `SysvWalkAnswers` and `SysvWalkIsOne` it gives the one walk that `IsSysvWalk` describes.
 
 -- where a walk ends, among one word more than there are chains
 unfoldable pub sysv_walk_end : List ℕ → HashTable → ℕ → (ℕ → Result Bool Refusal) → Option (ℕ × WalkEnd)

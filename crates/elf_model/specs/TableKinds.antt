@@ -41,7 +41,7 @@ relocations = record {
 }
 
 -- the rows of dynamic entries (gABI 5, Dynamic Section), so many from an offset on, up to and with the first that is
--- DT_NULL: where the strings of so many are told for the entry at an offset
+-- DT_NULL: where the strings of so many are given for the entry at an offset
 abbrev pub dynamic_rows : List ℕ → Style → (offset entries : ℕ) → (ℕ → ℕ → Result (List ℕ) Refusal) → List ListingItem
 dynamic_rows file style offset entries strings =
     let count = dynamic_count file offset entries in
@@ -58,7 +58,7 @@ section_dynamic = record {
       dynamic_rows file style (sh_offset file at) (entry_count file at DYNAMIC_SIZE) (λ n dynamic_at. Ok (strings_of file at));
 }
 
--- those of a segment, each with its string in the string table that the entries tell of: they are gone through twice
+-- those of a segment, each with its string in the string table that the entries locate: they are gone through twice
 unfoldable pub segment_dynamic : TableKind
 segment_dynamic = record {
   part = DYNAMIC;
@@ -69,7 +69,7 @@ segment_dynamic = record {
       dynamic_rows file style (p_offset file at) (p_filesz file at / DYNAMIC_SIZE) (mapped_strings file (p_offset file at));
 }
 
--- notes (gABI 5, Note Section), each of whose bytes counts: of which headers, and where such a header tells the table's
+-- notes (gABI 5, Note Section), each of whose bytes counts: of which headers, and where such a header has the table's
 -- offset, size and alignment
 abbrev notes_of : (List ℕ → ℕ → Bool) → (offset size align : List ℕ → ℕ → ℕ) → TableKind
 notes_of has_table offset size align = record {

@@ -29,7 +29,7 @@ properties_asked file =
     (sum_over (λ i. table_cost segment_notes (file_segments file) i (length file) TRAIT_NAME_BYTES) 0 (e_phnum file)
     + elim (property_list file) [ Err refusal ↦ 0 | Ok None ↦ 0 | Ok (Some list) ↦ length list.bytes ])
 
--- the words of a hash table that tell how many symbols there are: its counts, the buckets' words, and a chain's
+-- the words of a hash table that count the symbols: its counts, the buckets' words, and a chain's
 unfoldable pub hash_words_asked : List ℕ → Scope → ℕ
 hash_words_asked file scope = elim scope.kind [
   | GnuTable ↦ 16 + 4 * gnu_nbucket file scope.table.place + 4 * hashed_symbol_count file scope
@@ -45,7 +45,7 @@ symbols_asked file = elim (known_symbols file) [
       hash_words_asked file scope + (hashed_symbol_count file scope - 1) * (SYMBOL_SIZE + name_bytes TRAIT_NAME_BYTES)
 ]
 
--- HOW MANY BYTES the traits of a file ask for at most, where it tells of no section headers: the file header; the program
+-- HOW MANY BYTES the traits of a file ask for at most, where it has no section headers: the file header; the program
 -- headers and the dynamic entries, which are gone through twice; and what properties and symbols ask for
 unfoldable pub segment_traits_cost : List ℕ → ℕ → ℕ
 segment_traits_cost file headers = elim (first_refusal (before_headers file headers)) [

@@ -1,4 +1,4 @@
--- The numbers that tell of how a file is hardened.
+-- The numbers that say how a file is hardened.
 use Rattle.std.specs.Prelude.{ℕ, ◌==◌, Bool}
 use Rattle.std.specs.Int.RustNames.{bit_and}
 

@@ -27,11 +27,11 @@ kind_word kind.Object = codes "object"
 kind_word kind.Core = codes "core"
 kind_word kind.Other = codes "other"
 
--- what is not told, since the file has no program headers
+-- what is not known, since the file has no program headers
 abbrev not_told : List ℕ
 not_told = codes "-"
 
--- a word of what program headers tell
+-- a word of what program headers say
 abbrev pub segments_word : Option SegmentTraits → (SegmentTraits → List ℕ) → List ℕ
 segments_word None word = not_told
 segments_word (Some segments) word = word segments

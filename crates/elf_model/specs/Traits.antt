@@ -1,5 +1,5 @@
 -- HOW A FILE IS HARDENED, by its program headers and dynamic entries, as a loader sees it: each trait with the standard or the
--- convention that it goes by. The definitions are over a file that tells of no section headers.
+-- convention that it goes by. The definitions are over a file that has no section headers.
 use Rattle.std.specs.Prelude.{ℕ, zero, suc, ◌-◌, ◌/◌, ◌==◌, ◌&&◌, ◌||◌, nat_eq, nat_lt, not, is_some, min, max, if◌then◌else◌, Bool, true, false, List, [], ◌∷◌, ◌++◌, length, codes, Option, None, Some, unwrap_or, Result, Ok, Err}
 use Rattle.std.specs.List.{starts_with, ends_with}
 use Rattle.elf_model.specs.Bytes.{field}
@@ -113,7 +113,7 @@ program_kind file =
     else if e_type file == ET_CORE then kind.Core
     else kind.Other
 
--- what program headers tell, where the file has any
+-- what program headers say, where the file has any
 unfoldable pub segment_traits : List ℕ → Option SegmentTraits
 segment_traits file = elim (e_phnum file == 0) [
   | true ↦ None
@@ -144,7 +144,7 @@ known_symbols file = elim (scope_by_segments file) [
   | Err refusal ↦ elim (has_none refusal.cause) [ true ↦ Ok None | false ↦ Err refusal ]
 ]
 
--- HOW MANY there are is told by the hash table alone. In the GNU system's: the symbols before `first`, and those of chains, of
+-- HOW MANY there are is counted by the hash table alone. In the GNU system's: the symbols before `first`, and those of chains, of
 -- which the highest begins at the highest of the buckets' words
 unfoldable pub highest_start : List ℕ → (place count : ℕ) → ℕ
 highest_start file place zero = 0
@@ -189,7 +189,7 @@ is_checked_call name = starts_with nat_eq name (codes "__") && (ends_with nat_eq
 abbrev pub TRAIT_NAME_BYTES : ℕ
 TRAIT_NAME_BYTES = 63
 
--- what symbols tell: that one is a guard's, that one that is undefined is a checked call's
+-- what symbols say: that one is a guard's, that one that is undefined is a checked call's
 pub record SymbolMarks : Type 0 where
   pub canary : Bool
   pub fortify : Bool
@@ -208,7 +208,7 @@ abbrev pub marked_with_symbol : List ℕ → ℕ → SymbolMarks → Shown → S
 marked_with_symbol file at marks (Whole name) = marked_by marks name (st_shndx file at == SHN_UNDEF)
 marked_with_symbol file at marks (Cut front) = marks
 
--- what so many symbols from an index on tell, beside those before; a fault of a name is at the symbol
+-- what so many symbols from an index on say, beside those before; a fault of a name is at the symbol
 unfoldable pub marks_from : List ℕ → Symbols → SymbolMarks → (index count : ℕ) → Result SymbolMarks Refusal
 marks_from file symbols marks index zero = Ok marks
 marks_from file symbols marks index (suc count) =
@@ -218,12 +218,12 @@ marks_from file symbols marks index (suc count) =
       | Ok name ↦ marks_from file symbols (marked_with_symbol file at marks name) (suc index) count
     ]
 
--- what the symbols of a file tell, all but the first, which is none (gABI 4, Symbol Table)
+-- what the symbols of a file say, all but the first, which is none (gABI 4, Symbol Table)
 unfoldable pub symbol_marks : List ℕ → Option Scope → Result SymbolMarks Refusal
 symbol_marks file None = Ok no_marks
 symbol_marks file (Some scope) = marks_from file scope.symbols no_marks 1 (hashed_symbol_count file scope - 1)
 
--- the traits, by the word of the features and what the symbols tell
+-- the traits, by the word of the features and what the symbols say
 unfoldable pub traits_with : List ℕ → ℕ → SymbolMarks → Traits
 traits_with file word marks = record {
   kind = program_kind file;
@@ -235,7 +235,7 @@ traits_with file word marks = record {
   path = path_of file;
 }
 
--- the traits of a file that tells of no section headers, once its headers are loaded, or the first refusal: of what a lookup is
+-- the traits of a file that has no section headers, once its headers are loaded, or the first refusal: of what a lookup is
 -- made in, LOAD segments over each other and dynamic entries first; of the properties; of the symbols' names
 unfoldable pub loaded_traits : List ℕ → Result Traits Refusal
 loaded_traits file = elim (known_symbols file) [
@@ -255,6 +255,6 @@ traits_by_segments file headers = elim (first_refusal (header_checks file ++ loa
   | None ↦ loaded_traits file
 ]
 
--- THE TRAITS OF A FILE, with so many headers permitted: whatever its section headers tell
+-- THE TRAITS OF A FILE, with so many headers permitted: whatever its section headers say
 unfoldable pub traits_of : List ℕ → ℕ → Result Traits Refusal
 traits_of file headers = traits_by_segments (without_sections file) headers

@@ -1,4 +1,4 @@
--- Relocation values for x86-64 (psABI 4.4, Relocation). B is the address of the symbol that its type's base tells: S, its
+-- Relocation values for x86-64 (psABI 4.4, Relocation). B is the address of the symbol that its type's base gives: S, its
 -- value; L, that of its procedure linkage table entry; that of its global offset table entry. A is the addend, P the place
 -- of the bytes that are relocated.
 use Rattle.std.specs.Prelude.{ℕ, ◌-◌, ◌*◌, ◌%◌, ◌^◌, ◌==◌, ◌||◌, nat_lt, not, Bool, true, false, ℤ, pos, negsuc, ◌+ℤ◌, ◌-ℤ◌, List, [], ◌∷◌, Option, None, Some, Result, Ok, Err}
@@ -97,7 +97,7 @@ low_bytes type terms = little type.width (value_of type terms)
 unfoldable pub patch_of : RelocationType → Terms → Result (List ℕ) Cause
 patch_of type terms = elim (overflows type terms) [ true ↦ Err Overflow | false ↦ Ok (low_bytes type terms) ]
 
--- L where a base tells it, else the other address of the symbol: S, or that of its entry
+-- L where a base gives it, else the other address of the symbol: S, or that of its entry
 abbrev pub address_by : Base → ℕ → ℕ → ℕ
 address_by Symbol s l = s
 address_by Linkage s l = l
@@ -105,7 +105,7 @@ address_by Table s l = s
 address_by Thread s l = s
 
 -- the bytes that a relocation stores: its type's number, S or the address of the symbol's global offset table entry where
--- the type's base tells that, L, A and P
+-- the type's base gives that, L, A and P
 unfoldable pub value : ℕ → ℕ → ℕ → ℤ → ℕ → Result (List ℕ) Cause
 value n s l a p =
     elim (n == R_X86_64_NONE) [

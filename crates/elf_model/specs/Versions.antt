@@ -158,7 +158,7 @@ met_from file table size (Some stand) (suc most) =
       | None ↦ with_met (met_at table stand) (met_from file table size (next_stand file table stand) most)
     ]
 
--- where the walk over a table begins: at its first byte, to which what tells of the table led, at an offset of the file;
+-- where the walk over a table begins: at its first byte, to which what describes the table led, at an offset of the file;
 -- nowhere in a table of no bytes
 abbrev pub first_stand : VersionKind → (head size : ℕ) → Option Stand
 first_stand kind head size = if size == 0 then None else Some (record { kind = kind; place = 0; from = head; owner = 0 })

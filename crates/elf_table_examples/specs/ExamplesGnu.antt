@@ -1,5 +1,5 @@
 -- Worked examples of the names of numbers of the GNU system: each number that has one, and its neighbours.
-use Rattle.std.specs.Prelude.{◌≡◌, ◌*◌, List, [], ◌∷◌, codes, map, true, false}
+use Rattle.std.specs.Prelude.{◌≡◌, [], ◌∷◌, codes, map, true, false}
 use Rattle.elf_model.specs.NameTables.{bindings, dynamic_tag_text, name_or_number, places, relocation_type_text}
 use Rattle.elf_model.specs.NameTables.{section_flags_text, section_type_text, segment_type_text, symbol_types}
 

@@ -1,8 +1,9 @@
 -- Worked examples of what a file is, and of files that are refused.
-use Rattle.std.specs.Prelude.{ℕ, List, [], ◌∷◌, ◌++◌, codes}
+use Rattle.std.specs.Prelude.{ℕ, ◌≡◌, ◌+◌, ◌*◌, List, [], ◌∷◌, ◌++◌, codes}
 use Rattle.elf_model.specs.Bytes.{little}
 use Rattle.elf_model.specs.Fixtures.{with_bytes, one_symbol_table}
 use Rattle.elf_model.specs.FixturesTables.{one_load, tagged}
+use Rattle.elf_model.specs.TraitCost.{traits_ceiling}
 use Rattle.elf_table_examples.specs.TraitFiles.{TraitsCost, TraitsAre, program_with_traits}
 
 -- the program without an interpreter, and with DF_1_NOW alone in FLAGS_1
@@ -56,3 +57,13 @@ RefusedFiles =
     × TraitsAre (with_bytes 0x78 (little 4 1) program_with_traits) (codes "C refused      0000000000000078 load-overlap p\n")
     × TraitsAre (with_bytes 0xd0 (little 8 0x6f) program_with_traits) (codes "C refused      00000000000000b0 size-not-whole p\n")
     × TraitsAre (with_bytes 0x198 (little 4 0) program_with_traits) (codes "C refused      0000000000000238 hash-shape p\n")
+
+-- of two faults the one of the hash table is before the one of the notes, and that before the one of a symbol's name
+abbrev pub TraitRefusalsInOrder : Type 0
+TraitRefusalsInOrder =
+    TraitsAre (with_bytes 0x198 (little 4 0) (with_bytes 0x22c (little 4 0xffffffff) program_with_traits)) (codes "C refused      0000000000000238 hash-shape p\n")
+    × TraitsAre (with_bytes 0x22c (little 4 0xffffffff) (with_bytes 0x1e0 (little 4 32) program_with_traits)) (codes "C refused      0000000000000228 note-cut p\n")
+
+-- what traits never pass in 120 bytes with one header: five symbols have room in them
+abbrev pub TraitsCeiling : Type 0
+TraitsCeiling = traits_ceiling 120 1 ≡ 64 + (56 + 120) + 4 * 120 + 16 + 5 * (24 + 64)

@@ -1,9 +1,11 @@
 -- Worked examples of lists of properties, and of the notes that have them.
-use Rattle.std.specs.Prelude.{◌≡◌, ◌-◌, ◌^◌, ℕ, List, [], ◌∷◌, ◌++◌, codes, None, Some}
+use Rattle.std.specs.Prelude.{◌≡◌, ◌-◌, ◌^◌, ℕ, List, [], ◌∷◌, ◌++◌, codes, None, Some, Result, Ok, Err}
 use Rattle.elf_model.specs.Bytes.{little}
 use Rattle.elf_model.specs.Fixtures.{with_bytes}
 use Rattle.elf_model.specs.FixturesTables.{program_header}
-use Rattle.elf_model.specs.Properties.{Property, properties_in}
+use Rattle.elf_model.specs.Properties.{Property, features_in, properties_in}
+use Rattle.elf_model.specs.declared.causes.Cause.TheVariants.{NoteCut}
+use Rattle.elf_model.specs.declared.causes.Refusal.{Refusal}
 use Rattle.elf_table_examples.specs.TraitFiles.{TraitsAre, program_with_traits, property}
 
 -- the properties that a descriptor lists
@@ -41,6 +43,20 @@ FeatureRows =
     × TraitsAre (with_bytes 0x22c (little 4 8) program_with_traits) (codes "T pie    full    nx    w^x   fixed -         canary fortify -       p\n")
     × TraitsAre (with_bytes 0x12 (little 2 183) program_with_traits) (codes "T pie    full    nx    w^x   fixed -         canary fortify -       p\n")
 
+-- the features of a list at 0x100
+abbrev FeaturesAre : List ℕ → Result ℕ Refusal → Type 0
+FeaturesAre bytes word = features_in (record { place = 0x100; bytes = bytes }) ≡ word
+
+-- the first property of the type counts, wherever it stands, also where it has another size; a list that is cut behind it is
+-- refused at the place
+abbrev pub FirstFeaturesCount : Type 0
+FirstFeaturesCount =
+    FeaturesAre [] (Ok 0)
+    × FeaturesAre (property 1 4 (little 8 7) ++ property 0xc0000002 4 (little 8 1)) (Ok 1)
+    × FeaturesAre (property 0xc0000002 4 (little 8 1) ++ property 0xc0000002 4 (little 8 2)) (Ok 1)
+    × FeaturesAre (property 0xc0000002 8 (little 8 3) ++ property 0xc0000002 4 (little 8 1)) (Ok 0)
+    × FeaturesAre (property 0xc0000002 4 (little 8 1) ++ 0 ∷ []) (Err (record { at = 0x110; cause = NoteCut }))
+
 -- the note is one of the GNU system of the type, in a segment of notes: not by its name, not by its type, no such segment
 abbrev pub NoteRows : Type 0
 NoteRows =
@@ -57,3 +73,10 @@ HostileNotes =
     × TraitsAre (with_bytes 0x178 (little 8 0x91) program_with_traits) (codes "C refused      0000000000000158 table-outside p\n")
     × TraitsAre (with_bytes 0x78 (program_header 4 4 0x228 0 0x10 8) program_with_traits) (codes "C refused      0000000000000228 note-cut p\n")
     × TraitsAre (with_bytes 0x78 (program_header 4 4 0x218 0 0x20 8) (with_bytes 0x160 (little 8 0x228) program_with_traits)) (codes "T static full    nx    w^x   fixed ibt+shstk canary fortify -       p\n")
+
+-- a list counts that stands before the place where the notes of its segment are cut; a segment of no bytes has no notes, wherever
+-- it would begin
+abbrev pub ListsBeforeCuts : Type 0
+ListsBeforeCuts =
+    TraitsAre (with_bytes 0x178 (little 8 0x21) program_with_traits) (codes "T pie    full    nx    w^x   fixed ibt+shstk canary fortify -       p\n")
+    × TraitsAre (with_bytes 0x160 (little 8 0xffff) (with_bytes 0x178 (little 8 0) program_with_traits)) (codes "T pie    full    nx    w^x   fixed -         canary fortify -       p\n")

@@ -1,7 +1,7 @@
 -- Worked examples of words that are required.
-use Rattle.std.specs.Prelude.{◌≡◌, [], ◌∷◌, codes, true, false, Some}
-use Rattle.elf_model.specs.declared.formats.Format.TheVariants.{Columns}
-use Rattle.elf_model.specs.TraitWords.{Required, traits_status, traits_text}
+use Rattle.std.specs.Prelude.{◌≡◌, [], ◌∷◌, ◌++◌, codes, true, false, Some}
+use Rattle.elf_model.specs.declared.formats.Format.TheVariants.{Columns, Object}
+use Rattle.elf_model.specs.TraitWords.{Required, lacking_text, traits_status, traits_text}
 use Rattle.elf_model.specs.declared.traits.ProgramKind.{ProgramKind}
 use Rattle.elf_model.specs.declared.traits.ProgramKind.TheVariants as kind
 use Rattle.elf_model.specs.declared.traits.Relro.TheVariants as relro
@@ -53,3 +53,42 @@ NothingRequired =
     × (traits_status (weak kind.Lib) (full ∷ []) ≡ 1)
     × (traits_status (weak kind.Static) (full ∷ []) ≡ 1)
     × (traits_status (weak kind.Exec) (full ∷ []) ≡ 1)
+
+-- a front of a word is not it, nor is a word with more behind it
+abbrev pub WordsAreWhole : Type 0
+WordsAreWhole =
+    (traits_status (weak kind.Pie) (record { column = column.Relro; word = codes "partial" } ∷ []) ≡ 0)
+    × (traits_status (weak kind.Pie) (record { column = column.Relro; word = codes "part" } ∷ []) ≡ 1)
+    × (traits_status (weak kind.Pie) (record { column = column.Relro; word = codes "partially" } ∷ []) ≡ 1)
+
+-- a program in which each column has another word
+abbrev mixed : Traits
+mixed = record {
+  kind = kind.Exec;
+  segments = Some (record { relro = relro.Absent; stack_executable = false; pages_writable = true; text_patched = true });
+  ibt = true;
+  shstk = false;
+  canary = true;
+  fortify = false;
+  path = path.Runpath;
+}
+
+-- each column has its name, and its own word
+abbrev pub ColumnsAreNamed : Type 0
+ColumnsAreNamed =
+    (lacking_text mixed column.Kind ≡ codes "kind=exec")
+    × (lacking_text mixed column.Relro ≡ codes "relro=none")
+    × (lacking_text mixed column.Stack ≡ codes "stack=nx")
+    × (lacking_text mixed column.Pages ≡ codes "pages=wx")
+    × (lacking_text mixed column.Text ≡ codes "text=patch")
+    × (lacking_text mixed column.Cet ≡ codes "cet=ibt")
+    × (lacking_text mixed column.Canary ≡ codes "canary=canary")
+    × (lacking_text mixed column.Fortify ≡ codes "fortify=-")
+    × (lacking_text mixed column.Path ≡ codes "path=runpath")
+
+-- the lines as objects
+abbrev pub TraitsAreObjects : Type 0
+TraitsAreObjects =
+    traits_text Object (weak kind.Pie) (full ∷ []) (codes "p")
+    ≡ codes "{\"line\":\"T\",\"kind\":\"pie\",\"relro\":\"partial\",\"stack\":\"exec\",\"pages\":\"w^x\",\"text\":\"fixed\",\"cet\":\"-\",\"canary\":\"-\",\"fortify\":\"fortify\",\"rpath\":\"rpath\",\"path\":\"p\"}\n"
+    ++ codes "{\"line\":\"!\",\"trait\":\"relro=partial\"}\n"

@@ -2,7 +2,7 @@
 use Rattle.std.specs.Prelude.{ℕ, List, ◌++◌, codes}
 use Rattle.elf_model.specs.Bytes.{little}
 use Rattle.elf_model.specs.Fixtures.{with_bytes}
-use Rattle.elf_model.specs.FixturesTables.{tagged}
+use Rattle.elf_model.specs.FixturesTables.{program_header, tagged}
 use Rattle.elf_table_examples.specs.TraitFiles.{TraitsAre, program_with_traits}
 
 -- the program with other words in FLAGS and in FLAGS_1
@@ -42,6 +42,12 @@ PagesRows =
     × TraitsAre (with_bytes 0x44 (little 4 3) program_with_traits) (codes "T pie    full    nx    wx    fixed ibt+shstk canary fortify -       p\n")
     × TraitsAre (with_bytes 0x44 (little 4 6) program_with_traits) (codes "T pie    full    nx    w^x   fixed ibt+shstk canary fortify -       p\n")
     × TraitsAre (with_bytes 0x124 (little 4 7) program_with_traits) (codes "T pie    full    nx    w^x   fixed ibt+shstk canary fortify -       p\n")
+
+-- of two LOAD segments the second may be the one that is both; that one is writable and the other executable is not that
+abbrev pub TwoLoads : Type 0
+TwoLoads =
+    TraitsAre (with_bytes 0x78 (program_header 1 7 0x2a8 0x2000 0 0x1000) program_with_traits) (codes "T static full    nx    wx    fixed ibt+shstk canary fortify -       p\n")
+    × TraitsAre (with_bytes 0x78 (program_header 1 6 0x2a8 0x2000 0 0x1000) program_with_traits) (codes "T static full    nx    w^x   fixed ibt+shstk canary fortify -       p\n")
 
 -- text that is relocated, by its entry or by its flag, which means nothing in FLAGS_1; where libraries are looked for first
 abbrev pub EntryRows : Type 0

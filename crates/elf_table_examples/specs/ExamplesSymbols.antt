@@ -1,5 +1,5 @@
 -- Worked examples of traits by dynamic symbols, and of how many there are.
-use Rattle.std.specs.Prelude.{ℕ, List, [], ◌∷◌, ◌++◌, codes}
+use Rattle.std.specs.Prelude.{ℕ, ◌+◌, List, [], ◌∷◌, ◌++◌, codes, replicate}
 use Rattle.elf_model.specs.Bytes.{little}
 use Rattle.elf_model.specs.Fixtures.{with_bytes, zeros}
 use Rattle.elf_model.specs.FixturesHash.{words}
@@ -44,3 +44,22 @@ abbrev pub NameFaults : Type 0
 NameFaults =
     TraitsAre (with_bytes 0x1e0 (little 4 32) program_with_traits) (codes "C refused      00000000000001e0 name-outside p\n")
     × TraitsAre (with_bytes 0x270 (little 8 20) program_with_traits) (codes "C refused      00000000000001e0 name-unended p\n")
+
+-- symbol 0 is none, whatever its name is
+abbrev pub FirstSymbolIsNone : Type 0
+FirstSymbolIsNone =
+    TraitsAre (with_bytes 0x1b0 (little 4 32) program_with_traits) (codes "T pie    full    nx    w^x   fixed ibt+shstk canary fortify -       p\n")
+
+-- the program with strings behind it: one name, of six bytes and so many more
+abbrev long_named : ℕ → List ℕ
+long_named count =
+    with_bytes 0x60 (little 8 0x2f0 ++ little 8 0x2f0)
+    (with_bytes 0x1c8 (little 4 0) (with_bytes 0x1e0 (little 4 1)
+    (with_bytes 0x250 (little 8 0x2a8) (with_bytes 0x270 (little 8 (count + 8)) program_with_traits))))
+    ++ zeros 1 ++ codes "__" ++ replicate count 97 ++ codes "_chk" ++ zeros 8
+
+-- a name of 63 bytes is looked at, and none of more
+abbrev pub LongNamesMarkNothing : Type 0
+LongNamesMarkNothing =
+    TraitsAre (long_named 57) (codes "T pie    full    nx    w^x   fixed ibt+shstk -      fortify -       p\n")
+    × TraitsAre (long_named 58) (codes "T pie    full    nx    w^x   fixed ibt+shstk -      -       -       p\n")

@@ -1,5 +1,5 @@
 //! Worked examples of lists of properties, each computed by the prover.
-ghost use Rattle.elf_table_examples.specs.ExamplesProperties.{FeatureRows, HostileNotes, NoteRows, PropertyLists};
+ghost use Rattle.elf_table_examples.specs.ExamplesProperties.{FeatureRows, FirstFeaturesCount, HostileNotes, ListsBeforeCuts, NoteRows, PropertyLists};
 
 /// Lists of properties, whole and cut.
 #[tactic(auto, unfolding(elf_model::proofs::OnLiterals::on_literals, elf_model::proofs::OnLoader::on_loader, crate::proofs::OnTraits::on_traits))]
@@ -23,4 +23,16 @@ pub fn note_rows()
 #[tactic(auto, unfolding(elf_model::proofs::OnLiterals::on_literals, elf_model::proofs::OnLoader::on_loader, crate::proofs::OnTraits::on_traits))]
 pub fn hostile_notes()
     ensures { HostileNotes }
+{}
+
+/// Two properties with the features, and a list that is cut.
+#[tactic(auto, unfolding(elf_model::proofs::OnLiterals::on_literals, elf_model::proofs::OnLoader::on_loader, crate::proofs::OnTraits::on_traits))]
+pub fn first_features_count()
+    ensures { FirstFeaturesCount }
+{}
+
+/// Notes that are cut behind their list, and a segment of no notes.
+#[tactic(auto, unfolding(elf_model::proofs::OnLiterals::on_literals, elf_model::proofs::OnLoader::on_loader, crate::proofs::OnTraits::on_traits))]
+pub fn lists_before_cuts()
+    ensures { ListsBeforeCuts }
 {}

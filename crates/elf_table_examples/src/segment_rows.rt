@@ -1,5 +1,5 @@
 //! Worked examples of what program headers and dynamic entries tell, each computed by the prover.
-ghost use Rattle.elf_table_examples.specs.ExamplesSegments.{EntryRows, PagesRows, RelroHostile, RelroRows, StackRows};
+ghost use Rattle.elf_table_examples.specs.ExamplesSegments.{EntryRows, PagesRows, RelroHostile, RelroRows, StackRows, TwoLoads};
 
 /// All is bound at once by either entry of flags, or by one of its own.
 #[tactic(auto, unfolding(elf_model::proofs::OnLiterals::on_literals, elf_model::proofs::OnLoader::on_loader, crate::proofs::OnTraits::on_traits))]
@@ -29,4 +29,10 @@ pub fn pages_rows()
 #[tactic(auto, unfolding(elf_model::proofs::OnLiterals::on_literals, elf_model::proofs::OnLoader::on_loader, crate::proofs::OnTraits::on_traits))]
 pub fn entry_rows()
     ensures { EntryRows }
+{}
+
+/// Two LOAD segments.
+#[tactic(auto, unfolding(elf_model::proofs::OnLiterals::on_literals, elf_model::proofs::OnLoader::on_loader, crate::proofs::OnTraits::on_traits))]
+pub fn two_loads()
+    ensures { TwoLoads }
 {}

@@ -1,5 +1,5 @@
 //! Worked examples of what dynamic symbols tell, each computed by the prover.
-ghost use Rattle.elf_table_examples.specs.ExamplesSymbols.{CanaryRows, CountRows, FortifyRows, NameFaults};
+ghost use Rattle.elf_table_examples.specs.ExamplesSymbols.{CanaryRows, CountRows, FirstSymbolIsNone, FortifyRows, LongNamesMarkNothing, NameFaults};
 
 /// Symbols of guards, and others.
 #[tactic(auto, unfolding(elf_model::proofs::OnLiterals::on_literals, elf_model::proofs::OnLoader::on_loader, crate::proofs::OnTraits::on_traits))]
@@ -23,4 +23,16 @@ pub fn count_rows()
 #[tactic(auto, unfolding(elf_model::proofs::OnLiterals::on_literals, elf_model::proofs::OnLoader::on_loader, crate::proofs::OnTraits::on_traits))]
 pub fn name_faults()
     ensures { NameFaults }
+{}
+
+/// A symbol 0 with a name.
+#[tactic(auto, unfolding(elf_model::proofs::OnLiterals::on_literals, elf_model::proofs::OnLoader::on_loader, crate::proofs::OnTraits::on_traits))]
+pub fn first_symbol_is_none()
+    ensures { FirstSymbolIsNone }
+{}
+
+/// Names of as many bytes as are looked at, and of one more.
+#[tactic(auto, unfolding(elf_model::proofs::OnLiterals::on_literals, elf_model::proofs::OnLoader::on_loader, crate::proofs::OnTraits::on_traits))]
+pub fn long_names_mark_nothing()
+    ensures { LongNamesMarkNothing }
 {}
