@@ -8,7 +8,7 @@ use Rattle.elf_model.specs.Find.{first_that}
 use Rattle.elf_model.specs.GnuHash.{chain_word, ends_chain, gnu_bucket_at, gnu_first, gnu_nbucket, is_chained}
 use Rattle.elf_model.specs.LoaderScope.{GnuTable, SysvTable, HashKind, Scope}
 use Rattle.elf_model.specs.Hash.{sysv_nchain}
-use Rattle.elf_model.specs.Traits.{gnu_symbols, hashed_symbol_count, highest_start, is_last_in}
+use Rattle.elf_model.specs.Traits.{before_strings, gnu_symbols, hashed_symbol_count, highest_start, is_last_in}
 use Rattle.elf_source.specs.Source.{Counting}
 use Rattle.elf_headers.specs.Ledger.{Charges, IsRead}
 use Rattle.elf_headers.specs.declared.fault.Fault.{Fault}
@@ -16,7 +16,7 @@ use Rattle.elf_headers.proofs.LedgerLaws.{Charges-more}
 use Rattle.elf_table.specs.Cursors.{Advances, EndsRows, GivesRow, Reading, row_at, unread_bytes}
 use Rattle.elf_table.specs.Tables.{Rows, size_of}
 use Rattle.elf_hash.specs.Counts.{IsGnu, IsSysv}
-use Rattle.elf_hash.specs.Extents.{EndsChain, TellsExtent, extent_bytes, last_in}
+use Rattle.elf_hash.specs.Extents.{AreBehind, EndsChain, TellsExtent, extent_bytes, last_in}
 use Rattle.elf_hash.specs.declared.gnu_table.GnuTable.{GnuTable as Gnu}
 use Rattle.elf_hash.specs.declared.sysv_table.SysvTable.{SysvTable as Sysv}
 use Rattle.elf_hash.proofs.GnuSteps.{chain_is}
@@ -135,21 +135,24 @@ module _ (file : List ℕ) (table : Table) where
   goes_on index is ends = rw (is, ends, is_last_in) refl
 
   -- those of the whole table, by the highest of the buckets' words
-  module _ (start : ℕ) (is : start ≡ highest_start file table.place (gnu_nbucket file table.place)) where
-    pub none_chained : start < gnu_first file table.place → gnu_symbols file table ≡ min (gnu_first file table.place) table.symbols
+  module _ (start before : ℕ) (is : start ≡ highest_start file table.place (gnu_nbucket file table.place)) where
+    pub none_chained : start < gnu_first file table.place → gnu_symbols file table before ≡ max before (min (gnu_first file table.place) table.symbols)
     unfolding gnu_symbols
     none_chained low =
         let less : nat_lt (highest_start file table.place (gnu_nbucket file table.place)) (gnu_first file table.place) ≡ true = grind (arith, is) in
         rw (less, gnu_symbols) refl
 
-    pub some_chained : gnu_first file table.place ≤ start → gnu_symbols file table ≡ last_in file table start
+    pub some_chained : gnu_first file table.place ≤ start → gnu_symbols file table before ≡ last_in file table start
     unfolding gnu_symbols
     some_chained high =
         let less : nat_lt (highest_start file table.place (gnu_nbucket file table.place)) (gnu_first file table.place) ≡ false = grind (arith, is) in
         rw (less, gnu_symbols) (ap (last_in file table) (sym is))
 
 module _ (file : List ℕ) (scope : Scope) where
-  pub gnu_count : scope.kind ≡ GnuTable → hashed_symbol_count file scope ≡ gnu_symbols file scope.table
+  abbrev before : ℕ
+  before = before_strings scope.table scope.symbols.place scope.symbols.strings_at
+
+  pub gnu_count : scope.kind ≡ GnuTable → hashed_symbol_count file scope ≡ gnu_symbols file scope.table before
   unfolding hashed_symbol_count
   gnu_count kind = rw (kind, hashed_symbol_count) refl
 
@@ -157,7 +160,7 @@ module _ (file : List ℕ) (scope : Scope) where
   unfolding hashed_symbol_count
   sysv_count kind = rw (kind, hashed_symbol_count) refl
 
-  pub gnu_bytes : scope.kind ≡ GnuTable → extent_bytes file scope ≡ 4 * gnu_nbucket file scope.table.place + 4 * gnu_symbols file scope.table
+  pub gnu_bytes : scope.kind ≡ GnuTable → extent_bytes file scope ≡ 4 * gnu_nbucket file scope.table.place + 4 * gnu_symbols file scope.table before
   gnu_bytes kind =
       let count = gnu_count kind in
       let is : extent_bytes file scope ≡ 4 * gnu_nbucket file scope.table.place + 4 * hashed_symbol_count file scope =
@@ -180,14 +183,33 @@ word_is file table t index word place is at read = read ∙ ap (λ (n : ℕ). fi
 pub read_of : (result : Result ℕ Fault) (count other : ℕ) → count ≡ other → IsRead result count → IsRead result other
 read_of result count other same read = subst (λ n. IsRead result n) same read
 
+-- strings of no symbol do not count
+no_room : (table : Table) (symbols strings : ℕ) → table.symbols ≡ 0 → before_strings table symbols strings ≡ 0
+unfolding before_strings
+no_room table symbols strings none = grind (arith, nat_tests, none)
+
+behind_is : (scope : Scope) (symbols strings : ℕ) → AreBehind scope symbols strings
+    → before_strings scope.table symbols strings ≡ before_strings scope.table scope.symbols.place scope.symbols.strings_at
+behind_is scope symbols strings are = go scope.table.symbols refl
+  where
+    go : (room : ℕ) → scope.table.symbols ≡ room → before_strings scope.table symbols strings ≡ before_strings scope.table scope.symbols.place scope.symbols.strings_at
+    go zero none = no_room scope.table symbols strings none ∙ sym (no_room scope.table scope.symbols.place scope.symbols.strings_at none)
+    go (suc room) some =
+        let first = ap (λ (n : ℕ). before_strings scope.table n strings) (sym are.place) in
+        first ∙ ap (λ (n : ℕ). before_strings scope.table scope.symbols.place n) (sym (are.strings_at (omega (arith, some))))
+
 -- what is told of a table of either kind
-pub gnu_told : (file : List ℕ) (scope : Scope) (t : Gnu) {a b : Counting} {result : Result ℕ Fault} → scope.kind ≡ GnuTable → IsGnu file scope.table t
-    → EndsChain (4 * t.nbucket) (gnu_symbols file scope.table) a b result → TellsExtent file scope a b result
-gnu_told file scope t {result = result} kind is ends =
+pub gnu_told : (file : List ℕ) (scope : Scope) (t : Gnu) (symbols strings before : ℕ) {a b : Counting} {result : Result ℕ Fault}
+    → scope.kind ≡ GnuTable → IsGnu file scope.table t → AreBehind scope symbols strings → before ≡ before_strings scope.table symbols strings
+    → EndsChain (4 * t.nbucket) (gnu_symbols file scope.table before) a b result → TellsExtent file scope a b result
+gnu_told file scope t symbols strings before {result = result} kind is are found ends =
+    let same : gnu_symbols file scope.table before ≡ hashed_symbol_count file scope =
+    ap (gnu_symbols file scope.table) (found ∙ behind_is scope symbols strings are) ∙ sym (gnu_count file scope kind) in
     let bytes = gnu_bytes file scope kind in
+    let count = gnu_count file scope kind in
     record {
-      costs = Charges-more _ (omega (arith, bytes, is.buckets)) ends.costs;
-      tells = read_of result _ _ (sym (gnu_count file scope kind)) ends.tells;
+      costs = Charges-more _ (omega (arith, bytes, is.buckets, same, count)) ends.costs;
+      tells = read_of result _ _ same ends.tells;
     }
 
 pub sysv_told : (file : List ℕ) (scope : Scope) (t : Sysv) {a b : Counting} {count : ℕ} → scope.kind ≡ SysvTable → IsSysv file scope.table t

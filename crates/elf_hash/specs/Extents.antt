@@ -1,5 +1,5 @@
 -- How many symbols a hash table knows, and what asking for it costs.
-use Rattle.std.specs.Prelude.{ℕ, suc, ◌+◌, ◌-◌, ◌*◌, List, None, Some, Result}
+use Rattle.std.specs.Prelude.{ℕ, suc, ◌≡◌, ◌+◌, ◌-◌, ◌*◌, ◌<◌, List, None, Some, Result}
 use Rattle.elf_model.specs.Chains.{HashTable}
 use Rattle.elf_model.specs.Find.{first_that}
 use Rattle.elf_model.specs.GnuHash.{gnu_nbucket}
@@ -20,6 +20,11 @@ last_in file table start = elim (first_that (is_last_in file table) start (table
 pub record EndsChain (few count : ℕ) (old new : Counting) (result : Result ℕ Fault) : Type 0 where
   pub costs : Charges old new (why_stopped result) (few + 4 * count)
   pub tells : IsRead result count
+
+-- the symbols of a lookup begin at an offset, and their strings at another; strings of no symbol are not looked at
+pub record AreBehind (scope : Scope) (symbols strings : ℕ) : Type 0 where
+  pub place : scope.symbols.place ≡ symbols
+  pub strings_at : 0 < scope.table.symbols → scope.symbols.strings_at ≡ strings
 
 -- how many bytes are asked for, behind the counts
 abbrev pub extent_bytes : List ℕ → Scope → ℕ

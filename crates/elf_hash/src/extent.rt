@@ -1,59 +1,93 @@
 //! How many symbols a hash table knows.
 ghost use Rattle.std.specs.Prelude.{◌≡◌, ℕ, ◌+◌, ◌-◌, ◌*◌, ◌<◌, ◌≤◌, List, length, IfOk};
 ghost use Rattle.elf_headers.specs.Ledger.{Did, IsRead, why_stopped};
-ghost use Rattle.elf_hash.specs.Counts.{IsGnu};
-ghost use Rattle.elf_hash.specs.Extents.{EndsChain, TellsExtent, last_in};
+ghost use Rattle.elf_hash.specs.Counts.{IsGnu, IsTablePlace};
+ghost use Rattle.elf_hash.specs.Extents.{AreBehind, EndsChain, TellsExtent, last_in};
 ghost use Rattle.elf_hash.specs.Scopes.{IsTable, place_of_table};
 ghost use Rattle.elf_model.specs.Bytes.{field, slice};
 ghost use Rattle.elf_model.specs.Chains.{HashTable as Place};
 ghost use Rattle.elf_model.specs.LoaderScope.{Scope};
-ghost use Rattle.elf_model.specs.Traits.{gnu_symbols, highest_start};
+ghost use Rattle.elf_model.specs.Traits.{before_strings, gnu_symbols, highest_start};
 
 use crate::gnu_table::GnuTable;
 use crate::gnu_walk::ends_chain;
+use crate::place::HashPlace;
 use crate::reading::read_word;
 use crate::table::HashTable;
 use elf_headers::Fault;
+use elf_record::sizes::SYMBOL_BYTES;
 use elf_record::word;
 use elf_source::{Counted, Source};
 use elf_table::{Cursor, Row};
 
-/// How many symbols a hash table tells that there are, by its words alone, and no more than there is
-/// room for: of the gABI's (5, Hash Table) as many as there are chains; of the GNU system's those
-/// before the first that it knows, and those of chains, of which the highest begins at the highest of
-/// the buckets' words. It asks for the buckets' words and for those of that chain, each at most once;
-/// the table ends at or below the source's length.
+/// How many symbols there are by a hash table, and no more than there is room for: of the gABI's (5,
+/// Hash Table) as many as there are chains; of the GNU system's those before the first that it knows,
+/// and those of chains, of which the highest begins at the highest of the buckets' words. Where no symbol
+/// is found in that, those that have room before their strings, if the table does not stand between.
+/// `symbols` and `strings` are the file offsets where symbols and strings begin. It asks for the
+/// buckets' words and for those of that chain, each at most once; the table ends at or below the
+/// source's length.
 ///
 /// # Errors
 /// A fault of a read, or a refusal for want of budget, at the offset that was asked for.
-pub fn symbol_extent<S: Source>(src: &mut Counted<S>, table: &HashTable) -> Result<u64, Fault>
+pub fn symbol_extent<S: Source>(
+    src: &mut Counted<S>,
+    table: &HashTable,
+    symbols: u64,
+    strings: u64,
+) -> Result<u64, Fault>
     requires within { (place_of_table table.now).at + (place_of_table table.now).size
         ≤ src.old.seen.size }
     ensures did { Did src.old src.new (why_stopped result) (place_of_table table.now).size
         (λ file. (scope : Scope) → IsTable file scope table.now →
-        TellsExtent file scope src.old src.new result) }
+        AreBehind scope symbols strings → TellsExtent file scope src.old src.new result) }
     ensures few { IfOk result (λ count. count ≤ (place_of_table table.now).symbols) }
 {
     match table {
-        HashTable::Gnu(table) => gnu_extent(src, table),
+        HashTable::Gnu(table) => {
+            let before = before_strings(&table.place, symbols, strings);
+            gnu_extent(src, table, before)
+        }
         HashTable::Sysv(table) => Ok(u64::from(table.nchain).min(table.place.symbols)),
     }
 }
 
-/// The same of a table of the GNU system.
+/// How many symbols have room before their strings; none where the hash table stands between, or there
+/// is no room for so many.
+#[tactic(auto, unfolding(elf_model::specs::Traits::before_strings))]
+fn before_strings(table: &HashPlace, symbols: u64, strings: u64) -> u64
+    ensures value { (at : Place) → IsTablePlace at table.now →
+        result ≡ before_strings at symbols strings }
+    ensures few { result ≤ table.now.symbols }
+{
+    let rows = strings.saturating_sub(symbols) / SYMBOL_BYTES;
+    let between = symbols < table.at && table.at < strings;
+    if between || rows > table.symbols {
+        return 0;
+    }
+    rows
+}
+
+/// The same of a table of the GNU system, with so many symbols before their strings.
 ///
 /// # Errors
 /// A fault of a read.
-fn gnu_extent<S: Source>(src: &mut Counted<S>, table: &GnuTable) -> Result<u64, Fault>
+fn gnu_extent<S: Source>(
+    src: &mut Counted<S>,
+    table: &GnuTable,
+    before: u64,
+) -> Result<u64, Fault>
     requires within { table.now.place.at + table.now.place.size ≤ src.old.seen.size }
+    requires few { before ≤ table.now.place.symbols }
     ensures did { Did src.old src.new (why_stopped result) table.now.place.size
         (λ file. (at : Place) → IsGnu file at table.now →
-        EndsChain (4 * table.now.nbucket) (gnu_symbols file at) src.old src.new result) }
+        EndsChain (4 * table.now.nbucket) (gnu_symbols file at before) src.old src.new result) }
     ensures few { IfOk result (λ count. count ≤ table.now.place.symbols) }
 {
     let start = highest_start(src, table)?;
     if start < table.first {
-        return Ok(u64::from(table.first).min(table.place.symbols));
+        let least = u64::from(table.first).min(table.place.symbols);
+        return Ok(before.max(least));
     }
     chain_end(src, table, u64::from(start))
 }

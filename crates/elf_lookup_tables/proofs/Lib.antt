@@ -6,3 +6,4 @@ pub mod SectionLaws
 pub mod SegmentLaws
 pub mod SettleLaws
 pub mod VersionLaws
+mod ExtentLaws

@@ -3,7 +3,7 @@ use Rattle.std.proofs.Common.{◌≡◌, ◌⊎◌, inl, inr, ℕ, ◌/◌, ◌<
 use Rattle.std.proofs.lemmas.Bool.Decides.{nat_tests}
 use Rattle.std.specs.Prelude.{is_none, option_map}
 use Rattle.elf_model.specs.Checks.{Check, refuse, first_refusal}
-use Rattle.elf_model.specs.LoaderScope.{HashKind as IsHashKind, checks_of_row, has_wide_kind, hash_row, least_size, rest_checks, rest_place, rest_size, rows_checks, segment_checks, segment_scope, segment_strings, segment_symbols, segment_words, tagged_row}
+use Rattle.elf_model.specs.LoaderScope.{HashKind as IsHashKind, checks_of_row, has_wide_kind, hash_row, least_size, rest_checks, rest_place, rest_size, rows_checks, segment_checks, segment_scope, segment_strings, segment_strings_at, segment_symbols, segment_words, tagged_row}
 use Rattle.elf_model.specs.Mapped.{mapped_bytes, mapped_checks, mapped_place}
 use Rattle.elf_model.specs.Numbers.{DT_SYMTAB, DT_STRTAB, DT_STRSZ}
 use Rattle.elf_model.specs.Records.{d_un, e_machine}
@@ -99,6 +99,12 @@ module _ (file : List ℕ) (at row : ℕ) where
         let opened : segment_strings file at ≡ mapped_bytes file (d_un file strtab.at) (d_un file strsz.at) = rw (strtab_here.0, strsz_here.0, segment_strings) refl in
         opened ∙ (ap (λ (v : ℕ). mapped_bytes file v (d_un file strsz.at)) strtab_here.1 ∙ ap (λ (z : ℕ). mapped_bytes file strtab.value z) strsz_here.1)
 
+    begin_is : segment_strings_at file at ≡ mapped_place file strtab.value strsz.value
+    unfolding segment_strings_at
+    begin_is =
+        let opened : segment_strings_at file at ≡ mapped_place file (d_un file strtab.at) (d_un file strsz.at) = rw (strtab_here.0, strsz_here.0, segment_strings_at) refl in
+        opened ∙ (ap (λ (v : ℕ). mapped_place file v (d_un file strsz.at)) strtab_here.1 ∙ ap (λ (z : ℕ). mapped_place file strtab.value z) strsz_here.1)
+
     pub symbols_refuse : (fault : Fault) → Err fault ≡ rest_mapped file symtab.value symtab.at → RefusedBy (rows_checks file at row) fault
     symbols_refuse fault h =
         let here = subst (λ (c : List Check). RefusedBy c fault) (sym symbols_are) (entry_refused file symtab fault symtab_here.1 h) in
@@ -150,6 +156,7 @@ module _ (file : List ℕ) (at row : ℕ) where
                   index = to;
                   place = placed;
                   names = λ some. ap (strings_in file) same ∙ names_told;
+                  names_at = λ some. ap (λ (s : Strings). s.at) (same ∙ sym names_are.1) ∙ sym begin_is;
                   words = rw words v.1.words;
                   records = rw (definitions, needs) v.1.records;
                 };

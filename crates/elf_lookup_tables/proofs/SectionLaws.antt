@@ -66,6 +66,7 @@ section_is file kind at scope found versions h v machine is_kind head place size
       index = index ∙ h.1.link;
       place = ap (λ (t : Rows). t.at) table ∙ h.1.symbols.placed;
       names = λ some. ap (strings_in file) names ∙ ap (strings_in file) (h.1.symbols.named (rw table at some));
+      names_at = λ some. ap (λ (s : Strings). s.at) (names ∙ h.1.symbols.named (rw table at some));
       words = rw words v.1.words;
       records = rw (definitions, needs) v.1.records;
     };

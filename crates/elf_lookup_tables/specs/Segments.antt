@@ -3,7 +3,7 @@ use Rattle.std.specs.Prelude.{ℕ, ◌≡◌, ◌||◌, true, is_none, List, [],
 use Rattle.elf_model.specs.Checks.{Check, first_refusal, pass}
 use Rattle.elf_model.specs.Cost.{cost_where}
 use Rattle.elf_model.specs.Loader.{RecordTable as IsTableOf}
-use Rattle.elf_model.specs.LoaderScope.{Scope as IsScopeOf, tagged_row, rest_checks, checks_of_row, hash_row, segment_checks, segment_scope, segment_strings, segment_symbols, segment_words, records_of_tag, records_with, dynamic_segment_index, words_row}
+use Rattle.elf_model.specs.LoaderScope.{Scope as IsScopeOf, tagged_row, rest_checks, checks_of_row, hash_row, segment_checks, segment_scope, segment_strings, segment_strings_at, segment_symbols, segment_words, records_of_tag, records_with, dynamic_segment_index, words_row}
 use Rattle.elf_model.specs.Numbers.{DT_VERDEF, DT_VERNEED}
 use Rattle.elf_model.specs.Records.{d_un, p_filesz, segment_at}
 use Rattle.elf_model.specs.Tables.{segment_dynamic_checks}
@@ -53,6 +53,7 @@ pub record AreRowsSymbols (file : List ℕ) (index at : ℕ) (found : Symbols) :
     index = index;
     place = (segment_symbols file at).0;
     strings = segment_strings file at;
+    strings_at = segment_strings_at file at;
     words = segment_words file index at;
     records = records_with (segment_words file index at) (rows_records file at);
   }) found

@@ -45,6 +45,7 @@ pub record IsSymbols (file : List ℕ) (told : AreSymbolsOf) (symbols : Symbols)
   pub index : symbols.index ≡ told.index
   pub place : symbols.table.at ≡ told.place
   pub names : 0 < symbols.table.count → strings_in file symbols.names ≡ told.strings
+  pub names_at : 0 < symbols.table.count → symbols.names.at ≡ told.strings_at
   pub words : AreWords told.words symbols.words
   pub records : AreRecordTables file told.records (table_if_any symbols.definitions ++ table_if_any symbols.needs)
 

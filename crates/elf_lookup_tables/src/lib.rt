@@ -7,6 +7,7 @@ mod by_sections;
 mod by_segments;
 mod entries;
 mod entry;
+mod extent;
 mod scope;
 mod scoping;
 mod section_versions;

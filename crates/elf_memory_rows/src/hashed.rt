@@ -4,7 +4,7 @@ ghost use Rattle.elf_headers.specs.Ledger.{Did, why_stopped};
 ghost use Rattle.elf_memory_rows.specs.Hashed.{FindsHashed, hashed_bytes};
 
 use crate::rows::RowsLeft;
-use elf_hash::{counts, symbol_extent};
+use elf_hash::counts;
 use elf_headers::{Fault, HeaderStore};
 use elf_lookup_tables::{Symbols, find_scope};
 use elf_record::sizes::SYMBOL_BYTES;
@@ -12,8 +12,9 @@ use elf_source::{Counted, Source};
 
 /// The symbols that a file's hash table is of, which a loader looks names up among: by the section
 /// headers, or where there are none by the program headers and their dynamic entries ([`find_scope`]).
-/// How many there are is told by the table alone: in one of the gABI as many as it has chains, in one of
-/// the GNU system up to the end of the last chain (gABI 5, Hash Table). The place that is given stands
+/// How many there are: in a table of the gABI as many as it has chains, in one of the GNU system up to
+/// the end of the last chain, or where no symbol is found in it those before their strings (gABI 5, Hash
+/// Table). The place that is given stands
 /// before the first, with their string table. The headers are loaded into the store.
 ///
 /// Where the source's file is known the answer is the file's own, and so is the refusal.
@@ -34,7 +35,7 @@ pub fn hashed_rows<S: Source>(
 {
     let scope = find_scope(src, store)?;
     let table = counts(src, &scope.hash)?;
-    let count = symbol_extent(src, &table)?;
+    let count = scope.symbols.extent(src, &table)?;
     Ok(rows_of(&scope.symbols, count))
 }
 

@@ -97,11 +97,12 @@ pub record RecordTable : Type 0 where
   pub strings : List ℕ
 
 -- WHAT A LOADER KNOWS OF THE SYMBOLS of a file: the index of what describes them; where the first stands in the file; their
--- strings; the words of their versions, if there are such; and the definitions and the needs of versions, in this order
+-- strings, and where these begin; the words of their versions, if there are such; and the definitions and the needs of versions, in this order
 pub record Symbols : Type 0 where
   pub index : ℕ
   pub place : ℕ
   pub strings : List ℕ
+  pub strings_at : ℕ
   pub words : Option VersionWords
   pub records : List RecordTable
 

@@ -110,6 +110,7 @@ section_scope file kind at = record {
     index = sh_link file at;
     place = sh_offset file (linked_at file at);
     strings = strings_of file (linked_at file at);
+    strings_at = sh_offset file (linked_at file (linked_at file at));
     words = section_words file;
     records =
         records_with (section_words file)
@@ -203,6 +204,16 @@ segment_strings file at = elim (tagged_row file at DT_STRTAB) [
   ]
 ]
 
+-- where they begin
+unfoldable pub segment_strings_at : List ℕ → ℕ → ℕ
+segment_strings_at file at = elim (tagged_row file at DT_STRTAB) [
+  | None ↦ 0
+  | Some row ↦ elim (tagged_row file at DT_STRSZ) [
+    | None ↦ 0
+    | Some size_row ↦ mapped_place file (d_un file row) (d_un file size_row)
+  ]
+]
+
 -- the words of symbols' versions, which the program header of an index describes
 unfoldable pub segment_words : List ℕ → (index at : ℕ) → Option VersionWords
 segment_words file index at = elim (words_row file at) [
@@ -238,6 +249,7 @@ segment_scope file kind index at hash_row =
         index = index;
         place = symbols.0;
         strings = segment_strings file at;
+        strings_at = segment_strings_at file at;
         words = segment_words file index at;
         records =
             records_with (segment_words file index at)

@@ -18,7 +18,7 @@ use Rattle.elf_model.specs.Numbers.{EM_X86_64, ET_REL, PT_LOAD, SHN_UNDEF, DT_SO
 use Rattle.elf_model.specs.Properties.{GNU_PROPERTY_X86_FEATURE_1_IBT, GNU_PROPERTY_X86_FEATURE_1_SHSTK, features_in, property_list}
 use Rattle.elf_model.specs.Records.{e_type, e_machine, e_phnum, p_type, p_flags, p_offset, p_filesz, segment_at, st_name, st_shndx}
 use Rattle.elf_model.specs.Style.{without_sections}
-use Rattle.elf_model.specs.Tables.{DYNAMIC_SIZE}
+use Rattle.elf_model.specs.Tables.{DYNAMIC_SIZE, SYMBOL_SIZE}
 use Rattle.elf_model.specs.TraitNumbers.{ET_EXEC, ET_DYN, ET_CORE, PT_INTERP, PT_GNU_STACK, PT_GNU_RELRO, PF_X, PF_W, DT_TEXTREL, DT_BIND_NOW, DT_FLAGS, DT_FLAGS_1, DF_TEXTREL, DF_BIND_NOW, DF_1_NOW, DF_1_PIE, has_bits}
 use Rattle.elf_model.specs.declared.causes.Cause.{Cause}
 use Rattle.elf_model.specs.declared.causes.Cause.TheVariants.{NoHash}
@@ -154,10 +154,19 @@ highest_start file place (suc n) = max (highest_start file place n) (field file 
 abbrev pub is_last_in : List ℕ → HashTable → ℕ → Bool
 is_last_in file table y = not (is_chained file table y) || ends_chain (chain_word file table.place y)
 
-unfoldable pub gnu_symbols : List ℕ → HashTable → ℕ
-gnu_symbols file table =
+-- A table in which no symbol is found does not say how many there are: the usual linker then writes 1 for `first`, however many
+-- symbols are undefined. So there are as many as have room before their strings, unless the table stands between these, or
+-- there is no room for so many behind the first
+unfoldable pub before_strings : HashTable → (symbols strings : ℕ) → ℕ
+before_strings table symbols strings =
+    let rows = (strings - symbols) / SYMBOL_SIZE in
+    if (nat_lt symbols table.place && nat_lt table.place strings) || nat_lt table.symbols rows then 0 else rows
+
+-- how many there are, with so many before their strings
+unfoldable pub gnu_symbols : List ℕ → HashTable → ℕ → ℕ
+gnu_symbols file table before =
     let start = highest_start file table.place (gnu_nbucket file table.place) in
-    if nat_lt start (gnu_first file table.place) then min (gnu_first file table.place) table.symbols
+    if nat_lt start (gnu_first file table.place) then max before (min (gnu_first file table.place) table.symbols)
     else elim (first_that (is_last_in file table) start (table.symbols - start)) [
       | None ↦ table.symbols
       | Some y ↦ suc y
@@ -166,7 +175,7 @@ gnu_symbols file table =
 -- in the gABI's as many as there are chains (gABI 5, Hash Table); no more than there is room for
 unfoldable pub hashed_symbol_count : List ℕ → Scope → ℕ
 hashed_symbol_count file scope = elim scope.kind [
-  | GnuTable ↦ gnu_symbols file scope.table
+  | GnuTable ↦ gnu_symbols file scope.table (before_strings scope.table scope.symbols.place scope.symbols.strings_at)
   | SysvTable ↦ min (sysv_nchain file scope.table.place) scope.table.symbols
 ]
 

@@ -14,7 +14,6 @@ use crate::marks::{Marks, no_marks};
 use crate::notes::feature_word;
 use crate::symbols::symbol_marks;
 use crate::traits::traits_with;
-use elf_hash::symbol_extent;
 use elf_headers::{Fault, HeaderStore, header, load, refused};
 use elf_model::Traits;
 use elf_record::Cause;
@@ -104,6 +103,6 @@ fn known_marks<S: Source>(src: &mut Counted<S>, known: Option<KnownSymbols>) -> 
     let Some(known) = known else {
         return Ok(no_marks());
     };
-    let count = symbol_extent(src, &known.table)?;
+    let count = known.symbols.extent(src, &known.table)?;
     symbol_marks(src, &known.symbols, count)
 }

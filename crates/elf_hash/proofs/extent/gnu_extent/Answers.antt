@@ -1,5 +1,5 @@
 -- The highest of the buckets' words, and the end of the chain that begins there.
-use Rattle.std.proofs.Common.{ℕ, min, sym, ap, ◌∙◌, arith}
+use Rattle.std.proofs.Common.{ℕ, max, min, sym, ap, ◌∙◌, arith}
 use Rattle.elf_model.specs.Traits.{highest_start}
 use Rattle.elf_headers.proofs.LedgerLaws.{Charges-then, Did-as, Did-then}
 use Rattle.elf_hash.proofs.ExtentLaws.{none_chained, read_of, some_chained}
@@ -11,11 +11,13 @@ returns-then-start-table-clause-did g c =
     Did-as _ (omega (arith, fits)) c.in_ok-start.ensures.did
     (λ file told costs at is.
     let start = told at is ∙ ap (highest_start file at.place) is.buckets in
-    let none = none_chained file at c.in_ok-start.start start (omega (arith, c.if-start-table.true, is.first)) in
+    let none = none_chained file at c.in_ok-start.start c.args.before start (omega (arith, c.if-start-table.true, is.first)) in
     let from = c.from.ensures in
     record {
       costs = costs _ (omega arith);
-      tells = c.min.ensures ∙ (ap (λ (n : ℕ). min n c.args.table.now.place.symbols) (from ∙ is.first) ∙ (ap (min _) is.place.symbols ∙ sym none));
+      tells =
+          let least = c.min-least.ensures ∙ (ap (λ (n : ℕ). min n c.args.table.now.place.symbols) (from ∙ is.first) ∙ ap (min _) is.place.symbols) in
+          c.max.ensures ∙ (ap (max c.args.before) least ∙ sym none);
     })
 
 pub returns-clause-did : goal.returns-clause-did
@@ -25,7 +27,7 @@ returns-clause-did g c =
     (λ file told costs at is.
     let from = c.from-2.ensures in
     let start = told.0 at is ∙ ap (highest_start file at.place) is.buckets in
-    let some = some_chained file at c.from-2.result (from ∙ start) (omega (arith, c.if-start-table.false, is.first)) in
+    let some = some_chained file at c.from-2.result c.args.before (from ∙ start) (omega (arith, c.if-start-table.false, is.first)) in
     let ends = told.1 at is in
     record {
       costs = Charges-then _ (omega (arith, some, from)) c.in_ok-start.ensures.did.costs ends.costs;

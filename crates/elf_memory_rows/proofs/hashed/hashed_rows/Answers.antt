@@ -44,7 +44,7 @@ returns-in_err-count-clause-did g c =
     (λ file read costs.
     let found = read.0.0.finds in
     let counts = read.0.1 found.0 (place_of file found.0 scope found.2) in
-    let words = read.1 found.0 counts.1 in
+    let words = read.1 found.0 counts.1 found.2.symbols in
     record {
       costs = costs_words file slots found.0 found.1 scope.hash.kind refl read.0.0.costs c.in_ok-table.ensures.did.costs words.costs;
       tells = unread file slots found.0 found.1 _ words.tells;
@@ -62,7 +62,7 @@ returns-clause-did g c =
     (λ file read costs.
     let found = read.0.0.finds in
     let counts = read.0.1 found.0 (place_of file found.0 scope found.2) in
-    let words = read.1 found.0 counts.1 in
+    let words = read.1 found.0 counts.1 found.2.symbols in
     record {
       costs = costs_words file slots found.0 found.1 scope.hash.kind refl read.0.0.costs c.in_ok-table.ensures.did.costs words.costs;
       tells = counted file slots found.0 found.1 c.in_ok-count.count c.rows_of.result counts.0 words.tells (omega (arith, c.in_ok-count.ensures.few, symbols, found.2.count))

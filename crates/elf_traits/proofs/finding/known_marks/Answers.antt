@@ -21,7 +21,7 @@ returns-in_err-count g c =
     (Did-as _ (omega (arith, lies.table)) c.in_err-count.ensures.did
     (λ file told costs known.
     let are = rw c.in-Some.is at known in
-    let extent = told are.scope are.table in
+    let extent = told are.scope are.table are.symbols in
     let asked = rest_asked file are.scope are.told in
     record { costs = Charges-more _ (omega (arith, asked)) extent.costs; finds = read_marks _ _ extent.tells }))
 
@@ -34,7 +34,7 @@ returns g c =
     Did-as _ (omega (arith, lies.table, most)) (Did-then c.in_ok-count.ensures.did c.symbol_marks.ensures)
     (λ file told costs known.
     let are = rw c.in-Some.is at known in
-    let extent = told.0 are.scope are.table in
+    let extent = told.0 are.scope are.table are.symbols in
     let marks = told.1 are.scope.symbols are.symbols in
     let asked = rest_asked file are.scope are.told in
     let count = ap (λ (n : ℕ). (n - 1) * 88) extent.tells in
