@@ -8,7 +8,7 @@ use Rattle.elf_model.specs.Find.{first_that}
 use Rattle.elf_model.specs.GnuHash.{chain_word, ends_chain, gnu_bucket_at, gnu_first, gnu_nbucket, is_chained}
 use Rattle.elf_model.specs.LoaderScope.{GnuTable, SysvTable, HashKind, Scope}
 use Rattle.elf_model.specs.Hash.{sysv_nchain}
-use Rattle.elf_model.specs.Traits.{before_strings, gnu_symbols, hashed_symbol_count, highest_start, is_last_in}
+use Rattle.elf_model.specs.Traits.{before_strings, gnu_symbols, hashed_symbol_count, highest_start, is_last_in, unfound}
 use Rattle.elf_source.specs.Source.{Counting}
 use Rattle.elf_headers.specs.Ledger.{Charges, IsRead}
 use Rattle.elf_headers.specs.declared.fault.Fault.{Fault}
@@ -136,7 +136,7 @@ module _ (file : List ℕ) (table : Table) where
 
   -- those of the whole table, by the highest of the buckets' words
   module _ (start before : ℕ) (is : start ≡ highest_start file table.place (gnu_nbucket file table.place)) where
-    pub none_chained : start < gnu_first file table.place → gnu_symbols file table before ≡ max before (min (gnu_first file table.place) table.symbols)
+    pub none_chained : start < gnu_first file table.place → gnu_symbols file table before ≡ unfound (gnu_first file table.place) before table.symbols
     unfolding gnu_symbols
     none_chained low =
         let less : nat_lt (highest_start file table.place (gnu_nbucket file table.place)) (gnu_first file table.place) ≡ true = grind (arith, is) in

@@ -7,7 +7,7 @@ ghost use Rattle.elf_hash.specs.Scopes.{IsTable, place_of_table};
 ghost use Rattle.elf_model.specs.Bytes.{field, slice};
 ghost use Rattle.elf_model.specs.Chains.{HashTable as Place};
 ghost use Rattle.elf_model.specs.LoaderScope.{Scope};
-ghost use Rattle.elf_model.specs.Traits.{before_strings, gnu_symbols, highest_start};
+ghost use Rattle.elf_model.specs.Traits.{before_strings, gnu_symbols, highest_start, unfound};
 
 use crate::gnu_table::GnuTable;
 use crate::gnu_walk::ends_chain;
@@ -22,9 +22,9 @@ use elf_table::{Cursor, Row};
 
 /// How many symbols there are by a hash table, and no more than there is room for: of the gABI's (5,
 /// Hash Table) as many as there are chains; of the GNU system's those before the first that it knows,
-/// and those of chains, of which the highest begins at the highest of the buckets' words. Where no symbol
-/// is found in that, those that have room before their strings, if the table does not stand between.
-/// `symbols` and `strings` are the file offsets where symbols and strings begin. It asks for the
+/// and those of chains, of which the highest begins at the highest of the buckets' words; where none is
+/// found in it and that first is 1, which says nothing, those that have room before their strings, if
+/// the table does not stand between. `symbols` and `strings` are the file offsets where these begin. It asks for the
 /// buckets' words and for those of that chain, each at most once; the table ends at or below the
 /// source's length.
 ///
@@ -68,15 +68,27 @@ fn before_strings(table: &HashPlace, symbols: u64, strings: u64) -> u64
     rows
 }
 
+/// How many symbols there are where none is found, with `before` of them before their strings and `room`
+/// for so many: those before the first that the table knows, unless that is 1, which the usual linker
+/// writes whatever there are.
+#[tactic(auto, unfolding(elf_model::specs::Traits::unfound))]
+fn unfound(first: u32, before: u64, room: u64) -> u64
+    requires { before ≤ room }
+    ensures value { result ≡ unfound first before room }
+    ensures few { result ≤ room }
+{
+    let least = u64::from(first).min(room);
+    if first == 1 {
+        return before.max(least);
+    }
+    least
+}
+
 /// The same of a table of the GNU system, with so many symbols before their strings.
 ///
 /// # Errors
 /// A fault of a read.
-fn gnu_extent<S: Source>(
-    src: &mut Counted<S>,
-    table: &GnuTable,
-    before: u64,
-) -> Result<u64, Fault>
+fn gnu_extent<S: Source>(src: &mut Counted<S>, table: &GnuTable, before: u64) -> Result<u64, Fault>
     requires within { table.now.place.at + table.now.place.size ≤ src.old.seen.size }
     requires few { before ≤ table.now.place.symbols }
     ensures did { Did src.old src.new (why_stopped result) table.now.place.size
@@ -86,8 +98,7 @@ fn gnu_extent<S: Source>(
 {
     let start = highest_start(src, table)?;
     if start < table.first {
-        let least = u64::from(table.first).min(table.place.symbols);
-        return Ok(before.max(least));
+        return Ok(unfound(table.first, before, table.place.symbols));
     }
     chain_end(src, table, u64::from(start))
 }

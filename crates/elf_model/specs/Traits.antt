@@ -154,19 +154,23 @@ highest_start file place (suc n) = max (highest_start file place n) (field file 
 abbrev pub is_last_in : List ℕ → HashTable → ℕ → Bool
 is_last_in file table y = not (is_chained file table y) || ends_chain (chain_word file table.place y)
 
--- A table in which no symbol is found does not say how many there are: the usual linker then writes 1 for `first`, however many
--- symbols are undefined. So there are as many as have room before their strings, unless the table stands between these, or
--- there is no room for so many behind the first
+-- how many symbols have room before their strings; none where the hash table stands between, or where there is no room for so
+-- many behind the first
 unfoldable pub before_strings : HashTable → (symbols strings : ℕ) → ℕ
 before_strings table symbols strings =
     let rows = (strings - symbols) / SYMBOL_SIZE in
     if (nat_lt symbols table.place && nat_lt table.place strings) || nat_lt table.symbols rows then 0 else rows
 
+-- A table in which no symbol is found, and whose `first` is 1, does not say how many there are: the usual linker writes it so,
+-- however many symbols are undefined. Then there are those before their strings
+unfoldable pub unfound : (first before room : ℕ) → ℕ
+unfound first before room = if first == 1 then max before (min first room) else min first room
+
 -- how many there are, with so many before their strings
 unfoldable pub gnu_symbols : List ℕ → HashTable → ℕ → ℕ
 gnu_symbols file table before =
     let start = highest_start file table.place (gnu_nbucket file table.place) in
-    if nat_lt start (gnu_first file table.place) then max before (min (gnu_first file table.place) table.symbols)
+    if nat_lt start (gnu_first file table.place) then unfound (gnu_first file table.place) before table.symbols
     else elim (first_that (is_last_in file table) start (table.symbols - start)) [
       | None ↦ table.symbols
       | Some y ↦ suc y

@@ -1,6 +1,7 @@
 -- The highest of the buckets' words, and the end of the chain that begins there.
-use Rattle.std.proofs.Common.{ℕ, max, min, sym, ap, ◌∙◌, arith}
-use Rattle.elf_model.specs.Traits.{highest_start}
+use Rattle.std.proofs.Common.{ℕ, sym, ap, ◌∙◌, arith}
+use Rattle.elf_model.specs.GnuHash.{gnu_first}
+use Rattle.elf_model.specs.Traits.{highest_start, unfound}
 use Rattle.elf_headers.proofs.LedgerLaws.{Charges-then, Did-as, Did-then}
 use Rattle.elf_hash.proofs.ExtentLaws.{none_chained, read_of, some_chained}
 use Rattle.elf_hash.proofs.extent.gnu_extent.Goals as goal
@@ -12,12 +13,12 @@ returns-then-start-table-clause-did g c =
     (λ file told costs at is.
     let start = told at is ∙ ap (highest_start file at.place) is.buckets in
     let none = none_chained file at c.in_ok-start.start c.args.before start (omega (arith, c.if-start-table.true, is.first)) in
-    let from = c.from.ensures in
     record {
       costs = costs _ (omega arith);
       tells =
-          let least = c.min-least.ensures ∙ (ap (λ (n : ℕ). min n c.args.table.now.place.symbols) (from ∙ is.first) ∙ ap (min _) is.place.symbols) in
-          c.max.ensures ∙ (ap (max c.args.before) least ∙ sym none);
+          c.unfound.ensures.value
+          ∙ (ap (λ (n : ℕ). unfound n c.args.before c.args.table.now.place.symbols) is.first
+          ∙ (ap (unfound (gnu_first file at.place) c.args.before) is.place.symbols ∙ sym none));
     })
 
 pub returns-clause-did : goal.returns-clause-did
@@ -25,9 +26,9 @@ returns-clause-did g c =
     let fits = c.args.table.now.fits in
     Did-as _ (omega (arith, fits)) (Did-then c.in_ok-start.ensures.did c.chain_end.ensures.did)
     (λ file told costs at is.
-    let from = c.from-2.ensures in
+    let from = c.from.ensures in
     let start = told.0 at is ∙ ap (highest_start file at.place) is.buckets in
-    let some = some_chained file at c.from-2.result c.args.before (from ∙ start) (omega (arith, c.if-start-table.false, is.first)) in
+    let some = some_chained file at c.from.result c.args.before (from ∙ start) (omega (arith, c.if-start-table.false, is.first)) in
     let ends = told.1 at is in
     record {
       costs = Charges-then _ (omega (arith, some, from)) c.in_ok-start.ensures.did.costs ends.costs;

@@ -1,8 +1,9 @@
 -- No symbols are known, or how many there are, and what they tell.
-use Rattle.std.proofs.Common.{ℕ, ◌-◌, ◌*◌, ap, arith}
+use Rattle.std.proofs.Common.{ℕ, ◌-◌, ◌*◌, ◌≤◌, ap, arith}
 use Rattle.std.proofs.lemmas.Result.{err_from_is_err_and}
 use Rattle.elf_headers.proofs.LedgerLaws.{Charges-more, Charges-then, Did-as, Did-none, Did-then}
 use Rattle.elf_headers.proofs.Absent.{none-of}
+use Rattle.elf_hash.specs.Scopes.{place_of_table}
 use Rattle.elf_traits.proofs.FindingLaws.{marks_none, marks_some, rest_asked, rows_most}
 use Rattle.elf_traits.proofs.MarkLaws.{marks_as, read_marks}
 use Rattle.elf_traits.proofs.finding.known_marks.Goals as goal
@@ -28,7 +29,8 @@ returns-in_err-count g c =
 pub returns : goal.returns
 returns g c =
     let lies = rw c.in-Some.is at c.requires in
-    let few = c.in_ok-count.ensures.few in
+    let below = c.in_ok-count.ensures.few in
+    let few : c.in_ok-count.count ≤ (place_of_table c.in-Some.known.table).symbols = omega (arith, below, lies.count) in
     let most = rows_most c.in-Some.known c.args.src.now.seen.size c.in_ok-count.count lies few in
     let same = c.in_ok-count.ensures.did.costs.reads.keeps.same_size in
     Did-as _ (omega (arith, lies.table, most)) (Did-then c.in_ok-count.ensures.did c.symbol_marks.ensures)
