@@ -7,6 +7,7 @@ mod by_sections;
 mod by_segments;
 mod entries;
 mod entry;
+mod loading;
 mod scope;
 mod scoping;
 mod section_versions;
@@ -16,6 +17,7 @@ mod versions;
 
 pub use by_segments::find_in_segments;
 pub use elf_hash::{HashKind, HashPlace};
+pub use loading::load_by_segments;
 pub use scope::Scope;
 pub use scoping::find_scope;
 pub use symbols::{RecordTable, Symbols, VersionWords};
