@@ -153,8 +153,7 @@ fn write_checked<S: Source, W: Sink>(
 ) -> Result<(), Stop>
     requires may { HasSection src.old target.now at }
     requires counted { checked.now.entries ≡ entries_from target.now 0 }
-    ensures { WritesWithin src.old src.new out.old out.new result target.now at
-        checked.now.rises }
+    ensures { WritesWithin src.old src.new out.old out.new result target.now at checked.now.rises }
 {
     if !has_room(src, target, checked) {
         return Err(Stop::Refused(Refusal {

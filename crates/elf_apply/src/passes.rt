@@ -82,8 +82,7 @@ pub(crate) fn patch_window<S: Source>(
 pub(crate) fn put_in(window: &mut [u8], low: u64, placed: &Placed)
     requires window { low + length window.old < 2 ^ 64 }
     requires patch { placed.now.offset + length (patch_as placed.now).bytes < 2 ^ 64 }
-    ensures { window.new
-        ≡ put (clipped low (length window.old) (patch_as placed.now)) window.old }
+    ensures { window.new ≡ put (clipped low (length window.old) (patch_as placed.now)) window.old }
 {
     let bytes = placed.patch.bytes();
     let first = placed.offset.max(low);

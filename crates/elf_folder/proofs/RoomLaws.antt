@@ -5,23 +5,24 @@ use Rattle.std.proofs.lemmas.List.Sums.{sum_by-cons, sum_by_push}
 use Rattle.std.specs.Prelude.{All, sum_by}
 use Rattle.std.specs.declared.cmp.Ordering.{Ordering}
 use Rattle.std.specs.declared.cmp.Ordering.TheVariants.{Less, Equal, Greater}
-use Rattle.elf_folder.specs.Held.{IsEnough, IsFew, IsWithinKept, LeavesRoom, bytes_held, piece}
+use Rattle.elf_model.specs.Bytes.{slice}
+use Rattle.elf_folder.specs.Held.{IsEnough, IsFew, IsWithinKept, LeavesRoom, bytes_held}
 use Rattle.elf_folder.specs.Kept.{HoldsWithin, Kept}
 use Rattle.elf_folder.specs.Order.{order, put_by}
 use Rattle.elf_folder.specs.Passes.{in_order}
 use Rattle.elf_folder.proofs.SortedLaws.{all_more}
 
-piece_length : (bytes : List ℕ) (start len : ℕ) → start + len ≤ length bytes → length (piece bytes start len) ≡ len
+piece_length : (bytes : List ℕ) (start len : ℕ) → start + len ≤ length bytes → length (slice bytes start len) ≡ len
 piece_length bytes start len within = length-take-le len (drop start bytes) (omega (arith, length-drop start bytes))
 
 -- names that lie among bytes have as many bytes as their places say
 module _ {X : Type 0} (start len : X → ℕ) where
   pub held_is : (ps : List X) (bytes : List ℕ) → All (λ p. start p + len p ≤ length bytes) ps
-      → bytes_held (map (λ p. piece bytes (start p) (len p)) ps) ≡ sum_by len ps
+      → bytes_held (map (λ p. slice bytes (start p) (len p)) ps) ≡ sum_by len ps
   held_is [] bytes all = refl
   held_is (p ∷ ps) bytes all =
-      sum_by-cons (λ name. length name) (piece bytes (start p) (len p)) (map (λ q. piece bytes (start q) (len q)) ps)
-      ∙ ap (λ n. n + bytes_held (map (λ q. piece bytes (start q) (len q)) ps)) (piece_length bytes (start p) (len p) (All-head (λ q. start q + len q ≤ length bytes) p ps all))
+      sum_by-cons (λ name. length name) (slice bytes (start p) (len p)) (map (λ q. slice bytes (start q) (len q)) ps)
+      ∙ ap (λ n. n + bytes_held (map (λ q. slice bytes (start q) (len q)) ps)) (piece_length bytes (start p) (len p) (All-head (λ q. start q + len q ≤ length bytes) p ps all))
       ∙ ap (λ n. len p + n) (held_is ps bytes (All-tail (λ q. start q + len q ≤ length bytes) p ps all))
       ∙ sym (sum_by-cons len p ps)
 

@@ -1,9 +1,5 @@
 -- Names that are held one behind the other.
-use Rattle.std.specs.Prelude.{ℕ, suc, zero, ◌≡◌, ◌≤◌, ◌<◌, ◌+◌, ◌⊎◌, Bool, true, false, List, take, drop, length, slice_index_or, sum_by, bytes_eq, []}
-
--- some of the bytes behind the first few
-abbrev pub piece : List ℕ → ℕ → ℕ → List ℕ
-piece bytes start len = take len (drop start bytes)
+use Rattle.std.specs.Prelude.{ℕ, suc, zero, ◌≡◌, ◌≤◌, ◌<◌, ◌+◌, ◌⊎◌, Bool, true, false, List, length, slice_index_or, sum_by, bytes_eq, []}
 
 -- the name at an index is the one before it
 abbrev pub repeats : List (List ℕ) → ℕ → Bool

@@ -1,6 +1,7 @@
 //! Names in memory that is taken once.
-ghost use Rattle.std.specs.Prelude.{◌≡◌, ◌+◌, ◌≤◌, ◌<◌, ◌++◌, ◌∷◌, [], true, false, IfOk, IfSome, IsNone, OnOk, length, slice_index_or, take, drop};
+ghost use Rattle.std.specs.Prelude.{◌≡◌, ◌+◌, ◌≤◌, ◌<◌, ◌++◌, ◌∷◌, [], true, false, IfOk, IfSome, IsNone, OnOk, length, slice_index_or};
 ghost use Rattle.std.specs.List.Sorted.{IsPermutation, IsSorted};
+ghost use Rattle.elf_model.specs.Bytes.{slice};
 ghost use Rattle.elf_folder.specs.Order.{order};
 ghost use Rattle.elf_folder.specs.Held.{IsEnough, IsFew, LeavesRoom, bytes_held, repeats};
 
@@ -38,11 +39,11 @@ struct Place {
 
 impl Model for FolderNames {
     ghost use Rattle.std.specs.Prelude.{◌≡◌, ◌≤◌, ◌+◌, ℕ, List, map, All, length, sum_by};
-    ghost use Rattle.elf_folder.specs.Held.{piece};
+    ghost use Rattle.elf_model.specs.Bytes.{slice};
 
     ghost Value = { List (List ℕ) };
 
-    ghost view = { λ n. map (λ p. piece n.bytes.items p.start p.len) n.places.items };
+    ghost view = { λ n. map (λ p. slice n.bytes.items p.start p.len) n.places.items };
 
     ghost invariant = { λ n. (All (λ p. p.start + p.len ≤ length n.bytes.items) n.places.items)
         × (sum_by (λ p. p.len) n.places.items ≡ length n.bytes.items) };
@@ -157,7 +158,7 @@ impl FolderNames {
 
 /// The name at a place among bytes.
 fn name_at(bytes: &[u8], place: Place) -> &[u8]
-    ensures piece { result.now ≡ take place.len (drop place.start bytes.now) }
+    ensures piece { result.now ≡ slice bytes.now place.start place.len }
     ensures short { length result.now ≤ 255 }
 {
     let start = place.start as usize;

@@ -1,6 +1,5 @@
 -- How a file is linked, stage by stage: what a lookup is made in, the first segment of dynamic entries, the headers.
 use Rattle.std.proofs.Common.{◌≡◌, ℕ, ◌+◌, ◌*◌, ◌/◌, ◌≤◌, Bool, true, false, List, ◌++◌, None, Some, Result, Ok, Err, refl, sym, ap, subst, ◌∙◌, arith}
-use Rattle.std.specs.Prelude.{is_none}
 use Rattle.elf_model.specs.Budget.{IsBudget}
 use Rattle.elf_model.specs.Checks.{first_refusal, header_checks, load_checks}
 use Rattle.elf_model.specs.Dynamic.{dynamic_count, listed_value}
@@ -12,21 +11,17 @@ use Rattle.elf_model.specs.Style.{without_sections}
 use Rattle.elf_model.specs.Tables.{segment_dynamic_checks}
 use Rattle.elf_model.specs.Traits.{has_none}
 use Rattle.elf_model.specs.declared.causes.Refusal.{Refusal}
-use Rattle.elf_model.proofs.CheckSteps.{first_refusal-none, first_refusal-some}
-use Rattle.elf_model.proofs.SumLemmas.{cost_where-le}
 use Rattle.elf_model.proofs.StyleLemmas.{view_tells_of_none}
-use Rattle.elf_record.specs.declared.ehdr.Ehdr.{Ehdr}
 use Rattle.elf_source.specs.Source.{Counting, Hides}
 use Rattle.elf_headers.proofs.FaultLaws.{charges_hidden}
-use Rattle.elf_headers.specs.Faults.{HeaderRead}
 use Rattle.elf_headers.specs.Ledger.{Charges, Did, why_stopped}
-use Rattle.elf_headers.specs.Load.{LoadedAs, early_of, load_cost}
 use Rattle.elf_headers.specs.Store.{Stored}
 use Rattle.elf_headers.specs.declared.fault.Fault.{Fault}
 use Rattle.elf_headers.specs.declared.fault.Fault.TheVariants.{Refused, Source}
 use Rattle.elf_note.specs.DynCursors.{AreStrings}
 use Rattle.elf_note.specs.declared.string_values.DynStrings.{DynStrings}
 use Rattle.elf_lookup_tables.proofs.SettleLaws.{checked_fails}
+use Rattle.elf_lookup_tables.specs.Loading.{LoadsSegments}
 use Rattle.elf_lookup_tables.specs.Scopes.{IsScopeFound}
 use Rattle.elf_table.specs.Sections.{rows}
 use Rattle.elf_table.specs.Tables.{Rows}
@@ -130,42 +125,24 @@ rows_most table size entry within =
     let is = ap (λ (n : ℕ). table.count * n) entry in
     omega (arith, is, within)
 
--- THE HEADERS: no section header is asked for
-pub load_none : (header : Ehdr) (size slots : ℕ) → header.e_shnum ≡ 0 → load_cost header size slots ≡ 0
-load_none header size slots none =
-    let most : load_cost header size slots ≤ 64 * header.e_shnum =
-    cost_where-le (is_none (first_refusal (early_of header size slots))) (64 * header.e_shnum) in
-    omega (arith, most, none)
-
+-- THE HEADERS
 pub ceiling_is : (size headers : ℕ) → links_ceiling size headers ≡ 64 + headers * 56 + 3 * size + size / 16 * 4160
 unfolding links_ceiling
 ceiling_is size headers = refl
 
-pub header_least : (size headers : ℕ) → 64 ≤ links_ceiling size headers
-header_least size headers = let is = ceiling_is size headers in omega (arith, is)
-
-module _ (file : List ℕ) (headers : ℕ) (room : TextRoom) (old new : HeldLinks) where
+module _ (file : List ℕ) (headers : ℕ) (room : TextRoom) where
   refused : (refusal : Refusal) → first_refusal (header_checks file ++ load_checks file headers) ≡ Some refusal → links_by_segments file headers room ≡ Err refusal
   unfolding links_by_segments
   refused refusal e = rw (e, links_by_segments) refl
 
-  passed : first_refusal (header_checks file ++ load_checks file headers) ≡ None → links_by_segments file headers room ≡ loaded_links file room
+  pub shown_is : first_refusal (header_checks file ++ load_checks file headers) ≡ None → loaded_links file room ≡ links_by_segments file headers room
   unfolding links_by_segments
-  passed e = rw (e, links_by_segments) refl
+  shown_is e = rw (e, links_by_segments) refl
 
-  pub header_stops : (fault : Fault) → HeaderRead file (Err fault) → TellsLinks (links_by_segments file headers room) old new (Err fault)
-  header_stops (Refused refusal) read = λ other. refused refusal (first_refusal-some (header_checks file) (load_checks file headers) refusal (read other))
-  header_stops (Source fault at) read = tt
-
-  pub load_stops : (fault : Fault) (store : Stored) → first_refusal (header_checks file) ≡ None → store.slots ≡ headers → LoadedAs file (Err fault) store
+  pub load_stops : (old new : HeldLinks) (fault : Fault) (store : Stored) → LoadsSegments file headers store (Err fault)
       → TellsLinks (links_by_segments file headers room) old new (Err fault)
-  load_stops (Refused refusal) store passed slots loads = λ other.
-      let fails = ap (λ (n : ℕ). first_refusal (load_checks file n)) (sym slots) ∙ loads other in
-      refused refusal (first_refusal-none (header_checks file) (load_checks file headers) passed ∙ fails)
-  load_stops (Source fault at) store passed slots loads = tt
-
-  pub shown_is : first_refusal (header_checks file) ≡ None → first_refusal (load_checks file headers) ≡ None → loaded_links file room ≡ links_by_segments file headers room
-  shown_is header load = sym (passed (first_refusal-none (header_checks file) (load_checks file headers) header ∙ load))
+  load_stops old new (Refused refusal) store loads = λ other. refused refusal (loads other)
+  load_stops old new (Source fault at) store loads = tt
 
 -- what the file header tells of section headers is hidden meanwhile
 links_are : (file : List ℕ) (headers : ℕ) (room : TextRoom) → links_by_segments (without_sections file) headers room ≡ links_of file headers room

@@ -1,7 +1,6 @@
 pub mod Searching
 pub mod Steps
 pub mod WorkedPaths
-pub mod Pieces
 pub mod Held
 pub mod Entries
 pub mod Reading

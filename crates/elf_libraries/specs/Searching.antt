@@ -1,6 +1,6 @@
 -- Where a loader of the GNU system looks for a library that a program needs: the paths that are tried for its name, in order, by
 -- texts alone (gABI 5, Shared Object Dependencies; ld.so(8)).
-use Rattle.std.specs.Prelude.{◌≡◌, ◌≢◌, ◌<◌, ◌⊎◌, take, ℕ, zero, suc, ◌-◌, ◌==◌, ◌&&◌, ◌||◌, nat_eq, nat_lt, not, Bool, true, false, if◌then◌else◌, List, [], ◌∷◌, ◌++◌, length, slice_index, codes, Option, None, Some, option_map}
+use Rattle.std.specs.Prelude.{◌≡◌, ◌≢◌, ◌<◌, ◌⊎◌, take, ℕ, zero, suc, ◌==◌, ◌&&◌, ◌||◌, nat_eq, nat_lt, not, Bool, true, false, if◌then◌else◌, List, [], ◌∷◌, ◌++◌, length, slice_index, codes, Option, None, Some, option_map}
 use Rattle.std.specs.List.{cons_option, list_any, starts_with}
 
 -- `:` parts folders, `/` the names of a path, `$` begins a token

@@ -1,5 +1,5 @@
 -- What calls did to a path that is made.
-use Rattle.std.specs.Prelude.{ℕ, ◌≡◌, ◌+◌, ◌<◌, Bool, true, false, List, [], ◌∷◌, ◌++◌, length, map, Option, None, Some}
+use Rattle.std.specs.Prelude.{ℕ, ◌≡◌, ◌+◌, ◌<◌, Bool, true, false, List, [], ◌++◌, length, map, Option, None, Some}
 use Rattle.std.specs.Borrow.{Bor}
 use Rattle.elf_libraries.specs.Searching.{Folders, MOST_PATH_BYTES, Needer, Token, parted}
 use Rattle.elf_libraries.specs.declared.folders.FolderList.{FolderList}

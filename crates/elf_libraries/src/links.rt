@@ -117,8 +117,8 @@ impl LinkStore {
         at: u64,
     ) -> Result<u32, Fault>
         requires { StringsWithin src.old.seen.size names }
-        ensures did { Did src.old src.new (why_stopped result) 4160 (λ file.
-            TellsText (text_by self.old.held.room at (shown (strings_in file names) off LINK_TEXT_BYTES))
+        ensures did { Did src.old src.new (why_stopped result) 4160 (λ file. TellsText
+            (text_by self.old.held.room at (shown (strings_in file names) off LINK_TEXT_BYTES))
             self.old self.new result) }
     {
         match names.read(src, off, at, TEXT_CAP, &mut self.name)? {

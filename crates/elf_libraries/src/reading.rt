@@ -11,8 +11,8 @@ ghost use Rattle.elf_libraries.specs.Reading.{TellsLookupRefusal, linked_in_segm
 
 use crate::entries::{EntryTexts, listed_links, no_links};
 use crate::links::{FileLinks, LinkStore};
-use elf_headers::{Fault, HeaderStore, fill, header, load, refused};
-use elf_lookup_tables::find_in_segments;
+use elf_headers::{Fault, HeaderStore, fill};
+use elf_lookup_tables::{find_in_segments, load_by_segments};
 use elf_note::dynamic_strings;
 use elf_record::numbers::PT_DYNAMIC;
 use elf_record::{Cause, Refusal, u16_at, word};
@@ -56,7 +56,7 @@ pub fn machine_of<S: Source>(src: &mut Counted<S>) -> Result<Option<u16>, Fault>
 /// Where the source's file is known what is told and kept is the file's own, and so is the refusal.
 ///
 /// # Errors
-/// The first that fails: the checks of [`header`] and of [`load`]; of [`find_in_segments`], but `NoHash`;
+/// The first that fails: those of [`load_by_segments`]; of [`find_in_segments`], but `NoHash`;
 /// of the first segment of dynamic entries; of each entry with a text, at the entry: its string table, its
 /// text, and `TooLong` where that has more than 4,096 bytes or finds no room. Else a fault of a read, or a
 /// refusal for want of budget.
@@ -94,12 +94,7 @@ fn shown_links<S: Source>(
         links.old links.new result) }
     ensures slots { store.new.slots ≡ store.old.slots }
 {
-    let header = header(src)?;
-    if header.e_shnum != 0 {
-        return refused(0x3c, Cause::TooManyHeaders);
-    }
-    let loaded = load(src, store, &header)?;
-    loaded.load_segments(src, store)?;
+    let loaded = load_by_segments(src, store)?;
     view_links(src, &SegmentView { loaded, store }, links)
 }
 

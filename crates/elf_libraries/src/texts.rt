@@ -2,7 +2,7 @@
 ghost use Rattle.std.specs.Prelude.{◌≡◌, ◌<◌, ◌++◌, ◌∷◌, [], ℕ, List, IfOk, IfSome, IsNone, is_some, nat_lt, ◌&&◌, length, slice_index_or};
 ghost use Rattle.elf_model.specs.Links.{has_room};
 ghost use Rattle.elf_libraries.specs.Held.{with_text};
-ghost use Rattle.elf_libraries.specs.Pieces.{text_piece};
+ghost use Rattle.elf_model.specs.Bytes.{slice};
 
 use std::alloc::{AllocError, Global};
 use std::marker::Model;
@@ -26,13 +26,13 @@ struct Place {
 
 impl Model for Texts {
     ghost use Rattle.std.specs.Prelude.{◌≡◌, ◌≤◌, ◌<◌, ◌+◌, ◌-◌, ◌^◌, ℕ, List, map, All, length, vec_capacity};
-    ghost use Rattle.elf_libraries.specs.Pieces.{text_piece};
+    ghost use Rattle.elf_model.specs.Bytes.{slice};
     ghost use Rattle.elf_libraries.specs.Held.{HeldTexts};
 
     ghost Value = { HeldTexts };
 
     ghost view = { λ n. record {
-      texts = map (λ p. text_piece n.bytes.items p.start p.len) n.places.items;
+      texts = map (λ p. slice n.bytes.items p.start p.len) n.places.items;
       room = record {
         bytes = n.most_bytes - length n.bytes.items;
         texts = n.most_texts - length n.places.items;
@@ -90,7 +90,8 @@ impl Texts {
         ensures pushed { IfSome result (λ index. self.new ≡ with_text self.old text.now) }
         ensures index { IfSome result (λ index. index ≡ length self.old.texts) }
         ensures full { IsNone result → self.new ≡ self.old }
-        ensures fits { is_some result ≡ (has_room self.old.room text.now && nat_lt (length text.now) 65536) }
+        ensures fits { is_some result
+            ≡ (has_room self.old.room text.now && nat_lt (length text.now) 65536) }
     {
         if text.len() > self.most_bytes - self.bytes.len() || self.places.len() >= self.most_texts {
             return None;
@@ -108,7 +109,7 @@ impl Texts {
 
 /// The text at a place among bytes.
 fn text_at(bytes: &[u8], place: Place) -> &[u8]
-    ensures { result.now ≡ text_piece bytes.now place.start place.len }
+    ensures { result.now ≡ slice bytes.now place.start place.len }
 {
     let start = place.start as usize;
     let len = usize::from(place.len);

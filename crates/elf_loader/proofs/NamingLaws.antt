@@ -13,7 +13,7 @@ use Rattle.elf_headers.proofs.LedgerLaws.{Charges-more, Charges-then}
 use Rattle.elf_lookup_tables.specs.Symbols.{IsRecordTable}
 use Rattle.elf_lookup_tables.specs.declared.symbols.RecordTable.{RecordTable as Given}
 use Rattle.elf_versions.specs.Reading.{SpendsRecord, StartsVersions, TellsVersion, Walking, versions_left}
-use Rattle.elf_loader.specs.Naming.{HasFile, IsFileIf, NamedAs, NamesBefore, NamesFile, NamesFileBehind}
+use Rattle.elf_loader.specs.Naming.{HasFile, NamedAs, NamesBefore, NamesFile}
 use Rattle.elf_versions.specs.declared.record.VersionRecord.{VersionRecord}
 use Rattle.elf_loader.specs.declared.naming.NamedBy.{NamedBy}
 use Rattle.elf_loader.proofs.TablesLaws.{more-pays}

@@ -8,6 +8,7 @@ use Rattle.std.proofs.Math.ListN.{set}
 use Rattle.std.proofs.Math.Pow.{pow-lt}
 use Rattle.std.specs.Int.{bit_at}
 use Rattle.std.specs.Int.RustNames.{bit_or}
+use Rattle.elf_model.specs.Versions.{VERSION_NUMBERS}
 use Rattle.elf_loader.specs.NumberSets.{has_number}
 
 -- a word with a bit more
@@ -55,16 +56,16 @@ pub bit-fits : (number : ℕ) → 1 * 2 ^ (number % 64) % 2 ^ 64 ≡ 2 ^ (number
 bit-fits number = let small = pow-lt {i = number % 64} {j = 64} (omega arith) in omega (arith, small)
 
 -- a number past all words is not in it
-pub past-none : (words : List ℕ) (number : ℕ) → length words ≡ 16 → 1024 ≤ number → has_number words number ≡ false
+pub past-none : (words : List ℕ) (number : ℕ) → length words ≡ 16 → VERSION_NUMBERS ≤ number → has_number words number ≡ false
 past-none words number many past =
     let none = get_or_past words (number / 64) 0 (omega (arith, many, past)) in
     let zero = bit_at-zero (number % 64) in
     rw (none, zero) refl
 
 -- none is, where none below that is
-pub none-all : (words : List ℕ) → length words ≡ 16 → ((number : ℕ) → number < 1024 → has_number words number ≡ false) → (number : ℕ) → has_number words number ≡ false
+pub none-all : (words : List ℕ) → length words ≡ 16 → ((number : ℕ) → number < VERSION_NUMBERS → has_number words number ≡ false) → (number : ℕ) → has_number words number ≡ false
 none-all words many few number =
-    elim (cases_lt number 1024) [
+    elim (cases_lt number VERSION_NUMBERS) [
       | inl low ↦ few number low
       | inr past ↦ past-none words number many past
     ]

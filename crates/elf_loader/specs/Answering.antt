@@ -1,5 +1,5 @@
 -- Whether a symbol answers, as it is read.
-use Rattle.std.specs.Prelude.{ℕ, ◌≡◌, ◌<◌, Bool, true, false, List, Option, None, Some, Result, Ok, Err}
+use Rattle.std.specs.Prelude.{ℕ, ◌≡◌, Bool, true, false, List, Option, None, Some, Result, Ok, Err}
 use Rattle.elf_model.specs.Budget.{IsBudget}
 use Rattle.elf_model.specs.declared.causes.Refusal.{Refusal}
 use Rattle.elf_record.specs.Sym.{IsSym}
@@ -10,14 +10,15 @@ use Rattle.elf_table.specs.Cursors.{row_at}
 use Rattle.elf_lookup_tables.specs.declared.symbols.Symbols.{Symbols}
 use Rattle.elf_lookup_tables.specs.declared.symbols.VersionWords.{VersionWords}
 use Rattle.elf_hash.specs.declared.answer.TrialAnswer.{TrialAnswer}
+use Rattle.elf_hash.specs.declared.answer.WordAt.{WordAt}
 use Rattle.elf_loader.specs.declared.fitting.Fit.{Fit}
 use Rattle.elf_headers.specs.declared.fault.Fault.{Fault}
 use Rattle.elf_headers.specs.declared.fault.Fault.TheVariants.{Refused, Source}
 
--- the word of a symbol's version stands in the file, where there are words of versions
-abbrev pub IsWord : List ℕ → Option VersionWords → ℕ → Option ℕ → Type 0
+-- the word of a symbol's version stands there in the file, where there are words of versions
+abbrev pub IsWord : List ℕ → Option VersionWords → ℕ → Option WordAt → Type 0
 IsWord file None index None = Unit {0}
-IsWord file (Some words) index (Some word) = (index < words.words.count) × (word ≡ field file (row_at words.words index) 2)
+IsWord file (Some words) index (Some word) = (word.at ≡ row_at words.words index) × (word.word ≡ field file (row_at words.words index) 2)
 IsWord file None index (Some word) = ⊥
 IsWord file (Some words) index None = ⊥
 

@@ -11,14 +11,12 @@ ghost use Rattle.elf_table.specs.Tables.{RowsWithin};
 ghost use Rattle.std.specs.Prelude.{Option};
 
 use crate::number_set::NumberSet;
+use elf_hash::WordAt;
 use elf_headers::{Fault, fill, refused};
 use elf_lookup_tables::VersionWords;
-use elf_record::{Cause, u16_at};
+use elf_record::{Cause, u16_at, version_number};
 use elf_source::{Counted, Source};
 use elf_wanted::Asked;
-
-/// The bit of the word of a symbol's version that hides it; the others are its number.
-const HIDDEN: u16 = 0x8000;
 
 /// Whether the version of a symbol fits what is asked for, with the version's word.
 #[derive(Clone, Copy)]
@@ -26,7 +24,7 @@ pub(crate) struct Fit {
     /// Whether it fits.
     pub(crate) fits: bool,
     /// The word, where there are words of versions.
-    pub(crate) version: Option<u16>,
+    pub(crate) version: Option<WordAt>,
 }
 
 /// Whether the version of the symbol of an index fits what is asked for, where the numbers of the
@@ -45,8 +43,7 @@ pub(crate) fn version_fits<S: Source>(
 ) -> Result<Fit, Fault>
     requires within { IfSome words.now (λ words. RowsWithin src.old.seen.size words.words) }
     ensures { Did src.old src.new (why_stopped result) 2 (λ file. (told : Option AreWordsOf) →
-        AreWords told words.now →
-        TellsFit file words.now index
+        AreWords told words.now → TellsFit file words.now index
         (version_fits file told (asked_of asked.now) (has_number numbers.now) index) result) }
 {
     let Some(words) = words else {
@@ -58,10 +55,11 @@ pub(crate) fn version_fits<S: Source>(
     if index >= words.words.len() {
         return refused(words.head, Cause::VersionCut);
     }
-    let word = read_half(src, words.words.place(index))?;
+    let at = words.words.place(index);
+    let word = read_half(src, at)?;
     Ok(Fit {
         fits: fits(asked, numbers, word),
-        version: Some(word),
+        version: Some(WordAt { word, at }),
     })
 }
 
@@ -70,7 +68,7 @@ pub(crate) fn version_fits<S: Source>(
 fn fits(asked: &Asked<'_>, numbers: &NumberSet, word: u16) -> bool
     ensures { result ≡ fits (asked_of asked.now) (has_number numbers.now) word }
 {
-    let number = word % HIDDEN;
+    let number = version_number(word);
     let is_hidden = word != number;
     match asked {
         Asked::NoVersion => number < 2 || !is_hidden,

@@ -6,13 +6,12 @@ ghost use Rattle.elf_loader.specs.Finding.{FindsVersion};
 ghost use Rattle.elf_loader.specs.Tables.{most_versions};
 ghost use Rattle.elf_loader.specs.Telling.{telling_bytes};
 ghost use Rattle.elf_wanted.specs.Wants.{asked_of};
-ghost use Rattle.elf_model.specs.Loader.{VersionWords as AreWordsOf, version_word_at};
+ghost use Rattle.elf_model.specs.Loader.{VersionWords as AreWordsOf};
 ghost use Rattle.elf_model.specs.LoaderScope.{Scope as IsScopeOf};
-ghost use Rattle.elf_model.specs.Records.{versym};
 ghost use Rattle.elf_lookup_tables.specs.Symbols.{IsSymbols, IsWords, SymbolsLie};
 
 use crate::telling::told_name;
-use elf_hash::FoundInChain;
+use elf_hash::{FoundInChain, WordAt};
 use elf_headers::Fault;
 use elf_lookup_tables::{Symbols, VersionWords};
 use elf_record::version_number;
@@ -71,15 +70,12 @@ pub(crate) fn version_of<S: Source>(
     let Some(word) = found.answer.version else {
         return Ok(None);
     };
-    if found.index >= words.words.len() {
-        return Ok(None);
-    }
-    let version = found_version(src, symbols, words, asked, (found.index, word), name)?;
+    let version = found_version(src, symbols, words, asked, word, name)?;
     Ok(Some(version))
 }
 
-/// Finds the version of the symbol of an index, whose word is known: under the wanted name where one
-/// is wanted, without one where its number is 0 or 1, else by the name of its number, into `name`.
+/// Finds the version of a symbol whose word is known: under the wanted name where one is wanted,
+/// without one where its number is 0 or 1, else by the name of its number, into `name`.
 ///
 /// # Errors
 /// Those of [`told_name`].
@@ -88,19 +84,18 @@ fn found_version<S: Source>(
     symbols: &Symbols,
     words: &VersionWords,
     asked: &Asked<'_>,
-    found: (u64, u16),
+    found: WordAt,
     name: &mut NameBuf,
 ) -> Result<FoundVersion, Fault>
-    requires lies { SymbolsLie src.old.seen.size symbols.now }
-    requires below { found.0 < words.now.words.count }
+    requires { SymbolsLie src.old.seen.size symbols.now }
     ensures { Did src.old src.new (why_stopped result)
         (telling_bytes (asked_of asked.now) (most_versions symbols.now))
-        (λ file. (scope : IsScopeOf) (is : AreWordsOf) → IsSymbols file scope.symbols symbols.now →
-        IsWords is words.now → found.1 ≡ versym file (version_word_at is found.0) →
-        FindsVersion Some file scope (asked_of asked.now) (Some is) found.0 src.old src.new
-        name.new result) }
+        (λ file. (scope : IsScopeOf) (is : AreWordsOf) (y : ℕ) →
+        IsSymbols file scope.symbols symbols.now → IsWords is words.now →
+        IsWord file (Some words.now) y (Some found) → FindsVersion Some file scope
+        (asked_of asked.now) (Some is) y src.old src.new name.new result) }
 {
-    let (index, word) = found;
+    let WordAt { word, at } = found;
     if let Some(_version) = asked.name() {
         return Ok(told_as(words, word, VersionName::Wanted, 0));
     }
@@ -108,7 +103,7 @@ fn found_version<S: Source>(
     if number < 2 {
         return Ok(told_as(words, word, VersionName::Unnamed, 0));
     }
-    let told = told_name(src, symbols, words.words.place(index), number, name)?;
+    let told = told_name(src, symbols, at, number, name)?;
     Ok(told_as(words, word, VersionName::Told(told.end), told.at))
 }
 

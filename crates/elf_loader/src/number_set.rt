@@ -1,11 +1,11 @@
 //! A set of numbers of versions.
 ghost use Rattle.std.specs.Prelude.{◌≡◌, ℕ, ◌<◌, ◌==◌, ◌||◌, false, true, MatchBool};
 ghost use Rattle.elf_loader.specs.NumberSets.{has_number};
+ghost use Rattle.elf_model.specs.Versions.{VERSION_NUMBERS};
 
+use elf_record::VERSION_NUMBERS;
 use std::marker::Model;
 
-/// How many numbers versions may have, below which they are.
-const NUMBERS: u16 = elf_record::VERSION_NUMBERS;
 /// How many words of 64 bits hold a bit for each.
 const WORDS: usize = 16;
 
@@ -37,7 +37,7 @@ impl NumberSet {
     pub fn contains(&self, number: u16) -> bool
         ensures { result ≡ has_number self.now number }
     {
-        number < NUMBERS && self.words[usize::from(number / 64)] >> (number % 64) & 1 == 1
+        number < VERSION_NUMBERS && self.words[usize::from(number / 64)] >> (number % 64) & 1 == 1
     }
 
     /// Whether no number is in the set.
@@ -46,7 +46,7 @@ impl NumberSet {
             ((number : ℕ) × (has_number self.now number ≡ true)) }
     {
         let _ = &self.words;
-        for number in 0..NUMBERS {
+        for number in 0..VERSION_NUMBERS {
             if self.contains(number) {
                 return false;
             }
@@ -56,7 +56,7 @@ impl NumberSet {
 
     /// Puts a number below 1,024 into the set.
     pub(crate) fn insert(&mut self, number: u16)
-        requires { number < 1024 }
+        requires { number < VERSION_NUMBERS }
         ensures { (other : ℕ) → has_number self.new other
             ≡ (number == other || has_number self.old other) }
     {

@@ -1,6 +1,7 @@
 pub mod EntryLaws
 pub mod FoundLaws
 pub mod LoadedLaws
+pub mod LoadingLaws
 pub mod ScopeLaws
 pub mod SectionLaws
 pub mod SegmentLaws

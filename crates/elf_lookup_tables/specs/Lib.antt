@@ -2,6 +2,7 @@ pub mod Entries
 pub mod Finding
 pub mod Headers
 pub mod Kinds
+pub mod Loading
 pub mod Scopes
 pub mod Segments
 pub mod Symbols

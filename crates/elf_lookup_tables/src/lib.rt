@@ -8,6 +8,7 @@ mod by_segments;
 mod entries;
 mod entry;
 mod extent;
+mod loading;
 mod scope;
 mod scoping;
 mod section_versions;
@@ -17,6 +18,7 @@ mod versions;
 
 pub use by_segments::find_in_segments;
 pub use elf_hash::{HashKind, HashPlace};
+pub use loading::load_by_segments;
 pub use scope::Scope;
 pub use scoping::find_scope;
 pub use symbols::{RecordTable, Symbols, VersionWords};

@@ -24,8 +24,8 @@ pub trait TableRow: Copy {
     ghost some: { 0 < BYTES };
 }
 
-/// Reads the next rows to the front of `out`, as many as there are and as it has room for, steps over
-/// them, and answers how many.
+/// Reads the next rows to the front of `out`, as many as there are and as it has room for, steps
+/// over them, and answers how many.
 pub fn next_rows<R: TableRow>(file: &[u8], rows: &mut RowsLeft, out: &mut [R]) -> usize
     ensures steps { StepsRows (length file.now) R.BYTES rows.old rows.new
         (length out.old) result }

@@ -4,7 +4,7 @@ ghost use Rattle.elf_memory_rows.specs.VersionRecords.{IsVersionWord};
 
 use crate::table_row::TableRow;
 use elf_record::sizes::SYMBOL_VERSION_BYTES;
-use elf_record::u16_at;
+use elf_record::{u16_at, version_number};
 
 /// The version of a symbol (Linux Standard Base Core, Symbol Versioning).
 #[repr(C)]
@@ -27,7 +27,7 @@ impl TableRow for VersionWord {
 
     fn read(file: &[u8], at: usize) -> VersionWord {
         let word = u16_at(file, at);
-        let number = word % (1 << 15);
+        let number = version_number(word);
         VersionWord {
             number,
             is_hidden: u16::from(word != number),

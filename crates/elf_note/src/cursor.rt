@@ -161,8 +161,7 @@ impl NoteCursor {
 
 // What a cursor shows before its first step.
 fn no_note() -> FoundNote
-    ensures at { result.at ≡ 0 }
-    ensures shown { result.shown ≡ 0 }
+    ensures { (result.at ≡ 0) × (result.shown ≡ 0) }
 {
     FoundNote {
         at: 0,

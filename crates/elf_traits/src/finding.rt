@@ -14,9 +14,9 @@ use crate::marks::{Marks, no_marks};
 use crate::notes::feature_word;
 use crate::symbols::symbol_marks;
 use crate::traits::traits_with;
-use elf_headers::{Fault, HeaderStore, header, load, refused};
+use elf_headers::{Fault, HeaderStore};
+use elf_lookup_tables::load_by_segments;
 use elf_model::Traits;
-use elf_record::Cause;
 use elf_source::{Counted, Source};
 use elf_table::SegmentView;
 
@@ -29,7 +29,7 @@ use elf_table::SegmentView;
 /// asked for than they cost, also where the source fails.
 ///
 /// # Errors
-/// The first that fails: the checks of [`header`] and of [`load`]; `LoadOverlap` at the program header
+/// The first that fails: those of [`load_by_segments`]; `LoadOverlap` at the program header
 /// of a LOAD segment that lies over another; those of the first segment of dynamic entries; those of
 /// the hash table, of the symbols and of their strings, each at the dynamic entry that locates it;
 /// of a file of x86-64 `TableOutside` at the program header of a segment of notes that ends past the
@@ -63,12 +63,7 @@ fn shown_traits<S: Source>(src: &mut Counted<S>, store: &mut HeaderStore) -> Res
         FindsShown file store.old.slots src.old src.new result) }
     ensures slots { store.new.slots ≡ store.old.slots }
 {
-    let header = header(src)?;
-    if header.e_shnum != 0 {
-        return refused(0x3c, Cause::TooManyHeaders);
-    }
-    let loaded = load(src, store, &header)?;
-    loaded.load_segments(src, store)?;
+    let loaded = load_by_segments(src, store)?;
     view_traits(src, &SegmentView { loaded, store })
 }
 

@@ -79,11 +79,11 @@ record-checked file table size s words inside h =
     let same = checks-are file s.kind (table + s.place) size s.place words h in
     rw (t, same) refl
 
-pub fits-all :
-    (size each : ℕ) (o : Option Standing) → IfSome o (λ s. s.place < 2 ^ 64 + 2 ^ 32) → IfSome o (λ s. s.owner ≤ size)
-    → IfSome o (λ s. bytes_each s.kind ≡ each) → IfSome o (Fits size each)
-fits-all size each None near owner pays = tt
-fits-all size each (Some s) near owner pays = record { near = near; owner = owner; pays = omega (arith, pays) }
+pub fits_along :
+    (size : ℕ) (kind : VersionKind) (o : Option Standing) → IfSome o (λ s. (s.place < 2 ^ 64 + 2 ^ 32) × (s.owner ≡ 0)) → IfSome o (λ s. s.kind ≡ kind)
+    → IfSome o (Fits size (bytes_each kind))
+fits_along size kind None near same = tt
+fits_along size kind (Some s) near same = record { near = near.0; owner = omega (arith, near.1); pays = rw same (omega arith) }
 
 -- the index of a name: behind a definition, and in any other record
 pub definition-index :

@@ -43,13 +43,14 @@ pub struct NumberNames {
 
 impl Model for NumberNames {
     ghost use Rattle.std.specs.Prelude.{◌≡◌, List, length};
+    ghost use Rattle.elf_model.specs.Versions.{VERSION_NUMBERS};
     ghost use Rattle.elf_versions.specs.declared.number_names.NameAt.{NameAt as IsNameAt};
 
     ghost Value = { List IsNameAt };
 
     ghost view = { λ n. n.names };
 
-    ghost invariant = { λ n. length n.names ≡ 1024 };
+    ghost invariant = { λ n. length n.names ≡ VERSION_NUMBERS };
 }
 
 impl NumberNames {
@@ -110,8 +111,8 @@ impl NumberNames {
         ensures count { length places.new ≡ length places.old }
         ensures did { Did src.old src.new (why_stopped result) (unread cursor.old)
             (λ file. IsCursorOf file cursor.old → (records : List Met) →
-            NamesNumbers file records self.old places.old → let left = versions_left file cursor.old in
-            ReadsNumberNames file records left self.new places.new result) }
+            NamesNumbers file records self.old places.old → ReadsNumberNames file records
+            (versions_left file cursor.old) self.new places.new result) }
     {
         'records: while let Some(given) = cursor.advance(src)? {
             self.take(&given, places);

@@ -4,7 +4,7 @@ ghost use Rattle.elf_model.specs.Budget.{IsBudget};
 ghost use Rattle.elf_model.specs.Checks.{first_refusal};
 ghost use Rattle.elf_model.specs.Versions.{record_size, along, first_stand, met_at, number_in};
 ghost use Rattle.elf_model.specs.declared.versions.VersionKind.TheVariants.{Need};
-ghost use Rattle.elf_versions.specs.Reading.{KnowsAhead, KnowsFiles, LeadsTo, bytes_each, stand_of};
+ghost use Rattle.elf_versions.specs.Reading.{Fits, KnowsAhead, KnowsFiles, LeadsTo, bytes_each, stand_of};
 ghost use Rattle.elf_versions.specs.Words.{HoldsWords, PassesWords, checks_of, distance_of_name, end_of_named_record};
 
 use crate::words::RecordWords;
@@ -29,8 +29,7 @@ pub struct Standing {
 /// The size of a record of a kind, in bytes.
 pub fn record_bytes(kind: VersionKind) -> u64
     ensures value { result ≡ record_size kind }
-    ensures small { result ≤ 20 }
-    ensures some { 16 ≤ result }
+    ensures range { (16 ≤ result) × (result ≤ 20) }
 {
     match kind {
         VersionKind::Definition => VERSION_DEFINITION_BYTES,
@@ -127,17 +126,14 @@ fn refused(at: u64, cause: Cause) -> Option<Refusal>
 }
 
 /// Where a record leads a walk.
-#[tactic(auto, unfolding(elf_model::specs::Versions::next_stand, elf_model::specs::Versions::next_word, crate::specs::Words::aux_word))]
+#[tactic(auto, using(crate::proofs::WordLaws::fits_along), unfolding(elf_model::specs::Versions::next_stand, elf_model::specs::Versions::next_word, crate::specs::Words::aux_word))]
 pub(crate) fn behind(table: u64, stand: &Standing, words: &RecordWords) -> Option<Standing>
-    requires ends { table + stand.now.place < 2 ^ 64 }
-    requires owned { table + stand.now.owner < 2 ^ 64 }
+    requires { (table + stand.now.place < 2 ^ 64) × (table + stand.now.owner < 2 ^ 64) }
     ensures leads { (file : List ℕ) → KnowsFiles file table stand.now →
         HoldsWords file (met_at table (stand_of stand.now)) words.now →
         LeadsTo file table (stand_of stand.now) result }
-    ensures near { IfSome result (λ s. s.place < 2 ^ 64 + 2 ^ 32) }
-    ensures pays { IfSome result (λ s. bytes_each s.kind ≡ bytes_each stand.now.kind) }
-    ensures owner { (size : ℕ) → stand.now.place ≤ size → stand.now.owner ≤ size →
-        IfSome result (λ s. s.owner ≤ size) }
+    ensures fits { (size : ℕ) → stand.now.place ≤ size → stand.now.owner ≤ size →
+        IfSome result (Fits size (bytes_each stand.now.kind)) }
 {
     let place = stand.place as u64;
     let at = table + place;

@@ -1,73 +1,25 @@
--- The file header, the load, the program headers, and what stands behind.
-use Rattle.std.proofs.Common.{ℕ, ◌/◌, sym, ap, ◌∙◌, arith}
+-- The load, and what stands behind.
+use Rattle.std.proofs.Common.{ℕ, ◌/◌, ap, arith}
 use Rattle.std.proofs.lemmas.Result.{err_from_is_err_and}
-use Rattle.elf_model.specs.Checks.{first_refusal, load_checks}
-use Rattle.elf_record.specs.declared.ehdr.Ehdr.{Ehdr}
-use Rattle.elf_headers.proofs.LoadLaws.{header_most}
-use Rattle.elf_headers.proofs.LedgerLaws.{Did-as, Did-of, Did-stop, Did-then}
-use Rattle.elf_libraries.proofs.LoopLaws.{read_links_stop}
-use Rattle.elf_libraries.proofs.ReadingLaws.{ceiling_is, header_least, header_stops, links_as, load_none, load_stops, shown_is}
+use Rattle.elf_headers.proofs.LedgerLaws.{Did-as, Did-then}
+use Rattle.elf_libraries.proofs.ReadingLaws.{ceiling_is, links_as, load_stops, shown_is}
 use Rattle.elf_libraries.proofs.reading.shown_links.Goals as goal
-
-pub returns-in_err-header-clause-did : goal.returns-in_err-header-clause-did
-returns-in_err-header-clause-did g c =
-    let p = err_from_is_err_and c.from_residual.result c.from_residual.ensures.1 in
-    let most = header_most c.args.src.now.seen.size in
-    let room = header_least c.args.src.now.seen.size c.args.store.now.slots in
-    rw (p.1, p.2)
-    (Did-as _ (omega (arith, most, room)) (Did-of c.header.ensures.reads c.in_err-header.ensures.says c.in_err-header.ensures.read)
-    (λ file read costs none. header_stops file c.args.store.now.slots c.args.links.now.held.room c.args.links.now c.args.links.now _ read))
-
-pub returns-then-header-ne0-clause-did : goal.returns-then-header-ne0-clause-did
-returns-then-header-ne0-clause-did g c =
-    let most = header_most c.args.src.now.seen.size in
-    let room = header_least c.args.src.now.seen.size c.args.store.now.slots in
-    rw c.refused.ensures
-    (Did-as _ (omega (arith, most, room)) (Did-stop _ (λ budget. cc) (Did-of c.header.ensures.reads tt c.in_ok-header.ensures.read))
-    (λ file read costs none. absurd (c.if-header-ne0.true (read.1.e_shnum ∙ none))))
 
 pub returns-in_err-loaded-clause-did : goal.returns-in_err-loaded-clause-did
 returns-in_err-loaded-clause-did g c =
-    let p = err_from_is_err_and c.from_residual-in_err-loaded.result c.from_residual-in_err-loaded.ensures.1 in
-    let most = header_most c.args.src.now.seen.size in
-    let room = header_least c.args.src.now.seen.size c.args.store.now.slots in
-    let load = load_none c.in_ok-header.header c.header.new.src.seen.size c.args.store.now.slots c.if-header-ne0.false in
-    rw (p.1, p.2)
-    (Did-as _ (omega (arith, most, load, room))
-    (Did-then (Did-of c.header.ensures.reads tt c.in_ok-header.ensures.read) (Did-of c.load.ensures.reads c.in_err-loaded.ensures.says c.in_err-loaded.ensures.held))
-    (λ file told costs none.
-    load_stops file c.args.store.now.slots c.args.links.now.held.room c.args.links.now c.args.links.now _ c.load.new.store told.0.0 c.load.ensures.slots (told.1 told.0.1)))
-
-pub returns-in_err-load_segments-clause-did : goal.returns-in_err-load_segments-clause-did
-returns-in_err-load_segments-clause-did g c =
-    let p = err_from_is_err_and c.from_residual-in_err-load_segments.result c.from_residual-in_err-load_segments.ensures.1 in
-    let most = header_most c.args.src.now.seen.size in
+    let p = err_from_is_err_and c.from_residual.result c.from_residual.ensures.1 in
     let ceiling = ceiling_is c.args.src.now.seen.size c.args.store.now.slots in
-    let load = load_none c.in_ok-header.header c.header.new.src.seen.size c.args.store.now.slots c.if-header-ne0.false in
-    let opened = c.in_ok-loaded.ensures.opens in
-    let few = opened.passes.few_segments in
-    let count = ap (λ (h : Ehdr). h.e_phnum) opened.same_header in
-    let slots = c.load.ensures.slots in
-    let first = Did-then (Did-of c.header.ensures.reads tt c.in_ok-header.ensures.read) (Did-of c.load.ensures.reads tt c.in_ok-loaded.ensures.held) in
     rw (p.1, p.2)
-    (Did-as _ (omega (arith, most, load, ceiling, few, count, slots))
-    (Did-then first (Did-of c.load_segments.ensures.reads c.in_err-load_segments.ensures.says c.in_err-load_segments.ensures.held))
-    (λ file told costs none. read_links_stop _ c.args.links.now c.args.links.now _ c.in_err-load_segments.ensures.fault))
+    (Did-as _ (omega (arith, ceiling)) c.in_err-loaded.ensures.did
+    (λ file told costs none. load_stops file c.args.store.now.slots c.args.links.now.held.room c.args.links.now c.args.links.now _ c.load_by_segments.new.store (told none).loads))
 
 pub returns-clause-did : goal.returns-clause-did
 returns-clause-did g c =
-    let most = header_most c.args.src.now.seen.size in
     let ceiling = ceiling_is c.args.src.now.seen.size c.args.store.now.slots in
-    let load = load_none c.in_ok-header.header c.header.new.src.seen.size c.args.store.now.slots c.if-header-ne0.false in
-    let opened = c.in_ok-loaded.ensures.opens in
-    let few = opened.passes.few_segments in
-    let count = ap (λ (h : Ehdr). h.e_phnum) opened.same_header in
-    let slots = c.load.ensures.slots in
-    let first = Did-then (Did-then (Did-of c.header.ensures.reads tt c.in_ok-header.ensures.read) (Did-of c.load.ensures.reads tt c.in_ok-loaded.ensures.held)) (Did-of c.load_segments.ensures.reads tt c.in_ok-load_segments.ensures.held) in
+    let first = c.in_ok-loaded.ensures.did in
     let same = first.costs.reads.keeps.same_size in
     let part = ap (λ (n : ℕ). n / 16) same in
-    Did-as _ (omega (arith, most, load, ceiling, few, count, slots, same, part)) (Did-then first c.view_links.ensures)
+    Did-as _ (omega (arith, ceiling, same, part)) (Did-then first c.view_links.ensures)
     (λ file told costs none.
-    let belongs = told.0.0.1 told.0.0.0.1 in
-    let loads = ap (λ (n : ℕ). first_refusal (load_checks file n)) (sym slots) ∙ belongs.passes in
-    links_as _ _ _ _ _ (shown_is file c.args.store.now.slots c.args.links.now.held.room c.args.links.now c.args.links.now told.0.0.0.0 loads) (told.1 (told.0.1 belongs)))
+    let loads = (told.0 none).loads in
+    links_as _ _ _ _ _ (shown_is file c.args.store.now.slots c.args.links.now.held.room loads.0) (told.1 loads.1))

@@ -1,5 +1,5 @@
 -- So many records of the table are compared, and the others are left.
-use Rattle.std.proofs.Common.{◌+◌, ◌-◌, ◌*◌, List, length, None}
+use Rattle.std.proofs.Common.{◌+◌, ◌*◌, List, length, None}
 use Rattle.elf_headers.specs.Ledger.{Did}
 use Rattle.elf_model.specs.Loader.{RecordReading, RecordTable as IsTableOf, compared_with, readings_of}
 use Rattle.elf_model.specs.Names.{pad64}

@@ -24,10 +24,10 @@ returns-then-index-len g c =
 
 pub returns : goal.returns
 returns g c =
-    let place = c.place.ensures in
+    let place = c.place-at.ensures in
     Did-as _ (omega arith) c.in_ok-word.ensures
     (λ file read costs told are. (
       fits-word file told c.in-Some.words (asked_of c.args.asked.now) (has_number c.args.numbers.now) c.args.index c.in_ok-word.word (rw c.in-Some.is at are) c.in-Some.words.entry
           (omega (arith, c.len.ensures, c.if-index-len.false)) (rw place at read) ∙ ap Ok (sym c.fits.ensures),
-      rw c.in-Some.is (omega (arith, c.len.ensures, c.if-index-len.false), rw place at read),
+      rw c.in-Some.is (place, rw place at read),
     ))

@@ -4,7 +4,7 @@ use Rattle.std.proofs.lemmas.Result.{err_from_is_err_and}
 use Rattle.elf_headers.proofs.LedgerLaws.{Did-as, Did-none}
 use Rattle.elf_headers.proofs.Absent.{none-of}
 use Rattle.elf_wanted.specs.Wants.{asked_of}
-use Rattle.elf_loader.proofs.FoundLaws.{finds-failed, finds-none, finds-some, word-is}
+use Rattle.elf_loader.proofs.FoundLaws.{finds-failed, finds-none, finds-some}
 use Rattle.elf_loader.proofs.found.version_of.Goals as goal
 
 pub returns-in_default : goal.returns-in_default
@@ -21,7 +21,7 @@ returns-in_err-version g c =
     (λ file read costs scope is stands.
     let here = rw (c.in-Some.is, c.in-Some-version.is) at stands in
     finds-failed file scope (asked_of c.args.asked.now) c.args.found.now.index c.found_version.new.name c.in-Some.words (rw c.in-Some.is at is.words) _
-    (λ told words. read scope told is words (word-is file told c.in-Some.words c.args.found.now.index c.in-Some-version.word words c.in-Some.words.entry here.1))))
+    (λ told words. read scope told c.args.found.now.index is words here)))
 
 pub returns : goal.returns
 returns g c =
@@ -29,4 +29,4 @@ returns g c =
     (λ file read costs scope is stands.
     let here = rw (c.in-Some.is, c.in-Some-version.is) at stands in
     finds-some file scope (asked_of c.args.asked.now) c.args.found.now.index c.found_version.new.name c.in-Some.words (rw c.in-Some.is at is.words) c.in_ok-version.version
-    (λ told words. read scope told is words (word-is file told c.in-Some.words c.args.found.now.index c.in-Some-version.word words c.in-Some.words.entry here.1)))
+    (λ told words. read scope told c.args.found.now.index is words here))

@@ -1,5 +1,5 @@
 -- So many records of the table have not the number, and the others are left.
-use Rattle.std.proofs.Common.{◌≡◌, ℕ, ◌-◌, ◌*◌, List, Option, None, Some}
+use Rattle.std.proofs.Common.{◌≡◌, ℕ, ◌*◌, List, Option, None, Some}
 use Rattle.elf_headers.specs.Ledger.{Did}
 use Rattle.elf_model.specs.BoundSymbols.{file_before}
 use Rattle.elf_model.specs.Loader.{RecordReading, RecordTable as IsTableOf, naming_of, readings_of}

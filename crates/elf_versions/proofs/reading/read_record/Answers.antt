@@ -4,9 +4,9 @@ use Rattle.std.proofs.lemmas.Result.{err_from_is_err_and}
 use Rattle.elf_headers.specs.declared.fault.Fault.TheVariants.{Refused}
 use Rattle.elf_headers.proofs.LedgerLaws.{Did-as, Did-stop, Did-then}
 use Rattle.elf_table.specs.Tables.{Rows}
-use Rattle.elf_versions.specs.Reading.{bytes_each, stand_of}
+use Rattle.elf_versions.specs.Reading.{stand_of}
 use Rattle.elf_headers.proofs.Absent.{none-of}
-use Rattle.elf_versions.proofs.WordLaws.{asks-words, asks-name, distance-inside, fits-all, read-fails, record-checked}
+use Rattle.elf_versions.proofs.WordLaws.{asks-words, asks-name, distance-inside, read-fails, record-checked}
 use Rattle.elf_versions.proofs.reading.read_record.Goals as goal
 
 pub returns-in-Some-clause-did : goal.returns-in-Some-clause-did
@@ -61,9 +61,7 @@ returns-clause-fits g c =
     let passes = rw (none-of c.refused_words.result c.in_default.not-Some) at c.refused_words.ensures.passes in
     record {
       number = rw c.given.ensures.number passes.small;
-      next =
-          fits-all h.table.count (bytes_each s.kind) c.behind.result c.behind.ensures.near (c.behind.ensures.owner h.table.count (omega (arith, c.requires.has.inside)) c.requires.owner)
-          c.behind.ensures.pays;
+      next = c.behind.ensures.fits h.table.count (omega (arith, c.requires.has.inside)) c.requires.owner;
     }
 
 pub returns-in_err-words : goal.returns-in_err-words
@@ -102,7 +100,4 @@ pub behind-requires : goal.behind-requires
 behind-requires g c =
     let at : c.at-2.result ≡ c.args.held.now.table.at = c.at-2.ensures ∙ ap (λ (t : Rows). t.at) c.table-table.ensures.is in
     let ends = c.table-table.ensures.ends in
-    record {
-      ends = omega (arith, at, ends, c.requires.has.inside);
-      owned = omega (arith, at, ends, c.requires.owner);
-    }
+    (omega (arith, at, ends, c.requires.has.inside), omega (arith, at, ends, c.requires.owner))
