@@ -3,15 +3,14 @@ use Rattle.std.specs.Prelude.{List, [], ◌∷◌}
 use Rattle.clap.specs.Walk.{Rule, Text}
 use Rattle.clap.specs.Simple.{App, new_app, with_rule, with_subcommand}
 use Rattle.clap.specs.declared.builder.value_parser.ValueParser.{ValueParser}
-use Rattle.elf_command_line.specs.Building.{any_words, numbered_option, indexed, repeated, required, valued}
-use Rattle.elf_command_line.specs.CommandLine.{flag, option}
+use Rattle.elf_command_line.specs.CommandLine.{any_words, flag, indexed, numbered_option, option, repeated, required, valued}
 use Rattle.elf_command_line.specs.declared.adding.Described.{Described}
 use Rattle.elf_command_line.specs.declared.words.Word.{Word}
 use Rattle.elf_command_line.specs.declared.words.WordKind.{WordKind}
 use Rattle.elf_command_line.specs.declared.words.WordKind.TheVariants.{Flag, Value, Repeated, Number, Count, Part, Needed, Index, Any}
 
 -- the rule of a word of this name and kind, where a parser takes the name of a part
-abbrev pub rule_of_kind : ValueParser → Text → WordKind → Rule
+abbrev rule_of_kind : ValueParser → Text → WordKind → Rule
 rule_of_kind part name Flag = flag name
 rule_of_kind part name (Value value) = valued name
 rule_of_kind part name (Repeated value) = repeated name

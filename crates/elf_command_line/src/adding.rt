@@ -88,8 +88,6 @@ pub(crate) fn with_command<'a>(
         → IfOk result (λ whole. app_of whole
         ≡ with_subcommand app (described part.entry below.now).top) }
 {
-    match command_of(alloc, below, part) {
-        Ok(below) => command.subcommand(below),
-        Err(error) => Err(error),
-    }
+    let below = command_of(alloc, below, part)?;
+    command.subcommand(below)
 }

@@ -8,7 +8,7 @@ ghost use Rattle.elf_command_line.specs.CommandLine.{Words};
 ghost use Rattle.elf_command_line.specs.Described.{with_commands};
 ghost use Rattle.elf_command_line.specs.CommandLine.{archive_command, check_command, find_command, list_command, program};
 ghost use Rattle.elf_command_line.specs.CommandLine.{needs_command, sample_command, show_command, traits_command};
-ghost use Rattle.elf_command_line.specs.CommandLine.{with_files, with_many, with_many_files, with_one_file, without_command};
+ghost use Rattle.elf_command_line.specs.CommandLine.{with_many_files, with_one_file, without_command};
 
 use crate::adding::{Described, command_of, new_command, with_command, with_commands};
 use crate::options::{
@@ -175,45 +175,11 @@ pub fn command_line<'a>(
     ensures { IfOk result (λ command. app_of command
         ≡ program (record { listed = parts.entry; archived = member_parts.entry })) }
 {
-    match files(alloc, parts, member_parts) {
-        Ok(command) => with_command(alloc, command, &VERSION, ValueParser::Names(parts)),
-        Err(error) => Err(error),
-    }
-}
-
-/// The program, with the commands that read files.
-fn files<'a>(
-    alloc: Global,
-    parts: &'a [&'a str],
-    member_parts: &'a [&'a str],
-) -> Result<Command<'a>, AllocError>
-    ensures { IfOk result (λ command. app_of command
-        ≡ with_files (record { listed = parts.entry; archived = member_parts.entry })) }
-{
-    match many(alloc, parts) {
-        Ok(command) => with_command(alloc, command, &ARCHIVE, ValueParser::Names(member_parts)),
-        Err(error) => Err(error),
-    }
-}
-
-/// The program, with the commands that read one file, or many.
-fn many<'a>(alloc: Global, parts: &'a [&'a str]) -> Result<Command<'a>, AllocError>
-    ensures { IfOk result (λ command. app_of command ≡ with_many parts.entry) }
-{
-    match one_file(alloc, parts) {
-        Ok(command) => with_commands(alloc, command, of_many_files(), ValueParser::Names(parts)),
-        Err(error) => Err(error),
-    }
-}
-
-/// The program, with the commands that read one file.
-fn one_file<'a>(alloc: Global, parts: &'a [&'a str]) -> Result<Command<'a>, AllocError>
-    ensures { IfOk result (λ command. app_of command ≡ with_one_file parts.entry) }
-{
-    match program(alloc) {
-        Ok(program) => with_commands(alloc, program, of_one_file(), ValueParser::Names(parts)),
-        Err(error) => Err(error),
-    }
+    let program = program(alloc)?;
+    let command = with_commands(alloc, program, of_one_file(), ValueParser::Names(parts))?;
+    let command = with_commands(alloc, command, of_many_files(), ValueParser::Names(parts))?;
+    let command = with_command(alloc, command, &ARCHIVE, ValueParser::Names(member_parts))?;
+    with_command(alloc, command, &VERSION, ValueParser::Names(parts))
 }
 
 /// The commands that read one file, but for the one that lists an archive.

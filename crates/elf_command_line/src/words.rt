@@ -1,7 +1,7 @@
 //! What commands take among their words, as data, and the arguments that are made of it.
-ghost use Rattle.elf_command_line.specs.Building.{IsArg, any_words, numbered_option, indexed};
-ghost use Rattle.elf_command_line.specs.Building.{repeated, required, valued};
-ghost use Rattle.elf_command_line.specs.CommandLine.{flag, option};
+ghost use Rattle.elf_command_line.specs.Building.{IsArg};
+ghost use Rattle.elf_command_line.specs.CommandLine.{any_words, flag, indexed, numbered_option};
+ghost use Rattle.elf_command_line.specs.CommandLine.{option, repeated, required, valued};
 ghost use Rattle.elf_command_line.specs.Described.{rule_by};
 
 use clap::builder::ValueParser;

@@ -76,10 +76,8 @@ fn push_lines<'a>(
     let mut left = Some(list);
     while let Some(text) = left {
         let line = first_line(text);
-        match push_line(names, line.text, versions) {
-            Ok(()) => left = line.behind,
-            Err(fault) => return Err(fault),
-        }
+        push_line(names, line.text, versions)?;
+        left = line.behind;
     }
     Ok(())
 }
