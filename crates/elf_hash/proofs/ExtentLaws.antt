@@ -16,7 +16,7 @@ use Rattle.elf_headers.proofs.LedgerLaws.{Charges-more}
 use Rattle.elf_table.specs.Cursors.{Advances, EndsRows, GivesRow, Reading, row_at, unread_bytes}
 use Rattle.elf_table.specs.Tables.{Rows, size_of}
 use Rattle.elf_hash.specs.Counts.{IsGnu, IsSysv}
-use Rattle.elf_hash.specs.Extents.{AreBehind, EndsChain, TellsExtent, extent_bytes, last_in}
+use Rattle.elf_hash.specs.Extents.{SymbolsBegin, EndsChain, TellsExtent, extent_bytes, last_in}
 use Rattle.elf_hash.specs.declared.gnu_table.GnuTable.{GnuTable as Gnu}
 use Rattle.elf_hash.specs.declared.sysv_table.SysvTable.{SysvTable as Sysv}
 use Rattle.elf_hash.proofs.GnuSteps.{chain_is}
@@ -188,7 +188,7 @@ no_room : (table : Table) (symbols strings : ℕ) → table.symbols ≡ 0 → be
 unfolding before_strings
 no_room table symbols strings none = grind (arith, nat_tests, none)
 
-behind_is : (scope : Scope) (symbols strings : ℕ) → AreBehind scope symbols strings
+behind_is : (scope : Scope) (symbols strings : ℕ) → SymbolsBegin scope symbols strings
     → before_strings scope.table symbols strings ≡ before_strings scope.table scope.symbols.place scope.symbols.strings_at
 behind_is scope symbols strings are = go scope.table.symbols refl
   where
@@ -200,7 +200,7 @@ behind_is scope symbols strings are = go scope.table.symbols refl
 
 -- what is told of a table of either kind
 pub gnu_told : (file : List ℕ) (scope : Scope) (t : Gnu) (symbols strings before : ℕ) {a b : Counting} {result : Result ℕ Fault}
-    → scope.kind ≡ GnuTable → IsGnu file scope.table t → AreBehind scope symbols strings → before ≡ before_strings scope.table symbols strings
+    → scope.kind ≡ GnuTable → IsGnu file scope.table t → SymbolsBegin scope symbols strings → before ≡ before_strings scope.table symbols strings
     → EndsChain (4 * t.nbucket) (gnu_symbols file scope.table before) a b result → TellsExtent file scope a b result
 gnu_told file scope t symbols strings before {result = result} kind is are found ends =
     let same : gnu_symbols file scope.table before ≡ hashed_symbol_count file scope =

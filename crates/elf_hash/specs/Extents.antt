@@ -22,7 +22,7 @@ pub record EndsChain (few count : ℕ) (old new : Counting) (result : Result ℕ
   pub tells : IsRead result count
 
 -- the symbols of a lookup begin at an offset, and their strings at another; strings of no symbol are not looked at
-pub record AreBehind (scope : Scope) (symbols strings : ℕ) : Type 0 where
+pub record SymbolsBegin (scope : Scope) (symbols strings : ℕ) : Type 0 where
   pub place : scope.symbols.place ≡ symbols
   pub strings_at : 0 < scope.table.symbols → scope.symbols.strings_at ≡ strings
 

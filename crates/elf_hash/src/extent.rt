@@ -2,7 +2,7 @@
 ghost use Rattle.std.specs.Prelude.{◌≡◌, ℕ, ◌+◌, ◌-◌, ◌*◌, ◌<◌, ◌≤◌, List, length, IfOk};
 ghost use Rattle.elf_headers.specs.Ledger.{Did, IsRead, why_stopped};
 ghost use Rattle.elf_hash.specs.Counts.{IsGnu, IsTablePlace};
-ghost use Rattle.elf_hash.specs.Extents.{AreBehind, EndsChain, TellsExtent, last_in};
+ghost use Rattle.elf_hash.specs.Extents.{SymbolsBegin, EndsChain, TellsExtent, last_in};
 ghost use Rattle.elf_hash.specs.Scopes.{IsTable, place_of_table};
 ghost use Rattle.elf_model.specs.Bytes.{field, slice};
 ghost use Rattle.elf_model.specs.Chains.{HashTable as Place};
@@ -40,7 +40,7 @@ pub fn symbol_extent<S: Source>(
         ≤ src.old.seen.size }
     ensures did { Did src.old src.new (why_stopped result) (place_of_table table.now).size
         (λ file. (scope : Scope) → IsTable file scope table.now →
-        AreBehind scope symbols strings → TellsExtent file scope src.old src.new result) }
+        SymbolsBegin scope symbols strings → TellsExtent file scope src.old src.new result) }
     ensures few { IfOk result (λ count. count ≤ (place_of_table table.now).symbols) }
 {
     match table {

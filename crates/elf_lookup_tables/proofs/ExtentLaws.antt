@@ -1,7 +1,7 @@
 -- Where the symbols of a lookup begin, and their strings.
 use Rattle.std.proofs.Common.{◌≡◌, ℕ, ◌<◌, List, ◌∙◌, sym, arith}
 use Rattle.elf_model.specs.LoaderScope.{Scope}
-use Rattle.elf_hash.specs.Extents.{AreBehind}
+use Rattle.elf_hash.specs.Extents.{SymbolsBegin}
 use Rattle.elf_hash.specs.Scopes.{IsTable, place_of_table}
 use Rattle.elf_hash.specs.declared.table.HashTable.{HashTable}
 use Rattle.elf_hash.specs.declared.table.HashTable.TheVariants.{Gnu, Sysv}
@@ -15,7 +15,7 @@ as_many file scope (Sysv t) is = is.1.place.symbols
 
 pub symbols_behind : (file : List ℕ) (scope : Scope) (table : HashTable) (found : Symbols) (symbols strings : ℕ) → IsTable file scope table
     → IsSymbols file scope.symbols found → found.table.count ≡ (place_of_table table).symbols → symbols ≡ found.table.at → strings ≡ found.names.at
-    → AreBehind scope symbols strings
+    → SymbolsBegin scope symbols strings
 symbols_behind file scope table found symbols strings is are count begin names =
     let many = as_many file scope table is in
     record {
