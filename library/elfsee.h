@@ -433,7 +433,8 @@ uint32_t elfsee_dynamic(const uint8_t *file, size_t file_len, const struct elfse
 
 /* The symbols that the file's hash table is of, among which a loader looks names up, also where there are
  * no section headers: found as elfsee_look_up finds them, with ELFSEE_BY_SEGMENTS or 0 as `flags`, and
- * counted by the hash table alone. `rows` is set before symbol 0, and elfsee_next_symbols reads them. `room`
+ * counted by the hash table; where one of the GNU system finds none and its first is 1, which says nothing,
+ * they are those before their strings. `rows` is set before symbol 0, and elfsee_next_symbols reads them. `room`
  * is where the headers lie meanwhile.
  *  OK, REFUSED; BAD_CALL for limits outside their ranges, room of less than 64 bytes, and other flags.
  * `asked` is at most what finding and counting them cost, and the budget. */

@@ -148,7 +148,11 @@ class Traits:
             for other in (VERSYM, VERDEF, VERNEED):
                 if other in self.rows:
                     self.rest(*self.rows[other])
-        count = (self.gnu_count if is_gnu else self.sysv_count)(at, table, symbols.size // 24)
+        room = symbols.size // 24
+        if is_gnu:
+            count = self.gnu_count(at, table, room, rows_before(strings.offset, symbols.offset, table.offset, room))
+        else:
+            count = self.sysv_count(at, table, room)
         return symbols, count, strings
 
     def rest(self, at, address):
@@ -173,15 +177,16 @@ class Traits:
         refuse_where(nbucket == 0 or 8 + 4 * nbucket + 4 * nchain > table.size, at, "hash-shape")
         return min(nchain, room)
 
-    def gnu_count(self, at, table, room):
-        """The symbols before the first that the table knows, and those up to the end of the highest chain."""
+    def gnu_count(self, at, table, room, before):
+        """The symbols before the first that the table knows, and those up to the end of the highest chain. A table with
+        no symbol says nothing where that first is 1: then there are those before their strings."""
         nbucket, first, nbloom, shift = struct.unpack_from("<4I", self.content, table.offset)
         self.buckets = nbucket
         chains = 16 + 8 * nbloom + 4 * nbucket
         refuse_where(nbucket == 0 or nbloom == 0 or nbloom & nbloom - 1 or shift >= 32 or chains > table.size, at, "hash-shape")
         highest = max(struct.unpack_from("<%dI" % nbucket, self.content, table.offset + 16 + 8 * nbloom))
         if highest < first:
-            return min(first, room)
+            return max(before if first == 1 else 0, min(first, room))
         index = highest
         while index < room and chains + 4 * (index - first) + 4 <= table.size:
             word, = struct.unpack_from("<I", self.content, table.offset + chains + 4 * (index - first))
@@ -189,6 +194,12 @@ class Traits:
             if word & 1:
                 return index
         return room
+
+
+def rows_before(strings, symbols, table, room):
+    """How many symbols have room before their strings; none with the hash table between, or without room."""
+    rows = max(strings - symbols, 0) // 24
+    return 0 if symbols < table < strings or rows > room else rows
 
 
 def feature_of(at, properties):

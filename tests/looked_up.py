@@ -413,6 +413,13 @@ def symbols_in(scope):
             yield text_at(scope.content, scope.strings, name), index
 
 
+def before_strings(scope):
+    """How many symbols have room before their strings; none with the hash table between, or without room."""
+    begin, end = scope.symbols.offset, scope.strings.offset
+    rows = max(end - begin, 0) // 24
+    return 0 if begin < scope.table.offset < end or rows > scope.count else rows
+
+
 def hashed_count(scope):
     """How many symbols the hash table tells of, no more than there is room for."""
     if not scope.is_gnu:
@@ -420,7 +427,7 @@ def hashed_count(scope):
     at = scope.table.offset
     start = max(struct.unpack_from("<%dI" % scope.nbucket, scope.content, at + scope.buckets))
     if start < scope.first:
-        return min(scope.first, scope.count)
+        return max(before_strings(scope) if scope.first == 1 else 0, min(scope.first, scope.count))
     for index in range(start, scope.count):
         word = scope.chains + 4 * (index - scope.first)
         if word + 4 > scope.table.size or scope.content[at + word] & 1:

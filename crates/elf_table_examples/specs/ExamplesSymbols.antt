@@ -3,6 +3,7 @@ use Rattle.std.specs.Prelude.{ℕ, ◌+◌, List, [], ◌∷◌, ◌++◌, codes
 use Rattle.elf_model.specs.Bytes.{little}
 use Rattle.elf_model.specs.Fixtures.{with_bytes, zeros}
 use Rattle.elf_model.specs.FixturesHash.{words}
+use Rattle.elf_model.specs.FixturesTables.{program_header}
 use Rattle.elf_table_examples.specs.TraitFiles.{TraitsCost, TraitsAre, program_with_traits}
 
 -- the program with other strings behind the first, which is empty
@@ -39,6 +40,29 @@ CountRows =
     × TraitsAre (with_bytes 0x238 (little 8 99) program_with_traits) (codes "T pie    full    nx    w^x   fixed ibt+shstk -      -       -       p\n")
     × TraitsCost (with_bytes 0x238 (little 8 99) program_with_traits) 672
 
+-- the program with strings behind it: one name, of six bytes and so many more
+abbrev long_named : ℕ → List ℕ
+long_named count =
+    with_bytes 0x60 (little 8 0x2f0 ++ little 8 0x2f0)
+    (with_bytes 0x1c8 (little 4 0) (with_bytes 0x1e0 (little 4 1)
+    (with_bytes 0x250 (little 8 0x2a8) (with_bytes 0x270 (little 8 (count + 8)) program_with_traits))))
+    ++ zeros 1 ++ codes "__" ++ replicate count 97 ++ codes "_chk" ++ zeros 8
+
+-- A table in which no symbol is found and whose `first` is 1 does not say how many there are: then there are those before their
+-- strings; none where the strings stand before them, in another segment past the room for symbols, or behind the table
+abbrev pub EmptyTableRows : Type 0
+EmptyTableRows =
+    TraitsAre (with_bytes 0x194 (little 4 1) program_with_traits) (codes "T pie    full    nx    w^x   fixed ibt+shstk canary fortify -       p\n")
+    × TraitsAre (with_bytes 0x194 (little 4 1) (with_bytes 0x250 (little 8 0x190) program_with_traits)) (codes "T pie    full    nx    w^x   fixed ibt+shstk -      -       -       p\n")
+    × TraitsAre
+      (with_bytes 0x194 (little 4 1) (with_bytes 0x78 (program_header 1 4 0x2b8 0x12b8 0x10 0x1000)
+      (with_bytes 0x250 (little 8 0x12b8) (with_bytes 0x270 (little 8 0x10) program_with_traits))) ++ zeros 0x20)
+      (codes "T static full    nx    w^x   fixed ibt+shstk -      -       -       p\n")
+    × TraitsAre
+      (with_bytes 0x240 (little 8 0x1f8) (with_bytes 0x1f8 (words (1 ∷ 1 ∷ 1 ∷ 0 ∷ 0 ∷ 0 ∷ 0 ∷ [])) (long_named 57)))
+      (codes "T pie    full    nx    w^x   fixed ibt+shstk -      -       -       p\n")
+    × TraitsCost (with_bytes 0x194 (little 4 1) program_with_traits) 880
+
 -- a fault of a name is at the symbol
 abbrev pub NameFaults : Type 0
 NameFaults =
@@ -49,14 +73,6 @@ NameFaults =
 abbrev pub FirstSymbolIsNone : Type 0
 FirstSymbolIsNone =
     TraitsAre (with_bytes 0x1b0 (little 4 32) program_with_traits) (codes "T pie    full    nx    w^x   fixed ibt+shstk canary fortify -       p\n")
-
--- the program with strings behind it: one name, of six bytes and so many more
-abbrev long_named : ℕ → List ℕ
-long_named count =
-    with_bytes 0x60 (little 8 0x2f0 ++ little 8 0x2f0)
-    (with_bytes 0x1c8 (little 4 0) (with_bytes 0x1e0 (little 4 1)
-    (with_bytes 0x250 (little 8 0x2a8) (with_bytes 0x270 (little 8 (count + 8)) program_with_traits))))
-    ++ zeros 1 ++ codes "__" ++ replicate count 97 ++ codes "_chk" ++ zeros 8
 
 -- a name of 63 bytes is looked at, and none of more
 abbrev pub LongNamesMarkNothing : Type 0

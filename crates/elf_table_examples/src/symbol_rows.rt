@@ -1,5 +1,5 @@
 //! Worked examples of what dynamic symbols tell, each computed by the prover.
-ghost use Rattle.elf_table_examples.specs.ExamplesSymbols.{CanaryRows, CountRows, FirstSymbolIsNone, FortifyRows, LongNamesMarkNothing, NameFaults};
+ghost use Rattle.elf_table_examples.specs.ExamplesSymbols.{CanaryRows, CountRows, EmptyTableRows, FirstSymbolIsNone, FortifyRows, LongNamesMarkNothing, NameFaults};
 
 /// Symbols of guards, and others.
 #[tactic(auto, unfolding(elf_model::proofs::OnLiterals::on_literals, elf_model::proofs::OnLoader::on_loader, crate::proofs::OnTraits::on_traits))]
@@ -17,6 +17,12 @@ pub fn fortify_rows()
 #[tactic(auto, unfolding(elf_model::proofs::OnLiterals::on_literals, elf_model::proofs::OnLoader::on_loader, crate::proofs::OnTraits::on_traits))]
 pub fn count_rows()
     ensures { CountRows }
+{}
+
+/// How many symbols there are where a hash table does not say.
+#[tactic(auto, unfolding(elf_model::proofs::OnLiterals::on_literals, elf_model::proofs::OnLoader::on_loader, crate::proofs::OnTraits::on_traits))]
+pub fn empty_table_rows()
+    ensures { EmptyTableRows }
 {}
 
 /// Faults of names are at the symbol.
