@@ -18,7 +18,7 @@ use Rattle.elf_lookup_tables.specs.declared.symbols.RecordTable.{RecordTable}
 use Rattle.elf_lookup_tables.specs.declared.symbols.Symbols.{Symbols}
 use Rattle.elf_lookup_tables.specs.declared.symbols.VersionWords.{VersionWords}
 use Rattle.elf_binding.specs.Lacking.{definition_if, definitions_of}
-use Rattle.elf_binding.specs.Sought.{RefusesAs, TellsLacks}
+use Rattle.elf_binding.specs.Sought.{RefusesAs, TellsAs}
 
 -- there is none, or one
 pub none_where : {X : Type 0} (o : Option X) (none : Bool) → is_some o ≡ not none → none ≡ true → o ≡ None
@@ -193,7 +193,7 @@ module _ (file : List ℕ) where
           ∙ ap (compared_lacks told.symbols symbols is version) (sym (compared_of told.symbols.words refl (words_told told.symbols.words symbols.words is.words wide)))
 
       pub tells_empty : (a b : Counting) (each : ℕ) (numbers : List ℕ) (empty : Bool) → Collects a b each (wanted_numbers file definitions_alone (Version version)) (Ok numbers)
-          → MatchBool empty ((number : ℕ) → has_number numbers number ≡ false) ((number : ℕ) × (has_number numbers number ≡ true)) → TellsLacks (lacks_version file told.symbols version) (Ok empty)
+          → MatchBool empty ((number : ℕ) → has_number numbers number ≡ false) ((number : ℕ) × (has_number numbers number ≡ true)) → TellsAs (lacks_version file told.symbols version) (Ok empty)
       tells_empty a b each numbers empty collects is_empty =
           let none = collects.1 in
           let e = emptied (wanted_numbers file definitions_alone (Version version)).numbers numbers collects.2 empty is_empty in

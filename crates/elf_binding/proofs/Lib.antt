@@ -2,6 +2,7 @@ pub mod BindLaws
 pub mod DefinerLaws
 pub mod KeptLaws
 pub mod LackLaws
+pub mod OpenLaws
 pub mod ReadyLaws
 pub mod SoughtLaws
 pub mod SpendLaws

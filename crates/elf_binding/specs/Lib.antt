@@ -3,6 +3,7 @@ pub mod Definers
 pub mod Kept
 pub mod Lacking
 pub mod Looks
+pub mod Opens
 pub mod Ready
 pub mod Sought
 pub mod Pages

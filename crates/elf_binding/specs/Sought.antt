@@ -23,6 +23,16 @@ abbrev pub RefusesAs : {X : Type 0} → Result X Refusal → Fault → Type 0
 RefusesAs told (Refused refusal) = (IsBudget refusal → ⊥) → told ≡ Err refusal
 RefusesAs told (Source fault at) = Unit {0}
 
+-- the answer is the definition's; or the refusal, unless that is for want of budget
+abbrev pub TellsAs : {X : Type 0} → Result X Refusal → Result X Fault → Type 0
+TellsAs told (Ok found) = told ≡ Ok found
+TellsAs told (Err fault) = RefusesAs told fault
+
+-- a fault is no refusal of a file: a read failed, or the budget is used up
+abbrev pub IsToldAlone : Fault → Type 0
+IsToldAlone (Refused refusal) = IsBudget refusal
+IsToldAlone (Source fault at) = Unit {0}
+
 -- a whole name is read
 abbrev pub TellsWhole : Result (List ℕ) Refusal → List ℕ → Result (Unit {0}) Fault → Type 0
 TellsWhole told name (Ok x) = told ≡ Ok name
@@ -71,11 +81,6 @@ pub record Seeks (index : ℕ) (name version : List ℕ) (old new : KeptObject) 
       (file : List ℕ) (told : IsScopeOf) → old.src.seen.file ≡ Some file → scope_of file old.headers ≡ Ok told → index < told.table.symbols
       → SeeksOf file (file_of_version file told.symbols index) result
 
--- a number of symbols is told, or the refusal of the table's counts, unless that is for want of budget
-abbrev pub TellsHashed : Result ℕ Refusal → Result ℕ Fault → Type 0
-TellsHashed told (Ok count) = told ≡ Ok count
-TellsHashed told (Err fault) = RefusesAs told fault
-
 -- WHAT COUNTING THE SYMBOLS OF A FILE DID: no more is asked for than the counts and the words of the table
 pub record CountsHashed (old new : KeptObject) (left_old left_new : Option ℕ) (result : Result ℕ Fault) : Type 0 where
   pub costs : Spends old.src new.src left_old (why_stopped result) (16 + old.src.seen.size)
@@ -83,7 +88,7 @@ pub record CountsHashed (old new : KeptObject) (left_old left_new : Option ℕ) 
   pub pays : Pays left_old left_new old.src.asked new.src.asked
   pub known :
       (file : List ℕ) → old.src.seen.file ≡ Some file
-      → (told : IsScopeOf) × (scope_of file old.headers ≡ Ok told) × TellsHashed (symbols_hashed file told) result
+      → (told : IsScopeOf) × (scope_of file old.headers ≡ Ok told) × TellsAs (symbols_hashed file told) result
 
 -- WHAT A READ OF THE NAME OF A NEEDED FILE DID, which stands at an index of the symbols' strings
 pub record ReadsFileName (index at : ℕ) (name : List ℕ) (old new : KeptObject) (left_old left_new : Option ℕ) (result : Result (Unit {0}) Fault) : Type 0 where
@@ -94,11 +99,6 @@ pub record ReadsFileName (index at : ℕ) (name : List ℕ) (old new : KeptObjec
       (file : List ℕ) (told : IsScopeOf) → old.src.seen.file ≡ Some file → scope_of file old.headers ≡ Ok told → 0 < told.table.symbols
       → TellsWhole (whole_name told.symbols.strings index at) name result
 
--- whether a file lacks a version is told, or the refusal of its definitions, unless that is for want of budget
-abbrev pub TellsLacks : Result Bool Refusal → Result Bool Fault → Type 0
-TellsLacks told (Ok lacks) = told ≡ Ok lacks
-TellsLacks told (Err fault) = RefusesAs told fault
-
 -- WHAT A LOOK FOR A VERSION AMONG THE DEFINITIONS DID: no more is asked for than the records and as many names, and in a known file
 -- the answer is the definition's
 pub record LooksForVersion (version : List ℕ) (old new : KeptObject) (left_old left_new : Option ℕ) (result : Result Bool Fault) : Type 0 where
@@ -107,4 +107,4 @@ pub record LooksForVersion (version : List ℕ) (old new : KeptObject) (left_old
   pub pays : Pays left_old left_new old.src.asked new.src.asked
   pub known :
       (file : List ℕ) → old.src.seen.file ≡ Some file
-      → (told : IsScopeOf) × (scope_of file old.headers ≡ Ok told) × TellsLacks (lacks_version file told.symbols version) result
+      → (told : IsScopeOf) × (scope_of file old.headers ≡ Ok told) × TellsAs (lacks_version file told.symbols version) result

@@ -1,6 +1,6 @@
 //! How many symbols a file has.
 ghost use Rattle.std.specs.Prelude.{◌≡◌, ◌+◌, ◌≤◌, List};
-ghost use Rattle.elf_binding.specs.Sought.{TellsHashed};
+ghost use Rattle.elf_binding.specs.Sought.{TellsAs};
 ghost use Rattle.elf_hash.specs.Scopes.{IsPlaceIn};
 ghost use Rattle.elf_headers.specs.Ledger.{Did, why_stopped};
 ghost use Rattle.elf_model.specs.Bindings.{symbols_hashed};
@@ -21,7 +21,7 @@ pub(crate) fn hashed_symbols<S: Source>(
     requires { place.now.at + place.now.size ≤ src.old.seen.size }
     ensures { Did src.old src.new (why_stopped result) (16 + place.now.size)
         (λ file. (told : IsScopeOf) → IsPlaceIn told place.now →
-        TellsHashed (symbols_hashed file told) result) }
+        TellsAs (symbols_hashed file told) result) }
 {
     let table = counts(src, place)?;
     let count = symbol_extent(src, &table)?;

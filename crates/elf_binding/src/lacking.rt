@@ -1,7 +1,7 @@
 //! Whether a file lacks a version.
 ghost use Rattle.std.specs.Prelude.{◌≡◌, ◌≤◌, length, MatchBool};
 ghost use Rattle.elf_binding.specs.Lacking.{HasNoTable, definition_if, definitions_of};
-ghost use Rattle.elf_binding.specs.Sought.{TellsLacks};
+ghost use Rattle.elf_binding.specs.Sought.{TellsAs};
 ghost use Rattle.elf_headers.specs.Ledger.{Did, why_stopped};
 ghost use Rattle.elf_loader.specs.Comparing.{comparing_bytes};
 ghost use Rattle.elf_loader.specs.Tables.{most_versions};
@@ -31,7 +31,7 @@ pub(crate) fn lacks_version<S: Source>(
     ensures { Did src.old src.new (why_stopped result)
         (comparing_bytes (Version version.now) (most_versions symbols.now))
         (λ file. (told : IsScopeOf) → IsSymbols file told.symbols symbols.now →
-        TellsLacks (lacks_version file told.symbols version.now) result) }
+        TellsAs (lacks_version file told.symbols version.now) result) }
 {
     if symbols.words.is_none() {
         return Ok(false);

@@ -115,8 +115,8 @@ impl<S: Source> Object<S> {
     }
 
     /// How many symbols it has, by its hash table, of those that there is room for: the first is none (gABI
-    /// 4, Symbol Table). No more is asked for than what is left of a budget, where there is one; what was asked for is taken off.
-    /// Afterwards no limit is set.
+    /// 4, Symbol Table). No more is asked for than what is left of a budget, where there is one; what was
+    /// asked for is taken off. Afterwards no limit is set.
     ///
     /// # Errors
     /// Those of [`hashed_symbols`].

@@ -61,7 +61,8 @@ impl Page {
     pub(crate) fn load<S: Source>(&mut self, source: &mut S, at: u64)
         requires { at < (S.seen source.old).size }
         ensures keeps { Keeps (S.seen source.old) (S.seen source.new) }
-        ensures held { (file : List ℕ) → (S.seen source.old).file ≡ Some file → IsPageOf file self.new }
+        ensures held { (file : List ℕ) → (S.seen source.old).file ≡ Some file →
+            IsPageOf file self.new }
     {
         let begin = at - at % PAGE_BYTES as u64;
         let count = (source.length() - begin).min(PAGE_BYTES as u64) as usize;

@@ -32,10 +32,11 @@ fn check_row<R: Render>(front: &mut LineFront, state: FileState)
     put_fault::<R>(&mut front.line, state);
 }
 
-/// Puts where a file is at fault and why; in columns a hyphen for a file that is not at fault.
+/// Puts where a file is at fault and why; in columns a hyphen for a file that is not at fault. The line has
+/// at most 150 bytes before.
 #[tactic(auto, unfolding(elf_model::specs::Fields::with_field))]
-fn put_fault<R: Render>(line: &mut Line, state: FileState)
-    requires { array_vec_len line.old ≤ 100 }
+pub fn put_fault<R: Render>(line: &mut Line, state: FileState)
+    requires { array_vec_len line.old ≤ 150 }
     ensures items { line.new.items ≡ with_fields R.FORMAT line.old.items (fault_fields state) }
 {
     if let FileState::Refused(refusal) = state {

@@ -17,7 +17,7 @@ mod symbol_rows;
 mod trait_rows;
 mod version_rows;
 
-pub use check_rows::{show_check, show_unnamed};
+pub use check_rows::{put_fault, show_check, show_unnamed};
 pub use dynamic_rows::dynamic_front;
 pub use elf_fields::{
     Columns, LINES_BUFFER_BYTES, Line, LineFront, NextName, Object, Render, show_joined, show_named,

@@ -9,6 +9,7 @@ use Rattle.elf_headers.specs.declared.fault.Fault.TheVariants.{Refused, Source}
 use Rattle.elf_binding.specs.Binds.{AreObjectsOf, AskedFirst, Binds, asked_of_all, reached}
 use Rattle.elf_binding.specs.Kept.{KeptObject}
 use Rattle.elf_binding.specs.Looks.{FailsIn, FaultLeaves, Pays, Spends}
+use Rattle.elf_binding.proofs.OpenLaws.{pays_then}
 use Rattle.elf_binding.specs.declared.binding.Blame.{Blame}
 use Rattle.elf_binding.specs.declared.binding.BoundName.{BoundName}
 use Rattle.elf_needs.specs.Bound.{AsksAll, IsLimited, OnlyLimited, SameObject}
@@ -24,14 +25,6 @@ same_element (x ∷ xs) (suc n) d e less = same_element xs n d e (omega (arith, 
 pays_none : (left : Option ℕ) (asked : ℕ) → Pays left left asked asked
 pays_none None asked = tt
 pays_none (Some bytes) asked = refl
-
-pays_then : (l0 l1 l2 : Option ℕ) (a b c : ℕ) → Pays l0 l1 a b → Pays l1 l2 b c → Pays l0 l2 a c
-pays_then None None None a b c p q = tt
-pays_then (Some l0) (Some l1) (Some l2) a b c p q = omega (arith, p, q)
-pays_then None None (Some l2) a b c p q = absurd q
-pays_then None (Some l1) l2 a b c p q = absurd p
-pays_then (Some l0) None l2 a b c p q = absurd p
-pays_then (Some l0) (Some l1) None a b c p q = absurd q
 
 pays_one : (l0 l1 : Option ℕ) (one more all next : ℕ) → Pays l0 l1 one more → next + one ≡ all + more → Pays l0 l1 all next
 pays_one None None one more all next p same = tt

@@ -13,11 +13,11 @@ use Rattle.elf_model.specs.declared.states.BindingState.TheVariants as state
 use Rattle.elf_headers.specs.declared.fault.Fault.{Fault}
 use Rattle.elf_headers.specs.declared.fault.Fault.TheVariants.{Refused, Source}
 use Rattle.elf_binding.specs.Binds.{TellsBinding}
-use Rattle.elf_binding.specs.Sought.{RefusesAs, TellsLacks, TellsSought, TellsWhole, asked_if}
+use Rattle.elf_binding.specs.Sought.{IsToldAlone, RefusesAs, TellsAs, TellsSought, TellsWhole, asked_if}
 use Rattle.elf_binding.specs.declared.binding.Blame.{Blame}
 use Rattle.elf_loader.specs.Naming.{IsFileIf}
 use Rattle.elf_versions.specs.declared.record.VersionRecord.{VersionRecord}
-use Rattle.elf_needs.specs.Bound.{IsToldAlone, TellsItem}
+use Rattle.elf_needs.specs.Bound.{TellsItem}
 
 pub wanted_is : (wanted : Wanted) (name : List ℕ) (asked : Asked) → wanted.name ≡ name → wanted.asked ≡ asked → wanted ≡ record { name = name; asked = asked }
 wanted_is wanted name asked n a = rw (← n, ← a) refl
@@ -142,10 +142,10 @@ module _ (objects : BoundObjects) (name version : List ℕ) where
       refused_by scope found refusal e = rw (found, file_lacks) (rw e refl)
 
       module _ (low : place < length objects.files) (scope : Scope) (found : scope_of (get_or objects.files place []) objects.headers ≡ Ok scope) where
-        pub lacks_it : (lacks : Bool) → TellsLacks (lacks_version (get_or objects.files place []) scope.symbols version) (Ok lacks) → object_lacks objects name version ≡ lacks
+        pub lacks_it : (lacks : Bool) → TellsAs (lacks_version (get_or objects.files place []) scope.symbols version) (Ok lacks) → object_lacks objects name version ≡ lacks
         lacks_it lacks tells = there low ∙ lacks_by scope found lacks tells
 
-        pub lacks_refused : (fault : Fault) → (IsToldAlone fault → ⊥) → TellsLacks (lacks_version (get_or objects.files place []) scope.symbols version) (Err fault) → object_lacks objects name version ≡ false
+        pub lacks_refused : (fault : Fault) → (IsToldAlone fault → ⊥) → TellsAs (lacks_version (get_or objects.files place []) scope.symbols version) (Err fault) → object_lacks objects name version ≡ false
         lacks_refused (Refused refusal) alone tells = there low ∙ refused_by scope found refusal (tells alone)
         lacks_refused (Source fault at) alone tells = absurd (alone tt)
 

@@ -11,7 +11,9 @@ use Rattle.elf_model.specs.Loader.{Symbols}
 use Rattle.elf_model.specs.LoaderFind.{counts_check}
 use Rattle.elf_model.specs.LoaderScope.{Scope as IsScopeOf, scope_of}
 use Rattle.elf_model.specs.Traits.{hashed_symbol_count}
-use Rattle.elf_binding.specs.Sought.{RefusesAs}
+use Rattle.elf_binding.specs.Binds.{AreObjectsOf}
+use Rattle.elf_binding.specs.Kept.{KeptObject}
+use Rattle.elf_binding.specs.Sought.{CountsHashed, RefusesAs}
 use Rattle.elf_model.specs.declared.causes.Refusal.{Refusal}
 use Rattle.elf_model.specs.declared.formats.Format.{Format}
 use Rattle.elf_model.specs.declared.states.BindingState.{BindingState}
@@ -21,6 +23,7 @@ use Rattle.elf_source.specs.declared.faults.OutFault.{OutFault}
 use Rattle.elf_headers.specs.declared.fault.Fault.{Fault}
 use Rattle.elf_headers.specs.declared.fault.Fault.TheVariants.{Refused, Source}
 use Rattle.elf_needs.specs.Bound.{failing_of, IsCutText, IsLimited, LeadsItems, OnlyLimited, TellsFault, TellsItem, WritesSymbol, WritesLines, WritesSoFar}
+use Rattle.elf_needs.proofs.AskLaws.{file_here}
 use Rattle.elf_needs.specs.declared.among.Came.{Came}
 use Rattle.elf_needs.specs.declared.among.Came.TheVariants.{Cut, Ended, Whole}
 use Rattle.elf_needs.specs.declared.walk.NeedsFault.{NeedsFault}
@@ -286,3 +289,50 @@ pub parts_of : (item : Option BoundItem) (rest : List BoundItem) → (behind : L
 parts_of None rest = (rest, refl)
 parts_of (Some (Faulty refusal)) rest = ([], refl)
 parts_of (Some (Told object symbol found name)) rest = (rest, refl)
+
+-- how the lines of an object end, and not those of a symbol alone
+abbrev pub IsEnd : Result Came NeedsFault → Type 0
+IsEnd (Ok (Whole fails)) = ⊥
+IsEnd (Ok Ended) = Unit {0}
+IsEnd (Ok Cut) = Unit {0}
+IsEnd (Err fault) = Unit {0}
+
+-- THE ITEM OF ONE SYMBOL more is written, and others may be left, or it is the end
+module _ {format : Format} {all : List BoundItem} {a b : Written} {fails : Bool} (left : List BoundItem) (item : Option BoundItem) (rest : List BoundItem) (c : Written) (before : WritesSoFar format all left a b fails) (next : left ≡ before_items item rest) where
+  item_more : (limited : Type 0) (more : Bool) → WritesSymbol format item limited b c (Ok (Whole more)) → WritesSoFar format all rest a c (fails || more)
+  item_more limited more wrote = so_far_more left (before_items item []) rest more before (next ∙ wrote.leads rest) wrote.writes.0 wrote.writes.1
+
+  item_ends : (inner outer : Type 0) → (inner → outer) → (result : Result Came NeedsFault) → IsEnd result → WritesSymbol format item inner b c result → WritesLines format all outer a c result
+  item_ends inner outer out_of (Ok (Whole more)) end wrote = absurd end
+  item_ends inner outer out_of (Ok Ended) end wrote = ends_last left (before_items item []) c inner outer before (next ∙ wrote.leads rest) wrote.writes
+  item_ends inner outer out_of (Ok Cut) end wrote = let parts = parts_of item rest in ends_cut left (before_items item []) parts.0 c inner outer out_of before (next ∙ parts.1) wrote.writes
+  item_ends inner outer out_of (Err fault) end wrote = let parts = parts_of item rest in ends_fault left (before_items item []) parts.0 c inner outer out_of before (next ∙ parts.1) fault wrote.writes
+
+-- how many symbols an object has, whose scope is found in its file
+pub record SymbolsIn (file : List ℕ) (headers count : ℕ) : Type 0 where
+  pub told : IsScopeOf
+  pub scope : scope_of file headers ≡ Ok told
+  pub hashed : symbols_hashed file told ≡ Ok count
+  pub fits : count ≤ told.table.symbols
+
+pub counted_in : (headers n count : ℕ) (objects : List KeptObject) (files : List (List ℕ)) (d new : KeptObject) {l0 l1 : Option ℕ} (result : Result ℕ Fault) → result ≡ Ok count
+    → CountsHashed (get_or objects n d) new l0 l1 result → AreObjectsOf headers objects files → n < length objects → SymbolsIn (get_or files n []) headers count
+counted_in headers n count objects files d new result is counts are less =
+    let file = get_or files n [] in
+    let here = file_here headers n objects files d are less in
+    let counted = counts.known file here.0 in
+    let hashed : symbols_hashed file counted.0 ≡ Ok count = rw is at counted.2 in
+    record { told = counted.0; scope = ap (scope_of file) (sym here.1) ∙ counted.1; hashed = hashed; fits = hashed_fits file counted.0 count hashed }
+
+-- THE LINE OF ONE SYMBOL of an object more is written, and it is the last, or others are left
+module _ (objects : BoundObjects) (place : ℕ) (file : List ℕ) (count symbol : ℕ) (has : SymbolsIn file objects.headers count) (less : symbol < count) {format : Format} {a b : Written} {fails : Bool} (c : Written)
+    (before : WritesSoFar format (items_from objects place file has.told.symbols 1 (count - 1)) (items_from objects place file has.told.symbols symbol (count - symbol)) a b fails) where
+  pub symbol_more : (limited : Type 0) (more : Bool) → WritesSymbol format (bound_item objects place file has.told.symbols symbol) limited b c (Ok (Whole more))
+      → WritesSoFar format (items_from objects place file has.told.symbols 1 (count - 1)) (items_from objects place file has.told.symbols (symbol + 1) (count - (symbol + 1))) a c (fails || more)
+  symbol_more limited more wrote = item_more _ _ _ c before (items_next objects place file has.told.symbols symbol count less) limited more wrote
+
+  pub symbol_ends : (inner outer : Type 0) → (inner → outer) → (result : Result Came NeedsFault) → IsEnd result → WritesSymbol format (bound_item objects place file has.told.symbols symbol) inner b c result
+      → WritesLines format (object_items objects place file) outer a c result
+  symbol_ends inner outer out_of result end wrote =
+      subst (λ (all : List BoundItem). WritesLines format all outer a c result) (sym (items_are objects place file has.told has.scope count has.hashed))
+      (item_ends _ _ _ c before (items_next objects place file has.told.symbols symbol count less) inner outer out_of result end wrote)

@@ -1,18 +1,22 @@
 -- What binding the symbols of a program's objects did, over files that are kept open.
 use Rattle.std.specs.Prelude.{ℕ, ◌≡◌, ◌<◌, ◌≤◌, ◌⊎◌, Bool, true, false, List, [], ◌++◌, length, get_or, Option, None, Some, Result, Ok, Err}
-use Rattle.elf_model.specs.BoundSymbols.{BoundItem, BoundObjects, Faulty, Told, any_unbound, before_items, bound_text}
+use Rattle.elf_model.specs.Bindings.{is_weak}
+use Rattle.elf_model.specs.BoundSymbols.{BoundItem, BoundObjects, Faulty, Told, any_unbound, before_items, bound_text, file_of_version}
 use Rattle.elf_model.specs.Budget.{IsBudget}
 use Rattle.elf_model.specs.Lines.{refusal_line}
+use Rattle.elf_model.specs.Loader.{symbol_offset}
+use Rattle.elf_model.specs.LoaderScope.{Scope as IsScopeOf, scope_of}
 use Rattle.elf_model.specs.declared.causes.Refusal.{Refusal}
 use Rattle.elf_model.specs.declared.formats.Format.{Format}
 use Rattle.elf_model.specs.declared.states.BindingState.{BindingState}
 use Rattle.elf_source.specs.Output.{OutFails, Takes, TakesFront, Written}
 use Rattle.elf_headers.specs.declared.fault.Fault.{Fault}
 use Rattle.elf_headers.specs.declared.fault.Fault.TheVariants.{Refused, Source}
-use Rattle.elf_binding.specs.Binds.{asked_of_all}
+use Rattle.elf_binding.specs.Binds.{AreObjectsOf, asked_of_all}
 use Rattle.elf_binding.specs.Kept.{KeptObject}
 use Rattle.elf_binding.specs.Looks.{Pays}
-use Rattle.elf_binding.specs.Sought.{RefusesAs}
+use Rattle.elf_binding.specs.declared.sought.SoughtSymbol.{SoughtSymbol}
+use Rattle.elf_loader.specs.Naming.{IsFileIf}
 use Rattle.elf_needs.specs.Called.{called_by}
 use Rattle.elf_needs.specs.declared.among.Among.{Among}
 use Rattle.elf_needs.specs.declared.among.Came.{Came}
@@ -53,19 +57,12 @@ abbrev pub OnlyLimited : Option ℕ → Fault → Type 0
 OnlyLimited left (Refused refusal) = IsBudget refusal → IsLimited left
 OnlyLimited left (Source fault at) = Unit {0}
 
--- a fault is no refusal of a file: a read failed, or the budget is used up
-abbrev pub IsToldAlone : Fault → Type 0
-IsToldAlone (Refused refusal) = IsBudget refusal
-IsToldAlone (Source fault at) = Unit {0}
-
--- the state of a symbol is the definition's, or the refusal is, unless that is for want of budget
-abbrev pub TellsBindingState : Result BindingState Refusal → Result BindingState Fault → Type 0
-TellsBindingState told (Ok found) = told ≡ Ok found
-TellsBindingState told (Err fault) = RefusesAs told fault
-
-abbrev pub TellsWhether : Result Bool Refusal → Result Bool Fault → Type 0
-TellsWhether told (Ok lacks) = told ≡ Ok lacks
-TellsWhether told (Err fault) = RefusesAs told fault
+-- what is told over known files of a symbol of the object at a place, of which this was read
+abbrev pub OfSought : List KeptObject → (place symbol : ℕ) → SoughtSymbol → (ℕ → List (List ℕ) → IsScopeOf → Type 0) → Type 0
+OfSought objects place symbol sought tells =
+    (headers : ℕ) (files : List (List ℕ)) (told : IsScopeOf) → AreObjectsOf headers objects files → scope_of (get_or files place []) headers ≡ Ok told
+    → 0 < told.table.symbols → sought.weak ≡ is_weak (get_or files place []) (symbol_offset told.symbols symbol)
+    → IsFileIf (get_or files place []) (file_of_version (get_or files place []) told.symbols symbol) sought.file → tells headers files told
 
 -- what is told of a symbol of an object, under a name
 abbrev pub TellsItem : Option BoundItem → (object symbol : ℕ) → (name : List ℕ) → Result (Option BindingState) Fault → Type 0

@@ -1,11 +1,13 @@
 -- The lines of the objects that a program needs.
 use Rattle.std.specs.Prelude.{ℕ, [], ◌∷◌, List, codes, Option, None, Some}
-use Rattle.elf_model.specs.Causes.{cause_word}
+use Rattle.elf_model.specs.Checking.{fault_fields}
 use Rattle.elf_model.specs.Fields.{Field, Fields, LineFront, closed_line, front}
-use Rattle.elf_model.specs.Fields.Field.{Decimal, Hexadecimal, Hyphen, NameOrDecimal, Word}
+use Rattle.elf_model.specs.Fields.Field.{Decimal, Hexadecimal, NameOrDecimal, Word}
 use Rattle.elf_model.specs.Lines.{named_line}
 use Rattle.elf_model.specs.Names.Shown.{Whole}
 use Rattle.elf_model.specs.declared.formats.Format.{Format}
+use Rattle.elf_model.specs.declared.states.FileState.{FileState}
+use Rattle.elf_model.specs.declared.states.FileState.TheVariants as file
 use Rattle.elf_needs.specs.declared.states.ObjectState.{ObjectState}
 use Rattle.elf_needs.specs.declared.states.ObjectState.TheVariants as state
 
@@ -15,11 +17,11 @@ object_word state.Found = codes "found"
 object_word state.Missing = codes "missing"
 object_word (state.Refused refusal) = codes "refused"
 
--- where an object is refused and why, or a hyphen
-abbrev pub refusal_fields : ObjectState → List Field
-refusal_fields (state.Refused refusal) =
-    Hexadecimal (codes "place") 16 refusal.at ∷ Word (codes "cause") 0 (cause_word refusal.cause) ∷ []
-refusal_fields _ = Hyphen ∷ []
+-- a file that is at fault where an object is refused
+abbrev pub file_state : ObjectState → FileState
+file_state (state.Refused refusal) = file.Refused refusal
+file_state state.Found = file.Ok
+file_state state.Missing = file.Ok
 
 -- the index of the object that first needed one; a hyphen for the file itself
 abbrev pub needer_field : Option ℕ → Field
@@ -30,7 +32,7 @@ needer_field (Some index) = NameOrDecimal (codes "needed_by") 5 None index
 abbrev pub object_fields : ℕ → Option ℕ → ObjectState → Fields
 object_fields index needer found = record {
   letter = codes "L";
-  fields = Decimal (codes "index") 5 index ∷ needer_field needer ∷ Word (codes "state") 8 (object_word found) ∷ refusal_fields found;
+  fields = Decimal (codes "index") 5 index ∷ needer_field needer ∷ Word (codes "state") 8 (object_word found) ∷ fault_fields (file_state found);
 }
 
 -- an object's line up to its path

@@ -6,14 +6,9 @@ ghost use Rattle.elf_model.specs.LoaderScope.{Scope as IsScopeOf, scope_of};
 ghost use Rattle.elf_needs.specs.Bound.{AsksAll, IsLimited, TellsFault, WritesSymbol, WritesBindings, WritesLines, bound_among, bound_of, status_after};
 
 use crate::among::{Among, Came, either, failing, index_at};
-use crate::binding_rows::show_binding;
 use crate::bound_states::{SymbolAt, item_of};
-use crate::faults::is_budget;
-use crate::open_objects::OpenObjects;
-use crate::sought_names::SoughtNames;
-use crate::states::is_unbound;
 use crate::walk::{NeedsFault, ObjectWalk};
-use elf_binding::Object;
+use elf_binding::{Object, OpenObjects, SoughtNames, is_budget, is_unbound, show_binding};
 use elf_headers::Fault;
 use elf_lines::show_refusal;
 use elf_model::Format;
@@ -31,19 +26,19 @@ impl<W: Sink> ObjectWalk<'_, '_, W> {
     #[inline(never)]
     pub fn bind<S: Source + Drop>(&mut self, opened: &mut OpenObjects<S>) -> Result<u8, NeedsFault>
         ensures asks { AsksAll opened.old.objects.items opened.new.objects.items
-            self.old.search.left self.new.search.left }
+            self.old.search.account.left self.new.search.account.left }
         ensures known { (headers : ℕ) (files : List (List ℕ)) →
             AreObjectsOf headers opened.old.objects.items files →
             WritesBindings self.old.format
             (bound_items (bound_of headers files opened.old.indexes.items self.old.objects))
-            (IsLimited self.old.search.left) self.old.out self.new.out self.old.status result }
+            (IsLimited self.old.search.account.left) self.old.out self.new.out self.old.status result }
     {
         let among = Among {
             indexes: &opened.indexes,
             known: &self.objects,
             format: self.format,
         };
-        let left = &mut self.search.left;
+        let left = &mut self.search.account.left;
         let came = bind_all(&mut opened.objects, &among, left, &mut self.out)?;
         self.status = status_after(came, self.status);
         Ok(self.status)

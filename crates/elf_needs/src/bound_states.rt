@@ -1,19 +1,17 @@
 //! What binds a symbol that an object of a program asks others for.
 ghost use Rattle.std.specs.Prelude.{◌≡◌, ◌<◌, ◌≤◌, ℕ, [], List, Option, None, Some, Ok, IfErr, get_or, length};
 ghost use Rattle.elf_binding.specs.Binds.{AreObjectsOf};
-ghost use Rattle.elf_binding.specs.Sought.{RefusesAs, asked_if};
-ghost use Rattle.elf_loader.specs.Naming.{IsFileIf};
-ghost use Rattle.elf_model.specs.Bindings.{is_weak};
-ghost use Rattle.elf_model.specs.BoundSymbols.{bound_item, file_of_version, index_at, lacks_asked, object_lacks, state_in};
-ghost use Rattle.elf_model.specs.Loader.{asked_name, symbol_offset};
+ghost use Rattle.elf_binding.specs.Sought.{TellsAs, asked_if};
+ghost use Rattle.elf_model.specs.BoundSymbols.{bound_item, lacks_asked, object_lacks, state_in};
+ghost use Rattle.elf_model.specs.Loader.{asked_name};
 ghost use Rattle.elf_model.specs.LoaderScope.{Scope as IsScopeOf, scope_of};
-ghost use Rattle.elf_needs.specs.Bound.{AsksAll, OnlyLimited, TellsItem, TellsBindingState, TellsWhether, bound_among};
+ghost use Rattle.elf_needs.specs.Bound.{AsksAll, OfSought, OnlyLimited, TellsItem, bound_among};
 
 use crate::among::{Among, index_at, place_of};
-use crate::faults::is_told_alone;
-use crate::sought_names::{SoughtNames, show_name};
-use crate::states::unbound_state;
-use elf_binding::{Blame, BoundName, Object, SoughtSymbol, bind};
+use elf_binding::{
+    Blame, BoundName, Object, SoughtNames, SoughtSymbol, bind, is_told_alone, show_name,
+    unbound_state,
+};
 use elf_headers::Fault;
 use elf_model::BindingState;
 use elf_source::Source;
@@ -78,18 +76,12 @@ fn state_of<S: Source>(
     ensures asks { AsksAll objects.old objects.new left.old left.new }
     ensures limited { IfErr result (OnlyLimited left.old) }
     ensures shown { names.new.shown ≡ names.old.shown }
-    ensures known { (headers : ℕ) (files : List (List ℕ)) (told : IsScopeOf) →
-        AreObjectsOf headers objects.old files →
-        scope_of (get_or files at.place []) headers ≡ Ok told → 0 < told.table.symbols →
-        sought.now.weak
-        ≡ is_weak (get_or files at.place []) (symbol_offset told.symbols at.symbol) →
-        IsFileIf (get_or files at.place [])
-        (file_of_version (get_or files at.place []) told.symbols at.symbol) sought.now.file →
-        TellsBindingState (state_in (bound_among headers files among.now) (get_or files at.place [])
+    ensures known { OfSought objects.old at.place at.symbol sought.now (λ headers files told.
+        TellsAs (state_in (bound_among headers files among.now) (get_or files at.place [])
         told.symbols at.symbol (record {
           name = names.old.name;
           asked = asked_if sought.now.versioned names.old.version;
-        })) result }
+        })) result) }
 {
     let wanted = names.wanted(sought.versioned);
     match bind(objects, left, &wanted) {
@@ -129,16 +121,10 @@ fn lacks_version<S: Source>(
     ensures asks { AsksAll objects.old objects.new left.old left.new }
     ensures limited { IfErr result (OnlyLimited left.old) }
     ensures shown { names.new.shown ≡ names.old.shown }
-    ensures known { (headers : ℕ) (files : List (List ℕ)) (told : IsScopeOf) →
-        AreObjectsOf headers objects.old files →
-        scope_of (get_or files at.place []) headers ≡ Ok told → 0 < told.table.symbols →
-        sought.now.weak
-        ≡ is_weak (get_or files at.place []) (symbol_offset told.symbols at.symbol) →
-        IsFileIf (get_or files at.place [])
-        (file_of_version (get_or files at.place []) told.symbols at.symbol) sought.now.file →
-        TellsWhether (lacks_asked (bound_among headers files among.now) (get_or files at.place [])
+    ensures known { OfSought objects.old at.place at.symbol sought.now (λ headers files told.
+        TellsAs (lacks_asked (bound_among headers files among.now) (get_or files at.place [])
         told.symbols at.symbol (asked_name (asked_if sought.now.versioned names.old.version)))
-        result }
+        result) }
 {
     if !sought.versioned {
         return Ok(false);
@@ -175,7 +161,7 @@ fn lacks_in<S: Source>(
     ensures asks { AsksAll objects.old objects.new left.old left.new }
     ensures limited { IfErr result (OnlyLimited left.old) }
     ensures known { (headers : ℕ) (files : List (List ℕ)) → AreObjectsOf headers objects.old files →
-        TellsWhether (Ok (object_lacks (bound_among headers files among.now) name.now version.now))
+        TellsAs (Ok (object_lacks (bound_among headers files among.now) name.now version.now))
         result }
 {
     let Some(index) = among.known.called(name) else {

@@ -1,5 +1,5 @@
 //! The objects that are known so far.
-ghost use Rattle.std.specs.Prelude.{◌≡◌, option_map, position};
+ghost use Rattle.std.specs.Prelude.{◌≡◌, is_some, option_map, position};
 ghost use Rattle.elf_needs.specs.Called.{called_by, is_called, is_text, short_index, text_told};
 
 use elf_libraries::{FileLinks, LinkStore, Need, Texts, folder_of_path};
@@ -112,13 +112,11 @@ impl Objects {
     }
 
     /// Whether an object has a name: it was needed by it, or calls itself so.
-    pub(crate) fn has_name(&self, name: &[u8]) -> bool {
-        for known in &self.known {
-            if self.is_called(known, name) {
-                return true;
-            }
-        }
-        false
+    pub(crate) fn has_name(&self, name: &[u8]) -> bool
+        ensures { result
+            ≡ is_some (position (is_called self.now.links.held.texts name.now) self.now.known.items) }
+    {
+        self.first_called(name).is_some()
     }
 
     /// The index of the first object that has a name.
@@ -130,7 +128,8 @@ impl Objects {
 
     /// The place of the first object that has a name.
     fn first_called(&self, name: &[u8]) -> Option<usize>
-        ensures { result ≡ position (is_called self.now.links.held.texts name.now) self.now.known.items }
+        ensures { result
+            ≡ position (is_called self.now.links.held.texts name.now) self.now.known.items }
     {
         self.known
             .iter()

@@ -5,25 +5,20 @@
 #![tactic(auto)]
 
 mod among;
-mod binding_rows;
 mod bindings;
 mod bound_states;
 mod candidates;
-mod faults;
 mod known;
+mod object_file;
 mod object_rows;
-mod open_objects;
 mod room;
 mod search;
-mod sought_names;
 mod states;
 mod walk;
 
-pub use binding_rows::show_binding;
-pub use elf_model::BindingState;
+pub use elf_binding::OpenObjects;
 pub use known::MOST_OBJECTS;
 pub use object_rows::{show_object, show_too_many};
-pub use open_objects::OpenObjects;
 pub use room::NeedsRoom;
 pub use search::SearchedFolders;
 pub use states::ObjectState;

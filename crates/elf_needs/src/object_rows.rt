@@ -1,18 +1,16 @@
 //! The lines of the objects that a program needs.
 ghost use Rattle.std.specs.Prelude.{◌≡◌, ◌≤◌, length};
-ghost use Rattle.arrayvec.specs.ArrayVec.{array_vec_len};
-ghost use Rattle.elf_model.specs.Fields.{with_fields};
 ghost use Rattle.elf_source.specs.Output.{Puts};
 ghost use Rattle.elf_fields.specs.Fronts.{front_of};
-ghost use Rattle.elf_needs.specs.ObjectLines.{object_front, object_line, object_word, refusal_fields, too_many_line};
+ghost use Rattle.elf_needs.specs.ObjectLines.{file_state, object_front, object_line, object_word, too_many_line};
 
 use crate::states::ObjectState;
 use elf_fields::{
-    Columns, Line, LineFront, Object, Render, begin, begin_named, put, put_closing, put_decimal,
+    Columns, Line, LineFront, Object, Render, begin, begin_named, put_closing, put_decimal,
     put_hexadecimal, put_name_or_decimal, put_text, show_named,
 };
-use elf_lines::cause_word;
-use elf_model::Format;
+use elf_lines::put_fault;
+use elf_model::{FileState, Format};
 use elf_source::{Out, OutFault, Sink};
 
 /// The `L` line of an object up to its path.
@@ -31,29 +29,16 @@ fn object_row<R: Render>(front: &mut LineFront, index: u16, needer: Option<u16>,
         }
     }
     put_text::<R>(line, b"state", 8, object_word(state).as_bytes(), b' ');
-    put_refusal::<R>(line, state);
+    put_fault::<R>(line, file_state(state));
 }
 
-/// Puts where an object is refused and why; in columns a hyphen for one that is not refused.
-#[tactic(auto, unfolding(elf_model::specs::Fields::with_field))]
-fn put_refusal<R: Render>(line: &mut Line, state: ObjectState)
-    requires { array_vec_len line.old ≤ 150 }
-    ensures items { line.new.items ≡ with_fields R.FORMAT line.old.items (refusal_fields state) }
+/// The state of a file that is at fault where an object is refused.
+fn file_state(state: ObjectState) -> FileState
+    ensures { result ≡ file_state state }
 {
-    if let ObjectState::Refused(refusal) = state {
-        put_hexadecimal::<R>(line, b"place", 16, refusal.at, b' ');
-        put_text::<R>(
-            line,
-            b"cause",
-            0,
-            cause_word(refusal.cause).as_bytes(),
-            b' ',
-        );
-        return;
-    }
-    match R::FORMAT {
-        Format::Columns => put(line, b"- "),
-        Format::Object => {}
+    match state {
+        ObjectState::Refused(refusal) => FileState::Refused(refusal),
+        ObjectState::Found | ObjectState::Missing => FileState::Ok,
     }
 }
 

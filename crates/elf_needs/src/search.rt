@@ -1,8 +1,10 @@
 //! The search for a library.
 ghost use Rattle.std.specs.Prelude.{◌≤◌, length};
+ghost use Rattle.elf_needs.specs.Budget.{AsksFound};
 
 use crate::candidates::{FileSource, candidate};
 use crate::known::{Known, MOST_OBJECTS, Objects};
+use crate::object_file::{Account, ObjectFile};
 use crate::walk::NeedsFault;
 use elf_libraries::{FolderLists, LibrarySearch, Needer, TriedPath, gather_folders, named_path};
 use memchr::memchr;
@@ -30,8 +32,8 @@ pub(crate) struct Search<'s> {
     pub machine: u16,
     /// The path that is tried.
     pub path: TriedPath,
-    /// What is left of the budget, where there is one.
-    pub left: Option<u64>,
+    /// What is left of the budget, and what was asked for.
+    pub account: Account,
 }
 
 impl Search<'_> {
@@ -47,15 +49,16 @@ impl Search<'_> {
         objects: &Objects,
         needer: &Known,
         name: &[u8],
-    ) -> Result<Option<FileSource<R::File>>, NeedsFault>
+    ) -> Result<Option<ObjectFile<FileSource<R::File>>>, NeedsFault>
     where
         R::File: FileExt,
+        ensures { AsksFound self.old.account self.new.account result }
     {
         if memchr(b'/', name).is_some() {
             if !named_path(&mut self.path, self.folders.root, name) {
                 return Ok(None);
             }
-            return self.candidate(rt);
+            return candidate(rt, &self.path, self.machine, &mut self.account);
         }
         let mut lists = no_lists();
         gather(objects, needer, &self.folders, &mut lists);
@@ -67,25 +70,18 @@ impl Search<'_> {
         &mut self,
         rt: &R,
         search: LibrarySearch<'_>,
-    ) -> Result<Option<FileSource<R::File>>, NeedsFault>
+    ) -> Result<Option<ObjectFile<FileSource<R::File>>>, NeedsFault>
     where
         R::File: FileExt,
+        ensures { AsksFound self.old.account self.new.account result }
     {
         let mut search = search;
         while search.next(&mut self.path) {
-            if let Some(found) = self.candidate(rt)? {
+            if let Some(found) = candidate(rt, &self.path, self.machine, &mut self.account)? {
                 return Ok(Some(found));
             }
         }
         Ok(None)
-    }
-
-    /// Tries the path.
-    fn candidate<R: Files>(&mut self, rt: &R) -> Result<Option<FileSource<R::File>>, NeedsFault>
-    where
-        R::File: FileExt,
-    {
-        candidate(rt, &self.path, self.machine, &mut self.left)
     }
 }
 

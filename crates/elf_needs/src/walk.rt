@@ -1,19 +1,19 @@
 //! The objects of a program, in a loader's order.
 ghost use Rattle.std.specs.Prelude.{◌≡◌};
-ghost use Rattle.elf_needs.specs.Budget.{left_behind};
+ghost use Rattle.elf_needs.specs.Budget.{AsksFile, AsksFiles};
 
-use crate::candidates::{FileSource, take_off};
+use crate::candidates::FileSource;
 use crate::known::{Known, MOST_OBJECTS, Objects};
+use crate::object_file::{Account, ObjectFile};
 use crate::object_rows::{show_object, show_too_many};
-use crate::open_objects::OpenObjects;
 use crate::room::NeedsRoom;
 use crate::search::{Search, SearchedFolders};
 use crate::states::ObjectState;
-use elf_binding::PagedSource;
+use elf_binding::{OpenObjects, PagedSource};
 use elf_headers::{Fault, HeaderStore};
-use elf_libraries::{FileLinks, Need, TriedPath, machine_of, read_links};
+use elf_libraries::{FileLinks, Need, TriedPath};
 use elf_model::Format;
-use elf_source::{Counted, OffsetReader, Out, OutFault, Sink, Source, StreamSource};
+use elf_source::{Out, OutFault, Sink, Source};
 use std::os::unix::fs::FileExt;
 use std::rt::Files;
 
@@ -21,7 +21,7 @@ use std::rt::Files;
 pub type OpenFiles<F> = OpenObjects<KeptSource<F>>;
 
 /// The source of a file of the system that is kept open, with some of its pages.
-type KeptSource<F> = PagedSource<StreamSource<OffsetReader<F>>>;
+type KeptSource<F> = PagedSource<FileSource<F>>;
 
 /// Why a walk came to no end.
 #[derive(Clone, Copy)]
@@ -79,14 +79,22 @@ impl<'w, 's, W: Sink> ObjectWalk<'w, 's, W> {
         store: HeaderStore<'w>,
         room: NeedsRoom,
         out: Out<W>,
-    ) -> ObjectWalk<'w, 's, W> {
+    ) -> ObjectWalk<'w, 's, W>
+        ensures budget { result.search.account.left ≡ settings.now.budget }
+        ensures format { result.format ≡ settings.now.format }
+        ensures fresh { (result.status ≡ 0) × (result.search.account.spent ≡ 0) }
+        ensures out { result.out ≡ out }
+    {
         let NeedsRoom { objects } = room;
         ObjectWalk {
             search: Search {
                 folders: settings.folders,
                 machine: 0,
                 path: TriedPath::new(),
-                left: settings.budget,
+                account: Account {
+                    left: settings.budget,
+                    spent: 0,
+                },
             },
             objects,
             store,
@@ -97,7 +105,9 @@ impl<'w, 's, W: Sink> ObjectWalk<'w, 's, W> {
     }
 
     /// Gives the output back.
-    pub fn into_out(self) -> Out<W> {
+    pub fn into_out(self) -> Out<W>
+        ensures { result ≡ self.entry.out }
+    {
         let ObjectWalk { out, .. } = self;
         out
     }
@@ -123,6 +133,8 @@ impl<W: Sink> ObjectWalk<'_, '_, W> {
     ) -> Result<u8, NeedsFault>
     where
         R::File: FileExt,
+        ensures asks { AsksFiles opened.old.objects.items opened.new.objects.items 0
+            self.old.search.account self.new.search.account }
     {
         self.program(source, path, real, opened)?;
         for index in 0..MOST_OBJECTS {
@@ -139,24 +151,33 @@ impl<W: Sink> ObjectWalk<'_, '_, W> {
     /// Reads the program, and writes its line.
     fn program<S: Source + Drop>(
         &mut self,
-        source: Counted<S>,
+        source: S,
         path: &[u8],
         real: &[u8],
         opened: &mut OpenObjects<PagedSource<S>>,
-    ) -> Result<(), NeedsFault> {
-        let mut source = source;
-        source.limit(self.search.left);
-        match machine_of(&mut source) {
+    ) -> Result<(), NeedsFault>
+        ensures asks { AsksFiles opened.old.objects.items opened.new.objects.items 0
+            self.old.search.account self.new.search.account }
+    {
+        let mut file = ObjectFile::new(source);
+        let told = self.read_program(&mut file);
+        let told = self.keep(file, told, opened)?;
+        let kept = self.objects.keep_path(real);
+        self.add(None, None, kept, &told);
+        show_object(0, None, told.state, path, self.format, &mut self.out).map_err(NeedsFault::Out)
+    }
+
+    /// Reads the machine of the program, and what it needs.
+    fn read_program<S: Source>(&mut self, file: &mut ObjectFile<S>) -> Result<Told, NeedsFault>
+        ensures asks { AsksFile file.old file.new self.old.search.account self.new.search.account }
+    {
+        match file.machine(&mut self.search.account) {
             Ok(Some(machine)) => self.search.machine = machine,
             // That is told of the program where it is read.
             Ok(None) | Err(Fault::Refused(_)) => {}
             Err(Fault::Source { .. }) => return Err(NeedsFault::Read),
         }
-        let told = self.read(&mut source)?;
-        let told = self.keep(source, told, opened)?;
-        let kept = self.objects.keep_path(real);
-        self.add(None, None, kept, &told);
-        show_object(0, None, told.state, path, self.format, &mut self.out).map_err(NeedsFault::Out)
+        self.read(file)
     }
 
     /// Goes over what an object needs.
@@ -169,6 +190,8 @@ impl<W: Sink> ObjectWalk<'_, '_, W> {
     ) -> Result<Onward, NeedsFault>
     where
         R::File: FileExt,
+        ensures asks { AsksFiles opened.old.objects.items opened.new.objects.items 0
+            self.old.search.account self.new.search.account }
     {
         for place in known.needs..known.needs_end {
             let Some(need) = self.objects.need(place) else {
@@ -199,6 +222,8 @@ impl<W: Sink> ObjectWalk<'_, '_, W> {
     ) -> Result<(), NeedsFault>
     where
         R::File: FileExt,
+        ensures asks { AsksFiles opened.old.objects.items opened.new.objects.items 0
+            self.old.search.account self.new.search.account }
     {
         let objects = &self.objects;
         let name = objects.links.text(need.name);
@@ -206,18 +231,15 @@ impl<W: Sink> ObjectWalk<'_, '_, W> {
         let by = u16::try_from(index).ok();
         match found {
             None => self.add_missing(by, need.name),
-            Some(source) => self.add_found(by, need.name, source, opened),
+            Some(file) => self.add_found(by, need.name, file, opened),
         }
     }
 
     /// Adds a library that is not found, and writes its line.
-    fn add_missing(&mut self, by: Option<u16>, name: u32) -> Result<(), NeedsFault> {
-        let told = Told {
-            state: ObjectState::Missing,
-            links: NO_LINKS,
-            needs: 0,
-            needs_end: 0,
-        };
+    fn add_missing(&mut self, by: Option<u16>, name: u32) -> Result<(), NeedsFault>
+        ensures account { self.new.search.account ≡ self.old.search.account }
+    {
+        let told = told_alone(ObjectState::Missing);
         let index = self.add(by, Some(name), None, &told);
         let shown = self.objects.links.text(name);
         show_object(index, by, told.state, shown, self.format, &mut self.out).map_err(
@@ -230,12 +252,15 @@ impl<W: Sink> ObjectWalk<'_, '_, W> {
         &mut self,
         by: Option<u16>,
         name: u32,
-        source: Counted<S>,
+        file: ObjectFile<S>,
         opened: &mut OpenObjects<PagedSource<S>>,
-    ) -> Result<(), NeedsFault> {
-        let mut source = source;
-        let told = self.read(&mut source)?;
-        let told = self.keep(source, told, opened)?;
+    ) -> Result<(), NeedsFault>
+        ensures asks { AsksFiles opened.old.objects.items opened.new.objects.items file.asked
+            self.old.search.account self.new.search.account }
+    {
+        let mut file = file;
+        let told = self.read(&mut file);
+        let told = self.keep(file, told, opened)?;
         let path = self.objects.keep_path(&self.search.path);
         let index = self.add(by, Some(name), path, &told);
         show_object(
@@ -252,38 +277,36 @@ impl<W: Sink> ObjectWalk<'_, '_, W> {
     /// Reads what a file needs. What was asked of it is taken off the budget. It is not made part of its
     /// callers, whose stack would hold its buffers twice.
     #[inline(never)]
-    fn read<S: Source>(&mut self, source: &mut Counted<S>) -> Result<Told, NeedsFault>
-        ensures limit { source.new.most ≡ source.old.most }
-        ensures off { self.new.search.left ≡ left_behind self.old.search.left source.new.asked }
+    fn read<S: Source>(&mut self, file: &mut ObjectFile<S>) -> Result<Told, NeedsFault>
+        ensures asks { AsksFile file.old file.new self.old.search.account self.new.search.account }
     {
         let needs = self.objects.links.needs();
-        let links = read_links(source, &mut self.store, &mut self.objects.links);
-        take_off(&mut self.search.left, source);
-        match links {
+        let account = &mut self.search.account;
+        match file.links(account, &mut self.store, &mut self.objects.links) {
             Ok(links) => Ok(Told {
                 state: ObjectState::Found,
                 links,
                 needs,
                 needs_end: self.objects.links.needs(),
             }),
-            Err(Fault::Refused(refusal)) => Ok(Told {
-                state: ObjectState::Refused(refusal),
-                links: NO_LINKS,
-                needs,
-                needs_end: needs,
-            }),
+            Err(Fault::Refused(refusal)) => Ok(told_alone(ObjectState::Refused(refusal))),
             Err(Fault::Source { .. }) => Err(NeedsFault::Read),
         }
     }
 
-    /// Keeps the file of the next object open, if it is found and there is room for it.
+    /// Closes the file of the next object, and keeps its source open, if it is found and there is room for it.
     #[inline(never)]
     fn keep<S: Source + Drop>(
         &mut self,
-        source: Counted<S>,
-        told: Told,
+        file: ObjectFile<S>,
+        told: Result<Told, NeedsFault>,
         opened: &mut OpenObjects<PagedSource<S>>,
-    ) -> Result<Told, NeedsFault> {
+    ) -> Result<Told, NeedsFault>
+        ensures asks { AsksFiles opened.old.objects.items opened.new.objects.items file.asked
+            self.old.search.account self.new.search.account }
+    {
+        let source = file.close(&mut self.search.account);
+        let told = told?;
         let Ok(index) = u16::try_from(self.objects.len()) else {
             return Ok(told);
         };
@@ -292,29 +315,20 @@ impl<W: Sink> ObjectWalk<'_, '_, W> {
         }
         match opened.keep(
             index,
-            source.into_inner(),
+            source,
             &mut self.store,
-            &mut self.search.left,
+            &mut self.search.account.left,
         ) {
             Ok(()) => Ok(told),
-            Err(Fault::Refused(refusal)) => Ok(Told {
-                state: ObjectState::Refused(refusal),
-                links: NO_LINKS,
-                needs: told.needs,
-                needs_end: told.needs,
-            }),
+            Err(Fault::Refused(refusal)) => Ok(told_alone(ObjectState::Refused(refusal))),
             Err(Fault::Source { .. }) => Err(NeedsFault::Read),
         }
     }
 
     /// Adds an object, and answers its index.
-    fn add(
-        &mut self,
-        needer: Option<u16>,
-        name: Option<u32>,
-        path: Option<u32>,
-        told: &Told,
-    ) -> u16 {
+    fn add(&mut self, needer: Option<u16>, name: Option<u32>, path: Option<u32>, told: &Told) -> u16
+        ensures account { self.new.search.account ≡ self.old.search.account }
+    {
         if !matches!(told.state, ObjectState::Found) {
             self.status = 1;
         }
@@ -330,9 +344,16 @@ impl<W: Sink> ObjectWalk<'_, '_, W> {
     }
 }
 
-/// What an object tells that is not read.
-const NO_LINKS: FileLinks = FileLinks {
-    soname: None,
-    rpath: None,
-    runpath: None,
-};
+/// What an object comes to of which nothing but its state is told.
+fn told_alone(state: ObjectState) -> Told {
+    Told {
+        state,
+        links: FileLinks {
+            soname: None,
+            rpath: None,
+            runpath: None,
+        },
+        needs: 0,
+        needs_end: 0,
+    }
+}

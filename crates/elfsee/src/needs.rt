@@ -9,7 +9,7 @@ use elf_needs::{
     SearchedFolders,
 };
 use elf_requests::NeedsAsked;
-use elf_source::{Counted, Out, OutFault, WriteSink, opened_path};
+use elf_source::{Out, OutFault, WriteSink, opened_path};
 use std::io::{self, BufWriter, ErrorKind, Write};
 use std::os::unix::fs::FileExt;
 use std::rt::Files;
@@ -65,7 +65,7 @@ where
         Err(_) => return Err(CANNOT_OPEN),
     };
     let source = match open(rt, asked.file) {
-        Ok(source) => Counted::new(source),
+        Ok(source) => source,
         Err(ending) => return Err(ending),
     };
     let out = Out::new(WriteSink::new(output));

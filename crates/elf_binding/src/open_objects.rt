@@ -1,6 +1,10 @@
 //! The objects of a program whose files are kept open, so that names are looked for in them.
-use crate::candidates::take_off_bytes;
-use elf_binding::{Object, PagedSource};
+ghost use Rattle.std.specs.Prelude.{◌≡◌, [], IfOk};
+ghost use Rattle.elf_binding.specs.Opens.{AsksKept, KeepsOne};
+
+use crate::object::Object;
+use crate::paged_source::PagedSource;
+use crate::spending::take_off;
 use elf_headers::{Fault, HeaderStore};
 use elf_record::{Cause, Refusal};
 use elf_source::{Counted, Source};
@@ -11,8 +15,9 @@ use std::alloc::{AllocError, Global};
 #[derive(Drop)]
 pub struct OpenObjects<S: Source + Drop> {
     /// The objects.
-    pub(crate) objects: Vec<Object<S>>,
-    pub(crate) indexes: Vec<u16>,
+    pub objects: Vec<Object<S>>,
+    /// Their indexes among all.
+    pub indexes: Vec<u16>,
     most: usize,
 }
 
@@ -21,7 +26,10 @@ impl<S: Source + Drop> OpenObjects<S> {
     ///
     /// # Errors
     /// Where memory is refused.
-    pub fn new(alloc: Global, most: usize) -> Result<OpenObjects<S>, AllocError> {
+    pub fn new(alloc: Global, most: usize) -> Result<OpenObjects<S>, AllocError>
+        ensures none { IfOk result (λ o. o.objects.items ≡ []) }
+        ensures most { IfOk result (λ o. o.most ≡ most) }
+    {
         Ok(OpenObjects {
             objects: Vec::with_capacity(alloc, most)?,
             indexes: Vec::with_capacity(alloc, most)?,
@@ -30,7 +38,9 @@ impl<S: Source + Drop> OpenObjects<S> {
     }
 
     /// Puts an object behind the others.
-    fn push(&mut self, index: u16, object: Object<S>) {
+    fn push(&mut self, index: u16, object: Object<S>)
+        ensures { KeepsOne self.old.objects.items self.new.objects.items object }
+    {
         if self.indexes.push(index).is_ok() {
             let _ = self.objects.push(object);
         }
@@ -45,13 +55,15 @@ impl<S: Source + Drop> OpenObjects<PagedSource<S>> {
     ///
     /// # Errors
     /// Those of [`Object::open`] but `NoHash`.
-    pub(crate) fn keep(
+    pub fn keep(
         &mut self,
         index: u16,
         source: S,
         store: &mut HeaderStore,
         left: &mut Option<u64>,
-    ) -> Result<(), Fault> {
+    ) -> Result<(), Fault>
+        ensures { AsksKept self.old.objects.items self.new.objects.items left.old left.new }
+    {
         if self.objects.len() >= self.most {
             return Ok(());
         }
@@ -62,13 +74,13 @@ impl<S: Source + Drop> OpenObjects<PagedSource<S>> {
         match Object::open(source, store) {
             Ok(object) => {
                 let mut object = object;
-                take_off_bytes(left, object.asked());
+                take_off(left, object.asked());
                 object.prepare(left);
                 self.push(index, object);
                 Ok(())
             }
             Err((source, fault)) => {
-                take_off_bytes(left, source.asked());
+                take_off(left, source.asked());
                 unless_no_hash(fault)
             }
         }

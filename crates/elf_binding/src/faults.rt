@@ -1,13 +1,13 @@
 //! Faults that are told of no file alone.
-ghost use Rattle.elf_model.specs.Budget.{IsBudget};
-ghost use Rattle.elf_needs.specs.Bound.{IsToldAlone};
 ghost use Rattle.std.specs.Prelude.{MatchBool};
+ghost use Rattle.elf_binding.specs.Sought.{IsToldAlone};
+ghost use Rattle.elf_model.specs.Budget.{IsBudget};
 
 use elf_headers::Fault;
 use elf_record::{Cause, Refusal};
 
 /// Whether a fault of a lookup is no refusal of the file: a read failed, or the budget is used up.
-pub(crate) fn is_told_alone(fault: Fault) -> bool
+pub fn is_told_alone(fault: Fault) -> bool
     ensures { MatchBool result (IsToldAlone fault) (IsToldAlone fault → ⊥) }
 {
     match fault {
@@ -17,7 +17,7 @@ pub(crate) fn is_told_alone(fault: Fault) -> bool
 }
 
 /// Whether a refusal is that the budget is used up.
-pub(crate) fn is_budget(refusal: Refusal) -> bool
+pub fn is_budget(refusal: Refusal) -> bool
     ensures { MatchBool result (IsBudget refusal) (IsBudget refusal → ⊥) }
 {
     matches!(refusal.cause, Cause::Budget)

@@ -15,11 +15,11 @@ use elf_wanted::{Asked, Wanted};
 const SHOWN_BYTES: usize = 4096 + 1 + 4096;
 
 /// A name with its version, as a line shows it.
-pub(crate) type ShownName = ArrayVec<u8, SHOWN_BYTES>;
+pub type ShownName = ArrayVec<u8, SHOWN_BYTES>;
 
 /// The name and the version that a symbol asks others for.
 #[derive(Drop)]
-pub(crate) struct SoughtNames {
+pub struct SoughtNames {
     /// The name.
     pub name: NameBuf,
     /// The version, where it asks for one.
@@ -32,7 +32,7 @@ pub(crate) struct SoughtNames {
 
 impl SoughtNames {
     /// No name.
-    pub(crate) fn new() -> SoughtNames {
+    pub fn new() -> SoughtNames {
         SoughtNames {
             name: NameBuf::new(),
             version: NameBuf::new(),
@@ -42,7 +42,7 @@ impl SoughtNames {
     }
 
     /// What is looked for.
-    pub(crate) fn wanted(&self, versioned: bool) -> Wanted<'_>
+    pub fn wanted(&self, versioned: bool) -> Wanted<'_>
         ensures short { AreShort (the_wanted result) }
         ensures name { (the_wanted result).name ≡ self.now.name }
         ensures asked { (the_wanted result).asked ≡ asked_if versioned self.now.version }
@@ -62,7 +62,7 @@ impl SoughtNames {
 }
 
 /// Puts a name together with its version, if there is one.
-pub(crate) fn show_name(name: &NameBuf, version: &NameBuf, versioned: bool, shown: &mut ShownName)
+pub fn show_name(name: &NameBuf, version: &NameBuf, versioned: bool, shown: &mut ShownName)
     ensures { shown.new.items ≡ sought_name name.now
         (asked_name (asked_if versioned version.now)) }
 {

@@ -1,0 +1,94 @@
+//! The file of an object, before names are looked for in it.
+ghost use Rattle.std.specs.Prelude.{◌≡◌, ◌≤◌};
+ghost use Rattle.elf_needs.specs.Budget.{AsksFile};
+ghost use Rattle.elf_source.specs.Source.{counted};
+
+use elf_binding::take_off;
+use elf_headers::{Fault, HeaderStore};
+use elf_libraries::{FileLinks, LinkStore, machine_of, read_links};
+use elf_source::{Counted, Source};
+use std::marker::Model;
+
+/// What files may be asked for, and what they were asked for.
+#[derive(Drop)]
+pub(crate) struct Account {
+    /// What is left of the budget, where there is one.
+    pub left: Option<u64>,
+    /// How many bytes the files were asked for that are closed. It stays at 2^128 - 1.
+    pub spent: u128,
+}
+
+/// The file of an object. Nothing is asked of it but within what is left of a budget, where there is one,
+/// and by calls that take off what they asked for. It isn't let go but by [`ObjectFile::close`].
+pub(crate) struct ObjectFile<S: Source> {
+    source: Counted<S>,
+}
+
+impl<S: Source> Model for ObjectFile<S> {
+    ghost use Rattle.elf_source.specs.Source.{Counting};
+
+    ghost Value = { Counting };
+
+    ghost view = { λ f. f.source };
+}
+
+impl<S: Source> ObjectFile<S> {
+    /// A file of which nothing was asked yet.
+    pub(crate) fn new(source: S) -> Self
+        ensures asked { result.asked ≡ 0 }
+        ensures source { result.source ≡ S.seen source }
+    {
+        ObjectFile {
+            source: Counted::new(source),
+        }
+    }
+
+    /// Its machine, as [`machine_of`] tells it. No more is asked for than what is left of the budget, where
+    /// there is one; what was asked for is taken off.
+    ///
+    /// # Errors
+    /// Those of [`machine_of`].
+    pub(crate) fn machine(&mut self, account: &mut Account) -> Result<Option<u16>, Fault>
+        ensures { AsksFile self.old self.new account.old account.new }
+    {
+        let asked = self.source.asked();
+        self.source.limit(account.left);
+        let machine = machine_of(&mut self.source);
+        self.source.limit(None);
+        take_off(&mut account.left, self.source.asked() - asked);
+        machine
+    }
+
+    /// How it is linked, as [`read_links`] tells it. No more is asked for than what is left of the budget,
+    /// where there is one; what was asked for is taken off.
+    ///
+    /// # Errors
+    /// Those of [`read_links`].
+    pub(crate) fn links(
+        &mut self,
+        account: &mut Account,
+        store: &mut HeaderStore,
+        links: &mut LinkStore,
+    ) -> Result<FileLinks, Fault>
+        ensures { AsksFile self.old self.new account.old account.new }
+    {
+        let asked = self.source.asked();
+        self.source.limit(account.left);
+        let found = read_links(&mut self.source, store, links);
+        self.source.limit(None);
+        take_off(&mut account.left, self.source.asked() - asked);
+        found
+    }
+
+    /// Gives the source back. What was asked of it is added to what files were asked for.
+    pub(crate) fn close(self, account: &mut Account) -> S
+        ensures source { S.seen result ≡ self.source }
+        ensures left { account.new.left ≡ account.old.left }
+        ensures grows { account.old.spent ≤ account.new.spent }
+        ensures spent { account.new.spent ≡ counted account.old.spent self.asked }
+    {
+        account.spent = account.spent.saturating_add(self.source.asked());
+        let ObjectFile { source } = self;
+        source.into_inner()
+    }
+}
