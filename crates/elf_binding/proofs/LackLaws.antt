@@ -89,13 +89,21 @@ module _ (file : List ℕ) where
   -- the symbols with these alone
   abbrev pub only_definitions : AreSymbolsOf → AreSymbolsOf
   only_definitions told =
-      record { index = told.index; place = told.place; strings = told.strings; words = told.words; records = definitions_among told.records }
+      record {
+        index = told.index;
+        place = told.place;
+        strings = told.strings;
+        strings_at = told.strings_at;
+        words = told.words;
+        records = definitions_among told.records;
+      }
 
   pub are_definitions : (told : AreSymbolsOf) (symbols : Symbols) → IsSymbols file told symbols → IsSymbols file (only_definitions told) (definitions_of symbols)
   are_definitions told symbols is = record {
     index = is.index;
     place = is.place;
     names = is.names;
+    names_at = is.names_at;
     words = is.words;
     records = rw (← both_tables symbols.definitions symbols.needs) (among told.records _ is.records);
   }

@@ -125,7 +125,7 @@ impl<S: Source> Object<S> {
     {
         let asked = self.source.asked();
         self.source.limit(*left);
-        let count = hashed_symbols(&mut self.source, &self.scope.hash);
+        let count = hashed_symbols(&mut self.source, &self.scope);
         self.source.limit(None);
         take_off(left, self.source.asked() - asked);
         count

@@ -22,4 +22,4 @@ pub use object_rows::{show_object, show_too_many};
 pub use room::NeedsRoom;
 pub use search::SearchedFolders;
 pub use states::ObjectState;
-pub use walk::{NeedsFault, NeedsSettings, ObjectWalk, OpenFiles};
+pub use walk::{Listed, NeedsFault, NeedsSettings, ObjectWalk, OpenFiles};

@@ -52,6 +52,15 @@ struct Told {
     needs_end: usize,
 }
 
+/// What the listing of objects comes to.
+#[derive(Clone, Copy)]
+pub struct Listed {
+    /// The exit status.
+    pub status: u8,
+    /// Whether all objects are listed: else there are more than 512, which ends the answer.
+    pub whole: bool,
+}
+
 /// Whether a walk goes on.
 #[derive(Clone, Copy, PartialEq, Eq)]
 enum Onward {
@@ -116,7 +125,7 @@ impl<'w, 's, W: Sink> ObjectWalk<'w, 's, W> {
 impl<W: Sink> ObjectWalk<'_, '_, W> {
     /// Lists the objects that a program needs, in a loader's order: the program, then for each object in
     /// order each library that it needs and that is none of those before. A line for each. Answers the exit
-    /// status: 1 where one is missing or refused, or there are more than 512. No more is asked for, of all
+    /// status, 1 where one is missing or refused, or there are more than 512, and whether all are listed. No more is asked for, of all
     /// files together, than the budget has, where there is one. `path` is the program's as it is shown, and
     /// the folder of `real` stands for `$ORIGIN`. The files of those that are found are kept open, as far as
     /// there is room for them.
@@ -130,7 +139,7 @@ impl<W: Sink> ObjectWalk<'_, '_, W> {
         path: &[u8],
         real: &[u8],
         opened: &mut OpenFiles<R::File>,
-    ) -> Result<u8, NeedsFault>
+    ) -> Result<Listed, NeedsFault>
     where
         R::File: FileExt,
         ensures asks { AsksFiles opened.old.objects.items opened.new.objects.items 0
@@ -139,13 +148,23 @@ impl<W: Sink> ObjectWalk<'_, '_, W> {
         self.program(source, path, real, opened)?;
         for index in 0..MOST_OBJECTS {
             let Some(known) = self.objects.get(index) else {
-                return Ok(self.status);
+                return Ok(self.listed(true));
             };
             if self.needs_of(rt, index, &known, opened)? == Onward::TooMany {
-                return Ok(self.status);
+                return Ok(self.listed(false));
             }
         }
-        Ok(self.status)
+        Ok(self.listed(true))
+    }
+
+    /// What listing comes to so far, of all objects or not.
+    fn listed(&self, whole: bool) -> Listed
+        ensures { result ≡ record { status = self.now.status; whole = whole } }
+    {
+        Listed {
+            status: self.status,
+            whole,
+        }
     }
 
     /// Reads the program, and writes its line.

@@ -70,16 +70,18 @@ where
     };
     let out = Out::new(WriteSink::new(output));
     let mut walk = ObjectWalk::new(&settings(asked), store, room, out);
-    let mut listed = walk.list(
+    let listed = walk.list(
         rt,
         source,
         asked.file.as_bytes(),
         real.as_str().as_bytes(),
         &mut opened,
     );
-    if asked.symbols && listed.is_ok() {
-        listed = walk.bind(&mut opened);
-    }
+    let listed = match listed {
+        Ok(all) if asked.symbols && all.whole => walk.bind(&mut opened),
+        Ok(some) => Ok(some.status),
+        Err(fault) => Err(fault),
+    };
     let (ending, _output) = end_run(ended(listed), walk.into_out().into_inner().into_inner());
     Ok(ending)
 }

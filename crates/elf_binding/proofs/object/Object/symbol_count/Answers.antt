@@ -1,7 +1,6 @@
 -- The count between a limit that is set and taken away.
 use Rattle.std.proofs.Common.{◌+◌, ◌≤◌, refl, arith}
 use Rattle.elf_headers.proofs.LedgerLaws.{Charges-more}
-use Rattle.elf_binding.proofs.DefinerLaws.{place_of}
 use Rattle.elf_binding.proofs.SpendLaws.{spent_off}
 use Rattle.elf_binding.proofs.object.Object.symbol_count.Goals as goal
 
@@ -22,5 +21,5 @@ returns g c =
       pays = spent.1;
       known = λ file held.
           let is = kept.known file held in
-          (is.told, is.found, did.known file (rw set.seen held) is.told (place_of file is.told scope is.is));
+          (is.told, is.found, did.known file (rw set.seen held) is.told is.is);
     })
