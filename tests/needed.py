@@ -147,7 +147,7 @@ class Program:
 
     def __init__(self, path, library=b"", default=DEFAULT.encode(), most=4096):
         self.library, self.default, self.most, self.texts = library, default, most, Texts()
-        self.end, self.lines, self.status = None, [], 0
+        self.end, self.lines, self.status, self.ended = None, [], 0, False
         with open(path, "rb") as file:
             content = file.read()
         self.machine = machine_of(content)
@@ -158,7 +158,7 @@ class Program:
                 if any(other.is_called(name) for other in self.objects):
                     continue
                 if len(self.objects) >= MOST_OBJECTS:
-                    self.status = 1
+                    self.status, self.ended = 1, True
                     self.lines.append("! %016x too-many-objects\n" % at)
                     return
                 self.add(index, name)
@@ -209,7 +209,8 @@ class Program:
     # From where symbols come.
 
     def bind(self):
-        self.open = [(index, known) for index, known in enumerate(self.objects) if known.file and known.file.scope]
+        self.open = [] if self.ended else [
+            (index, known) for index, known in enumerate(self.objects) if known.file and known.file.scope]
         for index, known in self.open:
             try:
                 self.bind_object(index, known)
