@@ -242,9 +242,8 @@ pub fn apply<S: Source, W: Sink>(
         Applies out.old out.new result (length (entries_for file section))
         (applied file store.old.slots section layout.now) }
     // Never for want of budget where the cost fits.
-    ensures enough { (file : List ℕ) → src.old.seen.file ≡ Some file →
-        IfErr result (WantsBudget src.old
-        (apply_cost_by_order file store.old.slots section layout.now)) }
+    ensures enough { (file : List ℕ) → src.old.seen.file ≡ Some file → IfErr result
+        (WantsBudget src.old (apply_cost_by_order file store.old.slots section layout.now)) }
     ensures cost { (file : List ℕ) → src.old.seen.file ≡ Some file → src.new.asked
         ≤ src.old.asked + apply_cost_by_order file store.old.slots section layout.now }
     // For every source; never past a limit that was set.

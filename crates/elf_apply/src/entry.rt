@@ -224,8 +224,7 @@ fn named_value<S: Source>(
 #[tactic(auto, unfolding(crate::proofs::Words::place))]
 fn place_value(target: &Target<'_>, offset: u64, formula: Formula) -> Option<u64>
     ensures { (file : List ℕ) (at : ℕ) → offset ≡ r_offset file at →
-        taken_place formula (target_as file target.now) at
-        ≡ value_or result at Unplaced }
+        taken_place formula (target_as file target.now) at ≡ value_or result at Unplaced }
 {
     if !takes_place(formula) {
         return Some(0);

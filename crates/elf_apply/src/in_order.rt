@@ -148,9 +148,8 @@ impl Held {
         requires fits { end_of self.old < 2 ^ 64 }
         requires patch { placed.now.offset + length (patch_as placed.now).bytes < 2 ^ 64 }
         ensures low { self.new.low ≡ self.old.low }
-        ensures bytes { self.new.bytes
-            ≡ put (clipped self.old.low (length self.old.bytes)
-            (patch_as placed.now)) self.old.bytes }
+        ensures bytes { self.new.bytes ≡ put
+            (clipped self.old.low (length self.old.bytes) (patch_as placed.now)) self.old.bytes }
         ensures long { length self.new.bytes ≡ length self.old.bytes }
     {
         let low = self.low;

@@ -111,9 +111,8 @@ impl Entries {
             self.new (StepGives target.now self.old self.new)) }
         ensures refusal { IfErr result IsOfCheck }
         ensures left { walk_left target.now self.new ≤ walk_left target.now self.old }
-        ensures walked { (file : List ℕ) →
-            Belongs file target.now.file.loaded target.now.file.store.now →
-            ReadsEntries file target.now self.old →
+        ensures walked { (file : List ℕ) → Belongs file target.now.file.loaded
+            target.now.file.store.now → ReadsEntries file target.now self.old →
             StepsWalk file target.now self.old self.new result }
     {
         let section = self.next;

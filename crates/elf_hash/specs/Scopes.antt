@@ -1,5 +1,5 @@
 -- A hash table of either kind as a loader's lookup has it: its counts, and the walk in it for the first symbol that answers.
-use Rattle.std.specs.Prelude.{ℕ, ◌≡◌, Bool, true, false, List, [], ◌∷◌, None, Some, Result, Ok, Err}
+use Rattle.std.specs.Prelude.{ℕ, ◌≡◌, ◌+◌, ◌≤◌, Bool, true, false, List, [], ◌∷◌, None, Some, Result, Ok, Err}
 use Rattle.elf_model.specs.Budget.{IsBudget}
 use Rattle.elf_model.specs.Chains.{Walked as Walk}
 use Rattle.elf_model.specs.Checks.{first_refusal}
@@ -33,6 +33,10 @@ counts_bytes kind = least_size (hash_kind_of kind)
 abbrev pub place_of_table : HashTable → HashPlace
 place_of_table (Gnu t) = t.place
 place_of_table (Sysv t) = t.place
+
+-- it lies within a source of this size
+abbrev pub TableWithin : ℕ → HashTable → Type 0
+TableWithin size table = (place_of_table table).at + (place_of_table table).size ≤ size
 
 -- it is the table that a lookup is made in, with its counts
 abbrev pub IsTable : List ℕ → Scope → HashTable → Type 0

@@ -3,7 +3,7 @@ ghost use Rattle.std.specs.Prelude.{◌≡◌, ℕ, ◌+◌, ◌-◌, ◌*◌, �
 ghost use Rattle.elf_headers.specs.Ledger.{Did, IsRead, why_stopped};
 ghost use Rattle.elf_hash.specs.Counts.{IsGnu, IsTablePlace};
 ghost use Rattle.elf_hash.specs.Extents.{SymbolsBegin, EndsChain, TellsExtent, last_in};
-ghost use Rattle.elf_hash.specs.Scopes.{IsTable, place_of_table};
+ghost use Rattle.elf_hash.specs.Scopes.{IsTable, TableWithin, place_of_table};
 ghost use Rattle.elf_model.specs.Bytes.{field, slice};
 ghost use Rattle.elf_model.specs.Chains.{HashTable as Place};
 ghost use Rattle.elf_model.specs.LoaderScope.{Scope};
@@ -36,8 +36,7 @@ pub fn symbol_extent<S: Source>(
     symbols: u64,
     strings: u64,
 ) -> Result<u64, Fault>
-    requires within { (place_of_table table.now).at + (place_of_table table.now).size
-        ≤ src.old.seen.size }
+    requires within { TableWithin src.old.seen.size table.now }
     ensures did { Did src.old src.new (why_stopped result) (place_of_table table.now).size
         (λ file. (scope : Scope) → IsTable file scope table.now →
         SymbolsBegin scope symbols strings → TellsExtent file scope src.old src.new result) }

@@ -2,7 +2,7 @@
 ghost use Rattle.std.specs.Prelude.{◌≡◌, ◌+◌, ◌≤◌, IfOk};
 ghost use Rattle.elf_headers.specs.Ledger.{Did, why_stopped};
 ghost use Rattle.elf_hash.specs.Extents.{TellsExtent};
-ghost use Rattle.elf_hash.specs.Scopes.{IsTable, place_of_table};
+ghost use Rattle.elf_hash.specs.Scopes.{IsTable, TableWithin, place_of_table};
 ghost use Rattle.elf_lookup_tables.specs.Symbols.{IsSymbols};
 ghost use Rattle.elf_model.specs.LoaderScope.{Scope};
 
@@ -18,8 +18,7 @@ impl Symbols {
     /// # Errors
     /// A fault of a read, or a refusal for want of budget, at the offset that was asked for.
     pub fn extent<S: Source>(&self, src: &mut Counted<S>, table: &HashTable) -> Result<u64, Fault>
-        requires within { (place_of_table table.now).at + (place_of_table table.now).size
-            ≤ src.old.seen.size }
+        requires within { TableWithin src.old.seen.size table.now }
         requires count { self.now.table.count ≡ (place_of_table table.now).symbols }
         ensures did { Did src.old src.new (why_stopped result) (place_of_table table.now).size
             (λ file. (scope : Scope) → IsTable file scope table.now →

@@ -53,8 +53,7 @@ fn loaded_scope<S: Source>(
     requires whole { store.old.loaded ≡ loaded.header.e_shnum }
     requires few { loaded.header.e_phnum ≤ store.old.slots }
     ensures did { Did src.old src.new (why_stopped result)
-        (segments_bytes loaded.header src.old.seen.size)
-        (λ file. Belongs file loaded store.old →
+        (segments_bytes loaded.header src.old.seen.size) (λ file. Belongs file loaded store.old →
         Charges src.old src.new (why_stopped result) (segments_asked file)
         × IsScopeFound file (scope_loaded file) result) }
     ensures slots { store.new.slots ≡ store.old.slots }

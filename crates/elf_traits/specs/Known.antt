@@ -7,7 +7,7 @@ use Rattle.elf_source.specs.Source.{Counting}
 use Rattle.elf_headers.specs.Ledger.{Charges, why_stopped}
 use Rattle.elf_headers.specs.declared.fault.Fault.{Fault}
 use Rattle.elf_headers.specs.declared.fault.Fault.TheVariants.{Refused, Source}
-use Rattle.elf_hash.specs.Scopes.{IsTable, place_of_table}
+use Rattle.elf_hash.specs.Scopes.{IsTable, TableWithin, place_of_table}
 use Rattle.elf_lookup_tables.specs.Segments.{entries_asked}
 use Rattle.elf_lookup_tables.specs.Symbols.{IsSymbols, SymbolsLie}
 use Rattle.elf_traits.specs.declared.known.KnownSymbols.{KnownSymbols}
@@ -33,7 +33,7 @@ TellsKnown file (Err (Source fault at)) = Unit {0}
 
 -- they lie within a source of this size, with their hash table, which is of as many
 pub record KnownLies (size : ℕ) (known : KnownSymbols) : Type 0 where
-  pub table : (place_of_table known.table).at + (place_of_table known.table).size ≤ size
+  pub table : TableWithin size known.table
   pub count : known.symbols.table.count ≡ (place_of_table known.table).symbols
   pub symbols : SymbolsLie size known.symbols
 
