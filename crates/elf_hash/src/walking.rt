@@ -1,7 +1,7 @@
 //! The counts of a hash table of either kind, and the walk in it.
 ghost use Rattle.std.specs.Prelude.{◌≡◌, ℕ, ◌+◌, ◌/◌, ◌≤◌, Bool, List, Result, IfOk};
 ghost use Rattle.elf_headers.specs.Ledger.{Did, why_stopped};
-ghost use Rattle.elf_hash.specs.Scopes.{HasCounts, IsPlaceIn, IsTable, TellsExcluded, counts_bytes, place_of_table, walked_in};
+ghost use Rattle.elf_hash.specs.Scopes.{HasCounts, IsPlaceIn, IsTable, TableWithin, TellsExcluded, counts_bytes, place_of_table, walked_in};
 ghost use Rattle.elf_hash.specs.Walks.{Walks, walk_bytes};
 ghost use Rattle.elf_model.specs.LoaderScope.{Scope};
 ghost use Rattle.elf_model.specs.declared.causes.Refusal.{Refusal};
@@ -57,8 +57,7 @@ pub fn walk<S: Source, T: Trial>(
     name: &[u8],
     trial: &T,
 ) -> Result<Walked, Fault>
-    requires within { (place_of_table table.now).at + (place_of_table table.now).size
-        ≤ src.old.seen.size }
+    requires within { TableWithin src.old.seen.size table.now }
     requires known { (place_of_table table.now).symbols ≤ T.symbols trial.now }
     requires lies { T.lies trial.now src.old.seen.size }
     ensures { Did src.old src.new (why_stopped result) (walk_bytes 12
@@ -85,8 +84,7 @@ pub fn excludes<S: Source>(
     table: &HashTable,
     name: &[u8],
 ) -> Result<bool, Fault>
-    requires { (place_of_table table.now).at + (place_of_table table.now).size
-        ≤ src.old.seen.size }
+    requires { TableWithin src.old.seen.size table.now }
     ensures { Did src.old src.new (why_stopped result) 12
         (λ file. (scope : Scope) → IsTable file scope table.now →
         TellsExcluded file scope name.now result) }
