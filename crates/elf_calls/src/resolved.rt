@@ -6,6 +6,7 @@ use crate::found::no_symbol;
 use elf_loader::{FoundSymbol, FoundVersion, VersionName};
 use elf_memory::ByteRange;
 use elf_memory_rows::Symbol;
+use elf_record::version_number;
 use elf_table::NameEnd;
 
 /// What a loader's lookup found; all 0 where it found nothing, but for the symbols that were tried.
@@ -81,7 +82,7 @@ impl Resolved {
         ensures version { TellsFoundVersion self.new told (Some version.now) }
         ensures others { SameSymbol self.old self.new }
     {
-        let number = version.word % (1 << 15);
+        let number = version_number(version.word);
         self.has_version = 1;
         self.is_hidden = u32::from(version.word != number);
         self.words = version.index;

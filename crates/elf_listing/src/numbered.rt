@@ -10,7 +10,7 @@ use crate::listing::Listing;
 use elf_headers::{Fault, Stop, refused};
 use elf_lines::{LineFront, Render, symbol_version_front};
 use elf_names::NameIndex;
-use elf_record::{Cause, u16_at};
+use elf_record::{Cause, u16_at, version_number};
 use elf_source::{Sink, Source};
 use elf_table::{NameEnd, Names, Row};
 use elf_versions::{NameAt, NumberNames};
@@ -43,7 +43,8 @@ impl<S: Source, W: Sink> Listing<'_, '_, '_, '_, S, W> {
         ensures { ListsRow self.old self.new result (Versions section numbered.entry) row.now }
     {
         let word = u16_at(row.bytes, 0);
-        let end = self.read_version(numbered, word % (1 << 15), row.at)?;
+        let number = version_number(word);
+        let end = self.read_version(numbered, number, row.at)?;
         if !self.is_shown::<C>(end) {
             return Ok(());
         }

@@ -8,7 +8,7 @@ use crate::listing::Listing;
 use crate::suffixes::Suffixes;
 use elf_headers::{Fault, fill, refused};
 use elf_names::NameIndex;
-use elf_record::{Cause, u16_at};
+use elf_record::{Cause, u16_at, version_number};
 use elf_source::{Sink, Source};
 use elf_table::{NameBuf, NameEnd};
 use elf_versions::NameAt;
@@ -45,7 +45,7 @@ impl<S: Source, W: Sink> Listing<'_, '_, '_, '_, S, W> {
         }
         let at = suffixes.words.place(index);
         let word = self.read_word(at)?;
-        let number = word % (1 << 15);
+        let number = version_number(word);
         if number < 2 {
             return Ok(None);
         }

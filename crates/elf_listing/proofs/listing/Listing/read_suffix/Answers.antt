@@ -39,8 +39,9 @@ returns-in_err-end g c =
     let there : c.args.index < c.args.suffixes.now.words.count = omega (arith, c.if-index-len.false, c.len.ensures) in
     let here : c.place-at.result ≡ c.args.suffixes.now.words.at + c.args.index * 2 =
     c.place-at.ensures ∙ ap (λ (entry : ℕ). c.args.suffixes.now.words.at + c.args.index * entry) c.requires.entry in
-    let many : 2 ≤ number_in c.in_ok-word.word = omega (arith, c.if-number-lt2.false) in
-    let high : nat_lt (number_in c.in_ok-word.word) 2 ≡ false = le-ltb _ 2 many in
+    let number = c.version_number-number.ensures in
+    let many : 2 ≤ number_in c.in_ok-word.word = omega (arith, number, c.if-number-lt2.false) in
+    let high : nat_lt c.version_number-number.result 2 ≡ false = le-ltb _ 2 (omega (arith, c.if-number-lt2.false)) in
     let first = c.in_ok-word.ensures.fetches in
     let same = first.0.same_style in
     rw (p.1, p.2)
@@ -50,7 +51,7 @@ returns-in_err-end g c =
       read = λ file held table symbol_at are defined.
           let named = suffix_named file table c.args.suffixes.now are cap symbol_at c.args.index there _ c.in_ok-word.word here (c.in_ok-word.ensures.read file held) many in
           named_failed _ _ _ (number_told file cap (number_in c.in_ok-word.word) c.place-at.result) (is_default file symbol_at c.in_ok-word.word) named
-          (rw same at (c.in_err-end.ensures.read file (first.2.reads.keeps.same_file ∙ held) are.numbered high));
+          (rw (same, number) at (c.in_err-end.ensures.read file (first.2.reads.keeps.same_file ∙ held) are.numbered high));
     })
 
 pub returns-then-word-number : goal.returns-then-word-number
@@ -59,8 +60,9 @@ returns-then-word-number g c =
     let there : c.args.index < c.args.suffixes.now.words.count = omega (arith, c.if-index-len.false, c.len.ensures) in
     let here : c.place-at.result ≡ c.args.suffixes.now.words.at + c.args.index * 2 =
     c.place-at.ensures ∙ ap (λ (entry : ℕ). c.args.suffixes.now.words.at + c.args.index * entry) c.requires.entry in
-    let many : 2 ≤ number_in c.in_ok-word.word = omega (arith, c.if-number-lt2.false) in
-    let high : nat_lt (number_in c.in_ok-word.word) 2 ≡ false = le-ltb _ 2 many in
+    let number = c.version_number-number.ensures in
+    let many : 2 ≤ number_in c.in_ok-word.word = omega (arith, number, c.if-number-lt2.false) in
+    let high : nat_lt c.version_number-number.result 2 ≡ false = le-ltb _ 2 (omega (arith, c.if-number-lt2.false)) in
     let first = c.in_ok-word.ensures.fetches in
     let same = first.0.same_style in
     record {
@@ -69,8 +71,8 @@ returns-then-word-number g c =
       read = λ file held table symbol_at are defined.
           let told = number_told file cap (number_in c.in_ok-word.word) c.place-at.result in
           let named = suffix_named file table c.args.suffixes.now are cap symbol_at c.args.index there _ c.in_ok-word.word here (c.in_ok-word.ensures.read file held) many in
-          named_read _ _ _ told _ (named ∙ ap told (default_of file symbol_at c.in_ok-word.word c.args.is_defined c.if-word-number.true defined))
-          (rw same at (c.in_ok-end.ensures.read file (first.2.reads.keeps.same_file ∙ held) are.numbered high));
+          named_read _ _ _ told _ (named ∙ ap told (default_of file symbol_at c.in_ok-word.word c.args.is_defined (rw number at c.if-word-number.true) defined))
+          (rw (same, number) at (c.in_ok-end.ensures.read file (first.2.reads.keeps.same_file ∙ held) are.numbered high));
     }
 
 pub returns-else-word-number : goal.returns-else-word-number
@@ -79,8 +81,9 @@ returns-else-word-number g c =
     let there : c.args.index < c.args.suffixes.now.words.count = omega (arith, c.if-index-len.false, c.len.ensures) in
     let here : c.place-at.result ≡ c.args.suffixes.now.words.at + c.args.index * 2 =
     c.place-at.ensures ∙ ap (λ (entry : ℕ). c.args.suffixes.now.words.at + c.args.index * entry) c.requires.entry in
-    let many : 2 ≤ number_in c.in_ok-word.word = omega (arith, c.if-number-lt2.false) in
-    let high : nat_lt (number_in c.in_ok-word.word) 2 ≡ false = le-ltb _ 2 many in
+    let number = c.version_number-number.ensures in
+    let many : 2 ≤ number_in c.in_ok-word.word = omega (arith, number, c.if-number-lt2.false) in
+    let high : nat_lt c.version_number-number.result 2 ≡ false = le-ltb _ 2 (omega (arith, c.if-number-lt2.false)) in
     let first = c.in_ok-word.ensures.fetches in
     let same = first.0.same_style in
     record {
@@ -89,6 +92,6 @@ returns-else-word-number g c =
       read = λ file held table symbol_at are defined.
           let told = number_told file cap (number_in c.in_ok-word.word) c.place-at.result in
           let named = suffix_named file table c.args.suffixes.now are cap symbol_at c.args.index there _ c.in_ok-word.word here (c.in_ok-word.ensures.read file held) many in
-          named_read _ _ _ told _ (named ∙ ap told (default_none file symbol_at c.in_ok-word.word c.if-word-number.false))
-          (rw same at (c.in_ok-end.ensures.read file (first.2.reads.keeps.same_file ∙ held) are.numbered high));
+          rw number (named_read _ _ _ told _ (named ∙ ap told (default_none file symbol_at c.in_ok-word.word (rw number at c.if-word-number.false)))
+          (rw (same, number) at (c.in_ok-end.ensures.read file (first.2.reads.keeps.same_file ∙ held) are.numbered high)));
     }
