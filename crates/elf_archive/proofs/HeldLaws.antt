@@ -8,10 +8,11 @@ use Rattle.elf_model.specs.declared.causes.Refusal.{Refusal}
 use Rattle.elf_model.specs.declared.formats.Format.{Format}
 use Rattle.elf_model.proofs.ListingLemmas.{listings_append}
 use Rattle.elf_source.specs.Growth.{Grows}
-use Rattle.elf_source.specs.Output.{BreaksOff, EndsLine, HeldBack, Takes, Written, before_text}
+use Rattle.elf_source.specs.Output.{BreaksOff, EndsLine, HeldBack, Takes, TakesFront, Written, before_text}
 use Rattle.elf_source.specs.Source.{Counting}
 use Rattle.elf_source.specs.declared.faults.OutFault.{OutFault}
 use Rattle.elf_source.specs.declared.holding_sink.HeldLine.{HeldLine}
+use Rattle.elf_source.proofs.PutsLaws.{TakesFront-more}
 use Rattle.elf_source.proofs.LineLaws.{broken_takes, line_ends, line_fails, line_front}
 use Rattle.elf_headers.specs.declared.stop.Stop.{Stop}
 use Rattle.elf_headers.specs.declared.stop.Stop.TheVariants.{Refused, Source, Out}
@@ -46,6 +47,10 @@ stands text line items byte bytes is = rw is refl
 pub line_writes : (began mid new : Written) (line : List ℕ) (items : List ListingItem) (result : Result Bool Stop) → Takes began mid line → Writes mid new result items → Writes began new result (Line line ∷ items)
 line_writes began mid new line items (Ok refused) p q = Whole-then (Whole-line line p) q
 line_writes began mid new line items (Err stop) p q = Stopped-then began mid new stop (Line line ∷ []) items (Whole-line line p) q
+
+-- a line that stands alone, of which a front was put
+pub line_fails_first : (old new : Written) (line : List ℕ) (items : List ListingItem) (fault : OutFault) → TakesFront old new line → Stopped old new (Out fault) (Line line ∷ items)
+line_fails_first old new line items fault p = TakesFront-more line (lines_of items) p
 
 -- nothing was written of an output that was broken off
 pub broken_stops : (old new : Written) (fault : OutFault) (items : List ListingItem) → BreaksOff old new fault → Stopped old new (Out fault) items
