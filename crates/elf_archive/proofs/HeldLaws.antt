@@ -1,8 +1,7 @@
 -- The line of a member that was held, and what was listed behind it.
-use Rattle.std.proofs.Common.{◌≡◌, ℕ, Bool, true, false, List, [], ◌∷◌, ◌++◌, Option, None, Some, Result, Ok, Err, refl, sym, ap, subst, ◌∙◌}
+use Rattle.std.proofs.Common.{◌≡◌, ℕ, Bool, false, List, [], ◌∷◌, ◌++◌, None, Some, Result, Ok, Err, refl, ap, ◌∙◌}
 use Rattle.std.specs.Prelude.{IfOk}
 use Rattle.elf_model.specs.Archive.{before_some, line_before, told}
-use Rattle.elf_model.specs.Budget.{IsBudget}
 use Rattle.elf_model.specs.Listing.{ListingItem, Line, Fault, lines_of, fault_of}
 use Rattle.elf_model.specs.declared.causes.Refusal.{Refusal}
 use Rattle.elf_model.specs.declared.formats.Format.{Format}
@@ -16,7 +15,7 @@ use Rattle.elf_source.proofs.PutsLaws.{TakesFront-more}
 use Rattle.elf_source.proofs.LineLaws.{broken_takes, line_ends, line_fails, line_front}
 use Rattle.elf_headers.specs.declared.stop.Stop.{Stop}
 use Rattle.elf_headers.specs.declared.stop.Stop.TheVariants.{Refused, Source, Out}
-use Rattle.elf_listing.specs.Shows.{EndsRefused, Front, Stopped, Writes, WroteItems}
+use Rattle.elf_listing.specs.Shows.{Front, Stopped, Writes}
 use Rattle.elf_listing.proofs.RowLaws.{Whole-line}
 use Rattle.elf_listing.proofs.ShowLaws.{Stopped-then, Whole-then}
 use Rattle.elf_archive.specs.Listed.{Consumes, AnswersBehind}

@@ -4,7 +4,7 @@ use Rattle.std.specs.Prelude.{IfSome}
 use Rattle.elf_model.specs.declared.formats.Format.{Format}
 use Rattle.elf_model.specs.Archive.{archive_items, archive_length_checks}
 use Rattle.elf_model.specs.ArchiveCost.{IsArchiveBudgeted, any_refused, archive_ceiling, archive_cost}
-use Rattle.elf_model.specs.Budget.{IsBudget, IsReport}
+use Rattle.elf_model.specs.Budget.{IsReport}
 use Rattle.elf_model.specs.Checks.{first_refusal}
 use Rattle.elf_model.specs.Lines.{refusal_line}
 use Rattle.elf_model.specs.Listing.{ListingItem, Fault as FaultItem, lines_of, fault_of, report_of, end_text}

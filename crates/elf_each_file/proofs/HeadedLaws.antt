@@ -1,5 +1,5 @@
 -- A listing behind the line of a path, by what was written of both.
-use Rattle.std.proofs.Common.{◌≡◌, ℕ, Bool, false, List, [], ◌∷◌, ◌++◌, Option, None, Some, Result, Ok, Err, refl, ◌∙◌, inl}
+use Rattle.std.proofs.Common.{◌≡◌, ℕ, Bool, false, List, [], ◌∷◌, Option, None, Some, Result, Ok, Err, refl, ◌∙◌, inl}
 use Rattle.std.specs.Prelude.{IfErr}
 use Rattle.elf_model.specs.Archive.{archive_items}
 use Rattle.elf_model.specs.Choice.{RowChoice, EveryRow, RowsOf}

@@ -1,13 +1,13 @@
 -- What is told of a file, and what that asks for.
-use Rattle.std.proofs.Common.{◌≡◌, ℕ, ◌+◌, ◌-◌, ◌≤◌, Bool, true, false, not, if◌then◌else◌, List, length, Option, None, Some, Result, Ok, Err, nat_lt, refl, sym, ◌∙◌, arith}
-use Rattle.std.specs.Prelude.{IfSome, IfErr, OnErr}
+use Rattle.std.proofs.Common.{◌≡◌, ℕ, ◌+◌, ◌-◌, ◌≤◌, Bool, true, false, not, if◌then◌else◌, List, Option, None, Some, Result, Ok, Err, nat_lt, refl, arith}
+use Rattle.std.specs.Prelude.{IfSome, IfErr}
 use Rattle.std.proofs.lemmas.Bool.Decides.{nat_tests}
-use Rattle.elf_model.specs.FileLists.{budget_behind, file_sort, front_size}
+use Rattle.elf_model.specs.FileLists.{budget_behind, front_size}
 use Rattle.elf_model.specs.declared.states.FileSort.{FileSort}
 use Rattle.elf_model.specs.declared.states.FileSort.TheVariants as sort
 use Rattle.elf_model.specs.declared.states.FileState.TheVariants.{Unread}
 use Rattle.elf_source.specs.Output.{Written}
-use Rattle.elf_source.specs.Source.{Counting, Faults, IsHonest, Keeps}
+use Rattle.elf_source.specs.Source.{Counting, Faults, Keeps}
 use Rattle.elf_source.specs.declared.faults.OutFault.{OutFault}
 use Rattle.elf_source.specs.declared.faults.SourceFault.{SourceFault}
 use Rattle.elf_source.specs.declared.faults.SourceFault.TheVariants.{Device, Ended}

@@ -1,5 +1,5 @@
 -- What is listed of one file among many, by its sort.
-use Rattle.std.specs.Prelude.{ℕ, ◌≡◌, List, [], ◌++◌, Option, None, Some, Bool, true, false, Result, Ok, Err}
+use Rattle.std.specs.Prelude.{ℕ, ◌≡◌, List, [], ◌++◌, Option, None, Some, Bool, false, Result, Ok, Err}
 use Rattle.elf_model.specs.ArchiveCost.{IsArchiveBudgeted, any_refused, archive_ceiling, archive_cost}
 use Rattle.elf_model.specs.Budget.{IsBudgeted}
 use Rattle.elf_model.specs.Choice.{RowChoice}

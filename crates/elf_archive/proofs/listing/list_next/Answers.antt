@@ -1,20 +1,17 @@
 -- A member's line stands behind those before it, and its listing behind that.
 use Rattle.std.proofs.Common.{rules, ◌≡◌, ℕ, ◌+◌, Ok, Err, None, refl, subst, ◌∙◌, arith}
 use Rattle.std.proofs.lemmas.Result.{err_from_is_err_and}
-use Rattle.elf_model.specs.Archive.{Member, member_line, member_listing, told}
+use Rattle.elf_model.specs.Archive.{Member}
 use Rattle.elf_model.specs.ArchiveCost.{header_cost, member_cost}
 use Rattle.elf_model.specs.Cost.{style_ceiling}
-use Rattle.elf_model.specs.Listing.{Line}
-use Rattle.elf_source.proofs.GrowthLaws.{grows_front, grows_not, grows_then}
+use Rattle.elf_source.proofs.GrowthLaws.{grows_not}
 use Rattle.elf_source.proofs.PutsLaws.{Takes-nothing}
 use Rattle.elf_headers.specs.Permitted.{style_of}
-use Rattle.elf_listing.proofs.RowLaws.{Stopped-first, Whole-line}
-use Rattle.elf_listing.proofs.ShowLaws.{Stopped-then, Whole-then}
+use Rattle.elf_listing.proofs.RowLaws.{Stopped-first}
 use Rattle.elf_source.specs.Source.{Reads}
 use Rattle.elf_archive.specs.Listed.{Consumes}
 use Rattle.elf_archive.specs.Members.{member_of, step_cost}
-use Rattle.elf_headers.specs.declared.stop.Stop.TheVariants.{Out}
-use Rattle.elf_archive.proofs.ConsumeLaws.{Consumes-fault, Consumes-then, Consumes-to, still_whole}
+use Rattle.elf_archive.proofs.ConsumeLaws.{Consumes-fault, Consumes-then, still_whole}
 use Rattle.elf_archive.proofs.ListingLaws.{cost_of_data, header_first, member_allowed, step_allowed, unread_next}
 use Rattle.elf_archive.proofs.listing.list_next.Goals as goal
 
