@@ -1,8 +1,7 @@
 -- The listing of an archive, by its magic string and its members.
 use Rattle.std.proofs.Common.{◌≡◌, ℕ, Bool, ◌+◌, ◌≤◌, List, [], ◌∷◌, length, None, Err, refl, arith}
-use Rattle.std.specs.List.{list_any}
-use Rattle.elf_model.specs.Archive.{archive_checks, archive_items, before_members, is_refused, members_from, members_of, walk_items}
-use Rattle.elf_model.specs.ArchiveCost.{any_refused, archive_ceiling, archive_cost, members_cost}
+use Rattle.elf_model.specs.Archive.{archive_checks, archive_items, before_members, members_of, walk_items}
+use Rattle.elf_model.specs.ArchiveCost.{archive_ceiling, archive_cost, members_cost}
 use Rattle.elf_model.specs.Budget.{IsBudget}
 use Rattle.elf_model.specs.Checks.{first_refusal}
 use Rattle.elf_model.specs.Listing.{Fault as FaultItem}
@@ -27,19 +26,13 @@ unfolding archive_cost
 passed_cost file headers style parts passed = rw passed refl
 
 pub passed_items : (alone : Bool) (file : List ℕ) (headers : ℕ) (style : Style) (parts : ℕ) → first_refusal (archive_checks file) ≡ None
-    → archive_items alone file headers style parts ≡ walk_items alone file headers style parts (members_from (length file) file style.cap before_members)
-unfolding archive_items members_of
-passed_items alone file headers style parts passed =
-    guarded-passes (archive_checks file) (walk_items alone file headers style parts (members_from (length file) file style.cap before_members)) passed
-
-pub all_refused : (file : List ℕ) (headers : ℕ) (style : Style) (parts : ℕ)
-    → any_refused file headers style parts ≡ list_any (is_refused file headers style parts) (members_from (length file) file style.cap before_members).members
-unfolding members_of
-all_refused file headers style parts = refl
+    → archive_items alone file headers style parts ≡ walk_items alone file headers style parts (members_of file style.cap)
+unfolding archive_items
+passed_items alone file headers style parts passed = guarded-passes (archive_checks file) (walk_items alone file headers style parts (members_of file style.cap)) passed
 
 pub magic_alone : (alone : Bool) (file : List ℕ) (headers : ℕ) (style : Style) (parts : ℕ) (fault : Fault) → MagicRead {X = Unit {0}} file (Err fault) → (refusal : Refusal) → fault ≡ Refused refusal
     → (IsBudget refusal → ⊥) → archive_items alone file headers style parts ≡ FaultItem refusal ∷ []
-unfolding archive_items members_of
+unfolding archive_items
 magic_alone alone file headers style parts fault read refusal is other =
     let first = rw is at read in
-    guarded-fault (archive_checks file) (walk_items alone file headers style parts (members_from (length file) file style.cap before_members)) refusal (first other)
+    guarded-fault (archive_checks file) (walk_items alone file headers style parts (members_of file style.cap)) refusal (first other)

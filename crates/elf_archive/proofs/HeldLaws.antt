@@ -1,21 +1,21 @@
 -- The line of a member that was held, and what was listed behind it.
-use Rattle.std.proofs.Common.{◌≡◌, ℕ, Bool, true, false, List, [], ◌∷◌, ◌++◌, Option, None, Some, Result, Ok, Err, refl, sym, ap, subst, ◌∙◌}
+use Rattle.std.proofs.Common.{◌≡◌, ℕ, Bool, false, List, [], ◌∷◌, ◌++◌, None, Some, Result, Ok, Err, refl, ap, ◌∙◌}
 use Rattle.std.specs.Prelude.{IfOk}
 use Rattle.elf_model.specs.Archive.{before_some, line_before, told}
-use Rattle.elf_model.specs.Budget.{IsBudget}
 use Rattle.elf_model.specs.Listing.{ListingItem, Line, Fault, lines_of, fault_of}
 use Rattle.elf_model.specs.declared.causes.Refusal.{Refusal}
 use Rattle.elf_model.specs.declared.formats.Format.{Format}
 use Rattle.elf_model.proofs.ListingLemmas.{listings_append}
 use Rattle.elf_source.specs.Growth.{Grows}
-use Rattle.elf_source.specs.Output.{BreaksOff, EndsLine, HeldBack, Takes, Written, before_text}
+use Rattle.elf_source.specs.Output.{BreaksOff, EndsLine, HeldBack, Takes, TakesFront, Written, before_text}
 use Rattle.elf_source.specs.Source.{Counting}
 use Rattle.elf_source.specs.declared.faults.OutFault.{OutFault}
 use Rattle.elf_source.specs.declared.holding_sink.HeldLine.{HeldLine}
+use Rattle.elf_source.proofs.PutsLaws.{TakesFront-more}
 use Rattle.elf_source.proofs.LineLaws.{broken_takes, line_ends, line_fails, line_front}
 use Rattle.elf_headers.specs.declared.stop.Stop.{Stop}
 use Rattle.elf_headers.specs.declared.stop.Stop.TheVariants.{Refused, Source, Out}
-use Rattle.elf_listing.specs.Shows.{EndsRefused, Front, Stopped, Writes, WroteItems}
+use Rattle.elf_listing.specs.Shows.{Front, Stopped, Writes}
 use Rattle.elf_listing.proofs.RowLaws.{Whole-line}
 use Rattle.elf_listing.proofs.ShowLaws.{Stopped-then, Whole-then}
 use Rattle.elf_archive.specs.Listed.{Consumes, AnswersBehind}
@@ -46,6 +46,10 @@ stands text line items byte bytes is = rw is refl
 pub line_writes : (began mid new : Written) (line : List ℕ) (items : List ListingItem) (result : Result Bool Stop) → Takes began mid line → Writes mid new result items → Writes began new result (Line line ∷ items)
 line_writes began mid new line items (Ok refused) p q = Whole-then (Whole-line line p) q
 line_writes began mid new line items (Err stop) p q = Stopped-then began mid new stop (Line line ∷ []) items (Whole-line line p) q
+
+-- a line that stands alone, of which a front was put
+pub line_fails_first : (old new : Written) (line : List ℕ) (items : List ListingItem) (fault : OutFault) → TakesFront old new line → Stopped old new (Out fault) (Line line ∷ items)
+line_fails_first old new line items fault p = TakesFront-more line (lines_of items) p
 
 -- nothing was written of an output that was broken off
 pub broken_stops : (old new : Written) (fault : OutFault) (items : List ListingItem) → BreaksOff old new fault → Stopped old new (Out fault) items

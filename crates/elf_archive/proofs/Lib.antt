@@ -1,14 +1,15 @@
 mod FieldLaws
 mod MagicLaws
-pub mod MemberLaws
+mod MemberLaws
 mod NameLaws
 mod RowLaws
 mod AskLaws
-pub mod ConsumeLaws
+mod ConsumeLaws
 mod HeldLaws
-pub mod NarrowLaws
+mod NarrowLaws
 mod ToldLaws
-pub mod WalkLaws
-pub mod ListingLaws
-pub mod ArchiveLaws
+mod WalkLaws
+mod ListingLaws
+mod ArchiveLaws
 mod ReportLaws
+mod FaultLaws

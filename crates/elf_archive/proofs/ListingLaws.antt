@@ -10,7 +10,7 @@ use Rattle.elf_model.specs.Style.{Style}
 use Rattle.elf_model.specs.declared.causes.Refusal.{Refusal}
 use Rattle.elf_headers.specs.declared.fault.Fault.{Fault}
 use Rattle.elf_headers.specs.declared.fault.Fault.TheVariants.{Refused, Source}
-use Rattle.elf_archive.specs.Listed.{next_cost, next_items}
+use Rattle.elf_archive.specs.Listed.{member_at, next_cost, next_items}
 use Rattle.elf_archive.specs.Members.{TellsMember, step_cost}
 use Rattle.elf_model.proofs.AllowanceLaws.{allowed, header_allowed}
 use Rattle.elf_archive.proofs.AskLaws.{where_room}
@@ -27,6 +27,11 @@ member_elf file headers style parts m extent asked is elf =
     member_listed file headers style parts m asked
     ∙ (ap (λ (e : Extent). 4 + cost_where (is_elf (bytes_in file e)) (listing_cost (bytes_in file e) headers style parts)) is
     ∙ ap (λ t. 4 + cost_where t (listing_cost (bytes_in file extent) headers style parts)) elf)
+
+-- a member's cost is that of its data
+pub cost_of_data : (file : List ℕ) (headers : ℕ) (style : Style) (parts : ℕ) (m : Member) → member_cost file headers style parts (member_at m.extent) ≡ member_cost file headers style parts m
+unfolding member_cost
+cost_of_data file headers style parts m = refl
 
 -- a step takes no more than is allowed
 pub step_allowed : (size headers : ℕ) (style : Style) (p : Progress) → step_cost size style.cap p ≤ allowance (size - p.at) headers style

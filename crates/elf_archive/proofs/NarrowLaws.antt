@@ -1,6 +1,5 @@
 -- A call on a part of a source is one on the source.
-use Rattle.std.proofs.Common.{◌≡◌, ℕ, Bool, false, ◌+◌, ◌<◌, ◌≤◌, List, take, drop, Some, Result, Ok, Err, sym, ap, ◌∙◌, inl, inr, ◌⊎◌, arith}
-use Rattle.elf_model.specs.declared.formats.Format.{Format}
+use Rattle.std.proofs.Common.{◌≡◌, ℕ, false, ◌+◌, ◌<◌, ◌≤◌, List, take, drop, Option, Some, Result, Ok, Err, sym, ap, ◌∙◌, inl, inr, ◌⊎◌, arith}
 use Rattle.elf_model.specs.Budget.{IsBudget}
 use Rattle.elf_model.specs.declared.causes.Refusal.{Refusal}
 use Rattle.elf_model.proofs.BudgetLaws.{is_budget}
@@ -12,7 +11,7 @@ use Rattle.elf_source.specs.declared.faults.SourceFault.TheVariants.{Device, End
 use Rattle.elf_headers.specs.declared.stop.Stop.{Stop}
 use Rattle.elf_headers.specs.declared.stop.Stop.TheVariants.{Refused, Source, Out}
 use Rattle.elf_listing.specs.Shows.{Costs}
-use Rattle.elf_archive.specs.Listed.{Consumes, IsAll, TellsEnd, WroteEnd, behind_start}
+use Rattle.elf_archive.specs.Listed.{Consumes, EndsPart, IsAll, behind_start}
 
 -- what a source is a range of where it is a range of all bytes
 abbrev all_of : Seen → Whole
@@ -95,31 +94,23 @@ part_limit a b c d n start size narrows widens over = record {
 part_offset : (start at size all : ℕ) → at < size → start + size ≤ all → behind_start start at < all
 part_offset start at size all inside lies = omega arith
 
--- what a member's refusal that is told says: nothing, unless the output failed
-wrote_explains : (format : Format) (a d : Counting) (b c : Written) (refusal : Refusal) (result : Result Bool Stop) (n : ℕ) → Reads a d n → WroteEnd format b c refusal result → Consumes a d c result n
-wrote_explains format a d b c refusal (Ok refused) n reads wrote = (reads, tt)
-wrote_explains format a d b c refusal (Err (Refused other)) n reads wrote = absurd wrote
-wrote_explains format a d b c refusal (Err (Source fault at)) n reads wrote = absurd wrote
-wrote_explains format a d b c refusal (Err (Out fault)) n reads wrote = (reads, wrote.0)
-
 -- WHAT A MEMBER'S LISTING TAKES OF THE ARCHIVE is what it takes of the member
-pub part_consumes : {X : Type 0} (format : Format) (a b c d : Counting) (v w : Written) (n start size : ℕ) (listed : Result X Stop) (result : Result Bool Stop) → IsAll a → start + size ≤ a.seen.size
-    → Narrows a b start size → Costs b c v listed n → Widens c d → TellsEnd format start v w listed result → Consumes a d w result n
-part_consumes format a b c d v w n start size (Ok x) result whole lies narrows costs widens tells =
-    rw (tells.0) (part_reads a b c d n start size whole narrows costs.0 widens, tt)
-part_consumes format a b c d v w n start size (Err (Refused refusal)) result whole lies narrows costs widens tells = by_cause (is_budget refusal.cause)
+pub part_consumes : {X : Type 0} (a b c d : Counting) (v : Written) (n start size : ℕ) (listed : Result X Stop) (result : Result (Option Refusal) Stop) → IsAll a → start + size ≤ a.seen.size
+    → Narrows a b start size → Costs b c v listed n → Widens c d → EndsPart start listed result → Consumes a d v result n
+part_consumes a b c d v n start size (Ok x) result whole lies narrows costs widens ends =
+    rw ends (part_reads a b c d n start size whole narrows costs.0 widens, tt)
+part_consumes a b c d v n start size (Err (Refused refusal)) result whole lies narrows costs widens ends = by_cause (is_budget refusal.cause)
   where
     reads : Reads a d n
     reads = part_reads a b c d n start size whole narrows costs.0 widens
 
-    by_cause : (IsBudget refusal) ⊎ (IsBudget refusal → ⊥) → Consumes a d w result n
+    by_cause : (IsBudget refusal) ⊎ (IsBudget refusal → ⊥) → Consumes a d v result n
     by_cause (inl budget) =
-        let told = tells.0 budget in
         let over = costs.1 budget in
         let inside : behind_start start refusal.at < a.seen.size = part_offset start refusal.at size a.seen.size (omega (arith, over.0, narrows.size_is)) lies in
-        rw (told.0) (reads, λ is. (inside, part_limit a b c d n start size narrows widens over.1))
-    by_cause (inr other) = wrote_explains format a d v w refusal result n reads (tells.1 other)
-part_consumes format a b c d v w n start size (Err (Source fault at)) result whole lies narrows costs widens tells =
-    rw (tells.0) (part_reads a b c d n start size whole narrows costs.0 widens, part_faults a b c d n start size fault whole narrows costs.0 widens costs.1.0)
-part_consumes format a b c d v w n start size (Err (Out fault)) result whole lies narrows costs widens tells =
-    rw (tells.0, tells.1) (part_reads a b c d n start size whole narrows costs.0 widens, costs.1)
+        rw (ends.0 budget) (reads, λ is. (inside, part_limit a b c d n start size narrows widens over.1))
+    by_cause (inr other) = rw (ends.1 other) (reads, tt)
+part_consumes a b c d v n start size (Err (Source fault at)) result whole lies narrows costs widens ends =
+    rw ends (part_reads a b c d n start size whole narrows costs.0 widens, part_faults a b c d n start size fault whole narrows costs.0 widens costs.1.0)
+part_consumes a b c d v n start size (Err (Out fault)) result whole lies narrows costs widens ends =
+    rw ends (part_reads a b c d n start size whole narrows costs.0 widens, costs.1)

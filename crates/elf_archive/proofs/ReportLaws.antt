@@ -1,10 +1,10 @@
 -- The report of an archive, and of one that a budget cuts short.
-use Rattle.std.proofs.Common.{◌≡◌, ℕ, Bool, ◌+◌, ◌^◌, ◌≤◌, List, ◌∷◌, ◌++◌, length, None, Some, Result, Ok, Err, Option, option_map, refl, sym, ap, subst, ◌∙◌, inl, inr, ◌⊎◌, append-nil, arith}
+use Rattle.std.proofs.Common.{◌≡◌, ℕ, Bool, ◌+◌, ◌^◌, ◌<◌, ◌≤◌, List, ◌∷◌, ◌++◌, length, None, Some, Result, Ok, Err, Option, refl, sym, ap, subst, ◌∙◌, inl, inr, ◌⊎◌, append-nil, arith}
 use Rattle.std.specs.Prelude.{IfSome}
 use Rattle.elf_model.specs.declared.formats.Format.{Format}
 use Rattle.elf_model.specs.Archive.{archive_items, archive_length_checks}
 use Rattle.elf_model.specs.ArchiveCost.{IsArchiveBudgeted, any_refused, archive_ceiling, archive_cost}
-use Rattle.elf_model.specs.Budget.{IsBudget, IsReport}
+use Rattle.elf_model.specs.Budget.{IsReport}
 use Rattle.elf_model.specs.Checks.{first_refusal}
 use Rattle.elf_model.specs.Lines.{refusal_line}
 use Rattle.elf_model.specs.Listing.{ListingItem, Fault as FaultItem, lines_of, fault_of, report_of, end_text}
@@ -13,7 +13,7 @@ use Rattle.elf_model.specs.declared.causes.Cause.TheVariants.{Budget}
 use Rattle.elf_model.specs.declared.causes.Refusal.{Refusal}
 use Rattle.elf_model.proofs.BudgetLaws.{is_budget}
 use Rattle.elf_model.proofs.ListingLemmas.{listings_append}
-use Rattle.elf_source.specs.Source.{Counting, Seen, SetsLimit, Reads, counted}
+use Rattle.elf_source.specs.Source.{Counting, OverLimit, Seen, SetsLimit, Reads, counted}
 use Rattle.elf_source.specs.Output.{Written, TakesFront}
 use Rattle.elf_source.proofs.LimitLaws.{budget_below, late_budget, within_budget}
 use Rattle.elf_source.proofs.PutsLaws.{Takes-then, TakesFront-then, TakesFront-more, TakesFront-all}
@@ -21,7 +21,7 @@ use Rattle.elf_headers.specs.Permitted.{style_of}
 use Rattle.elf_headers.specs.declared.caps.Caps.{Caps}
 use Rattle.elf_headers.specs.declared.stop.Stop.{Stop}
 use Rattle.elf_headers.specs.declared.stop.Stop.TheVariants.{Refused, Source, Out}
-use Rattle.elf_listing.specs.Reports.{Wrote, WroteRefusal, TellsStop}
+use Rattle.elf_listing.specs.Reports.{Leaves, Wrote, WroteRefusal, TellsStop}
 use Rattle.elf_listing.specs.Shows.{WroteItems, Front, IsNext, EndsRefused, Stopped}
 use Rattle.elf_listing.proofs.EachLaws.{lines_front}
 use Rattle.elf_archive.specs.Listed.{ArchiveSays, AsksInArchive, BudgetSays, StopTells, ReportsArchive}
@@ -89,6 +89,17 @@ ended refusal all ends next =
     let both = listings_append front (FaultItem refusal ∷ next.behind) ends.front.no_fault in
     (ap lines_of whole ∙ both.0 ∙ append-nil (lines_of front), ap fault_of whole ∙ both.1)
 
+-- where a call had no room for a read that it costs, its budget is below its cost
+pub over_budget : (budget : Option ℕ) (cost : ℕ) (before limited after : Counting) → before.asked ≤ 2 ^ 127 → SetsLimit before limited budget → OverLimit limited after cost
+    → (bytes : ℕ) × (budget ≡ Some bytes) × (bytes < cost)
+over_budget None cost before limited after small limits over = let most = limits.most in let set = over.is_set in absurd (cc)
+over_budget (Some bytes) cost before limited after small limits over =
+    let most : Some (counted before.asked bytes) ≡ Some over.most = sym limits.most ∙ over.is_set in
+    let is : counted before.asked bytes ≡ over.most = cc in
+    let fits = limits.small bytes refl in
+    let same = limits.asked in
+    (bytes, refl, budget_below bytes before.asked over.most cost small (sym is) fits (omega (arith, over.above, same)))
+
 -- the text of a listing that ended in a refusal
 ended_listed : {a b : Written} (alone : Bool) (file : List ℕ) (caps : Caps) (parts : ℕ) (refusal : Refusal) (before limited after : Counting) → before.asked ≤ 2 ^ 127
     → SetsLimit before limited caps.limits.budget → before.seen.size ≡ length file → BudgetSays limited after (archive_cost file caps.limits.headers (style_of caps.style) parts) refusal
@@ -96,22 +107,14 @@ ended_listed : {a b : Written} (alone : Bool) (file : List ℕ) (caps : Caps) (p
     → IsArchiveBudgeted alone caps.limits.budget file caps.limits.headers (style_of caps.style) parts (lines_of ends.front.front ++ refusal_line caps.style.format refusal) (Some refusal)
 ended_listed alone file caps parts refusal before limited after small limits sized says ends = by_cause (is_budget refusal.cause)
   where
-    cut : (budget : Option ℕ) → caps.limits.budget ≡ budget → IsBudget refusal → IsArchiveBudgeted alone budget file caps.limits.headers (style_of caps.style) parts (lines_of ends.front.front ++ refusal_line caps.style.format refusal) (Some refusal)
-    cut None none for_budget =
-        let over = (says for_budget).1 in
-        let most = limits.most ∙ ap (option_map (counted before.asked)) none in
-        let set = over.is_set in
-        cc
-    cut (Some budget) some for_budget =
+    by_cause : (refusal.cause ≡ Budget) ⊎ (refusal.cause ≡ Budget → ⊥)
+        → IsArchiveBudgeted alone caps.limits.budget file caps.limits.headers (style_of caps.style) parts (lines_of ends.front.front ++ refusal_line caps.style.format refusal) (Some refusal)
+    by_cause (inl for_budget) =
         let said = says for_budget in
-        let over = said.1 in
-        let most : Some (counted before.asked budget) ≡ Some over.most = ap (option_map (counted before.asked)) (sym some) ∙ sym limits.most ∙ over.is_set in
-        let is : counted before.asked budget ≡ over.most = cc in
-        let same = limits.asked in
-        let fits = limits.small budget some in
+        let over = over_budget caps.limits.budget (archive_cost file caps.limits.headers (style_of caps.style) parts) before limited after small limits said.1 in
         let size = ap (λ seen. seen.size) limits.seen in
-        inr (
-          budget_below budget before.asked over.most (archive_cost file caps.limits.headers (style_of caps.style) parts) small (sym is) fits (omega (arith, over.above, same)),
+        rw over.1 (inr (
+          over.2,
           record {
             front = ends.front.front;
             rest = ends.front.rest;
@@ -123,11 +126,7 @@ ended_listed alone file caps parts refusal before limited after small limits siz
             text_is = refl;
             fault_is = refl;
           },
-        )
-
-    by_cause : (refusal.cause ≡ Budget) ⊎ (refusal.cause ≡ Budget → ⊥)
-        → IsArchiveBudgeted alone caps.limits.budget file caps.limits.headers (style_of caps.style) parts (lines_of ends.front.front ++ refusal_line caps.style.format refusal) (Some refusal)
-    by_cause (inl for_budget) = cut caps.limits.budget refl for_budget
+        ))
     by_cause (inr other) =
         let all : List ListingItem = items_with alone file caps parts in
         let is = ended refusal all ends (ends.next other) in
@@ -162,8 +161,15 @@ stopped_archive b alone file caps parts (Source cause at) told before limited af
 stopped_archive b alone file caps parts (Out cause) told before limited after out small limits sized says ends tells =
     rw (tells.0, tells.1) (front_report alone file caps parts (Out cause) tt ends)
 
+-- what is kept, and what is asked for, where a limit was set meanwhile
+pub leaves_limited : (s0 s1 s2 s3 : Counting) (n : ℕ) (budget : Option ℕ) → SetsLimit s0 s1 budget → Reads s1 s2 n → SetsLimit s2 s3 None → Leaves s0 s3
+leaves_limited s0 s1 s2 s3 n budget set reads unset = record { keeps = rw (unset.seen, sym set.seen) reads.keeps; free = unset.most }
+
+pub asked_limited : (s0 s1 s2 s3 : Counting) (n : ℕ) (budget : Option ℕ) → SetsLimit s0 s1 budget → Reads s1 s2 n → SetsLimit s2 s3 None → s3.asked ≤ s0.asked + n
+asked_limited s0 s1 s2 s3 n budget set reads unset = omega (arith, reads.at_most, set.asked, unset.asked)
+
 -- what is asked for within a budget
-pub asks_in_archive : (caps : Caps) (s0 s1 s2 s3 : Counting) (n : ℕ) (result : Result Bool Stop) → s0.asked ≤ 2 ^ 127 → SetsLimit s0 s1 caps.limits.budget
+pub asks_in_archive : {X : Type 0} (caps : Caps) (s0 s1 s2 s3 : Counting) (n : ℕ) (result : Result X Stop) → s0.asked ≤ 2 ^ 127 → SetsLimit s0 s1 caps.limits.budget
     → Reads s1 s2 (archive_ceiling s1.seen.size caps.limits.headers (style_of caps.style)) → SetsLimit s2 s3 None
     → ((refusal : Refusal) → first_refusal (archive_length_checks s1.seen.size) ≡ Some refusal → s2 ≡ s1)
     → ((refusal : Refusal) → result ≡ Err (Refused refusal) → BudgetSays s1 s2 n refusal) → AsksInArchive caps s0 s3 result

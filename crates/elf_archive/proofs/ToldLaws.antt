@@ -1,5 +1,6 @@
 -- The listing of a member in that of its archive: the line of its first fault ends it, and nothing else.
-use Rattle.std.proofs.Common.{◌≡◌, ℕ, Bool, List, [], ◌∷◌, ◌++◌, None, Some, is_some, Result, Ok, Err, false, refl, sym, ap, ◌∙◌, inl, inr, ◌⊎◌, append-nil, append_assoc}
+use Rattle.std.proofs.Common.{◌≡◌, ℕ, Bool, List, [], ◌∷◌, ◌++◌, Option, None, Some, is_some, Result, Ok, Err, false, true, refl, sym, ap, ◌∙◌, inl, inr, ◌⊎◌, append-nil, append_assoc}
+use Rattle.std.specs.Prelude.{IfOk, IfSome}
 use Rattle.elf_model.specs.Archive.{told}
 use Rattle.elf_model.specs.Budget.{IsBudget}
 use Rattle.elf_model.specs.Lines.{refusal_line}
@@ -8,12 +9,53 @@ use Rattle.elf_model.specs.declared.causes.Refusal.{Refusal}
 use Rattle.elf_model.specs.declared.formats.Format.{Format}
 use Rattle.elf_model.proofs.BudgetLaws.{is_budget}
 use Rattle.elf_model.proofs.ListingLemmas.{listings_append}
-use Rattle.elf_source.specs.Output.{Written}
+use Rattle.elf_source.specs.Output.{Written, Takes, TakesFront}
+use Rattle.elf_source.specs.declared.faults.OutFault.{OutFault}
 use Rattle.elf_source.proofs.PutsLaws.{Takes-then, TakesFront-then, TakesFront-more}
+use Rattle.elf_headers.specs.Faults.{IsOfRead}
+use Rattle.elf_headers.specs.Stops.{stop_of}
+use Rattle.elf_headers.specs.declared.fault.Fault.{Fault as Failure}
+use Rattle.elf_headers.specs.declared.fault.Fault.TheVariants.{Refused as Refuses, Source as Unread}
 use Rattle.elf_headers.specs.declared.stop.Stop.{Stop}
 use Rattle.elf_headers.specs.declared.stop.Stop.TheVariants.{Refused, Source, Out}
 use Rattle.elf_listing.specs.Shows.{WroteItems, Front, EndsRefused, Writes}
-use Rattle.elf_archive.specs.Listed.{ListsTold, TellsEnd, WroteEnd}
+use Rattle.elf_listing.proofs.RowLaws.{Front-none}
+use Rattle.elf_archive.specs.Listed.{EndsPart, ListsMember, ListsTold}
+
+-- the listing of a member, and how its end was answered
+pub lists_part : {X : Type 0} (a b : Written) (items : List ListingItem) (start : ℕ) (listed : Result X Stop) (result : Result (Option Refusal) Stop) → Writes a b listed items → EndsPart start listed result
+    → ListsMember a b result items
+lists_part a b items start (Ok x) result p ends = rw ends p
+lists_part a b items start (Err (Refused refusal)) result p ends = by_cause (is_budget refusal.cause)
+  where
+    by_cause : (IsBudget refusal) ⊎ (IsBudget refusal → ⊥) → ListsMember a b result items
+    by_cause (inl budget) = rw (ends.0 budget) (budget, record { front = p.front; next = λ other. absurd (other budget) })
+    by_cause (inr other) = rw (ends.1 other) p
+lists_part a b items start (Err (Source fault at)) result p ends = rw ends p
+lists_part a b items start (Err (Out fault)) result p ends = rw ends p
+
+-- a fault of a read before anything of it was listed
+pub part_unread : (a : Written) (fault : Failure) (items : List ListingItem) → IsOfRead fault → ListsMember a a (Err (stop_of fault)) items
+part_unread a (Refuses refusal) items read = (read, record { front = Front-none a items; next = λ other. absurd (other read) })
+part_unread a (Unread fault at) items read = Front-none a items
+
+-- a refusal that is answered is not for want of budget
+pub own_part : {X : Type 0} (start : ℕ) (listed : Result X Stop) (result : Result (Option Refusal) Stop) → EndsPart start listed result → IfOk result (λ told. IfSome told (λ refusal. IsBudget refusal → ⊥))
+own_part start (Ok x) result ends = rw ends tt
+own_part start (Err (Refused refusal)) result ends = by_cause (is_budget refusal.cause)
+  where
+    by_cause : (IsBudget refusal) ⊎ (IsBudget refusal → ⊥) → IfOk result (λ told. IfSome told (λ refusal. IsBudget refusal → ⊥))
+    by_cause (inl budget) = rw (ends.0 budget) tt
+    by_cause (inr other) = rw (ends.1 other) other
+own_part start (Err (Source fault at)) result ends = rw ends tt
+own_part start (Err (Out fault)) result ends = rw ends tt
+
+-- and it is the fault
+pub part_fault : {a b : Written} (items : List ListingItem) (refusal : Refusal) → (IsBudget refusal → ⊥) → EndsRefused a b refusal items → fault_of items ≡ Some refusal
+part_fault items refusal other p =
+    let next = p.next other in
+    let front = p.front in
+    ap fault_of (front.split ∙ ap (λ rest. front.front ++ rest) next.is_next) ∙ (listings_append front.front (Fault refusal ∷ next.behind) front.no_fault).1
 
 module _ (format : Format) where
   -- without a fault nothing changes
@@ -38,7 +80,7 @@ module _ (format : Format) where
   told_split items front rest split none = ap (told format) split ∙ told_front front rest none
 
   -- a listing without a fault
-  whole_told : {a b : Written} (items : List ListingItem) → WroteItems a b items → ListsTold format a b (Ok false) items
+  pub whole_told : {a b : Written} (items : List ListingItem) → WroteItems a b items → ListsTold a b (Ok false) (told format items) (is_some (fault_of items))
   whole_told items p =
       let same = told_none items p.no_fault in
       (rw same p, sym (ap is_some p.no_fault))
@@ -53,47 +95,29 @@ module _ (format : Format) where
     no_fault = p.no_fault;
   }
 
-  -- a listing that ended in a refusal, whose line was written
-  refused_told : (a b c : Written) (items : List ListingItem) (refusal : Refusal) (result : Result Bool Stop) → (IsBudget refusal → ⊥) → EndsRefused a b refusal items → WroteEnd format b c refusal result
-      → ListsTold format a c result items
-  refused_told a b c items refusal result other ends wrote = by_result result wrote
-    where
-      front : List ListingItem
-      front = ends.front.front
+  -- a listing that was stopped
+  pub stop_told : (a b : Written) (items : List ListingItem) (stop : Stop) (any : Bool) → ListsMember a b (Err stop) items → ListsTold a b (Err stop) (told format items) any
+  stop_told a b items (Refused refusal) any p = (record { front = front_told items p.1.front; next = λ other. absurd (other p.0) }, tt)
+  stop_told a b items (Source fault at) any p = (front_told items p, tt)
+  stop_told a b items (Out fault) any p = (rw (told_lines items) (TakesFront-more (lines_of items) _ p), tt)
 
-      behind : items ≡ front ++ (Fault refusal ∷ (ends.next other).behind)
-      behind = ends.front.split ∙ ap (λ rest. front ++ rest) (ends.next other).is_next
+  -- a listing that ended in a refusal, whose line was put
+  module _ (a b c : Written) (items : List ListingItem) (refusal : Refusal) (other : IsBudget refusal → ⊥) (p : EndsRefused a b refusal items) where
+    behind : items ≡ p.front.front ++ (Fault refusal ∷ (p.next other).behind)
+    behind = p.front.split ∙ ap (λ rest. p.front.front ++ rest) (p.next other).is_next
 
-      is_told : told format items ≡ front ++ (Line (refusal_line format refusal) ∷ [])
-      is_told = told_split items front (Fault refusal ∷ (ends.next other).behind) behind ends.front.no_fault
+    is_told : told format items ≡ p.front.front ++ (Line (refusal_line format refusal) ∷ [])
+    is_told = told_split items p.front.front (Fault refusal ∷ (p.next other).behind) behind p.front.no_fault
 
-      lines : lines_of (told format items) ≡ lines_of front ++ refusal_line format refusal
-      lines = ap lines_of is_told ∙ ((listings_append front (Line (refusal_line format refusal) ∷ []) ends.front.no_fault).0 ∙ ap (λ line. lines_of front ++ line) (append-nil (refusal_line format refusal)))
+    lines : lines_of (told format items) ≡ lines_of p.front.front ++ refusal_line format refusal
+    lines = ap lines_of is_told ∙ ((listings_append p.front.front (Line (refusal_line format refusal) ∷ []) p.front.no_fault).0 ∙ ap (λ line. lines_of p.front.front ++ line) (append-nil (refusal_line format refusal)))
 
-      none : fault_of (told format items) ≡ None
-      none = ap fault_of is_told ∙ (listings_append front (Line (refusal_line format refusal) ∷ []) ends.front.no_fault).1
+    none : fault_of (told format items) ≡ None
+    none = ap fault_of is_told ∙ (listings_append p.front.front (Line (refusal_line format refusal) ∷ []) p.front.no_fault).1
 
-      some : fault_of items ≡ Some refusal
-      some = ap fault_of behind ∙ (listings_append front (Fault refusal ∷ (ends.next other).behind) ends.front.no_fault).1
+    pub refused_told : Takes b c (refusal_line format refusal) → ListsTold a c (Ok true) (told format items) (is_some (fault_of items))
+    refused_told line =
+        (record { takes = rw lines (Takes-then (lines_of p.front.front) (refusal_line format refusal) p.front.takes line); no_fault = none }, sym (ap is_some (part_fault items refusal other p)))
 
-      by_result : (result : Result Bool Stop) → WroteEnd format b c refusal result → ListsTold format a c result items
-      by_result (Ok refused) wrote =
-          (record { takes = rw lines (Takes-then (lines_of front) (refusal_line format refusal) ends.front.takes wrote.1); no_fault = none }, wrote.0 ∙ sym (ap is_some some))
-      by_result (Err (Refused another)) wrote = absurd wrote
-      by_result (Err (Source fault at)) wrote = absurd wrote
-      by_result (Err (Out fault)) wrote = (rw lines (TakesFront-then (lines_of front) (refusal_line format refusal) ends.front.takes wrote.1), tt)
-
-  -- the listing of a member, and how its end was told
-  pub lists_told : {X : Type 0} (a b c : Written) (items : List ListingItem) (start : ℕ) (listed : Result X Stop) (result : Result Bool Stop) → Writes a b listed items → TellsEnd format start b c listed result
-      → ListsTold format a c result items
-  lists_told a b c items start (Ok x) result p tells = rw (tells.0, tells.1) (whole_told items p)
-  lists_told a b c items start (Err (Refused refusal)) result p tells = by_cause (is_budget refusal.cause)
-    where
-      by_cause : (IsBudget refusal) ⊎ (IsBudget refusal → ⊥) → ListsTold format a c result items
-      by_cause (inl budget) =
-          let told_so = tells.0 budget in
-          rw (told_so.0, told_so.1) (record { front = front_told items p.front; next = λ other. absurd (other budget) }, tt)
-      by_cause (inr other) = refused_told a b c items refusal result other p (tells.1 other)
-  lists_told a b c items start (Err (Source fault at)) result p tells = rw (tells.0, tells.1) (front_told items p, tt)
-  lists_told a b c items start (Err (Out fault)) result p tells =
-      rw (tells.0, tells.1) (rw (told_lines items) (TakesFront-more (lines_of items) _ p), tt)
+    pub failed_told : (fault : OutFault) (any : Bool) → TakesFront b c (refusal_line format refusal) → ListsTold a c (Err (Out fault)) (told format items) any
+    failed_told fault any line = (rw lines (TakesFront-then (lines_of p.front.front) (refusal_line format refusal) p.front.takes line), tt)

@@ -1,9 +1,9 @@
 -- A walk over members lists what they are one behind the other.
-use Rattle.std.proofs.Common.{◌≡◌, ℕ, zero, suc, ◌+◌, ◌<◌, ◌≤◌, ◌||◌, nat_le, Bool, true, false, List, [], ◌++◌, length, Option, None, Some, Ok, Err, refl, sym, ap, ◌∙◌, arith, append_assoc}
+use Rattle.std.proofs.Common.{◌≡◌, ℕ, zero, suc, ◌+◌, ◌<◌, ◌≤◌, ◌||◌, nat_le, Bool, true, false, List, [], ◌++◌, length, Option, None, Some, Result, Ok, Err, refl, sym, ap, ◌∙◌, arith, append_assoc}
 use Rattle.std.proofs.lemmas.Bool.Decides.{nat_tests}
 use Rattle.std.specs.List.{list_any}
-use Rattle.elf_model.specs.Archive.{Members, Next, Ends, Broken, OneMember, Progress, behind, is_refused, member_items, members_from, members_items, end_items, next_member, walk_items, with_member}
-use Rattle.elf_model.specs.ArchiveCost.{header_cost, member_cost, members_cost}
+use Rattle.elf_model.specs.Archive.{Members, Next, Ends, Broken, OneMember, Progress, before_members, behind, is_refused, member_items, members_from, members_items, members_of, end_items, next_member, walk_items, with_member}
+use Rattle.elf_model.specs.ArchiveCost.{any_refused, header_cost, member_cost, members_cost}
 use Rattle.elf_model.specs.Listing.{ListingItem}
 use Rattle.elf_model.specs.Style.{Style}
 use Rattle.elf_source.specs.Source.{Counting, Reads}
@@ -12,7 +12,7 @@ use Rattle.elf_source.proofs.ReadsLaws.{Reads-none, Reads-then}
 use Rattle.elf_headers.specs.declared.stop.Stop.{Stop}
 use Rattle.elf_listing.specs.Shows.{WroteItems, Writes}
 use Rattle.elf_listing.proofs.ShowLaws.{Whole-none, Whole-then, Stopped-then, Stopped-more}
-use Rattle.elf_archive.specs.Listed.{Consumes, StepsListing, WalksMembers, next_cost, next_items}
+use Rattle.elf_archive.specs.Listed.{Consumes, ListsTold, StepsTo, next_cost, next_items}
 use Rattle.elf_archive.proofs.ConsumeLaws.{Consumes-then}
 use Rattle.elf_archive.proofs.MemberLaws.{next-ends}
 
@@ -99,6 +99,20 @@ cost_next file headers style parts (suc most) p (OneMember m) enough is =
     ≡ (header_cost file style.cap p + member_cost file headers style parts m) + members_cost most file headers style parts (behind file p m) = omega arith in
     rw is sum
 
+-- a walk over at most so many members wrote what is listed of them, for no more than they cost, and answers whether one was refused
+abbrev pub WalksMembers : (alone : Bool) → List ℕ → ℕ → Style → (parts most : ℕ) → Progress → (a b : Counting) → (old new : Written) → Result Bool Stop → Type 0
+WalksMembers alone file headers style parts most p a b old new result =
+    Consumes a b new result (members_cost most file headers style parts p)
+    × ListsTold old new result (walk_items alone file headers style parts (members_from most file style.cap p))
+    (list_any (is_refused file headers style parts) (members_from most file style.cap p).members)
+
+-- over all members of an archive
+pub of_members : (alone : Bool) (file : List ℕ) (headers : ℕ) (style : Style) (parts : ℕ) (a b : Counting) (old new : Written) (result : Result Bool Stop)
+    → WalksMembers alone file headers style parts (length file) before_members a b old new result
+    → ListsTold old new result (walk_items alone file headers style parts (members_of file style.cap)) (any_refused file headers style parts)
+unfolding members_of
+of_members alone file headers style parts a b old new result walks = walks.1
+
 -- what a walk has listed so far, what is left, and what that costs
 pub record WalkSoFar (alone : Bool) (file : List ℕ) (headers : ℕ) (style : Style) (parts first : ℕ) (start p : Progress) (a b : Counting) (old new : Written) (any : Bool) : Type 0 where
   pub most : ℕ
@@ -136,7 +150,7 @@ or_false false = refl
 
 -- a member more
 pub walk_more : (alone : Bool) (file : List ℕ) (headers : ℕ) (style : Style) (parts first : ℕ) (start p q : Progress) (a b c : Counting) (old new out : Written) (any refused both : Bool)
-    → (any || refused) ≡ both → p.at < q.at → WalkSoFar alone file headers style parts first start p a b old new any → StepsListing file headers style parts p q (Ok (Some refused))
+    → (any || refused) ≡ both → p.at < q.at → WalkSoFar alone file headers style parts first start p a b old new any → StepsTo file headers style parts p q (Ok (Some refused))
     → Consumes {X = Option Bool} b c out (Ok (Some refused)) (next_cost file headers style parts p (next_member file style.cap p))
     → Writes {X = Option Bool} new out (Ok (Some refused)) (next_items alone file headers style parts (next_member file style.cap p))
     → WalkSoFar alone file headers style parts first start q a c old out both
@@ -171,7 +185,7 @@ walk_more alone file headers style parts first start p q a b c old new out any r
 
 -- the file's end
 pub walk_ends : (alone : Bool) (file : List ℕ) (headers : ℕ) (style : Style) (parts first : ℕ) (start p q : Progress) (a b c : Counting) (old new out : Written) (any : Bool)
-    → WalkSoFar alone file headers style parts first start p a b old new any → StepsListing file headers style parts p q (Ok None)
+    → WalkSoFar alone file headers style parts first start p a b old new any → StepsTo file headers style parts p q (Ok None)
     → Consumes {X = Option Bool} b c out (Ok None) (next_cost file headers style parts p (next_member file style.cap p))
     → Writes {X = Option Bool} new out (Ok None) (next_items alone file headers style parts (next_member file style.cap p))
     → WalksMembers alone file headers style parts first start a c old out (Ok any)
@@ -180,12 +194,10 @@ walk_ends alone file headers style parts first start p q a b c old new out any k
     let cost : Reads b c (header_cost file style.cap p) = rw steps at takes.0 in
     let whole = walk_next alone file headers style parts known.most p Ends known.enough steps in
     let sum = cost_next file headers style parts known.most p Ends known.enough steps in
-    let none = refused_next file headers style parts known.most p Ends known.enough steps in
-    record {
-      takes = Consumes-then {X = Bool} a b c out (Ok any) known.spent (header_cost file style.cap p) _ (omega (arith, known.cost, sum)) known.reads (cost, tt);
-      text = rw (known.left ∙ ap (λ rest. known.listed ++ rest) whole) (Whole-then known.wrote items);
-      refused = sym (known.refused ∙ (ap (λ more. any || more) none ∙ or_false any));
-    }
+    let none = refused_next file headers style parts known.most p Ends known.enough steps in (
+      Consumes-then {X = Bool} a b c out (Ok any) known.spent (header_cost file style.cap p) _ (omega (arith, known.cost, sum)) known.reads (cost, tt),
+      (rw (known.left ∙ ap (λ rest. known.listed ++ rest) whole) (Whole-then known.wrote items), sym (known.refused ∙ (ap (λ more. any || more) none ∙ or_false any))),
+    )
 
 -- a stop
 pub walk_stops : (alone : Bool) (file : List ℕ) (headers : ℕ) (style : Style) (parts first : ℕ) (start p : Progress) (a b c : Counting) (old new out : Written) (any : Bool) (stop : Stop)
@@ -196,9 +208,7 @@ pub walk_stops : (alone : Bool) (file : List ℕ) (headers : ℕ) (style : Style
 walk_stops alone file headers style parts first start p a b c old new out any stop known takes text =
     let next = next_member file style.cap p in
     let whole = walk_next alone file headers style parts known.most p next known.enough refl in
-    let sum = cost_next file headers style parts known.most p next known.enough refl in
-    record {
-      takes = Consumes-then {X = Unit {0}} a b c out (Err stop) known.spent (next_cost file headers style parts p next) _ (omega (arith, known.cost, sum)) known.reads takes;
-      text = rw (known.left ∙ ap (λ rest. known.listed ++ rest) whole) (Stopped-then old new out stop known.listed _ known.wrote (Stopped-more new out stop _ _ text));
-      refused = tt;
-    }
+    let sum = cost_next file headers style parts known.most p next known.enough refl in (
+      Consumes-then {X = Unit {0}} a b c out (Err stop) known.spent (next_cost file headers style parts p next) _ (omega (arith, known.cost, sum)) known.reads takes,
+      (rw (known.left ∙ ap (λ rest. known.listed ++ rest) whole) (Stopped-then old new out stop known.listed _ known.wrote (Stopped-more new out stop _ _ text)), tt),
+    )

@@ -2,3 +2,4 @@ pub mod Members
 pub mod MemberRows
 pub mod Archives
 pub mod Listed
+pub mod FirstFault

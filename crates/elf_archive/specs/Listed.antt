@@ -1,18 +1,19 @@
 -- What the calls did that list the members of an archive.
-use Rattle.std.specs.Prelude.{ℕ, ◌≡◌, ◌<◌, ◌≤◌, ◌+◌, ◌-◌, ◌^◌, min, is_some, Bool, true, false, List, [], ◌∷◌, Option, None, Some, Result, Ok, Err, IfErr, IfOk, IfSome}
-use Rattle.std.specs.List.{list_any}
-use Rattle.elf_model.specs.Archive.{Member, Next, Ends, Broken, OneMember, Progress, archive_length_checks, behind, is_refused, member_items, members_from, next_member, told, walk_items}
-use Rattle.elf_model.specs.ArchiveCost.{IsArchiveBudgeted, allowance, any_refused, archive_ceiling, header_cost, member_cost, members_cost}
+use Rattle.std.specs.Prelude.{ℕ, ◌≡◌, ◌<◌, ◌≤◌, ◌+◌, ◌-◌, ◌^◌, min, Bool, false, List, [], ◌∷◌, Option, None, Some, Result, Ok, Err, IfErr, IfOk, IfSome}
+use Rattle.elf_model.specs.Archive.{Extent, Member, Next, Ends, Broken, OneMember, Progress, archive_length_checks, behind, is_refused, member_items, member_listing, next_member}
+use Rattle.elf_model.specs.ArchiveCost.{IsArchiveBudgeted, allowance, any_refused, archive_ceiling, header_cost, member_cost}
 use Rattle.elf_model.specs.Budget.{IsBudget}
 use Rattle.elf_model.specs.Checks.{first_refusal}
-use Rattle.elf_model.specs.Lines.{refusal_line}
-use Rattle.elf_model.specs.Listing.{ListingItem, Fault, fault_of}
+use Rattle.elf_model.specs.Cost.{style_ceiling}
+use Rattle.elf_model.specs.FileLists.{placed_behind}
+use Rattle.elf_model.specs.Listing.{ListingItem, Fault}
+use Rattle.elf_model.specs.Names.Shown.{Whole}
 use Rattle.elf_model.specs.Style.{Style}
 use Rattle.elf_model.specs.declared.causes.Refusal.{Refusal}
-use Rattle.elf_model.specs.declared.formats.Format.{Format}
 use Rattle.elf_source.specs.Source.{Counting, Faults, OverLimit, Reads}
 use Rattle.elf_source.specs.Ranges.{IsWholeRange}
-use Rattle.elf_source.specs.Output.{BreaksOff, HeldBack, Written, Takes, TakesFront, OutFails}
+use Rattle.elf_source.specs.Growth.{Grows}
+use Rattle.elf_source.specs.Output.{BreaksOff, HeldBack, Written, OutFails}
 use Rattle.elf_source.specs.declared.faults.OutFault.{OutFault}
 use Rattle.elf_source.specs.declared.holding_sink.HeldLine.{HeldLine}
 use Rattle.elf_headers.specs.Permitted.{style_of}
@@ -21,12 +22,18 @@ use Rattle.elf_headers.specs.declared.stop.Stop.{Stop}
 use Rattle.elf_headers.specs.declared.stop.Stop.TheVariants.{Refused, Source, Out}
 use Rattle.elf_listing.specs.Reports.{Wrote}
 use Rattle.elf_listing.specs.Shows.{Writes}
-use Rattle.elf_archive.specs.Members.{WalkStandsIn}
+use Rattle.elf_archive.specs.Members.{LiesIn, WalkStandsIn}
 
 -- a source is a range of all bytes of an archive, and nothing of it is hidden
 pub record IsAll (c : Counting) : Type 0 where
   pub whole : IsWholeRange c.seen
   pub shows : c.hides ≡ false
+
+-- some bytes lie within such a source, of fewer than 2^63 bytes
+pub record HoldsPart (c : Counting) (part : Extent) : Type 0 where
+  pub whole : IsAll c
+  pub size : c.seen.size < 2 ^ 63
+  pub lies : LiesIn c.seen.size part
 
 -- what a refusal says of the source, by reads of at most n bytes: where it is for want of budget, it names an offset of the file
 abbrev pub BudgetSays : Counting → Counting → ℕ → Refusal → Type 0
@@ -46,32 +53,45 @@ Consumes old new out result n = Reads old new n × IfErr result (StopTells old n
 abbrev pub behind_start : ℕ → ℕ → ℕ
 behind_start start at = min (start + at) (2 ^ 64 - 1)
 
--- the line of a member's refusal was written, and the answer is that there was one; or the output failed
-abbrev pub WroteEnd : Format → Written → Written → Refusal → Result Bool Stop → Type 0
-WroteEnd format old new refusal (Ok refused) = (refused ≡ true) × Takes old new (refusal_line format refusal)
-WroteEnd format old new refusal (Err (Refused other)) = ⊥
-WroteEnd format old new refusal (Err (Source fault at)) = ⊥
-WroteEnd format old new refusal (Err (Out fault)) = OutFails new fault × TakesFront old new (refusal_line format refusal)
+-- WHAT A CALL DID that goes through what an archive has, for every source: the store has as many slots, what was written stays,
+-- and no more was asked for than its ceiling; and where the file is known, what it cost and what it showed
+pub record GoesThrough {X : Type 0} (headers now : ℕ) (style : Style) (parts : ℕ) (a b : Counting) (old new : Written) (result : Result X Stop) (most : ℕ → Style → ℕ) (costs : List ℕ → ℕ → Style → ℕ → ℕ) (shown : List ℕ → ℕ → Style → ℕ → Type 0) : Type 0 where
+  pub slots : now ≡ headers
+  pub grows : Grows old new
+  pub ceiling : Consumes a b new result (most headers style)
+  pub cost : (file : List ℕ) → a.seen.file ≡ Some file → Consumes a b new result (costs file headers style parts)
+  pub shows : (file : List ℕ) → a.seen.file ≡ Some file → shown file headers style parts
 
--- how the listing of a member that begins at an offset of a file ended, as the archive's listing has it: a refusal of the member
--- is a line; what else stopped it stops the archive's listing, with an offset of the file
-abbrev pub TellsEnd : {X : Type 0} → Format → ℕ → Written → Written → Result X Stop → Result Bool Stop → Type 0
-TellsEnd format start old new (Ok x) result = (result ≡ Ok false) × (new ≡ old)
-TellsEnd format start old new (Err (Refused refusal)) result =
-    (IsBudget refusal → (result ≡ Err (Refused (record { at = behind_start start refusal.at; cause = refusal.cause }))) × (new ≡ old))
-    × ((IsBudget refusal → ⊥) → WroteEnd format old new refusal result)
-TellsEnd format start old new (Err (Source fault at)) result = (result ≡ Err (Source fault (behind_start start at))) × (new ≡ old)
-TellsEnd format start old new (Err (Out fault)) result = (result ≡ Err (Out fault)) × (new ≡ old)
+-- a member with these data: neither what is listed behind its line nor what that costs depends on more
+abbrev pub member_at : Extent → Member
+member_at extent = record { index = 0; extent = extent; name = Whole [] }
 
--- the listing of a member was written, its refusal as a line, and the answer is whether there was one
-abbrev pub ListsTold : Format → Written → Written → Result Bool Stop → List ListingItem → Type 0
-ListsTold format old new result items = Writes old new result (told format items) × IfOk result (λ refused. refused ≡ is_some (fault_of items))
+-- the same of one that goes through the listing of a member's data: its ceiling, its cost, and what it showed of the listing's items
+abbrev pub GoesThroughMember : {X : Type 0} → Extent → (headers now : ℕ) → Style → ℕ → (a b : Counting) → (old new : Written) → Result X Stop → (Style → List ListingItem → Type 0) → Type 0
+GoesThroughMember extent headers now style parts a b old new result shown =
+    GoesThrough headers now style parts a b old new result (λ slots by. 4 + style_ceiling extent.size slots by)
+    (λ file slots by which. member_cost file slots by which (member_at extent))
+    (λ file slots by which. shown by (member_listing file slots by which (member_at extent)))
 
--- A MEMBER WAS LISTED: its line and its listing were written, and the answer is whether that was refused
-abbrev pub ListsMember : (alone : Bool) → List ℕ → ℕ → Style → ℕ → Member → Written → Written → Result Bool Stop → Type 0
-ListsMember alone file headers style parts m old new result =
-    Writes old new result (member_items alone file headers style parts m)
-    × IfOk result (λ refused. refused ≡ is_refused file headers style parts m)
+-- how the listing of a member that begins at an offset of a file ended: its own refusal is an answer, and what stops all is told
+-- with an offset of the file
+abbrev pub EndsPart : {X : Type 0} → ℕ → Result X Stop → Result (Option Refusal) Stop → Type 0
+EndsPart start (Ok x) result = result ≡ Ok None
+EndsPart start (Err (Refused refusal)) result =
+    (IsBudget refusal → result ≡ Err (Refused (placed_behind start refusal))) × ((IsBudget refusal → ⊥) → result ≡ Ok (Some refusal))
+EndsPart start (Err (Source fault at)) result = result ≡ Err (Source fault (behind_start start at))
+EndsPart start (Err (Out fault)) result = result ≡ Err (Out fault)
+
+-- what was written of a member's listing: all of it, or what stands before its own refusal, which is answered; else a front of it
+abbrev pub ListsMember : Written → Written → Result (Option Refusal) Stop → List ListingItem → Type 0
+ListsMember old new (Ok None) items = Writes {X = Unit {0}} old new (Ok tt) items
+ListsMember old new (Ok (Some refusal)) items = Writes {X = Unit {0}} old new (Err (Refused refusal)) items
+ListsMember old new (Err (Refused refusal)) items = IsBudget refusal × Writes {X = Unit {0}} old new (Err (Refused refusal)) items
+ListsMember old new (Err stop) items = Writes {X = Unit {0}} old new (Err stop) items
+
+-- MEMBERS WERE LISTED: these items were written, and the answer is whether a listing was refused
+abbrev pub ListsTold : Written → Written → Result Bool Stop → List ListingItem → Bool → Type 0
+ListsTold old new result items any = Writes old new result items × IfOk result (λ refused. refused ≡ any)
 
 -- a line is held back, or the output fails for good with nothing of the line
 abbrev pub HoldsOrBreaks : Written → Written → Result HeldLine OutFault → List ℕ → Type 0
@@ -98,18 +118,12 @@ next_cost file headers style parts p (Broken refusal) = header_cost file style.c
 next_cost file headers style parts p (OneMember member) = header_cost file style.cap p + member_cost file headers style parts member
 
 -- a step of a listing tells where its walk has come to, and whether the member was refused
-abbrev pub StepsListing : List ℕ → ℕ → Style → ℕ → Progress → Progress → Result (Option Bool) Stop → Type 0
-StepsListing file headers style parts old new (Ok None) = next_member file style.cap old ≡ Ends
-StepsListing file headers style parts old new (Ok (Some refused)) =
+abbrev pub StepsTo : List ℕ → ℕ → Style → ℕ → Progress → Progress → Result (Option Bool) Stop → Type 0
+StepsTo file headers style parts old new (Ok None) = next_member file style.cap old ≡ Ends
+StepsTo file headers style parts old new (Ok (Some refused)) =
     (member : Member) × (next_member file style.cap old ≡ OneMember member) × (new ≡ behind file old member)
     × (refused ≡ is_refused file headers style parts member)
-StepsListing file headers style parts old new (Err stop) = Unit {0}
-
--- a walk over at most so many members wrote what is listed of them, for no more than they cost, and answers whether one was refused
-pub record WalksMembers (alone : Bool) (file : List ℕ) (headers : ℕ) (style : Style) (parts most : ℕ) (p : Progress) (a b : Counting) (old new : Written) (result : Result Bool Stop) : Type 0 where
-  pub takes : Consumes a b new result (members_cost most file headers style parts p)
-  pub text : Writes old new result (walk_items alone file headers style parts (members_from most file style.cap p))
-  pub refused : IfOk result (λ any. any ≡ list_any (is_refused file headers style parts) (members_from most file style.cap p).members)
+StepsTo file headers style parts old new (Err stop) = Unit {0}
 
 -- what is kept of an allowance for the members behind a step
 abbrev pub kept_for : ℕ → ℕ → Style → Progress → Result (Option Bool) Stop → ℕ
@@ -128,6 +142,16 @@ abbrev pub StandsBehind : ℕ → Progress → Progress → Result (Option Bool)
 StandsBehind size old new (Ok None) = Unit {0}
 StandsBehind size old new (Ok (Some refused)) = WalkStandsIn size new × (old.at < new.at)
 StandsBehind size old new (Err stop) = Unit {0}
+
+-- A STEP OF A LISTING, of which the walk was at one place and is at another: what is next was listed
+pub record StepsListing (alone : Bool) (headers now : ℕ) (style : Style) (parts : ℕ) (p q : Progress) (a b : Counting) (old new : Written) (result : Result (Option Bool) Stop) : Type 0 where
+  pub slots : now ≡ headers
+  pub grows : Grows old new
+  pub stands : StandsBehind a.seen.size p q result
+  pub within : StepsWithin headers style p q a b new result
+  pub cost : (file : List ℕ) → a.seen.file ≡ Some file → Consumes a b new result (next_cost file headers style parts p (next_member file style.cap p))
+  pub text : (file : List ℕ) → a.seen.file ≡ Some file → Writes old new result (next_items alone file headers style parts (next_member file style.cap p))
+  pub steps : (file : List ℕ) → a.seen.file ≡ Some file → StepsTo file headers style parts p q result
 
 -- THE TEXT: what these caps and parts list of an archive was written, its report or, where it costs more than the budget, a
 -- front of whole lines and the line of the budget; at a fault of the source or the output a front of that. At the end the answer
@@ -148,7 +172,7 @@ ArchiveSays old new out (Out fault) = OutFails out fault
 -- WHAT IS ASKED FOR, for every source: no more than the ceiling, and nothing where the length refuses the file; never more than
 -- the budget; and where the answer is that the budget is used up, fewer than 4,096 bytes of it are left, and the answer names an
 -- offset of the file
-pub record AsksInArchive (caps : Caps) (old new : Counting) (result : Result Bool Stop) : Type 0 where
+pub record AsksInArchive {X : Type 0} (caps : Caps) (old new : Counting) (result : Result X Stop) : Type 0 where
   pub ceiling : new.asked ≤ old.asked + archive_ceiling old.seen.size caps.limits.headers (style_of caps.style)
   pub unread : (refusal : Refusal) → first_refusal (archive_length_checks old.seen.size) ≡ Some refusal → new.seen ≡ old.seen × new.asked ≡ old.asked
   pub budget : IfSome caps.limits.budget (λ bytes. new.asked ≤ old.asked + bytes)

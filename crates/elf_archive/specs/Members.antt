@@ -1,5 +1,5 @@
 -- What a cursor over members tells.
-use Rattle.std.specs.Prelude.{ℕ, ◌≡◌, ◌+◌, ◌*◌, ◌<◌, ◌≤◌, if◌then◌else◌, is_some, nat_le, Bool, List, length, take, Option, None, Some, Result, Ok, Err, IfErr, IfSome, option_map}
+use Rattle.std.specs.Prelude.{ℕ, ◌≡◌, ◌+◌, ◌*◌, ◌^◌, ◌<◌, ◌≤◌, if◌then◌else◌, is_some, nat_le, Bool, List, length, take, Option, None, Some, Result, Ok, Err, IfErr, IfSome, option_map}
 use Rattle.elf_source.specs.Source.{Counting, Reads}
 use Rattle.elf_headers.specs.Faults.{Says}
 use Rattle.elf_model.specs.Archive.{Extent, Member, Ends, Broken, OneMember, Progress, behind, is_name_table, long_of, long_offset, newline_in, next_member}
@@ -32,6 +32,11 @@ member_of given name = record { index = given.index; extent = extent_of given.ex
 -- some bytes lie within a source of this size
 abbrev pub LiesIn : ℕ → Extent → Type 0
 LiesIn size extent = extent.at + extent.size ≤ size
+
+-- a table of names, if there was one, lies within a source of fewer than 2^63 bytes
+pub record NamesLie (size : ℕ) (names : Option Place) : Type 0 where
+  pub small : size < 2 ^ 63
+  pub lies : IfSome (extent_of_names names) (LiesIn size)
 
 -- a walk over the members stands within a source of this size, or just behind its end, and has passed over 60 bytes a member
 pub record WalkStandsIn (size : ℕ) (p : Progress) : Type 0 where

@@ -95,8 +95,7 @@ impl MemberCursor {
 
     /// Goes behind the member with this header and these data.
     fn pass(&mut self, header: &[u8; MEMBER_HEADER_BYTES], extent: Extent)
-        requires begins { self.old.at + 60 ≤ extent.at }
-        requires ends { extent.at + extent.size < 2 ^ 63 }
+        requires ends { (self.old.at + 60 ≤ extent.at) × (extent.at + extent.size < 2 ^ 63) }
         requires count { self.old.index < 2 ^ 63 }
         ensures at { self.new.at ≡ padded_end self.old.at (extent.at + extent.size) }
         ensures index { self.new.index ≡ self.old.index + 1 }
@@ -124,13 +123,10 @@ fn read_header<S: Source>(
     requires { (src.old.seen.size < 2 ^ 63) × (at < src.old.seen.size) }
     ensures asks { AsksAtMost src.old src.new result
         (cost_where (nat_le (at + 60) src.old.seen.size) 60) }
-    ensures begins { IfOk result (λ extent.
-        extent.at ≡ at + 60 + name_in_data (take 16 header.new)) }
-    ensures lies { IfOk result (λ extent. LiesIn src.old.seen.size (extent_of extent)) }
-    ensures header { (file : List ℕ) → src.old.seen.file ≡ Some file →
-        OnOk result (header.new ≡ slice file at 60) }
-    ensures extent { (file : List ℕ) → src.old.seen.file ≡ Some file →
-        DataRead at result (member_data file at) }
+    ensures lies { IfOk result (λ extent. LiesIn src.old.seen.size (extent_of extent)
+        × (extent.at ≡ at + 60 + name_in_data (take 16 header.new))) }
+    ensures read { (file : List ℕ) → src.old.seen.file ≡ Some file →
+        OnOk result (header.new ≡ slice file at 60) × DataRead at result (member_data file at) }
 {
     let left = src.length() - at;
     if left < MEMBER_HEADER_BYTES as u64 {

@@ -1,30 +1,27 @@
 //! The listing of an archive: its members, and behind each that is an ELF file its own listing.
-ghost use Rattle.std.specs.Prelude.{◌≡◌, ℕ, ◌+◌, ◌-◌, ◌^◌, ◌<◌, ◌≤◌, List, length, Some, Err, IfErr, IfOk};
-ghost use Rattle.elf_model.specs.Archive.{Extent as Bytes, Member as Listed, archive_items, archive_length_checks, before_members};
-ghost use Rattle.elf_model.specs.Archive.{bytes_in, is_elf, lists_members, member_line, member_listing, members_from, next_member, told, walk_items};
-ghost use Rattle.elf_model.specs.ArchiveCost.{allowance, any_refused, archive_ceiling, archive_cost, member_cost};
+ghost use Rattle.std.specs.Prelude.{◌≡◌, ℕ, ◌+◌, ◌-◌, ◌^◌, ◌<◌, ◌≤◌, List, length, is_some, Some, IfErr};
+ghost use Rattle.elf_model.specs.Archive.{archive_items, archive_length_checks, before_members};
+ghost use Rattle.elf_model.specs.Archive.{line_before, member_line, members_of, told, walk_items};
+ghost use Rattle.elf_model.specs.ArchiveCost.{allowance, any_refused, archive_ceiling, archive_cost, members_cost};
 ghost use Rattle.elf_model.specs.Checks.{first_refusal};
-ghost use Rattle.elf_model.specs.Cost.{cost_where, listing_cost, style_ceiling};
 ghost use Rattle.elf_model.specs.Listing.{fault_of};
-ghost use Rattle.elf_model.specs.Report.{listing};
 ghost use Rattle.elf_model.specs.declared.causes.Refusal.{Refusal as Refuses};
 ghost use Rattle.elf_headers.specs.Permitted.{style_of};
 ghost use Rattle.elf_listing.specs.Reports.{Leaves};
-ghost use Rattle.elf_listing.specs.Shows.{Writes};
 ghost use Rattle.elf_source.specs.Growth.{Grows};
-ghost use Rattle.elf_archive.specs.Listed.{ArchiveSays, AsksInArchive, Consumes, IsAll, ReportsArchive, StepsListing};
-ghost use Rattle.elf_archive.specs.Listed.{ListsMember, ListsTold, StandsBehind, StepsWithin, TellsEnd, WalksMembers, next_cost, next_items};
-ghost use Rattle.elf_archive.specs.Members.{LiesIn, WalkStandsIn, extent_of, member_of};
+ghost use Rattle.elf_archive.specs.Listed.{ArchiveSays, AsksInArchive, GoesThrough, GoesThroughMember, HoldsPart, IsAll};
+ghost use Rattle.elf_archive.specs.Listed.{ListsTold, ReportsArchive, StepsListing};
+ghost use Rattle.elf_archive.specs.Members.{WalkStandsIn, extent_of, member_of};
 
 use crate::cursor::MemberCursor;
 use crate::lines::{end_listed, hold_member, show_member};
-use crate::magic_strings::{begins_elf, magic};
+use crate::magic_strings::magic;
 use crate::member::{Extent, Member};
+use crate::parts::list_member;
 use elf_headers::{Caps, HeaderStore, Stop, Style};
 use elf_lines::show_refusal;
-use elf_listing::{list, show_stop};
-use elf_model::Format;
-use elf_record::{Cause, Parts, Refusal};
+use elf_listing::show_stop;
+use elf_record::Parts;
 use elf_source::{Counted, HoldingSink, Out, RangeSource, Sink, Source};
 use elf_table::NameBuf;
 
@@ -100,24 +97,15 @@ fn list_archive<S: Source, W: Sink>(
     choice: Choice,
     out: &mut Out<HoldingSink<W>>,
 ) -> Result<bool, Stop>
-    requires whole { IsAll src.old }
-    ensures slots { store.new.slots ≡ store.old.slots }
-    ensures grows { Grows out.old out.new }
-    ensures ceiling { Consumes src.old src.new out.new result
-        (archive_ceiling src.old.seen.size store.old.slots (style_of choice.entry.style)) }
+    requires { IsAll src.old }
+    ensures lists { GoesThrough store.old.slots store.new.slots (style_of choice.entry.style)
+        choice.entry.parts.0 src.old src.new out.old out.new result
+        (archive_ceiling src.old.seen.size) archive_cost (λ file headers style parts.
+        ListsTold out.old out.new result (archive_items choice.entry.alone file headers style parts)
+        (any_refused file headers style parts)) }
     ensures unread { (refusal : Refuses) →
         first_refusal (archive_length_checks src.old.seen.size) ≡ Some refusal →
         src.new ≡ src.old }
-    ensures cost { (file : List ℕ) → src.old.seen.file ≡ Some file →
-        Consumes src.old src.new out.new result
-        (archive_cost file store.old.slots (style_of choice.entry.style) choice.entry.parts.0) }
-    ensures text { (file : List ℕ) → src.old.seen.file ≡ Some file →
-        Writes out.old out.new result
-        (archive_items choice.entry.alone file store.old.slots (style_of choice.entry.style)
-        choice.entry.parts.0) }
-    ensures refused { (file : List ℕ) → src.old.seen.file ≡ Some file →
-        IfOk result (λ any. any ≡
-        any_refused file store.old.slots (style_of choice.entry.style) choice.entry.parts.0) }
 {
     magic(src)?;
     list_members(src, store, choice, out)
@@ -136,13 +124,13 @@ fn list_members<S: Source, W: Sink>(
 ) -> Result<bool, Stop>
     requires whole { IsAll src.old }
     requires size { (8 ≤ src.old.seen.size) × (src.old.seen.size < 2 ^ 63) }
-    ensures slots { store.new.slots ≡ store.old.slots }
-    ensures grows { Grows out.old out.new }
-    ensures allowed { Consumes src.old src.new out.new result
-        (allowance (src.old.seen.size - 8) store.old.slots (style_of choice.entry.style)) }
-    ensures walks { (file : List ℕ) → src.old.seen.file ≡ Some file →
-        WalksMembers choice.entry.alone file store.old.slots (style_of choice.entry.style)
-        choice.entry.parts.0 (length file) before_members src.old src.new out.old out.new result }
+    ensures { GoesThrough store.old.slots store.new.slots (style_of choice.entry.style)
+        choice.entry.parts.0 src.old src.new out.old out.new result
+        (allowance (src.old.seen.size - 8)) (λ file headers style parts.
+        members_cost (length file) file headers style parts before_members)
+        (λ file headers style parts. ListsTold out.old out.new result
+        (walk_items choice.entry.alone file headers style parts (members_of file style.cap))
+        (any_refused file headers style parts)) }
 {
     let mut cursor = MemberCursor::new();
     let mut name = NameBuf::new();
@@ -177,22 +165,9 @@ fn list_next<S: Source, W: Sink>(
     requires whole { IsAll src.old }
     requires size { src.old.seen.size < 2 ^ 63 }
     requires stands { WalkStandsIn src.old.seen.size cursor.old }
-    ensures slots { store.new.slots ≡ store.old.slots }
-    ensures grows { Grows out.old out.new }
-    ensures stands { StandsBehind src.old.seen.size cursor.old cursor.new result }
-    ensures within { StepsWithin store.old.slots (style_of choice.entry.style) cursor.old cursor.new
-        src.old src.new out.new result }
-    ensures cost { (file : List ℕ) → src.old.seen.file ≡ Some file →
-        Consumes src.old src.new out.new result
-        (next_cost file store.old.slots (style_of choice.entry.style) choice.entry.parts.0
-        cursor.old (next_member file choice.entry.style.cap.bytes cursor.old)) }
-    ensures text { (file : List ℕ) → src.old.seen.file ≡ Some file →
-        Writes out.old out.new result
-        (next_items choice.entry.alone file store.old.slots (style_of choice.entry.style)
-        choice.entry.parts.0 (next_member file choice.entry.style.cap.bytes cursor.old)) }
-    ensures steps { (file : List ℕ) → src.old.seen.file ≡ Some file →
-        StepsListing file store.old.slots (style_of choice.entry.style) choice.entry.parts.0
-        cursor.old cursor.new result }
+    ensures { StepsListing choice.entry.alone store.old.slots store.new.slots
+        (style_of choice.entry.style) choice.entry.parts.0 cursor.old cursor.new
+        src.old src.new out.old out.new result }
 {
     let Some(member) = cursor.advance(src, choice.style.cap, name)? else {
         return Ok(None);
@@ -205,7 +180,7 @@ fn list_next<S: Source, W: Sink>(
 /// a line follows. Answers whether the listing was refused.
 ///
 /// # Errors
-/// As [`list_member`] and [`hold_member`].
+/// As [`list_told`] and [`hold_member`].
 fn list_with_line<S: Source, W: Sink>(
     src: &mut Counted<RangeSource<S>>,
     store: &mut HeaderStore,
@@ -214,147 +189,45 @@ fn list_with_line<S: Source, W: Sink>(
     name: &NameBuf,
     out: &mut Out<HoldingSink<W>>,
 ) -> Result<bool, Stop>
-    requires whole { IsAll src.old }
-    requires size { src.old.seen.size < 2 ^ 63 }
-    requires lies { LiesIn src.old.seen.size (extent_of member.now.extent) }
-    ensures slots { store.new.slots ≡ store.old.slots }
-    ensures grows { Grows out.old out.new }
-    ensures ceiling { Consumes src.old src.new out.new result
-        (4 + style_ceiling member.now.extent.size store.old.slots (style_of choice.entry.style)) }
-    ensures cost { (file : List ℕ) → src.old.seen.file ≡ Some file →
-        Consumes src.old src.new out.new result
-        (member_cost file store.old.slots (style_of choice.entry.style) choice.entry.parts.0
-        (member_of member.now name.now)) }
-    ensures text { (file : List ℕ) → src.old.seen.file ≡ Some file →
-        ListsMember choice.entry.alone file store.old.slots (style_of choice.entry.style)
-        choice.entry.parts.0 (member_of member.now name.now) out.old out.new result }
+    requires { HoldsPart src.old (extent_of member.now.extent) }
+    ensures { GoesThroughMember (extent_of member.now.extent) store.old.slots store.new.slots
+        (style_of choice.entry.style) choice.entry.parts.0 src.old src.new out.old out.new result
+        (λ style items. ListsTold out.old out.new result (line_before choice.entry.alone
+        (member_line style.format (member_of member.now name.now)) (told style.format items))
+        (is_some (fault_of items))) }
 {
     if choice.alone {
         show_member(member, name, choice.style.format, out)?;
-        return list_member(src, store, choice, member.extent, out);
+        return list_told(src, store, choice, member.extent, out);
     }
     let line = hold_member(member, name, choice.style.format, out)?;
-    let listed = list_member(src, store, choice, member.extent, out);
+    let listed = list_told(src, store, choice, member.extent, out);
     end_listed(line, listed, out)
 }
 
-/// Lists a member that is an ELF file, where parts of a listing are asked for, and answers whether
-/// its listing was refused.
+/// Lists a member as [`list_member`] does, and answers whether its listing was refused: the line of that
+/// refusal ends it, and the next member follows.
 ///
 /// # Errors
-/// As [`list_range`].
-fn list_member<S: Source, W: Sink>(
+/// As [`list_member`].
+fn list_told<S: Source, W: Sink>(
     src: &mut Counted<RangeSource<S>>,
     store: &mut HeaderStore,
     choice: Choice,
     extent: Extent,
     out: &mut Out<W>,
 ) -> Result<bool, Stop>
-    requires whole { IsAll src.old }
-    requires size { src.old.seen.size < 2 ^ 63 }
-    requires lies { LiesIn src.old.seen.size (extent_of extent) }
-    ensures slots { store.new.slots ≡ store.old.slots }
-    ensures grows { Grows out.old out.new }
-    ensures ceiling { Consumes src.old src.new out.new result
-        (4 + style_ceiling extent.size store.old.slots (style_of choice.entry.style)) }
-    ensures cost { (file : List ℕ) → src.old.seen.file ≡ Some file → (member : Listed) →
-        member.extent ≡ extent_of extent → Consumes src.old src.new out.new result
-        (member_cost file store.old.slots (style_of choice.entry.style) choice.entry.parts.0
-        member) }
-    ensures text { (file : List ℕ) → src.old.seen.file ≡ Some file → (member : Listed) →
-        member.extent ≡ extent_of extent →
-        ListsTold choice.entry.style.format out.old out.new result (member_listing file
-        store.old.slots (style_of choice.entry.style) choice.entry.parts.0 member) }
+    requires { HoldsPart src.old (extent_of extent) }
+    ensures { GoesThroughMember (extent_of extent) store.old.slots store.new.slots
+        (style_of choice.entry.style) choice.entry.parts.0 src.old src.new out.old out.new result
+        (λ style items.
+        ListsTold out.old out.new result (told style.format items) (is_some (fault_of items))) }
 {
-    if choice.parts.known(choice.style.gnu).0 == 0 {
-        return Ok(false);
+    match list_member(src, store, choice.style, choice.parts, extent, out)? {
+        None => Ok(false),
+        Some(refusal) => {
+            show_refusal(refusal, choice.style.format, out)?;
+            Ok(true)
+        }
     }
-    if !begins_elf(src, extent)? {
-        return Ok(false);
-    }
-    list_range(src, store, choice, extent, out)
-}
-
-/// Lists the file that some bytes of an archive are, and answers whether its listing was refused.
-/// They end at or below the source's length.
-///
-/// # Errors
-/// A refusal for want of budget, a fault of the source or of the output.
-fn list_range<S: Source, W: Sink>(
-    src: &mut Counted<RangeSource<S>>,
-    store: &mut HeaderStore,
-    choice: Choice,
-    extent: Extent,
-    out: &mut Out<W>,
-) -> Result<bool, Stop>
-    requires whole { IsAll src.old }
-    requires size { src.old.seen.size < 2 ^ 63 }
-    requires lies { LiesIn src.old.seen.size (extent_of extent) }
-    ensures slots { store.new.slots ≡ store.old.slots }
-    ensures grows { Grows out.old out.new }
-    ensures ceiling { Consumes src.old src.new out.new result
-        (style_ceiling extent.size store.old.slots (style_of choice.entry.style)) }
-    ensures cost { (file : List ℕ) → src.old.seen.file ≡ Some file →
-        Consumes src.old src.new out.new result
-        (listing_cost (bytes_in file (extent_of extent)) store.old.slots
-        (style_of choice.entry.style) choice.entry.parts.0) }
-    ensures text { (file : List ℕ) → src.old.seen.file ≡ Some file →
-        ListsTold choice.entry.style.format out.old out.new result
-        (listing (bytes_in file (extent_of extent))
-        store.old.slots (style_of choice.entry.style) choice.entry.parts.0) }
-{
-    src.narrow(extent.at, extent.size);
-    let listed = list(src, store, choice.style, choice.parts, out);
-    src.widen();
-    tell_end(listed, extent.at, choice.style.format, out)
-}
-
-/// How the listing of a member that begins at the file offset `start` ended, as the archive's
-/// listing has it: a refusal's line is written and `true` answered, for the next member follows.
-///
-/// # Errors
-/// What stops the archive's listing too, with an offset of the file: a refusal for want of budget,
-/// a fault of the source or of the output.
-fn tell_end<W: Sink>(
-    listed: Result<(), Stop>,
-    start: u64,
-    format: Format,
-    out: &mut Out<W>,
-) -> Result<bool, Stop>
-    ensures grows { Grows out.old out.new }
-    ensures tells { TellsEnd format start out.old out.new listed result }
-{
-    match listed {
-        Ok(()) => Ok(false),
-        Err(Stop::Refused(refusal)) => tell_refusal(refusal, start, format, out),
-        Err(Stop::Source { fault, at }) => Err(Stop::Source {
-            fault,
-            at: start.saturating_add(at),
-        }),
-        Err(Stop::Out(fault)) => Err(Stop::Out(fault)),
-    }
-}
-
-/// The refusal of a member that begins at the file offset `start`, as the archive's listing has it.
-///
-/// # Errors
-/// As [`tell_end`].
-fn tell_refusal<W: Sink>(
-    refusal: Refusal,
-    start: u64,
-    format: Format,
-    out: &mut Out<W>,
-) -> Result<bool, Stop>
-    ensures grows { Grows out.old out.new }
-    ensures tells { TellsEnd {X = Unit {0}} format start out.old out.new
-        (Err (Stop.Refused refusal)) result }
-{
-    if refusal.cause == Cause::Budget {
-        return Err(Stop::Refused(Refusal {
-            at: start.saturating_add(refusal.at),
-            cause: refusal.cause,
-        }));
-    }
-    show_refusal(refusal, format, out)?;
-    Ok(true)
 }

@@ -3,10 +3,9 @@ ghost use Rattle.std.specs.Prelude.{◌≡◌, ℕ, ◌^◌, ◌<◌, ◌≤◌,
 ghost use Rattle.elf_model.specs.Archive.{archive_length_checks, bytes_in, is_elf};
 ghost use Rattle.elf_model.specs.Checks.{first_refusal};
 ghost use Rattle.elf_model.specs.declared.causes.Refusal.{Refusal as Refuses};
-ghost use Rattle.elf_headers.specs.Faults.{IsOfRead, Says};
-ghost use Rattle.elf_source.specs.Source.{Reads};
+ghost use Rattle.elf_headers.specs.Faults.{IsOfRead};
 ghost use Rattle.elf_archive.specs.Archives.{MagicRead};
-ghost use Rattle.elf_archive.specs.Members.{LiesIn, extent_of};
+ghost use Rattle.elf_archive.specs.Members.{AsksAtMost, LiesIn, extent_of};
 
 use crate::cursor::MAGIC_BYTES;
 use crate::member::Extent;
@@ -31,8 +30,7 @@ const ELF_MAGIC: u32 = 0x464c_457f;
 /// both with nothing read; `Thin` for the magic string of a thin archive, `NotArchive` for other
 /// bytes. Else a fault of the read, or a refusal for want of budget, at offset 0.
 pub fn magic<S: Source>(src: &mut Counted<S>) -> Result<(), Fault>
-    ensures reads { Reads src.old src.new 8 }
-    ensures says { IfErr result (Says src.old src.new 8) }
+    ensures asks { AsksAtMost src.old src.new result 8 }
     ensures unread { (refusal : Refuses) →
         first_refusal (archive_length_checks src.old.seen.size) ≡ Some refusal →
         (result ≡ Err (Fault.Refused refusal)) × (src.new ≡ src.old) }
@@ -65,8 +63,7 @@ pub fn magic<S: Source>(src: &mut Counted<S>) -> Result<(), Fault>
 /// A fault of the read, or a refusal for want of budget, at the offset of the bytes.
 pub fn begins_elf<S: Source>(src: &mut Counted<S>, extent: Extent) -> Result<bool, Fault>
     requires lies { LiesIn src.old.seen.size (extent_of extent) }
-    ensures reads { Reads src.old src.new 4 }
-    ensures says { IfErr result (Says src.old src.new 4) }
+    ensures asks { AsksAtMost src.old src.new result 4 }
     ensures fault { IfErr result IsOfRead }
     ensures read { (file : List ℕ) → src.old.seen.file ≡ Some file →
         IfOk result (λ elf. elf ≡ is_elf (bytes_in file (extent_of extent))) }

@@ -1,14 +1,13 @@
 //! The names of members.
-ghost use Rattle.std.specs.Prelude.{◌≡◌, ◌+◌, ℕ, ◌^◌, ◌<◌, ◌≤◌, List, length, take, Some, IfErr, IfOk, IfSome, OnOk};
+ghost use Rattle.std.specs.Prelude.{◌≡◌, ◌+◌, ℕ, ◌^◌, ◌<◌, ◌≤◌, List, length, take, Some, IfErr, IfOk, OnOk};
 ghost use Rattle.elf_model.specs.Archive.{bsd_name, long_name, member_name, name_in_data, told_name, trimmed};
 ghost use Rattle.elf_model.specs.ArchiveCost.{long_name_bytes};
 ghost use Rattle.elf_model.specs.Bytes.{slice};
 ghost use Rattle.elf_model.specs.Notes.{capped};
-ghost use Rattle.elf_headers.specs.Faults.{IsOfRead, Says};
+ghost use Rattle.elf_headers.specs.Faults.{IsOfRead};
 ghost use Rattle.elf_fields.specs.Named.{shown_as};
-ghost use Rattle.elf_source.specs.Source.{Reads};
-ghost use Rattle.elf_archive.specs.Members.{FrontRead, LengthTold, LiesIn, NameShown, member_name_cost, extent_of_names};
-ghost use Rattle.elf_archive.specs.Members.{told_cost};
+ghost use Rattle.elf_archive.specs.Members.{AsksAtMost, FrontRead, LengthTold, NameShown, NamesLie};
+ghost use Rattle.elf_archive.specs.Members.{extent_of_names, member_name_cost, told_cost};
 
 use crate::fields::{
     MEMBER_HEADER_BYTES, NAME_FIELD_BYTES, NUL, bsd_name_size, find_byte, long_offset,
@@ -40,11 +39,9 @@ pub(crate) fn read_name<S: Source>(
     cap: Cap,
     name: &mut NameBuf,
 ) -> Result<bool, Fault>
-    requires size { src.old.seen.size < 2 ^ 63 }
-    requires lies { IfSome (extent_of_names names) (LiesIn src.old.seen.size) }
+    requires names { NamesLie src.old.seen.size names }
     requires front { at + 60 + name_in_data (take 16 header.now) ≤ src.old.seen.size }
-    ensures reads { Reads src.old src.new (member_name_cost header.now cap.bytes) }
-    ensures says { IfErr result (Says src.old src.new (member_name_cost header.now cap.bytes)) }
+    ensures asks { AsksAtMost src.old src.new result (member_name_cost header.now cap.bytes) }
     ensures read { (file : List ℕ) → src.old.seen.file ≡ Some file →
         header.now ≡ slice file at 60 →
         NameShown at result name.new (member_name file cap.bytes (extent_of_names names) at) }
@@ -69,10 +66,8 @@ fn read_bsd<S: Source>(
     cap: Cap,
     name: &mut NameBuf,
 ) -> Result<bool, Fault>
-    requires length { src.old.seen.size < 2 ^ 63 }
-    requires within { start + size ≤ src.old.seen.size }
-    ensures reads { Reads src.old src.new (long_name_bytes cap.bytes) }
-    ensures says { IfErr result (Says src.old src.new (long_name_bytes cap.bytes)) }
+    requires { (src.old.seen.size < 2 ^ 63) × (start + size ≤ src.old.seen.size) }
+    ensures asks { AsksAtMost src.old src.new result (long_name_bytes cap.bytes) }
     ensures fault { IfErr result IsOfRead }
     ensures read { (file : List ℕ) → src.old.seen.file ≡ Some file →
         IfOk result (λ cut. bsd_name file cap.bytes start size ≡ shown_as cut name.new) }
@@ -94,11 +89,9 @@ fn read_trimmed<S: Source>(
     cap: Cap,
     name: &mut NameBuf,
 ) -> Result<bool, Fault>
-    requires size { src.old.seen.size < 2 ^ 63 }
+    requires size { (src.old.seen.size < 2 ^ 63) × (length front.old ≤ 4098) }
     requires within { at + length front.old ≤ src.old.seen.size }
-    requires few { length front.old ≤ 4098 }
-    ensures reads { Reads src.old src.new (length front.old) }
-    ensures says { IfErr result (Says src.old src.new (length front.old)) }
+    ensures asks { AsksAtMost src.old src.new result (length front.old) }
     ensures fault { IfErr result IsOfRead }
     ensures read { (file : List ℕ) → src.old.seen.file ≡ Some file →
         IfOk result (λ cut. capped cap.bytes (trimmed 0 (slice file at (length front.old)))
@@ -123,10 +116,8 @@ fn read_told<S: Source>(
     name: &mut NameBuf,
 ) -> Result<bool, Fault>
     requires field { length field.now ≡ 16 }
-    requires size { src.old.seen.size < 2 ^ 63 }
-    requires lies { IfSome (extent_of_names names) (LiesIn src.old.seen.size) }
-    ensures reads { Reads src.old src.new (told_cost field.now cap.bytes) }
-    ensures says { IfErr result (Says src.old src.new (told_cost field.now cap.bytes)) }
+    requires names { NamesLie src.old.seen.size names }
+    ensures asks { AsksAtMost src.old src.new result (told_cost field.now cap.bytes) }
     ensures read { (file : List ℕ) → src.old.seen.file ≡ Some file →
         NameShown at result name.new (told_name file cap.bytes (extent_of_names names) field.now) }
 {
@@ -148,10 +139,8 @@ fn read_long<S: Source>(
     cap: Cap,
     name: &mut NameBuf,
 ) -> Result<bool, Fault>
-    requires size { src.old.seen.size < 2 ^ 63 }
-    requires lies { IfSome (extent_of_names names) (LiesIn src.old.seen.size) }
-    ensures reads { Reads src.old src.new (long_name_bytes cap.bytes) }
-    ensures says { IfErr result (Says src.old src.new (long_name_bytes cap.bytes)) }
+    requires names { NamesLie src.old.seen.size names }
+    ensures asks { AsksAtMost src.old src.new result (long_name_bytes cap.bytes) }
     ensures read { (file : List ℕ) → src.old.seen.file ≡ Some file →
         NameShown at result name.new (long_name file cap.bytes (extent_of_names names) offset) }
 {
@@ -188,11 +177,9 @@ fn read_ended<S: Source>(
     cap: Cap,
     name: &mut NameBuf,
 ) -> Result<Option<bool>, Fault>
-    requires size { src.old.seen.size < 2 ^ 63 }
+    requires size { (src.old.seen.size < 2 ^ 63) × (length front.old ≤ cap.bytes + 2) }
     requires within { at + length front.old ≤ src.old.seen.size }
-    requires few { length front.old ≤ cap.bytes + 2 }
-    ensures reads { Reads src.old src.new (length front.old) }
-    ensures says { IfErr result (Says src.old src.new (length front.old)) }
+    ensures asks { AsksAtMost src.old src.new result (length front.old) }
     ensures fault { IfErr result IsOfRead }
     ensures read { (file : List ℕ) → src.old.seen.file ≡ Some file →
         FrontRead (slice file at (length front.old)) cap.bytes result name.new }
@@ -235,11 +222,9 @@ fn put_name(bytes: &[u8], cap: Cap, name: &mut NameBuf) -> bool
 /// # Errors
 /// A fault of a read, at its offset.
 fn read_front<S: Source>(src: &mut Counted<S>, at: u64, out: &mut [u8]) -> Result<(), Fault>
-    requires size { src.old.seen.size < 2 ^ 63 }
+    requires size { (src.old.seen.size < 2 ^ 63) × (length out.old ≤ 4098) }
     requires within { at + length out.old ≤ src.old.seen.size }
-    requires few { length out.old ≤ 4098 }
-    ensures reads { Reads src.old src.new (length out.old) }
-    ensures says { IfErr result (Says src.old src.new (length out.old)) }
+    ensures asks { AsksAtMost src.old src.new result (length out.old) }
     ensures fault { IfErr result IsOfRead }
     ensures read { (file : List ℕ) → src.old.seen.file ≡ Some file →
         OnOk result (out.new ≡ slice file at (length out.old)) }

@@ -160,8 +160,7 @@ fn table_in(members: &MembersLeft) -> Option<Extent>
 
 /// Goes behind the member with this header and these data.
 fn pass(members: &mut MembersLeft, header: &[u8; MEMBER_HEADER_BYTES], content: ByteRange)
-    requires begins { members.old.at + 60 ≤ content.at }
-    requires ends { content.at + content.len < 2 ^ 63 }
+    requires { (members.old.at + 60 ≤ content.at) × (content.at + content.len < 2 ^ 63) }
     ensures at { members.new.at ≡ padded_end members.old.at (content.at + content.len) }
     ensures names { names_in members.new
         ≡ names_passed (names_in members.old) header.now (extent_in content) }

@@ -1,5 +1,5 @@
 -- A listing behind the line of a path, by what was written of both.
-use Rattle.std.proofs.Common.{◌≡◌, ℕ, Bool, false, List, [], ◌∷◌, ◌++◌, Option, None, Some, Result, Ok, Err, refl, ◌∙◌, inl}
+use Rattle.std.proofs.Common.{◌≡◌, ℕ, Bool, false, List, [], ◌∷◌, Option, None, Some, Result, Ok, Err, refl, ◌∙◌, inl}
 use Rattle.std.specs.Prelude.{IfErr}
 use Rattle.elf_model.specs.Archive.{archive_items}
 use Rattle.elf_model.specs.Choice.{RowChoice, EveryRow, RowsOf}
@@ -24,8 +24,8 @@ use Rattle.elf_headers.specs.declared.caps.Limits.{Limits}
 use Rattle.elf_headers.specs.declared.stop.Stop.{Stop}
 use Rattle.elf_headers.specs.declared.stop.Stop.TheVariants.{Refused, Source, Out}
 use Rattle.elf_listing.specs.Reports.{Reports, Wrote}
-use Rattle.elf_archive.specs.Listed.{AnswersBehind, ReportsArchive}
-use Rattle.elf_each_file.specs.Lists.{IsListedText, ListsHeaded, ListsSort, SortSays, TellsRefused, WroteHeaded, lists_refused}
+use Rattle.elf_archive.specs.Listed.{AnswersBehind, ArchiveSays, ReportsArchive}
+use Rattle.elf_each_file.specs.Lists.{IsListedText, ListsHeaded, ListsSort, TellsRefused, WroteHeaded, lists_refused}
 
 -- something is what is listed
 pub record SomeListed (kind : FileSort) (file : List ℕ) (limits : Limits) (style : Style) (parts : ℕ) : Type 0 where
@@ -116,7 +116,7 @@ module _ (old mid before last : Written) (line : List ℕ) (held : HeldLine) (p 
           })
 
   -- what a stop says of the source and the output
-  pub held_says : (a b : Counting) (listed result : Result Bool Stop) → Grows mid before → AnswersBehind listed last result → IfErr listed (SortSays a b before) → IfErr result (SortSays a b last)
+  pub held_says : (a b : Counting) (listed result : Result Bool Stop) → Grows mid before → AnswersBehind listed last result → IfErr listed (ArchiveSays a b before) → IfErr result (ArchiveSays a b last)
   held_says a b (Ok refused) result grows is says = rw is tt
   held_says a b (Err (Refused refusal)) result grows is says = rw is tt
   held_says a b (Err (Source fault at)) result grows is says = rw is says

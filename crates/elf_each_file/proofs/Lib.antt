@@ -1,7 +1,5 @@
-pub mod MemberLaws
 pub mod SortedLaws
 pub mod StateLaws
-pub mod WalkLaws
 pub mod FrontLaws
 pub mod HeadedLaws
 pub mod ListingToldLaws

@@ -1,13 +1,13 @@
 -- What is told of a file, and what that asks for.
-use Rattle.std.proofs.Common.{◌≡◌, ℕ, ◌+◌, ◌-◌, ◌≤◌, Bool, true, false, not, if◌then◌else◌, List, length, Option, None, Some, Result, Ok, Err, nat_lt, refl, sym, ◌∙◌, arith}
-use Rattle.std.specs.Prelude.{IfSome, IfErr, OnErr}
+use Rattle.std.proofs.Common.{◌≡◌, ℕ, ◌+◌, ◌-◌, ◌≤◌, Bool, true, false, not, if◌then◌else◌, List, Option, None, Some, Result, Ok, Err, nat_lt, refl, arith}
+use Rattle.std.specs.Prelude.{IfSome, IfErr}
 use Rattle.std.proofs.lemmas.Bool.Decides.{nat_tests}
-use Rattle.elf_model.specs.FileLists.{budget_behind, file_sort, front_size}
+use Rattle.elf_model.specs.FileLists.{budget_behind, front_size}
 use Rattle.elf_model.specs.declared.states.FileSort.{FileSort}
 use Rattle.elf_model.specs.declared.states.FileSort.TheVariants as sort
 use Rattle.elf_model.specs.declared.states.FileState.TheVariants.{Unread}
 use Rattle.elf_source.specs.Output.{Written}
-use Rattle.elf_source.specs.Source.{Counting, Faults, IsHonest, Keeps}
+use Rattle.elf_source.specs.Source.{Counting, Faults, Keeps}
 use Rattle.elf_source.specs.declared.faults.OutFault.{OutFault}
 use Rattle.elf_source.specs.declared.faults.SourceFault.{SourceFault}
 use Rattle.elf_source.specs.declared.faults.SourceFault.TheVariants.{Device, Ended}
@@ -16,7 +16,7 @@ use Rattle.elf_each_file.specs.Fronts.{front_asked}
 use Rattle.elf_headers.specs.declared.stop.Stop.{Stop}
 use Rattle.elf_headers.specs.declared.stop.Stop.TheVariants.{Refused, Source, Out}
 use Rattle.elf_model.specs.declared.formats.Format.{Format}
-use Rattle.elf_each_file.specs.Lists.{SortSays}
+use Rattle.elf_archive.specs.Listed.{ArchiveSays}
 use Rattle.elf_each_file.specs.ToldListings.{EndsListing, ListsFile, ToldOf}
 use Rattle.elf_each_file.specs.declared.rule.ListRule.{ListRule}
 
@@ -57,7 +57,7 @@ file_told sort.Foreign rule path before old new answer other lists = absurd (oth
 
 -- a listing that ended in a failed read
 pub end_fails : (format : Format) (path : List ℕ) (result : Result Bool Stop) (old new : Written) (answer : Result ℕ OutFault) (a b : Counting) → EndsListing format path result old new answer
-    → IfErr result (SortSays a b old) → answer ≡ Ok 3 → FailsRead a b Unread
+    → IfErr result (ArchiveSays a b old) → answer ≡ Ok 3 → FailsRead a b Unread
 end_fails format path (Ok true) old new answer a b ends says is = let e = ends.1 in absurd (cc)
 end_fails format path (Ok false) old new answer a b ends says is = let e = ends.1 in absurd (cc)
 end_fails format path (Err (Refused refusal)) old new answer a b ends says is = let e = ends.1 in absurd (cc)

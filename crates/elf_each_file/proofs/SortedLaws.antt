@@ -1,5 +1,5 @@
 -- The check of a file by its sort, and what that asks for.
-use Rattle.std.proofs.Common.{◌≡◌, ℕ, ◌+◌, ◌≤◌, nat_lt, Bool, true, false, if◌then◌else◌, List, Option, None, Some, sym, ap, arith}
+use Rattle.std.proofs.Common.{◌≡◌, ℕ, ◌+◌, ◌≤◌, nat_lt, Bool, true, false, if◌then◌else◌, List, Option, None, Some, arith}
 use Rattle.std.specs.Prelude.{IfSome}
 use Rattle.elf_model.specs.ArchiveCost.{archive_ceiling}
 use Rattle.elf_model.specs.Cost.{style_ceiling}
@@ -7,32 +7,13 @@ use Rattle.elf_model.specs.FileLists.{front_size}
 use Rattle.elf_model.specs.Style.{Style}
 use Rattle.elf_model.specs.declared.states.FileState.{FileState}
 use Rattle.elf_model.specs.declared.states.FileState.TheVariants as state
-use Rattle.elf_source.specs.Source.{Counting, Faults, Reads, Seen, SetsLimit}
-use Rattle.elf_source.specs.declared.faults.SourceFault.{SourceFault}
-use Rattle.elf_source.proofs.LimitLaws.{within_budget}
+use Rattle.elf_source.specs.Source.{Counting}
 use Rattle.elf_headers.specs.Permitted.{style_of}
 use Rattle.elf_headers.specs.declared.caps.Caps.{Caps}
 use Rattle.elf_many.specs.Checked.{FailsRead}
 use Rattle.elf_each_file.specs.Fronts.{front_asked}
-use Rattle.elf_each_file.proofs.ListingToldLaws.{fault_fails}
-use Rattle.elf_each_file.specs.Checked.{AsksFor, check_ceiling}
-use Rattle.elf_each_file.specs.Members.{AsksInMembers, FindsSorted, FindsSortedState}
-
--- what is asked for of an archive within a budget
-pub asks_in_members : (caps : Caps) (s0 s1 s2 s3 : Counting) → SetsLimit s0 s1 caps.limits.budget → Reads s1 s2 (archive_ceiling s1.seen.size caps.limits.headers (style_of caps.style)) → SetsLimit s2 s3 None
-    → AsksInMembers caps s0 s3
-asks_in_members caps s0 s1 s2 s3 set reads unset =
-    let same = ap (λ (seen : Seen). archive_ceiling seen.size caps.limits.headers (style_of caps.style)) set.seen in
-    let within : IfSome caps.limits.budget (λ bytes. s2.asked ≤ s0.asked + bytes) = within_budget caps.limits.budget s0 s1 s2 set reads.same_limit in
-    record {
-      ceiling = omega (arith, reads.at_most, set.asked, unset.asked, same);
-      budget = rw unset.asked within;
-    }
-
--- a read that failed within a limit
-pub fails_limited : (budget : Option ℕ) (s0 s1 s2 s3 : Counting) (fault : SourceFault) → SetsLimit s0 s1 budget → SetsLimit s2 s3 None → Faults s1.seen s2.seen fault
-    → FailsRead s0 s3 state.Unread
-fails_limited budget s0 s1 s2 s3 fault set unset faults = fault_fails s0 s3 fault (rw (unset.seen, sym set.seen) faults)
+use Rattle.elf_each_file.specs.Checked.{AsksNoMore, check_ceiling}
+use Rattle.elf_each_file.specs.Members.{FindsSorted, FindsSortedState}
 
 -- what a file asks for, by the ceiling of an archive of as many bytes
 check_most : (short : Bool) (size headers : ℕ) (style : Style) → (if short then 4 else style_ceiling size headers style) ≤ archive_ceiling size headers style
@@ -40,7 +21,8 @@ unfolding archive_ceiling
 check_most true size headers style = omega arith
 check_most false size headers style = omega arith
 
-pub asks_as_archive : (caps : Caps) (old new : Counting) → AsksFor caps old new → AsksInMembers caps old new
+pub asks_as_archive : (caps : Caps) (old new : Counting) → AsksNoMore (check_ceiling old.seen.size caps.limits.headers (style_of caps.style)) caps.limits.budget old new
+    → AsksNoMore (archive_ceiling old.seen.size caps.limits.headers (style_of caps.style)) caps.limits.budget old new
 asks_as_archive caps old new asks =
     let most : check_ceiling old.seen.size caps.limits.headers (style_of caps.style) ≤ archive_ceiling old.seen.size caps.limits.headers (style_of caps.style) =
     check_most (nat_lt old.seen.size 64) old.seen.size caps.limits.headers (style_of caps.style) in
@@ -51,7 +33,7 @@ some_within : (budget : Option ℕ) (old new : ℕ) → new ≡ old → IfSome b
 some_within None old new is = tt
 some_within (Some bytes) old new is = omega (arith, is)
 
-pub asks_nothing : (caps : Caps) (old new : Counting) → new.asked ≡ old.asked → AsksInMembers caps old new
+pub asks_nothing : (caps : Caps) (old new : Counting) → new.asked ≡ old.asked → AsksNoMore (archive_ceiling old.seen.size caps.limits.headers (style_of caps.style)) caps.limits.budget old new
 asks_nothing caps old new is = record { ceiling = omega (arith, is); budget = some_within caps.limits.budget old.asked new.asked is }
 
 -- the bytes that tell what a file is are eight at most

@@ -1,11 +1,12 @@
 -- The state of a file, by what is known of its listing.
 use Rattle.elf_model.specs.Style.{Style}
 use Rattle.elf_headers.specs.Permitted.{style_of}
-use Rattle.std.proofs.Common.{◌≡◌, ℕ, ◌<◌, ◌≤◌, true, if◌then◌else◌, List, length, Option, None, Some, inl, refl, sym, ap, ◌∙◌, nat_lt, arith, ◌^◌}
-use Rattle.std.specs.Prelude.{Ok, Err}
+use Rattle.std.proofs.Common.{◌≡◌, ℕ, ◌+◌, ◌<◌, ◌≤◌, Bool, true, false, if◌then◌else◌, List, length, Option, None, Some, inl, refl, sym, ap, ◌∙◌, nat_lt, arith, ◌^◌}
+use Rattle.std.specs.Prelude.{Ok, Err, IfSome}
 use Rattle.std.proofs.lemmas.Bool.Decides.{nat_tests}
 use Rattle.elf_model.specs.Budget.{IsBudgeted}
 use Rattle.elf_model.specs.Checking.{IsStateOf, is_not_elf, state_of}
+use Rattle.elf_model.specs.Cost.{listing_cost, style_ceiling}
 use Rattle.elf_model.specs.Checks.{first_refusal, header_checks}
 use Rattle.elf_model.specs.Listing.{report_of}
 use Rattle.elf_model.specs.Report.{listing}
@@ -14,12 +15,13 @@ use Rattle.elf_model.specs.declared.states.FileState.{FileState}
 use Rattle.elf_model.specs.declared.states.FileState.TheVariants as state
 use Rattle.elf_model.proofs.ListingLemmas.{header_fault}
 use Rattle.elf_source.specs.Output.{Written}
+use Rattle.elf_source.specs.Source.{Counting}
 use Rattle.elf_headers.specs.declared.caps.Caps.{Caps}
 use Rattle.elf_headers.specs.declared.stop.Stop.TheVariants.{Refused as StopRefused}
 use Rattle.elf_listing.specs.Reports.{Reports}
-use Rattle.elf_many.specs.Checked.{FindsShort, short_refusal}
+use Rattle.elf_many.specs.Checked.{FailsRead, FindsShort, short_refusal}
 use Rattle.elf_many.proofs.StateLaws.{judged_long}
-use Rattle.elf_each_file.specs.Checked.{FindsState}
+use Rattle.elf_each_file.specs.Checked.{AsksNoMore, FindsState, check_ceiling, check_cost}
 
 short_first : (file : List ℕ) → length file < 64 → first_refusal (header_checks file) ≡ Some (short_refusal file)
 short_first file short =
@@ -80,3 +82,24 @@ finds caps parts file (state.Refused refusal) is = is
 finds caps parts file state.NoElf is = is
 finds caps parts file state.Unread is = tt
 finds caps parts file state.Memory is = is
+
+-- a listing that was refused reads what it should
+pub refused_read : (a b : Counting) (t : Bool) (refusal : Refusal) (found : FileState) → found ≡ (if t then state.NoElf else state.Refused refusal) → FailsRead a b found
+refused_read a b true refusal found is = rw is tt
+refused_read a b false refusal found is = rw is tt
+
+-- what the check of a short file may ask for, and of one that has room for a file header
+pub cost_short : (file : List ℕ) (headers : ℕ) (style : Style) (parts : ℕ) → length file < 64 → check_cost file headers style parts ≡ 4
+cost_short file headers style parts short = let few : nat_lt (length file) 64 ≡ true = grind (arith, nat_tests) in rw few refl
+
+pub cost_long : (file : List ℕ) (headers : ℕ) (style : Style) (parts : ℕ) → 64 ≤ length file → check_cost file headers style parts ≡ listing_cost file headers style parts
+cost_long file headers style parts long = let more : nat_lt (length file) 64 ≡ false = grind (arith, nat_tests) in rw more refl
+
+pub most_short : (size headers : ℕ) (style : Style) → size < 64 → check_ceiling size headers style ≡ 4
+most_short size headers style short = let few : nat_lt size 64 ≡ true = grind (arith, nat_tests) in rw few refl
+
+pub asks_long : (caps : Caps) (old new : Counting) → 64 ≤ old.seen.size → new.asked ≤ old.asked + style_ceiling old.seen.size caps.limits.headers (style_of caps.style)
+    → IfSome caps.limits.budget (λ bytes. new.asked ≤ old.asked + bytes) → AsksNoMore (check_ceiling old.seen.size caps.limits.headers (style_of caps.style)) caps.limits.budget old new
+asks_long caps old new long ceiling budget =
+    let more : nat_lt old.seen.size 64 ≡ false = grind (arith, nat_tests) in
+    record { ceiling = rw more ceiling; budget = budget }

@@ -1,5 +1,5 @@
 -- The traits that are found of one file among many, within its limits.
-use Rattle.std.specs.Prelude.{ℕ, ◌≡◌, ◌+◌, ◌≤◌, ◌<◌, ◌⊎◌, ⊤, nat_lt, if◌then◌else◌, List, length, Option, None, Some, Result, Ok, Err, IfSome}
+use Rattle.std.specs.Prelude.{ℕ, ◌≡◌, ◌<◌, ◌⊎◌, ⊤, nat_lt, if◌then◌else◌, List, length, Option, None, Some, Result, Ok, Err}
 use Rattle.elf_model.specs.Budget.{IsBudget}
 use Rattle.elf_model.specs.Checking.{state_of}
 use Rattle.elf_model.specs.Records.{FILE_HEADER_SIZE, ELF_MAGIC_SIZE}
@@ -9,8 +9,6 @@ use Rattle.elf_model.specs.declared.causes.Refusal.{Refusal}
 use Rattle.elf_model.specs.declared.states.FileState.{FileState}
 use Rattle.elf_model.specs.declared.states.FileState.TheVariants as state
 use Rattle.elf_model.specs.declared.traits.Traits.{Traits}
-use Rattle.elf_source.specs.Source.{Counting}
-use Rattle.elf_headers.specs.declared.caps.Limits.{Limits}
 
 -- the traits of a file, or the state of one that is refused
 abbrev pub traits_found : Option ℕ → List ℕ → Result Traits Refusal → Result Traits FileState
@@ -40,8 +38,3 @@ file_traits_cost file headers = if nat_lt (length file) FILE_HEADER_SIZE then EL
 -- the same of every source
 abbrev pub file_traits_ceiling : (size headers : ℕ) → ℕ
 file_traits_ceiling size headers = if nat_lt size FILE_HEADER_SIZE then ELF_MAGIC_SIZE else traits_ceiling size headers
-
--- what is asked for, for every source: no more than the ceiling, and no more than the budget
-pub record AsksTraits (limits : Limits) (old new : Counting) : Type 0 where
-  pub ceiling : new.asked ≤ old.asked + file_traits_ceiling old.seen.size limits.headers
-  pub budget : IfSome limits.budget (λ bytes. new.asked ≤ old.asked + bytes)

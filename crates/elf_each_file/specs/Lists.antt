@@ -1,5 +1,5 @@
 -- What is listed of one file among many, by its sort.
-use Rattle.std.specs.Prelude.{ℕ, ◌≡◌, ◌+◌, ◌≤◌, ◌⊎◌, List, [], ◌++◌, Option, None, Some, Bool, true, false, Result, Ok, Err, IfErr, IfSome}
+use Rattle.std.specs.Prelude.{ℕ, ◌≡◌, List, [], ◌++◌, Option, None, Some, Bool, false, Result, Ok, Err}
 use Rattle.elf_model.specs.ArchiveCost.{IsArchiveBudgeted, any_refused, archive_ceiling, archive_cost}
 use Rattle.elf_model.specs.Budget.{IsBudgeted}
 use Rattle.elf_model.specs.Choice.{RowChoice}
@@ -9,10 +9,7 @@ use Rattle.elf_model.specs.Style.{Style}
 use Rattle.elf_model.specs.declared.causes.Refusal.{Refusal}
 use Rattle.elf_model.specs.declared.states.FileSort.{FileSort}
 use Rattle.elf_model.specs.declared.states.FileSort.TheVariants as sort
-use Rattle.elf_source.specs.Source.{Counting, Faults}
-use Rattle.elf_source.specs.Output.{Written, Takes, TakesFront, OutFails}
-use Rattle.elf_headers.specs.Permitted.{style_of}
-use Rattle.elf_headers.specs.declared.caps.Caps.{Caps}
+use Rattle.elf_source.specs.Output.{Written, Takes, TakesFront}
 use Rattle.elf_headers.specs.declared.caps.Limits.{Limits}
 use Rattle.elf_headers.specs.declared.stop.Stop.{Stop}
 use Rattle.elf_headers.specs.declared.stop.Stop.TheVariants.{Refused, Source, Out}
@@ -54,17 +51,6 @@ pub record ListsSort (kind : FileSort) (file : List ℕ) (limits : Limits) (styl
   pub listed : IsListedText kind limits.budget file limits.headers style parts text fault
   pub wrote : Wrote old new result text fault
   pub refused : TellsRefused result (lists_refused kind file limits.headers style parts)
-
--- what a stop says of the source and the output
-abbrev pub SortSays : Counting → Counting → Written → Stop → Type 0
-SortSays old new out (Refused refusal) = Unit {0}
-SortSays old new out (Source fault at) = Faults old.seen new.seen fault
-SortSays old new out (Out fault) = OutFails out fault
-
--- what it asks for, for every source: no more than the ceiling, and no more than the budget
-pub record AsksForSort (kind : FileSort) (caps : Caps) (old new : Counting) : Type 0 where
-  pub ceiling : new.asked ≤ old.asked + sort_ceiling kind old.seen.size caps.limits.headers (style_of caps.style)
-  pub budget : IfSome caps.limits.budget (λ bytes. new.asked ≤ old.asked + bytes)
 
 -- THE SAME BEHIND THE LINE of a path, which stands as the choice of rows has it. At a fault of the source or the output a front of
 -- both was written

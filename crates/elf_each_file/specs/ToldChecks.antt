@@ -10,8 +10,8 @@ use Rattle.elf_headers.specs.Permitted.{style_of}
 use Rattle.elf_headers.specs.declared.caps.Caps.{Caps}
 use Rattle.elf_many.specs.Checked.{FailsRead}
 use Rattle.elf_many.specs.Statuses.{state_status}
-use Rattle.elf_each_file.specs.Checked.{AsksFor, FindsState, check_cost}
-use Rattle.elf_each_file.specs.Members.{AsksInSorted, FindsSorted, sorted_cost}
+use Rattle.elf_each_file.specs.Checked.{AsksNoMore, FindsState, check_ceiling, check_cost}
+use Rattle.elf_each_file.specs.Members.{FindsSorted, sorted_ceiling, sorted_cost}
 
 -- the state that is found of a file: that of its listing, or where archives are gone into by what it is
 abbrev pub Finds : (members : Bool) → Caps → ℕ → List ℕ → FileState → Type 0
@@ -24,9 +24,9 @@ cost_of_check true caps file headers style parts = sorted_cost caps file headers
 cost_of_check false caps file headers style parts = check_cost file headers style parts
 
 -- the same of every source
-abbrev pub AsksInCheck : (members : Bool) → Caps → (old new : Counting) → Type 0
-AsksInCheck true = AsksInSorted
-AsksInCheck false = AsksFor
+abbrev pub ceiling_of_check : (members : Bool) → ℕ → ℕ → Style → ℕ
+ceiling_of_check true = sorted_ceiling
+ceiling_of_check false = check_ceiling
 
 -- THE CHECK of a file among many, by its source and the output before and after: the line of the state that its own listing
 -- has where the file is known, unread only where a read failed, and the status that this calls for; no more is asked of the
@@ -38,4 +38,4 @@ pub record TellsState (members : Bool) (caps : Caps) (parts : ℕ) (path : List 
   pub puts : Puts old new answer (check_line caps.style.format state path)
   pub status : IfOk answer (λ status. status ≡ state_status state)
   pub cost : (file : List ℕ) → before.seen.file ≡ Some file → after.asked ≤ before.asked + cost_of_check members caps file caps.limits.headers (style_of caps.style) parts
-  pub asks : AsksInCheck members caps before after
+  pub asks : AsksNoMore (ceiling_of_check members before.seen.size caps.limits.headers (style_of caps.style)) caps.limits.budget before after

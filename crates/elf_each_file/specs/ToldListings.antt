@@ -1,5 +1,5 @@
 -- What is told of one listed file among many.
-use Rattle.std.specs.Prelude.{ℕ, ◌≡◌, ◌+◌, ◌≤◌, List, length, Option, None, Some, Bool, true, false, Result, Ok, Err, IfOk, IfSome}
+use Rattle.std.specs.Prelude.{ℕ, ◌≡◌, ◌+◌, ◌≤◌, List, Option, None, Some, Bool, false, Result, Ok, Err, IfOk, IfSome}
 use Rattle.elf_model.specs.Checking.{check_line}
 use Rattle.elf_model.specs.FileLists.{budget_behind, file_sort, front_size, list_status, path_line}
 use Rattle.elf_model.specs.declared.formats.Format.{Format}

@@ -12,7 +12,8 @@ use Rattle.elf_source.specs.declared.faults.OutFault.{OutFault}
 use Rattle.elf_wanted.specs.Required.{required_words}
 use Rattle.elf_many.specs.Checked.{FailsRead}
 use Rattle.elf_many.specs.Statuses.{state_status}
-use Rattle.elf_each_file.specs.Found.{AsksTraits, FindsWithin, file_traits_cost}
+use Rattle.elf_each_file.specs.Checked.{AsksNoMore}
+use Rattle.elf_each_file.specs.Found.{FindsWithin, file_traits_ceiling, file_traits_cost}
 use Rattle.elf_each_file.specs.declared.trait_lines.TraitRule.{TraitRule}
 
 -- a text is put, and the answer is a status
@@ -36,4 +37,4 @@ pub record TellsTraits (rule : TraitRule) (path : List ℕ) (before after : Coun
   pub read : IfErr found (FailsRead before after)
   pub puts : PutsFound rule.format (required_words rule.required.now) path found old new answer
   pub cost : (file : List ℕ) → before.seen.file ≡ Some file → after.asked ≤ before.asked + file_traits_cost file rule.limits.headers
-  pub asks : AsksTraits rule.limits before after
+  pub asks : AsksNoMore (file_traits_ceiling before.seen.size rule.limits.headers) rule.limits.budget before after

@@ -1,9 +1,6 @@
 //! The check of one file.
-ghost use Rattle.elf_headers.specs.Permitted.{style_of};
-ghost use Rattle.std.specs.Prelude.{◌≡◌, ◌+◌, ◌≤◌, ◌^◌, ℕ, List, Some};
-ghost use Rattle.elf_many.specs.Checked.{FailsRead};
-ghost use Rattle.elf_each_file.specs.Checked.{AsksFor, FindsState, check_cost};
-ghost use Rattle.elf_listing.specs.Reports.{Leaves};
+ghost use Rattle.std.specs.Prelude.{◌≡◌, ◌≤◌, ◌^◌};
+ghost use Rattle.elf_each_file.specs.Checked.{ChecksFile, FindsState, check_ceiling, check_cost};
 
 use elf_headers::{Caps, HeaderStore, Stop};
 use elf_listing::show;
@@ -27,16 +24,8 @@ pub fn check<S: Source>(
     parts: Parts,
 ) -> FileState
     requires { (store.old.slots ≡ caps.limits.headers) × (src.old.asked ≤ 2 ^ 127) }
-    ensures slots { store.new.slots ≡ store.old.slots }
-    ensures leaves { Leaves src.old src.new }
-    ensures state { (file : List ℕ) → src.old.seen.file ≡ Some file →
-        FindsState caps.entry parts.0 file result }
-    ensures cost { (file : List ℕ) → src.old.seen.file ≡ Some file →
-        src.new.asked ≤ src.old.asked
-        + check_cost file caps.entry.limits.headers (style_of caps.entry.style) parts.0 }
-    // For every source.
-    ensures read { FailsRead src.old src.new result }
-    ensures asks { AsksFor caps.entry src.old src.new }
+    ensures { ChecksFile store.old.slots store.new.slots caps.entry parts.0 src.old src.new result
+        FindsState check_cost check_ceiling }
 {
     if src.length() < HEADER_BYTES {
         return short_state(src, caps.limits.budget);

@@ -1,9 +1,8 @@
 //! The check of each of many files.
-ghost use Rattle.std.specs.Prelude.{◌≡◌, ◌+◌, ◌≤◌, ◌^◌, ℕ, List, Some};
+ghost use Rattle.std.specs.Prelude.{◌≡◌, ◌≤◌, ◌^◌};
 ghost use Rattle.elf_archive.specs.Listed.{IsAll};
-ghost use Rattle.elf_headers.specs.Permitted.{style_of};
-ghost use Rattle.elf_many.specs.Checked.{FailsRead};
-ghost use Rattle.elf_each_file.specs.ToldChecks.{AsksInCheck, Finds, cost_of_check};
+ghost use Rattle.elf_each_file.specs.Checked.{ChecksFile};
+ghost use Rattle.elf_each_file.specs.ToldChecks.{Finds, ceiling_of_check, cost_of_check};
 
 use crate::checking::check;
 use crate::sorted::check_sorted;
@@ -83,14 +82,9 @@ fn find_state<S: Source>(
 ) -> FileState
     requires small { (store.old.slots ≡ rule.now.caps.limits.headers) × (src.old.asked ≤ 2 ^ 126) }
     requires whole { IsAll src.old }
-    ensures slots { store.new.slots ≡ store.old.slots }
-    ensures state { (file : List ℕ) → src.old.seen.file ≡ Some file →
-        Finds rule.now.members rule.now.caps rule.now.parts.0 file result }
-    ensures cost { (file : List ℕ) → src.old.seen.file ≡ Some file →
-        src.new.asked ≤ src.old.asked + cost_of_check rule.now.members rule.now.caps file
-        rule.now.caps.limits.headers (style_of rule.now.caps.style) rule.now.parts.0 }
-    ensures read { FailsRead src.old src.new result }
-    ensures asks { AsksInCheck rule.now.members rule.now.caps src.old src.new }
+    ensures { ChecksFile store.old.slots store.new.slots rule.now.caps rule.now.parts.0
+        src.old src.new result (Finds rule.now.members)
+        (cost_of_check rule.now.members rule.now.caps) (ceiling_of_check rule.now.members) }
 {
     if rule.members {
         check_sorted(src, store, rule.caps, rule.parts)

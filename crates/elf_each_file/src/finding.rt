@@ -2,7 +2,8 @@
 ghost use Rattle.std.specs.Prelude.{◌≡◌, ◌+◌, ◌≤◌, ◌^◌, ℕ, List, None, Some, IfErr};
 ghost use Rattle.elf_source.specs.Source.{Keeps};
 ghost use Rattle.elf_many.specs.Checked.{FailsRead};
-ghost use Rattle.elf_each_file.specs.Found.{AsksTraits, FindsWithin, file_traits_cost};
+ghost use Rattle.elf_each_file.specs.Checked.{AsksNoMore};
+ghost use Rattle.elf_each_file.specs.Found.{FindsWithin, file_traits_ceiling, file_traits_cost};
 
 use elf_headers::{Fault, HeaderStore, Limits};
 use elf_many::{refused_state, short_state};
@@ -34,7 +35,8 @@ pub fn traits_within<S: Source>(
         src.new.asked ≤ src.old.asked + file_traits_cost file limits.headers }
     // For every source.
     ensures read { IfErr result (FailsRead src.old src.new) }
-    ensures asks { AsksTraits limits src.old src.new }
+    ensures asks { AsksNoMore (file_traits_ceiling src.old.seen.size limits.headers) limits.budget
+        src.old src.new }
 {
     if src.length() < HEADER_BYTES {
         return Err(short_state(src, limits.budget));

@@ -1,9 +1,10 @@
 //! A listing behind the line of its file's path.
 ghost use Rattle.std.specs.Prelude.{◌≡◌, ◌+◌, ◌≤◌, ◌^◌, ℕ, List, Some, IfErr};
-ghost use Rattle.elf_archive.specs.Listed.{IsAll};
+ghost use Rattle.elf_archive.specs.Listed.{ArchiveSays, IsAll};
 ghost use Rattle.elf_headers.specs.Permitted.{style_of};
 ghost use Rattle.elf_listing.specs.Reports.{Leaves};
-ghost use Rattle.elf_each_file.specs.Lists.{AsksForSort, ListsHeaded, SortSays, sort_cost};
+ghost use Rattle.elf_each_file.specs.Checked.{AsksNoMore};
+ghost use Rattle.elf_each_file.specs.Lists.{ListsHeaded, sort_ceiling, sort_cost};
 ghost use Rattle.elf_model.specs.FileLists.{path_line};
 
 use crate::path_lines::{hold_path, show_path};
@@ -32,14 +33,15 @@ pub fn list_headed<S: Source, W: Sink>(
     requires whole { IsAll src.old }
     ensures slots { store.new.slots ≡ store.old.slots }
     ensures leaves { Leaves src.old src.new }
-    ensures says { IfErr result (SortSays src.old src.new out.new) }
+    ensures says { IfErr result (ArchiveSays src.old src.new out.new) }
     ensures lists { (file : List ℕ) → src.old.seen.file ≡ Some file →
         ListsHeaded sort (path_line rule.now.caps.style.format path.now) file rule.now.caps.limits
         (style_of rule.now.caps.style) rule.now.parts.0 out.old out.new result }
     ensures cost { (file : List ℕ) → src.old.seen.file ≡ Some file →
         src.new.asked ≤ src.old.asked + sort_cost sort file rule.now.caps.limits.headers
         (style_of rule.now.caps.style) rule.now.parts.0 }
-    ensures asks { AsksForSort sort rule.now.caps src.old src.new }
+    ensures asks { AsksNoMore (sort_ceiling sort src.old.seen.size rule.now.caps.limits.headers
+        (style_of rule.now.caps.style)) rule.now.caps.limits.budget src.old src.new }
 {
     src.limit(None);
     if !rule.caps.style.choice.by_name {

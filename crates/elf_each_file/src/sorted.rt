@@ -1,11 +1,10 @@
 //! The check of a file by what it is, where archives are gone into.
-ghost use Rattle.std.specs.Prelude.{◌≡◌, ◌+◌, ◌≤◌, ◌^◌, ℕ, List, Some};
+ghost use Rattle.std.specs.Prelude.{◌≡◌, ◌≤◌, ◌^◌};
 ghost use Rattle.elf_archive.specs.Listed.{IsAll};
-ghost use Rattle.elf_headers.specs.Permitted.{style_of};
-ghost use Rattle.elf_listing.specs.Reports.{Leaves};
-ghost use Rattle.elf_many.specs.Checked.{FailsRead};
-ghost use Rattle.elf_each_file.specs.Members.{AsksInMembers, AsksInSorted, FindsBySort};
-ghost use Rattle.elf_each_file.specs.Members.{FindsSorted, IsCapsBehind, cost_by, sorted_cost};
+ghost use Rattle.elf_model.specs.ArchiveCost.{archive_ceiling};
+ghost use Rattle.elf_each_file.specs.Checked.{ChecksFile};
+ghost use Rattle.elf_each_file.specs.Members.{FindsBySort, FindsSorted, IsCapsBehind};
+ghost use Rattle.elf_each_file.specs.Members.{cost_by, sorted_ceiling, sorted_cost};
 
 use crate::checking::check;
 use crate::members::check_archive;
@@ -26,17 +25,8 @@ pub fn check_sorted<S: Source>(
 ) -> FileState
     requires small { (store.old.slots ≡ caps.limits.headers) × (src.old.asked ≤ 2 ^ 126) }
     requires whole { IsAll src.old }
-    ensures slots { store.new.slots ≡ store.old.slots }
-    ensures leaves { Leaves src.old src.new }
-    ensures state { (file : List ℕ) → src.old.seen.file ≡ Some file →
-        FindsSorted caps.entry parts.0 file result }
-    ensures cost { (file : List ℕ) → src.old.seen.file ≡ Some file →
-        src.new.asked ≤ src.old.asked
-        + sorted_cost caps.entry file caps.entry.limits.headers (style_of caps.entry.style)
-        parts.0 }
-    // For every source.
-    ensures read { FailsRead src.old src.new result }
-    ensures asks { AsksInSorted caps.entry src.old src.new }
+    ensures { ChecksFile store.old.slots store.new.slots caps.entry parts.0 src.old src.new result
+        FindsSorted (sorted_cost caps.entry) sorted_ceiling }
 {
     let size = src.length();
     let sort = match find_sort(src, true, caps.limits.budget) {
@@ -57,15 +47,8 @@ fn check_by_sort<S: Source>(
 ) -> FileState
     requires small { (store.old.slots ≡ caps.limits.headers) × (src.old.asked ≤ 2 ^ 127) }
     requires whole { IsAll src.old }
-    ensures slots { store.new.slots ≡ store.old.slots }
-    ensures leaves { Leaves src.old src.new }
-    ensures state { (file : List ℕ) → src.old.seen.file ≡ Some file →
-        FindsBySort sort caps.entry parts.0 file result }
-    ensures cost { (file : List ℕ) → src.old.seen.file ≡ Some file →
-        src.new.asked ≤ src.old.asked
-        + cost_by sort file caps.entry.limits.headers (style_of caps.entry.style) parts.0 }
-    ensures read { FailsRead src.old src.new result }
-    ensures asks { AsksInMembers caps.entry src.old src.new }
+    ensures { ChecksFile store.old.slots store.new.slots caps.entry parts.0 src.old src.new result
+        (FindsBySort sort) (cost_by sort) archive_ceiling }
 {
     match sort {
         FileSort::Elf => check(src, store, caps, parts),

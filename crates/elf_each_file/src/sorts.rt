@@ -1,9 +1,10 @@
 //! The listing of a file, by its sort.
 ghost use Rattle.std.specs.Prelude.{◌≡◌, ◌+◌, ◌≤◌, ◌^◌, ℕ, List, Some, IfErr};
-ghost use Rattle.elf_archive.specs.Listed.{IsAll};
+ghost use Rattle.elf_archive.specs.Listed.{ArchiveSays, IsAll};
 ghost use Rattle.elf_headers.specs.Permitted.{style_of};
 ghost use Rattle.elf_listing.specs.Reports.{Leaves};
-ghost use Rattle.elf_each_file.specs.Lists.{AsksForSort, ListsSort, SortSays, sort_cost};
+ghost use Rattle.elf_each_file.specs.Checked.{AsksNoMore};
+ghost use Rattle.elf_each_file.specs.Lists.{ListsSort, sort_ceiling, sort_cost};
 ghost use Rattle.elf_model.specs.FileLists.{members_alone};
 ghost use Rattle.elf_source.specs.Growth.{Grows};
 
@@ -34,14 +35,15 @@ pub fn list_sort<S: Source, W: Sink>(
     ensures slots { store.new.slots ≡ store.old.slots }
     ensures grows { Grows out.old out.new }
     ensures leaves { Leaves src.old src.new }
-    ensures says { IfErr result (SortSays src.old src.new out.new) }
+    ensures says { IfErr result (ArchiveSays src.old src.new out.new) }
     ensures lists { (file : List ℕ) → src.old.seen.file ≡ Some file →
         ListsSort sort file caps.entry.limits (style_of caps.entry.style) parts.0
         out.old out.new result }
     ensures cost { (file : List ℕ) → src.old.seen.file ≡ Some file →
         src.new.asked ≤ src.old.asked
         + sort_cost sort file caps.entry.limits.headers (style_of caps.entry.style) parts.0 }
-    ensures asks { AsksForSort sort caps.entry src.old src.new }
+    ensures asks { AsksNoMore (sort_ceiling sort src.old.seen.size caps.entry.limits.headers
+        (style_of caps.entry.style)) caps.entry.limits.budget src.old src.new }
 {
     match sort {
         FileSort::Elf => {

@@ -1,5 +1,5 @@
 -- Each step lists the next member behind those before it.
-use Rattle.std.proofs.Common.{rules, ◌≡◌, ℕ, ◌+◌, ◌||◌, length, None, Ok, Err, refl, sym, ap, ◌∙◌, subst, arith}
+use Rattle.std.proofs.Common.{rules, ◌≡◌, ℕ, ◌+◌, ◌||◌, List, length, None, Some, Ok, Err, refl, sym, ap, ◌∙◌, subst, arith}
 use Rattle.std.proofs.lemmas.Result.{err_from_is_err_and}
 use Rattle.elf_model.specs.Archive.{before_members}
 use Rattle.elf_source.proofs.GrowthLaws.{grows_not, grows_then}
@@ -8,7 +8,7 @@ use Rattle.elf_headers.specs.Permitted.{style_of}
 use Rattle.elf_archive.specs.Members.{WalkStandsIn}
 use Rattle.elf_archive.proofs.ConsumeLaws.{Consumes-then, still_whole}
 use Rattle.elf_archive.proofs.ListingLaws.{step_ends, step_within}
-use Rattle.elf_archive.proofs.WalkLaws.{walk_begins, walk_ends, walk_more, walk_stops}
+use Rattle.elf_archive.proofs.WalkLaws.{WalksMembers, of_members, walk_begins, walk_ends, walk_more, walk_stops}
 use Rattle.elf_archive.proofs.listing.list_members.Goals as goal
 
 pub members-init : goal.members-init
@@ -22,17 +22,30 @@ members-init g c = rw c.new-cursor.ensures (record {
   walks = λ file held. walk_begins c.args.choice.alone file c.args.store.now.slots (style_of c.args.choice.style) c.args.choice.parts.0 (length file) before_members _ _ (omega arith);
 })
 
-pub returns-in_err-refused-clause-grows : goal.returns-in_err-refused-clause-grows
-returns-in_err-refused-clause-grows g c = grows_then c.members.invariant.grows c.in_err-refused.ensures.grows
-
-pub returns-in_err-refused-clause-walks : goal.returns-in_err-refused-clause-walks
-returns-in_err-refused-clause-walks g c = λ file held.
+pub returns-in_err-refused : goal.returns-in_err-refused
+returns-in_err-refused g c =
     let p = err_from_is_err_and c.from_residual.result c.from_residual.ensures.1 in
     let known = c.members.invariant in
+    let did = c.in_err-refused.ensures in
+    let step = did.within in
+    let headers = c.args.store.now.slots in
+    let style = style_of c.args.choice.style in
+    let parts = c.args.choice.parts.0 in
+    let within = step_ends c.args.src.now.seen.size c.members.src.seen.size headers c.members.store.slots style known.bytes step.bytes _ c.members.cursor known.reads.keeps.same_size known.slots known.within step.within in
+    let walks : (file : List ℕ) → c.args.src.now.seen.file ≡ Some file
+    → WalksMembers c.args.choice.alone file headers style parts (length file) before_members c.args.src.now c.list_next.new.src c.args.out.now c.list_next.new.out (Err c.in_err-refused.field-0.0) =
+    λ file held.
     let now = known.reads.keeps.same_file ∙ held in
-    let takes = rw known.slots at (c.in_err-refused.ensures.cost file now) in
-    let text = rw known.slots at (c.in_err-refused.ensures.text file now) in
-    rw (p.1, p.2) (walk_stops c.args.choice.alone file c.args.store.now.slots (style_of c.args.choice.style) c.args.choice.parts.0 (length file) before_members c.members.cursor _ _ _ _ _ _ c.members.any _ (known.walks file held) takes text)
+    let takes = rw known.slots at (did.cost file now) in
+    let text = rw known.slots at (did.text file now) in
+    walk_stops c.args.choice.alone file headers style parts (length file) before_members c.members.cursor _ _ _ _ _ _ c.members.any _ (known.walks file held) takes text in
+    record {
+      slots = did.slots ∙ known.slots;
+      grows = grows_then known.grows did.grows;
+      ceiling = rw (p.1, p.2) (Consumes-then {X = Unit {0}} _ _ _ c.list_next.new.out (Err c.in_err-refused.field-0.0) known.bytes step.bytes _ within known.reads step.takes);
+      cost = λ file held. rw (p.1, p.2) (walks file held).0;
+      shows = λ file held. rw (p.1, p.2) (of_members c.args.choice.alone file headers style parts c.args.src.now c.list_next.new.src c.args.out.now c.list_next.new.out (Err c.in_err-refused.field-0.0) (walks file held));
+    }
 
 pub members-preserved-then-any : goal.members-preserved-then-any
 members-preserved-then-any g c =
@@ -78,40 +91,37 @@ members-preserved g c =
           (known.walks file held) steps takes text;
     }
 
-pub returns-clause-grows : goal.returns-clause-grows
-returns-clause-grows g c = grows_then c.members.invariant.grows c.in_ok-refused.ensures.grows
-
-pub returns-clause-walks : goal.returns-clause-walks
-returns-clause-walks g c = λ file held.
+pub returns : goal.returns
+returns g c =
     let known = c.members.invariant in
+    let did = c.in_ok-refused.ensures in
     let none : c.in_ok-refused.field-0 ≡ None = search rules in
+    let step = rw none at did.within in
+    let headers = c.args.store.now.slots in
+    let style = style_of c.args.choice.style in
+    let parts = c.args.choice.parts.0 in
+    let within = step_ends c.args.src.now.seen.size c.members.src.seen.size headers c.members.store.slots style known.bytes step.bytes _ c.members.cursor known.reads.keeps.same_size known.slots known.within step.within in
+    let walks : (file : List ℕ) → c.args.src.now.seen.file ≡ Some file
+    → WalksMembers c.args.choice.alone file headers style parts (length file) before_members c.args.src.now c.list_next.new.src c.args.out.now c.list_next.new.out (Ok c.members.any) =
+    λ file held.
     let now = known.reads.keeps.same_file ∙ held in
-    let takes = rw known.slots at (c.in_ok-refused.ensures.cost file now) in
-    let text = rw known.slots at (c.in_ok-refused.ensures.text file now) in
-    let steps = rw none at (c.in_ok-refused.ensures.steps file now) in
-    walk_ends c.args.choice.alone file c.args.store.now.slots (style_of c.args.choice.style) c.args.choice.parts.0 (length file) before_members c.members.cursor c.list_next.new.cursor _ _ _ _ _ _ c.members.any (known.walks file held) steps takes text
+    let takes = rw known.slots at (did.cost file now) in
+    let text = rw known.slots at (did.text file now) in
+    let steps = rw none at (did.steps file now) in
+    walk_ends c.args.choice.alone file headers style parts (length file) before_members c.members.cursor c.list_next.new.cursor _ _ _ _ _ _ c.members.any (known.walks file held) steps takes text in
+    record {
+      slots = did.slots ∙ known.slots;
+      grows = grows_then known.grows did.grows;
+      ceiling = Consumes-then {X = Unit {0}} _ _ _ c.list_next.new.out (Ok tt) known.bytes step.bytes _ within known.reads (step.takes.0, tt);
+      cost = λ file held. (walks file held).0;
+      shows = λ file held. of_members c.args.choice.alone file headers style parts c.args.src.now c.list_next.new.src c.args.out.now c.list_next.new.out (Ok c.members.any) (walks file held);
+    }
 
 pub list_next-requires-clause-whole : goal.list_next-requires-clause-whole
 list_next-requires-clause-whole g c = still_whole _ _ _ c.requires.whole c.members.invariant.reads
 
 pub list_next-requires-clause-stands : goal.list_next-requires-clause-stands
 list_next-requires-clause-stands g c = subst (λ (n : ℕ). WalkStandsIn n c.members.cursor) (sym c.members.invariant.reads.keeps.same_size) c.members.invariant.stands
-
-pub returns-in_err-refused-clause-allowed : goal.returns-in_err-refused-clause-allowed
-returns-in_err-refused-clause-allowed g c =
-    let p = err_from_is_err_and c.from_residual.result c.from_residual.ensures.1 in
-    let known = c.members.invariant in
-    let step = c.in_err-refused.ensures.within in
-    let within = step_ends c.args.src.now.seen.size c.members.src.seen.size c.args.store.now.slots c.members.store.slots (style_of c.args.choice.style) known.bytes step.bytes _ c.members.cursor known.reads.keeps.same_size known.slots known.within step.within in
-    rw (p.1, p.2) (Consumes-then {X = Unit {0}} _ _ _ c.list_next.new.out (Err c.in_err-refused.field-0.0) known.bytes step.bytes _ within known.reads step.takes)
-
-pub returns-clause-allowed : goal.returns-clause-allowed
-returns-clause-allowed g c =
-    let known = c.members.invariant in
-    let none : c.in_ok-refused.field-0 ≡ None = search rules in
-    let step = rw none at c.in_ok-refused.ensures.within in
-    let within = step_ends c.args.src.now.seen.size c.members.src.seen.size c.args.store.now.slots c.members.store.slots (style_of c.args.choice.style) known.bytes step.bytes _ c.members.cursor known.reads.keeps.same_size known.slots known.within step.within in
-    Consumes-then {X = Unit {0}} _ _ _ c.list_next.new.out (Ok tt) known.bytes step.bytes _ within known.reads (step.takes.0, tt)
 
 pub members-smaller-then-any : goal.members-smaller-then-any
 members-smaller-then-any g c =

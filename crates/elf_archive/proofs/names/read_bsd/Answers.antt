@@ -1,17 +1,10 @@
 use Rattle.std.proofs.Common.{ℕ, length-take, arith}
-use Rattle.elf_source.proofs.ReadsLaws.{Reads-to}
 use Rattle.elf_archive.proofs.AskLaws.{Asks-to}
 use Rattle.elf_archive.proofs.NameLaws.{bsd-buffer}
 use Rattle.elf_archive.proofs.names.read_bsd.Goals as goal
 
-pub returns-clause-reads : goal.returns-clause-reads
-returns-clause-reads g c =
-    let reads = c.read_trimmed.ensures.reads in
-    Reads-to reads (omega (arith, reads.at_most, length-take {A = ℕ}))
-
-pub returns-clause-says : goal.returns-clause-says
-returns-clause-says g c =
-    let asks = Asks-to _ _ c.read_trimmed.result _ _ (omega (arith, length-take {A = ℕ})) (c.read_trimmed.ensures.reads, c.read_trimmed.ensures.says) in asks.1
+pub returns-clause-asks : goal.returns-clause-asks
+returns-clause-asks g c = Asks-to _ _ c.read_trimmed.result _ _ (omega (arith, length-take {A = ℕ})) c.read_trimmed.ensures.asks
 
 pub returns-clause-read : goal.returns-clause-read
 returns-clause-read g c = λ file held.

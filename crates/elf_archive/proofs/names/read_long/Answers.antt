@@ -23,26 +23,20 @@ returns-in-None-clause-read g c = λ file held.
     let told = rw c.in-None.is at (c.in_ok-is_cut.ensures.read file held) in
     rw (c.refused-in-None.ensures, c.in-Some.is) (λ other. (refl, long_buffer file _ _ c.args.offset c.args.cap.bytes c.min-want.result (omega arith) c.if-offset-table.false (omega arith) (omega arith) (λ few. omega arith) ∙ told))
 
-pub returns-in_err-is_cut-clause-reads : goal.returns-in_err-is_cut-clause-reads
-returns-in_err-is_cut-clause-reads g c =
-    let reads = c.in_err-is_cut.ensures.reads in
-    Reads-to reads (omega (arith, reads.at_most, length-take {A = ℕ}))
-
-pub returns-in_err-is_cut-clause-says : goal.returns-in_err-is_cut-clause-says
-returns-in_err-is_cut-clause-says g c =
+pub returns-in_err-is_cut-clause-asks : goal.returns-in_err-is_cut-clause-asks
+returns-in_err-is_cut-clause-asks g c =
     let p = err_from_is_err_and c.from_residual.result c.from_residual.ensures.1 in
-    let asks = Asks-to {X = Unit {0}} _ _ (Err c.in_err-is_cut.field-0.0) _ _ (omega (arith, length-take {A = ℕ})) (c.in_err-is_cut.ensures.reads, c.in_err-is_cut.ensures.says) in
-    rw (p.1, p.2) asks.1
+    rw (p.1, p.2) (Asks-to {X = Unit {0}} _ _ (Err c.in_err-is_cut.field-0.0) _ _ (omega (arith, length-take {A = ℕ})) c.in_err-is_cut.ensures.asks)
 
-pub returns-in-Some-2-clause-reads : goal.returns-in-Some-2-clause-reads
-returns-in-Some-2-clause-reads g c =
-    let reads = c.in_ok-is_cut.ensures.reads in
-    Reads-to reads (omega (arith, reads.at_most, length-take {A = ℕ}))
+pub returns-in-Some-2-clause-asks : goal.returns-in-Some-2-clause-asks
+returns-in-Some-2-clause-asks g c =
+    let reads = c.in_ok-is_cut.ensures.asks.0 in
+    (Reads-to reads (omega (arith, reads.at_most, length-take {A = ℕ})), tt)
 
-pub returns-in-None-clause-reads : goal.returns-in-None-clause-reads
-returns-in-None-clause-reads g c =
-    let reads = c.in_ok-is_cut.ensures.reads in
-    Reads-to reads (omega (arith, reads.at_most, length-take {A = ℕ}))
+pub returns-in-None-clause-asks : goal.returns-in-None-clause-asks
+returns-in-None-clause-asks g c =
+    let reads = c.in_ok-is_cut.ensures.asks.0 in
+    rw c.refused-in-None.ensures (Reads-to reads (omega (arith, reads.at_most, length-take {A = ℕ})), λ budget. cc)
 
 pub returns-in_err-is_cut-clause-read : goal.returns-in_err-is_cut-clause-read
 returns-in_err-is_cut-clause-read g c = λ file held.

@@ -16,4 +16,4 @@ returns-in-Err-Refused c =
     let one : c.magic-read.result ≡ Err c.in-Err-Refused.field-0 = c.in-Err-Refused.is in
     let two : c.in-Err-Refused.field-0 ≡ Refused c.in-Err-Refused.refusal = rw one at c.in-Err-Refused.field-0-is in
     let is : c.magic-read.result ≡ Err (Refused c.in-Err-Refused.refusal) = one ∙ ap Err two in
-    refused_magic c.args.file.now _ _ 8 c.in-Err-Refused.refusal c.magic-read.result c.new-src.ensures.free is c.magic-read.ensures.says (c.magic-read.ensures.read c.args.file.now known)
+    refused_magic c.args.file.now _ _ 8 c.in-Err-Refused.refusal c.magic-read.result c.new-src.ensures.free is c.magic-read.ensures.asks.1 (c.magic-read.ensures.read c.args.file.now known)

@@ -1,5 +1,5 @@
 -- What the search for traits answered is found within the budget.
-use Rattle.std.proofs.Common.{◌≡◌, Err, ap, arith, rules, sym, ◌∙◌}
+use Rattle.std.proofs.Common.{◌≡◌, Err, ap, arith, rules, ◌∙◌}
 use Rattle.elf_source.specs.Source.{Seen}
 use Rattle.elf_headers.specs.declared.fault.Fault.TheVariants.{Refused}
 use Rattle.elf_each_file.proofs.FoundLaws.{refused_within, short_within}

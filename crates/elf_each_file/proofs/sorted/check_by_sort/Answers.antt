@@ -1,21 +1,41 @@
 -- The state of a file by its sort.
+use Rattle.std.proofs.Common.{refl, arith}
 use Rattle.elf_each_file.proofs.SortedLaws.{asks_as_archive, asks_nothing}
 use Rattle.elf_each_file.proofs.sorted.check_by_sort.Goals as goal
 
-pub returns-in-Elf-clause-asks : goal.returns-in-Elf-clause-asks
-returns-in-Elf-clause-asks g c = asks_as_archive c.args.caps c.args.src.now c.check.new.src c.check.ensures.asks
+pub returns-in-Elf : goal.returns-in-Elf
+returns-in-Elf g c =
+    let did = c.check.ensures in
+    record {
+      slots = did.slots;
+      leaves = did.leaves;
+      state = λ file held. rw c.in-Elf.is (did.state file held);
+      cost = λ file held. rw c.in-Elf.is (did.cost file held);
+      read = did.read;
+      asks = asks_as_archive c.args.caps c.args.src.now c.check.new.src did.asks;
+    }
 
-pub returns-in-Foreign-clause-asks : goal.returns-in-Foreign-clause-asks
-returns-in-Foreign-clause-asks g c = asks_nothing c.args.caps c.args.src.now c.limit.new.self c.limit.ensures.asked
+pub returns-in-Archive : goal.returns-in-Archive
+returns-in-Archive g c =
+    let did = c.check_archive.ensures in
+    record {
+      slots = did.slots;
+      leaves = did.leaves;
+      state = λ file held. rw c.in-Archive.is (did.state file held);
+      cost = λ file held. rw c.in-Archive.is (did.cost file held);
+      read = did.read;
+      asks = did.asks;
+    }
 
-pub returns-in-Elf-clause-state : goal.returns-in-Elf-clause-state
-returns-in-Elf-clause-state g c = λ file held. rw c.in-Elf.is (c.check.ensures.state file held)
-
-pub returns-in-Elf-clause-cost : goal.returns-in-Elf-clause-cost
-returns-in-Elf-clause-cost g c = λ file held. rw c.in-Elf.is (c.check.ensures.cost file held)
-
-pub returns-in-Archive-clause-state : goal.returns-in-Archive-clause-state
-returns-in-Archive-clause-state g c = λ file held. rw c.in-Archive.is (c.check_archive.ensures.state file held)
-
-pub returns-in-Archive-clause-cost : goal.returns-in-Archive-clause-cost
-returns-in-Archive-clause-cost g c = λ file held. rw c.in-Archive.is (c.check_archive.ensures.cost file held)
+pub returns-in-Foreign : goal.returns-in-Foreign
+returns-in-Foreign g c = record {
+  slots = refl;
+  leaves = record {
+    keeps = rw c.limit.ensures.seen (record { same_size = refl; no_fewer = omega arith; same_file = refl; same_whole = refl });
+    free = c.limit.ensures.most;
+  };
+  state = λ file held. rw c.in-Foreign.is refl;
+  cost = λ file held. omega (arith, c.limit.ensures.asked);
+  read = tt;
+  asks = asks_nothing c.args.caps c.args.src.now c.limit.new.self c.limit.ensures.asked;
+}

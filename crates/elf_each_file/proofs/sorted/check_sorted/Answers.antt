@@ -1,5 +1,5 @@
 -- The state of a file behind the bytes that tell its sort.
-use Rattle.std.proofs.Common.{ℕ, true, List, Option, Some, sym, ap, subst, ◌∙◌, arith}
+use Rattle.std.proofs.Common.{ℕ, true, List, Option, Some, refl, sym, ap, subst, ◌∙◌, arith}
 use Rattle.elf_model.specs.declared.states.FileSort.{FileSort}
 use Rattle.elf_headers.specs.Permitted.{style_of}
 use Rattle.elf_each_file.proofs.ListingToldLaws.{fault_fails, front_within, sort_within}
@@ -7,21 +7,20 @@ use Rattle.elf_each_file.specs.Members.{FindsBySort, IsCapsBehind, cost_by}
 use Rattle.elf_each_file.proofs.SortedLaws.{front_eight, sorted_found, state_behind}
 use Rattle.elf_each_file.proofs.sorted.check_sorted.Goals as goal
 
-pub returns-in-Err-clause-read : goal.returns-in-Err-clause-read
-returns-in-Err-clause-read g c = fault_fails c.args.src.now c.find_sort.new.src c.in-Err.field-0 c.in-Err.ensures.fails
-
-pub returns-in-Err-clause-cost : goal.returns-in-Err-clause-cost
-returns-in-Err-clause-cost g c = λ file held.
-    let few = front_eight c.args.caps.limits.budget c.args.src.now.seen.size in
-    omega (arith, c.in-Err.ensures.asks, few)
-
-pub returns-in-Err-clause-asks : goal.returns-in-Err-clause-asks
-returns-in-Err-clause-asks g c =
+pub returns-in-Err : goal.returns-in-Err
+returns-in-Err g c =
     let few = front_eight c.args.caps.limits.budget c.args.src.now.seen.size in
     let asks = c.in-Err.ensures.asks in
     record {
-      ceiling = omega (arith, asks, few);
-      budget = front_within true c.args.caps.limits.budget c.args.src.now.seen.size c.args.src.now.asked c.find_sort.new.src.asked asks;
+      slots = refl;
+      leaves = record { keeps = c.in-Err.ensures.keeps; free = c.in-Err.ensures.free };
+      state = λ file held. tt;
+      cost = λ file held. omega (arith, asks, few);
+      read = fault_fails c.args.src.now c.find_sort.new.src c.in-Err.field-0 c.in-Err.ensures.fails;
+      asks = record {
+        ceiling = omega (arith, asks, few);
+        budget = front_within true c.args.caps.limits.budget c.args.src.now.seen.size c.args.src.now.asked c.find_sort.new.src.asked asks;
+      };
     }
 
 pub check_by_sort-requires-clause-small : goal.check_by_sort-requires-clause-small
@@ -38,50 +37,43 @@ check_by_sort-requires-clause-whole g c =
       shows = c.in-Ok.ensures.shows ∙ c.requires.whole.shows;
     }
 
-pub returns-clause-leaves : goal.returns-clause-leaves
-returns-clause-leaves g c =
+pub returns : goal.returns
+returns g c =
     let keeps = c.in-Ok.ensures.keeps in
-    let more = c.check_by_sort.ensures.leaves.keeps in
+    let did = c.check_by_sort.ensures in
+    let more = did.leaves.keeps in
+    let few = front_eight c.args.caps.limits.budget c.args.src.now.seen.size in
     record {
-      keeps = record {
-        same_size = more.same_size ∙ keeps.same_size;
-        no_fewer = omega (arith, more.no_fewer, keeps.no_fewer);
-        same_file = more.same_file ∙ keeps.same_file;
-        same_whole = more.same_whole ∙ keeps.same_whole;
+      slots = did.slots;
+      leaves = record {
+        keeps = record {
+          same_size = more.same_size ∙ keeps.same_size;
+          no_fewer = omega (arith, more.no_fewer, keeps.no_fewer);
+          same_file = more.same_file ∙ keeps.same_file;
+          same_whole = more.same_whole ∙ keeps.same_whole;
+        };
+        free = did.leaves.free;
       };
-      free = c.check_by_sort.ensures.leaves.free;
-    }
-
-pub returns-clause-state : goal.returns-clause-state
-returns-clause-state g c = λ file held.
-    let keeps = c.in-Ok.ensures.keeps in
-    let sized = c.args.src.now.seen.sized file held in
-    let finds = c.check_by_sort.ensures.state file (keeps.same_file ∙ held) in
-    sorted_found c.args.caps c.args.parts.0 file c.check_by_sort.result (record {
-      left = c.behind-left.result;
-      behind = subst (λ (n : ℕ). IsCapsBehind c.args.caps n c.behind-left.result) (c.length-size.ensures.value ∙ sym sized) c.behind-left.ensures;
-      finds = subst (λ (s : FileSort). FindsBySort s c.behind-left.result c.args.parts.0 file c.check_by_sort.result) (c.in-Ok.ensures.finds file held) finds;
-    })
-
-pub returns-clause-cost : goal.returns-clause-cost
-returns-clause-cost g c = λ file held.
-    let keeps = c.in-Ok.ensures.keeps in
-    let few = front_eight c.args.caps.limits.budget c.args.src.now.seen.size in
-    let most = rw (c.behind-left.ensures.headers, c.behind-left.ensures.style) at (c.check_by_sort.ensures.cost file (keeps.same_file ∙ held)) in
-    let same = ap (λ (s : FileSort). cost_by s file c.args.caps.limits.headers (style_of c.args.caps.style) c.args.parts.0) (c.in-Ok.ensures.finds file held) in
-    omega (arith, c.in-Ok.ensures.asks, few, most, same)
-
-pub returns-clause-read : goal.returns-clause-read
-returns-clause-read g c = state_behind c.args.src.now c.find_sort.new.src c.check_by_sort.new.src c.check_by_sort.result c.in-Ok.ensures.keeps.no_fewer c.check_by_sort.ensures.read
-
-pub returns-clause-asks : goal.returns-clause-asks
-returns-clause-asks g c =
-    let keeps = c.in-Ok.ensures.keeps in
-    let few = front_eight c.args.caps.limits.budget c.args.src.now.seen.size in
-    let most = rw (keeps.same_size, c.behind-left.ensures.headers, c.behind-left.ensures.style) at c.check_by_sort.ensures.asks.ceiling in
-    let left = rw c.length-size.ensures.value at c.behind-left.ensures.budget in
-    record {
-      ceiling = omega (arith, c.in-Ok.ensures.asks, few, most);
-      budget = sort_within true c.args.caps.limits.budget c.behind-left.result.limits.budget c.args.src.now.seen.size c.args.src.now.asked c.find_sort.new.src.asked c.check_by_sort.new.src.asked
-          left c.in-Ok.ensures.asks c.check_by_sort.ensures.asks.budget;
+      state = λ file held.
+          let sized = c.args.src.now.seen.sized file held in
+          let finds = did.state file (keeps.same_file ∙ held) in
+          sorted_found c.args.caps c.args.parts.0 file c.check_by_sort.result (record {
+            left = c.behind-left.result;
+            behind = subst (λ (n : ℕ). IsCapsBehind c.args.caps n c.behind-left.result) (c.length-size.ensures.value ∙ sym sized) c.behind-left.ensures;
+            finds = subst (λ (s : FileSort). FindsBySort s c.behind-left.result c.args.parts.0 file c.check_by_sort.result) (c.in-Ok.ensures.finds file held) finds;
+          });
+      cost = λ file held.
+          let most = rw (c.behind-left.ensures.headers, c.behind-left.ensures.style) at (did.cost file (keeps.same_file ∙ held)) in
+          let same = ap (λ (s : FileSort). cost_by s file c.args.caps.limits.headers (style_of c.args.caps.style) c.args.parts.0) (c.in-Ok.ensures.finds file held) in
+          omega (arith, c.in-Ok.ensures.asks, few, most, same);
+      read = state_behind c.args.src.now c.find_sort.new.src c.check_by_sort.new.src c.check_by_sort.result keeps.no_fewer did.read;
+      asks = record {
+        ceiling =
+            let most = rw (keeps.same_size, c.behind-left.ensures.headers, c.behind-left.ensures.style) at did.asks.ceiling in
+            omega (arith, c.in-Ok.ensures.asks, few, most);
+        budget =
+            let left = rw c.length-size.ensures.value at c.behind-left.ensures.budget in
+            sort_within true c.args.caps.limits.budget c.behind-left.result.limits.budget c.args.src.now.seen.size c.args.src.now.asked c.find_sort.new.src.asked c.check_by_sort.new.src.asked
+            left c.in-Ok.ensures.asks did.asks.budget;
+      };
     }

@@ -1,5 +1,5 @@
 -- What is told of a file, by what it is.
-use Rattle.std.proofs.Common.{rules, ◌≡◌, None, Some, Ok, true, false, refl, sym, subst, ◌∙◌, arith}
+use Rattle.std.proofs.Common.{rules, ◌≡◌, None, Some, Ok, false, refl, sym, subst, ◌∙◌, arith}
 use Rattle.elf_model.specs.declared.states.FileSort.TheVariants as sort
 use Rattle.elf_each_file.specs.ToldListings.{TellsListing}
 use Rattle.elf_each_file.specs.declared.rule.ListRule.{ListRule}

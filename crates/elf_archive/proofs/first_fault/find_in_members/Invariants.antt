@@ -2,11 +2,12 @@
 use Rattle.std.proofs.Common.{◌≡◌, ℕ, ◌+◌, ◌-◌, ◌≤◌, List, length, Some}
 use Rattle.elf_model.specs.Archive.{before_members}
 use Rattle.elf_model.specs.ArchiveCost.{allowance}
+use Rattle.elf_source.specs.Growth.{Grows}
 use Rattle.elf_source.specs.Source.{Reads}
 use Rattle.elf_headers.specs.Permitted.{style_of}
 use Rattle.elf_archive.specs.Members.{WalkStandsIn}
-use Rattle.elf_each_file.proofs.WalkLaws.{CheckedSoFar}
-use Rattle.elf_each_file.proofs.members.check_members.Given as goal
+use Rattle.elf_archive.proofs.FaultLaws.{CheckedSoFar}
+use Rattle.elf_archive.proofs.first_fault.find_in_members.Given as goal
 
 abbrev pub invariant-members : goal.invariant-members
 invariant-members g l =
@@ -16,6 +17,7 @@ invariant-members g l =
     record {
       stands : WalkStandsIn size l.cursor;
       slots : l.store.slots ≡ headers;
+      grows : Grows l.fn.out l.out;
       bytes : ℕ;
       within : bytes + allowance (size - l.cursor.at) headers style ≤ allowance (size - 8) headers style;
       reads : Reads l.fn.src l.src bytes;

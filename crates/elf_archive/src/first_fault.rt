@@ -1,0 +1,108 @@
+//! The first fault of an archive and its members.
+ghost use Rattle.std.specs.Prelude.{◌≡◌, ℕ, ◌+◌, ◌-◌, ◌^◌, ◌<◌, ◌≤◌, List, length, Some, IfErr};
+ghost use Rattle.elf_model.specs.Archive.{archive_length_checks, before_members};
+ghost use Rattle.elf_model.specs.ArchiveCost.{allowance, archive_ceiling, archive_cost, members_cost};
+ghost use Rattle.elf_model.specs.Checks.{first_refusal};
+ghost use Rattle.elf_model.specs.FileLists.{archive_fault};
+ghost use Rattle.elf_model.specs.declared.causes.Refusal.{Refusal as Refuses};
+ghost use Rattle.elf_headers.specs.Permitted.{style_of};
+ghost use Rattle.elf_listing.specs.Reports.{Leaves};
+ghost use Rattle.elf_archive.specs.FirstFault.{FindsFault, FindsFirst, ReadTells, fault_from};
+ghost use Rattle.elf_archive.specs.Listed.{AsksInArchive, GoesThrough, IsAll};
+
+use crate::cursor::MemberCursor;
+use crate::magic_strings::magic;
+use crate::parts::{list_member, placed};
+use elf_headers::{Caps, HeaderStore, Stop, Style};
+use elf_record::Parts;
+use elf_source::{Counted, NullSink, Out, RangeSource, Sink, Source};
+use elf_table::NameBuf;
+
+/// Goes over an archive and through the listing of each member that is an ELF file, as far as `parts` has
+/// it, up to the first fault. Nothing is written. The source is a range of all bytes of the archive, with
+/// nothing hidden, and is one again afterwards. The store has a slot for each header that the caps permit,
+/// and at most 2^127 bytes were asked of the source. Where the caps have a budget it is one over all
+/// members; afterwards no limit is set.
+///
+/// # Errors
+/// The first fault, with an offset of the archive: its own refusal, that of a member's listing, or of the
+/// place where no member stands; or a refusal for want of budget. A fault of the source.
+pub fn find_fault<S: Source>(
+    src: &mut Counted<RangeSource<S>>,
+    store: &mut HeaderStore,
+    caps: Caps,
+    parts: Parts,
+) -> Result<(), Stop>
+    requires small { (store.old.slots ≡ caps.limits.headers) × (src.old.asked ≤ 2 ^ 127) }
+    requires whole { IsAll src.old }
+    ensures slots { store.new.slots ≡ store.old.slots }
+    ensures leaves { Leaves src.old src.new }
+    ensures says { IfErr result (ReadTells src.old src.new) }
+    ensures finds { (file : List ℕ) → src.old.seen.file ≡ Some file →
+        FindsFirst caps.entry parts.0 file result }
+    ensures cost { (file : List ℕ) → src.old.seen.file ≡ Some file →
+        src.new.asked ≤ src.old.asked
+        + archive_cost file caps.entry.limits.headers (style_of caps.entry.style) parts.0 }
+    // For every source.
+    ensures asks { AsksInArchive caps.entry src.old src.new result }
+{
+    let mut out = Out::new(NullSink);
+    src.limit(caps.limits.budget);
+    let found = find_in_archive(src, store, caps.style, parts, &mut out);
+    src.limit(None);
+    let _sink = out.into_inner();
+    found
+}
+
+/// Goes over an archive within the limit that is set on the source, up to its first fault.
+///
+/// # Errors
+/// As [`find_fault`], or a fault of the output.
+fn find_in_archive<S: Source, W: Sink>(
+    src: &mut Counted<RangeSource<S>>,
+    store: &mut HeaderStore,
+    style: Style,
+    parts: Parts,
+    out: &mut Out<W>,
+) -> Result<(), Stop>
+    requires { IsAll src.old }
+    ensures finds { GoesThrough store.old.slots store.new.slots (style_of style.entry) parts.0
+        src.old src.new out.old out.new result (archive_ceiling src.old.seen.size) archive_cost
+        (λ file headers style parts. FindsFault (archive_fault file headers style parts) result) }
+    ensures unread { (refusal : Refuses) →
+        first_refusal (archive_length_checks src.old.seen.size) ≡ Some refusal →
+        src.new ≡ src.old }
+{
+    magic(src)?;
+    find_in_members(src, store, style, parts, out)
+}
+
+/// Goes over the members of an archive whose magic string was read, up to the first fault.
+///
+/// # Errors
+/// As [`find_in_archive`].
+fn find_in_members<S: Source, W: Sink>(
+    src: &mut Counted<RangeSource<S>>,
+    store: &mut HeaderStore,
+    style: Style,
+    parts: Parts,
+    out: &mut Out<W>,
+) -> Result<(), Stop>
+    requires whole { IsAll src.old }
+    requires size { (8 ≤ src.old.seen.size) × (src.old.seen.size < 2 ^ 63) }
+    ensures { GoesThrough store.old.slots store.new.slots (style_of style.entry) parts.0
+        src.old src.new out.old out.new result (allowance (src.old.seen.size - 8))
+        (λ file headers style parts.
+        members_cost (length file) file headers style parts before_members)
+        (λ file headers style parts. FindsFault
+        (fault_from file headers style parts (length file) before_members) result) }
+{
+    let mut cursor = MemberCursor::new();
+    let mut name = NameBuf::new();
+    'members: while let Some(member) = cursor.advance(src, style.cap, &mut name)? {
+        if let Some(refusal) = list_member(src, store, style, parts, member.extent, out)? {
+            return Err(Stop::Refused(placed(refusal, member.extent.at)));
+        }
+    }
+    Ok(())
+}

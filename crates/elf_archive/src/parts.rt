@@ -1,0 +1,82 @@
+//! The listing of one member: that of the file that its data are.
+ghost use Rattle.std.specs.Prelude.{◌≡◌, IfOk, IfSome};
+ghost use Rattle.elf_model.specs.Budget.{IsBudget};
+ghost use Rattle.elf_model.specs.FileLists.{placed_behind};
+ghost use Rattle.elf_headers.specs.Permitted.{style_of};
+ghost use Rattle.elf_archive.specs.Listed.{EndsPart, GoesThroughMember, HoldsPart, ListsMember};
+ghost use Rattle.elf_archive.specs.Members.{extent_of};
+
+use crate::magic_strings::begins_elf;
+use crate::member::Extent;
+use elf_headers::{HeaderStore, Stop, Style};
+use elf_listing::list;
+use elf_record::{Cause, Parts, Refusal};
+use elf_source::{Counted, Out, RangeSource, Sink, Source};
+
+/// Lists a member that is an ELF file, where parts of a listing are asked for, and answers its listing's
+/// own refusal, with an offset of the member; the line of that is not written. The member's data are
+/// `extent`, and the source is as it was afterwards.
+///
+/// # Errors
+/// A refusal for want of budget or a fault of the source, with an offset of the archive, or a fault of the
+/// output: a front of the listing was written.
+pub(crate) fn list_member<S: Source, W: Sink>(
+    src: &mut Counted<RangeSource<S>>,
+    store: &mut HeaderStore,
+    style: Style,
+    parts: Parts,
+    extent: Extent,
+    out: &mut Out<W>,
+) -> Result<Option<Refusal>, Stop>
+    requires { HoldsPart src.old (extent_of extent) }
+    ensures lists { GoesThroughMember (extent_of extent) store.old.slots store.new.slots
+        (style_of style.entry) parts.0 src.old src.new out.old out.new result
+        (λ style. ListsMember out.old out.new result) }
+    ensures own { IfOk result (λ told. IfSome told (λ refusal. IsBudget refusal → ⊥)) }
+{
+    if parts.known(style.gnu).0 == 0 {
+        return Ok(None);
+    }
+    if !begins_elf(src, extent)? {
+        return Ok(None);
+    }
+    src.narrow(extent.at, extent.size);
+    let listed = list(src, store, style, parts, out);
+    src.widen();
+    end_part(listed, extent.at)
+}
+
+/// How the listing of a member that begins at the file offset `start` ended: its own refusal is an answer.
+///
+/// # Errors
+/// What stops the archive's listing too, with an offset of the file: a refusal for want of budget,
+/// a fault of the source or of the output.
+fn end_part(listed: Result<(), Stop>, start: u64) -> Result<Option<Refusal>, Stop>
+    ensures { EndsPart start listed result }
+{
+    match listed {
+        Ok(()) => Ok(None),
+        Err(Stop::Refused(refusal)) => {
+            if refusal.cause == Cause::Budget {
+                return Err(Stop::Refused(placed(refusal, start)));
+            }
+            Ok(Some(refusal))
+        }
+        Err(Stop::Source { fault, at }) => Err(Stop::Source {
+            fault,
+            at: start.saturating_add(at),
+        }),
+        Err(Stop::Out(fault)) => Err(Stop::Out(fault)),
+    }
+}
+
+/// A refusal of a member whose data begin at the file offset `start`, with an offset of the file, as far
+/// as 64 bits go.
+pub(crate) fn placed(refusal: Refusal, start: u64) -> Refusal
+    ensures { result ≡ placed_behind start refusal }
+{
+    Refusal {
+        at: start.saturating_add(refusal.at),
+        cause: refusal.cause,
+    }
+}
