@@ -19,9 +19,10 @@ ghost use Rattle.elf_answers.specs.Lookups.{resolved_answer};
 ghost use Rattle.elf_answers.specs.Requests.{RunsResolve};
 ghost use Rattle.elf_wanted.specs.Wants.{asked_of};
 
+use elf_fields::{LineFront, show_named};
 use elf_headers::{HeaderStore, Limits, Stop};
-use elf_lines::{LineFront, NumberNaming, show_named, symbol_front_in, symbol_version_front_in};
-use elf_listing::{show_steps, show_stop};
+use elf_lines::{NumberNaming, show_steps, symbol_front_in, symbol_version_front_in};
+use elf_listing::show_stop;
 use elf_loader::{FoundSymbol, FoundVersion, SymbolLookup, VersionName, look_up};
 use elf_model::Format;
 use elf_source::{Counted, Out, OutFault, Sink, Source};

@@ -6,8 +6,9 @@ ghost use Rattle.elf_archive.specs.Listed.{AnswersBehind, HoldsOrBreaks};
 ghost use Rattle.elf_archive.specs.Members.{member_of};
 
 use crate::member::{Extent, Member};
+use elf_fields::{Columns, LineFront, Object, show_named};
 use elf_headers::Stop;
-use elf_lines::{Columns, LineFront, Object, member_front, show_named};
+use elf_lines::member_front;
 use elf_model::Format;
 use elf_source::{HeldLine, HoldingSink, Out, OutFault, Sink, SliceSink};
 use elf_table::NameBuf;

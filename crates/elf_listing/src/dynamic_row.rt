@@ -10,8 +10,9 @@ ghost use Rattle.elf_listing.specs.declared.dynamic_row.EntryStrings.TheVariants
 ghost use Rattle.elf_listing.specs.declared.rows.ListedAs.TheVariants.{Dynamic};
 
 use crate::listing::Listing;
+use elf_fields::{LineFront, Render};
 use elf_headers::{Fault, Stop, refused};
-use elf_lines::{LineFront, Render, dynamic_front};
+use elf_lines::dynamic_front;
 use elf_names::NameIndex;
 use elf_note::DynStrings;
 use elf_record::numbers::{DT_NEEDED, DT_RPATH, DT_RUNPATH, DT_SONAME};

@@ -29,9 +29,5 @@ mod versions;
 mod viewing;
 
 pub use buffers::{FIXED_BYTES, SUFFIX_BYTES, VERSION_BYTES};
-pub use elf_lines::{
-    cause_word, dynamic_front, note_front, relocation_front, section_front, segment_row, show_lack,
-    show_note, show_refusal, show_steps, show_symbol, symbol_front,
-};
 pub use showing::{list, show};
 pub use telling::show_stop;

@@ -5,8 +5,9 @@ ghost use Rattle.elf_listing.specs.Notes.{ListsNote, ListsNotes};
 
 use crate::listing::Listing;
 use crate::row::is_cut;
+use elf_fields::{Columns, LineFront, Object, Render};
 use elf_headers::Stop;
-use elf_lines::{Columns, LineFront, Object, Render, note_front, show_note};
+use elf_lines::{note_front, show_note};
 use elf_model::Format;
 use elf_note::{NoteCursor, NoteRow};
 use elf_source::{Sink, Source};

@@ -7,8 +7,9 @@ ghost use Rattle.elf_listing.specs.declared.rows.ListedAs.TheVariants.{Versions}
 
 use crate::choosing::Choosing;
 use crate::listing::Listing;
+use elf_fields::{LineFront, Render};
 use elf_headers::{Fault, Stop, refused};
-use elf_lines::{LineFront, Render, symbol_version_front};
+use elf_lines::symbol_version_front;
 use elf_names::NameIndex;
 use elf_record::{Cause, u16_at, version_number};
 use elf_source::{Sink, Source};

@@ -8,8 +8,9 @@ ghost use Rattle.elf_listing.specs.declared.rows.ListedAs.TheVariants.{Relocatio
 
 use crate::choosing::Choosing;
 use crate::listing::Listing;
+use elf_fields::{LineFront, Render};
 use elf_headers::{Fault, Stop, refused};
-use elf_lines::{LineFront, Render, relocation_front};
+use elf_lines::relocation_front;
 use elf_names::NameIndex;
 use elf_record::{Cause, Rela};
 use elf_source::{Sink, Source};

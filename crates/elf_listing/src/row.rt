@@ -8,8 +8,9 @@ ghost use Rattle.elf_listing.specs.declared.rows.ListedAs.TheVariants.{Segments,
 
 use crate::choosing::Choosing;
 use crate::listing::Listing;
+use elf_fields::{LineFront, Render, show_named};
 use elf_headers::Stop;
-use elf_lines::{LineFront, Render, segment_row, show_named, symbol_front};
+use elf_lines::{segment_row, symbol_front};
 use elf_names::NameIndex;
 use elf_record::{Phdr, Sym};
 use elf_source::{Sink, Source};

@@ -8,8 +8,9 @@ ghost use Rattle.elf_listing.specs.declared.parts.Part.TheVariants.{SectionNotes
 use crate::dynamic_row::EntryStrings;
 use crate::listing::Listing;
 use crate::rows::ListedAs;
+use elf_fields::{Columns, LineFront, Object, Render};
 use elf_headers::Stop;
-use elf_lines::{Columns, LineFront, Object, Render, section_front};
+use elf_lines::section_front;
 use elf_model::Format;
 use elf_record::numbers::{SHT_DYNAMIC, SHT_NOTE, SHT_RELA};
 use elf_record::sizes::DYNAMIC_BYTES;

@@ -7,8 +7,9 @@ ghost use Rattle.elf_listing.specs.declared.parts.Part.TheVariants.{SegmentDynam
 use crate::dynamic_row::EntryStrings;
 use crate::listing::Listing;
 use crate::rows::ListedAs;
+use elf_fields::{Columns, Object, Render};
 use elf_headers::Stop;
-use elf_lines::{Columns, Object, Render, segment_row};
+use elf_lines::segment_row;
 use elf_model::Format;
 use elf_note::dynamic_strings;
 use elf_record::numbers::{PT_DYNAMIC, PT_NOTE};

@@ -7,8 +7,9 @@ ghost use Rattle.elf_listing.specs.declared.rows.ListedAs.TheVariants.{SuffixedS
 use crate::choosing::Choosing;
 use crate::listing::Listing;
 use crate::suffixes::Suffixes;
+use elf_fields::{LineFront, Render};
 use elf_headers::Stop;
-use elf_lines::{LineFront, Render, symbol_front};
+use elf_lines::symbol_front;
 use elf_names::NameIndex;
 use elf_record::Sym;
 use elf_source::{Sink, Source};

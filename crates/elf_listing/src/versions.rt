@@ -9,8 +9,9 @@ ghost use Rattle.elf_listing.specs.declared.parts.Part.TheVariants.{Definitions,
 
 use crate::choosing::{AllRows, Choosing, NamedRows};
 use crate::listing::Listing;
+use elf_fields::{Columns, LineFront, Object, Render};
 use elf_headers::Stop;
-use elf_lines::{Columns, LineFront, Object, Render, version_front};
+use elf_lines::version_front;
 use elf_model::Format;
 use elf_names::NameIndex;
 use elf_record::VersionKind;
