@@ -40,6 +40,21 @@ fn short_files_are_refused() {
 }
 
 #[test]
+fn numbers_are_parted() {
+    let symbol = elfsee::Symbol { info: 0xaa, other: 0xfe, ..Default::default() };
+    assert_eq!((symbol.kind(), symbol.binding(), symbol.visibility()), (10, 10, 2));
+    let symbol = elfsee::Symbol { info: 0x1f, other: 0xf9, ..Default::default() };
+    assert_eq!((symbol.kind(), symbol.binding(), symbol.visibility()), (15, 1, 1));
+    let entry = elfsee::Relocation { info: 0x1234_5678_9abc_def0, ..Default::default() };
+    assert_eq!((entry.symbol(), entry.kind()), (0x1234_5678, 0x9abc_def0));
+}
+
+#[test]
+fn the_limits_are_the_programs_where_nobody_says_them() {
+    assert_eq!(Limits::default(), Limits { headers: 4096, name: 256, budget: None });
+}
+
+#[test]
 fn outputs_without_room_are_full() {
     let bytes = header();
     let file = File::new(&bytes);
