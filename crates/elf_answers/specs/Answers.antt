@@ -1,5 +1,5 @@
 -- What a run answers.
-use Rattle.std.specs.Prelude.{ℕ, ◌≡◌, ◌<◌, ◌+◌, ⊤, List, ◌++◌, Option, Some, Result, Ok, Err, [], codes}
+use Rattle.std.specs.Prelude.{ℕ, ◌≡◌, ◌<◌, ◌+◌, ⊤, List, ◌++◌, Option, Some, Result, Ok, Err}
 use Rattle.elf_model.specs.Answer.{Answer}
 use Rattle.elf_model.specs.Budget.{IsBudget}
 use Rattle.elf_model.specs.Lines.{refusal_line}
@@ -9,8 +9,6 @@ use Rattle.elf_source.specs.Source.{Counting}
 use Rattle.elf_source.specs.Output.{Written, Takes, TakesFront}
 use Rattle.elf_headers.specs.declared.stop.Stop.{Stop}
 use Rattle.elf_headers.specs.declared.stop.Stop.TheVariants.{Refused, Source, Out}
-use Rattle.elf_requests.specs.declared.requests.RequestFault.{RequestFault}
-use Rattle.elf_requests.specs.declared.requests.RequestFault.TheVariants.{Words, BadName, NamesFull, BadItem, LayoutFull, LayoutRepeat, BadTrait, Memory}
 
 -- a text ends in the line of a refusal
 abbrev pub EndsInRefusal : Refusal → List ℕ → Type 0
@@ -42,24 +40,3 @@ pub record Answers (old new : Written) (result : Result ℕ Stop) (Permits Holds
   pub permitted : Permits answer
   pub wrote : WroteAnswer old new result answer
   pub holds : Holds answer
-
--- the exit status for words that are no request, and the line on standard error
-abbrev pub refused_status : RequestFault → ℕ
-refused_status (Words error) = 2
-refused_status BadName = 2
-refused_status NamesFull = 2
-refused_status BadItem = 2
-refused_status LayoutFull = 2
-refused_status LayoutRepeat = 2
-refused_status BadTrait = 2
-refused_status Memory = 3
-
-abbrev pub refused_line : RequestFault → List ℕ
-refused_line (Words error) = []
-refused_line BadName = codes "elfsee: bad name"
-refused_line NamesFull = codes "elfsee: too many names"
-refused_line BadItem = codes "elfsee: bad item"
-refused_line LayoutFull = codes "elfsee: layout-full"
-refused_line LayoutRepeat = codes "elfsee: layout-repeat"
-refused_line BadTrait = codes "elfsee: bad trait"
-refused_line Memory = codes "elfsee: out of memory"

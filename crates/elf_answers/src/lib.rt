@@ -1,12 +1,12 @@
-//! A request carried out: a listing, of a file or of an archive, a lookup of a name or as a loader does
-//! it, or a section with its relocations applied; and how the program ends.
+//! A request carried out: a listing, a lookup of a name or as a loader does it, or a section with its
+//! relocations applied; and what the listing of an archive answers.
 #![tactic(auto)]
 
 mod answering;
 mod applying;
-mod endings;
+mod archives;
 mod finding;
 mod resolving;
 
 pub use answering::run;
-pub use endings::{archive_status, refused};
+pub use archives::archive_status;

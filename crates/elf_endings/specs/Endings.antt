@@ -3,6 +3,8 @@ use Rattle.std.specs.Prelude.{ℕ, ◌≡◌, Bool, true, false, List, ◌++◌,
 use Rattle.std.specs.Io.KnownBytes.{Appends}
 use Rattle.elf_headers.specs.declared.stop.Stop.{Stop}
 use Rattle.elf_headers.specs.declared.stop.Stop.TheVariants.{Refused, Source, Out}
+use Rattle.elf_listing_requests.specs.declared.faults.RequestFault.{RequestFault}
+use Rattle.elf_listing_requests.specs.declared.faults.RequestFault.TheVariants.{Words, BadName, NamesFull, BadItem, LayoutFull, LayoutRepeat, BadTrait, Memory}
 use Rattle.elf_endings.specs.declared.outputs.Ended.{Ended}
 use Rattle.elf_endings.specs.declared.outputs.Ended.TheVariants.{Status, Told, Unwritten}
 
@@ -17,6 +19,31 @@ error_line (Ok status) = []
 error_line (Err (Refused refusal)) = []
 error_line (Err (Source fault at)) = codes "elfsee: read fault"
 error_line (Err (Out fault)) = codes "elfsee: write fault"
+
+-- the exit status for words that are no request, and the line on standard error
+abbrev pub refused_status : RequestFault → ℕ
+refused_status (Words error) = 2
+refused_status BadName = 2
+refused_status NamesFull = 2
+refused_status BadItem = 2
+refused_status LayoutFull = 2
+refused_status LayoutRepeat = 2
+refused_status BadTrait = 2
+refused_status Memory = 3
+
+abbrev pub refused_line : RequestFault → List ℕ
+refused_line (Words error) = []
+refused_line BadName = codes "elfsee: bad name"
+refused_line NamesFull = codes "elfsee: too many names"
+refused_line BadItem = codes "elfsee: bad item"
+refused_line LayoutFull = codes "elfsee: layout-full"
+refused_line LayoutRepeat = codes "elfsee: layout-repeat"
+refused_line BadTrait = codes "elfsee: bad trait"
+refused_line Memory = codes "elfsee: out of memory"
+
+-- how a program ends whose words are no request
+abbrev pub EndsWords : RequestFault → ℕ → List ℕ → Type 0
+EndsWords fault status line = (status ≡ refused_status fault) × (line ≡ refused_line fault)
 
 -- how a program ends whose output is written last: as its run, or, where the sink has failed, by a fault of the output; after
 -- a fault of the source by that

@@ -1,16 +1,17 @@
 //! How a program ends.
 ghost use Rattle.std.specs.Prelude.{◌≡◌, IfErr, IfOk};
 ghost use Rattle.std.specs.Process.{exit_status as status_of};
-ghost use Rattle.elf_endings.specs.Endings.{error_line, exit_status};
+ghost use Rattle.elf_endings.specs.Endings.{error_line, exit_status, refused_line, refused_status};
 
 use elf_headers::Stop;
+use elf_listing_requests::RequestFault;
 use std::process::ExitCode;
 
 /// An exit status, and a line for standard error, which is empty where there is nothing to say.
 pub type Ending = (u8, &'static str);
 
 /// The words ask for nothing that there is, or for help: what is said about that stands before.
-pub const BAD_WORDS: Ending = (2, "");
+pub(crate) const BAD_WORDS: Ending = (2, "");
 
 /// The words are no text.
 pub(crate) const NOT_UTF8: Ending = (2, "elfsee: words are not UTF-8");
@@ -27,6 +28,24 @@ pub const READ_FAULT: Ending = (3, "elfsee: read fault");
 /// The output can't be written.
 pub(crate) const WRITE_FAULT: Ending = (3, "elfsee: write fault");
 
+/// The word is no name that can be looked up.
+const BAD_NAME: Ending = (2, "elfsee: bad name");
+
+/// The word is no item of a layout.
+const BAD_ITEM: Ending = (2, "elfsee: bad item");
+
+/// There are more items of a sort than a layout holds.
+const LAYOUT_FULL: Ending = (2, "elfsee: layout-full");
+
+/// There is an item of the same sort with the same index or name.
+const LAYOUT_REPEAT: Ending = (2, "elfsee: layout-repeat");
+
+/// There are more names among the words than may stand there.
+const NAMES_FULL: Ending = (2, "elfsee: too many names");
+
+/// A word that is required of traits is none.
+const BAD_TRAIT: Ending = (2, "elfsee: bad trait");
+
 /// The exit status of a run, which is 1 for a refusal, and its line on standard error, which is empty
 /// for a status of 0 or 1.
 pub fn outcome(answer: &Result<u8, Stop>) -> Ending
@@ -38,6 +57,24 @@ pub fn outcome(answer: &Result<u8, Stop>) -> Ending
         Err(Stop::Refused(_)) => (1, ""),
         Err(Stop::Source { .. }) => READ_FAULT,
         Err(Stop::Out(_)) => WRITE_FAULT,
+    }
+}
+
+/// The exit status for words that are no request, and the line on standard error, which is empty for
+/// `Words`: what is said then is in the fault.
+pub(crate) fn refused(fault: &RequestFault) -> Ending
+    ensures status { result.0 ≡ refused_status fault.now }
+    ensures line { result.1.now ≡ refused_line fault.now }
+{
+    match fault {
+        RequestFault::Words(_) => BAD_WORDS,
+        RequestFault::BadName => BAD_NAME,
+        RequestFault::NamesFull => NAMES_FULL,
+        RequestFault::BadItem => BAD_ITEM,
+        RequestFault::LayoutFull => LAYOUT_FULL,
+        RequestFault::LayoutRepeat => LAYOUT_REPEAT,
+        RequestFault::BadTrait => BAD_TRAIT,
+        RequestFault::Memory => OUT_OF_MEMORY,
     }
 }
 

@@ -1,12 +1,14 @@
 //! The words of a program, and what is said of wrong ones.
 ghost use Rattle.std.specs.Prelude.{◌≡◌, ◌≢◌, ◌⊎◌, All, IfErr, IfOk, [], codes, string_bytes};
 ghost use Rattle.elf_source.specs.Output.{Puts};
+ghost use Rattle.elf_endings.specs.Endings.{EndsWords};
 ghost use Rattle.elf_endings.specs.Marked.{byte_beside, told_beside};
+ghost use Rattle.elf_listing_requests.specs.declared.faults.RequestFault.TheVariants.{Memory};
 
-use crate::endings::{BAD_WORDS, Ending, NOT_UTF8, OUT_OF_MEMORY};
+use crate::endings::{BAD_WORDS, Ending, NOT_UTF8, OUT_OF_MEMORY, refused};
 use crate::outputs::{ERROR_LINE_BYTES, write_rest};
 use elf_fields::show_told;
-use elf_listing_requests::{WordsFault, matches_of};
+use elf_listing_requests::{RequestFault, matches_of};
 use elf_source::{Out, OutFault, Sink, WriteSink};
 use std::alloc::{AllocError, Global};
 use std::env;
@@ -36,9 +38,22 @@ pub fn read_words<R: Env + AllocGlobal>(rt: &R) -> Result<Vec<String>, Ending>
     }
 }
 
+/// Tells why words are no request, and answers how the program ends: by the fault, or where there is no
+/// memory for telling what is wrong with the words, as for want of it. What is wrong with them, and help,
+/// is written to `errors`.
+pub fn tell_refused(alloc: Global, fault: &RequestFault, words: &[String], errors: Stderr) -> Ending
+    ensures { EndsWords fault.now result.0 result.1.now
+        ⊎ EndsWords Memory result.0 result.1.now }
+{
+    match fault {
+        RequestFault::Words(told) => tell_words(alloc, told, words, errors),
+        _ => refused(fault),
+    }
+}
+
 /// Writes what is wrong with words, or help, with each byte of a word spelt so that no terminal acts on
 /// it, and answers how the program ends. Where it can't be written, the status alone says so.
-pub fn tell_words(alloc: Global, told: &clap::Error, words: &[String], errors: Stderr) -> Ending
+fn tell_words(alloc: Global, told: &clap::Error, words: &[String], errors: Stderr) -> Ending
     ensures { ((result.0 ≡ 2) × (result.1.now ≡ []))
         ⊎ ((result.0 ≡ 3) × (result.1.now ≡ codes "elfsee: out of memory")) }
 {
@@ -90,8 +105,8 @@ fn marked_text(alloc: Global, words: &[String]) -> Result<String, AllocError>
     }
     match matches_of(alloc, others.as_slice()) {
         Ok(_) => Ok(String::new(alloc)),
-        Err(WordsFault::Told(told)) => format!(in alloc; "{told}"),
-        Err(WordsFault::Memory) => Err(AllocError),
+        Err(RequestFault::Words(told)) => format!(in alloc; "{told}"),
+        Err(_) => Err(AllocError),
     }
 }
 

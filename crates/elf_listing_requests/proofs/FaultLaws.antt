@@ -11,8 +11,8 @@ use Rattle.clap.proofs.OnLiterals.{clap_on_literals}
 use Rattle.elf_command_line.specs.CommandLine.{PartWords, program}
 use Rattle.elf_listing_requests.specs.Faults.{IsFaultOf, IsOneOf}
 use Rattle.elf_listing_requests.specs.Reading.{AreRead, AreRefused, ArePartNames}
-use Rattle.elf_listing_requests.specs.declared.faults.WordsFault.{WordsFault}
-use Rattle.elf_listing_requests.specs.declared.faults.WordsFault.TheVariants.{Told, Memory}
+use Rattle.elf_listing_requests.specs.declared.faults.RequestFault.{RequestFault}
+use Rattle.elf_listing_requests.specs.declared.faults.RequestFault.TheVariants.{Memory, BadName, BadItem, BadTrait, LayoutFull, LayoutRepeat, NamesFull, Words}
 
 -- the command line is one whose matches and faults are known: no argument has a rule on another
 is_known : (parts : PartWords) → is_simple_and_free (program parts) ≡ true
@@ -23,13 +23,19 @@ has_known_matches : (parts : PartWords) → is_simple (program parts) ≡ true
 unfolding clap_on_literals
 has_known_matches parts = refl
 
-fault_told : (kinds : Kinds) (error : Error) (fault : WordsFault) → IsFaultOf error fault → HasKind kinds error → IsOneOf kinds fault
+fault_told : (kinds : Kinds) (error : Error) (fault : RequestFault) → IsFaultOf error fault → HasKind kinds error → IsOneOf kinds fault
 fault_told kinds error Memory is has = tt
-fault_told kinds error (Told told) is (inl memory) = absurd (is.1 memory)
-fault_told kinds error (Told told) is (inr among) = subst (λ e. IsAmong (kind_of e) kinds) (sym is.0) among
+fault_told kinds error (Words told) is (inl memory) = absurd (is.1 memory)
+fault_told kinds error (Words told) is (inr among) = subst (λ e. IsAmong (kind_of e) kinds) (sym is.0) among
+fault_told kinds error BadName is has = is
+fault_told kinds error NamesFull is has = is
+fault_told kinds error BadItem is has = is
+fault_told kinds error LayoutFull is has = is
+fault_told kinds error LayoutRepeat is has = is
+fault_told kinds error BadTrait is has = is
 
 -- an error of a command line that is that one
-pub refused : (app : App) (parts : PartWords) (words : List Text) (error : Error) (fault : WordsFault) → app ≡ program parts → ArePartNames parts
+pub refused : (app : App) (parts : PartWords) (words : List Text) (error : Error) (fault : RequestFault) → app ≡ program parts → ArePartNames parts
     → (is_simple_and_free app ≡ true → HasKind (fault_of app words) error) → IsFaultOf error fault → AreRefused words fault
 refused app parts words error fault is named kinds told = record {
   parts = parts;

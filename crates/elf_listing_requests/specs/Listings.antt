@@ -6,7 +6,7 @@ use Rattle.elf_listing_requests.specs.Faults.{IsUnasked}
 use Rattle.elf_listing_requests.specs.Options.{AreLimitOptions, AreParts, IsStyle}
 use Rattle.elf_listing_requests.specs.RowNames.{asks_names}
 use Rattle.elf_listing_requests.specs.Reading.{AreRead, AreRefused}
-use Rattle.elf_listing_requests.specs.declared.faults.WordsFault.{WordsFault}
+use Rattle.elf_listing_requests.specs.declared.faults.RequestFault.{RequestFault}
 use Rattle.elf_listing_requests.specs.declared.listings.ListingAsked.{ListingAsked}
 use Rattle.elf_listing_requests.specs.declared.listings.ShowRequest.{ShowRequest}
 use Rattle.elf_listing_requests.specs.declared.listings.ShowRequest.TheVariants.{Listed, Version}
@@ -24,9 +24,14 @@ pub record IsListing (command : Text) (rows : List Row) (asked : ListingAsked) :
   pub parts : AreParts rows asked.parts
   pub every : asks_names rows ≡ false
 
-abbrev pub ListsBy : Option (Text × List Row) → ListingAsked → Type 0
-ListsBy None asked = ⊥
-ListsBy (Some (command, rows)) asked = IsListing command rows asked
+-- a command with the values of its arguments asks for this, by what such values ask for
+abbrev pub AskedBy : {A : Type 0} → (Text → List Row → A → Type 0) → Option (Text × List Row) → A → Type 0
+AskedBy asks None asked = ⊥
+AskedBy asks (Some (command, rows)) asked = asks command rows asked
+
+-- nothing of the kind is asked for
+abbrev pub NoneAsked : {A : Type 0} → (Text → List Row → A → Type 0) → Option (Text × List Row) → Type 0
+NoneAsked {A} asks matches = (asked : A) → AskedBy asks matches asked → ⊥
 
 -- the version of the program is asked for
 abbrev pub AsksVersion : Option (Text × List Row) → Type 0
@@ -35,7 +40,7 @@ AsksVersion (Some (command, rows)) = command ≡ codes "version"
 
 -- a command with the values of its arguments asks for just this
 abbrev pub ShowsBy : Option (Text × List Row) → ShowRequest → Type 0
-ShowsBy matches (Listed listing) = ListsBy matches listing
+ShowsBy matches (Listed listing) = AskedBy IsListing matches listing
 ShowsBy matches Version = AsksVersion matches
 
 -- neither a listing of one file is asked for nor the version
@@ -47,6 +52,6 @@ abbrev pub WordsShow : List Text → ShowRequest → Type 0
 WordsShow words asked = (matches : Option (Text × List Row)) × AreRead words matches × ShowsBy matches asked
 
 -- WHY NOTHING IS: the command line refuses the words, or makes of them what asks for no listing of one file and for no version
-abbrev pub ShowsNothing : List Text → WordsFault → Type 0
+abbrev pub ShowsNothing : List Text → RequestFault → Type 0
 ShowsNothing words fault =
     AreRefused words fault ⊎ ((matches : Option (Text × List Row)) × AreRead words matches × NothingShown matches × IsUnasked fault)

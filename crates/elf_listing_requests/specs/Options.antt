@@ -29,11 +29,11 @@ abbrev pub is_part : Bool → Text → Bool
 is_part gnu name = list_any (λ part. bytes_eq name part.1) (part_names gnu)
 
 -- the number that decimal digits spell, before which a plus may stand
-abbrev pub decimal_value : Text → ℕ
+abbrev decimal_value : Text → ℕ
 decimal_value text = digits_value 10 (without_leading_plus text)
 
 -- a text spells a number below 2^64
-abbrev pub SpellsNumber : Text → Type 0
+abbrev SpellsNumber : Text → Type 0
 SpellsNumber text = IsNumeral 10 (without_leading_plus text) × (decimal_value text < 2 ^ 64)
 
 -- the number that the value of an option spells, where there is one

@@ -6,7 +6,7 @@ use Rattle.clap.specs.Faults.{fault_of}
 use Rattle.elf_command_line.specs.CommandLine.{PartWords, program}
 use Rattle.elf_listing_requests.specs.Faults.{IsOneOf}
 use Rattle.elf_listing_requests.specs.Options.{member_part_names, part_names}
-use Rattle.elf_listing_requests.specs.declared.faults.WordsFault.{WordsFault}
+use Rattle.elf_listing_requests.specs.declared.faults.RequestFault.{RequestFault}
 
 -- the names of the parts, as the reader of the words has them
 pub record ArePartNames (parts : PartWords) : Type 0 where
@@ -21,7 +21,7 @@ pub record AreRead (words : List Text) (matches : Option (Text × List Row)) : T
   pub made : subcommand_of (program parts) words ≡ matches
 
 -- the command line refuses the words: this is one of the faults that it has for them
-pub record AreRefused (words : List Text) (fault : WordsFault) : Type 0 where
+pub record AreRefused (words : List Text) (fault : RequestFault) : Type 0 where
   pub parts : PartWords
   pub named : ArePartNames parts
   pub among : IsOneOf (fault_of (program parts) words) fault

@@ -8,7 +8,7 @@ mod options;
 mod reading;
 mod row_names;
 
-pub use faults::WordsFault;
+pub use faults::RequestFault;
 pub use listings::{ListingAsked, ShowRequest, listing_of, shown_asked};
 pub use nothing::unasked;
 pub use options::{

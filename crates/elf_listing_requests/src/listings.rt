@@ -12,7 +12,7 @@ ghost use Rattle.elf_listing_requests.specs.Options.{AreLimitOptions, AreParts, 
 ghost use Rattle.elf_listing_requests.specs.RowNames.{asks_names};
 ghost use Rattle.elf_record.specs.declared.parts.Parts.{Parts};
 
-use crate::faults::WordsFault;
+use crate::faults::RequestFault;
 use crate::nothing::unasked;
 use crate::options::{limits_of, parts_of, style_of, text_of};
 use crate::reading::matches_of;
@@ -50,25 +50,23 @@ pub enum ShowRequest<'a> {
 /// of one file, or the version.
 ///
 /// # Errors
-/// `Told` for words that ask for neither, or for help; `Memory` where there is none for reading them.
+/// `Words` for words that ask for neither, or for help; `Memory` where there is none for reading them.
 pub fn shown_asked<'a, S: AsStr>(
     alloc: Global,
     words: &'a [S],
-) -> Result<ShowRequest<'a>, WordsFault>
+) -> Result<ShowRequest<'a>, RequestFault>
     ensures asked { IfOk result (WordsShow (map S.text words.entry.now)) }
     ensures refused { IfErr result (ShowsNothing (map S.text words.entry.now)) }
 {
-    match matches_of(alloc, words) {
-        Ok(matches) => shown_by(alloc, &matches),
-        Err(fault) => Err(fault),
-    }
+    let matches = matches_of(alloc, words)?;
+    shown_by(alloc, &matches)
 }
 
 /// What words ask for which the command line let through.
 ///
 /// # Errors
 /// They ask for no listing of one file, and not for the version.
-fn shown_by<'a>(alloc: Global, matches: &ArgMatches<'a>) -> Result<ShowRequest<'a>, WordsFault>
+fn shown_by<'a>(alloc: Global, matches: &ArgMatches<'a>) -> Result<ShowRequest<'a>, RequestFault>
     ensures asked { IfOk result (ShowsBy (subcommand_rows_of matches.now)) }
     ensures refused { IfErr result (λ fault.
         IsUnasked fault × NothingShown (subcommand_rows_of matches.now)) }

@@ -4,7 +4,7 @@ ghost use Rattle.clap.specs.Values.{kind_of};
 ghost use Rattle.clap.specs.declared.error.kind.ErrorKind.TheVariants.{Format};
 ghost use Rattle.elf_listing_requests.specs.Faults.{IsUnasked};
 
-use crate::faults::WordsFault;
+use crate::faults::RequestFault;
 use crate::options::{asks_gnu, find_lacks_gnu, text_of, versions_lack_gnu};
 use crate::reading::{MEMBER_PARTS, PARTS};
 use crate::row_names::{asks_names, chosen_parts_of, is_given};
@@ -35,12 +35,12 @@ const NO_ROWS: &str = "with '--name <NAME>' the part is symbols, relocs or, with
 /// symbol versions alone where the listing is not of the GNU system, to a command of many files where
 /// it has neither a path nor a file with paths, to `find` by the program headers that is no loader's
 /// lookup, and to other commands where only listings are read.
-pub fn unasked(alloc: Global, matches: &ArgMatches<'_>) -> WordsFault
+pub fn unasked(alloc: Global, matches: &ArgMatches<'_>) -> RequestFault
     ensures { IsUnasked result }
 {
     match missing(alloc, matches) {
         Ok(error) => error.into(),
-        Err(AllocError) => WordsFault::Memory,
+        Err(AllocError) => RequestFault::Memory,
     }
 }
 
@@ -49,10 +49,8 @@ fn missing(alloc: Global, matches: &ArgMatches<'_>) -> Result<Error, AllocError>
     ensures { IfOk result (λ error. kind_of error ≡ Format) }
 {
     let (command, told) = lacking(matches);
-    match named(alloc, command) {
-        Ok(mut command) => command.error(ErrorKind::Format, told),
-        Err(fault) => Err(fault),
-    }
+    let mut command = named(alloc, command)?;
+    command.error(ErrorKind::Format, told)
 }
 
 /// The command whose usage is told, and what it lacks.
@@ -92,23 +90,12 @@ fn lacks_gnu(options: &ArgMatches<'_>) -> bool {
 fn named<'a>(alloc: Global, command: &str) -> Result<Command<'a>, AllocError> {
     let parts = PARTS.as_slice();
     match command {
-        "find" => called(find(alloc), "elfsee find"),
-        "sample" => called(sample(alloc, parts), "elfsee sample"),
-        "check" => called(check(alloc, parts), "elfsee check"),
-        "list" => called(list(alloc, parts), "elfsee list"),
-        "traits" => called(traits(alloc), "elfsee traits"),
-        "archive" => called(archive(alloc, MEMBER_PARTS.as_slice()), "elfsee archive"),
-        _ => called(show(alloc, parts), "elfsee show"),
-    }
-}
-
-/// A command with the name that it is told of by.
-fn called<'a>(
-    command: Result<Command<'a>, AllocError>,
-    name: &str,
-) -> Result<Command<'a>, AllocError> {
-    match command {
-        Ok(command) => command.bin_name(name),
-        Err(fault) => Err(fault),
+        "find" => find(alloc)?.bin_name("elfsee find"),
+        "sample" => sample(alloc, parts)?.bin_name("elfsee sample"),
+        "check" => check(alloc, parts)?.bin_name("elfsee check"),
+        "list" => list(alloc, parts)?.bin_name("elfsee list"),
+        "traits" => traits(alloc)?.bin_name("elfsee traits"),
+        "archive" => archive(alloc, MEMBER_PARTS.as_slice())?.bin_name("elfsee archive"),
+        _ => show(alloc, parts)?.bin_name("elfsee show"),
     }
 }

@@ -4,7 +4,7 @@ ghost use Rattle.clap.specs.Words.{app_of, subcommand_rows_of};
 ghost use Rattle.elf_command_line.specs.CommandLine.{PartWords, program};
 ghost use Rattle.elf_listing_requests.specs.Reading.{ArePartNames, AreRead, AreRefused};
 
-use crate::faults::WordsFault;
+use crate::faults::RequestFault;
 use clap::{ArgMatches, Command};
 use elf_command_line::command_line;
 use std::alloc::{AllocError, Global};
@@ -25,16 +25,19 @@ pub(crate) static MEMBER_PARTS: [&str; 9] = [
 /// arguments.
 ///
 /// # Errors
-/// `Told` for words that the command line refuses, or that ask for help; `Memory` where there is none for
+/// `Words` for words that the command line refuses, or that ask for help; `Memory` where there is none for
 /// reading them.
-pub fn matches_of<'a, S: AsStr>(alloc: Global, words: &'a [S]) -> Result<ArgMatches<'a>, WordsFault>
+pub fn matches_of<'a, S: AsStr>(
+    alloc: Global,
+    words: &'a [S],
+) -> Result<ArgMatches<'a>, RequestFault>
     ensures read { IfOk result (λ matches.
         AreRead (map S.text words.entry.now) (subcommand_rows_of matches)) }
     ensures refused { IfErr result (AreRefused (map S.text words.entry.now)) }
 {
     match command_line(alloc, PARTS.as_slice(), MEMBER_PARTS.as_slice()) {
         Ok(mut commands) => read_by(&mut commands, words),
-        Err(AllocError) => Err(WordsFault::Memory),
+        Err(AllocError) => Err(RequestFault::Memory),
     }
 }
 
@@ -42,7 +45,7 @@ pub fn matches_of<'a, S: AsStr>(alloc: Global, words: &'a [S]) -> Result<ArgMatc
 fn read_by<'a, S: AsStr>(
     commands: &mut Command<'a>,
     words: &'a [S],
-) -> Result<ArgMatches<'a>, WordsFault>
+) -> Result<ArgMatches<'a>, RequestFault>
     ensures read { (parts : PartWords) → app_of commands.old ≡ program parts → ArePartNames parts
         → IfOk result
         (λ matches. AreRead (map S.text words.entry.now) (subcommand_rows_of matches)) }

@@ -212,11 +212,8 @@ impl FolderWalk {
             return Ok(());
         };
         self.batch.begin(&level.after);
-        let answer = match gather(rt, text, &mut self.room, &mut self.batch) {
-            Ok(unnamed) => keep(level, &self.batch, &mut self.stack, at, unnamed),
-            Err(state) => Err(state),
-        };
-        match answer {
+        let gathered = gather(rt, text, &mut self.room, &mut self.batch);
+        match keep(level, &self.batch, &mut self.stack, at, gathered) {
             Ok(unnamed) => {
                 many.count_unnamed(unnamed);
                 Ok(())
@@ -231,18 +228,20 @@ impl FolderWalk {
     }
 }
 
-/// Has the first names of a folder wait that a pass kept, as many as there is room for. Answers how many
-/// names can't be named, of which so many were met: those of a first pass, since each pass meets them.
+/// Has the first names of a folder wait that a pass gathered, as many as there is room for. Answers how
+/// many names can't be named, of which the pass met so many: those of a first pass, since each pass meets
+/// them.
 ///
 /// # Errors
-/// The state of a folder for whose names there is no memory.
+/// The state of a folder that can't be read, or for whose names there is no memory.
 fn keep(
     level: &mut Level,
     batch: &Batch,
     stack: &mut Stack,
     at: usize,
-    unnamed: u64,
+    gathered: Result<u64, FileState>,
 ) -> Result<u64, FileState> {
+    let unnamed = gathered?;
     let is_first = level.after.is_empty();
     let names = batch.names();
     let count = count_within(names, share(stack.len(), at));

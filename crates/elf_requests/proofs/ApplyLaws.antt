@@ -9,7 +9,7 @@ use Rattle.elf_listing_requests.specs.Options.{AreLimitOptions, HasNumber, is_op
 use Rattle.elf_requests.specs.Asked.{AsksNothing, ComesTo, HasFault, IsApplying, IsFileNamed, IsTask, item_words}
 use Rattle.elf_requests.specs.Layouts.{LaysWords}
 use Rattle.elf_requests.specs.declared.requests.Request.{Request}
-use Rattle.elf_requests.specs.declared.requests.RequestFault.{RequestFault}
+use Rattle.elf_listing_requests.specs.declared.faults.RequestFault.{RequestFault}
 use Rattle.elf_requests.specs.declared.requests.Task.{Task}
 use Rattle.elf_requests.specs.declared.requests.Task.TheVariants.{Show, Find, Resolve, Apply, Place}
 use Rattle.elf_requests.proofs.OnceLaws.{laid}

@@ -5,19 +5,19 @@ use Rattle.std.specs.Borrow.{Bor}
 use Rattle.std.specs.List.{list_any}
 use Rattle.std.proofs.lemmas.Slice.Eq.{bytes_eq-Decides}
 use Rattle.clap.specs.Walk.{Row, Text, first_of}
-use Rattle.elf_requests.specs.Archives.{NothingArchived}
+use Rattle.elf_requests.specs.Archives.{IsArchiving}
 use Rattle.elf_requests.specs.Asked.{AsksBy, AsksNothing, HasFault, IsTask}
-use Rattle.elf_requests.specs.AskedTraits.{LacksWord, NothingTold}
+use Rattle.elf_requests.specs.AskedTraits.{IsTraitsAsked, LacksWord}
+use Rattle.elf_listing_requests.specs.Listings.{NoneAsked}
 use Rattle.elf_listing_requests.specs.RowNames.{asks_names}
-use Rattle.elf_requests.specs.AskedNames.{AreBadNames, ChoosesBadly, ChosenBy, takes_names}
-use Rattle.elf_requests.specs.declared.checks.Choosing.{Choosing}
-use Rattle.elf_requests.specs.AskedNeeds.{NothingNeeded}
-use Rattle.elf_requests.specs.Lists.{NothingListed}
-use Rattle.elf_requests.specs.Checks.{HasAnyFault, IsAsked, NothingAsked, NothingChecked}
+use Rattle.elf_requests.specs.AskedNames.{AreBadNames, ChoosesBadly, IsChoosing, takes_names}
+use Rattle.elf_requests.specs.AskedNeeds.{IsNeedsAsked}
+use Rattle.elf_requests.specs.Lists.{IsListAsked}
+use Rattle.elf_requests.specs.Checks.{HasAnyFault, IsAsked, IsChecking, NothingAsked}
 use Rattle.elf_requests.specs.declared.checks.AskedCommand.{AskedCommand}
 use Rattle.elf_requests.specs.declared.checks.AskedCommand.TheVariants.{File, Laid, Chosen, Check, List as Listings, Traits, Needs, Archive, Version}
 use Rattle.elf_requests.specs.declared.requests.Request.{Request}
-use Rattle.elf_requests.specs.declared.requests.RequestFault.{RequestFault}
+use Rattle.elf_listing_requests.specs.declared.faults.RequestFault.{RequestFault}
 use Rattle.elf_requests.specs.declared.requests.Task.{Task}
 use Rattle.elf_requests.specs.declared.requests.Task.TheVariants.{Show, Find, Resolve, Apply, Place}
 
@@ -57,7 +57,7 @@ module _ (command : Text) (rows : List Row) (other : is_of_file command ≡ fals
   no_fault not_traits unnamed = fault_free not_traits (λ fault has. let e : true ≡ false = sym has.0 ∙ unnamed in cc)
 
 -- where no check is asked for by `check`, nothing is
-pub nothing_by_check : (rows : List Row) → NothingChecked (Some (codes "check", rows)) → NothingAsked (Some (codes "check", rows))
+pub nothing_by_check : (rows : List Row) → NoneAsked IsChecking (Some (codes "check", rows)) → NothingAsked (Some (codes "check", rows))
 unfolding is_of_file
 nothing_by_check rows none = record { nothing = nothing; faultless = no_fault (codes "check") rows refl (apart (codes "check") (codes "traits") refl) refl }
   where
@@ -73,7 +73,7 @@ nothing_by_check rows none = record { nothing = nothing; faultless = no_fault (c
     nothing Version is = apart (codes "check") (codes "version") refl is
 
 -- where no listings of many files are asked for by `list`, nothing is
-pub nothing_by_list : (rows : List Row) → NothingListed (Some (codes "list", rows)) → ((fault : RequestFault) → AreBadNames rows fault → ⊥) → NothingAsked (Some (codes "list", rows))
+pub nothing_by_list : (rows : List Row) → NoneAsked IsListAsked (Some (codes "list", rows)) → ((fault : RequestFault) → AreBadNames rows fault → ⊥) → NothingAsked (Some (codes "list", rows))
 unfolding is_of_file
 nothing_by_list rows none good = record { nothing = nothing; faultless = fault_free (codes "list") rows refl (apart (codes "list") (codes "traits") refl) (λ fault has. good fault has.1) }
   where
@@ -89,7 +89,7 @@ nothing_by_list rows none good = record { nothing = nothing; faultless = fault_f
     nothing Version is = apart (codes "list") (codes "version") refl is
 
 -- where no traits are asked for by `traits`, and no word is missing, nothing is
-pub nothing_by_traits : (rows : List Row) → NothingTold (Some (codes "traits", rows)) → (LacksWord (first_of (codes "require") rows) → ⊥) → NothingAsked (Some (codes "traits", rows))
+pub nothing_by_traits : (rows : List Row) → NoneAsked IsTraitsAsked (Some (codes "traits", rows)) → (LacksWord (first_of (codes "require") rows) → ⊥) → NothingAsked (Some (codes "traits", rows))
 unfolding is_of_file
 nothing_by_traits rows none spelled = record { nothing = nothing; faultless = faultless }
   where
@@ -110,7 +110,7 @@ nothing_by_traits rows none spelled = record { nothing = nothing; faultless = fa
     faultless fault (inr (inr has)) = let e : true ≡ false = sym has.0 in cc
 
 -- where no needs are asked for by `needs`, nothing is
-pub nothing_by_needs : (rows : List Row) → NothingNeeded (Some (codes "needs", rows)) → NothingAsked (Some (codes "needs", rows))
+pub nothing_by_needs : (rows : List Row) → NoneAsked IsNeedsAsked (Some (codes "needs", rows)) → NothingAsked (Some (codes "needs", rows))
 unfolding is_of_file
 nothing_by_needs rows none = record { nothing = nothing; faultless = no_fault (codes "needs") rows refl (apart (codes "needs") (codes "traits") refl) refl }
   where
@@ -126,7 +126,7 @@ nothing_by_needs rows none = record { nothing = nothing; faultless = no_fault (c
     nothing Version is = apart (codes "needs") (codes "version") refl is
 
 -- where no archive is asked for by `archive`, nothing is
-pub nothing_by_archive : (rows : List Row) → NothingArchived (Some (codes "archive", rows)) → ((fault : RequestFault) → AreBadNames rows fault → ⊥) → NothingAsked (Some (codes "archive", rows))
+pub nothing_by_archive : (rows : List Row) → NoneAsked IsArchiving (Some (codes "archive", rows)) → ((fault : RequestFault) → AreBadNames rows fault → ⊥) → NothingAsked (Some (codes "archive", rows))
 unfolding is_of_file
 nothing_by_archive rows none good = record { nothing = nothing; faultless = fault_free (codes "archive") rows refl (apart (codes "archive") (codes "traits") refl) (λ fault has. good fault has.1) }
   where
@@ -143,7 +143,7 @@ nothing_by_archive rows none good = record { nothing = nothing; faultless = faul
 
 -- where nothing is asked for by `show` of every row, nor of the rows of names, nothing is
 pub nothing_by_show : (rows : List Row) → ((request : Request) → AsksBy (Some (codes "show", rows)) request → ⊥)
-    → ((asked : Choosing) → ChosenBy (Some (codes "show", rows)) asked → ⊥) → ((fault : RequestFault) → AreBadNames rows fault → ⊥) → NothingAsked (Some (codes "show", rows))
+    → NoneAsked IsChoosing (Some (codes "show", rows)) → ((fault : RequestFault) → AreBadNames rows fault → ⊥) → NothingAsked (Some (codes "show", rows))
 nothing_by_show rows none unchosen good = record { nothing = nothing; faultless = faultless }
   where
     nothing : (asked : AskedCommand) → IsAsked (Some (codes "show", rows)) asked → ⊥

@@ -7,7 +7,7 @@ use Rattle.elf_listing_requests.specs.Listings.{IsListing}
 use Rattle.elf_listing_requests.specs.Options.{AreLimitOptions}
 use Rattle.elf_listing_requests.specs.declared.listings.ListingAsked.{ListingAsked}
 use Rattle.elf_requests.specs.Asked.{AsksNothing, HasFault, IsTask}
-use Rattle.elf_requests.specs.declared.requests.RequestFault.{RequestFault}
+use Rattle.elf_listing_requests.specs.declared.faults.RequestFault.{RequestFault}
 use Rattle.elf_requests.specs.declared.requests.Task.{Task}
 use Rattle.elf_requests.specs.declared.requests.Task.TheVariants.{Show, Find, Resolve, Apply, Place}
 

@@ -1,14 +1,13 @@
 -- What the words for names come to.
-use Rattle.std.proofs.Common.{◌≡◌, ◌∙◌, ◌<◌, Bool, true, false, List, [], ◌∷◌, Option, None, Some, ap, arith, codes, is_some, length, refl, sym, subst, inl, inr, unwrap_or}
-use Rattle.std.specs.Prelude.{◌⊎◌, ◌||◌}
+use Rattle.std.proofs.Common.{◌≡◌, ◌∙◌, ◌<◌, Bool, true, false, List, [], ◌∷◌, Option, None, Some, arith, codes, is_some, length, refl, sym, inl, inr, unwrap_or}
+use Rattle.std.specs.Prelude.{◌||◌}
 use Rattle.clap.specs.Walk.{Row, Text, all_of}
 use Rattle.elf_listing_requests.specs.Options.{asks_versions}
 use Rattle.elf_listing_requests.specs.RowNames.{AreChosenParts, asks_names, name_words}
 use Rattle.elf_record.specs.declared.parts.Parts.{Parts}
-use Rattle.elf_requests.specs.Asked.{IsText}
-use Rattle.elf_requests.specs.AskedNames.{AreBadNames, AreNamesAsked, AreNamesIf, AreRows, AreTexts, HasBadText}
+use Rattle.elf_requests.specs.AskedNames.{AreBadNames, AreNamesIf, AreRows, AreTexts, HasBadText}
 use Rattle.elf_requests.specs.declared.checks.NamesAsked.{NamesAsked}
-use Rattle.elf_requests.specs.declared.requests.RequestFault.{RequestFault}
+use Rattle.elf_listing_requests.specs.declared.faults.RequestFault.{RequestFault}
 
 -- words that are names are not bad
 not_bad : (versions : Bool) (words : List Text) → AreTexts versions words → HasBadText versions words → ⊥

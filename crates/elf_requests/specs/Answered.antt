@@ -5,21 +5,14 @@ use Rattle.clap.specs.Values.{kind_of}
 use Rattle.clap.specs.declared.error.Error.{Error}
 use Rattle.clap.specs.declared.error.kind.ErrorKind.TheVariants as kind
 use Rattle.elf_listing_requests.specs.Reading.{AreRead, AreRefused}
-use Rattle.elf_listing_requests.specs.declared.faults.WordsFault.{WordsFault}
-use Rattle.elf_listing_requests.specs.declared.faults.WordsFault.TheVariants.{Told, Memory as NoMemory}
 use Rattle.elf_requests.specs.Checks.{HasAnyFault, IsAsked, NothingAsked}
 use Rattle.elf_requests.specs.declared.checks.AskedCommand.{AskedCommand}
-use Rattle.elf_requests.specs.declared.requests.RequestFault.{RequestFault}
-use Rattle.elf_requests.specs.declared.requests.RequestFault.TheVariants.{Memory, Words}
+use Rattle.elf_listing_requests.specs.declared.faults.RequestFault.{RequestFault}
+use Rattle.elf_listing_requests.specs.declared.faults.RequestFault.TheVariants.{Memory, Words}
 
 -- WHAT IS ASKED FOR: the command line takes the words, and what it makes of them is what is asked for
 abbrev pub WordsAsk : List Text → AskedCommand → Type 0
 WordsAsk words asked = (matches : Option (Text × List Row)) × AreRead words matches × IsAsked matches asked
-
--- the fault of a request whose words are not read
-abbrev pub unread_words : WordsFault → RequestFault
-unread_words (Told error) = Words error
-unread_words NoMemory = Memory
 
 -- there was no memory; or nothing is asked for, which is told by the kind `Format`; or what is asked for has this fault
 abbrev pub IsRefusal : Option (Text × List Row) → RequestFault → Type 0
@@ -30,5 +23,5 @@ IsRefusal matches fault =
 -- WHY WORDS ARE REFUSED: the command line has a fault for them, or what it makes of them has one, or asks for nothing
 abbrev pub WordsRefused : List Text → RequestFault → Type 0
 WordsRefused words fault =
-    ((told : WordsFault) × (fault ≡ unread_words told) × AreRefused words told)
+    AreRefused words fault
     ⊎ ((matches : Option (Text × List Row)) × AreRead words matches × IsRefusal matches fault)

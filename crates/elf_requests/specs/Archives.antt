@@ -29,12 +29,3 @@ pub record IsArchiving (command : Text) (rows : List Row) (asked : Archiving) : 
   pub limits : AreLimitOptions rows asked.limits
   pub style : IsStyle rows asked.style
   pub shown : AreRows (AreMemberParts rows asked.parts) rows asked.parts asked.names
-
--- a command with the values of its arguments asks for this listing
-abbrev pub ArchivesBy : Option (Text × List Row) → Archiving → Type 0
-ArchivesBy None asked = ⊥
-ArchivesBy (Some (command, rows)) asked = IsArchiving command rows asked
-
--- no listing of an archive is asked for
-abbrev pub NothingArchived : Option (Text × List Row) → Type 0
-NothingArchived matches = (asked : Archiving) → ArchivesBy matches asked → ⊥

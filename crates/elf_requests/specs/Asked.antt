@@ -11,10 +11,9 @@ use Rattle.elf_listing_requests.specs.Options.{AreLimitOptions, AreParts, HasNum
 use Rattle.elf_listing_requests.specs.RowNames.{asks_names}
 use Rattle.elf_requests.specs.Layouts.{LaysWords}
 use Rattle.elf_requests.specs.declared.requests.Request.{Request}
-use Rattle.elf_requests.specs.declared.requests.RequestFault.{RequestFault}
-use Rattle.elf_requests.specs.declared.requests.RequestFault.TheVariants.{BadName}
+use Rattle.elf_listing_requests.specs.declared.faults.RequestFault.{RequestFault}
+use Rattle.elf_listing_requests.specs.declared.faults.RequestFault.TheVariants.{BadName}
 use Rattle.elf_requests.specs.declared.requests.Task.{Task}
-use Rattle.elf_requests.specs.declared.requests.WantedName.{WantedName}
 use Rattle.elf_requests.specs.declared.requests.WantedSymbol.{WantedSymbol}
 use Rattle.elf_requests.specs.declared.requests.Task.TheVariants.{Show, Find, Resolve, Apply, Place}
 
@@ -39,10 +38,6 @@ pub record AsksLookup (command : Text) (rows : List Row) (file : Option (Bor Tex
   pub path : IsFileNamed rows file
   pub word : first_of (codes "NAME") rows ≡ Some text
   pub written : format ≡ asked_format rows
-
--- a name is looked up in the file's own SysV hash table
-abbrev pub IsFinding : Text → List Row → Option (Bor Text) → WantedName → Format → Type 0
-IsFinding command rows file wanted format = AsksLookup command rows file false wanted.bytes.now format
 
 -- a symbol is looked up as a loader of the GNU system does it, by the program headers alone or not
 pub record IsResolving (command : Text) (rows : List Row) (file : Option (Bor Text)) (wanted : WantedSymbol) (by_segments : Bool) (format : Format) : Type 0 where
@@ -75,7 +70,7 @@ pub record IsApplying (command : Text) (rows : List Row) (file : Option (Bor Tex
 abbrev pub IsTask : Text → List Row → Option (Bor Text) → Task → Type 0
 IsTask command rows file (Show parts style) =
     IsStyle rows style × AreParts rows parts × IsOfFile command rows file × (asks_names rows ≡ false)
-IsTask command rows file (Find wanted format) = IsFinding command rows file wanted format
+IsTask command rows file (Find wanted format) = AsksLookup command rows file false wanted.bytes.now format
 IsTask command rows file (Resolve wanted by_segments format) = IsResolving command rows file wanted by_segments format
 IsTask command rows file (Apply section layout explain) = IsApplying command rows file section layout.now explain
 IsTask command rows file (Place section addresses explain) = ⊥
@@ -86,19 +81,17 @@ AsksBy None request = ⊥
 AsksBy (Some (command, rows)) request = AreLimitOptions rows request.limits × IsTask command rows request.file request.task
 
 -- a lookup of a text that can't be looked up
-abbrev pub NamesBadly : Text → List Row → Type 0
+abbrev NamesBadly : Text → List Row → Type 0
 NamesBadly command rows =
     (command ≡ codes "find")
     × ((text : Text) × (lacks_gnu rows ≡ false) × (first_of (codes "NAME") rows ≡ Some text) × (IsText (asks_gnu rows) text → ⊥))
 
--- a section to be written, in a layout of which the first word that is refused has this fault
-abbrev pub LaysBadly : Text → List Row → RequestFault → Type 0
-LaysBadly command rows fault = (command ≡ codes "apply") × LaysWords no_items (item_words rows) (Err fault)
-
--- a command with the values of its arguments asks for something, and has this fault in its words for it
+-- a command with the values of its arguments asks for something, and has this fault in its words for it: it looks a text up that
+-- can't be, or it applies a section in a layout of which the first word that is refused has this fault
 abbrev pub HasFault : Option (Text × List Row) → RequestFault → Type 0
 HasFault None fault = ⊥
-HasFault (Some (command, rows)) fault = ((fault ≡ BadName) × NamesBadly command rows) ⊎ LaysBadly command rows fault
+HasFault (Some (command, rows)) fault =
+    ((fault ≡ BadName) × NamesBadly command rows) ⊎ ((command ≡ codes "apply") × LaysWords no_items (item_words rows) (Err fault))
 
 -- nothing is asked for, not even with a fault in the words for it
 pub record AsksNothing (matches : Option (Text × List Row)) : Type 0 where

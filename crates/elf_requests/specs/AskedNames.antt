@@ -8,8 +8,8 @@ use Rattle.elf_record.specs.declared.parts.Parts.{Parts}
 use Rattle.elf_requests.specs.Asked.{IsFileNamed, IsText}
 use Rattle.elf_requests.specs.declared.checks.Choosing.{Choosing}
 use Rattle.elf_requests.specs.declared.checks.NamesAsked.{NamesAsked}
-use Rattle.elf_requests.specs.declared.requests.RequestFault.{RequestFault}
-use Rattle.elf_requests.specs.declared.requests.RequestFault.TheVariants.{BadName, Memory, NamesFull}
+use Rattle.elf_listing_requests.specs.declared.faults.RequestFault.{RequestFault}
+use Rattle.elf_listing_requests.specs.declared.faults.RequestFault.TheVariants.{BadName, Memory, NamesFull}
 
 -- each is a name: a text of 1 to 4,096 bytes without NUL; and where a name may have a version, neither is empty
 abbrev pub AreTexts : (versions : Bool) → List Text → Type 0
@@ -48,11 +48,6 @@ pub record IsChoosing (command : Text) (rows : List Row) (asked : Choosing) : Ty
   pub style : IsStyle rows asked.listing.style
   pub parts : AreChosenParts rows asked.listing.parts
   pub names : AreNamesAsked rows asked.names
-
--- a command with the values of its arguments asks for this listing
-abbrev pub ChosenBy : Option (Text × List Row) → Choosing → Type 0
-ChosenBy None asked = ⊥
-ChosenBy (Some (command, rows)) asked = IsChoosing command rows asked
 
 -- what is wrong with words for names: one is none, or there are too many
 abbrev pub AreBadWords : (versions : Bool) → List Text → RequestFault → Type 0

@@ -1,11 +1,11 @@
 -- What the words of a command line ask for, of what a program needs.
-use Rattle.std.specs.Prelude.{◌≡◌, List, [], codes, Option, None, Some, unwrap_or}
+use Rattle.std.specs.Prelude.{◌≡◌, List, [], codes, Some, unwrap_or}
 use Rattle.clap.specs.Walk.{Row, Text, first_of}
 use Rattle.elf_listing_requests.specs.Options.{AreLimitOptions, asked_format, is_option_set}
 use Rattle.elf_requests.specs.declared.checks.NeedsAsked.{NeedsAsked}
 
 -- the folders that libraries are looked for in last, where no others are given
-abbrev pub default_folders : Text
+abbrev default_folders : Text
 default_folders = codes "/lib/x86_64-linux-gnu:/usr/lib/x86_64-linux-gnu:/lib64:/usr/lib64:/lib:/usr/lib"
 
 -- the needs of the program whose path stands among the values, with the folders that stand there
@@ -18,12 +18,3 @@ pub record IsNeedsAsked (command : Text) (rows : List Row) (asked : NeedsAsked) 
   pub limits : AreLimitOptions rows asked.limits
   pub format : asked.format ≡ asked_format rows
   pub symbols : asked.symbols ≡ is_option_set (first_of (codes "symbols") rows)
-
--- a command with the values of its arguments asks for these needs
-abbrev pub NeedsBy : Option (Text × List Row) → NeedsAsked → Type 0
-NeedsBy None asked = ⊥
-NeedsBy (Some (command, rows)) asked = IsNeedsAsked command rows asked
-
--- no needs are asked for
-abbrev pub NothingNeeded : Option (Text × List Row) → Type 0
-NothingNeeded matches = (asked : NeedsAsked) → NeedsBy matches asked → ⊥

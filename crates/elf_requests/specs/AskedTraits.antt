@@ -9,8 +9,8 @@ use Rattle.elf_wanted.specs.Spelled.{spelled_word}
 use Rattle.elf_wanted.specs.declared.required.RequiredWord.{RequiredWord}
 use Rattle.elf_requests.specs.Files.{AreFiles}
 use Rattle.elf_requests.specs.declared.checks.TraitsAsked.{TraitsAsked}
-use Rattle.elf_requests.specs.declared.requests.RequestFault.{RequestFault}
-use Rattle.elf_requests.specs.declared.requests.RequestFault.TheVariants.{BadTrait, Memory}
+use Rattle.elf_listing_requests.specs.declared.faults.RequestFault.{RequestFault}
+use Rattle.elf_listing_requests.specs.declared.faults.RequestFault.TheVariants.{BadTrait, Memory}
 
 -- a byte more at the front of the first of some pieces
 abbrev pub onto_first : ℕ → List Text → List Text
@@ -23,7 +23,7 @@ pieces [] = [] ∷ []
 pieces (byte ∷ bytes) = elim (byte == 44) [ true ↦ [] ∷ pieces bytes | false ↦ onto_first byte (pieces bytes) ]
 
 -- what each piece of a text spells; without a text nothing is required
-abbrev pub spelled_in : Option Text → List (Option Required)
+abbrev spelled_in : Option Text → List (Option Required)
 spelled_in None = []
 spelled_in (Some text) = map spelled_word (pieces text)
 
@@ -46,15 +46,6 @@ pub record IsTraitsAsked (command : Text) (rows : List Row) (asked : TraitsAsked
   pub limits : AreLimitOptions rows asked.limits
   pub format : asked.format ≡ asked_format rows
   pub required : AreRequired (first_of (codes "require") rows) asked.required.items
-
--- a command with the values of its arguments asks for these traits
-abbrev pub TellsBy : Option (Text × List Row) → TraitsAsked → Type 0
-TellsBy None asked = ⊥
-TellsBy (Some (command, rows)) asked = IsTraitsAsked command rows asked
-
--- no traits are asked for
-abbrev pub NothingTold : Option (Text × List Row) → Type 0
-NothingTold matches = (asked : TraitsAsked) → TellsBy matches asked → ⊥
 
 -- traits are asked for, with words of which one is none
 abbrev pub RequiresBadly : Option (Text × List Row) → Type 0

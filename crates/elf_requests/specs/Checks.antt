@@ -1,20 +1,20 @@
 -- What the words of a command line ask for, of one file, of many or of an archive; and the version of the program.
 use Rattle.std.specs.Prelude.{⊤, ◌≡◌, ◌⊎◌, List, Result, Ok, Err, codes, Option, None, Some}
 use Rattle.clap.specs.Walk.{Row, Text, first_of}
-use Rattle.elf_listing_requests.specs.Listings.{AsksVersion}
+use Rattle.elf_listing_requests.specs.Listings.{AskedBy, AsksVersion}
 use Rattle.elf_listing_requests.specs.Options.{AreLimitOptions, AreParts, IsStyle, is_option_set}
 use Rattle.elf_requests.specs.Asked.{AsksBy, HasFault}
-use Rattle.elf_requests.specs.AskedNames.{ChoosesBadly, ChosenBy}
-use Rattle.elf_requests.specs.AskedNeeds.{NeedsBy}
-use Rattle.elf_requests.specs.AskedTraits.{RequiresBadly, TellsBy}
+use Rattle.elf_requests.specs.AskedNames.{ChoosesBadly, IsChoosing}
+use Rattle.elf_requests.specs.AskedNeeds.{IsNeedsAsked}
+use Rattle.elf_requests.specs.AskedTraits.{IsTraitsAsked, RequiresBadly}
 use Rattle.elf_requests.specs.Files.{AreFiles}
-use Rattle.elf_requests.specs.Lists.{FilesListedBy}
+use Rattle.elf_requests.specs.Lists.{IsListAsked}
 use Rattle.elf_requests.specs.declared.checks.AskedCommand.{AskedCommand}
 use Rattle.elf_requests.specs.declared.checks.AskedCommand.TheVariants.{File, Laid, Chosen, Check, List as Listings, Traits, Needs, Archive, Version}
-use Rattle.elf_requests.specs.Archives.{ArchivesBy}
+use Rattle.elf_requests.specs.Archives.{IsArchiving}
 use Rattle.elf_requests.specs.declared.checks.Checking.{Checking}
-use Rattle.elf_requests.specs.declared.requests.RequestFault.{RequestFault}
-use Rattle.elf_requests.specs.declared.requests.RequestFault.TheVariants.{BadTrait, Memory}
+use Rattle.elf_listing_requests.specs.declared.faults.RequestFault.{RequestFault}
+use Rattle.elf_listing_requests.specs.declared.faults.RequestFault.TheVariants.{BadTrait, Memory}
 
 -- a check of the files that stand among the values
 pub record IsChecking (command : Text) (rows : List Row) (asked : Checking) : Type 0 where
@@ -25,18 +25,13 @@ pub record IsChecking (command : Text) (rows : List Row) (asked : Checking) : Ty
   pub parts : AreParts rows asked.parts
   pub members : asked.members ≡ is_option_set (first_of (codes "members") rows)
 
--- a command with the values of its arguments asks for this check
-abbrev pub ChecksBy : Option (Text × List Row) → Checking → Type 0
-ChecksBy None asked = ⊥
-ChecksBy (Some (command, rows)) asked = IsChecking command rows asked
-
 -- no file with items is named
-abbrev pub LacksList : Option (Text × List Row) → Type 0
+abbrev LacksList : Option (Text × List Row) → Type 0
 LacksList None = ⊤
 LacksList (Some (command, rows)) = command ≡ codes "apply" → first_of (codes "layout") rows ≡ None
 
 -- a file with items is named, for a section that is applied
-abbrev pub HasList : Option (Text × List Row) → Text → Type 0
+abbrev HasList : Option (Text × List Row) → Text → Type 0
 HasList None list = ⊥
 HasList (Some (command, rows)) list = (command ≡ codes "apply") × (first_of (codes "layout") rows ≡ Some list)
 
@@ -44,17 +39,13 @@ HasList (Some (command, rows)) list = (command ≡ codes "apply") × (first_of (
 abbrev pub IsAsked : Option (Text × List Row) → AskedCommand → Type 0
 IsAsked matches (File request) = AsksBy matches request × LacksList matches
 IsAsked matches (Laid laying) = AsksBy matches laying.request × HasList matches laying.list.now
-IsAsked matches (Chosen asked) = ChosenBy matches asked
-IsAsked matches (Check asked) = ChecksBy matches asked
-IsAsked matches (Listings asked) = FilesListedBy matches asked
-IsAsked matches (Traits asked) = TellsBy matches asked
-IsAsked matches (Needs asked) = NeedsBy matches asked
-IsAsked matches (Archive asked) = ArchivesBy matches asked
+IsAsked matches (Chosen asked) = AskedBy IsChoosing matches asked
+IsAsked matches (Check asked) = AskedBy IsChecking matches asked
+IsAsked matches (Listings asked) = AskedBy IsListAsked matches asked
+IsAsked matches (Traits asked) = AskedBy IsTraitsAsked matches asked
+IsAsked matches (Needs asked) = AskedBy IsNeedsAsked matches asked
+IsAsked matches (Archive asked) = AskedBy IsArchiving matches asked
 IsAsked matches Version = AsksVersion matches
-
--- no check is asked for
-abbrev pub NothingChecked : Option (Text × List Row) → Type 0
-NothingChecked matches = (asked : Checking) → ChecksBy matches asked → ⊥
 
 -- a command with the values of its arguments asks for something, and has this fault in its words for it
 abbrev pub HasAnyFault : Option (Text × List Row) → RequestFault → Type 0

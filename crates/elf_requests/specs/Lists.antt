@@ -1,5 +1,5 @@
 -- What the words of a command line ask for, of listings of many files.
-use Rattle.std.specs.Prelude.{◌≡◌, List, codes, Option, None, Some}
+use Rattle.std.specs.Prelude.{◌≡◌, List, codes}
 use Rattle.clap.specs.Walk.{Row, Text, first_of}
 use Rattle.elf_listing_requests.specs.Options.{AreLimitOptions, AreParts, IsStyle, is_option_set}
 use Rattle.elf_requests.specs.AskedNames.{AreRows}
@@ -14,12 +14,3 @@ pub record IsListAsked (command : Text) (rows : List Row) (asked : ListAsked) : 
   pub style : IsStyle rows asked.style
   pub shown : AreRows (AreParts rows asked.parts) rows asked.parts asked.names
   pub members : asked.members ≡ is_option_set (first_of (codes "members") rows)
-
--- a command with the values of its arguments asks for these listings
-abbrev pub FilesListedBy : Option (Text × List Row) → ListAsked → Type 0
-FilesListedBy None asked = ⊥
-FilesListedBy (Some (command, rows)) asked = IsListAsked command rows asked
-
--- no listings of many files are asked for
-abbrev pub NothingListed : Option (Text × List Row) → Type 0
-NothingListed matches = (asked : ListAsked) → FilesListedBy matches asked → ⊥

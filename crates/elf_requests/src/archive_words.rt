@@ -4,7 +4,8 @@ ghost use Rattle.clap.specs.Walk.{rows_of};
 ghost use Rattle.clap.specs.Words.{found_of};
 ghost use Rattle.elf_model.specs.Text.{name_of};
 ghost use Rattle.elf_record.specs.declared.parts.Parts.{Parts};
-ghost use Rattle.elf_requests.specs.Archives.{AreMemberParts, IsArchiving, NothingArchived};
+ghost use Rattle.elf_requests.specs.Archives.{AreMemberParts, IsArchiving};
+ghost use Rattle.elf_listing_requests.specs.Listings.{NoneAsked};
 ghost use Rattle.elf_listing_requests.specs.Options.{member_part_names};
 ghost use Rattle.elf_requests.specs.Archives.{is_member_part};
 ghost use Rattle.elf_requests.specs.AskedNames.{AreNamesIf, AreRows};
@@ -13,9 +14,10 @@ ghost use Rattle.elf_requests.specs.declared.checks.NamesAsked.{NamesAsked};
 
 use crate::checks::{Archiving, AskedCommand, NamesAsked};
 use crate::name_words::names_of;
-use crate::requests::RequestFault;
 use clap::ArgMatches;
-use elf_listing_requests::{asks_gnu, chosen_parts_of, limits_of, style_of, text_of, whole};
+use elf_listing_requests::{
+    RequestFault, asks_gnu, chosen_parts_of, limits_of, style_of, text_of, whole,
+};
 use elf_record::Parts;
 use std::alloc::Global;
 
@@ -57,7 +59,7 @@ fn archiving_of<'a>(
 ) -> Option<Archiving<'a>>
     requires { AreNamesIf (rows_of (found_of options.now)) names }
     ensures none { result ≡ None →
-        NothingArchived (Some (codes "archive", rows_of (found_of options.now))) }
+        NoneAsked IsArchiving (Some (codes "archive", rows_of (found_of options.now))) }
     ensures some { IfSome result (IsArchiving (codes "archive") (rows_of (found_of options.now))) }
 {
     let parts = archived_parts_of(options, &names)?;

@@ -2,14 +2,14 @@
 ghost use Rattle.std.specs.Prelude.{◌≡◌, IfSome, Some, None, codes};
 ghost use Rattle.clap.specs.Walk.{rows_of};
 ghost use Rattle.clap.specs.Words.{found_of};
-ghost use Rattle.elf_requests.specs.Checks.{Becomes, IsChecking, NothingChecked};
+ghost use Rattle.elf_listing_requests.specs.Listings.{NoneAsked};
+ghost use Rattle.elf_requests.specs.Checks.{Becomes, IsChecking};
 ghost use Rattle.elf_requests.specs.Files.{AreFiles};
 
 use crate::checks::{AskedCommand, Checking, ManyFiles};
 use crate::file_words::files_of;
-use crate::requests::RequestFault;
 use clap::ArgMatches;
-use elf_listing_requests::{is_set, limits_of, parts_of, style_of};
+use elf_listing_requests::{RequestFault, is_set, limits_of, parts_of, style_of};
 use std::alloc::{AllocError, Global};
 
 /// What `check` with these arguments asks for, or None where there is neither a path nor a file with
@@ -45,7 +45,7 @@ fn check_of<'a>(options: &ArgMatches<'a>, files: ManyFiles<'a>) -> Option<AskedC
 fn checking_of<'a>(options: &ArgMatches<'a>, files: ManyFiles<'a>) -> Option<Checking<'a>>
     requires { AreFiles (rows_of (found_of options.now)) files }
     ensures none { result ≡ None →
-        NothingChecked (Some (codes "check", rows_of (found_of options.now))) }
+        NoneAsked IsChecking (Some (codes "check", rows_of (found_of options.now))) }
     ensures some { IfSome result (IsChecking (codes "check") (rows_of (found_of options.now))) }
 {
     let limits = limits_of(options)?;

@@ -1,6 +1,4 @@
 //! What can be asked for: of one file, of many, of an archive, or the version.
-ghost use Rattle.std.specs.Prelude.{◌≡◌, ◌≤◌};
-
 use crate::requests::Request;
 use elf_headers::{Limits, Style};
 use elf_listing_requests::ListingAsked;
@@ -60,19 +58,6 @@ pub struct Choosing<'a> {
     pub names: NamesAsked<'a>,
 }
 
-impl<'a> Choosing<'a> {
-    ghost use Rattle.std.specs.Prelude.{◌≤◌};
-
-    /// How many slots the header store needs, 1 to 65,279.
-    pub fn headers(&self) -> u16
-        ensures value { result ≡ self.now.listing.limits.headers }
-        ensures some { 1 ≤ result }
-        ensures few { result ≤ 65279 }
-    {
-        self.listing.limits.headers
-    }
-}
-
 /// The files that are asked for, where there are many.
 #[derive(Drop)]
 pub struct ManyFiles<'a> {
@@ -98,19 +83,6 @@ pub struct Checking<'a> {
     pub members: bool,
 }
 
-impl<'a> Checking<'a> {
-    ghost use Rattle.std.specs.Prelude.{◌≤◌};
-
-    /// How many slots the header store needs, 1 to 65,279.
-    pub fn headers(&self) -> u16
-        ensures value { result ≡ self.now.limits.headers }
-        ensures some { 1 ≤ result }
-        ensures few { result ≤ 65279 }
-    {
-        self.limits.headers
-    }
-}
-
 /// Listings of many files: which, how much of each may be read, which parts there are, how rows are
 /// shown, and whether archives are gone into.
 #[derive(Drop)]
@@ -129,19 +101,6 @@ pub struct ListAsked<'a> {
     pub names: Option<NamesAsked<'a>>,
 }
 
-impl<'a> ListAsked<'a> {
-    ghost use Rattle.std.specs.Prelude.{◌≤◌};
-
-    /// How many slots the header store needs, 1 to 65,279.
-    pub fn headers(&self) -> u16
-        ensures value { result ≡ self.now.limits.headers }
-        ensures some { 1 ≤ result }
-        ensures few { result ≤ 65279 }
-    {
-        self.limits.headers
-    }
-}
-
 /// How many files are hardened: which files, how much of each may be read, how a line is written, and
 /// what is required.
 #[derive(Drop)]
@@ -154,19 +113,6 @@ pub struct TraitsAsked<'a> {
     pub format: Format,
     /// The words that are required of each program and library, in the order in which they were given.
     pub required: Vec<RequiredWord<'a>>,
-}
-
-impl<'a> TraitsAsked<'a> {
-    ghost use Rattle.std.specs.Prelude.{◌≤◌};
-
-    /// How many slots the header store needs, 1 to 65,279.
-    pub fn headers(&self) -> u16
-        ensures value { result ≡ self.now.limits.headers }
-        ensures some { 1 ≤ result }
-        ensures few { result ≤ 65279 }
-    {
-        self.limits.headers
-    }
 }
 
 /// A listing of an archive: where it is, how much may be read, how rows are shown, and which parts of
@@ -183,19 +129,6 @@ pub struct Archiving<'a> {
     pub style: Style<'a>,
     /// The names of which the rows alone are listed, where that is asked for.
     pub names: Option<NamesAsked<'a>>,
-}
-
-impl<'a> Archiving<'a> {
-    ghost use Rattle.std.specs.Prelude.{◌≤◌};
-
-    /// How many slots the header store needs, 1 to 65,279.
-    pub fn headers(&self) -> u16
-        ensures value { result ≡ self.now.limits.headers }
-        ensures some { 1 ≤ result }
-        ensures few { result ≤ 65279 }
-    {
-        self.limits.headers
-    }
 }
 
 /// What a program needs: which program, where its libraries are looked for, how much of each file may be
@@ -216,17 +149,4 @@ pub struct NeedsAsked<'a> {
     pub format: Format,
     /// Whether the file that each symbol is bound to is printed too.
     pub symbols: bool,
-}
-
-impl<'a> NeedsAsked<'a> {
-    ghost use Rattle.std.specs.Prelude.{◌≤◌};
-
-    /// How many slots the header store needs, 1 to 65,279.
-    pub fn headers(&self) -> u16
-        ensures value { result ≡ self.now.limits.headers }
-        ensures some { 1 ≤ result }
-        ensures few { result ≤ 65279 }
-    {
-        self.limits.headers
-    }
 }

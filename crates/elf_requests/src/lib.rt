@@ -20,5 +20,5 @@ pub use checks::{
     NeedsAsked, TraitsAsked,
 };
 pub use names::{checked_name, checked_symbol};
-pub use requests::{Request, RequestFault, Task, WantedName, WantedSymbol};
+pub use requests::{Request, Task, WantedName, WantedSymbol};
 pub use words::request;

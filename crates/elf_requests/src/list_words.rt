@@ -2,20 +2,20 @@
 ghost use Rattle.std.specs.Prelude.{◌≡◌, IfSome, Ok, Option, Some, None, codes};
 ghost use Rattle.clap.specs.Walk.{rows_of};
 ghost use Rattle.clap.specs.Words.{found_of};
+ghost use Rattle.elf_listing_requests.specs.Listings.{NoneAsked};
 ghost use Rattle.elf_listing_requests.specs.Options.{AreParts};
 ghost use Rattle.elf_record.specs.declared.parts.Parts.{Parts};
 ghost use Rattle.elf_requests.specs.AskedNames.{AreNamesIf, AreRows};
 ghost use Rattle.elf_requests.specs.Checks.{Becomes};
 ghost use Rattle.elf_requests.specs.Files.{AreFiles};
-ghost use Rattle.elf_requests.specs.Lists.{IsListAsked, NothingListed};
+ghost use Rattle.elf_requests.specs.Lists.{IsListAsked};
 ghost use Rattle.elf_requests.specs.declared.checks.NamesAsked.{NamesAsked};
 
 use crate::checks::{AskedCommand, ListAsked, ManyFiles, NamesAsked};
 use crate::file_words::files_of;
 use crate::name_words::names_of;
-use crate::requests::RequestFault;
 use clap::ArgMatches;
-use elf_listing_requests::{chosen_parts_of, is_set, limits_of, parts_of, style_of};
+use elf_listing_requests::{RequestFault, chosen_parts_of, is_set, limits_of, parts_of, style_of};
 use elf_record::Parts;
 use std::alloc::{AllocError, Global};
 
@@ -76,7 +76,7 @@ fn listing_of_files<'a>(
     requires files { AreFiles (rows_of (found_of options.now)) files }
     requires names { AreNamesIf (rows_of (found_of options.now)) names }
     ensures none { result ≡ None →
-        NothingListed (Some (codes "list", rows_of (found_of options.now))) }
+        NoneAsked IsListAsked (Some (codes "list", rows_of (found_of options.now))) }
     ensures some { IfSome result (IsListAsked (codes "list") (rows_of (found_of options.now))) }
 {
     let parts = listed_parts_of(options, &names)?;

@@ -10,9 +10,8 @@ ghost use Rattle.elf_requests.specs.AskedNames.{HasBadText, IsNameFault};
 
 use crate::checks::NamesAsked;
 use crate::file_words::words_of;
-use crate::requests::RequestFault;
 use clap::ArgMatches;
-use elf_listing_requests::{asks_names, asks_versions, text_of};
+use elf_listing_requests::{RequestFault, asks_names, asks_versions, text_of};
 use elf_name_lists::is_row_name;
 use std::alloc::{AllocError, Global};
 

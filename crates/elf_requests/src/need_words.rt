@@ -2,7 +2,8 @@
 ghost use Rattle.std.specs.Prelude.{◌≡◌, IfSome, None, Ok, Some, codes, unwrap_or};
 ghost use Rattle.clap.specs.Walk.{first_of, rows_of};
 ghost use Rattle.clap.specs.Words.{found_of};
-ghost use Rattle.elf_requests.specs.AskedNeeds.{IsNeedsAsked, NothingNeeded};
+ghost use Rattle.elf_listing_requests.specs.Listings.{NoneAsked};
+ghost use Rattle.elf_requests.specs.AskedNeeds.{IsNeedsAsked};
 ghost use Rattle.elf_requests.specs.Checks.{Becomes};
 
 use crate::checks::{AskedCommand, NeedsAsked};
@@ -26,7 +27,7 @@ pub(crate) fn needs_asked<'a>(options: &ArgMatches<'a>) -> Option<AskedCommand<'
 /// The program whose path is among the arguments, and where its libraries are looked for.
 fn needs_of<'a>(options: &ArgMatches<'a>) -> Option<NeedsAsked<'a>>
     ensures none { result ≡ None →
-        NothingNeeded (Some (codes "needs", rows_of (found_of options.now))) }
+        NoneAsked IsNeedsAsked (Some (codes "needs", rows_of (found_of options.now))) }
     ensures some { IfSome result (IsNeedsAsked (codes "needs") (rows_of (found_of options.now))) }
 {
     let file = text_of(options, "FILE")?;

@@ -7,7 +7,6 @@ use elf_headers::{Limits, Style};
 use elf_layout::{Addresses, Layout};
 use elf_model::Format;
 use elf_record::Parts;
-use thiserror::Error;
 
 /// What is asked for: which file, how much of it may be read, and what is done with it.
 #[derive(Clone, Copy)]
@@ -84,47 +83,4 @@ pub struct WantedSymbol<'a> {
     pub ghost is_name: { IsWanted text.now },
     pub ghost most: { length text.now ≤ 4096 },
     pub ghost complete: { is_complete (wanted_of text.now) ≡ true },
-}
-
-impl<'a> Request<'a> {
-    ghost use Rattle.std.specs.Prelude.{◌≤◌};
-
-    /// How many slots the header store needs, 1 to 65,279.
-    pub fn headers(&self) -> u16
-        ensures value { result ≡ self.now.limits.headers }
-        ensures some { 1 ≤ result }
-        ensures few { result ≤ 65279 }
-    {
-        self.limits.headers
-    }
-}
-
-/// Why words are no request.
-#[derive(Debug, Drop, Error)]
-pub enum RequestFault {
-    /// The words ask for nothing that there is, or for help: the text that is printed about that.
-    #[error("bad words")]
-    Words(clap::Error),
-    /// The words ask for a name that can't be looked for.
-    #[error("bad name")]
-    BadName,
-    /// The words ask for the rows of more than 64 names.
-    #[error("too many names")]
-    NamesFull,
-    /// The first word for an item of a layout that is refused spells none.
-    #[error("bad item")]
-    BadItem,
-    /// The first word that is refused gives one item more of a sort than a layout holds.
-    #[error("layout-full")]
-    LayoutFull,
-    /// The first word that is refused gives an item of the same sort with the same index or name as
-    /// an earlier one.
-    #[error("layout-repeat")]
-    LayoutRepeat,
-    /// One of the words that are required of a file's traits is none.
-    #[error("bad trait")]
-    BadTrait,
-    /// There was no memory for the request.
-    #[error("out of memory")]
-    Memory,
 }

@@ -11,10 +11,11 @@ ghost use Rattle.elf_requests.specs.Checks.{Becomes};
 
 use crate::checks::{AskedCommand, Choosing, NamesAsked};
 use crate::name_words::names_of;
-use crate::requests::RequestFault;
 use crate::words::listing_asked;
 use clap::ArgMatches;
-use elf_listing_requests::{ListingAsked, chosen_parts_of, limits_of, style_of, text_of};
+use elf_listing_requests::{
+    ListingAsked, RequestFault, chosen_parts_of, limits_of, style_of, text_of,
+};
 use std::alloc::Global;
 
 /// What `show` with these arguments asks for, or None where they ask for nothing.

@@ -8,13 +8,12 @@ ghost use Rattle.elf_wanted.specs.Spelled.{spelled_word};
 ghost use Rattle.elf_requests.specs.AskedTraits.{AreRequired, IsWordFault};
 ghost use Rattle.elf_requests.specs.Checks.{Becomes};
 ghost use Rattle.elf_requests.specs.Files.{AreFiles};
-ghost use Rattle.elf_requests.specs.declared.requests.RequestFault.TheVariants.{BadTrait, Memory};
+ghost use Rattle.elf_listing_requests.specs.declared.faults.RequestFault.TheVariants.{BadTrait, Memory};
 
 use crate::checks::{AskedCommand, ManyFiles, TraitsAsked};
 use crate::file_words::files_of;
-use crate::requests::RequestFault;
 use clap::ArgMatches;
-use elf_listing_requests::{format_of, limits_of, text_of};
+use elf_listing_requests::{RequestFault, format_of, limits_of, text_of};
 use elf_wanted::{RequiredWord, spelled_word};
 use std::alloc::{AllocError, Global};
 

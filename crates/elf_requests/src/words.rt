@@ -6,7 +6,7 @@ ghost use Rattle.clap.specs.Walk.{Text, rows_of};
 ghost use Rattle.clap.specs.Words.{found_of, subcommand_rows_of};
 ghost use Rattle.elf_listing_requests.specs.Options.{AreLimitOptions};
 ghost use Rattle.elf_requests.specs.Asked.{AsksBy, ComesTo, IsFileNamed, IsText, IsLookupTask, item_words};
-ghost use Rattle.elf_requests.specs.Answered.{IsRefusal, WordsAsk, WordsRefused, unread_words};
+ghost use Rattle.elf_requests.specs.Answered.{IsRefusal, WordsAsk, WordsRefused};
 ghost use Rattle.elf_requests.specs.Checks.{Becomes, IsAsked};
 ghost use Rattle.elf_model.specs.Placing.{no_items};
 ghost use Rattle.elf_requests.specs.Layouts.{LaysWords};
@@ -19,13 +19,13 @@ use crate::items::lay;
 use crate::list_words::list_asked;
 use crate::names::{checked_name, checked_symbol};
 use crate::need_words::needs_asked;
-use crate::requests::{Request, RequestFault, Task};
+use crate::requests::{Request, Task};
 use crate::show_words::show_asked;
 use crate::trait_words::traits_asked;
 use clap::ArgMatches;
 use elf_layout::Layout;
 use elf_listing_requests::{
-    WordsFault, asks_gnu, find_lacks_gnu, format_of, is_set, limits_of, listing_of, matches_of,
+    RequestFault, asks_gnu, find_lacks_gnu, format_of, is_set, limits_of, listing_of, matches_of,
     small_number_of, text_of, unasked,
 };
 use elf_model::Format;
@@ -49,20 +49,8 @@ pub fn request<'a, S: AsStr>(
     ensures asked { IfOk result (WordsAsk (map S.text words.entry.now)) }
     ensures refused { IfErr result (WordsRefused (map S.text words.entry.now)) }
 {
-    match matches_of(alloc, words) {
-        Ok(matches) => answered(alloc, &matches, layout),
-        Err(fault) => Err(of_words(fault)),
-    }
-}
-
-/// The fault of a request whose words are not read.
-fn of_words(fault: WordsFault) -> RequestFault
-    ensures { result ≡ unread_words fault }
-{
-    match fault {
-        WordsFault::Told(error) => RequestFault::Words(error),
-        WordsFault::Memory => RequestFault::Memory,
-    }
+    let matches = matches_of(alloc, words)?;
+    answered(alloc, &matches, layout)
 }
 
 /// What words that the command line let through ask for, or why they are refused.
@@ -74,10 +62,9 @@ fn answered<'a>(
     ensures asked { IfOk result (IsAsked (subcommand_rows_of matches.now)) }
     ensures refused { IfErr result (IsRefusal (subcommand_rows_of matches.now)) }
 {
-    match asked(alloc, matches, layout) {
-        Ok(Some(asked)) => Ok(asked),
-        Ok(None) => Err(of_words(unasked(alloc, matches))),
-        Err(fault) => Err(fault),
+    match asked(alloc, matches, layout)? {
+        Some(asked) => Ok(asked),
+        None => Err(unasked(alloc, matches)),
     }
 }
 
@@ -124,10 +111,9 @@ fn apply_asked<'a>(
 ) -> Result<Option<AskedCommand<'a>>, RequestFault>
     ensures { Becomes (Some (codes "apply", rows_of (found_of options.now))) result }
 {
-    match applying(options, layout) {
-        Ok(Some(request)) => Ok(Some(with_list(options, request))),
-        Ok(None) => Ok(None),
-        Err(fault) => Err(fault),
+    match applying(options, layout)? {
+        Some(request) => Ok(Some(with_list(options, request))),
+        None => Ok(None),
     }
 }
 
@@ -154,10 +140,9 @@ fn file_asked<'a>(
         × (command.now ≢ codes "version") × (command.now ≢ codes "apply") }
     ensures { Becomes (Some (command.now, rows_of (found_of options.now))) result }
 {
-    match of_file(command, options) {
-        Ok(Some(request)) => Ok(Some(AskedCommand::File(request))),
-        Ok(None) => Ok(None),
-        Err(fault) => Err(fault),
+    match of_file(command, options)? {
+        Some(request) => Ok(Some(AskedCommand::File(request))),
+        None => Ok(None),
     }
 }
 

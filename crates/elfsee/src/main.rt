@@ -10,23 +10,23 @@ mod names;
 mod needs;
 
 ghost use Rattle.std.specs.Prelude.{◌≡◌, ◌⊎◌, IfErr, IfOk, map, string_bytes};
-ghost use Rattle.elf_answers.specs.Answers.{refused_line, refused_status};
 ghost use Rattle.elf_answers.specs.Requests.{RunsTask};
+ghost use Rattle.elf_endings.specs.Endings.{EndsWords};
 ghost use Rattle.elf_requests.specs.Answered.{WordsAsk};
 ghost use Rattle.elfsee.specs.Ends.{EndsRunOver, LacksFile, LacksMemory, told_refusal};
-ghost use Rattle.elf_requests.specs.declared.requests.RequestFault.{RequestFault};
+ghost use Rattle.elf_listing_requests.specs.declared.faults.RequestFault.{RequestFault};
 
 use archives::list_archive;
-use elf_answers::{refused, run};
+use elf_answers::run;
 use elf_endings::{
-    Ending, OUT_OF_MEMORY, OUTPUT_BYTES, end_answer, exit, open, read_words, tell_version,
-    tell_words,
+    Ending, OUT_OF_MEMORY, OUTPUT_BYTES, end_answer, exit, open, read_words, tell_refused,
+    tell_version,
 };
 use elf_fixtures::sample;
 use elf_headers::{HeaderRoom, HeaderStore, Stop};
 use elf_layout::Layout;
 use elf_record::Refusal;
-use elf_requests::{AskedCommand, Request, RequestFault, request};
+use elf_requests::{AskedCommand, Request, request};
 use elf_source::{Counted, MemorySource, Out, Sink, Source, WriteSink};
 use explaining::tell_why;
 use layouts::apply_laid;
@@ -62,10 +62,7 @@ fn answer<R: Env + Files + Print + Input + AllocGlobal>(
 where
     R::File: FileExt,
 {
-    let words = match read_words(rt) {
-        Ok(words) => words,
-        Err(ending) => return Err(ending),
-    };
+    let words = read_words(rt)?;
     let mut layout = match make_layout(rt.alloc()) {
         Ok(layout) => layout,
         Err(ending) => return Err(ending),
@@ -120,7 +117,7 @@ where
     ensures { IfErr result (λ ending.
         LacksMemory ending.0 ending.1.now ⊎ LacksFile ending.0 ending.1.now) }
 {
-    let Ok(mut room) = HeaderRoom::new(rt.alloc(), request.headers()) else {
+    let Ok(mut room) = HeaderRoom::new(rt.alloc(), request.limits.headers) else {
         return Err(OUT_OF_MEMORY);
     };
     let Ok(output) = BufWriter::with_capacity(rt.alloc(), OUTPUT_BYTES, io::writer(rt)) else {
@@ -165,16 +162,12 @@ fn read_request<'a>(
 ) -> Result<AskedCommand<'a>, Ending>
     ensures asked { IfOk result (WordsAsk (map string_bytes words.now)) }
     ensures refused { IfErr result (λ ending. (fault : RequestFault)
-        × (ending.0 ≡ refused_status fault) × (ending.1.now ≡ refused_line fault)) }
+        × EndsWords fault ending.0 ending.1.now) }
 {
-    let fault = match request(alloc, words, layout) {
-        Ok(asked) => return Ok(asked),
-        Err(fault) => fault,
-    };
-    if let RequestFault::Words(told) = &fault {
-        return Err(tell_words(alloc, told, words, errors));
+    match request(alloc, words, layout) {
+        Ok(asked) => Ok(asked),
+        Err(fault) => Err(tell_refused(alloc, &fault, words, errors)),
     }
-    Err(refused(&fault))
 }
 
 /// Carries a request out and writes what is left of the output; where the line of a refusal went out,

@@ -35,7 +35,7 @@ where
     R::File: FileExt,
     ensures { IfErr result (λ ending. LacksMemory ending.0 ending.1.now) }
 {
-    let Ok(mut room) = HeaderRoom::new(rt.alloc(), asked.headers()) else {
+    let Ok(mut room) = HeaderRoom::new(rt.alloc(), asked.limits.headers) else {
         return Err(OUT_OF_MEMORY);
     };
     let checks = new_checks(asked, room.store());
@@ -57,7 +57,7 @@ where
     R::File: FileExt,
     ensures { IfErr result (λ ending. LacksMemory ending.0 ending.1.now) }
 {
-    let Ok(mut room) = HeaderRoom::new(rt.alloc(), asked.headers()) else {
+    let Ok(mut room) = HeaderRoom::new(rt.alloc(), asked.limits.headers) else {
         return Err(OUT_OF_MEMORY);
     };
     let lines = new_trait_lines(asked, room.store());
@@ -179,9 +179,7 @@ where
         return Err(Ended::Unwritten);
     }
     if let Some(list) = files.list {
-        if let Err(ended) = visit_listed(rt, many, walk, list, entries) {
-            return Err(ended);
-        }
+        visit_listed(rt, many, walk, list, entries)?;
     }
     match many.end() {
         Ok(status) => Ok(status),
@@ -203,9 +201,7 @@ where
     R::File: FileExt,
 {
     for path in paths {
-        if let Err(fault) = visit_path(rt, many, walk, path) {
-            return Err(fault);
-        }
+        visit_path(rt, many, walk, path)?;
     }
     Ok(())
 }

@@ -5,13 +5,13 @@
 ghost use Rattle.std.specs.Prelude.{◌≡◌};
 
 use elf_endings::{
-    Ending, OUT_OF_MEMORY, OUTPUT_BYTES, end_answer, exit, open, read_words, tell_version,
-    tell_words,
+    Ending, OUT_OF_MEMORY, OUTPUT_BYTES, end_answer, exit, open, read_words, tell_refused,
+    tell_version,
 };
 use elf_fixtures::sample;
 use elf_headers::{Caps, HeaderRoom, HeaderStore};
 use elf_listing::show;
-use elf_listing_requests::{ListingAsked, ShowRequest, WordsFault, shown_asked};
+use elf_listing_requests::{ListingAsked, ShowRequest, shown_asked};
 use elf_source::{Counted, MemorySource, Out, Source, WriteSink};
 use std::alloc::Global;
 use std::io::{self, BufWriter, Stderr, Write};
@@ -30,15 +30,11 @@ fn answer<R: Env + Files + Print + AllocGlobal>(rt: &R, errors: Stderr) -> Resul
 where
     R::File: FileExt,
 {
-    let words = match read_words(rt) {
-        Ok(words) => words,
-        Err(ending) => return Err(ending),
-    };
+    let words = read_words(rt)?;
     match shown_asked(rt.alloc(), words.as_slice()) {
         Ok(ShowRequest::Listed(listing)) => list(rt, &listing),
         Ok(ShowRequest::Version) => tell_version(rt),
-        Err(WordsFault::Told(told)) => Err(tell_words(rt.alloc(), &told, words.as_slice(), errors)),
-        Err(WordsFault::Memory) => Err(OUT_OF_MEMORY),
+        Err(fault) => Err(tell_refused(rt.alloc(), &fault, words.as_slice(), errors)),
     }
 }
 

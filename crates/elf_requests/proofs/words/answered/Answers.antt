@@ -1,17 +1,19 @@
-use Rattle.std.proofs.Common.{Ok, subst, sym}
+use Rattle.std.proofs.Common.{Ok, subst}
+use Rattle.std.proofs.lemmas.Result.{err_from_is_err_and}
 use Rattle.clap.specs.Words.{subcommand_rows_of}
-use Rattle.elf_requests.specs.Answered.{IsRefusal}
 use Rattle.elf_requests.specs.Checks.{Becomes}
 use Rattle.elf_requests.proofs.FaultLaws.{faulty, unasked_told}
 use Rattle.elf_requests.proofs.words.answered.Goals as goal
 
-pub returns-in-Ok-Some-clause-asked : goal.returns-in-Ok-Some-clause-asked
-returns-in-Ok-Some-clause-asked c = subst (λ asked. Becomes (subcommand_rows_of c.args.matches.now) (Ok asked)) c.in-Ok-Some.field-0-is c.in-Ok-Some.ensures
+pub returns-in-Some-clause-asked : goal.returns-in-Some-clause-asked
+returns-in-Some-clause-asked c = subst (λ asked. Becomes (subcommand_rows_of c.args.matches.now) (Ok asked)) c.in-Some.is c.in_ok-asked.ensures
 
-pub returns-in-Ok-None-clause-refused : goal.returns-in-Ok-None-clause-refused
-returns-in-Ok-None-clause-refused c =
-    let nothing = subst (λ asked. Becomes (subcommand_rows_of c.args.matches.now) (Ok asked)) c.in-Ok-None.field-0-is c.in-Ok-None.ensures in
-    subst (IsRefusal (subcommand_rows_of c.args.matches.now)) (sym c.of_words.ensures) (unasked_told _ c.unasked.result c.unasked.ensures nothing)
+pub returns-in-None-clause-refused : goal.returns-in-None-clause-refused
+returns-in-None-clause-refused c =
+    let nothing = subst (λ asked. Becomes (subcommand_rows_of c.args.matches.now) (Ok asked)) c.in-None.is c.in_ok-asked.ensures in
+    unasked_told _ c.unasked.result c.unasked.ensures nothing
 
-pub returns-in-Err-clause-refused : goal.returns-in-Err-clause-refused
-returns-in-Err-clause-refused c = faulty _ c.in-Err.fault c.in-Err.ensures
+pub returns-in_err-asked-clause-refused : goal.returns-in_err-asked-clause-refused
+returns-in_err-asked-clause-refused c =
+    let p = err_from_is_err_and c.from_residual.result c.from_residual.ensures.1 in
+    rw (p.1, p.2) (faulty _ c.in_err-asked.field-0.0 c.in_err-asked.ensures)

@@ -1,15 +1,12 @@
 -- What `apply` asks for is of one file.
-use Rattle.std.proofs.Common.{Some, Ok, subst, codes, inl, inr}
+use Rattle.std.proofs.Common.{Some, Ok, subst, codes}
 use Rattle.clap.specs.Walk.{rows_of}
 use Rattle.clap.specs.Words.{found_of}
 use Rattle.elf_requests.specs.Asked.{ComesTo}
 use Rattle.elf_requests.proofs.CheckLaws.{nothing_by_apply}
 use Rattle.elf_requests.proofs.words.apply_asked.Goals as goal
 
-pub returns-in-Ok-None : goal.returns-in-Ok-None
-returns-in-Ok-None c =
+pub returns-in-None : goal.returns-in-None
+returns-in-None c =
     let rows = rows_of (found_of c.args.options.now) in
-    nothing_by_apply rows (subst (λ asked. ComesTo (Some (codes "apply", rows)) (Ok asked)) c.in-Ok-None.field-0-is c.in-Ok-None.ensures)
-
-pub returns-in-Err : goal.returns-in-Err
-returns-in-Err c = inr (inl c.in-Err.ensures)
+    nothing_by_apply rows (subst (λ asked. ComesTo (Some (codes "apply", rows)) (Ok asked)) c.in-None.is c.in_ok-request.ensures)
