@@ -1,5 +1,5 @@
 -- What was read is the file's.
-use Rattle.std.proofs.Common.{◌≡◌, ◌-◌, ◌%◌, length, sym, ap, ◌∙◌, arith, rules}
+use Rattle.std.proofs.Common.{◌≡◌, ◌-◌, ◌%◌, length, sym, ap, ◌∙◌, rules}
 use Rattle.elf_model.specs.Bytes.{slice}
 use Rattle.elf_binding.proofs.PageLaws.{held_as}
 use Rattle.elf_binding.proofs.page.Page.load.Goals as goal
