@@ -19,9 +19,6 @@ mod version_rows;
 
 pub use check_rows::{put_fault, show_check, show_unnamed};
 pub use dynamic_rows::dynamic_front;
-pub use elf_fields::{
-    Columns, LINES_BUFFER_BYTES, Line, LineFront, NextName, Object, Render, show_joined, show_named,
-};
 pub use lack_rows::show_lack;
 pub use lookup_rows::show_steps;
 pub use member_rows::member_front;
