@@ -124,8 +124,7 @@ fn show_found<W: Sink>(
         (e_machine file) file at found.now.section found.now.index in
         let version = option_map
         (version_found (asked_of wanted.now.asked) name.now) found.now.version in
-        Puts out.old out.new result
-        (named_line front (Whole wanted.now.name.now)
+        Puts out.old out.new result (named_line front (Whole wanted.now.name.now)
         ++ found_version_line format found.now.index version) }
 {
     let naming = NumberNaming {
