@@ -87,9 +87,8 @@ fn show_resolved<W: Sink>(
 ) -> Result<u8, Stop>
     ensures grows { Grows out.old out.new }
     ensures fails { IfErr result (IsOfOutput out.new) }
-    ensures text { (file : List ℕ) (looked : LoaderLookup) →
-        AnswersLoaderLookup file (asked_of wanted.now.asked) name.now looked lookup.now →
-        WroteAnswer out.old out.new result
+    ensures text { (file : List ℕ) (looked : LoaderLookup) → AnswersLoaderLookup file
+        (asked_of wanted.now.asked) name.now looked lookup.now → WroteAnswer out.old out.new result
         (resolved_answer format file wanted.now.name.now looked) }
 {
     match lookup {
