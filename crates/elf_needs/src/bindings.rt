@@ -31,7 +31,8 @@ impl<W: Sink> ObjectWalk<'_, '_, W> {
             AreObjectsOf headers opened.old.objects.items files →
             WritesBindings self.old.format
             (bound_items (bound_of headers files opened.old.indexes.items self.old.objects))
-            (IsLimited self.old.search.account.left) self.old.out self.new.out self.old.status result }
+            (IsLimited self.old.search.account.left) self.old.out self.new.out
+            self.old.status result }
     {
         let among = Among {
             indexes: &opened.indexes,

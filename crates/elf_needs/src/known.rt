@@ -114,7 +114,8 @@ impl Objects {
     /// Whether an object has a name: it was needed by it, or calls itself so.
     pub(crate) fn has_name(&self, name: &[u8]) -> bool
         ensures { result
-            ≡ is_some (position (is_called self.now.links.held.texts name.now) self.now.known.items) }
+            ≡ is_some (position (is_called self.now.links.held.texts name.now)
+            self.now.known.items) }
     {
         self.first_called(name).is_some()
     }
