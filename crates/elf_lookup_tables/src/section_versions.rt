@@ -155,8 +155,8 @@ fn section_records(file: &File<'_>, section: u16, kind: VersionKind) -> Result<R
 fn record_names(file: &File<'_>, section: u16, table: Table) -> Result<Names, Fault>
     requires below { section < file.now.store.now.loaded }
     ensures some { IfErr result (λ fault. 0 < table.count) }
-    ensures finds { FindsIn Belongs file.now.loaded file.now.store.now result StringsWithin (λ bytes.
-        0 < table.count → result ≡ string_table_at bytes (section_at bytes section)) }
+    ensures finds { FindsIn Belongs file.now.loaded file.now.store.now result StringsWithin
+        (λ bytes. 0 < table.count → result ≡ string_table_at bytes (section_at bytes section)) }
 {
     if table.is_empty() {
         return Ok(Names::new(table.at(), 0));
