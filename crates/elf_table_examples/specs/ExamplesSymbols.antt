@@ -55,12 +55,12 @@ EmptyTableRows =
     TraitsAre (with_bytes 0x194 (little 4 1) program_with_traits) (codes "T pie    full    nx    w^x   fixed ibt+shstk canary fortify -       p\n")
     × TraitsAre (with_bytes 0x194 (little 4 1) (with_bytes 0x250 (little 8 0x190) program_with_traits)) (codes "T pie    full    nx    w^x   fixed ibt+shstk -      -       -       p\n")
     × TraitsAre
-      (with_bytes 0x194 (little 4 1) (with_bytes 0x78 (program_header 1 4 0x2b8 0x12b8 0x10 0x1000)
-      (with_bytes 0x250 (little 8 0x12b8) (with_bytes 0x270 (little 8 0x10) program_with_traits))) ++ zeros 0x20)
-      (codes "T static full    nx    w^x   fixed ibt+shstk -      -       -       p\n")
+    (with_bytes 0x194 (little 4 1) (with_bytes 0x78 (program_header 1 4 0x2b8 0x12b8 0x10 0x1000)
+    (with_bytes 0x250 (little 8 0x12b8) (with_bytes 0x270 (little 8 0x10) program_with_traits))) ++ zeros 0x20)
+    (codes "T static full    nx    w^x   fixed ibt+shstk -      -       -       p\n")
     × TraitsAre
-      (with_bytes 0x240 (little 8 0x1f8) (with_bytes 0x1f8 (words (1 ∷ 1 ∷ 1 ∷ 0 ∷ 0 ∷ 0 ∷ 0 ∷ [])) (long_named 57)))
-      (codes "T pie    full    nx    w^x   fixed ibt+shstk -      -       -       p\n")
+    (with_bytes 0x240 (little 8 0x1f8) (with_bytes 0x1f8 (words (1 ∷ 1 ∷ 1 ∷ 0 ∷ 0 ∷ 0 ∷ 0 ∷ [])) (long_named 57)))
+    (codes "T pie    full    nx    w^x   fixed ibt+shstk -      -       -       p\n")
     × TraitsCost (with_bytes 0x194 (little 4 1) program_with_traits) 880
 
 -- a fault of a name is at the symbol
