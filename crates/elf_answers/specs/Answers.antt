@@ -1,41 +1,41 @@
 -- What a run answers.
 use Rattle.std.specs.Prelude.{ℕ, ◌≡◌, ◌<◌, ◌+◌, ⊤, List, ◌++◌, Option, Some, Result, Ok, Err}
 use Rattle.elf_model.specs.Answer.{Answer}
-use Rattle.elf_model.specs.Budget.{IsBudget}
+use Rattle.elf_model.specs.Budget.{IsBudgetRefusal}
 use Rattle.elf_model.specs.Lines.{refusal_line}
 use Rattle.elf_model.specs.declared.causes.Refusal.{Refusal}
 use Rattle.elf_model.specs.declared.formats.Format.{Format}
-use Rattle.elf_source.specs.Source.{Counting}
-use Rattle.elf_source.specs.Output.{Written, Takes, TakesFront}
-use Rattle.elf_headers.specs.declared.stop.Stop.{Stop}
-use Rattle.elf_headers.specs.declared.stop.Stop.TheVariants.{Refused, Source, Out}
+use Rattle.elf_source.specs.Source.{CountedState}
+use Rattle.elf_source.specs.Output.{OutState, SinkTakes, SinkTakesPrefix}
+use Rattle.elf_headers.specs.declared.stop.RunFault.{RunFault}
+use Rattle.elf_headers.specs.declared.stop.RunFault.TheVariants.{Refused, Source, Out}
 
 -- a text ends in the line of a refusal
 abbrev pub EndsInRefusal : Refusal → List ℕ → Type 0
 EndsInRefusal refusal text = (format : Format) × (lines : List ℕ) × (text ≡ lines ++ refusal_line format refusal)
 
 -- an answer was written and its status given, which is 1 where the refusal of its last line is; or a front of its text was written
-abbrev pub WroteAnswer : Written → Written → Result ℕ Stop → Answer → Type 0
-WroteAnswer old new (Ok status) answer = Takes old new answer.text × (status ≡ answer.status)
-WroteAnswer old new (Err (Refused refusal)) answer = Takes old new answer.text × (1 ≡ answer.status) × EndsInRefusal refusal answer.text
-WroteAnswer old new (Err (Source fault at)) answer = TakesFront old new answer.text
-WroteAnswer old new (Err (Out fault)) answer = TakesFront old new answer.text
+abbrev pub WroteAnswer : OutState → OutState → Result ℕ RunFault → Answer → Type 0
+WroteAnswer old new (Ok status) answer = SinkTakes old new answer.text × (status ≡ answer.status)
+WroteAnswer old new (Err (Refused refusal)) answer = SinkTakes old new answer.text × (1 ≡ answer.status) × EndsInRefusal refusal answer.text
+WroteAnswer old new (Err (Source fault at)) answer = SinkTakesPrefix old new answer.text
+WroteAnswer old new (Err (Out fault)) answer = SinkTakesPrefix old new answer.text
 
 -- fewer than 4,096 bytes of a budget are left
-abbrev IsUsedUp : Option ℕ → Counting → Counting → Type 0
+abbrev IsUsedUp : Option ℕ → CountedState → CountedState → Type 0
 IsUsedUp budget before after = (bytes : ℕ) × (budget ≡ Some bytes) × (before.asked + bytes < after.asked + 4096)
 
 -- an answer that was given is the whole one; or, where its refusal is for want of budget, that is used up, and the refusal
 -- names the read that it had no room for
-abbrev pub WholeOrUsedUp : Option ℕ → Counting → Counting → Result ℕ Stop → (whole answer : Answer) → Type 0
+abbrev pub WholeOrUsedUp : Option ℕ → CountedState → CountedState → Result ℕ RunFault → (whole answer : Answer) → Type 0
 WholeOrUsedUp budget before after (Ok status) whole answer = answer ≡ whole
 WholeOrUsedUp budget before after (Err (Refused refusal)) whole answer =
-    (IsBudget refusal → IsUsedUp budget before after × (refusal.at ≡ after.stopped)) × ((IsBudget refusal → ⊥) → answer ≡ whole)
+    (IsBudgetRefusal refusal → IsUsedUp budget before after × (refusal.at ≡ after.stopped)) × ((IsBudgetRefusal refusal → ⊥) → answer ≡ whole)
 WholeOrUsedUp budget before after (Err (Source fault at)) whole answer = ⊤
 WholeOrUsedUp budget before after (Err (Out fault)) whole answer = ⊤
 
 -- THE ANSWER: one that is permitted was written, and this holds of it
-pub record Answers (old new : Written) (result : Result ℕ Stop) (Permits Holds : Answer → Type 0) : Type 0 where
+pub record Answers (old new : OutState) (result : Result ℕ RunFault) (Permits Holds : Answer → Type 0) : Type 0 where
   pub answer : Answer
   pub permitted : Permits answer
   pub wrote : WroteAnswer old new result answer

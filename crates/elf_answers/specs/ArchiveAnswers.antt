@@ -1,8 +1,8 @@
 -- What the listing of an archive answers.
 use Rattle.std.specs.Prelude.{ℕ, ◌==◌, Bool, Result, Ok, Err}
-use Rattle.elf_headers.specs.declared.stop.Stop.{Stop}
+use Rattle.elf_headers.specs.declared.stop.RunFault.{RunFault}
 
 -- a status says whether the listing of a member was refused
-abbrev pub refused_by : Result ℕ Stop → Result Bool Stop
+abbrev pub refused_by : Result ℕ RunFault → Result Bool RunFault
 refused_by (Ok status) = Ok (status == 1)
 refused_by (Err stop) = Err stop

@@ -5,7 +5,7 @@ ghost use Rattle.elf_answers.specs.Requests.{RunsShow, RunsTask};
 use crate::applying::write_applied;
 use crate::finding::look_up;
 use crate::resolving::{LookupStyle, resolve};
-use elf_headers::{Caps, HeaderStore, Stop};
+use elf_headers::{Caps, HeaderStore, RunFault};
 use elf_layout::Addresses;
 use elf_listing::show;
 use elf_record::Parts;
@@ -26,7 +26,7 @@ pub fn run<S: Source, W: Sink>(
     src: &mut Counted<S>,
     store: &mut HeaderStore,
     out: &mut Out<W>,
-) -> Result<u8, Stop>
+) -> Result<u8, RunFault>
     requires { (store.old.slots ≡ request.now.limits.headers) × (src.old.asked ≤ 2 ^ 127) }
     ensures slots { store.new.slots ≡ store.old.slots }
     ensures runs { RunsTask request.now.limits request.now.task
@@ -70,7 +70,7 @@ fn list<S: Source, W: Sink>(
     caps: Caps,
     parts: Parts,
     out: &mut Out<W>,
-) -> Result<u8, Stop>
+) -> Result<u8, RunFault>
     requires { (store.old.slots ≡ caps.limits.headers) × (src.old.asked ≤ 2 ^ 127) }
     ensures slots { store.new.slots ≡ store.old.slots }
     ensures runs { RunsShow caps.entry parts.0 src.old src.new out.old out.new result }

@@ -3,7 +3,7 @@ ghost use Rattle.std.specs.Prelude.{◌≡◌, ◌^◌, ◌≤◌};
 ghost use Rattle.elf_answers.specs.Requests.{RunsApply};
 
 use elf_apply::apply_with;
-use elf_headers::{HeaderStore, Limits, Stop};
+use elf_headers::{HeaderStore, Limits, RunFault};
 use elf_layout::Addresses;
 use elf_listing::show_stop;
 use elf_model::Format;
@@ -22,7 +22,7 @@ pub(crate) fn write_applied<S: Source, W: Sink>(
     section: u16,
     layout: &Addresses<'_>,
     out: &mut Out<W>,
-) -> Result<u8, Stop>
+) -> Result<u8, RunFault>
     requires { (store.old.slots ≡ limits.headers) × (src.old.asked ≤ 2 ^ 127) }
     ensures slots { store.new.slots ≡ store.old.slots }
     ensures runs { RunsApply limits section layout.now src.old src.new out.old out.new result }

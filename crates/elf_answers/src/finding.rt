@@ -1,15 +1,15 @@
 //! A name looked up.
 ghost use Rattle.std.specs.Prelude.{◌≡◌, ◌^◌, ◌≤◌, ℕ, List, length, IfErr};
-ghost use Rattle.elf_hash.specs.Lookups.{AnswersSysvLookup as Looks};
+ghost use Rattle.elf_hash.specs.Lookups.{AnswersSysvLookup as LooksInObject};
 ghost use Rattle.elf_model.specs.Hash.{Lookup as Looked};
-ghost use Rattle.elf_source.specs.Growth.{Grows};
+ghost use Rattle.elf_source.specs.Growth.{OutGrows};
 ghost use Rattle.elf_listing.specs.Shows.{IsOfOutput};
 ghost use Rattle.elf_answers.specs.Answers.{WroteAnswer};
 ghost use Rattle.elf_answers.specs.Lookups.{answer_of_lookup};
 ghost use Rattle.elf_answers.specs.Requests.{RunsFind};
 
 use elf_hash::{Lookup, find};
-use elf_headers::{HeaderStore, Limits, Stop};
+use elf_headers::{HeaderStore, Limits, RunFault};
 use elf_lines::{show_steps, show_symbol};
 use elf_listing::show_stop;
 use elf_model::Format;
@@ -30,7 +30,7 @@ pub(crate) fn look_up<S: Source, W: Sink>(
     wanted: &[u8],
     format: Format,
     out: &mut Out<W>,
-) -> Result<u8, Stop>
+) -> Result<u8, RunFault>
     requires slots { (store.old.slots ≡ limits.headers) × (src.old.asked ≤ 2 ^ 127) }
     requires most { length wanted.now ≤ 4096 }
     ensures slots { store.new.slots ≡ store.old.slots }
@@ -55,10 +55,10 @@ fn show_lookup<W: Sink>(
     wanted: &[u8],
     format: Format,
     out: &mut Out<W>,
-) -> Result<u8, Stop>
-    ensures grows { Grows out.old out.new }
+) -> Result<u8, RunFault>
+    ensures grows { OutGrows out.old out.new }
     ensures fails { IfErr result (IsOfOutput out.new) }
-    ensures text { (file : List ℕ) (looked : Looked) → Looks file looked lookup.now →
+    ensures text { (file : List ℕ) (looked : Looked) → LooksInObject file looked lookup.now →
         WroteAnswer out.old out.new result (answer_of_lookup format file wanted.now looked) }
 {
     match lookup {

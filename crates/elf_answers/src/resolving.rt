@@ -4,30 +4,30 @@ ghost use Rattle.elf_fields.specs.Named.{shown_as};
 ghost use Rattle.elf_listing.specs.Shows.{IsOfOutput};
 ghost use Rattle.elf_loader.specs.Finding.{name_shown, version_found};
 ghost use Rattle.elf_loader.specs.Lookups.{AnswersLoaderLookup};
-ghost use Rattle.elf_model.specs.LineFronts.{symbol_front};
+ghost use Rattle.elf_model.specs.LineFronts.{symbol_prefix};
 ghost use Rattle.elf_model.specs.Lines.{named_line};
 ghost use Rattle.elf_model.specs.Loader.{asked_name};
 ghost use Rattle.elf_model.specs.LoaderAnswer.{found_version_line};
 ghost use Rattle.elf_model.specs.LoaderFind.{LoaderLookup};
-ghost use Rattle.elf_model.specs.Names.Shown.{Whole};
+ghost use Rattle.elf_model.specs.Names.DisplayedName.{Whole};
 ghost use Rattle.elf_model.specs.Records.{e_machine};
 ghost use Rattle.elf_record.specs.Sym.{IsSym};
-ghost use Rattle.elf_source.specs.Growth.{Grows};
-ghost use Rattle.elf_source.specs.Output.{OutFails, Puts};
+ghost use Rattle.elf_source.specs.Growth.{OutGrows};
+ghost use Rattle.elf_source.specs.Output.{IsOutFault, OutPuts};
 ghost use Rattle.elf_answers.specs.Answers.{WroteAnswer};
 ghost use Rattle.elf_answers.specs.Lookups.{resolved_answer};
 ghost use Rattle.elf_answers.specs.Requests.{RunsResolve};
 ghost use Rattle.elf_wanted.specs.Wants.{asked_of};
 
-use elf_fields::{LineFront, show_named};
-use elf_headers::{HeaderStore, Limits, Stop};
-use elf_lines::{NumberNaming, show_steps, symbol_front_in, symbol_version_front_in};
+use elf_fields::{LinePrefix, show_named};
+use elf_headers::{HeaderStore, Limits, RunFault};
+use elf_lines::{ConstantNames, show_steps, symbol_front_in, symbol_version_front_in};
 use elf_listing::show_stop;
 use elf_loader::{FoundSymbol, FoundVersion, SymbolLookup, VersionName, look_up};
 use elf_model::Format;
 use elf_source::{Counted, Out, OutFault, Sink, Source};
 use elf_table::{NameBuf, NameEnd};
-use elf_wanted::{Asked, Wanted, wanted_of};
+use elf_wanted::{Asked, Wanted, parse_query};
 
 /// How a name is looked up, and how that is answered.
 #[derive(Clone, Copy)]
@@ -56,14 +56,14 @@ pub(crate) fn resolve<S: Source, W: Sink>(
     text: &[u8],
     style: LookupStyle,
     out: &mut Out<W>,
-) -> Result<u8, Stop>
+) -> Result<u8, RunFault>
     requires slots { (store.old.slots ≡ limits.headers) × (src.old.asked ≤ 2 ^ 127) }
     requires most { length text.now ≤ 4096 }
     ensures slots { store.new.slots ≡ store.old.slots }
     ensures runs { RunsResolve limits text.now style.by_segments style.format
         src.old src.new out.old out.new result }
 {
-    let wanted = wanted_of(text);
+    let wanted = parse_query(text);
     let mut name = NameBuf::new();
     src.limit(limits.budget);
     let found = look_up(src, store, &wanted, style.by_segments, &mut name);
@@ -84,8 +84,8 @@ fn show_resolved<W: Sink>(
     name: &NameBuf,
     format: Format,
     out: &mut Out<W>,
-) -> Result<u8, Stop>
-    ensures grows { Grows out.old out.new }
+) -> Result<u8, RunFault>
+    ensures grows { OutGrows out.old out.new }
     ensures fails { IfErr result (IsOfOutput out.new) }
     ensures text { (file : List ℕ) (looked : LoaderLookup) → AnswersLoaderLookup file
         (asked_of wanted.now.asked) name.now looked lookup.now → WroteAnswer out.old out.new result
@@ -115,22 +115,22 @@ fn show_found<W: Sink>(
     format: Format,
     out: &mut Out<W>,
 ) -> Result<(), OutFault>
-    ensures grows { Grows out.old out.new }
-    ensures fails { IfErr result (OutFails out.new) }
+    ensures grows { OutGrows out.old out.new }
+    ensures fails { IfErr result (IsOutFault out.new) }
     ensures puts { (file : List ℕ) (at : ℕ) → IsSym file at found.now.symbol →
         found.now.machine ≡ e_machine file →
-        let front = symbol_front format true
+        let front = symbol_prefix format true
         (e_machine file) file at found.now.section found.now.index in
         let version = option_map
         (version_found (asked_of wanted.now.asked) name.now) found.now.version in
-        Puts out.old out.new result (named_line front (Whole wanted.now.name.now)
+        OutPuts out.old out.new result (named_line front (Whole wanted.now.name.now)
         ++ found_version_line format found.now.index version) }
 {
-    let naming = NumberNaming {
+    let naming = ConstantNames {
         gnu: true,
         machine: found.machine,
     };
-    let mut front = LineFront::new();
+    let mut front = LinePrefix::new();
     symbol_front_in(
         format,
         &mut front,
@@ -159,9 +159,9 @@ fn show_version<W: Sink>(
     out: &mut Out<W>,
 ) -> Result<(), OutFault>
     ensures puts { let version = version_found (asked_of asked.now) name.now version.now in
-        Puts out.old out.new result (found_version_line format index (Some version)) }
+        OutPuts out.old out.new result (found_version_line format index (Some version)) }
 {
-    let mut front = LineFront::new();
+    let mut front = LinePrefix::new();
     symbol_version_front_in(format, &mut front, version.index, index, version.word);
     let (bytes, is_cut) = version_name(version.name, asked, name);
     show_named(&mut front, bytes, is_cut, out)

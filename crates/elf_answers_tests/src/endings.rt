@@ -1,8 +1,8 @@
 //! What is left of an output: it is tried once, and the program ends as that goes.
 
-use elf_endings::{Ending, end_answer};
-use elf_fakes::{Printer, Script, Trouble};
-use elf_headers::Stop;
+use elf_endings::{ExitLine, end_answer};
+use elf_fakes::{FaultScript, InjectedFault, ShortWriter};
+use elf_headers::RunFault;
 use elf_source::{OutFault, SourceFault};
 use std::io::{BufWriter, ErrorKind, Write};
 use std::process::Abort;
@@ -10,10 +10,10 @@ use std::process::Abort;
 /// How a program ends whose output has a word left over a printer, and what the printer took.
 fn end(
     rt: &(impl Abort + AllocGlobal),
-    answer: &Result<u8, Stop>,
-    script: &Script,
-) -> (Ending, Vec<u8>) {
-    let printer = Printer::new(9, script, rt.alloc());
+    answer: &Result<u8, RunFault>,
+    script: &FaultScript,
+) -> (ExitLine, Vec<u8>) {
+    let printer = ShortWriter::new(9, script, rt.alloc());
     let mut output = BufWriter::with_capacity(rt.alloc(), 64, printer).expect(rt, "memory");
     assert!(rt; output.write_all(b"left").is_ok());
     let (ending, sink) = end_answer(answer, output);
@@ -22,9 +22,9 @@ fn end(
 
 #[test]
 fn what_is_left_of_an_output_is_tried_once(rt: HostRuntime) {
-    let unwritten = Err(Stop::Out(OutFault { written: 0 }));
+    let unwritten = Err(RunFault::Out(OutFault { written: 0 }));
     let (fault, at) = (SourceFault::Device, 0);
-    let unread = Err(Stop::Source { fault, at });
+    let unread = Err(RunFault::Source { fault, at });
     for (answer, fails, ending, written, calls) in [
         (Ok(0), false, (0, ""), b"left".as_slice(), 1),
         (Ok(0), true, (3, "elfsee: write fault"), b"".as_slice(), 1),
@@ -37,9 +37,9 @@ fn what_is_left_of_an_output_is_tried_once(rt: HostRuntime) {
         ),
         (unread, true, (3, "elfsee: read fault"), b"".as_slice(), 1),
     ] {
-        let script = Script::new();
+        let script = FaultScript::new();
         if fails {
-            script.go_wrong(0, Trouble::Fails(ErrorKind::Other));
+            script.go_wrong(0, InjectedFault::Fails(ErrorKind::Other));
         }
         let ended = end(&rt, &answer, &script);
         assert!(rt;

@@ -1,11 +1,11 @@
 //! A whole listing, and listings whose reads and writes fail in turn.
 
 use crate::requests::{LISTED, carry_out, check_answer, check_outputs, check_reads, listing};
-use elf_fakes::Pieces;
+use elf_fakes::ChunkedReader;
 use elf_fixtures::{
     hash_with_cycle, library_without_sections, note_segment, one_call, one_symbol_table,
 };
-use elf_headers::HeaderRoom;
+use elf_headers::HeaderBuffer;
 use elf_listing::{FIXED_BYTES, SUFFIX_BYTES, VERSION_BYTES};
 use elf_source::{MemorySource, StreamSource};
 use std::process::Abort;
@@ -77,10 +77,10 @@ fn each_write_of_a_listing_fails_in_turn(rt: HostRuntime) -> Result<(), Fail> {
 #[test]
 fn a_stream_lists_as_memory_does(rt: HostRuntime) -> Result<(), Fail> {
     let asked = listing(5, LISTED)?;
-    let mut room = HeaderRoom::new(rt.alloc(), 5)?;
+    let mut room = HeaderBuffer::new(rt.alloc(), 5)?;
     let mut store = room.store();
     let memory = carry_out(&rt, &asked, MemorySource::new(one_call()), &mut store);
-    let source = StreamSource::over(Pieces::new(one_call()))?;
+    let source = StreamSource::over(ChunkedReader::new(one_call()))?;
     let stream = carry_out(&rt, &asked, source, &mut store);
     assert!(rt; stream.text == memory.text && stream.asked == memory.asked);
     Ok(())

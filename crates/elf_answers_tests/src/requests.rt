@@ -3,7 +3,7 @@
 use elf_answers::run;
 use elf_endings::outcome;
 use elf_fakes::FailSource;
-use elf_headers::{Cap, HeaderRoom, HeaderStore, Limits, Stop, Style};
+use elf_headers::{HeaderBuffer, HeaderStore, Limits, NameLimit, RunFault, Style};
 use elf_record::Parts;
 use elf_requests::{Request, Task};
 use elf_source::{Counted, MemorySource, Out, OutFault, SliceSink, Source, SourceFault, WriteSink};
@@ -25,7 +25,7 @@ pub(crate) fn request(headers: u16, task: Task<'_>) -> Result<Request<'_>, Fail>
 
 /// A listing of some parts, with names of 63 bytes.
 pub(crate) fn listing(headers: u16, parts: Parts) -> Result<Request<'static>, Fail> {
-    let style = Style::standard(Cap::new(63).ok_or("cap")?);
+    let style = Style::standard(NameLimit::new(63).ok_or("cap")?);
     request(headers, Task::Show { parts, style })
 }
 
@@ -45,7 +45,7 @@ pub(crate) fn within<'a>(request: &Request<'a>, budget: u64) -> Request<'a> {
 #[derive(Drop)]
 pub(crate) struct Finished {
     pub(crate) text: Vec<u8>,
-    pub(crate) answer: Result<u8, Stop>,
+    pub(crate) answer: Result<u8, RunFault>,
     pub(crate) asked: u128,
     pub(crate) stopped: u64,
 }
@@ -80,7 +80,7 @@ pub(crate) fn check_answer(
     status: u8,
     cost: u128,
 ) -> Result<(), Fail> {
-    let mut room = HeaderRoom::new(rt.alloc(), request.limits.headers)?;
+    let mut room = HeaderBuffer::new(rt.alloc(), request.limits.headers)?;
     let mut store = room.store();
     let finished = carry_out(rt, request, MemorySource::new(file), &mut store);
     assert!(rt;
@@ -102,7 +102,7 @@ pub(crate) fn check_reads(
     offsets: &[u64],
     unwritten: usize,
 ) -> Result<(), Fail> {
-    let mut room = HeaderRoom::new(rt.alloc(), request.limits.headers)?;
+    let mut room = HeaderBuffer::new(rt.alloc(), request.limits.headers)?;
     let mut store = room.store();
     let whole = carry_out(rt, request, MemorySource::new(file), &mut store);
     for (k, at) in offsets.iter().enumerate() {
@@ -110,7 +110,7 @@ pub(crate) fn check_reads(
         let failed = carry_out(rt, request, source, &mut store);
         let (fault, at) = (SourceFault::Device, *at);
         assert!(rt;
-            failed.answer == Err(Stop::Source { fault, at }),
+            failed.answer == Err(RunFault::Source { fault, at }),
             "read {k}"
         );
         assert!(rt; failed.stopped == at, "read {k}");
@@ -133,7 +133,7 @@ pub(crate) fn check_outputs(
     request: &Request<'_>,
     file: &[u8],
 ) -> Result<(), Fail> {
-    let mut room = HeaderRoom::new(rt.alloc(), request.limits.headers)?;
+    let mut room = HeaderBuffer::new(rt.alloc(), request.limits.headers)?;
     let mut store = room.store();
     let whole = carry_out(rt, request, MemorySource::new(file), &mut store).text;
     let mut buffer = [0; 2048];
@@ -145,7 +145,7 @@ pub(crate) fn check_outputs(
         let answer = run(request, &mut src, &mut store, &mut out);
         let written = room as u128;
         assert!(rt;
-            answer == Err(Stop::Out(OutFault { written })),
+            answer == Err(RunFault::Out(OutFault { written })),
             "{room} bytes"
         );
         assert!(rt; outcome(&answer) == (3, "elfsee: write fault"));

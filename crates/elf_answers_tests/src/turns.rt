@@ -3,7 +3,7 @@ use crate::requests::{LISTED, carry_out, listing, request};
 use elf_endings::outcome;
 use elf_fakes::TurnSource;
 use elf_fixtures::{hash_with_cycle, one_symbol_table, overlapping_relocations, with_bytes};
-use elf_headers::HeaderRoom;
+use elf_headers::HeaderBuffer;
 use elf_layout::Layout;
 use elf_model::Format;
 use elf_requests::{Request, Task, checked_name};
@@ -18,7 +18,7 @@ fn check_turns(
     files: (&[u8], &[u8]),
     most: u128,
 ) -> Result<(), Fail> {
-    let mut room = HeaderRoom::new(rt.alloc(), request.limits.headers)?;
+    let mut room = HeaderBuffer::new(rt.alloc(), request.limits.headers)?;
     let mut store = room.store();
     for (first, second) in [files, (files.1, files.0)] {
         let source = TurnSource::new(first, second).ok_or("lengths")?;

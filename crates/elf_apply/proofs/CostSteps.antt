@@ -17,13 +17,13 @@ use Rattle.elf_model.proofs.SumLemmas.{sum_over-le}
 use Rattle.elf_model.proofs.Slices.{field-slice}
 use Rattle.elf_record.specs.Ehdr.{IsEhdr}
 use Rattle.elf_record.specs.declared.ehdr.Ehdr.{Ehdr}
-use Rattle.elf_headers.specs.Load.{Belongs, load_cost}
+use Rattle.elf_headers.specs.Load.{HoldsSectionHeaders, load_cost}
 use Rattle.elf_headers.specs.Store.{row}
-use Rattle.elf_apply.specs.Applied.{StandsFor, passes_cost}
+use Rattle.elf_apply.specs.Applied.{IsApplyTarget, passes_cost}
 use Rattle.elf_apply.specs.Entries.{beside_entry_cost}
 use Rattle.elf_apply.specs.Walk.{entry_count_in, entries_from, sections_of, walk_all}
 use Rattle.elf_apply.specs.Windows.{windows}
-use Rattle.elf_apply.specs.declared.entry.Target.{Target}
+use Rattle.elf_apply.specs.declared.entry.ApplyTarget.{ApplyTarget}
 use Rattle.elf_headers.proofs.LoadLaws.{early_is}
 
 -- how many entries a section has, by its header at an offset of some bytes
@@ -34,7 +34,7 @@ entries_at bytes at section size place =
       | true ↦ elim (first_refusal (table_checks_of bytes at size place 24)) [ Some refusal ↦ 0 | None ↦ entry_count bytes at 24 ]
     ]
 
-in_store : (target : Target) (i place : ℕ) → place ≡ target.file.loaded.header.e_shoff + 64 * i → entry_count_in target i ≡ entries_at (row target.file.store.now i) 0 target.section target.file.loaded.size place
+in_store : (target : ApplyTarget) (i place : ℕ) → place ≡ target.file.loaded.header.e_shoff + 64 * i → entry_count_in target i ≡ entries_at (row target.file.store.now i) 0 target.section target.file.loaded.size place
 unfolding entry_count_in
 in_store target i place here = rw here refl
 
@@ -50,7 +50,7 @@ in_file : (file : List ℕ) (section at : ℕ) → entries_at file at section (l
 unfolding file_entries_in
 in_file file section at = grind (arith, length-places_from)
 
-section_counted : (file : List ℕ) (target : Target) (i : ℕ) → Belongs file target.file.loaded target.file.store.now → i < sections_of target
+section_counted : (file : List ℕ) (target : ApplyTarget) (i : ℕ) → HoldsSectionHeaders file target.file.loaded target.file.store.now → i < sections_of target
     → entry_count_in target i ≡ length (file_entries_in file target.section (section_at file i))
 section_counted file target i belongs below =
     let at : ℕ = section_at file i in
@@ -69,7 +69,7 @@ sum_counted f place amount i (suc n) h =
     omega (arith, one, more, long)
 
 -- the entries that are counted are the file's
-pub entries_are : (file : List ℕ) (target : Target) → Belongs file target.file.loaded target.file.store.now → entries_from target 0 ≡ length (entries_for file target.section)
+pub entries_are : (file : List ℕ) (target : ApplyTarget) → HoldsSectionHeaders file target.file.loaded target.file.store.now → entries_from target 0 ≡ length (entries_for file target.section)
 unfolding entries_from entries_for
 entries_are file target belongs =
     let count : sections_of target ≡ e_shnum file = belongs.count ∙ belongs.header.e_shnum in
@@ -77,7 +77,7 @@ entries_are file target belongs =
     sum_counted (file_entries_in file target.section) (section_at file) (entry_count_in target) 0 (sections_of target - 0) (λ k a b. section_counted file target k belongs (omega arith))
     ∙ ap (λ n. length (flat_map (file_entries_in file target.section) (places_from (section_at file) 0 n))) whole
 
-walk_is : (file : List ℕ) (target : Target) → Belongs file target.file.loaded target.file.store.now → walk_all target ≡ length (entries_for file target.section) * (24 + 24 + layout_names_cost target.layout.now)
+walk_is : (file : List ℕ) (target : ApplyTarget) → HoldsSectionHeaders file target.file.loaded target.file.store.now → walk_all target ≡ length (entries_for file target.section) * (24 + 24 + layout_names_cost target.layout.now)
 unfolding walk_all
 walk_is file target belongs = grind (arith, entries_are file target belongs)
 
@@ -103,13 +103,13 @@ load_within file header size slots section layout passes is same passed =
     grind (arith, early_is file header size slots is same, cost_loaded file slots section layout passes, cost_least file slots section layout passes, first_refusal-none (header_checks file) (early_checks file slots) passed)
 
 -- what a target's passes cost is what the definition has
-pub cost_stands : (file : List ℕ) (headers : ℕ) (target : Target) (at : ℕ) (passes : ℕ) → Belongs file target.file.loaded target.file.store.now → first_refusal (header_checks file ++ early_checks file headers) ≡ None
-    → length (slice file at target.size) ≡ target.size → StandsFor file headers target at
+pub cost_stands : (file : List ℕ) (headers : ℕ) (target : ApplyTarget) (at : ℕ) (passes : ℕ) → HoldsSectionHeaders file target.file.loaded target.file.store.now → first_refusal (header_checks file ++ early_checks file headers) ≡ None
+    → length (slice file at target.size) ≡ target.size → IsApplyTarget file headers target at
     → cost_with file headers target.section target.layout.now passes ≡ 64 + 64 * e_shnum file + passes_cost target passes
 cost_stands file headers target at passes belongs early long stands =
     grind (arith, ap length stands.bytes, walk_is file target belongs, cost_with-passed file headers target.section target.layout.now passes early stands.passed)
 
-pub windows_same : (file : List ℕ) (headers : ℕ) (target : Target) (at : ℕ) → length (slice file at target.size) ≡ target.size → StandsFor file headers target at → window_passes file target.section ≡ 1 + windows target.size
+pub windows_same : (file : List ℕ) (headers : ℕ) (target : ApplyTarget) (at : ℕ) → length (slice file at target.size) ≡ target.size → IsApplyTarget file headers target at → window_passes file target.section ≡ 1 + windows target.size
 windows_same file headers target at long stands = ap (λ n. 1 + (n + 63) / 64) (sym (ap length stands.bytes) ∙ long)
 
 -- For every source: a section has no more entries than the file's size gives.
@@ -119,7 +119,7 @@ table_inside bytes at size place none = grind (arith, nat_tests)
 entries_few : (bytes : List ℕ) (at section size place : ℕ) → entries_at bytes at section size place ≤ size / 24
 entries_few bytes at section size place = grind (arith, table_inside)
 
-pub walk_below : (target : Target) (headers : ℕ) → sections_of target ≤ headers → walk_all target ≤ headers * (target.file.loaded.size / 24 * (48 + layout_names_cost target.layout.now))
+pub walk_below : (target : ApplyTarget) (headers : ℕ) → sections_of target ≤ headers → walk_all target ≤ headers * (target.file.loaded.size / 24 * (48 + layout_names_cost target.layout.now))
 unfolding walk_all entries_from
 walk_below target headers few =
     let n : ℕ = target.file.loaded.size / 24 in
@@ -135,7 +135,7 @@ walk_below target headers few =
     mul_grouped : (a b c : ℕ) → a * b * c ≡ a * (b * c)
     mul_grouped a b c = mul_assoc a b c
 
-pub walk_most : (target : Target) (headers size : ℕ) → sections_of target ≤ headers → target.file.loaded.size ≡ size → walk_all target ≤ headers * (size / 24 * (48 + layout_names_cost target.layout.now))
+pub walk_most : (target : ApplyTarget) (headers size : ℕ) → sections_of target ≤ headers → target.file.loaded.size ≡ size → walk_all target ≤ headers * (size / 24 * (48 + layout_names_cost target.layout.now))
 walk_most target headers size few same =
     let below = walk_below target headers few in
     let moved = ap (λ n. headers * (n / 24 * (48 + layout_names_cost target.layout.now))) same in

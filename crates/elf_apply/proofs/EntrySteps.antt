@@ -1,10 +1,10 @@
 -- What an entry gives.
 use Rattle.std.proofs.Common.{◌≡◌, ℕ, ◌+◌, nat_lt, false, List, Some, Ok, Err, arith}
-use Rattle.elf_model.specs.Apply.{Target, Fails, change_of, entry_checks, named_value}
-use Rattle.elf_model.specs.Placing.{Layout, system_value, located_value, symbol_value, linkage_value, entry_value, base_value, unnamed_value}
+use Rattle.elf_model.specs.Apply.{ApplyTarget, Fails, change_of, entry_checks, named_value}
+use Rattle.elf_model.specs.Placing.{Layout, system_value, section_symbol_value, symbol_value, plt_entry_value, entry_value, base_value, unnamed_value}
 use Rattle.elf_model.specs.Records.{r_offset, r_sym}
-use Rattle.elf_model.specs.declared.relocation_types.Base.{Base}
-use Rattle.elf_model.specs.declared.relocation_types.Base.TheVariants.{Symbol, Linkage, Table, Thread}
+use Rattle.elf_model.specs.declared.relocation_types.RelocationBase.{RelocationBase}
+use Rattle.elf_model.specs.declared.relocation_types.RelocationBase.TheVariants.{Symbol, Linkage, Table, Thread}
 use Rattle.elf_model.specs.declared.relocation_types.RelocationType.{RelocationType}
 use Rattle.elf_model.specs.declared.causes.Refusal.{Refusal}
 use Rattle.elf_headers.specs.declared.fault.Fault.{Fault}
@@ -15,11 +15,11 @@ use Rattle.elf_apply.specs.Entries.{Does, term_of}
 -- a value that is there for one entry is there for each that names the symbol
 module _ (rela rela' v : ℕ) where
   value_again : (file strings : List ℕ) (layout : Layout) (at : ℕ) → symbol_value file strings layout rela at ≡ Ok v → symbol_value file strings layout rela' at ≡ Ok v
-  unfolding symbol_value system_value located_value entry_value
+  unfolding symbol_value system_value section_symbol_value entry_value
   value_again file strings layout at h = grind arith
 
-  linkage_again : (file strings : List ℕ) (layout : Layout) (at : ℕ) → linkage_value file strings layout rela at ≡ Ok v → linkage_value file strings layout rela' at ≡ Ok v
-  unfolding linkage_value
+  linkage_again : (file strings : List ℕ) (layout : Layout) (at : ℕ) → plt_entry_value file strings layout rela at ≡ Ok v → plt_entry_value file strings layout rela' at ≡ Ok v
+  unfolding plt_entry_value
   linkage_again file strings layout at h = grind (arith, value_again)
 
   entry_again :
@@ -29,7 +29,7 @@ module _ (rela rela' v : ℕ) where
   entry_again items file strings at h = grind arith
 
   base_again :
-      (base : Base) (file strings : List ℕ) (layout : Layout) (at : ℕ)
+      (base : RelocationBase) (file strings : List ℕ) (layout : Layout) (at : ℕ)
       → base_value base file strings layout rela at ≡ Ok v → base_value base file strings layout rela' at ≡ Ok v
   unfolding base_value
   base_again Symbol file strings layout at h = value_again file strings layout at h
@@ -37,7 +37,7 @@ module _ (rela rela' v : ℕ) where
   base_again Table file strings layout at h = entry_again layout.table file strings at h
   base_again Thread file strings layout at h = entry_again layout.thread file strings at h
 
-  unnamed_again : (base : Base) → unnamed_value base rela ≡ Ok v → unnamed_value base rela' ≡ Ok v
+  unnamed_again : (base : RelocationBase) → unnamed_value base rela ≡ Ok v → unnamed_value base rela' ≡ Ok v
   unfolding unnamed_value
   unnamed_again Symbol h = h
   unnamed_again Linkage h = h
@@ -45,20 +45,20 @@ module _ (rela rela' v : ℕ) where
   unnamed_again Thread h = absurd (cc)
 
   pub term_again :
-      (t : Target) (header : ℕ) (base : Base) → r_sym t.file rela ≡ r_sym t.file rela'
+      (t : ApplyTarget) (header : ℕ) (base : RelocationBase) → r_sym t.file rela ≡ r_sym t.file rela'
       → term_of base t header rela ≡ Ok v → term_of base t header rela' ≡ Ok v
   unfolding term_of named_value
   term_again t header base named h = grind (arith, base_again, unnamed_again)
 
 -- a symbol without a value refuses the entry
 unnamed :
-    (t : Target) (header rela : ℕ) (type : RelocationType) → nat_lt t.size (r_offset t.file rela + type.width) ≡ false
+    (t : ApplyTarget) (header rela : ℕ) (type : RelocationType) → nat_lt t.size (r_offset t.file rela + type.width) ≡ false
     → (refusal : Refusal) → term_of type.base t header rela ≡ Err refusal → change_of t header rela (Some type) ≡ Fails refusal
 unfolding change_of entry_checks term_of
 unnamed t header rela type within refusal h = grind arith
 
 pub does_unnamed :
-    (t : Target) (header rela : ℕ) (type : RelocationType) (fault : Fault) → nat_lt t.size (r_offset t.file rela + type.width) ≡ false
+    (t : ApplyTarget) (header rela : ℕ) (type : RelocationType) (fault : Fault) → nat_lt t.size (r_offset t.file rela + type.width) ≡ false
     → ValueOrRefusal {X = ℕ} (Err fault) (term_of type.base t header rela) → Does (Err fault) (change_of t header rela (Some type))
 does_unnamed t header rela type (Refused refusal) within h = λ other. unnamed t header rela type within refusal (h other)
 does_unnamed t header rela type (Source fault at) within h = tt

@@ -8,7 +8,7 @@ use Rattle.elf_model.specs.Names.{same}
 use Rattle.elf_model.specs.Placing.{Searched, address_named}
 use Rattle.elf_model.specs.declared.causes.Cause.TheVariants.{NameOutside}
 use Rattle.std.proofs.lemmas.Bool.Decides.{nat_tests}
-use Rattle.elf_source.specs.Source.{Counting, Reads}
+use Rattle.elf_source.specs.Source.{CountedState, ReadsUpTo}
 use Rattle.elf_model.proofs.Slices.{slice-slice, slice-rest}
 
 pub lookup_most : (items : List (List ℕ × ℕ)) → (items ≡ [] → ⊥) → longest items + 1 ≤ lookup_cost Searched items
@@ -17,8 +17,8 @@ lookup_most [] some = absurd (some refl)
 lookup_most (item ∷ items) some = omega arith
 
 -- a looser bound
-pub Reads-more : (a b : Counting) (n k : ℕ) → n ≤ k → Reads a b n → Reads a b k
-Reads-more a b n k within reads = grind arith
+pub ReadsUpTo-more : (a b : CountedState) (n k : ℕ) → n ≤ k → ReadsUpTo a b n → ReadsUpTo a b k
+ReadsUpTo-more a b n k within reads = grind arith
 
 -- so many bytes from an index of a string table on, or all up to its end
 pub front_is : (file : List ℕ) (at size index most n : ℕ) → index < size → n ≡ min (size - index) (most + 1) → slice file (at + index) n ≡ slice (slice file at size) index (most + 1)

@@ -5,7 +5,7 @@ use Rattle.elf_model.specs.Checks.{first_refusal, table_checks_of}
 use Rattle.elf_model.specs.Records.{sh_size}
 use Rattle.elf_model.specs.declared.causes.Refusal.{Refusal}
 use Rattle.elf_model.specs.Bytes.{slice}
-use Rattle.elf_table.specs.Cursors.{Reading, GivesRow, HoldsRows, Advances, ShowsRow}
+use Rattle.elf_table.specs.Cursors.{CursorState, GivesRow, HoldsRows, Advances, ShowsRow}
 use Rattle.elf_table.specs.declared.row.Row.{Row}
 use Rattle.elf_table.specs.Tables.{Rows}
 use Rattle.elf_table.specs.Sections.{table_of}
@@ -19,16 +19,16 @@ pub entries_counted : (bytes : List ℕ) (at size place : ℕ) (table : Rows) �
 entries_counted bytes at size place table h = grind (arith, nat_tests)
 
 -- a step that answered that there is a row gave it
-pub gave : (file : Option (List ℕ)) (old new : Reading) (more : Bool) → more ≡ true → Advances file old new (Ok more) → GivesRow file old new
+pub gave : (file : Option (List ℕ)) (old new : CursorState) (more : Bool) → more ≡ true → Advances file old new (Ok more) → GivesRow file old new
 gave file old new more is steps = rw is at steps
 
 -- the row that a step gave: its index, its bytes and its place
-pub record GivenRow (old : Reading) (row : Row) (file : List ℕ) (size from : ℕ) : Type 0 where
+pub record GivenRow (old : CursorState) (row : Row) (file : List ℕ) (size from : ℕ) : Type 0 where
   pub index : row.index ≡ old.index
   pub bytes : row.bytes.now ≡ slice file row.at size
   pub here : row.at ≡ from + row.index * size
 
-pub given_row : (holds : Option (List ℕ)) (old new : Reading) (row : Row) (file : List ℕ) (table : Rows) (size from : ℕ)
+pub given_row : (holds : Option (List ℕ)) (old new : CursorState) (row : Row) (file : List ℕ) (table : Rows) (size from : ℕ)
     → GivesRow holds old new → ShowsRow new row → holds ≡ Some file → HoldsRows file old → old.table ≡ table → table.entry ≡ size → table.at ≡ from
     → GivenRow old row file size from
 given_row holds old new row file table size from gives lends held agrees same entry at = grind arith

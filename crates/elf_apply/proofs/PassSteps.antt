@@ -5,26 +5,26 @@ use Rattle.std.proofs.lemmas.Bool.{cases_lt}
 use Rattle.std.proofs.lemmas.List.{take_all, nil_from_length}
 use Rattle.std.proofs.lemmas.List.{drop-drop, take-append-drop}
 use borrow.Rule.Slice.PartMut.{put_mid}
-use Rattle.elf_model.specs.Apply.{StoredBytes, Change, Put, Fails, put}
+use Rattle.elf_model.specs.Apply.{StoredBytes, SectionChange, Put, Fails, put}
 use Rattle.elf_model.specs.ApplyLaws.{clipped}
 use Rattle.elf_model.specs.declared.causes.Refusal.{Refusal}
 use Rattle.elf_headers.specs.declared.fault.Fault.{Fault}
 use Rattle.elf_apply.specs.Costs.{ValueOrRefusal}
 use Rattle.elf_apply.specs.Passes.{folded, Folds, ChecksEntries}
 use Rattle.elf_apply.specs.Walk.{changes_left, FindsEntry}
-use Rattle.elf_apply.specs.declared.entry.Target.{Target as TargetCode}
+use Rattle.elf_apply.specs.declared.entry.ApplyTarget.{ApplyTarget as TargetCode}
 use Rattle.elf_apply.specs.declared.walk.Entries.{Entries}
 
 module _ {A : Type 0} (step : A → StoredBytes → A) (value : A) where
-  pub folded-some : (changes rest : List Change) (patch : StoredBytes) (answer : Result A Refusal) → changes ≡ Put patch ∷ rest → folded step value changes ≡ answer → folded step (step value patch) rest ≡ answer
+  pub folded-some : (changes rest : List SectionChange) (patch : StoredBytes) (answer : Result A Refusal) → changes ≡ Put patch ∷ rest → folded step value changes ≡ answer → folded step (step value patch) rest ≡ answer
   unfolding folded
   folded-some changes rest patch answer e h = sym (ap (folded step value) e) ∙ h
 
-  pub folded-none : (changes : List Change) (answer : Result A Refusal) → changes ≡ [] → folded step value changes ≡ answer → answer ≡ Ok value
+  pub folded-none : (changes : List SectionChange) (answer : Result A Refusal) → changes ≡ [] → folded step value changes ≡ answer → answer ≡ Ok value
   unfolding folded
   folded-none changes answer e h = sym h ∙ ap (folded step value) e
 
-  folded-fails : (changes rest : List Change) (refusal : Refusal) (answer : Result A Refusal) → changes ≡ Fails refusal ∷ rest → folded step value changes ≡ answer → answer ≡ Err refusal
+  folded-fails : (changes rest : List SectionChange) (refusal : Refusal) (answer : Result A Refusal) → changes ≡ Fails refusal ∷ rest → folded step value changes ≡ answer → answer ≡ Err refusal
   unfolding folded
   folded-fails changes rest refusal answer e h = sym h ∙ ap (folded step value) e
 

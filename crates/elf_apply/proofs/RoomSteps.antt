@@ -6,18 +6,18 @@ use Rattle.std.proofs.Math.Nat.{mul-le-mul_left}
 use Rattle.std.proofs.lemmas.Bool.{cases_lt}
 use Rattle.std.proofs.lemmas.Bool.Decides.{leb_tells}
 use Rattle.elf_model.specs.ApplyCost.{layout_names_cost}
-use Rattle.elf_source.specs.Output.{Written}
-use Rattle.elf_source.specs.Source.{Seen, Counting, SetsLimit, Reads, left}
-use Rattle.elf_headers.specs.Load.{IsOpen, Opened}
-use Rattle.elf_headers.specs.Store.{Stored}
+use Rattle.elf_source.specs.Output.{OutState}
+use Rattle.elf_source.specs.Source.{SourceState, CountedState, SetsLimit, ReadsUpTo, left}
+use Rattle.elf_headers.specs.Load.{IsOpen, LoadedFile}
+use Rattle.elf_headers.specs.Store.{StoreState}
 use Rattle.elf_apply.specs.Applied.{ApplySays, OverBudget, RoomFor, ReadsWithin, WritesOrWants, write_passes}
 use Rattle.elf_apply.specs.Walk.{entries_from, walk_all}
 use Rattle.elf_apply.specs.Windows.{ApplyFaultSays, NotForBudget, WritesBytes, windows}
-use Rattle.elf_apply.specs.declared.entry.Target.{Target}
-use Rattle.elf_headers.specs.declared.stop.Stop.{Stop}
+use Rattle.elf_apply.specs.declared.entry.ApplyTarget.{ApplyTarget}
+use Rattle.elf_headers.specs.declared.stop.RunFault.{RunFault}
 
 -- what a pass asks for, by the number of entries and what each of them asks for
-walk_by : (target : Target) (entries each : ℕ) → entries ≡ entries_from target 0 → each ≡ 48 + layout_names_cost target.layout.now → entries * each ≡ walk_all target
+walk_by : (target : ApplyTarget) (entries each : ℕ) → entries ≡ entries_from target 0 → each ≡ 48 + layout_names_cost target.layout.now → entries * each ≡ walk_all target
 unfolding walk_all
 walk_by target entries each counted costs = grind arith
 
@@ -43,14 +43,14 @@ sum_least passes exact size most pass walks all p w a over =
     omega (arith, product, w, a, over)
 
 -- what is left of a limit
-left_most : (src : Counting) (bytes most : ℕ) → left src ≡ Some bytes → src.most ≡ Some most → most ≡ src.asked + bytes
+left_most : (src : CountedState) (bytes most : ℕ) → left src ≡ Some bytes → src.most ≡ Some most → most ≡ src.asked + bytes
 left_most src bytes most is set = grind arith
 
-over_left : (src : Counting) (bytes n : ℕ) (most : Option ℕ) → src.most ≡ most → left src ≡ Some bytes → bytes < n → OverBudget src n
+over_left : (src : CountedState) (bytes n : ℕ) (most : Option ℕ) → src.most ≡ most → left src ≡ Some bytes → bytes < n → OverBudget src n
 over_left src bytes n most set is over = grind arith
 
 pub room_for :
-    (src : Counting) (target : Target) (bytes passes entries each size pass walks all : ℕ) → left src ≡ Some bytes → bytes < 2 ^ 64 → entries ≡ entries_from target 0 → each ≡ 48 + layout_names_cost target.layout.now
+    (src : CountedState) (target : ApplyTarget) (bytes passes entries each size pass walks all : ℕ) → left src ≡ Some bytes → bytes < 2 ^ 64 → entries ≡ entries_from target 0 → each ≡ 48 + layout_names_cost target.layout.now
     → pass ≡ min (entries * each) (2 ^ 128 - 1) → walks ≡ min (passes * pass) (2 ^ 128 - 1) → all ≡ min (walks + size) (2 ^ 128 - 1)
     → RoomFor src (passes * walk_all target + size) (leb all bytes)
 room_for src target bytes passes entries each size pass walks all is small counted costs p w a =
@@ -66,7 +66,7 @@ room_for src target bytes passes entries each size pass walks all is small count
     by_test false (inr over) = over_left src bytes _ _ refl is (sum_least passes (entries * each) size bytes pass walks all p w a over.1)
 
 -- a section that a limit has no room for has bytes
-pub some_size : (src : Counting) (rises : Bool) (size walk : ℕ) → OverBudget src (write_passes rises size * walk + size) → 0 < size
+pub some_size : (src : CountedState) (rises : Bool) (size walk : ℕ) → OverBudget src (write_passes rises size * walk + size) → 0 < size
 some_size src rises size walk over = grind arith
 
 -- what the passes that write ask for, by the order of the entries
@@ -76,25 +76,25 @@ pub write_asks :
 write_asks rises size walk before after once all = grind arith
 
 -- a limit was taken away
-module _ (a b : Counting) (bytes : Option ℕ) (limits : SetsLimit a b bytes) where
-  pub open_free : (loaded : Opened) (store : Stored) → IsOpen a loaded store → IsOpen b loaded store
-  open_free loaded store opened = record { size = grind arith; belongs = λ file held. opened.belongs file (ap (λ (s : Seen). s.file) (sym limits.seen) ∙ held) }
+module _ (a b : CountedState) (bytes : Option ℕ) (limits : SetsLimit a b bytes) where
+  pub open_free : (loaded : LoadedFile) (store : StoreState) → IsOpen a loaded store → IsOpen b loaded store
+  open_free loaded store opened = record { size = grind arith; belongs = λ file held. opened.belongs file (ap (λ (s : SourceState). s.file) (sym limits.seen) ∙ held) }
 
   pub spends_free :
-      (d : Counting) (m n : ℕ) → Reads b d m → d.asked ≤ b.asked + n → ((most : ℕ) → a.most ≡ Some most → a.asked + n ≤ most) → ReadsWithin a d n
+      (d : CountedState) (m n : ℕ) → ReadsUpTo b d m → d.asked ≤ b.asked + n → ((most : ℕ) → a.most ≡ Some most → a.asked + n ≤ most) → ReadsWithin a d n
   spends_free d m n reads asked room = grind arith
 
-  pub says_free : {X : Type 0} (d : Counting) (out : Written) (n : ℕ) (result : Result X Stop) → IfErr result (ApplyFaultSays NotForBudget b d out) → IfErr result (ApplySays a d out n)
+  pub says_free : {X : Type 0} (d : CountedState) (out : OutState) (n : ℕ) (result : Result X RunFault) → IfErr result (ApplyFaultSays NotForBudget b d out) → IfErr result (ApplySays a d out n)
   says_free d out n result says = grind arith
 
 -- the same where it is taken away last
-module _ (a b d : Counting) (bytes : Option ℕ) (limits : SetsLimit b d bytes) where
+module _ (a b d : CountedState) (bytes : Option ℕ) (limits : SetsLimit b d bytes) where
   pub spends_last : (n : ℕ) → ReadsWithin a b n → ReadsWithin a d n
   spends_last n spends = grind arith
 
-  pub says_last : {X : Type 0} (out : Written) (n : ℕ) (result : Result X Stop) → IfErr result (ApplySays a b out n) → IfErr result (ApplySays a d out n)
+  pub says_last : {X : Type 0} (out : OutState) (n : ℕ) (result : Result X RunFault) → IfErr result (ApplySays a b out n) → IfErr result (ApplySays a d out n)
   says_last out n result says = grind arith
 
 -- a text that was written, where nothing is refused
-pub never_wants : {X : Type 0} (old new : Written) (result : Result X Stop) (text : List ℕ) → WritesBytes old new result text → WritesOrWants old new result text
+pub never_wants : {X : Type 0} (old new : OutState) (result : Result X RunFault) (text : List ℕ) → WritesBytes old new result text → WritesOrWants old new result text
 never_wants old new result text h = grind arith

@@ -1,26 +1,26 @@
 -- The walk over entries, step by step.
 use Rattle.std.proofs.Common.{◌≡◌, ℕ, suc, ◌+◌, ◌-◌, ◌*◌, ◌<◌, ◌≤◌, true, false, List, [], ◌∷◌, ◌++◌, Option, None, Some, Result, Ok, Err, refl, sym, ap, ◌∙◌, subst, arith, append_assoc}
-use Rattle.elf_model.specs.Apply.{Target, Change, Put, Fails, applies_to, section_changes, entry_changes, places_from}
+use Rattle.elf_model.specs.Apply.{ApplyTarget, SectionChange, Put, Fails, applies_to, section_changes, entry_changes, places_from}
 use Rattle.elf_model.specs.Checks.{first_refusal}
 use Rattle.elf_model.specs.Cost.{sum_over}
 use Rattle.elf_model.specs.Records.{sh_offset, section_at}
 use Rattle.elf_model.specs.Tables.{entry_at, entry_count, relocation_table_checks}
 use Rattle.elf_model.specs.declared.causes.Refusal.{Refusal}
-use Rattle.elf_table.specs.Cursors.{Reading, GivesRow, unread_bytes}
+use Rattle.elf_table.specs.Cursors.{CursorState, GivesRow, unread_bytes}
 use Rattle.elf_headers.specs.Store.{row}
 use Rattle.elf_table.specs.Relocations.{Relocates}
 use Rattle.elf_table.specs.Sections.{table_of}
-use Rattle.elf_table.specs.Tables.{Rows, RowsWithin}
+use Rattle.elf_table.specs.Tables.{Rows, TableInBounds}
 use Rattle.elf_apply.proofs.Opened.{entries_counted}
-use Rattle.elf_source.specs.Source.{Counting, Reads}
-use Rattle.elf_source.proofs.ReadsLaws.{Reads-none, Reads-then, Reads-to}
+use Rattle.elf_source.specs.Source.{CountedState, ReadsUpTo}
+use Rattle.elf_source.proofs.ReadsLaws.{ReadsUpTo-none, ReadsUpTo-then, ReadsUpTo-to}
 use Rattle.elf_headers.specs.Load.{section_place}
 use Rattle.elf_headers.specs.declared.fault.Fault.{Fault}
 use Rattle.elf_headers.specs.declared.fault.Fault.TheVariants.{Refused, Source}
 use Rattle.elf_apply.specs.Entries.{target_as, patch_as, beside_entry_cost, Changes, Refers}
-use Rattle.elf_apply.specs.Walk.{AsksOf, Goes, changes_from, rows_changes, changes_left, changes_all, entry_count_in, entries_from, sections_of, steps_left, walk_left, walk_all, StepsWalk, FindsEntry, ReadsEntries}
+use Rattle.elf_apply.specs.Walk.{AsksOf, IsWalkAlive, changes_from, rows_changes, changes_left, changes_all, entry_count_in, entries_from, sections_of, steps_left, walk_left, walk_all, StepsWalk, FindsEntry, ReadsEntries}
 use Rattle.elf_apply.specs.declared.entry.Placed.{Placed}
-use Rattle.elf_apply.specs.declared.entry.Target.{Target as TargetCode}
+use Rattle.elf_apply.specs.declared.entry.ApplyTarget.{ApplyTarget as TargetCode}
 use Rattle.elf_apply.specs.declared.walk.Entries.{Entries}
 use Rattle.elf_apply.specs.declared.walk.WalkStep.{WalkStep}
 
@@ -58,11 +58,11 @@ unfolding rows_changes places_from
 rows-none file target at i = refl
 
 -- what a section gives
-pub section_none : (t : Target) (at : ℕ) → applies_to t.file t.section at ≡ false → section_changes t at ≡ []
+pub section_none : (t : ApplyTarget) (at : ℕ) → applies_to t.file t.section at ≡ false → section_changes t at ≡ []
 unfolding section_changes
 section_none t at h = rw (h, section_changes) refl
 
-pub section_fault : (t : Target) (at : ℕ) (refusal : Refusal) → applies_to t.file t.section at ≡ true → first_refusal (relocation_table_checks t.file at) ≡ Some refusal → section_changes t at ≡ Fails refusal ∷ []
+pub section_fault : (t : ApplyTarget) (at : ℕ) (refusal : Refusal) → applies_to t.file t.section at ≡ true → first_refusal (relocation_table_checks t.file at) ≡ Some refusal → section_changes t at ≡ Fails refusal ∷ []
 unfolding section_changes
 section_fault t at refusal h f = rw (h, section_changes) (rw (f, section_changes) refl)
 
@@ -92,7 +92,7 @@ left-opened file target old new none step here first counted below are = grind (
 
 -- it was refused
 pub left-refused : (file : List ℕ) (target : TargetCode) (old : Entries) (refusal : Refusal) → old.cursor.left ≡ 0 → old.next < sections_of target
-    → section_changes (target_as file target) (section_at file old.next) ≡ Fails refusal ∷ [] → (rest : List Change) × (changes_left file target old ≡ Fails refusal ∷ rest)
+    → section_changes (target_as file target) (section_at file old.next) ≡ Fails refusal ∷ [] → (rest : List SectionChange) × (changes_left file target old ≡ Fails refusal ∷ rest)
 left-refused file target old refusal none below are = (
   changes_from file target (old.next + 1) (sections_of target - (old.next + 1)),
   left-rows file target old none ∙ (from-next file target old.next (sections_of target) below
@@ -149,7 +149,7 @@ unfolding walk_left
 cost-passed target old new same step below = grind (arith, entries-next)
 
 -- the steps that are left: a section was passed, and has no more rows than the file has bytes
-pub rows-few : (size : ℕ) (table : Rows) → table.entry ≡ 24 → RowsWithin size table → table.count ≤ size
+pub rows-few : (size : ℕ) (table : Rows) → table.entry ≡ 24 → TableInBounds size table → table.count ≤ size
 rows-few size table entry within = grind arith
 
 pub steps-passed : (target : TargetCode) (old new : Entries) → new.next ≡ old.next + 1 → old.next < sections_of target → new.cursor.left ≤ target.file.loaded.size → steps_left target new < steps_left target old
@@ -193,15 +193,15 @@ unfolding walk_left
 unread-left target e = omega arith
 
 -- reads by what was left to ask for
-pub reads-left : {a b : Counting} {n : ℕ} (left left' : ℕ) → Reads a b n → b.asked + left' ≤ a.asked + left → Reads a b left
-reads-left left left' reads account = Reads-to reads (omega (arith, account))
+pub reads-left : {a b : CountedState} {n : ℕ} (left left' : ℕ) → ReadsUpTo a b n → b.asked + left' ≤ a.asked + left → ReadsUpTo a b left
+reads-left left left' reads account = ReadsUpTo-to reads (omega (arith, account))
 
 -- steps one after another
-pub asks-none : (target : TargetCode) (e : Entries) (a : Counting) → AsksOf a a target e e
-asks-none target e a = record { reads = Reads-none a (walk_left target e); account = omega arith }
+pub asks-none : (target : TargetCode) (e : Entries) (a : CountedState) → AsksOf a a target e e
+asks-none target e a = record { reads = ReadsUpTo-none a (walk_left target e); account = omega arith }
 
-pub asks-then : {target : TargetCode} {old mid new : Entries} {a b c : Counting} → AsksOf a b target old mid → AsksOf b c target mid new → AsksOf a c target old new
-asks-then p q = record { reads = Reads-to (Reads-then p.reads q.reads) (omega (arith, p.account, q.account)); account = omega (arith, p.account, q.account) }
+pub asks-then : {target : TargetCode} {old mid new : Entries} {a b c : CountedState} → AsksOf a b target old mid → AsksOf b c target mid new → AsksOf a c target old new
+asks-then p q = record { reads = ReadsUpTo-to (ReadsUpTo-then p.reads q.reads) (omega (arith, p.account, q.account)); account = omega (arith, p.account, q.account) }
 
 pub finds-fault : (file : List ℕ) (target : TargetCode) (old mid new : Entries) (fault : Fault) → changes_left file target old ≡ changes_left file target mid
     → StepsWalk file target mid new (Err fault) → FindsEntry file target old new (Err fault)
@@ -209,14 +209,14 @@ finds-fault file target old mid new (Refused refusal) same walked = λ other. le
 finds-fault file target old mid new (Source fault at) same walked = tt
 
 -- a row was read, and then what is beside it
-pub row-asks : (target : TargetCode) (old new : Entries) (a b c : Counting) → new.next ≡ old.next → old.cursor.failed ≡ None → new.cursor.failed ≡ None → new.cursor.left + 1 ≡ old.cursor.left
-    → Reads a b (unread_bytes old.cursor) → b.asked + unread_bytes new.cursor ≤ a.asked + unread_bytes old.cursor → Reads b c (beside_entry_cost target) → AsksOf a c target old new
+pub row-asks : (target : TargetCode) (old new : Entries) (a b c : CountedState) → new.next ≡ old.next → old.cursor.failed ≡ None → new.cursor.failed ≡ None → new.cursor.left + 1 ≡ old.cursor.left
+    → ReadsUpTo a b (unread_bytes old.cursor) → b.asked + unread_bytes new.cursor ≤ a.asked + unread_bytes old.cursor → ReadsUpTo b c (beside_entry_cost target) → AsksOf a c target old new
 row-asks target old new a b c same f f' less reads account own =
     let all = cost-row target old new a.asked b.asked c.asked same f f' less account own.at_most in
-    record { reads = reads-left (walk_left target old) (walk_left target new) (Reads-then reads own) all; account = all }
+    record { reads = reads-left (walk_left target old) (walk_left target new) (ReadsUpTo-then reads own) all; account = all }
 
 pub row-goes : (size : ℕ) (target : TargetCode) (holds : Option (List ℕ)) (old new : Entries) → GivesRow holds old.cursor new.cursor → new.next ≡ old.next → new.count ≡ old.count → new.symbols.linked ≡ old.symbols.linked
-    → Goes size target old → Goes size target new
+    → IsWalkAlive size target old → IsWalkAlive size target new
 row-goes size target holds old new gives next count linked goes = record {
   not_failed = gives.still_not_failed;
   entry = ap (λ (t : Rows). t.entry) gives.same_table ∙ goes.entry;
@@ -226,8 +226,8 @@ row-goes size target holds old new gives next count linked goes = record {
   few = omega (arith, goes.few);
 }
 
-pub goes-same : (size size' : ℕ) (target : TargetCode) (old : Entries) (cursor : Reading) → size' ≡ size → cursor ≡ old.cursor → Goes size target old
-    → Goes size' target (record { cursor = cursor; symbols = old.symbols; current = old.current; next = old.next; count = old.count })
+pub goes-same : (size size' : ℕ) (target : TargetCode) (old : Entries) (cursor : CursorState) → size' ≡ size → cursor ≡ old.cursor → IsWalkAlive size target old
+    → IsWalkAlive size' target (record { cursor = cursor; symbols = old.symbols; current = old.current; next = old.next; count = old.count })
 goes-same size size' target old cursor sized same goes = rw (sized, same) goes
 
 pub steps-row : (target : TargetCode) (old new : Entries) → new.next ≡ old.next → new.cursor.left + 1 ≡ old.cursor.left → steps_left target new < steps_left target old
@@ -235,16 +235,16 @@ unfolding steps_left
 steps-row target old new next less = rw next (omega arith)
 
 -- the source failed before a row
-pub fault-asks : (target : TargetCode) (old new : Entries) (a b : Counting) (fault : Fault) → new.next ≡ old.next → new.cursor.failed ≡ Some fault
-    → Reads a b (unread_bytes old.cursor) → b.asked + unread_bytes new.cursor ≤ a.asked + unread_bytes old.cursor → AsksOf a b target old new
+pub fault-asks : (target : TargetCode) (old new : Entries) (a b : CountedState) (fault : Fault) → new.next ≡ old.next → new.cursor.failed ≡ Some fault
+    → ReadsUpTo a b (unread_bytes old.cursor) → b.asked + unread_bytes new.cursor ≤ a.asked + unread_bytes old.cursor → AsksOf a b target old new
 fault-asks target old new a b fault next failed reads account =
     let all = cost-fault target old new a.asked b.asked fault next failed account in
     record { reads = reads-left (walk_left target old) (walk_left target new) reads all; account = all }
 
 -- no row is left: what the step to the next section did
-pub end-asks : (target : TargetCode) (old new : Entries) (a b : Counting) (cursor : Reading) → cursor ≡ old.cursor
+pub end-asks : (target : TargetCode) (old new : Entries) (a b : CountedState) (cursor : CursorState) → cursor ≡ old.cursor
     → walk_left target new ≤ walk_left target (record { cursor = cursor; symbols = old.symbols; current = old.current; next = old.next; count = old.count })
-    → Reads a b (unread_bytes old.cursor) → b.asked + unread_bytes cursor ≤ a.asked + unread_bytes old.cursor → AsksOf a b target old new
+    → ReadsUpTo a b (unread_bytes old.cursor) → b.asked + unread_bytes cursor ≤ a.asked + unread_bytes old.cursor → AsksOf a b target old new
 end-asks target old new a b cursor same fewer reads account =
     let left : walk_left target new ≤ walk_left target old = rw same at fewer in
     let none : b.asked ≤ a.asked = omega (arith, account, ap unread_bytes same) in
@@ -273,8 +273,8 @@ reads-row file target holds old new gives held here reads refers = record {
   placed = λ some. ap (λ (t : Rows). t.at) gives.same_table ∙ (reads.placed (omega (arith, some, gives.one_less)) ∙ ap (λ k. sh_offset file (section_at file k)) (sym here));
 }
 
-pub same-walked : (file : List ℕ) (target : TargetCode) (old new : Entries) (cursor : Reading) (result : Result WalkStep Fault) → cursor ≡ old.cursor
+pub same-walked : (file : List ℕ) (target : TargetCode) (old new : Entries) (cursor : CursorState) (result : Result WalkStep Fault) → cursor ≡ old.cursor
     → (let now : Entries = record { cursor = cursor; symbols = old.symbols; current = old.current; next = old.next; count = old.count } in ReadsEntries file target now → StepsWalk file target now new result) → ReadsEntries file target old → StepsWalk file target old new result
 same-walked file target old new cursor result same walked reads =
-    let P : Reading → Type 0 = λ c. (let now : Entries = record { cursor = c; symbols = old.symbols; current = old.current; next = old.next; count = old.count } in ReadsEntries file target now → StepsWalk file target now new result) in
+    let P : CursorState → Type 0 = λ c. (let now : Entries = record { cursor = c; symbols = old.symbols; current = old.current; next = old.next; count = old.count } in ReadsEntries file target now → StepsWalk file target now new result) in
     subst P same walked (record { agrees = reads.agrees; links = reads.links; placed = reads.placed })

@@ -1,6 +1,6 @@
 -- The definitions that functions calculate, opened for their checks.
 use Rattle.elf_model.specs.Apply.{apply_checks, held_bytes, entry_changes, change_of, entry_checks, named_value}
-use Rattle.elf_model.specs.Placing.{system_value, entry_value, symbol_value, linkage_value, base_value, place_value}
+use Rattle.elf_model.specs.Placing.{system_value, entry_value, symbol_value, plt_entry_value, base_value, place_value}
 use Rattle.elf_model.specs.Values.{patch_of, whole}
 use Rattle.elf_model.specs.ApplyCost.{layout_names_cost}
 use Rattle.elf_layout.specs.Layouts.{names_for}
@@ -37,7 +37,7 @@ value = tt
 
 -- L
 unfoldable pub linkage : Unit {0}
-unfolding linkage_value symbol_value system_value entry_value layout_names_cost names_for
+unfolding plt_entry_value symbol_value system_value entry_value layout_names_cost names_for
 linkage = tt
 
 -- P

@@ -1,62 +1,62 @@
 -- One pass over entries whose offsets never fall: what is held, and how far the section has come.
 use Rattle.std.specs.Prelude.{ℕ, ◌≡◌, ◌+◌, ◌^◌, ◌<◌, ◌≤◌, List, [], ◌∷◌, length, take, drop, None, Some, Ok}
-use Rattle.elf_model.specs.Apply.{StoredBytes, Change, patches_of, patched}
+use Rattle.elf_model.specs.Apply.{StoredBytes, SectionChange, patches_of, patched}
 use Rattle.elf_model.specs.ApplyLaws.{AllInside}
 use Rattle.elf_model.specs.Bytes.{slice}
-use Rattle.elf_source.specs.Output.{Written, Takes}
-use Rattle.elf_source.specs.Source.{Counting}
+use Rattle.elf_source.specs.Output.{OutState, SinkTakes}
+use Rattle.elf_source.specs.Source.{CountedState}
 
 -- bytes of the section from an offset on, which were read and are not written yet
-pub record Holding : Type 0 where
+pub record PendingState : Type 0 where
   pub low : ℕ
   pub bytes : List ℕ
 
 -- what is held is these bytes, from this offset on
-pub record IsHeldFrom (h : Holding) (begin : ℕ) (text : List ℕ) : Type 0 where
+pub record IsHeldFrom (h : PendingState) (begin : ℕ) (text : List ℕ) : Type 0 where
   pub low : h.low ≡ begin
   pub bytes : h.bytes ≡ text
 
 -- where they end
-abbrev pub end_of : Holding → ℕ
+abbrev pub end_of : PendingState → ℕ
 end_of h = h.low + length h.bytes
 
 -- what is held is a part of the section as it is now, of which all that stands behind it is as it was
-pub record Midway (base now : List ℕ) (h : Holding) : Type 0 where
+pub record IsPartlyWritten (base now : List ℕ) (h : PendingState) : Type 0 where
   pub long : length now ≡ length base
   pub within : h.low + length h.bytes ≤ length base
   pub held : h.bytes ≡ slice now h.low (length h.bytes)
   pub rest : drop (h.low + length h.bytes) now ≡ drop (h.low + length h.bytes) base
 
 -- patches whose offsets never fall, the first at or behind an offset
-unfoldable pub OffsetsRise : ℕ → List StoredBytes → Type 0
-OffsetsRise low [] = Unit {0}
-OffsetsRise low (patch ∷ patches) = (low ≤ patch.at) × OffsetsRise patch.at patches
+unfoldable pub OffsetsAscend : ℕ → List StoredBytes → Type 0
+OffsetsAscend low [] = Unit {0}
+OffsetsAscend low (patch ∷ patches) = (low ≤ patch.at) × OffsetsAscend patch.at patches
 
 -- for the section as it is now: what stands before the bytes that are held was written, and the changes that are left
 -- make the text of it
-pub record UnderWay (base text : List ℕ) (h : Holding) (left : List Change) (old new : Written) : Type 0 where
+pub record UnderWay (base text : List ℕ) (h : PendingState) (left : List SectionChange) (old new : OutState) : Type 0 where
   pub now : List ℕ
-  pub midway : Midway base now h
+  pub midway : IsPartlyWritten base now h
   pub patches : List StoredBytes
   pub are : patches_of left ≡ Ok patches
   pub inside : AllInside (length base) patches
-  pub rises : OffsetsRise h.low patches
+  pub rises : OffsetsAscend h.low patches
   pub ends : patched patches now ≡ text
-  pub takes : Takes old new (take h.low now)
+  pub takes : SinkTakes old new (take h.low now)
 
 -- where what is held is a part of a section of so many bytes at an offset, this holds of the section's bytes in the file
 -- and of those that it has now
-abbrev pub OfHeld : Counting → ℕ → ℕ → Holding → (List ℕ → List ℕ → Type 0) → Type 0
+abbrev pub OfHeld : CountedState → ℕ → ℕ → PendingState → (List ℕ → List ℕ → Type 0) → Type 0
 OfHeld src at size h Text =
-    (file : List ℕ) → src.seen.file ≡ Some file → (now : List ℕ) → at + size ≤ length file → Midway (slice file at size) now h → Text (slice file at size) now
+    (file : List ℕ) → src.seen.file ≡ Some file → (now : List ℕ) → at + size ≤ length file → IsPartlyWritten (slice file at size) now h → Text (slice file at size) now
 
 -- what was read further is held: it ends within so many bytes, and no more was asked for
-pub record HoldsOn (before after : Counting) (old new : Holding) (size : ℕ) : Type 0 where
+pub record HoldsOn (before after : CountedState) (old new : PendingState) (size : ℕ) : Type 0 where
   pub within : end_of new ≤ size
   pub asked : after.asked + end_of old ≤ before.asked + end_of new
 
 -- so many bytes at an offset may be read: no limit is set, and they lie within the source, whose offsets fit
-pub record MayRead (src : Counting) (at n : ℕ) : Type 0 where
+pub record MayRead (src : CountedState) (at n : ℕ) : Type 0 where
   pub free : src.most ≡ None
   pub within : at + n ≤ src.seen.size
   pub fits : src.seen.size < 2 ^ 64

@@ -1,18 +1,18 @@
 -- What the passes over the entries calculate of the list of changes.
 use Rattle.std.specs.Prelude.{ℕ, ◌≡◌, ◌+◌, ◌^◌, ◌<◌, ◌≤◌, ◌&&◌, nat_le, Bool, List, [], ◌∷◌, Result, Ok, Err}
-use Rattle.elf_model.specs.Apply.{StoredBytes, Change, Put, Fails, put}
+use Rattle.elf_model.specs.Apply.{StoredBytes, SectionChange, Put, Fails, put}
 use Rattle.elf_model.specs.ApplyLaws.{clipped}
-use Rattle.elf_model.specs.Budget.{IsBudget}
+use Rattle.elf_model.specs.Budget.{IsBudgetRefusal}
 use Rattle.elf_model.specs.declared.causes.Refusal.{Refusal}
-use Rattle.elf_source.specs.Source.{Counting}
+use Rattle.elf_source.specs.Source.{CountedState}
 use Rattle.elf_headers.specs.Load.{IsOpen}
 use Rattle.elf_headers.specs.declared.fault.Fault.{Fault}
 use Rattle.elf_headers.specs.declared.fault.Fault.TheVariants.{Refused, Source}
-use Rattle.elf_apply.specs.declared.entry.Target.{Target}
+use Rattle.elf_apply.specs.declared.entry.ApplyTarget.{ApplyTarget}
 use Rattle.elf_apply.specs.declared.passes.Checked.{Checked}
 
 -- what comes of a value by a step for each patch, or the first fault
-unfoldable pub folded : {A : Type 0} → (A → StoredBytes → A) → A → List Change → Result A Refusal
+unfoldable pub folded : {A : Type 0} → (A → StoredBytes → A) → A → List SectionChange → Result A Refusal
 folded step value [] = Ok value
 folded step value (Put patch ∷ changes) = folded step (step value patch) changes
 folded step value (Fails refusal ∷ changes) = Err refusal
@@ -28,18 +28,18 @@ storing low n window patch = put (clipped low n patch) window
 -- a pass has a value, or the first fault, unless it is refused for want of budget
 abbrev pub Folds : {X A : Type 0} → Result X Fault → A → Result A Refusal → Type 0
 Folds (Ok x) value answer = answer ≡ Ok value
-Folds (Err (Refused refusal)) value answer = (IsBudget refusal → ⊥) → answer ≡ Err refusal
+Folds (Err (Refused refusal)) value answer = (IsBudgetRefusal refusal → ⊥) → answer ≡ Err refusal
 Folds (Err (Source fault at)) value answer = Unit {0}
 
 -- the entries were checked: whether their offsets never fall, and the last one; or the first fault, unless it is refused for
 -- want of budget
 abbrev pub ChecksEntries : Result Checked Fault → Result (Bool × ℕ) Refusal → Type 0
 ChecksEntries (Ok found) answer = answer ≡ Ok (found.rises, found.low)
-ChecksEntries (Err (Refused refusal)) answer = (IsBudget refusal → ⊥) → answer ≡ Err refusal
+ChecksEntries (Err (Refused refusal)) answer = (IsBudgetRefusal refusal → ⊥) → answer ≡ Err refusal
 ChecksEntries (Err (Source fault at)) answer = Unit {0}
 
 -- a window of n bytes at an offset may be patched: it lies inside the section, and the entries may be read
-pub record MayPatch (src : Counting) (target : Target) (low n : ℕ) : Type 0 where
+pub record MayPatch (src : CountedState) (target : ApplyTarget) (low n : ℕ) : Type 0 where
   pub opened : IsOpen src target.file.loaded target.file.store.now
   pub within : low + n ≤ target.size
   pub fits : target.size < 2 ^ 64

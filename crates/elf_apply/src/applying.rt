@@ -4,23 +4,23 @@ ghost use Rattle.std.specs.Prelude.{List, length, None, Some, IfOk, IfErr};
 ghost use Rattle.elf_model.specs.Apply.{applied, has_no_bytes, is_compressed};
 ghost use Rattle.elf_model.specs.ApplyCost.{apply_cost_by_order, entries_for};
 ghost use Rattle.elf_record.specs.Shdr.{IsShdr};
-ghost use Rattle.elf_source.specs.Growth.{Grows};
+ghost use Rattle.elf_source.specs.Growth.{OutGrows};
 ghost use Rattle.elf_headers.specs.Faults.{IsOfCheck};
-ghost use Rattle.elf_headers.specs.Load.{Belongs};
+ghost use Rattle.elf_headers.specs.Load.{HoldsSectionHeaders};
 ghost use Rattle.elf_apply.specs.Applied.{Applies, AppliesFile, AppliesLoaded, AppliesTarget};
 ghost use Rattle.elf_apply.specs.Applied.{ApplySays, HasSection, HeldIs, MayApply, RoomFor};
-ghost use Rattle.elf_apply.specs.Applied.{ReadsWithin, WantsBudget, WritesWithin, WroteMost};
+ghost use Rattle.elf_apply.specs.Applied.{ReadsWithin, BudgetTooSmall, WritesWithin, WroteMost};
 ghost use Rattle.elf_apply.specs.Applied.{apply_ceiling, passes_cost, write_passes};
-ghost use Rattle.elf_apply.specs.InOrder.{OffsetsRise};
+ghost use Rattle.elf_apply.specs.InOrder.{OffsetsAscend};
 ghost use Rattle.elf_apply.specs.Walk.{entries_from, walk_all};
 ghost use Rattle.elf_apply.specs.Windows.{Copies, MayWrite, NotForBudget, OfPatches, WritesBytes};
 ghost use Rattle.elf_apply.specs.Windows.{windows};
 
-use crate::entry::Target;
-use crate::in_order::write_in_order;
+use crate::entry::ApplyTarget;
+use crate::in_order::write_one_pass;
 use crate::passes::{Checked, check};
-use crate::windows::write_windows;
-use elf_headers::{Fault, HeaderStore, Loaded, Stop, ends_outside, header, load, refused};
+use crate::windows::write_by_windows;
+use elf_headers::{Fault, HeaderStore, Loaded, RunFault, ends_outside, header, load, refused};
 use elf_layout::{Addresses, Layout};
 use elf_record::numbers::{EM_X86_64, ET_REL, SHT_NOBITS, SHT_NULL};
 use elf_record::{Cause, Refusal, SectionFlags, Shdr};
@@ -42,7 +42,7 @@ pub struct Applied {
 fn held(file: &File<'_>, section: u16) -> Result<(u64, u64), Fault>
     ensures refusal { IfErr result IsOfCheck }
     ensures within { IfOk result (λ found. found.0 + found.1 ≤ file.now.loaded.size) }
-    ensures held { (bytes : List ℕ) → Belongs bytes file.now.loaded file.now.store.now →
+    ensures held { (bytes : List ℕ) → HoldsSectionHeaders bytes file.now.loaded file.now.store.now →
         HeldIs bytes section result }
 {
     let header = file.loaded.header();
@@ -97,24 +97,24 @@ fn is_compressed(header: &Shdr) -> bool
 /// the entries never fall, else window by window.
 fn write_section<S: Source, W: Sink>(
     src: &mut Counted<S>,
-    target: &Target<'_>,
+    target: &ApplyTarget<'_>,
     at: u64,
     rises: bool,
     out: &mut Out<W>,
-) -> Result<(), Stop>
+) -> Result<(), RunFault>
     requires { MayWrite src.old target.now at src.old.seen.size }
     ensures once { rises ≡ true →
         src.new.asked ≤ src.old.asked + (walk_all target.now + target.now.size) }
     ensures did { Copies src.old src.new out.old out.new result NotForBudget
         (windows target.now.size * walk_all target.now + target.now.size) target.now.size }
     ensures text { (file : List ℕ) → src.old.seen.file ≡ Some file → OfPatches target.now at
-        (λ patches text. (rises ≡ true → OffsetsRise 0 patches) →
+        (λ patches text. (rises ≡ true → OffsetsAscend 0 patches) →
         WritesBytes out.old out.new result text) file }
 {
     if rises && target.size > 0 {
-        return write_in_order(src, target, at, out);
+        return write_one_pass(src, target, at, out);
     }
-    write_windows(src, target, at, out)
+    write_by_windows(src, target, at, out)
 }
 
 /// How many passes through the entries write so many bytes: one for each window, and at most one
@@ -127,7 +127,7 @@ fn write_passes(rises: bool, size: u64) -> u64
 }
 
 /// Whether what is left of a limit has room for what the passes that write may ask for at most.
-fn has_room<S: Source>(src: &Counted<S>, target: &Target<'_>, checked: &Checked) -> bool
+fn has_room<S: Source>(src: &Counted<S>, target: &ApplyTarget<'_>, checked: &Checked) -> bool
     requires { checked.now.entries ≡ entries_from target.now 0 }
     ensures { RoomFor src.now (passes_cost target.now
         (write_passes checked.now.rises target.now.size)) result }
@@ -146,17 +146,17 @@ fn has_room<S: Source>(src: &Counted<S>, target: &Target<'_>, checked: &Checked)
 /// away, as the passes ask for no more than it has left.
 fn write_checked<S: Source, W: Sink>(
     src: &mut Counted<S>,
-    target: &Target<'_>,
+    target: &ApplyTarget<'_>,
     at: u64,
     checked: &Checked,
     out: &mut Out<W>,
-) -> Result<(), Stop>
+) -> Result<(), RunFault>
     requires may { HasSection src.old target.now at }
     requires counted { checked.now.entries ≡ entries_from target.now 0 }
     ensures { WritesWithin src.old src.new out.old out.new result target.now at checked.now.rises }
 {
     if !has_room(src, target, checked) {
-        return Err(Stop::Refused(Refusal {
+        return Err(RunFault::Refused(Refusal {
             at,
             cause: Cause::Budget,
         }));
@@ -168,10 +168,10 @@ fn write_checked<S: Source, W: Sink>(
 /// Checks all entries, and then writes the section, whose bytes stand at the file offset `at`.
 fn apply_target<S: Source, W: Sink>(
     src: &mut Counted<S>,
-    target: &Target<'_>,
+    target: &ApplyTarget<'_>,
     at: u64,
     out: &mut Out<W>,
-) -> Result<Applied, Stop>
+) -> Result<Applied, RunFault>
     requires { HasSection src.old target.now at }
     ensures { AppliesTarget src.old src.new out.old out.new result target.now at }
 {
@@ -191,14 +191,14 @@ fn apply_loaded<S: Source, W: Sink>(
     section: u16,
     layout: &Addresses<'_>,
     out: &mut Out<W>,
-) -> Result<Applied, Stop>
+) -> Result<Applied, RunFault>
     requires { MayApply src.old loaded store.now }
     ensures { AppliesLoaded src.old src.new out.old out.new result store.now.slots section
         layout.now }
 {
     let file = File { loaded, store };
     let found = held(&file, section)?;
-    let target = Target {
+    let target = ApplyTarget {
         file,
         layout,
         section,
@@ -234,7 +234,7 @@ pub fn apply<S: Source, W: Sink>(
     section: u16,
     layout: &Layout,
     out: &mut Out<W>,
-) -> Result<Applied, Stop>
+) -> Result<Applied, RunFault>
     ensures slots { store.new.slots ≡ store.old.slots }
     ensures says { IfErr result (ApplySays src.old src.new out.new
         (apply_ceiling src.old.seen.size store.old.slots layout.now)) }
@@ -243,14 +243,14 @@ pub fn apply<S: Source, W: Sink>(
         (applied file store.old.slots section layout.now) }
     // Never for want of budget where the cost fits.
     ensures enough { (file : List ℕ) → src.old.seen.file ≡ Some file → IfErr result
-        (WantsBudget src.old (apply_cost_by_order file store.old.slots section layout.now)) }
+        (BudgetTooSmall src.old (apply_cost_by_order file store.old.slots section layout.now)) }
     ensures cost { (file : List ℕ) → src.old.seen.file ≡ Some file → src.new.asked
         ≤ src.old.asked + apply_cost_by_order file store.old.slots section layout.now }
     // For every source; never past a limit that was set.
     ensures reads { ReadsWithin src.old src.new
         (apply_ceiling src.old.seen.size store.old.slots layout.now) }
     ensures free { src.new.most ≡ None }
-    ensures grows { Grows out.old out.new }
+    ensures grows { OutGrows out.old out.new }
     ensures wrote { WroteMost out.old out.new result src.old.seen.size }
 {
     apply_with(src, store, section, &Addresses::fixed(layout), out)
@@ -264,7 +264,7 @@ pub fn apply_with<S: Source, W: Sink>(
     section: u16,
     layout: &Addresses<'_>,
     out: &mut Out<W>,
-) -> Result<Applied, Stop>
+) -> Result<Applied, RunFault>
     ensures slots { store.new.slots ≡ store.old.slots }
     ensures applies { AppliesFile src.old src.new out.old out.new result store.old.slots section
         layout.now }
@@ -282,7 +282,7 @@ fn apply_within<S: Source, W: Sink>(
     section: u16,
     layout: &Addresses<'_>,
     out: &mut Out<W>,
-) -> Result<Applied, Stop>
+) -> Result<Applied, RunFault>
     ensures slots { store.new.slots ≡ store.old.slots }
     ensures applies { AppliesFile src.old src.new out.old out.new result store.old.slots section
         layout.now }

@@ -7,46 +7,48 @@ ghost use Rattle.elf_model.specs.Values.{kind_of};
 ghost use Rattle.elf_model.specs.declared.causes.Cause.TheVariants.{Unplaced};
 ghost use Rattle.elf_reloc.specs.Types.{IsSized, IsWidth};
 ghost use Rattle.elf_record.specs.Rela.{IsRela};
-ghost use Rattle.elf_headers.specs.Ledger.{Did, why_stopped};
+ghost use Rattle.elf_headers.specs.Ledger.{CallDid, fault_of_result};
 ghost use Rattle.elf_table.specs.Relocations.{RefersTo};
-ghost use Rattle.elf_table.specs.Tables.{SymbolsWithin};
+ghost use Rattle.elf_table.specs.Tables.{SymbolTableInBounds};
 ghost use Rattle.elf_apply.specs.Costs.{AnswersUnread, ValueOrRefusal};
 ghost use Rattle.elf_apply.specs.Entries.{Changes, DidFor, Does, IsPlacedInside};
 ghost use Rattle.elf_apply.specs.Entries.{beside_entry_cost, taken_place, target_as, term_of};
 ghost use Rattle.elf_apply.specs.Entries.{value_or};
 
-use crate::lookup::{SymbolAt, base_value};
+use crate::lookup::{SymbolEntry, base_value};
 use elf_headers::{Fault, refused};
 use elf_layout::Addresses;
 use elf_record::numbers::R_X86_64_NONE;
 use elf_record::{Cause, Rela};
-use elf_reloc::{Base, Formula, Patch, RelocationType, patch_of, relocation_type, takes_place};
+use elf_reloc::{
+    Formula, Patch, RelocationBase, RelocationType, patch_of, relocation_type, takes_place,
+};
 use elf_source::{Counted, Source};
 use elf_table::{File, Names, Table};
 
 /// Symbols with the string table of their names.
-pub(crate) type Linked = Option<(Table, Names)>;
+pub(crate) type LinkedSymbolTable = Option<(Table, Names)>;
 
 /// The address of a symbol that an entry took, by its type's base.
 #[derive(Clone, Copy)]
-pub(crate) struct Taken {
+pub(crate) struct CachedAddress {
     pub(crate) symbol: u32,
-    pub(crate) base: Base,
+    pub(crate) base: RelocationBase,
     pub(crate) value: u64,
 }
 
 /// The symbols that the entries of a section refer to, and the address that the last of them took.
 /// An entry that takes the same reads nothing for it.
 #[derive(Clone, Copy)]
-pub(crate) struct EntrySymbols {
-    pub(crate) linked: Linked,
-    pub(crate) last: Option<Taken>,
+pub(crate) struct RelocationSymbols {
+    pub(crate) linked: LinkedSymbolTable,
+    pub(crate) last: Option<CachedAddress>,
 }
 
 /// What relocations are applied to: a section of a loaded file, of which it holds `size` bytes,
 /// with the addresses that are given.
 #[derive(Clone, Copy)]
-pub(crate) struct Target<'a> {
+pub(crate) struct ApplyTarget<'a> {
     pub(crate) file: File<'a>,
     pub(crate) layout: &'a Addresses<'a>,
     pub(crate) section: u16,
@@ -67,14 +69,14 @@ pub(crate) struct Placed {
 #[tactic(auto, unfolding(crate::proofs::Words::entry))]
 pub(crate) fn entry_change<S: Source>(
     src: &mut Counted<S>,
-    target: &Target<'_>,
+    target: &ApplyTarget<'_>,
     entry: &Rela,
     at: u64,
-    symbols: &mut EntrySymbols,
+    symbols: &mut RelocationSymbols,
 ) -> Result<Option<Placed>, Fault>
-    requires within { IfSome symbols.old.linked (SymbolsWithin src.old.seen.size) }
+    requires within { IfSome symbols.old.linked (SymbolTableInBounds src.old.seen.size) }
     ensures inside { IfOk result (λ found. IfSome found (IsPlacedInside target.now.size)) }
-    ensures did { DidFor src.old src.new target.now symbols.old symbols.new (why_stopped result)
+    ensures did { DidFor src.old src.new target.now symbols.old symbols.new (fault_of_result result)
         (λ file. IsRela file at entry.now)
         (λ file header. Changes result (entry_changes (target_as file target.now) header at)) }
 {
@@ -107,17 +109,17 @@ fn based_type(layout: &Addresses<'_>, kind: u32) -> Option<RelocationType>
 #[tactic(auto, unfolding(crate::proofs::Words::typed))]
 fn stored<S: Source>(
     src: &mut Counted<S>,
-    target: &Target<'_>,
+    target: &ApplyTarget<'_>,
     entry: &Rela,
     at: u64,
-    symbols: &mut EntrySymbols,
+    symbols: &mut RelocationSymbols,
     found: RelocationType,
 ) -> Result<Placed, Fault>
-    requires within { IfSome symbols.old.linked (SymbolsWithin src.old.seen.size) }
+    requires within { IfSome symbols.old.linked (SymbolTableInBounds src.old.seen.size) }
     requires width { IsWidth found.width }
     requires sized { IsSized found.range found.width }
     ensures inside { IfOk result (IsPlacedInside target.now.size) }
-    ensures did { DidFor src.old src.new target.now symbols.old symbols.new (why_stopped result)
+    ensures did { DidFor src.old src.new target.now symbols.old symbols.new (fault_of_result result)
         (λ file. IsRela file at entry.now) (λ file header.
         Does result (change_of (target_as file target.now) header at (Some found))) }
 {
@@ -146,14 +148,14 @@ fn ends_past(offset: u64, width: u32, size: u64) -> bool
 /// is the same.
 fn taken_value<S: Source>(
     src: &mut Counted<S>,
-    target: &Target<'_>,
+    target: &ApplyTarget<'_>,
     symbol: u32,
     at: u64,
-    symbols: &mut EntrySymbols,
-    base: Base,
+    symbols: &mut RelocationSymbols,
+    base: RelocationBase,
 ) -> Result<u64, Fault>
-    requires within { IfSome symbols.old.linked (SymbolsWithin src.old.seen.size) }
-    ensures { DidFor src.old src.new target.now symbols.old symbols.new (why_stopped result)
+    requires within { IfSome symbols.old.linked (SymbolTableInBounds src.old.seen.size) }
+    ensures { DidFor src.old src.new target.now symbols.old symbols.new (fault_of_result result)
         (λ file. symbol ≡ r_sym file at) (λ file header.
         ValueOrRefusal result (term_of base (target_as file target.now) header at)) }
 {
@@ -163,7 +165,7 @@ fn taken_value<S: Source>(
         }
     }
     let value = named_value(src, target, symbol, at, symbols.linked, base)?;
-    symbols.last = Some(Taken {
+    symbols.last = Some(CachedAddress {
         symbol,
         base,
         value,
@@ -173,12 +175,12 @@ fn taken_value<S: Source>(
 
 /// B of symbol 0, which the entry at `at` names: S and L are 0, and it has no other entry.
 #[tactic(auto, unfolding(elf_model::specs::Placing::unnamed_value))]
-fn unnamed_value(base: Base, at: u64) -> Result<u64, Fault>
+fn unnamed_value(base: RelocationBase, at: u64) -> Result<u64, Fault>
     ensures { AnswersUnread result (unnamed_value base at) }
 {
     match base {
-        Base::Symbol | Base::Linkage => Ok(0),
-        Base::Table | Base::Thread => refused(at, Cause::Unsupported),
+        RelocationBase::Symbol | RelocationBase::Linkage => Ok(0),
+        RelocationBase::Table | RelocationBase::Thread => refused(at, Cause::Unsupported),
     }
 }
 
@@ -186,15 +188,15 @@ fn unnamed_value(base: Base, at: u64) -> Result<u64, Fault>
 #[tactic(auto, unfolding(crate::proofs::Words::term))]
 fn named_value<S: Source>(
     src: &mut Counted<S>,
-    target: &Target<'_>,
+    target: &ApplyTarget<'_>,
     symbol: u32,
     at: u64,
-    linked: Linked,
-    base: Base,
+    linked: LinkedSymbolTable,
+    base: RelocationBase,
 ) -> Result<u64, Fault>
-    requires within { IfSome linked (SymbolsWithin src.old.seen.size) }
+    requires within { IfSome linked (SymbolTableInBounds src.old.seen.size) }
     ensures unnamed { symbol ≡ 0 → src.new ≡ src.old }
-    ensures did { Did src.old src.new (why_stopped result) (beside_entry_cost target.now)
+    ensures did { CallDid src.old src.new (fault_of_result result) (beside_entry_cost target.now)
         (λ file. (header : ℕ) → RefersTo file header linked → symbol ≡ r_sym file at →
         ValueOrRefusal result (term_of base (target_as file target.now) header at)) }
 {
@@ -211,7 +213,7 @@ fn named_value<S: Source>(
     }
     let place = symbols.place(index);
     let fields = symbols.symbol(src, index)?;
-    let named = SymbolAt {
+    let named = SymbolEntry {
         fields,
         names,
         at: place,
@@ -222,7 +224,7 @@ fn named_value<S: Source>(
 /// P, the section's address and an offset modulo 2^64, where the section has an address; 0 where
 /// the formula does not take it.
 #[tactic(auto, unfolding(crate::proofs::Words::place))]
-fn place_value(target: &Target<'_>, offset: u64, formula: Formula) -> Option<u64>
+fn place_value(target: &ApplyTarget<'_>, offset: u64, formula: Formula) -> Option<u64>
     ensures { (file : List ℕ) (at : ℕ) → offset ≡ r_offset file at →
         taken_place formula (target_as file target.now) at ≡ value_or result at Unplaced }
 {

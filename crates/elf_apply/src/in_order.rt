@@ -5,19 +5,19 @@ ghost use Rattle.elf_model.specs.Apply.{put};
 ghost use Rattle.elf_model.specs.ApplyLaws.{clipped};
 ghost use Rattle.elf_model.specs.Bytes.{slice};
 ghost use Rattle.elf_reloc.specs.Types.{patched_bytes};
-ghost use Rattle.elf_source.specs.Output.{Puts};
-ghost use Rattle.elf_source.specs.Source.{Reads};
+ghost use Rattle.elf_source.specs.Output.{OutPuts};
+ghost use Rattle.elf_source.specs.Source.{ReadsUpTo};
 ghost use Rattle.elf_apply.specs.Entries.{patch_as};
-ghost use Rattle.elf_apply.specs.InOrder.{HoldsOn, IsHeldFrom, MayRead, Midway, OfHeld};
-ghost use Rattle.elf_apply.specs.InOrder.{OffsetsRise, end_of};
+ghost use Rattle.elf_apply.specs.InOrder.{HoldsOn, IsHeldFrom, MayRead, IsPartlyWritten, OfHeld};
+ghost use Rattle.elf_apply.specs.InOrder.{OffsetsAscend, end_of};
 ghost use Rattle.elf_apply.specs.Walk.{walk_all};
 ghost use Rattle.elf_apply.specs.Windows.{Copies, MayWrite, NoRefusal, NotForBudget, OfPatches};
 ghost use Rattle.elf_apply.specs.Windows.{UnreadSays, WritesBytes};
 
-use crate::entry::{Placed, Target};
+use crate::entry::{ApplyTarget, Placed};
 use crate::passes::put_in;
 use crate::walk::Entries;
-use elf_headers::{Fault, Stop, fill};
+use elf_headers::{Fault, RunFault, fill};
 use elf_record::{Cause, Refusal};
 use elf_reloc::Patch;
 use elf_source::{Counted, Out, OutFault, Sink, Source};
@@ -28,31 +28,31 @@ const PAGE: usize = 4096;
 
 /// The bytes of the section from an offset on that were read and are not written yet.
 #[derive(Drop)]
-struct Held {
+struct PendingBytes {
     low: u64,
     from: usize,
     count: usize,
     bytes: [u8; PAGE],
 }
 
-impl Model for Held {
+impl Model for PendingBytes {
     ghost use Rattle.std.specs.Prelude.{◌+◌, ◌≤◌};
     ghost use Rattle.elf_model.specs.Bytes.{slice};
-    ghost use Rattle.elf_apply.specs.InOrder.{Holding};
+    ghost use Rattle.elf_apply.specs.InOrder.{PendingState};
 
-    ghost Value = { Holding };
+    ghost Value = { PendingState };
 
     ghost view = { λ h. record { low = h.low; bytes = slice h.bytes h.from h.count } };
 
     ghost invariant = { λ h. h.from + h.count ≤ 4096 };
 }
 
-impl Held {
+impl PendingBytes {
     /// Nothing, at the section's begin.
-    fn new() -> Held
+    fn new() -> PendingBytes
         ensures { IsHeldFrom result 0 [] }
     {
-        Held {
+        PendingBytes {
             low: 0,
             from: 0,
             count: 0,
@@ -90,7 +90,7 @@ impl Held {
     fn release<W: Sink>(&mut self, count: usize, out: &mut Out<W>) -> Result<(), OutFault>
         requires few { count ≤ length self.old.bytes }
         requires fits { self.old.low + count < 2 ^ 64 }
-        ensures puts { Puts out.old out.new result (take count self.old.bytes) }
+        ensures puts { OutPuts out.old out.new result (take count self.old.bytes) }
         ensures rest { IsHeldFrom self.new (self.old.low + count) (drop count self.old.bytes) }
     {
         let from = self.from;
@@ -110,7 +110,7 @@ impl Held {
     /// Reads on where there are not so many bytes, as many as there is room for, to the section's
     /// end, its size, at most.
     #[tactic(auto, using(crate::proofs::WindowSteps::stopping))]
-    fn read_on<S: Source>(
+    fn read_ahead_pending<S: Source>(
         &mut self,
         src: &mut Counted<S>,
         at: u64,
@@ -122,12 +122,12 @@ impl Held {
         requires inside { self.old.low + width ≤ size }
         requires held { end_of self.old ≤ size }
         ensures says { IfErr result (UnreadSays src.old src.new) }
-        ensures reads { Reads src.old src.new (size - end_of self.old) }
+        ensures reads { ReadsUpTo src.old src.new (size - end_of self.old) }
         ensures low { self.new.low ≡ self.old.low }
         ensures long { OnOk result (width ≤ length self.new.bytes) }
         ensures on { OnOk result (HoldsOn src.old src.new self.old self.new size) }
         ensures bytes { OfHeld src.old at size self.old
-            (λ base now. OnOk result (Midway base now self.new)) }
+            (λ base now. OnOk result (IsPartlyWritten base now self.new)) }
     {
         let count = self.count;
         if count >= width {
@@ -166,7 +166,7 @@ impl Held {
         at: u64,
         end: u64,
         out: &mut Out<W>,
-    ) -> Result<(), Stop>
+    ) -> Result<(), RunFault>
         requires may { MayRead src.old at end }
         requires low { self.old.low ≤ end }
         requires held { at + end_of self.old ≤ src.old.seen.size }
@@ -176,7 +176,7 @@ impl Held {
         ensures long { OnOk result (length self.new.bytes ≡ end_of self.old - end) }
         ensures text { (size : ℕ) → end ≤ size → OfHeld src.old at size self.old (λ base now.
             WritesBytes out.old out.new result (slice now self.old.low (end - self.old.low))
-            × OnOk result (Midway base now self.new)) }
+            × OnOk result (IsPartlyWritten base now self.new)) }
     {
         let ready = (end - self.low()).min(self.len() as u64);
         self.release(ready as usize, out)?;
@@ -197,7 +197,7 @@ impl Held {
         size: u64,
         placed: &Placed,
         out: &mut Out<W>,
-    ) -> Result<(), Stop>
+    ) -> Result<(), RunFault>
         requires may { MayRead src.old at size }
         requires inside { placed.now.offset + length (patch_as placed.now).bytes ≤ size }
         requires held { end_of self.old ≤ size }
@@ -209,10 +209,10 @@ impl Held {
         ensures text { OfHeld src.old at size self.old (λ base now.
             WritesBytes out.old out.new result
             (slice now self.old.low (placed.now.offset - self.old.low))
-            × OnOk result (Midway base (put (patch_as placed.now) now) self.new)) }
+            × OnOk result (IsPartlyWritten base (put (patch_as placed.now) now) self.new)) }
     {
         self.advance(src, at, placed.offset, out)?;
-        self.read_on(src, at, size, width_of(placed.patch))?;
+        self.read_ahead_pending(src, at, size, width_of(placed.patch))?;
         self.patch(placed);
         Ok(())
     }
@@ -251,7 +251,7 @@ fn copy<S: Source, W: Sink>(
     at: u64,
     size: u64,
     out: &mut Out<W>,
-) -> Result<(), Stop>
+) -> Result<(), RunFault>
     requires { MayRead src.old at size }
     ensures did { Copies src.old src.new out.old out.new result NoRefusal size size }
     ensures text { (file : List ℕ) → src.old.seen.file ≡ Some file →
@@ -261,7 +261,7 @@ fn copy<S: Source, W: Sink>(
     'pages: while done < size {
         let mut bytes = [0; PAGE];
         let count = (size - done).min(PAGE as u64) as usize;
-        copy_page(src, at + done, &mut bytes[..count], out)?;
+        copy_through(src, at + done, &mut bytes[..count], out)?;
         done += count as u64;
     }
     Ok(())
@@ -269,12 +269,12 @@ fn copy<S: Source, W: Sink>(
 
 /// Writes as many bytes of the source as `page` has, which is left with them.
 #[tactic(auto, using(crate::proofs::WindowSteps::stopping))]
-fn copy_page<S: Source, W: Sink>(
+fn copy_through<S: Source, W: Sink>(
     src: &mut Counted<S>,
     at: u64,
     page: &mut [u8],
     out: &mut Out<W>,
-) -> Result<(), Stop>
+) -> Result<(), RunFault>
     requires free { src.old.most ≡ None }
     requires few { length page.old ≤ 4096 }
     requires within { at + length page.old ≤ src.old.seen.size }
@@ -289,26 +289,26 @@ fn copy_page<S: Source, W: Sink>(
 }
 
 /// Writes the section, whose bytes stand at `at`, where the offsets of the entries never fall.
-pub(crate) fn write_in_order<S: Source, W: Sink>(
+pub(crate) fn write_one_pass<S: Source, W: Sink>(
     src: &mut Counted<S>,
-    target: &Target<'_>,
+    target: &ApplyTarget<'_>,
     at: u64,
     out: &mut Out<W>,
-) -> Result<(), Stop>
+) -> Result<(), RunFault>
     requires { MayWrite src.old target.now at src.old.seen.size }
     ensures did { Copies src.old src.new out.old out.new result NotForBudget
         (walk_all target.now + target.now.size) target.now.size }
     ensures text { (file : List ℕ) → src.old.seen.file ≡ Some file → OfPatches target.now at
-        (λ patches text. OffsetsRise 0 patches → WritesBytes out.old out.new result text) file }
+        (λ patches text. OffsetsAscend 0 patches → WritesBytes out.old out.new result text) file }
 {
     let size = target.size;
     let mut entries = Entries::new();
-    let mut held = Held::new();
+    let mut held = PendingBytes::new();
     'entries: loop {
         match entries.next(src, target)? {
             Some(placed) => {
                 if placed.offset < held.low() {
-                    return Err(Stop::Refused(Refusal {
+                    return Err(RunFault::Refused(Refusal {
                         at: placed.at,
                         cause: Cause::PlaceOutside,
                     }));

@@ -3,13 +3,13 @@ ghost use Rattle.std.specs.Prelude.{◌≡◌, ◌+◌, ◌-◌, ◌<◌, ◌≤
 ghost use Rattle.std.specs.Prelude.{IfErr};
 ghost use Rattle.elf_model.specs.ApplyCost.{layout_names_cost, longest, lookup_cost};
 ghost use Rattle.elf_model.specs.Placing.{Searched, address_named, base_value, entry_value};
-ghost use Rattle.elf_model.specs.Placing.{is_system_specific, linkage_value, located_value};
+ghost use Rattle.elf_model.specs.Placing.{is_system_specific, plt_entry_value, section_symbol_value};
 ghost use Rattle.elf_model.specs.Placing.{named_or, placed_at, symbol_value, system_value};
 ghost use Rattle.elf_model.specs.Placing.{undefined_value};
 ghost use Rattle.elf_model.specs.Records.{st_name};
 ghost use Rattle.elf_record.specs.Sym.{IsSym};
 ghost use Rattle.elf_headers.specs.Faults.{IsOfCheck};
-ghost use Rattle.elf_table.specs.Tables.{StringsWithin};
+ghost use Rattle.elf_table.specs.Tables.{StringsInBounds};
 ghost use Rattle.elf_layout.specs.Layouts.{items_cost, names_for};
 ghost use Rattle.elf_apply.specs.Costs.{AnswersUnread, FindsAddress, GivesValue, ValueOrRefusal};
 
@@ -18,7 +18,7 @@ use elf_layout::{Addresses, Among, ITEM_NAME_BYTES, NamedAddress, SortedNames};
 use elf_record::gnu_numbers::STT_GNU_IFUNC;
 use elf_record::numbers::{SHN_UNDEF, STB_WEAK, STT_LOOS};
 use elf_record::{Cause, Place, Sym};
-use elf_reloc::Base;
+use elf_reloc::RelocationBase;
 use elf_source::{Counted, Source};
 use elf_table::Names;
 
@@ -27,7 +27,7 @@ const NAME_BUFFER_BYTES: usize = ITEM_NAME_BYTES + 1;
 
 /// A symbol that stands at an offset of the file, with the string table of its name.
 #[derive(Clone, Copy)]
-pub(crate) struct SymbolAt {
+pub(crate) struct SymbolEntry {
     pub(crate) fields: Sym,
     pub(crate) names: Names,
     pub(crate) at: u64,
@@ -38,10 +38,10 @@ pub(crate) struct SymbolAt {
 #[tactic(auto, unfolding(elf_model::specs::Placing::address_named))]
 fn compared<S: Source>(
     src: &mut Counted<S>,
-    symbol: &SymbolAt,
+    symbol: &SymbolEntry,
     items: &[NamedAddress],
 ) -> Result<Option<u64>, Fault>
-    requires within { StringsWithin src.old.seen.size symbol.now.names }
+    requires within { StringsInBounds src.old.seen.size symbol.now.names }
     ensures { FindsAddress src.old src.new symbol.now result (items_cost items.now) items.now }
 {
     let off = u64::from(symbol.fields.st_name);
@@ -60,10 +60,10 @@ fn compared<S: Source>(
 /// has are read once, and searched for.
 fn searched<S: Source>(
     src: &mut Counted<S>,
-    symbol: &SymbolAt,
+    symbol: &SymbolEntry,
     names: &SortedNames<'_>,
 ) -> Result<Option<u64>, Fault>
-    requires within { StringsWithin src.old.seen.size symbol.now.names }
+    requires within { StringsInBounds src.old.seen.size symbol.now.names }
     ensures { FindsAddress src.old src.new symbol.now result (lookup_cost Searched names.now)
         names.now }
 {
@@ -86,11 +86,11 @@ fn searched<S: Source>(
 /// The address of the name whose first bytes are read, as many as `front` has.
 fn read_name<S: Source>(
     src: &mut Counted<S>,
-    symbol: &SymbolAt,
+    symbol: &SymbolEntry,
     front: &mut [u8],
     names: &SortedNames<'_>,
 ) -> Result<Option<u64>, Fault>
-    requires within { StringsWithin src.old.seen.size symbol.now.names }
+    requires within { StringsInBounds src.old.seen.size symbol.now.names }
     requires inside { symbol.now.fields.st_name < symbol.now.names.size }
     requires count { length front.old
         ≡ min (symbol.now.names.size - symbol.now.fields.st_name) (longest names.now + 1) }
@@ -110,11 +110,11 @@ fn read_name<S: Source>(
 #[tactic(auto, unfolding(elf_model::specs::ApplyCost::lookup_cost))]
 fn address_named<S: Source>(
     src: &mut Counted<S>,
-    symbol: &SymbolAt,
+    symbol: &SymbolEntry,
     layout: &Addresses<'_>,
-    base: Base,
+    base: RelocationBase,
 ) -> Result<Option<u64>, Fault>
-    requires within { StringsWithin src.old.seen.size symbol.now.names }
+    requires within { StringsInBounds src.old.seen.size symbol.now.names }
     ensures { FindsAddress src.old src.new symbol.now result
         (lookup_cost layout.now.lookup (names_for layout.now base)) (names_for layout.now base) }
 {
@@ -154,17 +154,17 @@ fn undefined_value(symbol: &Sym, entry: u64) -> Result<u64, Fault>
 fn defined_value<S: Source>(
     src: &mut Counted<S>,
     layout: &Addresses<'_>,
-    symbol: &SymbolAt,
+    symbol: &SymbolEntry,
     entry: u64,
 ) -> Result<u64, Fault>
-    requires within { StringsWithin src.old.seen.size symbol.now.names }
+    requires within { StringsInBounds src.old.seen.size symbol.now.names }
     ensures { GivesValue src.old src.new symbol.now result
         (lookup_cost layout.now.lookup layout.now.definitions)
         (λ file strings. named_or symbol.now.at
         (address_named strings (st_name file symbol.now.at) layout.now.definitions)
         (undefined_value file entry symbol.now.at)) }
 {
-    match address_named(src, symbol, layout, Base::Symbol)? {
+    match address_named(src, symbol, layout, RelocationBase::Symbol)? {
         Some(address) => Ok(address),
         None => undefined_value(&symbol.fields, entry),
     }
@@ -188,33 +188,33 @@ fn is_system_specific(symbol: &Sym) -> bool
 fn system_value<S: Source>(
     src: &mut Counted<S>,
     layout: &Addresses<'_>,
-    symbol: &SymbolAt,
+    symbol: &SymbolEntry,
     entry: u64,
 ) -> Result<u64, Fault>
-    requires within { StringsWithin src.old.seen.size symbol.now.names }
+    requires within { StringsInBounds src.old.seen.size symbol.now.names }
     ensures { GivesValue src.old src.new symbol.now result
         (lookup_cost layout.now.lookup layout.now.linkage)
         (λ file strings. system_value file strings layout.now entry symbol.now.at) }
 {
     if symbol.fields.kind() == STT_GNU_IFUNC {
-        return entry_value(src, layout, symbol, entry, Base::Linkage);
+        return entry_value(src, layout, symbol, entry, RelocationBase::Linkage);
     }
     refused(entry, Cause::Unsupported)
 }
 
 /// S of any other symbol (gABI 4, Symbol Values). Refusals that are none of its name are at the
 /// entry that names it.
-#[tactic(auto, unfolding(elf_model::specs::Placing::located_value))]
-fn located_value<S: Source>(
+#[tactic(auto, unfolding(elf_model::specs::Placing::section_symbol_value))]
+fn section_symbol_value<S: Source>(
     src: &mut Counted<S>,
     layout: &Addresses<'_>,
-    symbol: &SymbolAt,
+    symbol: &SymbolEntry,
     entry: u64,
 ) -> Result<u64, Fault>
-    requires within { StringsWithin src.old.seen.size symbol.now.names }
+    requires within { StringsInBounds src.old.seen.size symbol.now.names }
     ensures { GivesValue src.old src.new symbol.now result
         (lookup_cost layout.now.lookup layout.now.definitions)
-        (λ file strings. located_value file strings layout.now entry symbol.now.at) }
+        (λ file strings. section_symbol_value file strings layout.now entry symbol.now.at) }
 {
     match symbol.fields.place() {
         Place::Absolute => Ok(symbol.fields.st_value),
@@ -234,36 +234,36 @@ fn located_value<S: Source>(
 fn symbol_value<S: Source>(
     src: &mut Counted<S>,
     layout: &Addresses<'_>,
-    symbol: &SymbolAt,
+    symbol: &SymbolEntry,
     entry: u64,
 ) -> Result<u64, Fault>
-    requires within { StringsWithin src.old.seen.size symbol.now.names }
+    requires within { StringsInBounds src.old.seen.size symbol.now.names }
     ensures { GivesValue src.old src.new symbol.now result (layout_names_cost layout.now)
         (λ file strings. symbol_value file strings layout.now entry symbol.now.at) }
 {
     if is_system_specific(&symbol.fields) {
         return system_value(src, layout, symbol, entry);
     }
-    located_value(src, layout, symbol, entry)
+    section_symbol_value(src, layout, symbol, entry)
 }
 
 /// L, the address of a symbol's procedure linkage table entry, where the layout has one; else S. An
 /// indirect function has none then, and is not looked for again.
 #[tactic(auto, unfolding(crate::proofs::Words::linkage))]
-fn linkage_value<S: Source>(
+fn plt_entry_value<S: Source>(
     src: &mut Counted<S>,
     layout: &Addresses<'_>,
-    symbol: &SymbolAt,
+    symbol: &SymbolEntry,
     entry: u64,
 ) -> Result<u64, Fault>
-    requires within { StringsWithin src.old.seen.size symbol.now.names }
+    requires within { StringsInBounds src.old.seen.size symbol.now.names }
     ensures { GivesValue src.old src.new symbol.now result (layout_names_cost layout.now)
-        (λ file strings. linkage_value file strings layout.now entry symbol.now.at) }
+        (λ file strings. plt_entry_value file strings layout.now entry symbol.now.at) }
 {
-    match address_named(src, symbol, layout, Base::Linkage)? {
+    match address_named(src, symbol, layout, RelocationBase::Linkage)? {
         Some(address) => Ok(address),
         None if is_system_specific(&symbol.fields) => refused(entry, Cause::Unsupported),
-        None => located_value(src, layout, symbol, entry),
+        None => section_symbol_value(src, layout, symbol, entry),
     }
 }
 
@@ -273,11 +273,11 @@ fn linkage_value<S: Source>(
 fn entry_value<S: Source>(
     src: &mut Counted<S>,
     layout: &Addresses<'_>,
-    symbol: &SymbolAt,
+    symbol: &SymbolEntry,
     entry: u64,
-    base: Base,
+    base: RelocationBase,
 ) -> Result<u64, Fault>
-    requires within { StringsWithin src.old.seen.size symbol.now.names }
+    requires within { StringsInBounds src.old.seen.size symbol.now.names }
     ensures { GivesValue src.old src.new symbol.now result
         (lookup_cost layout.now.lookup (names_for layout.now base)) (λ file strings.
         entry_value (names_for layout.now base) file strings entry symbol.now.at) }
@@ -294,18 +294,18 @@ fn entry_value<S: Source>(
 pub(crate) fn base_value<S: Source>(
     src: &mut Counted<S>,
     layout: &Addresses<'_>,
-    symbol: &SymbolAt,
+    symbol: &SymbolEntry,
     entry: u64,
-    base: Base,
+    base: RelocationBase,
 ) -> Result<u64, Fault>
-    requires within { StringsWithin src.old.seen.size symbol.now.names }
+    requires within { StringsInBounds src.old.seen.size symbol.now.names }
     ensures { GivesValue src.old src.new symbol.now result (layout_names_cost layout.now)
         (λ file strings. base_value base file strings layout.now entry symbol.now.at) }
 {
     match base {
-        Base::Symbol => symbol_value(src, layout, symbol, entry),
-        Base::Linkage => linkage_value(src, layout, symbol, entry),
-        Base::Table => entry_value(src, layout, symbol, entry, base),
-        Base::Thread => entry_value(src, layout, symbol, entry, base),
+        RelocationBase::Symbol => symbol_value(src, layout, symbol, entry),
+        RelocationBase::Linkage => plt_entry_value(src, layout, symbol, entry),
+        RelocationBase::Table => entry_value(src, layout, symbol, entry, base),
+        RelocationBase::Thread => entry_value(src, layout, symbol, entry, base),
     }
 }

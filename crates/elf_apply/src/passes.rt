@@ -3,13 +3,13 @@ ghost use Rattle.std.specs.Prelude.{◌≡◌, ◌+◌, ◌<◌, ◌^◌, ◌&&�
 ghost use Rattle.std.specs.Prelude.{length, true};
 ghost use Rattle.elf_model.specs.Apply.{put};
 ghost use Rattle.elf_model.specs.ApplyLaws.{clipped};
-ghost use Rattle.elf_headers.specs.Ledger.{Did, why_stopped};
+ghost use Rattle.elf_headers.specs.Ledger.{CallDid, fault_of_result};
 ghost use Rattle.elf_headers.specs.Load.{IsOpen};
 ghost use Rattle.elf_apply.specs.Entries.{patch_as};
 ghost use Rattle.elf_apply.specs.Passes.{ChecksEntries, Folds, MayPatch, folded, rising, storing};
 ghost use Rattle.elf_apply.specs.Walk.{changes_all, entries_from, walk_all};
 
-use crate::entry::{Placed, Target};
+use crate::entry::{ApplyTarget, Placed};
 use crate::walk::Entries;
 use elf_headers::Fault;
 use elf_source::{Counted, Source};
@@ -29,10 +29,13 @@ pub(crate) struct Checked {
 ///
 /// # Errors
 /// The first refusal, or a fault of the source.
-pub(crate) fn check<S: Source>(src: &mut Counted<S>, target: &Target<'_>) -> Result<Checked, Fault>
+pub(crate) fn check<S: Source>(
+    src: &mut Counted<S>,
+    target: &ApplyTarget<'_>,
+) -> Result<Checked, Fault>
     requires opened { IsOpen src.old target.now.file.loaded target.now.file.store.now }
     ensures counted { IfOk result (λ found. found.entries ≡ entries_from target.now 0) }
-    ensures did { Did src.old src.new (why_stopped result) (walk_all target.now)
+    ensures did { CallDid src.old src.new (fault_of_result result) (walk_all target.now)
         (λ file. ChecksEntries result (folded rising (true, 0) (changes_all file target.now))) }
 {
     let mut entries = Entries::new();
@@ -62,12 +65,12 @@ fn still_rises(rises: bool, low: u64, offset: u64) -> bool
 /// The first refusal, or a fault of the source.
 pub(crate) fn patch_window<S: Source>(
     src: &mut Counted<S>,
-    target: &Target<'_>,
+    target: &ApplyTarget<'_>,
     low: u64,
     window: &mut [u8],
 ) -> Result<(), Fault>
     requires { MayPatch src.old target.now low (length window.old) }
-    ensures { Did src.old src.new (why_stopped result) (walk_all target.now)
+    ensures { CallDid src.old src.new (fault_of_result result) (walk_all target.now)
         (λ file. Folds result window.new
         (folded (storing low (length window.old)) window.old (changes_all file target.now))) }
 {

@@ -1,12 +1,12 @@
 //! The walk over the relocation entries for a section.
 ghost use Rattle.std.specs.Prelude.{◌≡◌, ◌≤◌, ℕ, List, length, IfErr, IfOk};
 ghost use Rattle.elf_headers.specs.Faults.{IsOfCheck};
-ghost use Rattle.elf_headers.specs.Load.{Belongs};
-ghost use Rattle.elf_apply.specs.Walk.{BeginsWalk, FindsEntry, FoundGives, Goes, MayWalk};
-ghost use Rattle.elf_apply.specs.Walk.{ReadsEntries, StepGives, StepsWalk, WalksOn, WentOn};
+ghost use Rattle.elf_headers.specs.Load.{HoldsSectionHeaders};
+ghost use Rattle.elf_apply.specs.Walk.{BeginsWalk, FindsEntry, FoundGives, IsWalkAlive, MayWalk};
+ghost use Rattle.elf_apply.specs.Walk.{ReadsEntries, StepGives, StepsWalk, StepsRelocationWalk, WentOn};
 ghost use Rattle.elf_apply.specs.Walk.{walk_left};
 
-use crate::entry::{EntrySymbols, Placed, Target, entry_change};
+use crate::entry::{ApplyTarget, Placed, RelocationSymbols, entry_change};
 use elf_headers::Fault;
 use elf_record::Rela;
 use elf_source::{Counted, Source};
@@ -17,7 +17,7 @@ use elf_table::{Cursor, Row, Table};
 #[derive(Drop)]
 pub(crate) struct Entries {
     cursor: Cursor,
-    symbols: EntrySymbols,
+    symbols: RelocationSymbols,
     current: u16,
     next: u16,
     count: u128,
@@ -40,7 +40,7 @@ impl Entries {
     {
         Entries {
             cursor: Cursor::new(Table::new(0, 0, 24)),
-            symbols: EntrySymbols {
+            symbols: RelocationSymbols {
                 linked: None,
                 last: None,
             },
@@ -64,10 +64,10 @@ impl Entries {
     pub(crate) fn next<S: Source>(
         &mut self,
         src: &mut Counted<S>,
-        target: &Target<'_>,
+        target: &ApplyTarget<'_>,
     ) -> Result<Option<Placed>, Fault>
         requires { MayWalk src.old target.now self.old }
-        ensures { WalksOn src.old src.new target.now self.old self.new result
+        ensures { StepsRelocationWalk src.old src.new target.now self.old self.new result
             (FoundGives target.now self.old self.new)
             (λ file. FindsEntry file target.now self.old self.new result) }
     {
@@ -84,10 +84,10 @@ impl Entries {
     fn step<S: Source>(
         &mut self,
         src: &mut Counted<S>,
-        target: &Target<'_>,
+        target: &ApplyTarget<'_>,
     ) -> Result<WalkStep, Fault>
         requires { MayWalk src.old target.now self.old }
-        ensures { WalksOn src.old src.new target.now self.old self.new result
+        ensures { StepsRelocationWalk src.old src.new target.now self.old self.new result
             (StepGives target.now self.old self.new)
             (λ file. StepsWalk file target.now self.old self.new result) }
     {
@@ -104,14 +104,14 @@ impl Entries {
     }
 
     /// Goes to the next section: its entries, where it has some for the target.
-    fn open(&mut self, target: &Target<'_>) -> Result<WalkStep, Fault>
-        requires goes { Goes target.now.file.loaded.size target.now self.old }
+    fn open(&mut self, target: &ApplyTarget<'_>) -> Result<WalkStep, Fault>
+        requires goes { IsWalkAlive target.now.file.loaded.size target.now self.old }
         requires none { self.old.cursor.left ≡ 0 }
         ensures went { IfOk result (WentOn target.now.file.loaded.size target.now self.old
             self.new (StepGives target.now self.old self.new)) }
         ensures refusal { IfErr result IsOfCheck }
         ensures left { walk_left target.now self.new ≤ walk_left target.now self.old }
-        ensures walked { (file : List ℕ) → Belongs file target.now.file.loaded
+        ensures walked { (file : List ℕ) → HoldsSectionHeaders file target.now.file.loaded
             target.now.file.store.now → ReadsEntries file target.now self.old →
             StepsWalk file target.now self.old self.new result }
     {
@@ -127,7 +127,7 @@ impl Entries {
         let found = target.file.relocations(section)?;
         self.count += u128::from(found.0.len());
         self.cursor = Cursor::new(found.0);
-        self.symbols = EntrySymbols {
+        self.symbols = RelocationSymbols {
             linked: found.1,
             last: None,
         };

@@ -5,9 +5,9 @@ ghost use Rattle.elf_apply.specs.Walk.{walk_all};
 ghost use Rattle.elf_apply.specs.Windows.{Copies, MayWrite, NotForBudget, OfPatches, WritesBytes};
 ghost use Rattle.elf_apply.specs.Windows.{windows};
 
-use crate::entry::Target;
+use crate::entry::ApplyTarget;
 use crate::passes::patch_window;
-use elf_headers::{Stop, fill};
+use elf_headers::{RunFault, fill};
 use elf_source::{Counted, Out, Sink, Source};
 
 /// The size of a window in bytes.
@@ -18,12 +18,12 @@ const WINDOW: usize = 64;
 /// # Errors
 /// A refusal of an entry, only where the source answers otherwise than before; a fault of the
 /// source or of the output.
-pub(crate) fn write_windows<S: Source, W: Sink>(
+pub(crate) fn write_by_windows<S: Source, W: Sink>(
     src: &mut Counted<S>,
-    target: &Target<'_>,
+    target: &ApplyTarget<'_>,
     at: u64,
     out: &mut Out<W>,
-) -> Result<(), Stop>
+) -> Result<(), RunFault>
     requires { MayWrite src.old target.now at (at + target.now.size) }
     ensures did { Copies src.old src.new out.old out.new result NotForBudget
         (windows target.now.size * walk_all target.now + target.now.size) target.now.size }
@@ -46,12 +46,12 @@ pub(crate) fn write_windows<S: Source, W: Sink>(
 #[tactic(auto, using(crate::proofs::WindowSteps::stopping))]
 fn write_window<S: Source, W: Sink>(
     src: &mut Counted<S>,
-    target: &Target<'_>,
+    target: &ApplyTarget<'_>,
     at: u64,
     low: u64,
     window: &mut [u8],
     out: &mut Out<W>,
-) -> Result<(), Stop>
+) -> Result<(), RunFault>
     requires may { MayWrite src.old target.now at (at + target.now.size) }
     requires few { length window.old ≤ 64 }
     requires part { low + length window.old ≤ target.now.size }

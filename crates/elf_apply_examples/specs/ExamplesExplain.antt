@@ -1,18 +1,18 @@
 -- Worked examples of what a layout lacks where the entry of a call, at 0x48, is refused.
 use Rattle.std.specs.Prelude.{◌≡◌, ◌+◌, ℕ, List, [], ◌∷◌, ◌++◌, Option, None, Some, Ok, codes, replicate}
 use Rattle.elf_model.specs.Bytes.{little}
-use Rattle.elf_model.specs.Explain.{missing, refused_in, explained, told_symbol_name}
-use Rattle.elf_model.specs.ExplainLine.{explanation, lack_line}
+use Rattle.elf_model.specs.Explain.{missing, refused_in, explained, resolved_symbol_name}
+use Rattle.elf_model.specs.ExplainLine.{explanation, missing_line}
 use Rattle.elf_model.specs.Fixtures.{with_bytes}
 use Rattle.elf_model.specs.FixturesApply.{one_call, two_relocation_sections, with_symbol, empty_layout, placed_layout}
-use Rattle.elf_model.specs.Names.Shown.{Whole, Cut}
+use Rattle.elf_model.specs.Names.DisplayedName.{Whole, Cut}
 use Rattle.elf_model.specs.Placing.{Layout}
 use Rattle.elf_model.specs.declared.causes.Cause.{Cause}
 use Rattle.elf_model.specs.declared.causes.Cause.TheVariants.{Undefined, Unplaced, Unsupported, Overflow}
 use Rattle.elf_model.specs.declared.missing.Missing.{Missing}
 use Rattle.elf_model.specs.declared.missing.LayoutAddress.{LayoutAddress}
 use Rattle.elf_model.specs.declared.missing.LayoutAddress.TheVariants.{Place, Named}
-use Rattle.elf_model.specs.declared.relocation_types.Base.TheVariants.{Linkage, Table, Thread}
+use Rattle.elf_model.specs.declared.relocation_types.RelocationBase.TheVariants.{Linkage, Table, Thread}
 
 -- what is missing at the entry of the call in a layout, whose section of entries has its header at 0x118
 abbrev pub MissesInCall : List ℕ → Layout → Cause → Option Missing → Type 0
@@ -74,19 +74,19 @@ TellsOfCall =
 -- an entry of the offset from the thread pointer has an item of its own
 abbrev pub ThreadItemHelps : Type 0
 ThreadItemHelps =
-    lack_line (record { missing = record { kind = 22; name = 1; wanted = Named Thread }; name = Whole (codes "f") })
+    missing_line (record { missing = record { kind = 22; name = 1; wanted = Named Thread }; name = Whole (codes "f") })
     ≡ codes "elfsee: GOTTPOFF to f: tpgot:f=ADDR would help\n"
 
 -- a name of 255 bytes is shown whole, as an item may have it, and one more is cut
 abbrev pub NamesAreToldAsItemsHaveThem : Type 0
 NamesAreToldAsItemsHaveThem =
-    (told_symbol_name (0 ∷ replicate 255 97 ++ 0 ∷ []) 1 ≡ Ok (Whole (replicate 255 97)))
-    × (told_symbol_name (0 ∷ replicate 256 97 ++ 0 ∷ []) 1 ≡ Ok (Cut (replicate 255 97)))
+    (resolved_symbol_name (0 ∷ replicate 255 97 ++ 0 ∷ []) 1 ≡ Ok (Whole (replicate 255 97)))
+    × (resolved_symbol_name (0 ∷ replicate 256 97 ++ 0 ∷ []) 1 ≡ Ok (Cut (replicate 255 97)))
 
 -- no item has a name that is cut, or is empty
 abbrev pub NoItemNames : Type 0
 NoItemNames =
-    (lack_line (record { missing = record { kind = 41; name = 1; wanted = Named Table }; name = Cut (codes "f g") })
+    (missing_line (record { missing = record { kind = 41; name = 1; wanted = Named Table }; name = Cut (codes "f g") })
     ≡ codes "elfsee: GOTPCRELX to f g\\+: no item can name it\n")
-    × (lack_line (record { missing = record { kind = 22; name = 0; wanted = Named Thread }; name = Whole [] })
+    × (missing_line (record { missing = record { kind = 22; name = 0; wanted = Named Thread }; name = Whole [] })
     ≡ codes "elfsee: GOTTPOFF: no item can name it\n")

@@ -7,7 +7,7 @@ use Rattle.elf_model.specs.FixturesApply.{one_call, with_symbol, with_entries_he
 use Rattle.elf_model.specs.Placing.{Layout, Compared, Searched}
 use Rattle.elf_model.specs.declared.causes.Cause.TheVariants.{Unsupported, Overflow, Unplaced, Undefined, PlaceOutside, NameOutside, BadLink, NotRel}
 use Rattle.elf_model.specs.declared.missing.LayoutAddress.TheVariants.{Named, Entry}
-use Rattle.elf_model.specs.declared.relocation_types.Base.TheVariants.{Table}
+use Rattle.elf_model.specs.declared.relocation_types.RelocationBase.TheVariants.{Table}
 use Rattle.elf_apply_examples.specs.ExamplesApply.{WritesSection, RefusesSection, RefusesToApply}
 use Rattle.elf_apply_examples.specs.ExamplesExplain.{MissesInCall, ExplainsAs, lacks}
 

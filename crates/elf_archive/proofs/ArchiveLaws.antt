@@ -2,7 +2,7 @@
 use Rattle.std.proofs.Common.{◌≡◌, ℕ, Bool, ◌+◌, ◌≤◌, List, [], ◌∷◌, length, None, Err, refl, arith}
 use Rattle.elf_model.specs.Archive.{archive_checks, archive_items, before_members, members_of, walk_items}
 use Rattle.elf_model.specs.ArchiveCost.{archive_ceiling, archive_cost, members_cost}
-use Rattle.elf_model.specs.Budget.{IsBudget}
+use Rattle.elf_model.specs.Budget.{IsBudgetRefusal}
 use Rattle.elf_model.specs.Checks.{first_refusal}
 use Rattle.elf_model.specs.Listing.{Fault as FaultItem}
 use Rattle.elf_model.specs.Style.{Style}
@@ -31,7 +31,7 @@ unfolding archive_items
 passed_items alone file headers style parts passed = guarded-passes (archive_checks file) (walk_items alone file headers style parts (members_of file style.cap)) passed
 
 pub magic_alone : (alone : Bool) (file : List ℕ) (headers : ℕ) (style : Style) (parts : ℕ) (fault : Fault) → MagicRead {X = Unit {0}} file (Err fault) → (refusal : Refusal) → fault ≡ Refused refusal
-    → (IsBudget refusal → ⊥) → archive_items alone file headers style parts ≡ FaultItem refusal ∷ []
+    → (IsBudgetRefusal refusal → ⊥) → archive_items alone file headers style parts ≡ FaultItem refusal ∷ []
 unfolding archive_items
 magic_alone alone file headers style parts fault read refusal is other =
     let first = rw is at read in

@@ -1,38 +1,38 @@
 -- What the calls that list members take of the source, one after another.
 use Rattle.std.proofs.Common.{ℕ, ◌+◌, ◌≤◌, Result, Ok, Err, Option, Some, List, sym, ap, ◌∙◌, arith}
-use Rattle.elf_source.specs.Source.{Counting, Reads}
-use Rattle.elf_source.specs.Output.{Written}
+use Rattle.elf_source.specs.Source.{CountedState, ReadsUpTo}
+use Rattle.elf_source.specs.Output.{OutState}
 use Rattle.elf_source.specs.Ranges.{LiesWithin}
-use Rattle.elf_source.proofs.ReadsLaws.{Reads-none, Reads-then, Reads-to, Faults-then, OverLimit-then, OverLimit-more}
+use Rattle.elf_source.proofs.ReadsLaws.{ReadsUpTo-none, ReadsUpTo-then, ReadsUpTo-to, IsSourceFault-then, ExceedsBudget-then, ExceedsBudget-more}
 use Rattle.elf_headers.specs.Stops.{stop_of}
 use Rattle.elf_headers.specs.declared.fault.Fault.{Fault}
 use Rattle.elf_headers.specs.declared.fault.Fault.TheVariants.{Refused as Refuses, Source as Unread}
-use Rattle.elf_headers.specs.declared.stop.Stop.{Stop}
-use Rattle.elf_headers.specs.declared.stop.Stop.TheVariants.{Refused, Source, Out}
-use Rattle.elf_headers.specs.Faults.{Says}
+use Rattle.elf_headers.specs.declared.stop.RunFault.{RunFault}
+use Rattle.elf_headers.specs.declared.stop.RunFault.TheVariants.{Refused, Source, Out}
+use Rattle.elf_headers.specs.Faults.{IsReadFault}
 use Rattle.elf_archive.specs.Listed.{Consumes, StopTells, IsAll}
 
 -- reads behind others, in a bound on all
-pub Explains-then : (a b c : Counting) (out : Written) (stop : Stop) (n m k : ℕ) → n + m ≤ k → Reads a b n → StopTells b c out m stop → StopTells a c out k stop
+pub Explains-then : (a b c : CountedState) (out : OutState) (stop : RunFault) (n m k : ℕ) → n + m ≤ k → ReadsUpTo a b n → StopTells b c out m stop → StopTells a c out k stop
 Explains-then a b c out (Refused refusal) n m k within p q = λ is.
-    let over = q is in (rw (sym p.keeps.same_size) over.0, OverLimit-then n k (omega (arith, p.at_most)) p over.1)
-Explains-then a b c out (Source fault at) n m k within p q = Faults-then a.seen b.seen c.seen fault p.keeps q
+    let over = q is in (rw (sym p.keeps.same_size) over.0, ExceedsBudget-then n k (omega (arith, p.at_most)) p over.1)
+Explains-then a b c out (Source fault at) n m k within p q = IsSourceFault-then a.seen b.seen c.seen fault p.keeps q
 Explains-then a b c out (Out fault) n m k within p q = q
 
-pub Consumes-then : {X : Type 0} (a b c : Counting) (out : Written) (result : Result X Stop) (n m k : ℕ) → n + m ≤ k → Reads a b n → Consumes b c out result m → Consumes a c out result k
-Consumes-then a b c out (Ok x) n m k within p q = (Reads-to (Reads-then p q.0) (omega (arith, p.at_most, q.0.at_most)), tt)
-Consumes-then a b c out (Err stop) n m k within p q = (Reads-to (Reads-then p q.0) (omega (arith, p.at_most, q.0.at_most)), Explains-then a b c out stop n m k within p q.1)
+pub Consumes-then : {X : Type 0} (a b c : CountedState) (out : OutState) (result : Result X RunFault) (n m k : ℕ) → n + m ≤ k → ReadsUpTo a b n → Consumes b c out result m → Consumes a c out result k
+Consumes-then a b c out (Ok x) n m k within p q = (ReadsUpTo-to (ReadsUpTo-then p q.0) (omega (arith, p.at_most, q.0.at_most)), tt)
+Consumes-then a b c out (Err stop) n m k within p q = (ReadsUpTo-to (ReadsUpTo-then p q.0) (omega (arith, p.at_most, q.0.at_most)), Explains-then a b c out stop n m k within p q.1)
 
-pub Consumes-to : {X : Type 0} (a b : Counting) (out : Written) (result : Result X Stop) (n k : ℕ) → n ≤ k → Consumes a b out result n → Consumes a b out result k
-Consumes-to a b out result n k within p = Consumes-then a a b out result 0 n k (omega (arith, within)) (Reads-none a 0) p
+pub Consumes-to : {X : Type 0} (a b : CountedState) (out : OutState) (result : Result X RunFault) (n k : ℕ) → n ≤ k → Consumes a b out result n → Consumes a b out result k
+Consumes-to a b out result n k within p = Consumes-then a a b out result 0 n k (omega (arith, within)) (ReadsUpTo-none a 0) p
 
 -- a fault of a read, in a bound
-pub Consumes-fault : (a b : Counting) (out : Written) (fault : Fault) (n k : ℕ) → n ≤ k → Reads a b n → Says a b n fault → Consumes {X = Unit {0}} a b out (Err (stop_of fault)) k
-Consumes-fault a b out (Refuses refusal) n k within p q = (Reads-to p (omega (arith, p.at_most)), λ is. let over = q is in (over.0, OverLimit-more within over.1))
-Consumes-fault a b out (Unread fault at) n k within p q = (Reads-to p (omega (arith, p.at_most)), q.0)
+pub Consumes-fault : (a b : CountedState) (out : OutState) (fault : Fault) (n k : ℕ) → n ≤ k → ReadsUpTo a b n → IsReadFault a b n fault → Consumes {X = Unit {0}} a b out (Err (stop_of fault)) k
+Consumes-fault a b out (Refuses refusal) n k within p q = (ReadsUpTo-to p (omega (arith, p.at_most)), λ is. let over = q is in (over.0, ExceedsBudget-more within over.1))
+Consumes-fault a b out (Unread fault at) n k within p q = (ReadsUpTo-to p (omega (arith, p.at_most)), q.0)
 
 -- a range of all bytes is one behind reads
-pub still_whole : (a b : Counting) (n : ℕ) → IsAll a → Reads a b n → IsAll b
+pub still_whole : (a b : CountedState) (n : ℕ) → IsAll a → ReadsUpTo a b n → IsAll b
 still_whole a b n all p = record {
   whole = p.keeps.same_whole ∙ (all.whole ∙ (ap (λ (size : ℕ). Some (record { size = size; file = a.seen.file })) (sym p.keeps.same_size)
       ∙ ap (λ (file : Option (List ℕ)). Some (record { size = b.seen.size; file = file })) (sym p.keeps.same_file)));
@@ -40,5 +40,5 @@ still_whole a b n all p = record {
 }
 
 -- some bytes within it lie within what it is a range of
-pub lies_within : (c : Counting) (start size : ℕ) → IsAll c → start + size ≤ c.seen.size → LiesWithin c.seen start size
+pub lies_within : (c : CountedState) (start size : ℕ) → IsAll c → start + size ≤ c.seen.size → LiesWithin c.seen start size
 lies_within c start size all lies = (record { size = c.seen.size; file = c.seen.file }, all.whole, lies)

@@ -1,36 +1,36 @@
 -- A check over members finds the first fault of them and of the walk.
 use Rattle.std.proofs.Common.{◌≡◌, ℕ, zero, suc, ◌+◌, ◌<◌, ◌≤◌, ◌^◌, false, List, length, Option, None, Some, Result, Ok, Err, option_map, refl, sym, ap, subst, ◌∙◌, inl, inr, ◌⊎◌, arith}
 use Rattle.std.specs.Prelude.{IfErr}
-use Rattle.elf_model.specs.Archive.{Member, Next, Ends, Broken, OneMember, Progress, archive_checks, before_members, behind, member_listing, members_from, members_of, next_member}
+use Rattle.elf_model.specs.Archive.{Member, NextMember, Ends, Broken, OneMember, MemberWalkState, archive_checks, before_members, behind, member_listing, members_from, members_of, next_member}
 use Rattle.elf_model.specs.ArchiveCost.{archive_cost, header_cost, member_cost, members_cost}
-use Rattle.elf_model.specs.Budget.{IsBudget}
+use Rattle.elf_model.specs.Budget.{IsBudgetRefusal}
 use Rattle.elf_model.specs.Checks.{first_refusal}
-use Rattle.elf_model.specs.FileLists.{archive_fault, first_fault, member_fault, placed_behind}
+use Rattle.elf_model.specs.FileLists.{archive_fault, first_fault, member_fault, placed_after}
 use Rattle.elf_model.specs.Style.{Style}
 use Rattle.elf_model.specs.declared.causes.Refusal.{Refusal}
-use Rattle.elf_model.proofs.BudgetLaws.{is_budget}
-use Rattle.elf_source.specs.Output.{Written}
-use Rattle.elf_source.specs.Source.{Counting, Reads, SetsLimit}
-use Rattle.elf_source.proofs.ReadsLaws.{Reads-none, Reads-then, Reads-to}
+use Rattle.elf_model.proofs.BudgetLaws.{is_budget_fault}
+use Rattle.elf_source.specs.Output.{OutState}
+use Rattle.elf_source.specs.Source.{CountedState, ReadsUpTo, SetsLimit}
+use Rattle.elf_source.proofs.ReadsLaws.{ReadsUpTo-none, ReadsUpTo-then, ReadsUpTo-to}
 use Rattle.elf_headers.specs.Permitted.{style_of}
 use Rattle.elf_headers.specs.Stops.{stop_of}
 use Rattle.elf_headers.specs.declared.caps.Caps.{Caps}
 use Rattle.elf_headers.specs.declared.fault.Fault.{Fault}
 use Rattle.elf_headers.specs.declared.fault.Fault.TheVariants.{Refused as Refuses, Source as Unread}
-use Rattle.elf_headers.specs.declared.stop.Stop.{Stop}
-use Rattle.elf_headers.specs.declared.stop.Stop.TheVariants.{Refused, Source, Out}
-use Rattle.elf_listing.specs.Shows.{EndsRefused}
+use Rattle.elf_headers.specs.declared.stop.RunFault.{RunFault}
+use Rattle.elf_headers.specs.declared.stop.RunFault.TheVariants.{Refused, Source, Out}
+use Rattle.elf_listing.specs.Shows.{WroteUntilRefusal}
 use Rattle.elf_archive.specs.Archives.{MagicRead}
 use Rattle.elf_archive.specs.FirstFault.{FindsFault, FindsFirst, IsArchiveFault, ReadTells, fault_from}
 use Rattle.elf_archive.specs.Listed.{BudgetSays, Consumes, ListsMember, StopTells, next_cost}
-use Rattle.elf_archive.specs.Members.{TellsMember}
+use Rattle.elf_archive.specs.Members.{ReturnsMember}
 use Rattle.elf_archive.proofs.MemberLaws.{next-ends}
 use Rattle.elf_archive.proofs.ReportLaws.{over_budget}
 use Rattle.elf_archive.proofs.ToldLaws.{part_fault}
 use Rattle.elf_archive.proofs.WalkLaws.{cost_next, fewer, fewer_is}
 
 -- the first fault from the next place of a walk on
-abbrev after_fault : List ℕ → ℕ → Style → ℕ → ℕ → Progress → Next → Option Refusal
+abbrev after_fault : List ℕ → ℕ → Style → ℕ → ℕ → MemberWalkState → NextMember → Option Refusal
 after_fault file headers style parts most p Ends = None
 after_fault file headers style parts most p (Broken refusal) = Some refusal
 after_fault file headers style parts most p (OneMember m) =
@@ -39,7 +39,7 @@ after_fault file headers style parts most p (OneMember m) =
       | None ↦ fault_from file headers style parts (fewer most) (behind file p m)
     ]
 
-fault_next : (file : List ℕ) (headers : ℕ) (style : Style) (parts most : ℕ) (p : Progress) (next : Next) → length file < p.at + most → next_member file style.cap p ≡ next
+fault_next : (file : List ℕ) (headers : ℕ) (style : Style) (parts most : ℕ) (p : MemberWalkState) (next : NextMember) → length file < p.at + most → next_member file style.cap p ≡ next
     → fault_from file headers style parts most p ≡ after_fault file headers style parts most p next
 unfolding members_from fewer first_fault
 fault_next file headers style parts zero p next enough is =
@@ -49,29 +49,29 @@ fault_next file headers style parts (suc most) p (Broken refusal) enough is = rw
 fault_next file headers style parts (suc most) p (OneMember m) enough is = rw (is, members_from) refl
 
 -- what a check has gone over so far without a fault, what is left, and what that costs
-pub record CheckedSoFar (file : List ℕ) (headers : ℕ) (style : Style) (parts first : ℕ) (start p : Progress) (a b : Counting) : Type 0 where
+pub record CheckedSoFar (file : List ℕ) (headers : ℕ) (style : Style) (parts first : ℕ) (start p : MemberWalkState) (a b : CountedState) : Type 0 where
   pub most : ℕ
   pub enough : length file < p.at + most
   pub left : fault_from file headers style parts first start ≡ fault_from file headers style parts most p
   pub spent : ℕ
-  pub reads : Reads a b spent
+  pub reads : ReadsUpTo a b spent
   pub cost : spent + members_cost most file headers style parts p ≤ members_cost first file headers style parts start
 
-pub check_begins : (file : List ℕ) (headers : ℕ) (style : Style) (parts first : ℕ) (start : Progress) (a : Counting) → length file < start.at + first
+pub check_begins : (file : List ℕ) (headers : ℕ) (style : Style) (parts first : ℕ) (start : MemberWalkState) (a : CountedState) → length file < start.at + first
     → CheckedSoFar file headers style parts first start start a a
 check_begins file headers style parts first start a enough = record {
   most = first;
   enough = enough;
   left = refl;
   spent = 0;
-  reads = Reads-none a 0;
+  reads = ReadsUpTo-none a 0;
   cost = omega arith;
 }
 
 -- a member more, which has no fault
-pub check_more : (file : List ℕ) (headers : ℕ) (style : Style) (parts first : ℕ) (start p q : Progress) (a b c d : Counting) (m : Member) → p.at < q.at
+pub check_more : (file : List ℕ) (headers : ℕ) (style : Style) (parts first : ℕ) (start p q : MemberWalkState) (a b c d : CountedState) (m : Member) → p.at < q.at
     → CheckedSoFar file headers style parts first start p a b → next_member file style.cap p ≡ OneMember m → q ≡ behind file p m
-    → Reads b c (header_cost file style.cap p) → Reads c d (member_cost file headers style parts m) → member_fault file headers style parts m ≡ None
+    → ReadsUpTo b c (header_cost file style.cap p) → ReadsUpTo c d (member_cost file headers style parts m) → member_fault file headers style parts m ≡ None
     → CheckedSoFar file headers style parts first start q a d
 check_more file headers style parts first start p q a b c d m further known is here header reads none =
     let sum = cost_next file headers style parts known.most p (OneMember m) known.enough is in
@@ -80,57 +80,57 @@ check_more file headers style parts first start p q a b c d m further known is h
       enough = omega (arith, known.enough, further, fewer_is known.most);
       left = known.left ∙ (fault_next file headers style parts known.most p (OneMember m) known.enough is
           ∙ (ap (λ (fault : Option Refusal). elim fault [ Some refusal ↦ Some refusal | None ↦ fault_from file headers style parts (fewer known.most) (behind file p m) ]) none
-          ∙ ap (λ (r : Progress). fault_from file headers style parts (fewer known.most) r) (sym here)));
+          ∙ ap (λ (r : MemberWalkState). fault_from file headers style parts (fewer known.most) r) (sym here)));
       spent = known.spent + (header_cost file style.cap p + member_cost file headers style parts m);
-      reads = Reads-then known.reads (Reads-then header reads);
+      reads = ReadsUpTo-then known.reads (ReadsUpTo-then header reads);
       cost =
-          let same = ap (λ (r : Progress). members_cost (fewer known.most) file headers style parts r) here in
+          let same = ap (λ (r : MemberWalkState). members_cost (fewer known.most) file headers style parts r) here in
           omega (arith, known.cost, sum, same);
     }
 
 -- the file's end
-pub check_ends : (file : List ℕ) (headers : ℕ) (style : Style) (parts first : ℕ) (start p : Progress) (a b c : Counting) → CheckedSoFar file headers style parts first start p a b
-    → next_member file style.cap p ≡ Ends → Reads b c (header_cost file style.cap p)
-    → (fault_from file headers style parts first start ≡ None) × Reads a c (members_cost first file headers style parts start)
+pub check_ends : (file : List ℕ) (headers : ℕ) (style : Style) (parts first : ℕ) (start p : MemberWalkState) (a b c : CountedState) → CheckedSoFar file headers style parts first start p a b
+    → next_member file style.cap p ≡ Ends → ReadsUpTo b c (header_cost file style.cap p)
+    → (fault_from file headers style parts first start ≡ None) × ReadsUpTo a c (members_cost first file headers style parts start)
 check_ends file headers style parts first start p a b c known is reads =
     let sum = cost_next file headers style parts known.most p Ends known.enough is in
-    let all = Reads-then known.reads reads in
-    (known.left ∙ fault_next file headers style parts known.most p Ends known.enough is, Reads-to all (omega (arith, all.at_most, known.cost, sum)))
+    let all = ReadsUpTo-then known.reads reads in
+    (known.left ∙ fault_next file headers style parts known.most p Ends known.enough is, ReadsUpTo-to all (omega (arith, all.at_most, known.cost, sum)))
 
 -- what a step costs at most
-pub step_cost_left : (file : List ℕ) (headers : ℕ) (style : Style) (parts first : ℕ) (start p : Progress) (a b : Counting) (known : CheckedSoFar file headers style parts first start p a b)
+pub step_cost_left : (file : List ℕ) (headers : ℕ) (style : Style) (parts first : ℕ) (start p : MemberWalkState) (a b : CountedState) (known : CheckedSoFar file headers style parts first start p a b)
     → known.spent + next_cost file headers style parts p (next_member file style.cap p) ≤ members_cost first file headers style parts start
 step_cost_left file headers style parts first start p a b known =
     let sum = cost_next file headers style parts known.most p (next_member file style.cap p) known.enough refl in
     omega (arith, known.cost, sum)
 
 -- a place where no member stands
-pub walk_fault : (file : List ℕ) (headers : ℕ) (style : Style) (parts first : ℕ) (start p q : Progress) (a b : Counting) (name : List ℕ) (fault : Fault) → CheckedSoFar file headers style parts first start p a b
-    → TellsMember file style.cap p q name (Err fault) → FindsFault {X = Unit {0}} (fault_from file headers style parts first start) (Err (stop_of fault))
+pub walk_fault : (file : List ℕ) (headers : ℕ) (style : Style) (parts first : ℕ) (start p q : MemberWalkState) (a b : CountedState) (name : List ℕ) (fault : Fault) → CheckedSoFar file headers style parts first start p a b
+    → ReturnsMember file style.cap p q name (Err fault) → FindsFault {X = Unit {0}} (fault_from file headers style parts first start) (Err (stop_of fault))
 walk_fault file headers style parts first start p q a b name (Refuses refusal) known tells =
     λ other. known.left ∙ fault_next file headers style parts known.most p (Broken refusal) known.enough (tells other)
 walk_fault file headers style parts first start p q a b name (Unread fault at) known tells = tt
 
 -- a member whose listing was gone through without a fault
-pub sound_member : {v w : Written} (file : List ℕ) (headers : ℕ) (style : Style) (parts : ℕ) (m : Member) → ListsMember v w (Ok None) (member_listing file headers style parts m)
+pub sound_member : {v w : OutState} (file : List ℕ) (headers : ℕ) (style : Style) (parts : ℕ) (m : Member) → ListsMember v w (Ok None) (member_listing file headers style parts m)
     → member_fault file headers style parts m ≡ None
-sound_member file headers style parts m p = ap (option_map (placed_behind m.extent.at)) p.no_fault
+sound_member file headers style parts m p = ap (option_map (placed_after m.extent.at)) p.no_fault
 
 -- a member whose listing was refused
-pub fault_of_member : {v w : Written} (file : List ℕ) (headers : ℕ) (style : Style) (parts first : ℕ) (start p : Progress) (a b : Counting) (m : Member) (refusal placed : Refusal) → CheckedSoFar file headers style parts first start p a b
-    → next_member file style.cap p ≡ OneMember m → (IsBudget refusal → ⊥) → EndsRefused v w refusal (member_listing file headers style parts m) → placed ≡ placed_behind m.extent.at refusal
+pub fault_of_member : {v w : OutState} (file : List ℕ) (headers : ℕ) (style : Style) (parts first : ℕ) (start p : MemberWalkState) (a b : CountedState) (m : Member) (refusal placed : Refusal) → CheckedSoFar file headers style parts first start p a b
+    → next_member file style.cap p ≡ OneMember m → (IsBudgetRefusal refusal → ⊥) → WroteUntilRefusal v w refusal (member_listing file headers style parts m) → placed ≡ placed_after m.extent.at refusal
     → FindsFault {X = Unit {0}} (fault_from file headers style parts first start) (Err (Refused placed))
 fault_of_member file headers style parts first start p a b m refusal placed known is own lists place =
-    let found : member_fault file headers style parts m ≡ Some placed = ap (option_map (placed_behind m.extent.at)) (part_fault (member_listing file headers style parts m) refusal own lists) ∙ ap Some (sym place) in
+    let found : member_fault file headers style parts m ≡ Some placed = ap (option_map (placed_after m.extent.at)) (part_fault (member_listing file headers style parts m) refusal own lists) ∙ ap Some (sym place) in
     λ other. known.left ∙ (fault_next file headers style parts known.most p (OneMember m) known.enough is
     ∙ ap (λ (fault : Option Refusal). elim fault [ Some refusal ↦ Some refusal | None ↦ fault_from file headers style parts (fewer known.most) (behind file p m) ]) found)
 
 -- what that takes of the source
-pub fault_takes : (a b : Counting) (w : Written) (n start : ℕ) (refusal placed : Refusal) → (IsBudget refusal → ⊥) → placed ≡ placed_behind start refusal → Reads a b n → Consumes {X = Unit {0}} a b w (Err (Refused placed)) n
+pub fault_takes : (a b : CountedState) (w : OutState) (n start : ℕ) (refusal placed : Refusal) → (IsBudgetRefusal refusal → ⊥) → placed ≡ placed_after start refusal → ReadsUpTo a b n → Consumes {X = Unit {0}} a b w (Err (Refused placed)) n
 fault_takes a b w n start refusal placed own place reads = (reads, λ budget. absurd (own (sym (ap (λ (r : Refusal). r.cause) place) ∙ budget)))
 
 -- a member that stopped the check sooner
-pub stop_of_member : (v w : Written) (file : List ℕ) (headers : ℕ) (style : Style) (parts : ℕ) (m : Member) (stop : Stop) (fault : Option Refusal) → ListsMember v w (Err stop) (member_listing file headers style parts m)
+pub stop_of_member : (v w : OutState) (file : List ℕ) (headers : ℕ) (style : Style) (parts : ℕ) (m : Member) (stop : RunFault) (fault : Option Refusal) → ListsMember v w (Err stop) (member_listing file headers style parts m)
     → FindsFault {X = Unit {0}} fault (Err stop)
 stop_of_member v w file headers style parts m (Refused refusal) fault p = λ other. absurd (other p.0)
 stop_of_member v w file headers style parts m (Source cause at) fault p = tt
@@ -155,13 +155,13 @@ own_fault None file headers style parts fault is = sym is
 own_fault (Some budget) file headers style parts fault is = inl (sym is)
 
 -- a refusal that a check answers is a fault within the budget
-pub answered_fault : (file : List ℕ) (caps : Caps) (parts : ℕ) (refusal : Refusal) (before limited after : Counting) → before.asked ≤ 2 ^ 127 → SetsLimit before limited caps.limits.budget
+pub answered_fault : (file : List ℕ) (caps : Caps) (parts : ℕ) (refusal : Refusal) (before limited after : CountedState) → before.asked ≤ 2 ^ 127 → SetsLimit before limited caps.limits.budget
     → before.seen.size ≡ length file → BudgetSays limited after (archive_cost file caps.limits.headers (style_of caps.style) parts) refusal
     → FindsFault {X = Unit {0}} (archive_fault file caps.limits.headers (style_of caps.style) parts) (Err (Refused refusal))
     → IsArchiveFault caps.limits.budget file caps.limits.headers (style_of caps.style) parts (Some refusal)
-answered_fault file caps parts refusal before limited after small limits sized says finds = by_cause (is_budget refusal.cause)
+answered_fault file caps parts refusal before limited after small limits sized says finds = by_cause (is_budget_fault refusal.cause)
   where
-    by_cause : (IsBudget refusal) ⊎ (IsBudget refusal → ⊥) → IsArchiveFault caps.limits.budget file caps.limits.headers (style_of caps.style) parts (Some refusal)
+    by_cause : (IsBudgetRefusal refusal) ⊎ (IsBudgetRefusal refusal → ⊥) → IsArchiveFault caps.limits.budget file caps.limits.headers (style_of caps.style) parts (Some refusal)
     by_cause (inl for_budget) =
         let said = says for_budget in
         let over = over_budget caps.limits.budget (archive_cost file caps.limits.headers (style_of caps.style) parts) before limited after small limits said.1 in
@@ -178,7 +178,7 @@ answered_fault file caps parts refusal before limited after small limits sized s
     by_cause (inr other) = own_fault caps.limits.budget file caps.limits.headers (style_of caps.style) parts (Some refusal) (finds other)
 
 -- what is found within the budget
-pub found_first : {X : Type 0} (file : List ℕ) (caps : Caps) (parts : ℕ) (result : Result X Stop) (out : Written) (before limited after : Counting) → before.asked ≤ 2 ^ 127 → SetsLimit before limited caps.limits.budget
+pub found_first : {X : Type 0} (file : List ℕ) (caps : Caps) (parts : ℕ) (result : Result X RunFault) (out : OutState) (before limited after : CountedState) → before.asked ≤ 2 ^ 127 → SetsLimit before limited caps.limits.budget
     → before.seen.size ≡ length file → out.failed ≡ false → IfErr result (StopTells limited after out (archive_cost file caps.limits.headers (style_of caps.style) parts))
     → FindsFault (archive_fault file caps.limits.headers (style_of caps.style) parts) result → FindsFirst caps parts file result
 found_first file caps parts (Ok x) out before limited after small limits sized well says finds = own_fault caps.limits.budget file caps.limits.headers (style_of caps.style) parts None finds
@@ -188,7 +188,7 @@ found_first file caps parts (Err (Source fault at)) out before limited after sma
 found_first file caps parts (Err (Out fault)) out before limited after small limits sized well says finds = let failed = says.failed in cc
 
 -- what it says of the source
-pub found_tells : {X : Type 0} (s0 s1 s2 s3 : Counting) (out : Written) (n : ℕ) (budget : Option ℕ) (result : Result X Stop) → SetsLimit s0 s1 budget → SetsLimit s2 s3 None → out.failed ≡ false
+pub found_tells : {X : Type 0} (s0 s1 s2 s3 : CountedState) (out : OutState) (n : ℕ) (budget : Option ℕ) (result : Result X RunFault) → SetsLimit s0 s1 budget → SetsLimit s2 s3 None → out.failed ≡ false
     → IfErr result (StopTells s1 s2 out n) → IfErr result (ReadTells s0 s3)
 found_tells s0 s1 s2 s3 out n budget (Ok x) set unset well says = tt
 found_tells s0 s1 s2 s3 out n budget (Err (Refused refusal)) set unset well says = tt
@@ -196,7 +196,7 @@ found_tells s0 s1 s2 s3 out n budget (Err (Source fault at)) set unset well says
 found_tells s0 s1 s2 s3 out n budget (Err (Out fault)) set unset well says = let failed = says.failed in cc
 
 -- a refusal that it answers
-pub found_late : {X : Type 0} (s1 s2 : Counting) (out : Written) (n : ℕ) (result : Result X Stop) → IfErr result (StopTells s1 s2 out n) → (refusal : Refusal) → result ≡ Err (Refused refusal)
+pub found_late : {X : Type 0} (s1 s2 : CountedState) (out : OutState) (n : ℕ) (result : Result X RunFault) → IfErr result (StopTells s1 s2 out n) → (refusal : Refusal) → result ≡ Err (Refused refusal)
     → BudgetSays s1 s2 n refusal
 found_late s1 s2 out n (Ok x) says refusal is = cc
 found_late s1 s2 out n (Err (Refused first)) says refusal is = let all : first ≡ refusal = cc in subst (λ (r : Refusal). BudgetSays s1 s2 n r) all says

@@ -8,7 +8,7 @@ use Rattle.std.proofs.Math.Nat.{pow-le-pow_right, pow-succ'}
 use Rattle.std.proofs.Math.Seq.{drop-cons, take-suc}
 use Rattle.std.proofs.lemmas.Bool.Decides.{nat_tests}
 use Rattle.memchr.specs.Find.{IsFirstByte, is_byte}
-use Rattle.elf_model.specs.Archive.{are_all, digits_then_spaces, is_decimal, trimmed}
+use Rattle.elf_model.specs.Archive.{are_all, parse_padded_decimal, is_decimal, trimmed}
 
 and-false : (t : Bool) → (t && false) ≡ false
 and-false true = refl
@@ -47,21 +47,21 @@ digits_small number place few small = let most : 10 ^ place ≤ 10 ^ 15 = pow-le
 
 -- a digit, and what stands behind it
 pub digits-more : (number : ℕ) (field : List ℕ) (place : ℕ) → place < length field → is_decimal (get_or field place 0) ≡ true
-    → digits_then_spaces number (drop place field) ≡ digits_then_spaces (10 * number + (get_or field place 0 - 48)) (drop (place + 1) field)
-unfolding digits_then_spaces
+    → parse_padded_decimal number (drop place field) ≡ parse_padded_decimal (10 * number + (get_or field place 0 - 48)) (drop (place + 1) field)
+unfolding parse_padded_decimal
 digits-more number field place within is =
     rw (drop-cons field place 0 within, is, add-one place) refl
 
 -- another byte, and what stands behind it
 pub digits-stop : (number : ℕ) (field : List ℕ) (place : ℕ) → place < length field → is_decimal (get_or field place 0) ≡ false
-    → digits_then_spaces number (drop place field) ≡ (if are_all 32 (drop place field) then Some number else None)
-unfolding digits_then_spaces
+    → parse_padded_decimal number (drop place field) ≡ (if are_all 32 (drop place field) then Some number else None)
+unfolding parse_padded_decimal
 digits-stop number field place within is =
     rw (drop-cons field place 0 within, is) refl
 
 -- no byte more
-pub digits-end : (number : ℕ) (field : List ℕ) (place : ℕ) → length field ≤ place → digits_then_spaces number (drop place field) ≡ Some number
-unfolding digits_then_spaces
+pub digits-end : (number : ℕ) (field : List ℕ) (place : ℕ) → length field ≤ place → parse_padded_decimal number (drop place field) ≡ Some number
+unfolding parse_padded_decimal
 digits-end number field place past = rw (drop_of_length-le field past) refl
 
 not_true : (t : Bool) → (t ≡ true → ⊥) → t ≡ false

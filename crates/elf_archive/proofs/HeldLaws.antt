@@ -6,19 +6,19 @@ use Rattle.elf_model.specs.Listing.{ListingItem, Line, Fault, lines_of, fault_of
 use Rattle.elf_model.specs.declared.causes.Refusal.{Refusal}
 use Rattle.elf_model.specs.declared.formats.Format.{Format}
 use Rattle.elf_model.proofs.ListingLemmas.{listings_append}
-use Rattle.elf_source.specs.Growth.{Grows}
-use Rattle.elf_source.specs.Output.{BreaksOff, EndsLine, HeldBack, Takes, TakesFront, Written, before_text}
-use Rattle.elf_source.specs.Source.{Counting}
+use Rattle.elf_source.specs.Growth.{OutGrows}
+use Rattle.elf_source.specs.Output.{FailsOutput, EndsLine, KeepsDeferred, SinkTakes, SinkTakesPrefix, OutState, before_text}
+use Rattle.elf_source.specs.Source.{CountedState}
 use Rattle.elf_source.specs.declared.faults.OutFault.{OutFault}
-use Rattle.elf_source.specs.declared.holding_sink.HeldLine.{HeldLine}
-use Rattle.elf_source.proofs.PutsLaws.{TakesFront-more}
+use Rattle.elf_source.specs.declared.holding_sink.DeferredLine.{DeferredLine}
+use Rattle.elf_source.proofs.PutsLaws.{SinkTakesPrefix-more}
 use Rattle.elf_source.proofs.LineLaws.{broken_takes, line_ends, line_fails, line_front}
-use Rattle.elf_headers.specs.declared.stop.Stop.{Stop}
-use Rattle.elf_headers.specs.declared.stop.Stop.TheVariants.{Refused, Source, Out}
-use Rattle.elf_listing.specs.Shows.{Front, Stopped, Writes}
+use Rattle.elf_headers.specs.declared.stop.RunFault.{RunFault}
+use Rattle.elf_headers.specs.declared.stop.RunFault.TheVariants.{Refused, Source, Out}
+use Rattle.elf_listing.specs.Shows.{WrotePrefix, WroteUntilStop, WroteSome}
 use Rattle.elf_listing.proofs.RowLaws.{Whole-line}
-use Rattle.elf_listing.proofs.ShowLaws.{Stopped-then, Whole-then}
-use Rattle.elf_archive.specs.Listed.{Consumes, AnswersBehind}
+use Rattle.elf_listing.proofs.ShowLaws.{WroteUntilStop-then, Whole-then}
+use Rattle.elf_archive.specs.Listed.{Consumes, AnswersAfter}
 
 -- items that are told have no fault
 pub told_clean : (format : Format) (items : List ListingItem) → fault_of (told format items) ≡ None
@@ -43,24 +43,24 @@ stands : (text line : List ℕ) (items : List ListingItem) (byte : ℕ) (bytes :
 stands text line items byte bytes is = rw is refl
 
 -- a line that stands alone
-pub line_writes : (began mid new : Written) (line : List ℕ) (items : List ListingItem) (result : Result Bool Stop) → Takes began mid line → Writes mid new result items → Writes began new result (Line line ∷ items)
+pub line_writes : (began mid new : OutState) (line : List ℕ) (items : List ListingItem) (result : Result Bool RunFault) → SinkTakes began mid line → WroteSome mid new result items → WroteSome began new result (Line line ∷ items)
 line_writes began mid new line items (Ok refused) p q = Whole-then (Whole-line line p) q
-line_writes began mid new line items (Err stop) p q = Stopped-then began mid new stop (Line line ∷ []) items (Whole-line line p) q
+line_writes began mid new line items (Err stop) p q = WroteUntilStop-then began mid new stop (Line line ∷ []) items (Whole-line line p) q
 
 -- a line that stands alone, of which a front was put
-pub line_fails_first : (old new : Written) (line : List ℕ) (items : List ListingItem) (fault : OutFault) → TakesFront old new line → Stopped old new (Out fault) (Line line ∷ items)
-line_fails_first old new line items fault p = TakesFront-more line (lines_of items) p
+pub line_fails_first : (old new : OutState) (line : List ℕ) (items : List ListingItem) (fault : OutFault) → SinkTakesPrefix old new line → WroteUntilStop old new (Out fault) (Line line ∷ items)
+line_fails_first old new line items fault p = SinkTakesPrefix-more line (lines_of items) p
 
 -- nothing was written of an output that was broken off
-pub broken_stops : (old new : Written) (fault : OutFault) (items : List ListingItem) → BreaksOff old new fault → Stopped old new (Out fault) items
+pub broken_stops : (old new : OutState) (fault : OutFault) (items : List ListingItem) → FailsOutput old new fault → WroteUntilStop old new (Out fault) items
 broken_stops old new fault items p = record { front = []; rest = lines_of items; split = refl; takes = broken_takes old new fault p }
 
-module _ (began mid old new : Written) (line : List ℕ) (held : HeldLine) (p : HeldBack began mid line held) (ends : EndsLine held old new) where
+module _ (began mid old new : OutState) (line : List ℕ) (held : DeferredLine) (p : KeepsDeferred began mid line held) (ends : EndsLine held old new) where
   -- a front of a listing behind the line
-  held_front : (items : List ListingItem) → Front mid old items → Front began new (line_before false line items)
+  held_front : (items : List ListingItem) → WrotePrefix mid old items → WrotePrefix began new (line_before false line items)
   held_front items q = by_text (lines_of q.front) refl
     where
-      by_text : (text : List ℕ) → lines_of q.front ≡ text → Front began new (line_before false line items)
+      by_text : (text : List ℕ) → lines_of q.front ≡ text → WrotePrefix began new (line_before false line items)
       by_text [] is = record {
         front = [];
         rest = line_before false line items;
@@ -85,8 +85,8 @@ module _ (began mid old new : Written) (line : List ℕ) (held : HeldLine) (p : 
       cc
 
   -- WHAT WAS WRITTEN behind the line, and the line
-  pub held_writes : (listed result : Result Bool Stop) (items : List ListingItem) → fault_of items ≡ None → AnswersBehind listed new result → Writes mid old listed items
-      → Writes began new result (line_before false line items)
+  pub held_writes : (listed result : Result Bool RunFault) (items : List ListingItem) → fault_of items ≡ None → AnswersAfter listed new result → WroteSome mid old listed items
+      → WroteSome began new result (line_before false line items)
   held_writes (Ok refused) result items clean is q =
       rw is (record {
         takes = rw (lines_before line items) (line_ends began mid old line held p new (lines_of items) q.takes ends);
@@ -102,7 +102,7 @@ module _ (began mid old new : Written) (line : List ℕ) (held : HeldLine) (p : 
       rw (is.1, lines_before line items) (line_front began mid old line held p new (lines_of items) q ends)
 
   -- what it took of the source
-  pub held_consumes : (a b : Counting) (n : ℕ) (listed result : Result Bool Stop) → Grows mid old → AnswersBehind listed new result → Consumes a b old listed n → Consumes a b new result n
+  pub held_consumes : (a b : CountedState) (n : ℕ) (listed result : Result Bool RunFault) → OutGrows mid old → AnswersAfter listed new result → Consumes a b old listed n → Consumes a b new result n
   held_consumes a b n (Ok refused) result grows is q = rw is q
   held_consumes a b n (Err (Refused refusal)) result grows is q = rw is q
   held_consumes a b n (Err (Source fault at)) result grows is q = rw is q
@@ -116,11 +116,11 @@ module _ (began mid old new : Written) (line : List ℕ) (held : HeldLine) (p : 
       )
 
   -- what was written, for every source
-  pub held_grows : Grows mid old → Grows began new
+  pub held_grows : OutGrows mid old → OutGrows began new
   held_grows q = record { bytes = before_text line q.bytes; takes = line_ends began mid old line held p new q.bytes q.takes ends }
 
 -- whether a listing was refused is the same behind its line
-pub held_refused : (listed result : Result Bool Stop) (new : Written) (any : Bool) → AnswersBehind listed new result → IfOk listed (λ refused. refused ≡ any) → IfOk result (λ refused. refused ≡ any)
+pub held_refused : (listed result : Result Bool RunFault) (new : OutState) (any : Bool) → AnswersAfter listed new result → IfOk listed (λ refused. refused ≡ any) → IfOk result (λ refused. refused ≡ any)
 held_refused (Ok refused) result new any is p = rw is p
 held_refused (Err (Refused refusal)) result new any is p = rw is tt
 held_refused (Err (Source fault at)) result new any is p = rw is tt

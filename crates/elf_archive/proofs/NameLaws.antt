@@ -5,7 +5,7 @@ use Rattle.std.proofs.Math.Seq.{take-add}
 use Rattle.std.proofs.lemmas.Bool.Decides.{nat_tests}
 use Rattle.std.proofs.lemmas.List.{take_all}
 use Rattle.elf_model.specs.Bytes.{slice}
-use Rattle.elf_model.specs.Archive.{Extent, bsd_name, bsd_name_size, long_name, long_of, long_offset, member_name, name_in_data, newline_in, short_name, told_name, trimmed, without_slash}
+use Rattle.elf_model.specs.Archive.{FileRange, bsd_name, bsd_name_length, long_name, long_of, long_offset, member_name, name_in_data, newline_in, short_name, parsed_member_name, trimmed, without_slash}
 use Rattle.elf_model.specs.ArchiveCost.{is_elsewhere, long_name_bytes}
 use Rattle.elf_model.specs.Cost.{cost_where}
 use Rattle.elf_model.specs.Notes.{capped}
@@ -37,7 +37,7 @@ pub long-none : (file : List ℕ) (cap offset : ℕ) → long_name file cap None
 unfolding long_name
 long-none file cap offset = refl
 
-pub long-outside : (file : List ℕ) (cap offset : ℕ) (table : Extent) → table.size ≤ offset → long_name file cap (Some table) offset ≡ Err NameOutside
+pub long-outside : (file : List ℕ) (cap offset : ℕ) (table : FileRange) → table.size ≤ offset → long_name file cap (Some table) offset ≡ Err NameOutside
 unfolding long_name
 long-outside file cap offset table past =
     let no : nat_lt offset table.size ≡ false = grind (arith, nat_tests) in rw no refl
@@ -62,7 +62,7 @@ front_is file at size offset cap n inside few within whole = by_size (nat_lt n (
         ap (take (cap + 2)) rest ∙ take-take (cap + 2) (size - offset) (drop (at + offset) file) (omega arith) ∙ ap (slice file (at + offset)) (sym same)
 
 -- a long name, by the bytes that were read
-pub long_read : (file front : List ℕ) (table : Extent) (offset cap n : ℕ) → offset < table.size → n ≤ cap + 2 → offset + n ≤ table.size → (n < cap + 2 → offset + n ≡ table.size)
+pub long_read : (file front : List ℕ) (table : FileRange) (offset cap n : ℕ) → offset < table.size → n ≤ cap + 2 → offset + n ≤ table.size → (n < cap + 2 → offset + n ≡ table.size)
     → front ≡ slice file (table.at + offset) n → long_name file cap (Some table) offset ≡ long_of cap front (newline_in front)
 unfolding long_name
 long_read file front table offset cap n inside few within whole is =
@@ -86,45 +86,45 @@ long-cut cap front none long =
     let more : nat_lt cap (length front) ≡ true = grind (arith, nat_tests) in rw (none, yes, more) refl
 
 -- a member's name, by the field of its name
-pub name-bsd : (file header : List ℕ) (cap at size : ℕ) (names : Option Extent) → header ≡ slice file at 60 → bsd_name_size (take 16 header) ≡ Some size
+pub name-bsd : (file header : List ℕ) (cap at size : ℕ) (names : Option FileRange) → header ≡ slice file at 60 → bsd_name_length (take 16 header) ≡ Some size
     → member_name file cap names at ≡ Ok (bsd_name file cap (at + 60) size)
 unfolding member_name
 name-bsd file header cap at size names is told =
-    let e : bsd_name_size (slice file at 16) ≡ Some size = ap bsd_name_size (sym (name-of file header at is)) ∙ told in rw (e, member_name) refl
+    let e : bsd_name_length (slice file at 16) ≡ Some size = ap bsd_name_length (sym (name-of file header at is)) ∙ told in rw (e, member_name) refl
 
-pub name-told : (file header : List ℕ) (cap at : ℕ) (names : Option Extent) → header ≡ slice file at 60 → bsd_name_size (take 16 header) ≡ None
-    → member_name file cap names at ≡ told_name file cap names (take 16 header)
+pub name-told : (file header : List ℕ) (cap at : ℕ) (names : Option FileRange) → header ≡ slice file at 60 → bsd_name_length (take 16 header) ≡ None
+    → member_name file cap names at ≡ parsed_member_name file cap names (take 16 header)
 unfolding member_name
 name-told file header cap at names is told =
-    let e : bsd_name_size (slice file at 16) ≡ None = ap bsd_name_size (sym (name-of file header at is)) ∙ told in
-    rw (e, member_name) (ap (told_name file cap names) (sym (name-of file header at is)))
+    let e : bsd_name_length (slice file at 16) ≡ None = ap bsd_name_length (sym (name-of file header at is)) ∙ told in
+    rw (e, member_name) (ap (parsed_member_name file cap names) (sym (name-of file header at is)))
 
-pub told-long : (file field : List ℕ) (cap offset : ℕ) (names : Option Extent) → long_offset field ≡ Some offset → told_name file cap names field ≡ long_name file cap names offset
-unfolding told_name
-told-long file field cap offset names told = rw (told, told_name) refl
+pub told-long : (file field : List ℕ) (cap offset : ℕ) (names : Option FileRange) → long_offset field ≡ Some offset → parsed_member_name file cap names field ≡ long_name file cap names offset
+unfolding parsed_member_name
+told-long file field cap offset names told = rw (told, parsed_member_name) refl
 
-pub told-short : (file field : List ℕ) (cap : ℕ) (names : Option Extent) → long_offset field ≡ None → told_name file cap names field ≡ Ok (capped cap (short_name field))
-unfolding told_name
-told-short file field cap names told = rw (told, told_name) refl
+pub told-short : (file field : List ℕ) (cap : ℕ) (names : Option FileRange) → long_offset field ≡ None → parsed_member_name file cap names field ≡ Ok (capped cap (short_name field))
+unfolding parsed_member_name
+told-short file field cap names told = rw (told, parsed_member_name) refl
 
 -- how many bytes of the data it takes, and whether it stands elsewhere
-pub in-data : (field : List ℕ) (size : ℕ) → bsd_name_size field ≡ Some size → name_in_data field ≡ size
+pub in-data : (field : List ℕ) (size : ℕ) → bsd_name_length field ≡ Some size → name_in_data field ≡ size
 unfolding name_in_data
 in-data field size told = rw (told, name_in_data) refl
 
-pub elsewhere-bsd : (field : List ℕ) (size : ℕ) → bsd_name_size field ≡ Some size → is_elsewhere field ≡ true
+pub elsewhere-bsd : (field : List ℕ) (size : ℕ) → bsd_name_length field ≡ Some size → is_elsewhere field ≡ true
 unfolding is_elsewhere
 elsewhere-bsd field size told = rw told refl
 
-pub elsewhere-long : (field : List ℕ) → bsd_name_size field ≡ None → is_elsewhere field ≡ is_some (long_offset field)
+pub elsewhere-long : (field : List ℕ) → bsd_name_length field ≡ None → is_elsewhere field ≡ is_some (long_offset field)
 unfolding is_elsewhere
 elsewhere-long field told = rw told refl
 
 -- what it costs by the header
-pub cost-bsd : (header : List ℕ) (cap size : ℕ) → bsd_name_size (take 16 header) ≡ Some size → member_name_cost header cap ≡ long_name_bytes cap
+pub cost-bsd : (header : List ℕ) (cap size : ℕ) → bsd_name_length (take 16 header) ≡ Some size → member_name_cost header cap ≡ long_name_bytes cap
 cost-bsd header cap size told = ap (λ t. cost_where t (long_name_bytes cap)) (elsewhere-bsd (take 16 header) size told)
 
-pub cost-told : (header : List ℕ) (cap : ℕ) → bsd_name_size (take 16 header) ≡ None → member_name_cost header cap ≡ told_cost (take 16 header) cap
+pub cost-told : (header : List ℕ) (cap : ℕ) → bsd_name_length (take 16 header) ≡ None → member_name_cost header cap ≡ told_cost (take 16 header) cap
 cost-told header cap told = ap (λ t. cost_where t (long_name_bytes cap)) (elsewhere-long (take 16 header) told)
 
 -- a name at the front of the data, by the bytes that are looked at
@@ -133,12 +133,12 @@ unfolding bsd_name
 bsd_looked file cap start size want is = rw is refl
 
 -- a long name, by the bytes at its offset
-pub long_front : (file : List ℕ) (table : Extent) (offset cap n : ℕ) → offset < table.size → n ≤ cap + 2 → offset + n ≤ table.size → (n < cap + 2 → offset + n ≡ table.size)
+pub long_front : (file : List ℕ) (table : FileRange) (offset cap n : ℕ) → offset < table.size → n ≤ cap + 2 → offset + n ≤ table.size → (n < cap + 2 → offset + n ≡ table.size)
     → long_name file cap (Some table) offset ≡ long_of cap (slice file (table.at + offset) n) (newline_in (slice file (table.at + offset) n))
 long_front file table offset cap n inside few within whole = long_read file (slice file (table.at + offset) n) table offset cap n inside few within whole refl
 
 -- and by those that were read into the front of a buffer
-pub long_buffer : (file buffer : List ℕ) (table : Extent) (offset cap want : ℕ) → want ≤ length buffer → offset < table.size → want ≤ cap + 2 → offset + want ≤ table.size
+pub long_buffer : (file buffer : List ℕ) (table : FileRange) (offset cap want : ℕ) → want ≤ length buffer → offset < table.size → want ≤ cap + 2 → offset + want ≤ table.size
     → (want < cap + 2 → offset + want ≡ table.size)
     → long_name file cap (Some table) offset
     ≡ long_of cap (slice file (table.at + offset) (length (take want buffer))) (newline_in (slice file (table.at + offset) (length (take want buffer))))
@@ -161,8 +161,8 @@ bsd-buffer file buffer cap start size want is room (Ok cut) name read =
 bsd-buffer file buffer cap start size want is room (Err fault) name read = tt
 
 -- what was read of a name at the front of the data is the member's name
-pub bsd-shown : (file header : List ℕ) (cap at size : ℕ) (names : Option Extent) (result : Result Bool Fault) (name : List ℕ) → header ≡ slice file at 60
-    → bsd_name_size (take 16 header) ≡ Some size → IfErr result IsOfRead → IfOk result (λ cut. bsd_name file cap (at + 60) size ≡ shown_as cut name)
+pub bsd-shown : (file header : List ℕ) (cap at size : ℕ) (names : Option FileRange) (result : Result Bool Fault) (name : List ℕ) → header ≡ slice file at 60
+    → bsd_name_length (take 16 header) ≡ Some size → IfErr result IsOfRead → IfOk result (λ cut. bsd_name file cap (at + 60) size ≡ shown_as cut name)
     → NameShown at result name (member_name file cap names at)
 bsd-shown file header cap at size names (Ok cut) name is told fault read = name-bsd file header cap at size names is told ∙ ap Ok read
 bsd-shown file header cap at size names (Err stop) name is told fault read = unread-refuses at stop (member_name file cap names at) fault

@@ -2,16 +2,16 @@
 use Rattle.std.proofs.Common.{◌≡◌, ℕ, ◌+◌, ◌<◌, ◌≤◌, ◌==◌, if◌then◌else◌, min, nat_lt, not, Bool, true, false, List, length, take, drop, take-take, length-take, length-drop, Option, None, Some, Result, Ok, Err, refl, sym, ap, ◌∙◌, arith}
 use Rattle.std.specs.Prelude.{IfErr}
 use Rattle.std.proofs.lemmas.Bool.Decides.{nat_tests}
-use Rattle.elf_model.specs.Archive.{Extent, archive_checks, bsd_name, long_name, long_of, long_offset, newline_in, short_name, told_name, trimmed}
-use Rattle.elf_model.specs.Budget.{IsBudget}
+use Rattle.elf_model.specs.Archive.{FileRange, archive_checks, bsd_name, long_name, long_of, long_offset, newline_in, short_name, parsed_member_name, trimmed}
+use Rattle.elf_model.specs.Budget.{IsBudgetRefusal}
 use Rattle.elf_model.specs.Bytes.{slice}
 use Rattle.elf_model.specs.Checks.{first_refusal}
-use Rattle.elf_model.specs.Names.Shown.{Cut}
+use Rattle.elf_model.specs.Names.DisplayedName.{Cut}
 use Rattle.elf_model.specs.Notes.{capped}
 use Rattle.elf_model.specs.declared.causes.Refusal.{Refusal}
 use Rattle.elf_model.proofs.Slices.{slice-size, slice-slice}
-use Rattle.elf_source.specs.Source.{Counting}
-use Rattle.elf_headers.specs.Faults.{Says, RefusalSays}
+use Rattle.elf_source.specs.Source.{CountedState}
+use Rattle.elf_headers.specs.Faults.{IsReadFault, IsReadRefusal}
 use Rattle.elf_headers.specs.declared.fault.Fault.{Fault}
 use Rattle.elf_headers.specs.declared.fault.Fault.TheVariants.{Refused}
 use Rattle.elf_fields.specs.Named.{shown_as}
@@ -37,8 +37,8 @@ shown_at file at size few cut lies is more = by_size (nat_lt 4096 size) refl
         rw (sized, e, more, e, all) refl
 
 -- a name in its field
-pub short_at : (file field : List ℕ) (at size : ℕ) (names : Option Extent) → field ≡ slice file at 16 → long_offset field ≡ None
-    → take size field ≡ short_name field → size ≤ length field → told_name file 4096 names field ≡ Ok (capped 4096 (slice file at size))
+pub short_at : (file field : List ℕ) (at size : ℕ) (names : Option FileRange) → field ≡ slice file at 16 → long_offset field ≡ None
+    → take size field ≡ short_name field → size ≤ length field → parsed_member_name file 4096 names field ≡ Ok (capped 4096 (slice file at size))
 short_at file field at size names is told named within =
     let sixteen : length field ≤ 16 = rw is (omega (arith, length-take 16 (drop at file))) in
     told-short file field 4096 names told
@@ -53,7 +53,7 @@ bsd_at file front start size want few is read named within =
     ∙ ap (capped 4096) (ap (trimmed 0) (sym read) ∙ sym named ∙ ap (take few) read ∙ take-take few want (drop start file) (omega (arith, most, within)))
 
 -- a name in the table of names, by the bytes that are looked at
-pub long_looked : (file front : List ℕ) (table : Extent) (offset : ℕ) → offset < table.size → front ≡ slice (slice file table.at table.size) offset 4098
+pub long_looked : (file front : List ℕ) (table : FileRange) (offset : ℕ) → offset < table.size → front ≡ slice (slice file table.at table.size) offset 4098
     → long_name file 4096 (Some table) offset ≡ long_of 4096 front (newline_in front)
 unfolding long_name
 long_looked file front table offset inside is =
@@ -70,7 +70,7 @@ long_within file front at whole offset size inside is within =
     (omega (arith, a, within), omega (arith, a, b, c, within, inside))
 
 -- where it lies
-pub long_at : (file front : List ℕ) (table : Extent) (offset size : ℕ) → offset < table.size → front ≡ slice (slice file table.at table.size) offset 4098 → size ≤ length front
+pub long_at : (file front : List ℕ) (table : FileRange) (offset size : ℕ) → offset < table.size → front ≡ slice (slice file table.at table.size) offset 4098 → size ≤ length front
     → long_of 4096 front (newline_in front) ≡ Ok (capped 4096 (take size front)) → long_name file 4096 (Some table) offset ≡ Ok (capped 4096 (slice file (table.at + offset) size))
 long_at file front table offset size inside is within told =
     let few = long_within file front table.at table.size offset size inside is within in
@@ -79,12 +79,12 @@ long_at file front table offset size inside is within told =
     long_looked file front table offset inside is ∙ told ∙ ap (λ (n : List ℕ). Ok (capped 4096 n)) same
 
 -- without a limit a refusal of the magic string is the first check that fails
-pub refused_magic : {X : Type 0} (file : List ℕ) (a b : Counting) (n : ℕ) (refusal : Refusal) (result : Result X Fault) → a.most ≡ None → result ≡ Err (Refused refusal)
-    → IfErr result (Says a b n) → MagicRead file result → first_refusal (archive_checks file) ≡ Some refusal
+pub refused_magic : {X : Type 0} (file : List ℕ) (a b : CountedState) (n : ℕ) (refusal : Refusal) (result : Result X Fault) → a.most ≡ None → result ≡ Err (Refused refusal)
+    → IfErr result (IsReadFault a b n) → MagicRead file result → first_refusal (archive_checks file) ≡ Some refusal
 refused_magic file a b n refusal result free is says read =
-    let said : RefusalSays a b n refusal = rw is at says in
+    let said : IsReadRefusal a b n refusal = rw is at says in
     let fails = rw is at read in
-    let none : IsBudget refusal → ⊥ = λ late. let set = (said late).1.is_set in cc in
+    let none : IsBudgetRefusal refusal → ⊥ = λ late. let set = (said late).1.is_set in cc in
     fails none
 
 -- a flag as a number

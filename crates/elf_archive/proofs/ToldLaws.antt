@@ -2,56 +2,56 @@
 use Rattle.std.proofs.Common.{◌≡◌, ℕ, Bool, List, [], ◌∷◌, ◌++◌, Option, None, Some, is_some, Result, Ok, Err, false, true, refl, sym, ap, ◌∙◌, inl, inr, ◌⊎◌, append-nil, append_assoc}
 use Rattle.std.specs.Prelude.{IfOk, IfSome}
 use Rattle.elf_model.specs.Archive.{told}
-use Rattle.elf_model.specs.Budget.{IsBudget}
+use Rattle.elf_model.specs.Budget.{IsBudgetRefusal}
 use Rattle.elf_model.specs.Lines.{refusal_line}
 use Rattle.elf_model.specs.Listing.{ListingItem, Line, Fault, lines_of, fault_of, report_of}
 use Rattle.elf_model.specs.declared.causes.Refusal.{Refusal}
 use Rattle.elf_model.specs.declared.formats.Format.{Format}
-use Rattle.elf_model.proofs.BudgetLaws.{is_budget}
+use Rattle.elf_model.proofs.BudgetLaws.{is_budget_fault}
 use Rattle.elf_model.proofs.ListingLemmas.{listings_append}
-use Rattle.elf_source.specs.Output.{Written, Takes, TakesFront}
+use Rattle.elf_source.specs.Output.{OutState, SinkTakes, SinkTakesPrefix}
 use Rattle.elf_source.specs.declared.faults.OutFault.{OutFault}
-use Rattle.elf_source.proofs.PutsLaws.{Takes-then, TakesFront-then, TakesFront-more}
+use Rattle.elf_source.proofs.PutsLaws.{SinkTakes-then, SinkTakesPrefix-then, SinkTakesPrefix-more}
 use Rattle.elf_headers.specs.Faults.{IsOfRead}
 use Rattle.elf_headers.specs.Stops.{stop_of}
 use Rattle.elf_headers.specs.declared.fault.Fault.{Fault as Failure}
 use Rattle.elf_headers.specs.declared.fault.Fault.TheVariants.{Refused as Refuses, Source as Unread}
-use Rattle.elf_headers.specs.declared.stop.Stop.{Stop}
-use Rattle.elf_headers.specs.declared.stop.Stop.TheVariants.{Refused, Source, Out}
-use Rattle.elf_listing.specs.Shows.{WroteItems, Front, EndsRefused, Writes}
-use Rattle.elf_listing.proofs.RowLaws.{Front-none}
-use Rattle.elf_archive.specs.Listed.{EndsPart, ListsMember, ListsTold}
+use Rattle.elf_headers.specs.declared.stop.RunFault.{RunFault}
+use Rattle.elf_headers.specs.declared.stop.RunFault.TheVariants.{Refused, Source, Out}
+use Rattle.elf_listing.specs.Shows.{WroteItems, WrotePrefix, WroteUntilRefusal, WroteSome}
+use Rattle.elf_listing.proofs.RowLaws.{WrotePrefix-none}
+use Rattle.elf_archive.specs.Listed.{EndsPart, ListsMember, ListsMembers}
 
 -- the listing of a member, and how its end was answered
-pub lists_part : {X : Type 0} (a b : Written) (items : List ListingItem) (start : ℕ) (listed : Result X Stop) (result : Result (Option Refusal) Stop) → Writes a b listed items → EndsPart start listed result
+pub lists_part : {X : Type 0} (a b : OutState) (items : List ListingItem) (start : ℕ) (listed : Result X RunFault) (result : Result (Option Refusal) RunFault) → WroteSome a b listed items → EndsPart start listed result
     → ListsMember a b result items
 lists_part a b items start (Ok x) result p ends = rw ends p
-lists_part a b items start (Err (Refused refusal)) result p ends = by_cause (is_budget refusal.cause)
+lists_part a b items start (Err (Refused refusal)) result p ends = by_cause (is_budget_fault refusal.cause)
   where
-    by_cause : (IsBudget refusal) ⊎ (IsBudget refusal → ⊥) → ListsMember a b result items
+    by_cause : (IsBudgetRefusal refusal) ⊎ (IsBudgetRefusal refusal → ⊥) → ListsMember a b result items
     by_cause (inl budget) = rw (ends.0 budget) (budget, record { front = p.front; next = λ other. absurd (other budget) })
     by_cause (inr other) = rw (ends.1 other) p
 lists_part a b items start (Err (Source fault at)) result p ends = rw ends p
 lists_part a b items start (Err (Out fault)) result p ends = rw ends p
 
 -- a fault of a read before anything of it was listed
-pub part_unread : (a : Written) (fault : Failure) (items : List ListingItem) → IsOfRead fault → ListsMember a a (Err (stop_of fault)) items
-part_unread a (Refuses refusal) items read = (read, record { front = Front-none a items; next = λ other. absurd (other read) })
-part_unread a (Unread fault at) items read = Front-none a items
+pub part_unread : (a : OutState) (fault : Failure) (items : List ListingItem) → IsOfRead fault → ListsMember a a (Err (stop_of fault)) items
+part_unread a (Refuses refusal) items read = (read, record { front = WrotePrefix-none a items; next = λ other. absurd (other read) })
+part_unread a (Unread fault at) items read = WrotePrefix-none a items
 
 -- a refusal that is answered is not for want of budget
-pub own_part : {X : Type 0} (start : ℕ) (listed : Result X Stop) (result : Result (Option Refusal) Stop) → EndsPart start listed result → IfOk result (λ told. IfSome told (λ refusal. IsBudget refusal → ⊥))
+pub own_part : {X : Type 0} (start : ℕ) (listed : Result X RunFault) (result : Result (Option Refusal) RunFault) → EndsPart start listed result → IfOk result (λ told. IfSome told (λ refusal. IsBudgetRefusal refusal → ⊥))
 own_part start (Ok x) result ends = rw ends tt
-own_part start (Err (Refused refusal)) result ends = by_cause (is_budget refusal.cause)
+own_part start (Err (Refused refusal)) result ends = by_cause (is_budget_fault refusal.cause)
   where
-    by_cause : (IsBudget refusal) ⊎ (IsBudget refusal → ⊥) → IfOk result (λ told. IfSome told (λ refusal. IsBudget refusal → ⊥))
+    by_cause : (IsBudgetRefusal refusal) ⊎ (IsBudgetRefusal refusal → ⊥) → IfOk result (λ told. IfSome told (λ refusal. IsBudgetRefusal refusal → ⊥))
     by_cause (inl budget) = rw (ends.0 budget) tt
     by_cause (inr other) = rw (ends.1 other) other
 own_part start (Err (Source fault at)) result ends = rw ends tt
 own_part start (Err (Out fault)) result ends = rw ends tt
 
 -- and it is the fault
-pub part_fault : {a b : Written} (items : List ListingItem) (refusal : Refusal) → (IsBudget refusal → ⊥) → EndsRefused a b refusal items → fault_of items ≡ Some refusal
+pub part_fault : {a b : OutState} (items : List ListingItem) (refusal : Refusal) → (IsBudgetRefusal refusal → ⊥) → WroteUntilRefusal a b refusal items → fault_of items ≡ Some refusal
 part_fault items refusal other p =
     let next = p.next other in
     let front = p.front in
@@ -59,10 +59,10 @@ part_fault items refusal other p =
 
 module _ (format : Format) where
   -- without a fault nothing changes
-  told_none : (items : List ListingItem) → fault_of items ≡ None → told format items ≡ items
-  told_none [] none = refl
-  told_none (Line text ∷ items) none = ap (λ rest. Line text ∷ rest) (told_none items none)
-  told_none (Fault refusal ∷ items) none = cc
+  reported_none : (items : List ListingItem) → fault_of items ≡ None → told format items ≡ items
+  reported_none [] none = refl
+  reported_none (Line text ∷ items) none = ap (λ rest. Line text ∷ rest) (reported_none items none)
+  reported_none (Fault refusal ∷ items) none = cc
 
   -- the lines are the text of its report
   told_lines : (items : List ListingItem) → lines_of (told format items) ≡ report_of format items
@@ -80,13 +80,13 @@ module _ (format : Format) where
   told_split items front rest split none = ap (told format) split ∙ told_front front rest none
 
   -- a listing without a fault
-  pub whole_told : {a b : Written} (items : List ListingItem) → WroteItems a b items → ListsTold a b (Ok false) (told format items) (is_some (fault_of items))
+  pub whole_told : {a b : OutState} (items : List ListingItem) → WroteItems a b items → ListsMembers a b (Ok false) (told format items) (is_some (fault_of items))
   whole_told items p =
-      let same = told_none items p.no_fault in
+      let same = reported_none items p.no_fault in
       (rw same p, sym (ap is_some p.no_fault))
 
   -- a front of a listing
-  front_told : {a b : Written} (items : List ListingItem) → Front a b items → Front a b (told format items)
+  front_told : {a b : OutState} (items : List ListingItem) → WrotePrefix a b items → WrotePrefix a b (told format items)
   front_told items p = record {
     front = p.front;
     rest = told format p.rest;
@@ -96,13 +96,13 @@ module _ (format : Format) where
   }
 
   -- a listing that was stopped
-  pub stop_told : (a b : Written) (items : List ListingItem) (stop : Stop) (any : Bool) → ListsMember a b (Err stop) items → ListsTold a b (Err stop) (told format items) any
+  pub stop_told : (a b : OutState) (items : List ListingItem) (stop : RunFault) (any : Bool) → ListsMember a b (Err stop) items → ListsMembers a b (Err stop) (told format items) any
   stop_told a b items (Refused refusal) any p = (record { front = front_told items p.1.front; next = λ other. absurd (other p.0) }, tt)
   stop_told a b items (Source fault at) any p = (front_told items p, tt)
-  stop_told a b items (Out fault) any p = (rw (told_lines items) (TakesFront-more (lines_of items) _ p), tt)
+  stop_told a b items (Out fault) any p = (rw (told_lines items) (SinkTakesPrefix-more (lines_of items) _ p), tt)
 
   -- a listing that ended in a refusal, whose line was put
-  module _ (a b c : Written) (items : List ListingItem) (refusal : Refusal) (other : IsBudget refusal → ⊥) (p : EndsRefused a b refusal items) where
+  module _ (a b c : OutState) (items : List ListingItem) (refusal : Refusal) (other : IsBudgetRefusal refusal → ⊥) (p : WroteUntilRefusal a b refusal items) where
     behind : items ≡ p.front.front ++ (Fault refusal ∷ (p.next other).behind)
     behind = p.front.split ∙ ap (λ rest. p.front.front ++ rest) (p.next other).is_next
 
@@ -115,9 +115,9 @@ module _ (format : Format) where
     none : fault_of (told format items) ≡ None
     none = ap fault_of is_told ∙ (listings_append p.front.front (Line (refusal_line format refusal) ∷ []) p.front.no_fault).1
 
-    pub refused_told : Takes b c (refusal_line format refusal) → ListsTold a c (Ok true) (told format items) (is_some (fault_of items))
+    pub refused_told : SinkTakes b c (refusal_line format refusal) → ListsMembers a c (Ok true) (told format items) (is_some (fault_of items))
     refused_told line =
-        (record { takes = rw lines (Takes-then (lines_of p.front.front) (refusal_line format refusal) p.front.takes line); no_fault = none }, sym (ap is_some (part_fault items refusal other p)))
+        (record { takes = rw lines (SinkTakes-then (lines_of p.front.front) (refusal_line format refusal) p.front.takes line); no_fault = none }, sym (ap is_some (part_fault items refusal other p)))
 
-    pub failed_told : (fault : OutFault) (any : Bool) → TakesFront b c (refusal_line format refusal) → ListsTold a c (Err (Out fault)) (told format items) any
-    failed_told fault any line = (rw lines (TakesFront-then (lines_of p.front.front) (refusal_line format refusal) p.front.takes line), tt)
+    pub failed_told : (fault : OutFault) (any : Bool) → SinkTakesPrefix b c (refusal_line format refusal) → ListsMembers a c (Err (Out fault)) (told format items) any
+    failed_told fault any line = (rw lines (SinkTakesPrefix-then (lines_of p.front.front) (refusal_line format refusal) p.front.takes line), tt)

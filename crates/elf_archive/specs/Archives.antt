@@ -1,7 +1,7 @@
 -- What is answered before the members of an archive, and of their data.
 use Rattle.std.specs.Prelude.{ℕ, ◌≡◌, List, None, Some, Result, Ok, Err}
 use Rattle.elf_model.specs.Archive.{archive_checks}
-use Rattle.elf_model.specs.Budget.{IsBudget}
+use Rattle.elf_model.specs.Budget.{IsBudgetRefusal}
 use Rattle.elf_model.specs.Checks.{first_refusal}
 use Rattle.elf_headers.specs.declared.fault.Fault.{Fault}
 use Rattle.elf_headers.specs.declared.fault.Fault.TheVariants.{Refused, Source}
@@ -9,5 +9,5 @@ use Rattle.elf_headers.specs.declared.fault.Fault.TheVariants.{Refused, Source}
 -- a read of the magic string answers that the file may be an archive, or the first check that fails
 abbrev pub MagicRead : {X : Type 0} → List ℕ → Result X Fault → Type 0
 MagicRead file (Ok x) = first_refusal (archive_checks file) ≡ None
-MagicRead file (Err (Refused refusal)) = (IsBudget refusal → ⊥) → first_refusal (archive_checks file) ≡ Some refusal
+MagicRead file (Err (Refused refusal)) = (IsBudgetRefusal refusal → ⊥) → first_refusal (archive_checks file) ≡ Some refusal
 MagicRead file (Err (Source fault at)) = Unit {0}

@@ -1,26 +1,26 @@
 -- The first fault of an archive: of itself, of a member's listing, or of the walk over its members.
 use Rattle.std.specs.Prelude.{ℕ, ◌≡◌, ◌<◌, ◌⊎◌, List, length, Option, None, Some, Result, Ok, Err}
-use Rattle.elf_model.specs.Archive.{Progress, members_from}
+use Rattle.elf_model.specs.Archive.{MemberWalkState, members_from}
 use Rattle.elf_model.specs.ArchiveCost.{archive_cost}
-use Rattle.elf_model.specs.Budget.{IsBudget}
+use Rattle.elf_model.specs.Budget.{IsBudgetRefusal}
 use Rattle.elf_model.specs.FileLists.{archive_fault, first_fault}
 use Rattle.elf_model.specs.Style.{Style}
 use Rattle.elf_model.specs.declared.causes.Refusal.{Refusal}
-use Rattle.elf_source.specs.Source.{Counting, Faults}
+use Rattle.elf_source.specs.Source.{CountedState, IsSourceFault}
 use Rattle.elf_headers.specs.Permitted.{style_of}
 use Rattle.elf_headers.specs.declared.caps.Caps.{Caps}
-use Rattle.elf_headers.specs.declared.stop.Stop.{Stop}
-use Rattle.elf_headers.specs.declared.stop.Stop.TheVariants.{Refused, Source, Out}
+use Rattle.elf_headers.specs.declared.stop.RunFault.{RunFault}
+use Rattle.elf_headers.specs.declared.stop.RunFault.TheVariants.{Refused, Source, Out}
 
 -- the first fault from where a walk over members has come to, over at most so many
-abbrev pub fault_from : List ℕ → ℕ → Style → ℕ → ℕ → Progress → Option Refusal
+abbrev pub fault_from : List ℕ → ℕ → Style → ℕ → ℕ → MemberWalkState → Option Refusal
 fault_from file headers style parts most p =
     first_fault file headers style parts (members_from most file style.cap p).members (members_from most file style.cap p).refusal
 
 -- a call answers the first fault, unless it stopped sooner
-abbrev pub FindsFault : {X : Type 0} → Option Refusal → Result X Stop → Type 0
+abbrev pub FindsFault : {X : Type 0} → Option Refusal → Result X RunFault → Type 0
 FindsFault fault (Ok x) = fault ≡ None
-FindsFault fault (Err (Refused refusal)) = (IsBudget refusal → ⊥) → fault ≡ Some refusal
+FindsFault fault (Err (Refused refusal)) = (IsBudgetRefusal refusal → ⊥) → fault ≡ Some refusal
 FindsFault fault (Err (Source cause at)) = Unit {0}
 FindsFault fault (Err (Out cause)) = Unit {0}
 
@@ -28,7 +28,7 @@ FindsFault fault (Err (Out cause)) = Unit {0}
 pub record IsOverBudget (size : ℕ) (fault : Option Refusal) : Type 0 where
   pub refusal : Refusal
   pub is : fault ≡ Some refusal
-  pub for_budget : IsBudget refusal
+  pub for_budget : IsBudgetRefusal refusal
   pub inside : refusal.at < size
 
 -- the fault of an archive within a budget: its own, or where its listing costs more than the budget, perhaps that
@@ -39,7 +39,7 @@ IsArchiveFault (Some budget) file headers style parts fault =
     ⊎ ((budget < archive_cost file headers style parts) × IsOverBudget (length file) fault)
 
 -- WHAT IS FOUND of an archive with these caps and parts: its fault within the budget, or that there is none, unless a read failed
-abbrev pub FindsFirst : {X : Type 0} → Caps → ℕ → List ℕ → Result X Stop → Type 0
+abbrev pub FindsFirst : {X : Type 0} → Caps → ℕ → List ℕ → Result X RunFault → Type 0
 FindsFirst caps parts file (Ok x) = IsArchiveFault caps.limits.budget file caps.limits.headers (style_of caps.style) parts None
 FindsFirst caps parts file (Err (Refused refusal)) =
     IsArchiveFault caps.limits.budget file caps.limits.headers (style_of caps.style) parts (Some refusal)
@@ -47,7 +47,7 @@ FindsFirst caps parts file (Err (Source fault at)) = Unit {0}
 FindsFirst caps parts file (Err (Out fault)) = ⊥
 
 -- what a stop says of the source where nothing is put out
-abbrev pub ReadTells : Counting → Counting → Stop → Type 0
+abbrev pub ReadTells : CountedState → CountedState → RunFault → Type 0
 ReadTells old new (Refused refusal) = Unit {0}
-ReadTells old new (Source fault at) = Faults old.seen new.seen fault
+ReadTells old new (Source fault at) = IsSourceFault old.seen new.seen fault
 ReadTells old new (Out fault) = ⊥

@@ -1,73 +1,73 @@
 -- What the calls did that list the members of an archive.
 use Rattle.std.specs.Prelude.{ℕ, ◌≡◌, ◌<◌, ◌≤◌, ◌+◌, ◌-◌, ◌^◌, min, Bool, false, List, [], ◌∷◌, Option, None, Some, Result, Ok, Err, IfErr, IfOk, IfSome}
-use Rattle.elf_model.specs.Archive.{Extent, Member, Next, Ends, Broken, OneMember, Progress, archive_length_checks, behind, is_refused, member_items, member_listing, next_member}
+use Rattle.elf_model.specs.Archive.{FileRange, Member, NextMember, Ends, Broken, OneMember, MemberWalkState, archive_length_checks, behind, is_refused, member_items, member_listing, next_member}
 use Rattle.elf_model.specs.ArchiveCost.{IsArchiveBudgeted, allowance, any_refused, archive_ceiling, header_cost, member_cost}
-use Rattle.elf_model.specs.Budget.{IsBudget}
+use Rattle.elf_model.specs.Budget.{IsBudgetRefusal}
 use Rattle.elf_model.specs.Checks.{first_refusal}
 use Rattle.elf_model.specs.Cost.{style_ceiling}
-use Rattle.elf_model.specs.FileLists.{placed_behind}
+use Rattle.elf_model.specs.FileLists.{placed_after}
 use Rattle.elf_model.specs.Listing.{ListingItem, Fault}
-use Rattle.elf_model.specs.Names.Shown.{Whole}
+use Rattle.elf_model.specs.Names.DisplayedName.{Whole}
 use Rattle.elf_model.specs.Style.{Style}
 use Rattle.elf_model.specs.declared.causes.Refusal.{Refusal}
-use Rattle.elf_source.specs.Source.{Counting, Faults, OverLimit, Reads}
+use Rattle.elf_source.specs.Source.{CountedState, IsSourceFault, ExceedsBudget, ReadsUpTo}
 use Rattle.elf_source.specs.Ranges.{IsWholeRange}
-use Rattle.elf_source.specs.Growth.{Grows}
-use Rattle.elf_source.specs.Output.{BreaksOff, HeldBack, Written, OutFails}
+use Rattle.elf_source.specs.Growth.{OutGrows}
+use Rattle.elf_source.specs.Output.{FailsOutput, KeepsDeferred, OutState, IsOutFault}
 use Rattle.elf_source.specs.declared.faults.OutFault.{OutFault}
-use Rattle.elf_source.specs.declared.holding_sink.HeldLine.{HeldLine}
+use Rattle.elf_source.specs.declared.holding_sink.DeferredLine.{DeferredLine}
 use Rattle.elf_headers.specs.Permitted.{style_of}
 use Rattle.elf_headers.specs.declared.caps.Caps.{Caps}
-use Rattle.elf_headers.specs.declared.stop.Stop.{Stop}
-use Rattle.elf_headers.specs.declared.stop.Stop.TheVariants.{Refused, Source, Out}
-use Rattle.elf_listing.specs.Reports.{Wrote}
-use Rattle.elf_listing.specs.Shows.{Writes}
-use Rattle.elf_archive.specs.Members.{LiesIn, WalkStandsIn}
+use Rattle.elf_headers.specs.declared.stop.RunFault.{RunFault}
+use Rattle.elf_headers.specs.declared.stop.RunFault.TheVariants.{Refused, Source, Out}
+use Rattle.elf_listing.specs.Reports.{WroteText}
+use Rattle.elf_listing.specs.Shows.{WroteSome}
+use Rattle.elf_archive.specs.Members.{IsInBounds, IsMemberWalkInBounds}
 
 -- a source is a range of all bytes of an archive, and nothing of it is hidden
-pub record IsAll (c : Counting) : Type 0 where
+pub record IsAll (c : CountedState) : Type 0 where
   pub whole : IsWholeRange c.seen
   pub shows : c.hides ≡ false
 
 -- some bytes lie within such a source, of fewer than 2^63 bytes
-pub record HoldsPart (c : Counting) (part : Extent) : Type 0 where
+pub record HoldsPart (c : CountedState) (part : FileRange) : Type 0 where
   pub whole : IsAll c
   pub size : c.seen.size < 2 ^ 63
-  pub lies : LiesIn c.seen.size part
+  pub lies : IsInBounds c.seen.size part
 
 -- what a refusal says of the source, by reads of at most n bytes: where it is for want of budget, it names an offset of the file
-abbrev pub BudgetSays : Counting → Counting → ℕ → Refusal → Type 0
-BudgetSays old new n refusal = IsBudget refusal → (refusal.at < old.seen.size) × OverLimit old new n
+abbrev pub BudgetSays : CountedState → CountedState → ℕ → Refusal → Type 0
+BudgetSays old new n refusal = IsBudgetRefusal refusal → (refusal.at < old.seen.size) × ExceedsBudget old new n
 
 -- what a stop says of the source and the output
-abbrev pub StopTells : Counting → Counting → Written → ℕ → Stop → Type 0
+abbrev pub StopTells : CountedState → CountedState → OutState → ℕ → RunFault → Type 0
 StopTells old new out n (Refused refusal) = BudgetSays old new n refusal
-StopTells old new out n (Source fault at) = Faults old.seen new.seen fault
-StopTells old new out n (Out fault) = OutFails out fault
+StopTells old new out n (Source fault at) = IsSourceFault old.seen new.seen fault
+StopTells old new out n (Out fault) = IsOutFault out fault
 
 -- WHAT A CALL TAKES of the source: it asked for at most n bytes, and a stop says what is so
-abbrev pub Consumes : {X : Type 0} → Counting → Counting → Written → Result X Stop → ℕ → Type 0
-Consumes old new out result n = Reads old new n × IfErr result (StopTells old new out n)
+abbrev pub Consumes : {X : Type 0} → CountedState → CountedState → OutState → Result X RunFault → ℕ → Type 0
+Consumes old new out result n = ReadsUpTo old new n × IfErr result (StopTells old new out n)
 
 -- an offset behind another one, as far as 64 bits go
-abbrev pub behind_start : ℕ → ℕ → ℕ
-behind_start start at = min (start + at) (2 ^ 64 - 1)
+abbrev pub after_start : ℕ → ℕ → ℕ
+after_start start at = min (start + at) (2 ^ 64 - 1)
 
 -- WHAT A CALL DID that goes through what an archive has, for every source: the store has as many slots, what was written stays,
 -- and no more was asked for than its ceiling; and where the file is known, what it cost and what it showed
-pub record GoesThrough {X : Type 0} (headers now : ℕ) (style : Style) (parts : ℕ) (a b : Counting) (old new : Written) (result : Result X Stop) (most : ℕ → Style → ℕ) (costs : List ℕ → ℕ → Style → ℕ → ℕ) (shown : List ℕ → ℕ → Style → ℕ → Type 0) : Type 0 where
+pub record GoesThrough {X : Type 0} (headers now : ℕ) (style : Style) (parts : ℕ) (a b : CountedState) (old new : OutState) (result : Result X RunFault) (most : ℕ → Style → ℕ) (costs : List ℕ → ℕ → Style → ℕ → ℕ) (shown : List ℕ → ℕ → Style → ℕ → Type 0) : Type 0 where
   pub slots : now ≡ headers
-  pub grows : Grows old new
+  pub grows : OutGrows old new
   pub ceiling : Consumes a b new result (most headers style)
   pub cost : (file : List ℕ) → a.seen.file ≡ Some file → Consumes a b new result (costs file headers style parts)
   pub shows : (file : List ℕ) → a.seen.file ≡ Some file → shown file headers style parts
 
 -- a member with these data: neither what is listed behind its line nor what that costs depends on more
-abbrev pub member_at : Extent → Member
+abbrev pub member_at : FileRange → Member
 member_at extent = record { index = 0; extent = extent; name = Whole [] }
 
 -- the same of one that goes through the listing of a member's data: its ceiling, its cost, and what it showed of the listing's items
-abbrev pub GoesThroughMember : {X : Type 0} → Extent → (headers now : ℕ) → Style → ℕ → (a b : Counting) → (old new : Written) → Result X Stop → (Style → List ListingItem → Type 0) → Type 0
+abbrev pub GoesThroughMember : {X : Type 0} → FileRange → (headers now : ℕ) → Style → ℕ → (a b : CountedState) → (old new : OutState) → Result X RunFault → (Style → List ListingItem → Type 0) → Type 0
 GoesThroughMember extent headers now style parts a b old new result shown =
     GoesThrough headers now style parts a b old new result (λ slots by. 4 + style_ceiling extent.size slots by)
     (λ file slots by which. member_cost file slots by which (member_at extent))
@@ -75,50 +75,50 @@ GoesThroughMember extent headers now style parts a b old new result shown =
 
 -- how the listing of a member that begins at an offset of a file ended: its own refusal is an answer, and what stops all is told
 -- with an offset of the file
-abbrev pub EndsPart : {X : Type 0} → ℕ → Result X Stop → Result (Option Refusal) Stop → Type 0
+abbrev pub EndsPart : {X : Type 0} → ℕ → Result X RunFault → Result (Option Refusal) RunFault → Type 0
 EndsPart start (Ok x) result = result ≡ Ok None
 EndsPart start (Err (Refused refusal)) result =
-    (IsBudget refusal → result ≡ Err (Refused (placed_behind start refusal))) × ((IsBudget refusal → ⊥) → result ≡ Ok (Some refusal))
-EndsPart start (Err (Source fault at)) result = result ≡ Err (Source fault (behind_start start at))
+    (IsBudgetRefusal refusal → result ≡ Err (Refused (placed_after start refusal))) × ((IsBudgetRefusal refusal → ⊥) → result ≡ Ok (Some refusal))
+EndsPart start (Err (Source fault at)) result = result ≡ Err (Source fault (after_start start at))
 EndsPart start (Err (Out fault)) result = result ≡ Err (Out fault)
 
 -- what was written of a member's listing: all of it, or what stands before its own refusal, which is answered; else a front of it
-abbrev pub ListsMember : Written → Written → Result (Option Refusal) Stop → List ListingItem → Type 0
-ListsMember old new (Ok None) items = Writes {X = Unit {0}} old new (Ok tt) items
-ListsMember old new (Ok (Some refusal)) items = Writes {X = Unit {0}} old new (Err (Refused refusal)) items
-ListsMember old new (Err (Refused refusal)) items = IsBudget refusal × Writes {X = Unit {0}} old new (Err (Refused refusal)) items
-ListsMember old new (Err stop) items = Writes {X = Unit {0}} old new (Err stop) items
+abbrev pub ListsMember : OutState → OutState → Result (Option Refusal) RunFault → List ListingItem → Type 0
+ListsMember old new (Ok None) items = WroteSome {X = Unit {0}} old new (Ok tt) items
+ListsMember old new (Ok (Some refusal)) items = WroteSome {X = Unit {0}} old new (Err (Refused refusal)) items
+ListsMember old new (Err (Refused refusal)) items = IsBudgetRefusal refusal × WroteSome {X = Unit {0}} old new (Err (Refused refusal)) items
+ListsMember old new (Err stop) items = WroteSome {X = Unit {0}} old new (Err stop) items
 
 -- MEMBERS WERE LISTED: these items were written, and the answer is whether a listing was refused
-abbrev pub ListsTold : Written → Written → Result Bool Stop → List ListingItem → Bool → Type 0
-ListsTold old new result items any = Writes old new result items × IfOk result (λ refused. refused ≡ any)
+abbrev pub ListsMembers : OutState → OutState → Result Bool RunFault → List ListingItem → Bool → Type 0
+ListsMembers old new result items any = WroteSome old new result items × IfOk result (λ refused. refused ≡ any)
 
 -- a line is held back, or the output fails for good with nothing of the line
-abbrev pub HoldsOrBreaks : Written → Written → Result HeldLine OutFault → List ℕ → Type 0
-HoldsOrBreaks old new (Ok held) line = HeldBack old new line held
-HoldsOrBreaks old new (Err fault) line = BreaksOff old new fault
+abbrev pub HoldsOrBreaks : OutState → OutState → Result DeferredLine OutFault → List ℕ → Type 0
+HoldsOrBreaks old new (Ok held) line = KeepsDeferred old new line held
+HoldsOrBreaks old new (Err fault) line = FailsOutput old new fault
 
 -- the answer behind a listing whose line was ended: the same, where the output failed with the count as it is then
-abbrev pub AnswersBehind : Result Bool Stop → Written → Result Bool Stop → Type 0
-AnswersBehind (Ok refused) new result = result ≡ Ok refused
-AnswersBehind (Err (Refused refusal)) new result = result ≡ Err (Refused refusal)
-AnswersBehind (Err (Source fault at)) new result = result ≡ Err (Source fault at)
-AnswersBehind (Err (Out fault)) new result = (now : OutFault) × (result ≡ Err (Out now)) × (now.written ≡ new.written)
+abbrev pub AnswersAfter : Result Bool RunFault → OutState → Result Bool RunFault → Type 0
+AnswersAfter (Ok refused) new result = result ≡ Ok refused
+AnswersAfter (Err (Refused refusal)) new result = result ≡ Err (Refused refusal)
+AnswersAfter (Err (Source fault at)) new result = result ≡ Err (Source fault at)
+AnswersAfter (Err (Out fault)) new result = (now : OutFault) × (result ≡ Err (Out now)) × (now.written ≡ new.written)
 
 -- what is listed at the next place of a walk
-abbrev pub next_items : (alone : Bool) → List ℕ → ℕ → Style → ℕ → Next → List ListingItem
+abbrev pub next_items : (alone : Bool) → List ℕ → ℕ → Style → ℕ → NextMember → List ListingItem
 next_items alone file headers style parts Ends = []
 next_items alone file headers style parts (Broken refusal) = Fault refusal ∷ []
 next_items alone file headers style parts (OneMember member) = member_items alone file headers style parts member
 
 -- what that costs at most
-abbrev pub next_cost : List ℕ → ℕ → Style → ℕ → Progress → Next → ℕ
+abbrev pub next_cost : List ℕ → ℕ → Style → ℕ → MemberWalkState → NextMember → ℕ
 next_cost file headers style parts p Ends = header_cost file style.cap p
 next_cost file headers style parts p (Broken refusal) = header_cost file style.cap p
 next_cost file headers style parts p (OneMember member) = header_cost file style.cap p + member_cost file headers style parts member
 
 -- a step of a listing tells where its walk has come to, and whether the member was refused
-abbrev pub StepsTo : List ℕ → ℕ → Style → ℕ → Progress → Progress → Result (Option Bool) Stop → Type 0
+abbrev pub StepsTo : List ℕ → ℕ → Style → ℕ → MemberWalkState → MemberWalkState → Result (Option Bool) RunFault → Type 0
 StepsTo file headers style parts old new (Ok None) = next_member file style.cap old ≡ Ends
 StepsTo file headers style parts old new (Ok (Some refused)) =
     (member : Member) × (next_member file style.cap old ≡ OneMember member) × (new ≡ behind file old member)
@@ -126,56 +126,56 @@ StepsTo file headers style parts old new (Ok (Some refused)) =
 StepsTo file headers style parts old new (Err stop) = Unit {0}
 
 -- what is kept of an allowance for the members behind a step
-abbrev pub kept_for : ℕ → ℕ → Style → Progress → Result (Option Bool) Stop → ℕ
+abbrev pub kept_for : ℕ → ℕ → Style → MemberWalkState → Result (Option Bool) RunFault → ℕ
 kept_for size headers style new (Ok None) = 0
 kept_for size headers style new (Ok (Some refused)) = allowance (size - new.at) headers style
 kept_for size headers style new (Err stop) = 0
 
 -- what a step takes for every source
-pub record StepsWithin (headers : ℕ) (style : Style) (old new : Progress) (a b : Counting) (out : Written) (result : Result (Option Bool) Stop) : Type 0 where
+pub record StepsWithin (headers : ℕ) (style : Style) (old new : MemberWalkState) (a b : CountedState) (out : OutState) (result : Result (Option Bool) RunFault) : Type 0 where
   pub bytes : ℕ
   pub within : bytes + kept_for a.seen.size headers style new result ≤ allowance (a.seen.size - old.at) headers style
   pub takes : Consumes a b out result bytes
 
 -- the walk behind a member stands in the source still, and further on
-abbrev pub StandsBehind : ℕ → Progress → Progress → Result (Option Bool) Stop → Type 0
+abbrev pub StandsBehind : ℕ → MemberWalkState → MemberWalkState → Result (Option Bool) RunFault → Type 0
 StandsBehind size old new (Ok None) = Unit {0}
-StandsBehind size old new (Ok (Some refused)) = WalkStandsIn size new × (old.at < new.at)
+StandsBehind size old new (Ok (Some refused)) = IsMemberWalkInBounds size new × (old.at < new.at)
 StandsBehind size old new (Err stop) = Unit {0}
 
 -- A STEP OF A LISTING, of which the walk was at one place and is at another: what is next was listed
-pub record StepsListing (alone : Bool) (headers now : ℕ) (style : Style) (parts : ℕ) (p q : Progress) (a b : Counting) (old new : Written) (result : Result (Option Bool) Stop) : Type 0 where
+pub record StepsListing (alone : Bool) (headers now : ℕ) (style : Style) (parts : ℕ) (p q : MemberWalkState) (a b : CountedState) (old new : OutState) (result : Result (Option Bool) RunFault) : Type 0 where
   pub slots : now ≡ headers
-  pub grows : Grows old new
+  pub grows : OutGrows old new
   pub stands : StandsBehind a.seen.size p q result
   pub within : StepsWithin headers style p q a b new result
   pub cost : (file : List ℕ) → a.seen.file ≡ Some file → Consumes a b new result (next_cost file headers style parts p (next_member file style.cap p))
-  pub text : (file : List ℕ) → a.seen.file ≡ Some file → Writes old new result (next_items alone file headers style parts (next_member file style.cap p))
+  pub text : (file : List ℕ) → a.seen.file ≡ Some file → WroteSome old new result (next_items alone file headers style parts (next_member file style.cap p))
   pub steps : (file : List ℕ) → a.seen.file ≡ Some file → StepsTo file headers style parts p q result
 
 -- THE TEXT: what these caps and parts list of an archive was written, its report or, where it costs more than the budget, a
 -- front of whole lines and the line of the budget; at a fault of the source or the output a front of that. At the end the answer
 -- is whether the listing of a member was refused
-pub record ReportsArchive (alone : Bool) (file : List ℕ) (caps : Caps) (parts : ℕ) (old new : Written) (result : Result Bool Stop) : Type 0 where
+pub record ReportsArchive (alone : Bool) (file : List ℕ) (caps : Caps) (parts : ℕ) (old new : OutState) (result : Result Bool RunFault) : Type 0 where
   pub text : List ℕ
   pub fault : Option Refusal
   pub listed : IsArchiveBudgeted alone caps.limits.budget file caps.limits.headers (style_of caps.style) parts text fault
-  pub wrote : Wrote old new result text fault
+  pub wrote : WroteText old new result text fault
   pub refused : (any : Bool) → result ≡ Ok any → any ≡ any_refused file caps.limits.headers (style_of caps.style) parts
 
 -- what a fault says of the source and the output
-abbrev pub ArchiveSays : Counting → Counting → Written → Stop → Type 0
+abbrev pub ArchiveSays : CountedState → CountedState → OutState → RunFault → Type 0
 ArchiveSays old new out (Refused refusal) = Unit {0}
-ArchiveSays old new out (Source fault at) = Faults old.seen new.seen fault
-ArchiveSays old new out (Out fault) = OutFails out fault
+ArchiveSays old new out (Source fault at) = IsSourceFault old.seen new.seen fault
+ArchiveSays old new out (Out fault) = IsOutFault out fault
 
 -- WHAT IS ASKED FOR, for every source: no more than the ceiling, and nothing where the length refuses the file; never more than
 -- the budget; and where the answer is that the budget is used up, fewer than 4,096 bytes of it are left, and the answer names an
 -- offset of the file
-pub record AsksInArchive {X : Type 0} (caps : Caps) (old new : Counting) (result : Result X Stop) : Type 0 where
+pub record AsksInArchive {X : Type 0} (caps : Caps) (old new : CountedState) (result : Result X RunFault) : Type 0 where
   pub ceiling : new.asked ≤ old.asked + archive_ceiling old.seen.size caps.limits.headers (style_of caps.style)
   pub unread : (refusal : Refusal) → first_refusal (archive_length_checks old.seen.size) ≡ Some refusal → new.seen ≡ old.seen × new.asked ≡ old.asked
   pub budget : IfSome caps.limits.budget (λ bytes. new.asked ≤ old.asked + bytes)
-  pub late : (refusal : Refusal) → result ≡ Err (Refused refusal) → IsBudget refusal
+  pub late : (refusal : Refusal) → result ≡ Err (Refused refusal) → IsBudgetRefusal refusal
       → (bytes : ℕ) × (caps.limits.budget ≡ Some bytes) × (old.asked + bytes < new.asked + 4096)
-  pub inside : (refusal : Refusal) → result ≡ Err (Refused refusal) → IsBudget refusal → refusal.at < old.seen.size
+  pub inside : (refusal : Refusal) → result ≡ Err (Refused refusal) → IsBudgetRefusal refusal → refusal.at < old.seen.size

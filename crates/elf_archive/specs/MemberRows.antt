@@ -1,28 +1,28 @@
 -- Members of an archive in memory, as a caller goes over them.
 use Rattle.std.specs.Prelude.{ℕ, ◌≡◌, ◌+◌, ◌≤◌, ◌==◌, not, true, false, List, length, Option, None, Some, Result, Ok, Err}
-use Rattle.elf_model.specs.Archive.{Extent, Member, Ends, Broken, OneMember, Progress, archive_checks, before_members, behind, bytes_in, next_member}
+use Rattle.elf_model.specs.Archive.{FileRange, Member, Ends, Broken, OneMember, MemberWalkState, archive_checks, before_members, behind, bytes_in, next_member}
 use Rattle.elf_model.specs.Bytes.{slice}
 use Rattle.elf_model.specs.Checks.{first_refusal}
-use Rattle.elf_model.specs.Names.{Shown}
+use Rattle.elf_model.specs.Names.{DisplayedName}
 use Rattle.elf_model.specs.Notes.{capped}
 use Rattle.elf_model.specs.declared.causes.Cause.{Cause}
 use Rattle.elf_model.specs.declared.causes.Refusal.{Refusal}
 use Rattle.elf_model.specs.ShownNames.{shown_as}
 use Rattle.elf_memory.specs.declared.name.ByteRange.{ByteRange}
 use Rattle.elf_archive.specs.declared.rows.MemberRow.{MemberRow}
-use Rattle.elf_archive.specs.declared.rows.MembersLeft.{MembersLeft}
+use Rattle.elf_archive.specs.declared.rows.MemberPosition.{MemberPosition}
 use Rattle.elf_archive.specs.declared.rows.MemberName.{MemberName}
 
 -- the bytes of a range
-abbrev pub extent_in : ByteRange → Extent
+abbrev pub extent_in : ByteRange → FileRange
 extent_in range = record { at = range.at; size = range.len }
 
 -- the table of names that a place has, if it has one; it may be any bytes
-abbrev pub names_in : MembersLeft → Option Extent
+abbrev pub names_in : MemberPosition → Option FileRange
 names_in place = elim (place.has_names == 0) [ true ↦ None | false ↦ Some (extent_in place.names) ]
 
 -- the walk that has come to a place, with some index for the next member: a place counts none
-abbrev pub walk_at : ℕ → MembersLeft → Progress
+abbrev pub walk_at : ℕ → MemberPosition → MemberWalkState
 walk_at index place = record { at = place.at; index = index; names = names_in place }
 
 -- the member that a row tells: its name is the bytes at the place that the row tells
@@ -36,13 +36,13 @@ NamesMember file at size named =
     (capped 4096 (slice file at size) ≡ shown_as named.is_cut (bytes_in file (extent_in named.place))) × (named.place.at + named.place.len ≤ length file)
 
 -- a name is found where it lies, or its cause
-abbrev pub FindsMemberName : List ℕ → Result MemberName Cause → Result Shown Cause → Type 0
+abbrev pub FindsMemberName : List ℕ → Result MemberName Cause → Result DisplayedName Cause → Type 0
 FindsMemberName file (Ok named) answer =
     (answer ≡ Ok (shown_as named.is_cut (bytes_in file (extent_in named.place)))) × (named.place.at + named.place.len ≤ length file)
 FindsMemberName file (Err cause) answer = answer ≡ Err cause
 
 -- a row tells the member that stands next in a walk, and the walk goes on behind it; its data and its name lie in the file
-pub record TellsRow (file : List ℕ) (old new : MembersLeft) (row : MemberRow) : Type 0 where
+pub record ReturnsRow (file : List ℕ) (old new : MemberPosition) (row : MemberRow) : Type 0 where
   pub member : (index : ℕ) → next_member file 4096 (walk_at index old) ≡ OneMember (member_in file index row)
   pub goes_on : (index : ℕ) → walk_at (index + 1) new ≡ behind file (walk_at index old) (member_in file index row)
   pub header : row.at ≡ old.at
@@ -54,13 +54,13 @@ pub record TellsRow (file : List ℕ) (old new : MembersLeft) (row : MemberRow) 
 
 -- A STEP over the next member of a walk: its row; or the walk is at the file's end; or no member stands there, for this cause. Names
 -- are shown with at most 4,096 bytes
-abbrev pub StepsMember : List ℕ → MembersLeft → MembersLeft → Result (Option MemberRow) Refusal → Type 0
-StepsMember file old new (Ok (Some row)) = TellsRow file old new row
+abbrev pub StepsMember : List ℕ → MemberPosition → MemberPosition → Result (Option MemberRow) Refusal → Type 0
+StepsMember file old new (Ok (Some row)) = ReturnsRow file old new row
 StepsMember file old new (Ok None) = (new ≡ old) × ((index : ℕ) → next_member file 4096 (walk_at index old) ≡ Ends)
 StepsMember file old new (Err refusal) = (new ≡ old) × ((index : ℕ) → next_member file 4096 (walk_at index old) ≡ Broken refusal)
 
 -- WHAT A CALLER HAS of an archive: a place before its first member, or the first check that fails
-abbrev pub OpensMembers : List ℕ → Result (Option MembersLeft) Refusal → Type 0
+abbrev pub OpensMembers : List ℕ → Result (Option MemberPosition) Refusal → Type 0
 OpensMembers file (Ok (Some place)) =
     (first_refusal (archive_checks file) ≡ None) × (walk_at 0 place ≡ before_members) × (place.names ≡ record { at = 0; len = 0 }) × (place.none ≡ 0)
 OpensMembers file (Ok None) = ⊥

@@ -1,12 +1,12 @@
 -- What a cursor over members tells.
 use Rattle.std.specs.Prelude.{ℕ, ◌≡◌, ◌+◌, ◌*◌, ◌^◌, ◌<◌, ◌≤◌, if◌then◌else◌, is_some, nat_le, Bool, List, length, take, Option, None, Some, Result, Ok, Err, IfErr, IfSome, option_map}
-use Rattle.elf_source.specs.Source.{Counting, Reads}
-use Rattle.elf_headers.specs.Faults.{Says}
-use Rattle.elf_model.specs.Archive.{Extent, Member, Ends, Broken, OneMember, Progress, behind, is_name_table, long_of, long_offset, newline_in, next_member}
+use Rattle.elf_source.specs.Source.{CountedState, ReadsUpTo}
+use Rattle.elf_headers.specs.Faults.{IsReadFault}
+use Rattle.elf_model.specs.Archive.{FileRange, Member, Ends, Broken, OneMember, MemberWalkState, behind, is_name_table, long_of, long_offset, newline_in, next_member}
 use Rattle.elf_model.specs.ArchiveCost.{is_elsewhere, long_name_bytes}
-use Rattle.elf_model.specs.Budget.{IsBudget}
+use Rattle.elf_model.specs.Budget.{IsBudgetRefusal}
 use Rattle.elf_model.specs.Cost.{cost_where}
-use Rattle.elf_model.specs.Names.{Shown}
+use Rattle.elf_model.specs.Names.{DisplayedName}
 use Rattle.elf_model.specs.Notes.{capped}
 use Rattle.elf_model.specs.declared.causes.Cause.{Cause}
 use Rattle.elf_model.specs.declared.causes.Cause.TheVariants.{MemberCut, NameUnended}
@@ -14,15 +14,15 @@ use Rattle.elf_headers.specs.declared.fault.Fault.{Fault}
 use Rattle.elf_headers.specs.declared.fault.Fault.TheVariants.{Refused, Source}
 use Rattle.elf_model.specs.ShownNames.{shown_as}
 use Rattle.elf_table.specs.NamesRead.{Refuses}
-use Rattle.elf_archive.specs.declared.member.Extent.{Extent as Place}
+use Rattle.elf_archive.specs.declared.member.FileRange.{FileRange as Place}
 use Rattle.elf_archive.specs.declared.member.Member.{Member as Given}
 
 -- some bytes of a file
-abbrev pub extent_of : Place → Extent
+abbrev pub extent_of : Place → FileRange
 extent_of place = record { at = place.at; size = place.size }
 
 -- the table of names, if there was one
-abbrev pub extent_of_names : Option Place → Option Extent
+abbrev pub extent_of_names : Option Place → Option FileRange
 extent_of_names names = option_map extent_of names
 
 -- a member, with the bytes of its name that are shown
@@ -30,27 +30,27 @@ abbrev pub member_of : Given → List ℕ → Member
 member_of given name = record { index = given.index; extent = extent_of given.extent; name = shown_as given.is_cut name }
 
 -- some bytes lie within a source of this size
-abbrev pub LiesIn : ℕ → Extent → Type 0
-LiesIn size extent = extent.at + extent.size ≤ size
+abbrev pub IsInBounds : ℕ → FileRange → Type 0
+IsInBounds size extent = extent.at + extent.size ≤ size
 
 -- a table of names, if there was one, lies within a source of fewer than 2^63 bytes
-pub record NamesLie (size : ℕ) (names : Option Place) : Type 0 where
+pub record NamesInBounds (size : ℕ) (names : Option Place) : Type 0 where
   pub small : size < 2 ^ 63
-  pub lies : IfSome (extent_of_names names) (LiesIn size)
+  pub lies : IfSome (extent_of_names names) (IsInBounds size)
 
 -- a walk over the members stands within a source of this size, or just behind its end, and has passed over 60 bytes a member
-pub record WalkStandsIn (size : ℕ) (p : Progress) : Type 0 where
+pub record IsMemberWalkInBounds (size : ℕ) (p : MemberWalkState) : Type 0 where
   pub within : p.at ≤ size + 1
   pub passed : 8 + 60 * p.index ≤ p.at
-  pub names : IfSome p.names (LiesIn size)
+  pub names : IfSome p.names (IsInBounds size)
 
 -- a read of a member's data at an offset answers their extent, or refuses for its cause
-abbrev pub DataRead : ℕ → Result Place Fault → Result Extent Cause → Type 0
+abbrev pub DataRead : ℕ → Result Place Fault → Result FileRange Cause → Type 0
 DataRead at (Ok place) answer = answer ≡ Ok (extent_of place)
 DataRead at (Err fault) answer = Refuses at fault answer
 
 -- the extent that a header tells is that of its member's data, or there is no member
-abbrev pub DataTold : Option Place → Result Extent Cause → Type 0
+abbrev pub DataTold : Option Place → Result FileRange Cause → Type 0
 DataTold (Some place) answer = answer ≡ Ok (extent_of place)
 DataTold None answer = answer ≡ Err MemberCut
 
@@ -60,7 +60,7 @@ SizeTold (Some size) answer = answer ≡ Ok size
 SizeTold None answer = answer ≡ Err MemberCut
 
 -- a read of a member's name answers whether it is cut, and leaves its bytes, or refuses for its cause
-abbrev pub NameShown : ℕ → Result Bool Fault → List ℕ → Result Shown Cause → Type 0
+abbrev pub NameShown : ℕ → Result Bool Fault → List ℕ → Result DisplayedName Cause → Type 0
 NameShown at (Ok cut) name answer = answer ≡ Ok (shown_as cut name)
 NameShown at (Err fault) name answer = Refuses at fault answer
 
@@ -78,30 +78,30 @@ LengthTold front cap (Some size) =
 LengthTold front cap None = long_of cap front (newline_in front) ≡ Err NameUnended
 
 -- a step over the next member: it is given, with the bytes of its name, or the file's end is told, or its refusal
-abbrev pub TellsMember : List ℕ → ℕ → Progress → Progress → List ℕ → Result (Option Given) Fault → Type 0
-TellsMember file cap old new name (Ok None) = next_member file cap old ≡ Ends
-TellsMember file cap old new name (Ok (Some given)) =
+abbrev pub ReturnsMember : List ℕ → ℕ → MemberWalkState → MemberWalkState → List ℕ → Result (Option Given) Fault → Type 0
+ReturnsMember file cap old new name (Ok None) = next_member file cap old ≡ Ends
+ReturnsMember file cap old new name (Ok (Some given)) =
     (next_member file cap old ≡ OneMember (member_of given name)) × (new ≡ behind file old (member_of given name))
-TellsMember file cap old new name (Err (Refused refusal)) = (IsBudget refusal → ⊥) → next_member file cap old ≡ Broken refusal
-TellsMember file cap old new name (Err (Source fault at)) = Unit {0}
+ReturnsMember file cap old new name (Err (Refused refusal)) = (IsBudgetRefusal refusal → ⊥) → next_member file cap old ≡ Broken refusal
+ReturnsMember file cap old new name (Err (Source fault at)) = Unit {0}
 
 -- what a step passes over: a member that it gives lies within the source, behind its header, and the walk stands behind it
-pub record PassesMember (size : ℕ) (old new : Progress) (given : Given) : Type 0 where
+pub record PassesMember (size : ℕ) (old new : MemberWalkState) (given : Given) : Type 0 where
   pub index : given.index ≡ old.index
   pub begins : old.at + 60 ≤ given.extent.at
-  pub lies : LiesIn size (extent_of given.extent)
-  pub stands : WalkStandsIn size new
+  pub lies : IsInBounds size (extent_of given.extent)
+  pub stands : IsMemberWalkInBounds size new
   pub counts : new.index ≡ old.index + 1
   pub ends : given.extent.at + given.extent.size ≤ new.at
 
 -- the same of an answer
-abbrev pub StepsOver : ℕ → Progress → Progress → Result (Option Given) Fault → Type 0
+abbrev pub StepsOver : ℕ → MemberWalkState → MemberWalkState → Result (Option Given) Fault → Type 0
 StepsOver size old new (Ok None) = Unit {0}
 StepsOver size old new (Ok (Some given)) = PassesMember size old new given
 StepsOver size old new (Err fault) = Unit {0}
 
 -- the table of names behind a member with this header and these data: the first one decides
-abbrev pub names_passed : Option Extent → List ℕ → Extent → Option Extent
+abbrev pub names_passed : Option FileRange → List ℕ → FileRange → Option FileRange
 names_passed (Some table) header extent = Some table
 names_passed None header extent = if is_name_table header 0 then Some extent else None
 
@@ -114,9 +114,9 @@ abbrev pub told_cost : List ℕ → ℕ → ℕ
 told_cost bytes cap = cost_where (is_some (long_offset bytes)) (long_name_bytes cap)
 
 -- what a step over the next member asks for at most, whatever stands there: nothing where no header has room
-abbrev pub step_cost : ℕ → ℕ → Progress → ℕ
+abbrev pub step_cost : ℕ → ℕ → MemberWalkState → ℕ
 step_cost size cap p = cost_where (nat_le (p.at + 60) size) (60 + long_name_bytes cap)
 
 -- what reads did: they asked for at most n bytes, and a fault says what is so
-abbrev pub AsksAtMost : {X : Type 0} → Counting → Counting → Result X Fault → ℕ → Type 0
-AsksAtMost old new result n = Reads old new n × IfErr result (Says old new n)
+abbrev pub AsksAtMost : {X : Type 0} → CountedState → CountedState → Result X Fault → ℕ → Type 0
+AsksAtMost old new result n = ReadsUpTo old new n × IfErr result (IsReadFault old new n)

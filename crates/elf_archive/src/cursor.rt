@@ -4,13 +4,13 @@ ghost use Rattle.elf_model.specs.Archive.{before_members, member_data, name_in_d
 ghost use Rattle.elf_model.specs.ArchiveCost.{header_cost};
 ghost use Rattle.elf_model.specs.Bytes.{slice};
 ghost use Rattle.elf_model.specs.Cost.{cost_where};
-ghost use Rattle.elf_archive.specs.Members.{AsksAtMost, DataRead, LiesIn, WalkStandsIn, StepsOver, TellsMember, extent_of};
+ghost use Rattle.elf_archive.specs.Members.{AsksAtMost, DataRead, IsInBounds, IsMemberWalkInBounds, StepsOver, ReturnsMember, extent_of};
 ghost use Rattle.elf_archive.specs.Members.{extent_of_names, names_passed, step_cost};
 
 use crate::fields::{MEMBER_HEADER_BYTES, data_within, is_name_table, padded_end};
-use crate::member::{Extent, Member};
+use crate::member::{FileRange, Member};
 use crate::names::read_name;
-use elf_headers::{Cap, Fault, fill, refused};
+use elf_headers::{Fault, NameLimit, fill, refused};
 use elf_record::Cause;
 use elf_source::{Counted, Source};
 use elf_table::NameBuf;
@@ -24,14 +24,14 @@ pub(crate) const MAGIC_BYTES: u64 = 8;
 pub struct MemberCursor {
     at: u64,
     index: u64,
-    names: Option<Extent>,
+    names: Option<FileRange>,
 }
 
 impl Model for MemberCursor {
-    ghost use Rattle.elf_model.specs.Archive.{Progress};
+    ghost use Rattle.elf_model.specs.Archive.{MemberWalkState};
     ghost use Rattle.elf_archive.specs.Members.{extent_of_names};
 
-    ghost Value = { Progress };
+    ghost Value = { MemberWalkState };
 
     ghost view = { λ c. record { at = c.at; index = c.index; names = extent_of_names c.names } };
 }
@@ -64,18 +64,18 @@ impl MemberCursor {
     pub fn advance<S: Source>(
         &mut self,
         src: &mut Counted<S>,
-        cap: Cap,
+        cap: NameLimit,
         name: &mut NameBuf,
     ) -> Result<Option<Member>, Fault>
         requires size { src.old.seen.size < 2 ^ 63 }
-        requires stands { WalkStandsIn src.old.seen.size self.old }
+        requires stands { IsMemberWalkInBounds src.old.seen.size self.old }
         ensures asks { AsksAtMost src.old src.new result
             (step_cost src.old.seen.size cap.bytes self.old) }
         ensures cost { (file : List ℕ) → src.old.seen.file ≡ Some file →
             AsksAtMost src.old src.new result (header_cost file cap.bytes self.old) }
         ensures steps { StepsOver src.old.seen.size self.old self.new result }
         ensures tells { (file : List ℕ) → src.old.seen.file ≡ Some file →
-            TellsMember file cap.bytes self.old self.new name.new result }
+            ReturnsMember file cap.bytes self.old self.new name.new result }
     {
         if self.at >= src.length() {
             return Ok(None);
@@ -94,7 +94,7 @@ impl MemberCursor {
     }
 
     /// Goes behind the member with this header and these data.
-    fn pass(&mut self, header: &[u8; MEMBER_HEADER_BYTES], extent: Extent)
+    fn pass(&mut self, header: &[u8; MEMBER_HEADER_BYTES], extent: FileRange)
         requires ends { (self.old.at + 60 ≤ extent.at) × (extent.at + extent.size < 2 ^ 63) }
         requires count { self.old.index < 2 ^ 63 }
         ensures at { self.new.at ≡ padded_end self.old.at (extent.at + extent.size) }
@@ -119,11 +119,11 @@ fn read_header<S: Source>(
     src: &mut Counted<S>,
     at: u64,
     header: &mut [u8; MEMBER_HEADER_BYTES],
-) -> Result<Extent, Fault>
+) -> Result<FileRange, Fault>
     requires { (src.old.seen.size < 2 ^ 63) × (at < src.old.seen.size) }
     ensures asks { AsksAtMost src.old src.new result
         (cost_where (nat_le (at + 60) src.old.seen.size) 60) }
-    ensures lies { IfOk result (λ extent. LiesIn src.old.seen.size (extent_of extent)
+    ensures lies { IfOk result (λ extent. IsInBounds src.old.seen.size (extent_of extent)
         × (extent.at ≡ at + 60 + name_in_data (take 16 header.new))) }
     ensures read { (file : List ℕ) → src.old.seen.file ≡ Some file →
         OnOk result (header.new ≡ slice file at 60) × DataRead at result (member_data file at) }

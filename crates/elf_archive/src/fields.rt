@@ -1,13 +1,13 @@
 //! The fields of a member's header: text in columns, each filled up with spaces.
 ghost use Rattle.std.specs.Prelude.{◌≡◌, ◌==◌, ◌+◌, ◌^◌, ◌<◌, ◌≤◌, List, ℕ, length, position, take, if◌then◌else◌, Some, None, IfSome};
-ghost use Rattle.elf_model.specs.Archive.{are_all, bsd_name_size, digits_then_spaces, is_decimal};
-ghost use Rattle.elf_model.specs.Archive.{is_name_table, long_offset, name_in_data, padded_decimal};
-ghost use Rattle.elf_model.specs.Archive.{member_data, member_size, padded_end, short_name, told_size};
+ghost use Rattle.elf_model.specs.Archive.{are_all, bsd_name_length, parse_padded_decimal, is_decimal};
+ghost use Rattle.elf_model.specs.Archive.{is_name_table, long_offset, name_in_data, padded_number};
+ghost use Rattle.elf_model.specs.Archive.{member_data, member_size, padded_end, short_name, parsed_member_size};
 ghost use Rattle.elf_model.specs.Archive.{trimmed, without_slash};
 ghost use Rattle.elf_model.specs.Bytes.{slice};
 ghost use Rattle.elf_archive.specs.Members.{DataTold, SizeTold};
 
-use crate::member::Extent;
+use crate::member::FileRange;
 use elf_record::{u16_at, u64_at};
 use memchr::memchr;
 
@@ -28,15 +28,15 @@ const HEADER_MARK: u16 = 0x0a60;
 
 /// The size of its data that a header tells; None where the header does not end in its mark, or the
 /// field is no decimal number.
-#[tactic(auto, unfolding(elf_model::specs::Archive::told_size))]
-pub(crate) fn told_size(header: &[u8; MEMBER_HEADER_BYTES]) -> Option<u64>
-    ensures value { result ≡ told_size header.now 0 }
+#[tactic(auto, unfolding(elf_model::specs::Archive::parsed_member_size))]
+pub(crate) fn parsed_member_size(header: &[u8; MEMBER_HEADER_BYTES]) -> Option<u64>
+    ensures value { result ≡ parsed_member_size header.now 0 }
     ensures small { IfSome result (λ size. size < 2 ^ 62) }
 {
     if u16_at(header, 58) != HEADER_MARK {
         return None;
     }
-    padded_decimal(&header[48..58])
+    padded_number(&header[48..58])
 }
 
 /// The size of all data that a header tells, where the header and they have room in `left` bytes, of
@@ -47,7 +47,7 @@ pub(crate) fn size_within(header: &[u8; MEMBER_HEADER_BYTES], left: u64) -> Opti
     ensures size { (file : List ℕ) (at : ℕ) → header.now ≡ slice file at 60 →
         length file ≡ at + left → SizeTold result (member_size file at) }
 {
-    let Some(size) = told_size(header) else {
+    let Some(size) = parsed_member_size(header) else {
         return None;
     };
     if left - (MEMBER_HEADER_BYTES as u64) < size {
@@ -59,7 +59,11 @@ pub(crate) fn size_within(header: &[u8; MEMBER_HEADER_BYTES], left: u64) -> Opti
 /// The data that the header at the file offset `at` tells, behind the name where that stands at their
 /// front, where the header and all data have room in `left` bytes, of which the header has 60; None
 /// where no size is told, or one that has no room there, or the name has no room in the data.
-pub(crate) fn data_within(header: &[u8; MEMBER_HEADER_BYTES], at: u64, left: u64) -> Option<Extent>
+pub(crate) fn data_within(
+    header: &[u8; MEMBER_HEADER_BYTES],
+    at: u64,
+    left: u64,
+) -> Option<FileRange>
     requires header { 60 ≤ left }
     requires small { at + left < 2 ^ 63 }
     ensures begins { IfSome result (λ extent.
@@ -75,7 +79,7 @@ pub(crate) fn data_within(header: &[u8; MEMBER_HEADER_BYTES], at: u64, left: u64
     if size < name {
         return None;
     }
-    Some(Extent {
+    Some(FileRange {
         at: at + MEMBER_HEADER_BYTES as u64 + name,
         size: size - name,
     })
@@ -108,21 +112,21 @@ pub(crate) fn long_offset(field: &[u8]) -> Option<u64>
     if field[0] != b'/' {
         return None;
     }
-    padded_decimal(&field[1..16])
+    padded_number(&field[1..16])
 }
 
 /// How many bytes at the front of a member's data are its name, where the field of its name tells it:
 /// `#1/` and a decimal number, as BSD's `ar` writes it (FreeBSD's ar(5)).
-#[tactic(auto, unfolding(elf_model::specs::Archive::bsd_name_size))]
-pub(crate) fn bsd_name_size(field: &[u8]) -> Option<u64>
+#[tactic(auto, unfolding(elf_model::specs::Archive::bsd_name_length))]
+pub(crate) fn bsd_name_length(field: &[u8]) -> Option<u64>
     requires { length field.now ≡ 16 }
-    ensures value { result ≡ bsd_name_size field.now }
+    ensures value { result ≡ bsd_name_length field.now }
     ensures small { IfSome result (λ size. size < 2 ^ 62) }
 {
     if field[0] != b'#' || field[1] != b'1' || field[2] != b'/' {
         return None;
     }
-    padded_decimal(&field[3..16])
+    padded_number(&field[3..16])
 }
 
 /// How many bytes of a member's data its name takes, by the field of its name.
@@ -132,7 +136,7 @@ fn name_in_data(field: &[u8]) -> u64
     ensures value { result ≡ name_in_data field.now }
     ensures small { result < 2 ^ 62 }
 {
-    match bsd_name_size(field) {
+    match bsd_name_length(field) {
         Some(size) => size,
         None => 0,
     }
@@ -171,23 +175,23 @@ pub(crate) fn find_byte(byte: u8, bytes: &[u8]) -> Option<usize>
 }
 
 /// The decimal number in a field of at most 15 bytes: a digit or more, then spaces up to the end.
-#[tactic(auto, unfolding(elf_model::specs::Archive::padded_decimal))]
-fn padded_decimal(field: &[u8]) -> Option<u64>
+#[tactic(auto, unfolding(elf_model::specs::Archive::padded_number))]
+fn padded_number(field: &[u8]) -> Option<u64>
     requires some { 0 < length field.now }
     requires few { length field.now ≤ 15 }
-    ensures value { result ≡ padded_decimal field.now }
+    ensures value { result ≡ padded_number field.now }
     ensures small { IfSome result (λ number. number < 2 ^ 62) }
 {
     if !is_decimal(field[0]) {
         return None;
     }
-    digits_then_spaces(field)
+    parse_padded_decimal(field)
 }
 
 /// The number that the digits before any other byte spell, where spaces alone stand from there on.
-fn digits_then_spaces(field: &[u8]) -> Option<u64>
+fn parse_padded_decimal(field: &[u8]) -> Option<u64>
     requires { length field.now ≤ 15 }
-    ensures value { result ≡ digits_then_spaces 0 field.now }
+    ensures value { result ≡ parse_padded_decimal 0 field.now }
     ensures small { IfSome result (λ number. number < 2 ^ 62) }
 {
     let mut number: u64 = 0;

@@ -6,14 +6,14 @@ ghost use Rattle.elf_model.specs.Checks.{first_refusal};
 ghost use Rattle.elf_model.specs.FileLists.{archive_fault};
 ghost use Rattle.elf_model.specs.declared.causes.Refusal.{Refusal as Refuses};
 ghost use Rattle.elf_headers.specs.Permitted.{style_of};
-ghost use Rattle.elf_listing.specs.Reports.{Leaves};
+ghost use Rattle.elf_listing.specs.Reports.{KeepsSourceUnlimited};
 ghost use Rattle.elf_archive.specs.FirstFault.{FindsFault, FindsFirst, ReadTells, fault_from};
 ghost use Rattle.elf_archive.specs.Listed.{AsksInArchive, GoesThrough, IsAll};
 
 use crate::cursor::MemberCursor;
 use crate::magic_strings::magic;
 use crate::parts::{list_member, placed};
-use elf_headers::{Caps, HeaderStore, Stop, Style};
+use elf_headers::{Caps, HeaderStore, RunFault, Style};
 use elf_record::Parts;
 use elf_source::{Counted, NullSink, Out, RangeSource, Sink, Source};
 use elf_table::NameBuf;
@@ -32,11 +32,11 @@ pub fn find_fault<S: Source>(
     store: &mut HeaderStore,
     caps: Caps,
     parts: Parts,
-) -> Result<(), Stop>
+) -> Result<(), RunFault>
     requires small { (store.old.slots ≡ caps.limits.headers) × (src.old.asked ≤ 2 ^ 127) }
     requires whole { IsAll src.old }
     ensures slots { store.new.slots ≡ store.old.slots }
-    ensures leaves { Leaves src.old src.new }
+    ensures leaves { KeepsSourceUnlimited src.old src.new }
     ensures says { IfErr result (ReadTells src.old src.new) }
     ensures finds { (file : List ℕ) → src.old.seen.file ≡ Some file →
         FindsFirst caps.entry parts.0 file result }
@@ -64,7 +64,7 @@ fn find_in_archive<S: Source, W: Sink>(
     style: Style,
     parts: Parts,
     out: &mut Out<W>,
-) -> Result<(), Stop>
+) -> Result<(), RunFault>
     requires { IsAll src.old }
     ensures finds { GoesThrough store.old.slots store.new.slots (style_of style.entry) parts.0
         src.old src.new out.old out.new result (archive_ceiling src.old.seen.size) archive_cost
@@ -87,7 +87,7 @@ fn find_in_members<S: Source, W: Sink>(
     style: Style,
     parts: Parts,
     out: &mut Out<W>,
-) -> Result<(), Stop>
+) -> Result<(), RunFault>
     requires whole { IsAll src.old }
     requires size { (8 ≤ src.old.seen.size) × (src.old.seen.size < 2 ^ 63) }
     ensures { GoesThrough store.old.slots store.new.slots (style_of style.entry) parts.0
@@ -101,7 +101,7 @@ fn find_in_members<S: Source, W: Sink>(
     let mut name = NameBuf::new();
     'members: while let Some(member) = cursor.advance(src, style.cap, &mut name)? {
         if let Some(refusal) = list_member(src, store, style, parts, member.extent, out)? {
-            return Err(Stop::Refused(placed(refusal, member.extent.at)));
+            return Err(RunFault::Refused(placed(refusal, member.extent.at)));
         }
     }
     Ok(())

@@ -14,6 +14,6 @@ mod parts;
 mod rows;
 
 pub use first_fault::find_fault;
-pub use lines::{HELD_LINE_BYTES, end_listed};
+pub use lines::{DEFERRED_LINE_BYTES, end_listed};
 pub use listing::show_archive;
-pub use rows::{MemberRow, MembersLeft, next_member, open_members};
+pub use rows::{MemberPosition, MemberRow, next_member, open_members};

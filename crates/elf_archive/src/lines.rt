@@ -1,21 +1,21 @@
 //! The line of a member, put at once or held back.
 ghost use Rattle.std.specs.Prelude.{◌≡◌, ◌-◌, ◌≤◌};
 ghost use Rattle.elf_model.specs.Archive.{member_line};
-ghost use Rattle.elf_source.specs.Output.{EndsLine, Puts};
-ghost use Rattle.elf_archive.specs.Listed.{AnswersBehind, HoldsOrBreaks};
+ghost use Rattle.elf_source.specs.Output.{EndsLine, OutPuts};
+ghost use Rattle.elf_archive.specs.Listed.{AnswersAfter, HoldsOrBreaks};
 ghost use Rattle.elf_archive.specs.Members.{member_of};
 
-use crate::member::{Extent, Member};
-use elf_fields::{Columns, LineFront, Object, show_named};
-use elf_headers::Stop;
-use elf_lines::member_front;
+use crate::member::{FileRange, Member};
+use elf_fields::{Columns, LinePrefix, Object, show_named};
+use elf_headers::RunFault;
+use elf_lines::member_prefix;
 use elf_model::Format;
-use elf_source::{HeldLine, HoldingSink, Out, OutFault, Sink, SliceSink};
+use elf_source::{DeferredLine, DeferredSink, Out, OutFault, Sink, SliceSink};
 use elf_table::NameBuf;
 
 /// The most bytes that a line has which is held back: a name of 4,096 bytes, each spelt in five at most, and
 /// what stands around it.
-pub const HELD_LINE_BYTES: usize = 20_992;
+pub const DEFERRED_LINE_BYTES: usize = 20_992;
 
 /// Writes the `A` line of a member with the bytes of its name that are shown.
 ///
@@ -27,14 +27,14 @@ pub(crate) fn show_member<W: Sink>(
     format: Format,
     out: &mut Out<W>,
 ) -> Result<(), OutFault>
-    ensures puts { Puts out.old out.new result
+    ensures puts { OutPuts out.old out.new result
         (member_line format (member_of member.now name.now)) }
 {
-    let Extent { at, size } = member.extent;
-    let mut front = LineFront::new();
+    let FileRange { at, size } = member.extent;
+    let mut front = LinePrefix::new();
     match format {
-        Format::Columns => member_front::<Columns>(&mut front, member.index, at, size),
-        Format::Object => member_front::<Object>(&mut front, member.index, at, size),
+        Format::Columns => member_prefix::<Columns>(&mut front, member.index, at, size),
+        Format::Object => member_prefix::<Object>(&mut front, member.index, at, size),
     }
     show_named(&mut front, name.bytes(), member.is_cut, out)
 }
@@ -45,22 +45,22 @@ pub(crate) fn show_member<W: Sink>(
 /// A fault of the output, with nothing of the line taken: it failed before, or fails for good since the line
 /// has no room in it.
 #[inline(never)]
-pub(crate) fn hold_member<W: Sink>(
+pub(crate) fn defer_member_line<W: Sink>(
     member: &Member,
     name: &NameBuf,
     format: Format,
-    out: &mut Out<HoldingSink<W>>,
-) -> Result<HeldLine, OutFault>
+    out: &mut Out<DeferredSink<W>>,
+) -> Result<DeferredLine, OutFault>
     ensures holds { HoldsOrBreaks out.old out.new result
         (member_line format (member_of member.now name.now)) }
 {
-    let mut buffer = [0; HELD_LINE_BYTES];
+    let mut buffer = [0; DEFERRED_LINE_BYTES];
     let mut line = Out::new(SliceSink::new(&mut buffer));
     let shown = show_member(member, name, format, &mut line);
     let sink = line.into_inner();
     match shown {
-        Ok(()) => out.hold_line(sink.written()),
-        Err(_) => Err(out.break_off()),
+        Ok(()) => out.defer_line(sink.written()),
+        Err(_) => Err(out.fail_output()),
     }
 }
 
@@ -70,17 +70,17 @@ pub(crate) fn hold_member<W: Sink>(
 /// # Errors
 /// Those of the listing, with the count of the output as it is now.
 pub fn end_listed<W: Sink>(
-    line: HeldLine,
-    listed: Result<bool, Stop>,
-    out: &mut Out<HoldingSink<W>>,
-) -> Result<bool, Stop>
+    line: DeferredLine,
+    listed: Result<bool, RunFault>,
+    out: &mut Out<DeferredSink<W>>,
+) -> Result<bool, RunFault>
     requires { out.old.written ≡ line.start → line.start - line.before ≤ out.old.held }
     ensures line { EndsLine line out.old out.new }
-    ensures listed { AnswersBehind listed out.new result }
+    ensures listed { AnswersAfter listed out.new result }
 {
     out.end_line(line);
     match listed {
-        Err(Stop::Out(_)) => Err(Stop::Out(out.fault())),
+        Err(RunFault::Out(_)) => Err(RunFault::Out(out.fault())),
         other => other,
     }
 }

@@ -7,28 +7,28 @@ ghost use Rattle.elf_model.specs.Checks.{first_refusal};
 ghost use Rattle.elf_model.specs.Listing.{fault_of};
 ghost use Rattle.elf_model.specs.declared.causes.Refusal.{Refusal as Refuses};
 ghost use Rattle.elf_headers.specs.Permitted.{style_of};
-ghost use Rattle.elf_listing.specs.Reports.{Leaves};
-ghost use Rattle.elf_source.specs.Growth.{Grows};
+ghost use Rattle.elf_listing.specs.Reports.{KeepsSourceUnlimited};
+ghost use Rattle.elf_source.specs.Growth.{OutGrows};
 ghost use Rattle.elf_archive.specs.Listed.{ArchiveSays, AsksInArchive, GoesThrough, GoesThroughMember, HoldsPart, IsAll};
-ghost use Rattle.elf_archive.specs.Listed.{ListsTold, ReportsArchive, StepsListing};
-ghost use Rattle.elf_archive.specs.Members.{WalkStandsIn, extent_of, member_of};
+ghost use Rattle.elf_archive.specs.Listed.{ListsMembers, ReportsArchive, StepsListing};
+ghost use Rattle.elf_archive.specs.Members.{IsMemberWalkInBounds, extent_of, member_of};
 
 use crate::cursor::MemberCursor;
-use crate::lines::{end_listed, hold_member, show_member};
+use crate::lines::{defer_member_line, end_listed, show_member};
 use crate::magic_strings::magic;
-use crate::member::{Extent, Member};
+use crate::member::{FileRange, Member};
 use crate::parts::list_member;
-use elf_headers::{Caps, HeaderStore, Stop, Style};
+use elf_headers::{Caps, HeaderStore, RunFault, Style};
 use elf_lines::show_refusal;
 use elf_listing::show_stop;
 use elf_record::Parts;
-use elf_source::{Counted, HoldingSink, Out, RangeSource, Sink, Source};
+use elf_source::{Counted, DeferredSink, Out, RangeSource, Sink, Source};
 use elf_table::NameBuf;
 
 /// What is listed of members: how rows are shown, which parts of a listing, and whether their lines stand
 /// alone.
 #[derive(Clone, Copy)]
-struct Choice<'n> {
+struct MemberOptions<'n> {
     style: Style<'n>,
     parts: Parts,
     alone: bool,
@@ -55,13 +55,13 @@ pub fn show_archive<S: Source, W: Sink>(
     caps: Caps,
     parts: Parts,
     alone: bool,
-    out: &mut Out<HoldingSink<W>>,
-) -> Result<bool, Stop>
+    out: &mut Out<DeferredSink<W>>,
+) -> Result<bool, RunFault>
     requires small { (store.old.slots ≡ caps.limits.headers) × (src.old.asked ≤ 2 ^ 127) }
     requires whole { IsAll src.old }
     ensures slots { store.new.slots ≡ store.old.slots }
-    ensures grows { Grows out.old out.new }
-    ensures leaves { Leaves src.old src.new }
+    ensures grows { OutGrows out.old out.new }
+    ensures leaves { KeepsSourceUnlimited src.old src.new }
     ensures says { IfErr result (ArchiveSays src.old src.new out.new) }
     ensures text { (file : List ℕ) → src.old.seen.file ≡ Some file →
         ReportsArchive alone file caps.entry parts.0 out.old out.new result }
@@ -72,7 +72,7 @@ pub fn show_archive<S: Source, W: Sink>(
     ensures asks { AsksInArchive caps.entry src.old src.new result }
 {
     src.limit(caps.limits.budget);
-    let choice = Choice {
+    let choice = MemberOptions {
         style: caps.style,
         parts,
         alone,
@@ -94,14 +94,14 @@ pub fn show_archive<S: Source, W: Sink>(
 fn list_archive<S: Source, W: Sink>(
     src: &mut Counted<RangeSource<S>>,
     store: &mut HeaderStore,
-    choice: Choice,
-    out: &mut Out<HoldingSink<W>>,
-) -> Result<bool, Stop>
+    choice: MemberOptions,
+    out: &mut Out<DeferredSink<W>>,
+) -> Result<bool, RunFault>
     requires { IsAll src.old }
     ensures lists { GoesThrough store.old.slots store.new.slots (style_of choice.entry.style)
         choice.entry.parts.0 src.old src.new out.old out.new result
         (archive_ceiling src.old.seen.size) archive_cost (λ file headers style parts.
-        ListsTold out.old out.new result (archive_items choice.entry.alone file headers style parts)
+        ListsMembers out.old out.new result (archive_items choice.entry.alone file headers style parts)
         (any_refused file headers style parts)) }
     ensures unread { (refusal : Refuses) →
         first_refusal (archive_length_checks src.old.seen.size) ≡ Some refusal →
@@ -119,16 +119,16 @@ fn list_archive<S: Source, W: Sink>(
 fn list_members<S: Source, W: Sink>(
     src: &mut Counted<RangeSource<S>>,
     store: &mut HeaderStore,
-    choice: Choice,
-    out: &mut Out<HoldingSink<W>>,
-) -> Result<bool, Stop>
+    choice: MemberOptions,
+    out: &mut Out<DeferredSink<W>>,
+) -> Result<bool, RunFault>
     requires whole { IsAll src.old }
     requires size { (8 ≤ src.old.seen.size) × (src.old.seen.size < 2 ^ 63) }
     ensures { GoesThrough store.old.slots store.new.slots (style_of choice.entry.style)
         choice.entry.parts.0 src.old src.new out.old out.new result
         (allowance (src.old.seen.size - 8)) (λ file headers style parts.
         members_cost (length file) file headers style parts before_members)
-        (λ file headers style parts. ListsTold out.old out.new result
+        (λ file headers style parts. ListsMembers out.old out.new result
         (walk_items choice.entry.alone file headers style parts (members_of file style.cap))
         (any_refused file headers style parts)) }
 {
@@ -157,14 +157,14 @@ fn list_members<S: Source, W: Sink>(
 fn list_next<S: Source, W: Sink>(
     src: &mut Counted<RangeSource<S>>,
     store: &mut HeaderStore,
-    choice: Choice,
+    choice: MemberOptions,
     cursor: &mut MemberCursor,
     name: &mut NameBuf,
-    out: &mut Out<HoldingSink<W>>,
-) -> Result<Option<bool>, Stop>
+    out: &mut Out<DeferredSink<W>>,
+) -> Result<Option<bool>, RunFault>
     requires whole { IsAll src.old }
     requires size { src.old.seen.size < 2 ^ 63 }
-    requires stands { WalkStandsIn src.old.seen.size cursor.old }
+    requires stands { IsMemberWalkInBounds src.old.seen.size cursor.old }
     ensures { StepsListing choice.entry.alone store.old.slots store.new.slots
         (style_of choice.entry.style) choice.entry.parts.0 cursor.old cursor.new
         src.old src.new out.old out.new result }
@@ -180,28 +180,28 @@ fn list_next<S: Source, W: Sink>(
 /// a line follows. Answers whether the listing was refused.
 ///
 /// # Errors
-/// As [`list_told`] and [`hold_member`].
+/// As [`list_reported`] and [`defer_member_line`].
 fn list_with_line<S: Source, W: Sink>(
     src: &mut Counted<RangeSource<S>>,
     store: &mut HeaderStore,
-    choice: Choice,
+    choice: MemberOptions,
     member: &Member,
     name: &NameBuf,
-    out: &mut Out<HoldingSink<W>>,
-) -> Result<bool, Stop>
+    out: &mut Out<DeferredSink<W>>,
+) -> Result<bool, RunFault>
     requires { HoldsPart src.old (extent_of member.now.extent) }
     ensures { GoesThroughMember (extent_of member.now.extent) store.old.slots store.new.slots
         (style_of choice.entry.style) choice.entry.parts.0 src.old src.new out.old out.new result
-        (λ style items. ListsTold out.old out.new result (line_before choice.entry.alone
+        (λ style items. ListsMembers out.old out.new result (line_before choice.entry.alone
         (member_line style.format (member_of member.now name.now)) (told style.format items))
         (is_some (fault_of items))) }
 {
     if choice.alone {
         show_member(member, name, choice.style.format, out)?;
-        return list_told(src, store, choice, member.extent, out);
+        return list_reported(src, store, choice, member.extent, out);
     }
-    let line = hold_member(member, name, choice.style.format, out)?;
-    let listed = list_told(src, store, choice, member.extent, out);
+    let line = defer_member_line(member, name, choice.style.format, out)?;
+    let listed = list_reported(src, store, choice, member.extent, out);
     end_listed(line, listed, out)
 }
 
@@ -210,18 +210,18 @@ fn list_with_line<S: Source, W: Sink>(
 ///
 /// # Errors
 /// As [`list_member`].
-fn list_told<S: Source, W: Sink>(
+fn list_reported<S: Source, W: Sink>(
     src: &mut Counted<RangeSource<S>>,
     store: &mut HeaderStore,
-    choice: Choice,
-    extent: Extent,
+    choice: MemberOptions,
+    extent: FileRange,
     out: &mut Out<W>,
-) -> Result<bool, Stop>
+) -> Result<bool, RunFault>
     requires { HoldsPart src.old (extent_of extent) }
     ensures { GoesThroughMember (extent_of extent) store.old.slots store.new.slots
         (style_of choice.entry.style) choice.entry.parts.0 src.old src.new out.old out.new result
         (λ style items.
-        ListsTold out.old out.new result (told style.format items) (is_some (fault_of items))) }
+        ListsMembers out.old out.new result (told style.format items) (is_some (fault_of items))) }
 {
     match list_member(src, store, choice.style, choice.parts, extent, out)? {
         None => Ok(false),

@@ -5,10 +5,10 @@ ghost use Rattle.elf_model.specs.Checks.{first_refusal};
 ghost use Rattle.elf_model.specs.declared.causes.Refusal.{Refusal as Refuses};
 ghost use Rattle.elf_headers.specs.Faults.{IsOfRead};
 ghost use Rattle.elf_archive.specs.Archives.{MagicRead};
-ghost use Rattle.elf_archive.specs.Members.{AsksAtMost, LiesIn, extent_of};
+ghost use Rattle.elf_archive.specs.Members.{AsksAtMost, IsInBounds, extent_of};
 
 use crate::cursor::MAGIC_BYTES;
-use crate::member::Extent;
+use crate::member::FileRange;
 use elf_headers::{Fault, fill, refused};
 use elf_record::{Cause, u64_at, word};
 use elf_source::{Counted, Source};
@@ -61,8 +61,8 @@ pub fn magic<S: Source>(src: &mut Counted<S>) -> Result<(), Fault>
 ///
 /// # Errors
 /// A fault of the read, or a refusal for want of budget, at the offset of the bytes.
-pub fn begins_elf<S: Source>(src: &mut Counted<S>, extent: Extent) -> Result<bool, Fault>
-    requires lies { LiesIn src.old.seen.size (extent_of extent) }
+pub fn begins_elf<S: Source>(src: &mut Counted<S>, extent: FileRange) -> Result<bool, Fault>
+    requires lies { IsInBounds src.old.seen.size (extent_of extent) }
     ensures asks { AsksAtMost src.old src.new result 4 }
     ensures fault { IfErr result IsOfRead }
     ensures read { (file : List ℕ) → src.old.seen.file ≡ Some file →

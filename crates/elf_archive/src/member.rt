@@ -2,7 +2,7 @@
 
 /// Some bytes of a file: the offset of the first, and how many there are.
 #[derive(Clone, Copy)]
-pub struct Extent {
+pub struct FileRange {
     /// The file offset in bytes.
     pub at: u64,
     /// The number of bytes.
@@ -15,7 +15,7 @@ pub struct Member {
     /// Its index among the members, from 0 on.
     pub index: u64,
     /// Its data.
-    pub extent: Extent,
+    pub extent: FileRange,
     /// Whether its name has more bytes than are shown.
     pub is_cut: bool,
 }

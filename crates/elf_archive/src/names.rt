@@ -1,20 +1,20 @@
 //! The names of members.
 ghost use Rattle.std.specs.Prelude.{◌≡◌, ◌+◌, ℕ, ◌^◌, ◌<◌, ◌≤◌, List, length, take, Some, IfErr, IfOk, OnOk};
-ghost use Rattle.elf_model.specs.Archive.{bsd_name, long_name, member_name, name_in_data, told_name, trimmed};
+ghost use Rattle.elf_model.specs.Archive.{bsd_name, long_name, member_name, name_in_data, parsed_member_name, trimmed};
 ghost use Rattle.elf_model.specs.ArchiveCost.{long_name_bytes};
 ghost use Rattle.elf_model.specs.Bytes.{slice};
 ghost use Rattle.elf_model.specs.Notes.{capped};
 ghost use Rattle.elf_headers.specs.Faults.{IsOfRead};
 ghost use Rattle.elf_fields.specs.Named.{shown_as};
-ghost use Rattle.elf_archive.specs.Members.{AsksAtMost, FrontRead, LengthTold, NameShown, NamesLie};
+ghost use Rattle.elf_archive.specs.Members.{AsksAtMost, FrontRead, LengthTold, NameShown, NamesInBounds};
 ghost use Rattle.elf_archive.specs.Members.{extent_of_names, member_name_cost, told_cost};
 
 use crate::fields::{
-    MEMBER_HEADER_BYTES, NAME_FIELD_BYTES, NUL, bsd_name_size, find_byte, long_offset,
+    MEMBER_HEADER_BYTES, NAME_FIELD_BYTES, NUL, bsd_name_length, find_byte, long_offset,
     short_length, slashless_length, trimmed_length,
 };
-use crate::member::Extent;
-use elf_headers::{Cap, Fault, fill, refused};
+use crate::member::FileRange;
+use elf_headers::{Fault, NameLimit, fill, refused};
 use elf_record::Cause;
 use elf_source::{Counted, READ_BYTES, Source};
 use elf_table::NameBuf;
@@ -33,13 +33,13 @@ pub(crate) const LONG_NAME_BYTES: usize = 4098;
 /// `NameUnended` where the table ends before the name does. Else a fault of a read, at its offset.
 pub(crate) fn read_name<S: Source>(
     src: &mut Counted<S>,
-    names: Option<Extent>,
+    names: Option<FileRange>,
     header: &[u8; MEMBER_HEADER_BYTES],
     at: u64,
-    cap: Cap,
+    cap: NameLimit,
     name: &mut NameBuf,
 ) -> Result<bool, Fault>
-    requires names { NamesLie src.old.seen.size names }
+    requires names { NamesInBounds src.old.seen.size names }
     requires front { at + 60 + name_in_data (take 16 header.now) ≤ src.old.seen.size }
     ensures asks { AsksAtMost src.old src.new result (member_name_cost header.now cap.bytes) }
     ensures read { (file : List ℕ) → src.old.seen.file ≡ Some file →
@@ -47,9 +47,9 @@ pub(crate) fn read_name<S: Source>(
         NameShown at result name.new (member_name file cap.bytes (extent_of_names names) at) }
 {
     let field = &header[..NAME_FIELD_BYTES];
-    match bsd_name_size(field) {
-        Some(size) => read_bsd(src, at + MEMBER_HEADER_BYTES as u64, size, cap, name),
-        None => read_told(src, names, field, at, cap, name),
+    match bsd_name_length(field) {
+        Some(size) => read_bsd_name(src, at + MEMBER_HEADER_BYTES as u64, size, cap, name),
+        None => read_reported(src, names, field, at, cap, name),
     }
 }
 
@@ -59,11 +59,11 @@ pub(crate) fn read_name<S: Source>(
 ///
 /// # Errors
 /// A fault of a read, at its offset.
-fn read_bsd<S: Source>(
+fn read_bsd_name<S: Source>(
     src: &mut Counted<S>,
     start: u64,
     size: u64,
-    cap: Cap,
+    cap: NameLimit,
     name: &mut NameBuf,
 ) -> Result<bool, Fault>
     requires { (src.old.seen.size < 2 ^ 63) × (start + size ≤ src.old.seen.size) }
@@ -74,7 +74,7 @@ fn read_bsd<S: Source>(
 {
     let want = (u64::from(cap.bytes) + 2).min(size);
     let mut buffer = [0; LONG_NAME_BYTES];
-    read_trimmed(src, start, &mut buffer[..want as usize], cap, name)
+    read_short_name(src, start, &mut buffer[..want as usize], cap, name)
 }
 
 /// Reads the bytes from the offset `at` on into `front`, at most 4,098, and leaves in `name` what is
@@ -82,11 +82,11 @@ fn read_bsd<S: Source>(
 ///
 /// # Errors
 /// A fault of a read, at its offset.
-fn read_trimmed<S: Source>(
+fn read_short_name<S: Source>(
     src: &mut Counted<S>,
     at: u64,
     front: &mut [u8],
-    cap: Cap,
+    cap: NameLimit,
     name: &mut NameBuf,
 ) -> Result<bool, Fault>
     requires size { (src.old.seen.size < 2 ^ 63) × (length front.old ≤ 4098) }
@@ -107,22 +107,22 @@ fn read_trimmed<S: Source>(
 ///
 /// # Errors
 /// As [`read_name`].
-fn read_told<S: Source>(
+fn read_reported<S: Source>(
     src: &mut Counted<S>,
-    names: Option<Extent>,
+    names: Option<FileRange>,
     field: &[u8],
     at: u64,
-    cap: Cap,
+    cap: NameLimit,
     name: &mut NameBuf,
 ) -> Result<bool, Fault>
     requires field { length field.now ≡ 16 }
-    requires names { NamesLie src.old.seen.size names }
+    requires names { NamesInBounds src.old.seen.size names }
     ensures asks { AsksAtMost src.old src.new result (told_cost field.now cap.bytes) }
     ensures read { (file : List ℕ) → src.old.seen.file ≡ Some file →
-        NameShown at result name.new (told_name file cap.bytes (extent_of_names names) field.now) }
+        NameShown at result name.new (parsed_member_name file cap.bytes (extent_of_names names) field.now) }
 {
     match long_offset(field) {
-        Some(offset) => read_long(src, names, offset, at, cap, name),
+        Some(offset) => read_long_name(src, names, offset, at, cap, name),
         None => Ok(put_name(&field[..short_length(field)], cap, name)),
     }
 }
@@ -131,15 +131,15 @@ fn read_told<S: Source>(
 ///
 /// # Errors
 /// As [`read_name`].
-fn read_long<S: Source>(
+fn read_long_name<S: Source>(
     src: &mut Counted<S>,
-    names: Option<Extent>,
+    names: Option<FileRange>,
     offset: u64,
     at: u64,
-    cap: Cap,
+    cap: NameLimit,
     name: &mut NameBuf,
 ) -> Result<bool, Fault>
-    requires names { NamesLie src.old.seen.size names }
+    requires names { NamesInBounds src.old.seen.size names }
     ensures asks { AsksAtMost src.old src.new result (long_name_bytes cap.bytes) }
     ensures read { (file : List ℕ) → src.old.seen.file ≡ Some file →
         NameShown at result name.new (long_name file cap.bytes (extent_of_names names) offset) }
@@ -152,7 +152,7 @@ fn read_long<S: Source>(
     }
     let want = (u64::from(cap.bytes) + 2).min(table.size - offset);
     let mut buffer = [0; LONG_NAME_BYTES];
-    match read_ended(
+    match read_terminated_name(
         src,
         table.at + offset,
         &mut buffer[..want as usize],
@@ -170,11 +170,11 @@ fn read_long<S: Source>(
 ///
 /// # Errors
 /// A fault of a read, at its offset.
-fn read_ended<S: Source>(
+fn read_terminated_name<S: Source>(
     src: &mut Counted<S>,
     at: u64,
     front: &mut [u8],
-    cap: Cap,
+    cap: NameLimit,
     name: &mut NameBuf,
 ) -> Result<Option<bool>, Fault>
     requires size { (src.old.seen.size < 2 ^ 63) × (length front.old ≤ cap.bytes + 2) }
@@ -208,7 +208,7 @@ pub(crate) fn long_length(front: &[u8], cap: u16) -> Option<usize>
 }
 
 /// Leaves in `name` at most `cap` bytes of a name, and answers whether it has more.
-fn put_name(bytes: &[u8], cap: Cap, name: &mut NameBuf) -> bool
+fn put_name(bytes: &[u8], cap: NameLimit, name: &mut NameBuf) -> bool
     ensures { capped cap.bytes bytes.now ≡ shown_as result name.new }
 {
     name.clear();

@@ -1,14 +1,14 @@
 //! The listing of one member: that of the file that its data are.
 ghost use Rattle.std.specs.Prelude.{◌≡◌, IfOk, IfSome};
-ghost use Rattle.elf_model.specs.Budget.{IsBudget};
-ghost use Rattle.elf_model.specs.FileLists.{placed_behind};
+ghost use Rattle.elf_model.specs.Budget.{IsBudgetRefusal};
+ghost use Rattle.elf_model.specs.FileLists.{placed_after};
 ghost use Rattle.elf_headers.specs.Permitted.{style_of};
 ghost use Rattle.elf_archive.specs.Listed.{EndsPart, GoesThroughMember, HoldsPart, ListsMember};
 ghost use Rattle.elf_archive.specs.Members.{extent_of};
 
 use crate::magic_strings::begins_elf;
-use crate::member::Extent;
-use elf_headers::{HeaderStore, Stop, Style};
+use crate::member::FileRange;
+use elf_headers::{HeaderStore, RunFault, Style};
 use elf_listing::list;
 use elf_record::{Cause, Parts, Refusal};
 use elf_source::{Counted, Out, RangeSource, Sink, Source};
@@ -25,14 +25,14 @@ pub(crate) fn list_member<S: Source, W: Sink>(
     store: &mut HeaderStore,
     style: Style,
     parts: Parts,
-    extent: Extent,
+    extent: FileRange,
     out: &mut Out<W>,
-) -> Result<Option<Refusal>, Stop>
+) -> Result<Option<Refusal>, RunFault>
     requires { HoldsPart src.old (extent_of extent) }
     ensures lists { GoesThroughMember (extent_of extent) store.old.slots store.new.slots
         (style_of style.entry) parts.0 src.old src.new out.old out.new result
         (λ style. ListsMember out.old out.new result) }
-    ensures own { IfOk result (λ told. IfSome told (λ refusal. IsBudget refusal → ⊥)) }
+    ensures own { IfOk result (λ told. IfSome told (λ refusal. IsBudgetRefusal refusal → ⊥)) }
 {
     if parts.known(style.gnu).0 == 0 {
         return Ok(None);
@@ -51,29 +51,29 @@ pub(crate) fn list_member<S: Source, W: Sink>(
 /// # Errors
 /// What stops the archive's listing too, with an offset of the file: a refusal for want of budget,
 /// a fault of the source or of the output.
-fn end_part(listed: Result<(), Stop>, start: u64) -> Result<Option<Refusal>, Stop>
+fn end_part(listed: Result<(), RunFault>, start: u64) -> Result<Option<Refusal>, RunFault>
     ensures { EndsPart start listed result }
 {
     match listed {
         Ok(()) => Ok(None),
-        Err(Stop::Refused(refusal)) => {
+        Err(RunFault::Refused(refusal)) => {
             if refusal.cause == Cause::Budget {
-                return Err(Stop::Refused(placed(refusal, start)));
+                return Err(RunFault::Refused(placed(refusal, start)));
             }
             Ok(Some(refusal))
         }
-        Err(Stop::Source { fault, at }) => Err(Stop::Source {
+        Err(RunFault::Source { fault, at }) => Err(RunFault::Source {
             fault,
             at: start.saturating_add(at),
         }),
-        Err(Stop::Out(fault)) => Err(Stop::Out(fault)),
+        Err(RunFault::Out(fault)) => Err(RunFault::Out(fault)),
     }
 }
 
 /// A refusal of a member whose data begin at the file offset `start`, with an offset of the file, as far
 /// as 64 bits go.
 pub(crate) fn placed(refusal: Refusal, start: u64) -> Refusal
-    ensures { result ≡ placed_behind start refusal }
+    ensures { result ≡ placed_after start refusal }
 {
     Refusal {
         at: start.saturating_add(refusal.at),

@@ -2,7 +2,7 @@
 //! its data and its name lie, so that nothing is copied. A place is plain numbers, and no number that
 //! a caller sets is a wrong one: each step tests them.
 ghost use Rattle.std.specs.Prelude.{◌≡◌, ◌+◌, ◌^◌, ◌<◌, ◌≤◌, if◌then◌else◌, length, take, Ok};
-ghost use Rattle.elf_model.specs.Archive.{bsd_name, long_name, member_name, name_in_data, padded_end, told_name};
+ghost use Rattle.elf_model.specs.Archive.{bsd_name, long_name, member_name, name_in_data, padded_end, parsed_member_name};
 ghost use Rattle.elf_model.specs.Bytes.{slice};
 ghost use Rattle.elf_model.specs.declared.causes.Cause.TheVariants.{MemberCut};
 ghost use Rattle.elf_archive.specs.MemberRows.{FindsMemberName, NamesMember, OpensMembers, StepsMember};
@@ -11,11 +11,11 @@ ghost use Rattle.elf_archive.specs.Members.{extent_of, extent_of_names, names_pa
 
 use crate::cursor::MAGIC_BYTES;
 use crate::fields::{
-    MEMBER_HEADER_BYTES, NAME_FIELD_BYTES, NUL, bsd_name_size, data_within, is_name_table,
+    MEMBER_HEADER_BYTES, NAME_FIELD_BYTES, NUL, bsd_name_length, data_within, is_name_table,
     long_offset, padded_end, short_length, trimmed_length,
 };
 use crate::magic_strings::magic;
-use crate::member::Extent;
+use crate::member::FileRange;
 use crate::names::{LONG_NAME_BYTES, long_length};
 use elf_headers::Fault;
 use elf_memory::{ByteRange, bytes_of, chunk_at};
@@ -28,7 +28,7 @@ const NAME_CAP: u16 = 4096;
 /// A place in a walk over the members of an archive.
 #[repr(C)]
 #[derive(Clone, Copy)]
-pub struct MembersLeft {
+pub struct MemberPosition {
     /// The file offset of the next member's header.
     pub at: u64,
     /// The data of the table of names, where there was one.
@@ -67,14 +67,14 @@ struct MemberName {
 /// # Errors
 /// Refused at offset 0 where the file is no archive: `Short` where it has fewer than 8 bytes, `Thin`
 /// for the magic string of a thin archive, `NotArchive` for other bytes.
-pub fn open_members(file: &[u8]) -> Result<Option<MembersLeft>, Refusal>
+pub fn open_members(file: &[u8]) -> Result<Option<MemberPosition>, Refusal>
     ensures { OpensMembers file.now result }
 {
     let mut src = Counted::new(MemorySource::new(file));
     let read = magic(&mut src);
     let _ = src.into_inner();
     match read {
-        Ok(()) => Ok(Some(MembersLeft {
+        Ok(()) => Ok(Some(MemberPosition {
             at: MAGIC_BYTES,
             names: ByteRange { at: 0, len: 0 },
             has_names: 0,
@@ -94,7 +94,7 @@ pub fn open_members(file: &[u8]) -> Result<Option<MembersLeft>, Refusal>
 /// to be; `NameOutside` where the name begins past the table of names, or there is none, and
 /// `NameUnended` where the table, as far as it lies in the file, ends before the name does. Then the
 /// place is as it was.
-pub fn next_member(file: &[u8], members: &mut MembersLeft) -> Result<Option<MemberRow>, Refusal>
+pub fn next_member(file: &[u8], members: &mut MemberPosition) -> Result<Option<MemberRow>, Refusal>
     ensures { StepsMember file.now members.old members.new result }
 {
     let at = members.at;
@@ -146,20 +146,20 @@ fn cut(at: u64) -> Refusal
 }
 
 /// The table of names that was passed, if one was.
-fn table_in(members: &MembersLeft) -> Option<Extent>
+fn table_in(members: &MemberPosition) -> Option<FileRange>
     ensures { extent_of_names result ≡ names_in members.now }
 {
     if members.has_names == 0 {
         return None;
     }
-    Some(Extent {
+    Some(FileRange {
         at: members.names.at,
         size: members.names.len,
     })
 }
 
 /// Goes behind the member with this header and these data.
-fn pass(members: &mut MembersLeft, header: &[u8; MEMBER_HEADER_BYTES], content: ByteRange)
+fn pass(members: &mut MemberPosition, header: &[u8; MEMBER_HEADER_BYTES], content: ByteRange)
     requires { (members.old.at + 60 ≤ content.at) × (content.at + content.len < 2 ^ 63) }
     ensures at { members.new.at ≡ padded_end members.old.at (content.at + content.len) }
     ensures names { names_in members.new
@@ -179,7 +179,7 @@ fn pass(members: &mut MembersLeft, header: &[u8; MEMBER_HEADER_BYTES], content: 
 /// As [`next_member`].
 fn find_name(
     file: &[u8],
-    names: Option<Extent>,
+    names: Option<FileRange>,
     header: &[u8; MEMBER_HEADER_BYTES],
     at: u64,
 ) -> Result<MemberName, Cause>
@@ -189,15 +189,15 @@ fn find_name(
         (member_name file.now 4096 (extent_of_names names) at) }
 {
     let field = &header[..NAME_FIELD_BYTES];
-    match bsd_name_size(field) {
-        Some(size) => Ok(find_bsd(file, at + MEMBER_HEADER_BYTES as u64, size)),
-        None => find_told(file, names, field, at),
+    match bsd_name_length(field) {
+        Some(size) => Ok(find_bsd_name(file, at + MEMBER_HEADER_BYTES as u64, size)),
+        None => find_reported(file, names, field, at),
     }
 }
 
 /// Where the name in the first `size` bytes of a member's data lies, which begin at the offset `start`,
 /// without the NULs at the end of what is looked at.
-fn find_bsd(file: &[u8], start: u64, size: u64) -> MemberName
+fn find_bsd_name(file: &[u8], start: u64, size: u64) -> MemberName
     requires { start + size ≤ length file.now }
     ensures { FindsMemberName file.now (Ok result) (Ok (bsd_name file.now 4096 start size)) }
 {
@@ -213,14 +213,19 @@ fn find_bsd(file: &[u8], start: u64, size: u64) -> MemberName
 ///
 /// # Errors
 /// As [`next_member`].
-fn find_told(file: &[u8], names: Option<Extent>, field: &[u8], at: u64) -> Result<MemberName, Cause>
+fn find_reported(
+    file: &[u8],
+    names: Option<FileRange>,
+    field: &[u8],
+    at: u64,
+) -> Result<MemberName, Cause>
     requires within { at + 16 ≤ length file.now }
     requires field { field.now ≡ slice file.now at 16 }
     ensures { FindsMemberName file.now result
-        (told_name file.now 4096 (extent_of_names names) field.now) }
+        (parsed_member_name file.now 4096 (extent_of_names names) field.now) }
 {
     match long_offset(field) {
-        Some(offset) => find_long(file, names, offset),
+        Some(offset) => find_long_name(file, names, offset),
         None => Ok(shortened(file, at, short_length(field))),
     }
 }
@@ -229,7 +234,7 @@ fn find_told(file: &[u8], names: Option<Extent>, field: &[u8], at: u64) -> Resul
 ///
 /// # Errors
 /// As [`next_member`].
-fn find_long(file: &[u8], names: Option<Extent>, offset: u64) -> Result<MemberName, Cause>
+fn find_long_name(file: &[u8], names: Option<FileRange>, offset: u64) -> Result<MemberName, Cause>
     ensures { FindsMemberName file.now result
         (long_name file.now 4096 (extent_of_names names) offset) }
 {

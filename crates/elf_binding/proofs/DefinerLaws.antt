@@ -1,38 +1,38 @@
 -- What looking for the symbol that defines a name gives, stage by stage.
 use mathlib.Core.Path.{fun_ext}
 use Rattle.std.proofs.Common.{◌≡◌, ℕ, ◌+◌, ◌*◌, ◌≤◌, ◌==◌, if◌then◌else◌, not, Bool, true, false, List, [], ◌∷◌, Option, None, Some, Result, Ok, Err, refl, sym, ap, subst, ◌∙◌, arith}
-use Rattle.elf_model.specs.Bindings.{DefinerLookup, defines, definer_asks, definer_by, definer_in, definer_walk, unwalked}
-use Rattle.elf_model.specs.Chains.{Walked as Walk}
+use Rattle.elf_model.specs.Bindings.{DefinerLookup, defines, definition_cost, definer_by, definition_in, definer_walk, unwalked}
+use Rattle.elf_model.specs.Chains.{ChainResult as NoteScan}
 use Rattle.elf_model.specs.Checks.{first_refusal}
 use Rattle.elf_model.specs.Loader.{Compared, Wanted, answers, is_among, symbol_offset}
-use Rattle.elf_model.specs.LoaderFind.{counts_check, record_cost, wanted_numbers}
-use Rattle.elf_model.specs.LoaderScope.{Scope as IsScopeOf}
+use Rattle.elf_model.specs.LoaderFind.{counts_check, record_cost, version_indices}
+use Rattle.elf_model.specs.LoaderScope.{LookupTables as IsScopeOf}
 use Rattle.elf_model.specs.Numbers.{SHN_UNDEF}
 use Rattle.elf_model.specs.Records.{st_shndx}
 use Rattle.elf_model.specs.declared.causes.Refusal.{Refusal}
-use Rattle.elf_source.specs.Source.{Counting}
-use Rattle.elf_headers.specs.Ledger.{Charges}
+use Rattle.elf_source.specs.Source.{CountedState}
+use Rattle.elf_headers.specs.Ledger.{CallReads}
 use Rattle.elf_headers.specs.declared.fault.Fault.{Fault}
 use Rattle.elf_headers.specs.declared.fault.Fault.TheVariants.{Refused, Source}
-use Rattle.elf_headers.proofs.LedgerLaws.{Charges-then}
+use Rattle.elf_headers.proofs.LedgerLaws.{CallReads-then}
 use Rattle.elf_table.specs.Cursors.{row_at}
 use Rattle.elf_headers.specs.Faults.{IsOfRead}
-use Rattle.elf_hash.specs.Scopes.{HasCounts, IsPlaceIn, TellsExcluded, counts_bytes, walked_in}
-use Rattle.elf_hash.specs.Trials.{Tries}
-use Rattle.elf_hash.specs.Walks.{GivesWalked, Walks, index_of, walk_bytes}
-use Rattle.elf_hash.specs.declared.answer.TrialAnswer.{TrialAnswer}
-use Rattle.elf_hash.specs.declared.kind.HashKind.{HashKind}
-use Rattle.elf_hash.specs.declared.kind.HashKind.TheVariants.{Gnu, Sysv}
+use Rattle.elf_hash.specs.Scopes.{HasCounts, IsPlaceIn, ReturnsExcluded, counts_bytes, walked_in}
+use Rattle.elf_hash.specs.Trials.{TriesSymbol}
+use Rattle.elf_hash.specs.Walks.{GivesWalked, WalksChain, index_of, walk_bytes}
+use Rattle.elf_hash.specs.declared.answer.SymbolMatch.{SymbolMatch}
+use Rattle.elf_hash.specs.declared.kind.HashStyle.{HashStyle}
+use Rattle.elf_hash.specs.declared.kind.HashStyle.TheVariants.{Gnu, Sysv}
 use Rattle.elf_hash.specs.declared.table.HashTable.{HashTable}
-use Rattle.elf_hash.specs.declared.walked.Walked.{Walked}
-use Rattle.elf_lookup_tables.specs.Scopes.{IsScope}
-use Rattle.elf_lookup_tables.specs.declared.scope.Scope.{Scope}
+use Rattle.elf_hash.specs.declared.walked.ChainResult.{ChainResult}
+use Rattle.elf_lookup_tables.specs.Scopes.{IsLookupTables}
+use Rattle.elf_lookup_tables.specs.declared.scope.LookupTables.{LookupTables}
 use Rattle.elf_lookup_tables.specs.declared.symbols.Symbols.{Symbols}
-use Rattle.elf_loader.specs.Answering.{StandsAs}
-use Rattle.elf_loader.specs.Comparing.{Collects}
-use Rattle.elf_loader.specs.Lookups.{trial_bytes}
+use Rattle.elf_loader.specs.Answering.{IsSymbolWithVersym}
+use Rattle.elf_loader.specs.Comparing.{CollectsNumbers}
+use Rattle.elf_loader.specs.Lookups.{match_bytes}
 use Rattle.elf_loader.specs.NumberSets.{has_number}
-use Rattle.elf_binding.specs.Definers.{DefinesBehind, SaysDefines, TellsDefiner, definer_with, the_defined}
+use Rattle.elf_binding.specs.Definers.{DefinesAfter, SaysDefines, ReturnsDefiner, definer_with, the_defined}
 
 -- A TRIAL that passes over what is undefined
 module _ (file : List ℕ) (symbols : Symbols) (wanted : Wanted) (is_wanted : ℕ → Bool) (says : ℕ → Result Bool Refusal) (index : ℕ) (is : SaysDefines file symbols wanted is_wanted says) where
@@ -52,12 +52,12 @@ module _ (file : List ℕ) (symbols : Symbols) (wanted : Wanted) (is_wanted : �
   unfolding defines
   decides e = rw (e, defines) refl
 
-  pub tries_fault : (fault : Fault) → Tries (StandsAs file symbols) (answers file is.told wanted is_wanted) index (Err fault) → Tries (StandsAs file symbols) says index (Err fault)
+  pub tries_fault : (fault : Fault) → TriesSymbol (IsSymbolWithVersym file symbols) (answers file is.told wanted is_wanted) index (Err fault) → TriesSymbol (IsSymbolWithVersym file symbols) says index (Err fault)
   tries_fault (Refused refusal) tries = λ unless. said ∙ refuses refusal (tries unless)
   tries_fault (Source fault at) tries = tt
 
-  pub tries_answer : (answer : Option TrialAnswer) → symbols.table.entry ≡ 24 → Tries (StandsAs file symbols) (answers file is.told wanted is_wanted) index (Ok answer)
-      → Tries (StandsAs file symbols) says index (Ok (the_defined answer))
+  pub tries_answer : (answer : Option SymbolMatch) → symbols.table.entry ≡ 24 → TriesSymbol (IsSymbolWithVersym file symbols) (answers file is.told wanted is_wanted) index (Ok answer)
+      → TriesSymbol (IsSymbolWithVersym file symbols) says index (Ok (the_defined answer))
   tries_answer None entry tries = said ∙ other tries
   tries_answer (Some answer) entry tries = go (answer.symbol.st_shndx == SHN_UNDEF) refl
     where
@@ -70,26 +70,26 @@ module _ (file : List ℕ) (symbols : Symbols) (wanted : Wanted) (is_wanted : �
       defined : (b : Bool) → (answer.symbol.st_shndx == SHN_UNDEF) ≡ b → says index ≡ Ok (not b)
       defined b e = said ∙ decides tries.0 ∙ ap (λ (x : Bool). Ok (not x)) (ap (λ (x : ℕ). x == SHN_UNDEF) (sym shndx) ∙ e)
 
-      go : (b : Bool) → (answer.symbol.st_shndx == SHN_UNDEF) ≡ b → Tries (StandsAs file symbols) says index (Ok (if b then None else Some answer))
+      go : (b : Bool) → (answer.symbol.st_shndx == SHN_UNDEF) ≡ b → TriesSymbol (IsSymbolWithVersym file symbols) says index (Ok (if b then None else Some answer))
       go true e = defined true e
       go false e = (defined false e, tries.1)
 
 -- one call behind another
 pub defines_then :
-    {wanted : Wanted} {looked : DefinerLookup} {a b c : Counting} {result : Result (Option ℕ) Fault} (n few before few_behind before_behind : ℕ)
-    → before + n + few_behind ≤ before_behind + few → Charges a b None n → DefinesBehind wanted few_behind before_behind looked b c result
-    → DefinesBehind wanted few before looked a c result
+    {wanted : Wanted} {looked : DefinerLookup} {a b c : CountedState} {result : Result (Option ℕ) Fault} (n few before few_behind before_behind : ℕ)
+    → before + n + few_behind ≤ before_behind + few → CallReads a b None n → DefinesAfter wanted few_behind before_behind looked b c result
+    → DefinesAfter wanted few before looked a c result
 defines_then n few before few_behind before_behind less first looks = record {
   spent = n + looks.spent;
-  costs = Charges-then (n + looks.spent) (omega arith) first looks.costs;
+  costs = CallReads-then (n + looks.spent) (omega arith) first looks.costs;
   within = omega (arith, less, looks.within);
   tells = looks.tells;
 }
 
 -- how many bytes that is
 asks_are : (wanted : Wanted) (looked : DefinerLookup)
-    → definer_asks wanted looked ≡ 4 * looked.chain_words + looked.tried * trial_bytes wanted + looked.records * record_cost wanted.asked
-unfolding definer_asks
+    → definition_cost wanted looked ≡ 4 * looked.chain_words + looked.tried * match_bytes wanted + looked.records * record_cost wanted.asked
+unfolding definition_cost
 asks_are wanted looked = refl
 
 -- the walk is that of the trial
@@ -99,57 +99,57 @@ unfolding definer_walk
 definer_walk_is file scope wanted is_wanted = refl
 
 pub definer_walks :
-    {a b : Counting} {stands : ℕ → TrialAnswer → Type 0} (file : List ℕ) (scope : IsScopeOf) (wanted : Wanted) (is_wanted : ℕ → Bool) (cost : ℕ) (result : Result Walked Fault)
-    → Walks stands 12 cost (walked_in file scope wanted.name (defines file scope.symbols wanted is_wanted)) a b result → Walks stands 12 cost (definer_walk file scope wanted is_wanted) a b result
+    {a b : CountedState} {stands : ℕ → SymbolMatch → Type 0} (file : List ℕ) (scope : IsScopeOf) (wanted : Wanted) (is_wanted : ℕ → Bool) (cost : ℕ) (result : Result ChainResult Fault)
+    → WalksChain stands 12 cost (walked_in file scope wanted.name (defines file scope.symbols wanted is_wanted)) a b result → WalksChain stands 12 cost (definer_walk file scope wanted is_wanted) a b result
 definer_walks file scope wanted is_wanted cost result walks = rw (definer_walk_is file scope wanted is_wanted) walks
 
 -- THE WALK, before which so many records were read
-module _ (wanted : Wanted) (before : ℕ) (walk : Walk) where
-  spends : before * record_cost wanted.asked + walk_bytes 12 walk.read walk.tried (trial_bytes wanted) ≤ 12 + definer_asks wanted (definer_by before walk)
+module _ (wanted : Wanted) (before : ℕ) (walk : NoteScan) where
+  spends : before * record_cost wanted.asked + walk_bytes 12 walk.read walk.tried (match_bytes wanted) ≤ 12 + definition_cost wanted (definer_by before walk)
   spends = let are = asks_are wanted (definer_by before walk) in omega (arith, are)
 
-  pub defines_unwalked : {a b : Counting} {stands : ℕ → TrialAnswer → Type 0} (fault : Fault) → Walks stands 12 (trial_bytes wanted) walk a b (Err fault)
-      → DefinesBehind wanted 12 (before * record_cost wanted.asked) (definer_by before walk) a b (Err fault)
+  pub defines_unwalked : {a b : CountedState} {stands : ℕ → SymbolMatch → Type 0} (fault : Fault) → WalksChain stands 12 (match_bytes wanted) walk a b (Err fault)
+      → DefinesAfter wanted 12 (before * record_cost wanted.asked) (definer_by before walk) a b (Err fault)
   defines_unwalked {stands = stands} fault walks = record {
-    spent = walk_bytes 12 walk.read walk.tried (trial_bytes wanted);
+    spent = walk_bytes 12 walk.read walk.tried (match_bytes wanted);
     costs = walks.costs;
     within = spends;
     tells = tells fault walks.gives;
   }
     where
-      tells : (fault : Fault) → GivesWalked stands walk (Err fault) → TellsDefiner (definer_by before walk) (Err fault)
+      tells : (fault : Fault) → GivesWalked stands walk (Err fault) → ReturnsDefiner (definer_by before walk) (Err fault)
       tells (Refused refusal) gives = gives
       tells (Source fault at) gives = tt
 
-  pub defines_walked : {a b : Counting} {stands : ℕ → TrialAnswer → Type 0} (w : Walked) → Walks stands 12 (trial_bytes wanted) walk a b (Ok w)
-      → DefinesBehind wanted 12 (before * record_cost wanted.asked) (definer_by before walk) a b (Ok (index_of w.found))
+  pub defines_walked : {a b : CountedState} {stands : ℕ → SymbolMatch → Type 0} (w : ChainResult) → WalksChain stands 12 (match_bytes wanted) walk a b (Ok w)
+      → DefinesAfter wanted 12 (before * record_cost wanted.asked) (definer_by before walk) a b (Ok (index_of w.found))
   defines_walked w walks = record {
-    spent = walk_bytes 12 walk.read walk.tried (trial_bytes wanted);
+    spent = walk_bytes 12 walk.read walk.tried (match_bytes wanted);
     costs = walks.costs;
     within = spends;
-    tells = ap (λ (w : Walk). w.answer) walks.gives.0;
+    tells = ap (λ (w : NoteScan). w.answer) walks.gives.0;
   }
 
 -- few bytes, and where the table is
-pub few_counts : (kind : HashKind) → counts_bytes kind ≤ 16
+pub few_counts : (kind : HashStyle) → counts_bytes kind ≤ 16
 few_counts Gnu = omega arith
 few_counts Sysv = omega arith
 
-pub place_of : (file : List ℕ) (told : IsScopeOf) (scope : Scope) → IsScope file told scope → IsPlaceIn told scope.hash
+pub place_of : (file : List ℕ) (told : IsScopeOf) (scope : LookupTables) → IsLookupTables file told scope → IsPlaceIn told scope.hash
 place_of file told scope is = record { kind = is.kind; head = is.head; table = record { start = is.place; size = is.size; symbols = is.count } }
 
 -- the stages, by the definitions
 module _ (file : List ℕ) (told : IsScopeOf) (wanted : Wanted) where
   abbrev compared : Compared
-  compared = wanted_numbers file told wanted.asked
+  compared = version_indices file told wanted.asked
 
-  misshapen : (refusal : Refusal) → first_refusal (counts_check file told ∷ []) ≡ Some refusal → definer_in file told wanted ≡ unwalked 0 refusal
-  unfolding definer_in
-  misshapen refusal e = rw (e, definer_in) refl
+  misshapen : (refusal : Refusal) → first_refusal (counts_check file told ∷ []) ≡ Some refusal → definition_in file told wanted ≡ unwalked 0 refusal
+  unfolding definition_in
+  misshapen refusal e = rw (e, definition_in) refl
 
-  shaped : first_refusal (counts_check file told ∷ []) ≡ None → definer_in file told wanted ≡ definer_with file told wanted compared
-  unfolding definer_in
-  shaped e = rw (e, definer_in) refl
+  shaped : first_refusal (counts_check file told ∷ []) ≡ None → definition_in file told wanted ≡ definer_with file told wanted compared
+  unfolding definition_in
+  shaped e = rw (e, definition_in) refl
 
   with_refused : (refusal : Refusal) → compared.refused ≡ Some refusal → definer_with file told wanted compared ≡ unwalked compared.read refusal
   with_refused refusal e = rw (e, definer_with) refl
@@ -161,15 +161,15 @@ module _ (file : List ℕ) (told : IsScopeOf) (wanted : Wanted) where
   reads (Some refusal) e = ap (λ (d : DefinerLookup). d.records) (with_refused refusal e)
   reads None e = ap (λ (d : DefinerLookup). d.records) (with_told e)
 
-  asks_read : compared.read * record_cost wanted.asked ≤ definer_asks wanted (definer_with file told wanted compared)
+  asks_read : compared.read * record_cost wanted.asked ≤ definition_cost wanted (definer_with file told wanted compared)
   asks_read =
       let are = asks_are wanted (definer_with file told wanted compared) in
       let same = ap (λ (n : ℕ). n * record_cost wanted.asked) (reads compared.refused refl) in
       omega (arith, are, same)
 
   -- THE NUMBERS of the version that is asked for
-  pub defines_unnumbered : {a b : Counting} (fault : Fault) → Collects a b (record_cost wanted.asked) compared (Err fault)
-      → DefinesBehind wanted 12 0 (definer_with file told wanted compared) a b (Err fault)
+  pub defines_unnumbered : {a b : CountedState} (fault : Fault) → CollectsNumbers a b (record_cost wanted.asked) compared (Err fault)
+      → DefinesAfter wanted 12 0 (definer_with file told wanted compared) a b (Err fault)
   defines_unnumbered (Refused refusal) collects =
       let few = asks_read in
       record {
@@ -182,9 +182,9 @@ module _ (file : List ℕ) (told : IsScopeOf) (wanted : Wanted) where
       let few = asks_read in
       record { spent = compared.read * record_cost wanted.asked; costs = collects; within = omega (arith, few); tells = tt }
 
-  pub defines_numbered : {a b c : Counting} (numbers : List ℕ) (result : Result (Option ℕ) Fault) → Collects a b (record_cost wanted.asked) compared (Ok numbers)
-      → DefinesBehind wanted 12 (compared.read * record_cost wanted.asked) (definer_by compared.read (definer_walk file told wanted (has_number numbers))) b c result
-      → DefinesBehind wanted 12 0 (definer_with file told wanted compared) a c result
+  pub defines_numbered : {a b c : CountedState} (numbers : List ℕ) (result : Result (Option ℕ) Fault) → CollectsNumbers a b (record_cost wanted.asked) compared (Ok numbers)
+      → DefinesAfter wanted 12 (compared.read * record_cost wanted.asked) (definer_by compared.read (definer_walk file told wanted (has_number numbers))) b c result
+      → DefinesAfter wanted 12 0 (definer_with file told wanted compared) a c result
   defines_numbered numbers result collects looks =
       let same : has_number numbers ≡ (λ number. is_among number compared.numbers) = fun_ext collects.2 in
       let is = with_told collects.1 in
@@ -192,8 +192,8 @@ module _ (file : List ℕ) (told : IsScopeOf) (wanted : Wanted) where
 
   -- A TABLE THAT IS READY, which excludes the name or not
   module _ (counts : first_refusal (counts_check file told ∷ []) ≡ None) where
-    pub defines_excluded : {a b : Counting} → compared.refused ≡ None → TellsExcluded file told wanted.name (Ok true) → Charges a b None 12
-        → DefinesBehind wanted 28 0 (definer_in file told wanted) a b (Ok None)
+    pub defines_excluded : {a b : CountedState} → compared.refused ≡ None → ReturnsExcluded file told wanted.name (Ok true) → CallReads a b None 12
+        → DefinesAfter wanted 28 0 (definition_in file told wanted) a b (Ok None)
     defines_excluded told_all none costs =
         let is_wanted : ℕ → Bool = λ (number : ℕ). is_among number compared.numbers in
         let walk : definer_walk file told wanted is_wanted ≡ record { answer = Ok None; tried = 0; read = 0 } = definer_walk_is file told wanted is_wanted ∙ none _ in
@@ -201,34 +201,34 @@ module _ (file : List ℕ) (told : IsScopeOf) (wanted : Wanted) where
           spent = 12;
           costs = costs;
           within = omega arith;
-          tells = ap (λ (d : DefinerLookup). d.answer) (shaped counts ∙ with_told told_all) ∙ ap (λ (w : Walk). w.answer) walk;
+          tells = ap (λ (d : DefinerLookup). d.answer) (shaped counts ∙ with_told told_all) ∙ ap (λ (w : NoteScan). w.answer) walk;
         }
 
-    pub defines_unread : {a b : Counting} (fault : Fault) → IsOfRead fault → Charges a b (Some fault) 12 → DefinesBehind wanted 28 0 (definer_in file told wanted) a b (Err fault)
+    pub defines_unread : {a b : CountedState} (fault : Fault) → IsOfRead fault → CallReads a b (Some fault) 12 → DefinesAfter wanted 28 0 (definition_in file told wanted) a b (Err fault)
     defines_unread fault is costs = record { spent = 12; costs = costs; within = omega arith; tells = tells fault is }
       where
-        tells : (fault : Fault) → IsOfRead fault → TellsDefiner (definer_in file told wanted) (Err fault)
+        tells : (fault : Fault) → IsOfRead fault → ReturnsDefiner (definition_in file told wanted) (Err fault)
         tells (Refused refusal) is = λ unless. absurd (unless is)
         tells (Source fault at) is = tt
 
-    pub defines_unless : {a b c : Counting} (result : Result (Option ℕ) Fault) → Charges a b None 12 → DefinesBehind wanted 12 0 (definer_with file told wanted compared) b c result
-        → DefinesBehind wanted 28 0 (definer_in file told wanted) a c result
+    pub defines_unless : {a b c : CountedState} (result : Result (Option ℕ) Fault) → CallReads a b None 12 → DefinesAfter wanted 12 0 (definer_with file told wanted compared) b c result
+        → DefinesAfter wanted 28 0 (definition_in file told wanted) a c result
     defines_unless result costs looks = let is = shaped counts in rw is (defines_then 12 28 0 12 0 (omega arith) costs looks)
 
   -- THE COUNTS of the hash table
-  module _ (kind : HashKind) where
-    pub defines_uncounted : {a b : Counting} (fault : Fault) → Charges a b (Some fault) (counts_bytes kind) → HasCounts file told (Err fault)
-        → DefinesBehind wanted 28 0 (definer_in file told wanted) a b (Err fault)
+  module _ (kind : HashStyle) where
+    pub defines_uncounted : {a b : CountedState} (fault : Fault) → CallReads a b (Some fault) (counts_bytes kind) → HasCounts file told (Err fault)
+        → DefinesAfter wanted 28 0 (definition_in file told wanted) a b (Err fault)
     defines_uncounted fault costs counts =
         let few = few_counts kind in
         record { spent = counts_bytes kind; costs = costs; within = omega (arith, few); tells = tells fault counts }
       where
-        tells : (fault : Fault) → HasCounts file told (Err fault) → TellsDefiner (definer_in file told wanted) (Err fault)
+        tells : (fault : Fault) → HasCounts file told (Err fault) → ReturnsDefiner (definition_in file told wanted) (Err fault)
         tells (Refused refusal) counts = λ unless. ap (λ (d : DefinerLookup). d.answer) (misshapen refusal (counts unless))
         tells (Source fault at) counts = tt
 
-    pub defines_counted : {a b c : Counting} (table : HashTable) (result : Result (Option ℕ) Fault) → Charges a b None (counts_bytes kind) → HasCounts file told (Ok table)
-        → DefinesBehind wanted 12 0 (definer_with file told wanted compared) b c result → DefinesBehind wanted 28 0 (definer_in file told wanted) a c result
+    pub defines_counted : {a b c : CountedState} (table : HashTable) (result : Result (Option ℕ) Fault) → CallReads a b None (counts_bytes kind) → HasCounts file told (Ok table)
+        → DefinesAfter wanted 12 0 (definer_with file told wanted compared) b c result → DefinesAfter wanted 28 0 (definition_in file told wanted) a c result
     defines_counted table result costs counts looks =
         let few = few_counts kind in
         let is = shaped counts.0 in

@@ -1,20 +1,20 @@
 -- What is kept of a file.
 use Rattle.std.proofs.Common.{ℕ, List, None, Ok, Err, sym, subst, ◌∙◌}
-use Rattle.elf_model.specs.LoaderScope.{scope_of}
-use Rattle.elf_source.specs.Source.{Counting}
-use Rattle.elf_headers.specs.Ledger.{Did}
+use Rattle.elf_model.specs.LoaderScope.{lookup_tables_of}
+use Rattle.elf_source.specs.Source.{CountedState}
+use Rattle.elf_headers.specs.Ledger.{CallDid}
 use Rattle.elf_headers.specs.declared.fault.Fault.{Fault}
 use Rattle.elf_headers.specs.declared.fault.Fault.TheVariants.{Refused, Source}
 use Rattle.elf_lookup_tables.specs.Finding.{FindsScope}
-use Rattle.elf_lookup_tables.specs.Scopes.{IsScopeFound, ScopeLies}
-use Rattle.elf_lookup_tables.specs.declared.scope.Scope.{Scope}
-use Rattle.elf_binding.specs.Kept.{IsKept, TellsKept}
+use Rattle.elf_lookup_tables.specs.Scopes.{FindsLookupTables, LookupTablesInBounds}
+use Rattle.elf_lookup_tables.specs.declared.scope.LookupTables.{LookupTables}
+use Rattle.elf_binding.specs.Kept.{IsKept, ReturnsKept}
 
 -- what was found in a source is what is kept of it
-pub kept_of : (old new : Counting) (headers : ℕ) (scope : Scope) (n : ℕ) → Did old new None n (λ file. FindsScope file headers old new (Ok scope)) → ScopeLies old.seen.size scope
+pub kept_of : (old new : CountedState) (headers : ℕ) (scope : LookupTables) (n : ℕ) → CallDid old new None n (λ file. FindsScope file headers old new (Ok scope)) → LookupTablesInBounds old.seen.size scope
     → IsKept new.seen headers scope None
 kept_of old new headers scope n did lies = record {
-  lies = subst (λ (size : ℕ). ScopeLies size scope) (sym did.costs.reads.keeps.same_size) lies;
+  lies = subst (λ (size : ℕ). LookupTablesInBounds size scope) (sym did.costs.reads.keeps.same_size) lies;
   known = λ file held.
       let found = (did.known file (sym did.costs.reads.keeps.same_file ∙ held)).finds in
       record { told = found.0; found = found.1; is = found.2 };
@@ -23,6 +23,6 @@ kept_of old new headers scope n did lies = record {
 }
 
 -- what is told where the source is given back
-pub back_tells : (file : List ℕ) (headers : ℕ) (src : Counting) (fault : Fault) → IsScopeFound file (scope_of file headers) (Err fault) → TellsKept file headers (Err (src, fault))
+pub back_tells : (file : List ℕ) (headers : ℕ) (src : CountedState) (fault : Fault) → FindsLookupTables file (lookup_tables_of file headers) (Err fault) → ReturnsKept file headers (Err (src, fault))
 back_tells file headers src (Refused refusal) finds = finds
 back_tells file headers src (Source fault at) finds = tt

@@ -1,17 +1,17 @@
 -- Where the records of versions are such that the empty version is not refused, and their strings end in a NUL, none is refused.
 use Rattle.std.proofs.Common.{◌≡◌, ℕ, zero, suc, ◌+◌, ◌-◌, ◌*◌, ◌/◌, ◌<◌, ◌≤◌, mul-le-mul_right, IsTrue, ◌==◌, ◌||◌, nat_lt, Bool, true, false, List, [], ◌∷◌, ◌++◌, length, drop, Option, None, Some, Result, Ok, Err, IfSome, refl, sym, ap, subst, ◌∙◌, arith}
-use Rattle.elf_model.specs.Loader.{Asked, Compared, Meets, Misses, RecordReading, RecordTable as IsTableOf, Refuses, Version, VersionWords, asked_name, compared_with, end_reading, meetings, readings, readings_of}
-use Rattle.elf_model.specs.LoaderFind.{wanted_numbers}
-use Rattle.elf_model.specs.LoaderScope.{Scope as IsScopeOf}
+use Rattle.elf_model.specs.Loader.{Asked, Compared, Meets, Misses, VersionRecordRead, VersionRecordTable as IsTableOf, Refuses, Version, VersionWords, asked_name, compared_with, end_reading, meetings, readings, readings_of}
+use Rattle.elf_model.specs.LoaderFind.{version_indices}
+use Rattle.elf_model.specs.LoaderScope.{LookupTables as IsScopeOf}
 use Rattle.elf_model.specs.Names.{begins, is_empty_at_zero, same}
-use Rattle.elf_model.specs.Versions.{Met, name_index, named_at, names_version}
+use Rattle.elf_model.specs.Versions.{VisitedRecord, name_index, named_at, names_version}
 use Rattle.elf_model.specs.declared.causes.Cause.{Cause}
 use Rattle.elf_model.specs.declared.causes.Cause.TheVariants.{NameOutside}
 use Rattle.elf_table.specs.Tables.{strings_in}
 use Rattle.std.proofs.lemmas.Bool.{eqb-false, eqb-true, ltb-true, ne_eqb}
 use Rattle.elf_model.specs.declared.causes.Refusal.{Refusal}
-use Rattle.elf_lookup_tables.specs.Symbols.{AreRecordTables, IsSymbols, table_if_any}
-use Rattle.elf_lookup_tables.specs.declared.symbols.RecordTable.{RecordTable}
+use Rattle.elf_lookup_tables.specs.Symbols.{AreVersionRecordTables, IsDynamicSymbols, table_if_any}
+use Rattle.elf_lookup_tables.specs.declared.symbols.VersionRecordTable.{VersionRecordTable}
 use Rattle.elf_lookup_tables.specs.declared.symbols.Symbols.{Symbols}
 use Rattle.elf_model.proofs.Slices.{slice-size}
 use Rattle.elf_model.specs.Checks.{first_refusal}
@@ -20,8 +20,8 @@ use Rattle.elf_model.specs.Names.{pad64}
 use Rattle.elf_table.specs.NamesRead.{ComparesName}
 use Rattle.elf_hash.specs.Scopes.{IsTable}
 use Rattle.elf_hash.specs.declared.table.HashTable.{HashTable}
-use Rattle.elf_lookup_tables.specs.Scopes.{IsScope}
-use Rattle.elf_lookup_tables.specs.declared.scope.Scope.{Scope}
+use Rattle.elf_lookup_tables.specs.Scopes.{IsLookupTables}
+use Rattle.elf_lookup_tables.specs.declared.scope.LookupTables.{LookupTables}
 use Rattle.elf_binding.specs.Ready.{EndsInNul, HasNoNul, IsReadyIf, NamesEnd, has_zero, ready_bytes, table_where}
 
 -- bytes whose last one is a NUL
@@ -129,7 +129,7 @@ ends_in_zero bytes (last, is, said) = go (is_empty_at_zero bytes last) refl (nat
     go false e false out = let isnt = same_out bytes last [] e out in let so = said in cc
 
 -- the strings of all records that are met end in a NUL
-abbrev StringsEnd : List RecordReading → Type 0
+abbrev StringsEnd : List VersionRecordRead → Type 0
 StringsEnd [] = Unit {0}
 StringsEnd (Meets strings met ∷ others) = EndsInZero strings × StringsEnd others
 StringsEnd (Refuses refusal ∷ others) = Unit {0}
@@ -140,15 +140,15 @@ module _ (file version : List ℕ) where
   unfolding compared_with
   no_more = refl
 
-  at_miss : (refusal : Refusal) (others : List RecordReading) → (compared_with file version (Misses refusal ∷ others)).refused ≡ Some refusal
+  at_miss : (refusal : Refusal) (others : List VersionRecordRead) → (compared_with file version (Misses refusal ∷ others)).refused ≡ Some refusal
   unfolding compared_with
   at_miss refusal others = refl
 
-  at_refusal : (refusal : Refusal) (others : List RecordReading) → (compared_with file version (Refuses refusal ∷ others)).refused ≡ Some refusal
+  at_refusal : (refusal : Refusal) (others : List VersionRecordRead) → (compared_with file version (Refuses refusal ∷ others)).refused ≡ Some refusal
   unfolding compared_with
   at_refusal refusal others = refl
 
-  module _ (strings : List ℕ) (met : Met) (others : List RecordReading) where
+  module _ (strings : List ℕ) (met : VisitedRecord) (others : List VersionRecordRead) where
     passed : names_version file met ≡ false → (compared_with file version (Meets strings met ∷ others)).refused ≡ (compared_with file version others).refused
     unfolding compared_with
     passed e = rw (e, compared_with) refl
@@ -164,7 +164,7 @@ module _ (file version : List ℕ) where
     compared said e told = rw (e, compared_with) (rw told refl)
 
 -- where the empty version is not refused, none is
-none_refused : (file version : List ℕ) → has_zero version ≡ false → (records : List RecordReading) → StringsEnd records → (compared_with file [] records).refused ≡ None
+none_refused : (file version : List ℕ) → has_zero version ≡ false → (records : List VersionRecordRead) → StringsEnd records → (compared_with file [] records).refused ≡ None
     → (compared_with file version records).refused ≡ None
 none_refused file version plain [] ends fine = ap (λ (c : Compared). c.refused) (no_more file version)
 none_refused file version plain (Misses refusal ∷ others) ends fine = let some = at_miss file [] refusal others in let no = fine in cc
@@ -181,32 +181,32 @@ none_refused file version plain (Meets strings met ∷ others) ends fine = go (n
         compared file version strings met others told.0 e told.1 ∙ rest (sym (compared file [] strings met others said e is) ∙ fine)
 
 -- THE READINGS of tables whose strings end in a NUL
-meetings_end : (strings : List ℕ) (met : List Met) (others : List RecordReading) → EndsInZero strings → StringsEnd others → StringsEnd (meetings strings met others)
+meetings_end : (strings : List ℕ) (met : List VisitedRecord) (others : List VersionRecordRead) → EndsInZero strings → StringsEnd others → StringsEnd (meetings strings met others)
 unfolding meetings
 meetings_end strings [] others ends rest = rest
 meetings_end strings (m ∷ met) others ends rest = (ends, meetings_end strings met others ends rest)
 
-end_ends : (stands : Bool) (cut : Option Refusal) (others : List RecordReading) → StringsEnd others → StringsEnd (end_reading stands cut ++ others)
+end_ends : (stands : Bool) (cut : Option Refusal) (others : List VersionRecordRead) → StringsEnd others → StringsEnd (end_reading stands cut ++ others)
 end_ends stands None others rest = rest
 end_ends true (Some refusal) others rest = tt
 end_ends false (Some refusal) others rest = tt
 
-readings_end : (file : List ℕ) (table : IsTableOf) (others : List RecordReading) → EndsInZero table.strings → StringsEnd others → StringsEnd (readings_of file table others)
+readings_end : (file : List ℕ) (table : IsTableOf) (others : List VersionRecordRead) → EndsInZero table.strings → StringsEnd others → StringsEnd (readings_of file table others)
 unfolding readings_of
 readings_end file table others ends rest = meetings_end table.strings _ _ ends (end_ends _ _ others rest)
 
 -- so of each table
-abbrev Each : (RecordTable → Type 0) → List RecordTable → Type 0
+abbrev Each : (VersionRecordTable → Type 0) → List VersionRecordTable → Type 0
 Each P [] = Unit {0}
 Each P (table ∷ tables) = P table × Each P tables
 
-both : (P : RecordTable → Type 0) (first second : Option RecordTable) → IfSome first P → IfSome second P → Each P (table_if_any first ++ table_if_any second)
+both : (P : VersionRecordTable → Type 0) (first second : Option VersionRecordTable) → IfSome first P → IfSome second P → Each P (table_if_any first ++ table_if_any second)
 both P None None f s = tt
 both P None (Some second) f s = (s, tt)
 both P (Some first) None f s = (f, tt)
 both P (Some first) (Some second) f s = (f, (s, tt))
 
-all_end : (file : List ℕ) (told : List IsTableOf) (tables : List RecordTable) → AreRecordTables file told tables → Each (NamesEnd file) tables → StringsEnd (readings file told)
+all_end : (file : List ℕ) (told : List IsTableOf) (tables : List VersionRecordTable) → AreVersionRecordTables file told tables → Each (NamesEnd file) tables → StringsEnd (readings file told)
 unfolding readings
 all_end file [] [] are ends = tt
 all_end file [] (table ∷ tables) are ends = absurd are
@@ -218,26 +218,26 @@ all_end file (t ∷ told) (table ∷ tables) are ends =
 
 -- THE LAW: where the empty version is not refused, and the strings of both tables end in a NUL, no version is
 module _ (file : List ℕ) (scope : IsScopeOf) where
-  unasked : (asked : Asked) → asked_name asked ≡ None → (wanted_numbers file scope asked).refused ≡ None
-  unfolding wanted_numbers
-  unasked asked e = rw (e, wanted_numbers) refl
+  unasked : (asked : Asked) → asked_name asked ≡ None → (version_indices file scope asked).refused ≡ None
+  unfolding version_indices
+  unasked asked e = rw (e, version_indices) refl
 
-  wordless : (asked : Asked) (version : List ℕ) → asked_name asked ≡ Some version → scope.symbols.words ≡ None → (wanted_numbers file scope asked).refused ≡ None
-  unfolding wanted_numbers
-  wordless asked version e none = rw (e, wanted_numbers) (rw none refl)
+  wordless : (asked : Asked) (version : List ℕ) → asked_name asked ≡ Some version → scope.symbols.words ≡ None → (version_indices file scope asked).refused ≡ None
+  unfolding version_indices
+  wordless asked version e none = rw (e, version_indices) (rw none refl)
 
   collected : (asked : Asked) (version : List ℕ) (words : VersionWords) → asked_name asked ≡ Some version → scope.symbols.words ≡ Some words
-      → (wanted_numbers file scope asked).refused ≡ (compared_with file version (readings file scope.symbols.records)).refused
-  unfolding wanted_numbers
-  collected asked version words e some = rw (e, wanted_numbers) (rw some refl)
+      → (version_indices file scope asked).refused ≡ (compared_with file version (readings file scope.symbols.records)).refused
+  unfolding version_indices
+  collected asked version words e some = rw (e, version_indices) (rw some refl)
 
-  module _ (symbols : Symbols) (are : IsSymbols file scope.symbols symbols) (fine : (wanted_numbers file scope (Version [])).refused ≡ None)
+  module _ (symbols : Symbols) (are : IsDynamicSymbols file scope.symbols symbols) (fine : (version_indices file scope (Version [])).refused ≡ None)
       (definitions : IfSome symbols.definitions (NamesEnd file)) (needs : IfSome symbols.needs (NamesEnd file)) where
-    pub none_is_refused : (asked : Asked) → HasNoNul asked → (wanted_numbers file scope asked).refused ≡ None
+    pub none_is_refused : (asked : Asked) → HasNoNul asked → (version_indices file scope asked).refused ≡ None
     none_is_refused asked plain = go (asked_name asked) refl plain scope.symbols.words refl
       where
         go : (name : Option (List ℕ)) → asked_name asked ≡ name → IfSome name (λ version. has_zero version ≡ false) → (words : Option VersionWords) → scope.symbols.words ≡ words
-            → (wanted_numbers file scope asked).refused ≡ None
+            → (version_indices file scope asked).refused ≡ None
         go None e p words w = unasked asked e
         go (Some version) e p None w = wordless asked version e w
         go (Some version) e p (Some words) w =
@@ -246,7 +246,7 @@ module _ (file : List ℕ) (scope : IsScopeOf) where
             ∙ none_refused file version p (readings file scope.symbols.records) ends (sym (collected (Version []) [] words refl w) ∙ fine)
 
 -- A TABLE OF RECORDS whose strings were looked at
-pub nul_ends : (file : List ℕ) (records : RecordTable) (at : ℕ) (ends : Bool) → 0 < records.table.count → 0 < records.names.size
+pub nul_ends : (file : List ℕ) (records : VersionRecordTable) (at : ℕ) (ends : Bool) → 0 < records.table.count → 0 < records.names.size
     → records.names.at + records.names.size ≤ length file → ComparesName at (Ok ends) (same (strings_in file records.names) (records.names.size - 1) [])
     → IsTrue ends → NamesEnd file records
 nul_ends file records at true some bytes within compares so =
@@ -255,8 +255,8 @@ nul_ends file records at true some bytes within compares so =
 nul_ends file records at false some bytes within compares so = let no : false ≡ true = so in cc
 
 -- THE TABLE IS READY where both of its tables of records end so
-module _ (file : List ℕ) (told : IsScopeOf) (scope : Scope) (table : HashTable) (is : IsScope file told scope) where
-  pub ready_where : (one other : Bool) → first_refusal (counts_check file told ∷ []) ≡ None → IsTable file told table → (wanted_numbers file told (Version [])).refused ≡ None
+module _ (file : List ℕ) (told : IsScopeOf) (scope : LookupTables) (table : HashTable) (is : IsLookupTables file told scope) where
+  pub ready_where : (one other : Bool) → first_refusal (counts_check file told ∷ []) ≡ None → IsTable file told table → (version_indices file told (Version [])).refused ≡ None
       → (IsTrue one → IfSome scope.symbols.definitions (NamesEnd file)) → (IsTrue other → IfSome scope.symbols.needs (NamesEnd file))
       → IsReadyIf file told (table_where one other table)
   ready_where true true counts is_table fine definitions needs =

@@ -1,11 +1,11 @@
 -- The tables of a file that define versions.
 use Rattle.std.specs.Prelude.{◌≡◌, if◌then◌else◌, Option, None, Some}
 use Rattle.elf_model.specs.BoundSymbols.{is_definition}
-use Rattle.elf_lookup_tables.specs.declared.symbols.RecordTable.{RecordTable}
+use Rattle.elf_lookup_tables.specs.declared.symbols.VersionRecordTable.{VersionRecordTable}
 use Rattle.elf_lookup_tables.specs.declared.symbols.Symbols.{Symbols}
 
 -- a table, if there is one and it is of definitions
-abbrev pub definition_if : Option RecordTable → Option RecordTable
+abbrev pub definition_if : Option VersionRecordTable → Option VersionRecordTable
 definition_if None = None
 definition_if (Some table) = if is_definition table.kind then Some table else None
 

@@ -1,7 +1,7 @@
 -- Pages of a file that are held, and what they give.
 use Rattle.std.specs.Prelude.{ℕ, ◌≡◌, Bool, true, false, List, length, take, drop, Some, All}
 use Rattle.elf_model.specs.Bytes.{slice}
-use Rattle.elf_source.specs.Source.{Seen}
+use Rattle.elf_source.specs.Source.{SourceState}
 
 -- bytes that are held of a file, from an offset on
 pub record HeldBytes : Type 0 where
@@ -13,7 +13,7 @@ abbrev pub IsPageOf : List ℕ → HeldBytes → Type 0
 IsPageOf file held = held.bytes ≡ slice file held.at (length held.bytes)
 
 -- of a source whose file is known all pages that are held are the file's
-abbrev pub AreHeld : Seen → List HeldBytes → Type 0
+abbrev pub AreHeld : SourceState → List HeldBytes → Type 0
 AreHeld seen pages = (file : List ℕ) → seen.file ≡ Some file → All (IsPageOf file) pages
 
 -- the bytes at an offset are given by what is held, where that has all of them; else nothing is
@@ -23,6 +23,6 @@ GivesHeld held at old new true =
 GivesHeld held at old new false = new ≡ old
 
 -- the same of all pages of a source
-abbrev pub GivesOf : Seen → (at : ℕ) → (old new : List ℕ) → Bool → Type 0
+abbrev pub GivesOf : SourceState → (at : ℕ) → (old new : List ℕ) → Bool → Type 0
 GivesOf seen at old new true = (file : List ℕ) → seen.file ≡ Some file → new ≡ take (length old) (drop at file)
 GivesOf seen at old new false = new ≡ old

@@ -3,12 +3,12 @@ use Rattle.std.specs.Prelude.{ℕ, ◌≡◌, ◌+◌, ◌*◌, ◌/◌, ◌<◌
 use Rattle.std.specs.List.{list_any}
 use Rattle.elf_model.specs.Checks.{first_refusal}
 use Rattle.elf_model.specs.Loader.{Asked, Version, asked_name}
-use Rattle.elf_model.specs.LoaderFind.{counts_check, record_cost, wanted_numbers}
-use Rattle.elf_model.specs.LoaderScope.{Scope as IsScopeOf}
+use Rattle.elf_model.specs.LoaderFind.{counts_check, record_cost, version_indices}
+use Rattle.elf_model.specs.LoaderScope.{LookupTables as IsScopeOf}
 use Rattle.elf_model.specs.Names.{same}
 use Rattle.elf_headers.specs.declared.fault.Fault.{Fault}
 use Rattle.elf_table.specs.Tables.{strings_in}
-use Rattle.elf_lookup_tables.specs.declared.symbols.RecordTable.{RecordTable}
+use Rattle.elf_lookup_tables.specs.declared.symbols.VersionRecordTable.{VersionRecordTable}
 use Rattle.elf_hash.specs.Scopes.{IsTable}
 use Rattle.elf_hash.specs.declared.table.HashTable.{HashTable}
 
@@ -25,23 +25,23 @@ abbrev pub EndsInNul : List ℕ → Type 0
 EndsInNul bytes = (last : ℕ) × (length bytes ≡ last + 1) × (same bytes last [] ≡ Ok true)
 
 -- a table of records has a byte, and the strings of its names end in a NUL
-abbrev pub NamesEnd : List ℕ → RecordTable → Type 0
+abbrev pub NamesEnd : List ℕ → VersionRecordTable → Type 0
 NamesEnd file records = (0 < records.table.count) × EndsInNul (strings_in file records.names)
 
 -- THE TABLE IS READY for lookups in a file: its counts pass their check, and no version that has no NUL in its name is refused
 pub record IsReadyTable (file : List ℕ) (told : IsScopeOf) (table : HashTable) : Type 0 where
   pub counts : first_refusal (counts_check file told ∷ []) ≡ None
   pub is : IsTable file told table
-  pub versions : (asked : Asked) → HasNoNul asked → (wanted_numbers file told asked).refused ≡ None
+  pub versions : (asked : Asked) → HasNoNul asked → (version_indices file told asked).refused ≡ None
 
 -- the same of the table, if there is one
 abbrev pub IsReadyIf : List ℕ → IsScopeOf → Option HashTable → Type 0
 IsReadyIf file told None = Unit {0}
 IsReadyIf file told (Some table) = IsReadyTable file told table
 
-abbrev pub TellsReady : List ℕ → IsScopeOf → Result (Option HashTable) Fault → Type 0
-TellsReady file told (Ok ready) = IsReadyIf file told ready
-TellsReady file told (Err fault) = Unit {0}
+abbrev pub ReturnsReady : List ℕ → IsScopeOf → Result (Option HashTable) Fault → Type 0
+ReturnsReady file told (Ok ready) = IsReadyIf file told ready
+ReturnsReady file told (Err fault) = Unit {0}
 
 -- a table, where both are so
 abbrev pub table_where : (one other : Bool) → HashTable → Option HashTable

@@ -1,7 +1,7 @@
 //! A name looked for over several files in order.
-ghost use Rattle.elf_binding.specs.Binds.{Binds};
+ghost use Rattle.elf_binding.specs.Binds.{BindsAcross};
 ghost use Rattle.elf_loader.specs.Lookups.{AreShort};
-ghost use Rattle.elf_wanted.specs.Wants.{the_wanted};
+ghost use Rattle.elf_wanted.specs.Wants.{query_of};
 
 use crate::object::Object;
 use elf_headers::Fault;
@@ -10,7 +10,7 @@ use elf_wanted::Wanted;
 
 /// What looking for a name over several files answers.
 #[derive(Clone, Copy)]
-pub enum BoundName {
+pub enum BindResult {
     /// The first file that defines the name.
     Bound {
         /// The file's index.
@@ -24,7 +24,7 @@ pub enum BoundName {
 
 /// Why looking over several files stopped, and in which.
 #[derive(Clone, Copy)]
-pub struct Blame {
+pub struct BindFault {
     /// The file's index.
     pub object: usize,
     /// Why.
@@ -32,7 +32,7 @@ pub struct Blame {
 }
 
 /// Looks for a name over files in order, and answers by the first that defines it: of the symbols that
-/// have the name there is one that is offered to others ([`elf_loader::is_offered`]), is not undefined,
+/// have the name there is one that is offered to others ([`elf_loader::is_exported`]), is not undefined,
 /// and whose version fits. No more is asked for, of all of them together, than what is left of a
 /// budget, where there is one; what was asked for is taken off. The files behind the one that answers
 /// are not asked.
@@ -44,16 +44,16 @@ pub fn bind<S: Source>(
     objects: &mut [Object<S>],
     left: &mut Option<u64>,
     wanted: &Wanted<'_>,
-) -> Result<BoundName, Blame>
-    requires { AreShort (the_wanted wanted.now) }
-    ensures { Binds (the_wanted wanted.now) objects.old objects.new left.old left.new result }
+) -> Result<BindResult, BindFault>
+    requires { AreShort (query_of wanted.now) }
+    ensures { BindsAcross (query_of wanted.now) objects.old objects.new left.old left.new result }
 {
     for object in 0..objects.len() {
         match objects[object].look(left, wanted) {
-            Ok(Some(symbol)) => return Ok(BoundName::Bound { object, symbol }),
+            Ok(Some(symbol)) => return Ok(BindResult::Bound { object, symbol }),
             Ok(None) => {}
-            Err(fault) => return Err(Blame { object, fault }),
+            Err(fault) => return Err(BindFault { object, fault }),
         }
     }
-    Ok(BoundName::Unbound)
+    Ok(BindResult::Unbound)
 }

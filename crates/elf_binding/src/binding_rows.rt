@@ -2,12 +2,12 @@
 ghost use Rattle.std.specs.Prelude.{◌≡◌, ◌≤◌, length};
 ghost use Rattle.arrayvec.specs.ArrayVec.{array_vec_len};
 ghost use Rattle.elf_model.specs.Fields.{with_fields};
-ghost use Rattle.elf_source.specs.Output.{Puts};
+ghost use Rattle.elf_source.specs.Output.{OutPuts};
 ghost use Rattle.elf_fields.specs.Fronts.{front_of};
-ghost use Rattle.elf_model.specs.BindingLines.{binding_front, binding_line, binding_word, definer_fields};
+ghost use Rattle.elf_model.specs.BindingLines.{binding_front, binding_line, binding_state_name, definer_fields};
 
 use elf_fields::{
-    Columns, Line, LineFront, Object, Render, begin_named, put_decimal, put_name_or_decimal,
+    Columns, LineBuf, LinePrefix, Object, Render, begin_named, put_decimal, put_name_or_decimal,
     put_text, show_named,
 };
 use elf_model::{BindingState, Format};
@@ -15,7 +15,7 @@ use elf_source::{Out, OutFault, Sink};
 
 /// The `B` line of a symbol up to its name.
 #[tactic(auto, unfolding(elf_model::specs::BindingLines::binding_front))]
-fn binding_row<R: Render>(front: &mut LineFront, object: u16, symbol: u64, state: BindingState)
+fn binding_row<R: Render>(front: &mut LinePrefix, object: u16, symbol: u64, state: BindingState)
     ensures front { front_of front.new ≡ binding_front R.FORMAT object symbol state }
     ensures key { length front.new.key.now ≤ 16 }
 {
@@ -23,14 +23,20 @@ fn binding_row<R: Render>(front: &mut LineFront, object: u16, symbol: u64, state
     let line = &mut front.line;
     put_decimal::<R>(line, b"object", 5, u64::from(object), b' ');
     put_decimal::<R>(line, b"symbol", 10, symbol, b' ');
-    put_text::<R>(line, b"state", 8, binding_word(state).as_bytes(), b' ');
+    put_text::<R>(
+        line,
+        b"state",
+        8,
+        binding_state_name(state).as_bytes(),
+        b' ',
+    );
     put_definer::<R>(line, state);
 }
 
 /// Puts the object that defines a symbol, or in which the lookup is refused, and the symbol there;
 /// hyphens for what there is not.
 #[tactic(auto, unfolding(elf_model::specs::Fields::with_field))]
-fn put_definer<R: Render>(line: &mut Line, state: BindingState)
+fn put_definer<R: Render>(line: &mut LineBuf, state: BindingState)
     requires { array_vec_len line.old ≤ 150 }
     ensures items { line.new.items ≡ with_fields R.FORMAT line.old.items (definer_fields state) }
 {
@@ -51,9 +57,9 @@ fn put_definer<R: Render>(line: &mut Line, state: BindingState)
 }
 
 /// The word of a state in a symbol's line.
-#[tactic(auto, unfolding(elf_model::specs::BindingLines::binding_word))]
-fn binding_word(state: BindingState) -> &'static str
-    ensures word { result.now ≡ binding_word state }
+#[tactic(auto, unfolding(elf_model::specs::BindingLines::binding_state_name))]
+fn binding_state_name(state: BindingState) -> &'static str
+    ensures word { result.now ≡ binding_state_name state }
     ensures short { length result.now ≤ 8 }
 {
     match state {
@@ -79,9 +85,9 @@ pub fn show_binding<W: Sink>(
     format: Format,
     out: &mut Out<W>,
 ) -> Result<(), OutFault>
-    ensures puts { Puts out.old out.new result (binding_line format object symbol state name.now) }
+    ensures puts { OutPuts out.old out.new result (binding_line format object symbol state name.now) }
 {
-    let mut front = LineFront::new();
+    let mut front = LinePrefix::new();
     match format {
         Format::Columns => binding_row::<Columns>(&mut front, object, symbol, state),
         Format::Object => binding_row::<Object>(&mut front, object, symbol, state),

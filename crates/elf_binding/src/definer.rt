@@ -4,57 +4,57 @@ ghost use Rattle.elf_binding.specs.Definers.{DefinesOn, SaysDefines, definer_wit
 ghost use Rattle.elf_binding.specs.Ready.{HasNoNul, IsReadyTable, IsReadyIf};
 ghost use Rattle.elf_hash.specs.Scopes.{IsTable, place_of_table};
 ghost use Rattle.elf_hash.specs.Walks.{index_of, walk_bytes};
-ghost use Rattle.elf_loader.specs.Answering.{StandsAs};
-ghost use Rattle.elf_loader.specs.Lookups.{MayLookOn, lookup_bytes, trial_bytes};
+ghost use Rattle.elf_loader.specs.Answering.{IsSymbolWithVersym};
+ghost use Rattle.elf_loader.specs.Lookups.{MayLookOn, lookup_bytes, match_bytes};
 ghost use Rattle.elf_loader.specs.NumberSets.{has_number};
-ghost use Rattle.elf_model.specs.Bindings.{definer_by, definer_in, definer_walk};
-ghost use Rattle.elf_model.specs.LoaderFind.{record_cost, wanted_numbers};
+ghost use Rattle.elf_model.specs.Bindings.{definer_by, definition_in, definer_walk};
+ghost use Rattle.elf_model.specs.LoaderFind.{record_cost, version_indices};
 ghost use Rattle.elf_model.specs.Names.{pad64};
-ghost use Rattle.elf_lookup_tables.specs.Symbols.{SymbolsLie};
-ghost use Rattle.elf_wanted.specs.Wants.{the_wanted};
+ghost use Rattle.elf_lookup_tables.specs.Symbols.{DynamicSymbolsInBounds};
+ghost use Rattle.elf_wanted.specs.Wants.{query_of};
 
 use crate::ready::has_nul;
-use elf_hash::{HashTable, Trial, TrialAnswer, Walked, counts, excludes, walk};
+use elf_hash::{ChainResult, HashTable, Matcher, SymbolMatch, counts, excludes, walk};
 use elf_headers::Fault;
-use elf_loader::{NumberSet, WantedTrial, wanted_numbers};
-use elf_lookup_tables::Scope;
+use elf_loader::{VersionIndexSet, VersionMatcher, version_indices};
+use elf_lookup_tables::LookupTables;
 use elf_record::numbers::SHN_UNDEF;
 use elf_source::{Counted, Source};
 use elf_wanted::Wanted;
 
 /// The trial of symbols by what is wanted of them, of which those that are undefined don't answer.
 #[derive(Clone, Copy)]
-struct DefinerTrial<'a> {
+struct DefinitionMatcher<'a> {
     /// The trial of all.
-    offered: WantedTrial<'a>,
+    offered: VersionMatcher<'a>,
 }
 
-impl<'a> Trial for DefinerTrial<'a> {
+impl<'a> Matcher for DefinitionMatcher<'a> {
     ghost symbols = { λ t. t.offered.symbols.now.table.count };
 
     ghost cost = { λ t. 26 + pad64 (length t.offered.wanted.now.name.now + 1) };
 
-    ghost stands = { λ t file. StandsAs file t.offered.symbols.now };
+    ghost stands = { λ t file. IsSymbolWithVersym file t.offered.symbols.now };
 
     ghost lies = { λ t size.
-        SymbolsLie size t.offered.symbols.now
+        DynamicSymbolsInBounds size t.offered.symbols.now
         × (length t.offered.wanted.now.name.now ≤ 4096) };
 
     ghost is_of = { λ t file says.
-        SaysDefines file t.offered.symbols.now (the_wanted t.offered.wanted.now)
+        SaysDefines file t.offered.symbols.now (query_of t.offered.wanted.now)
         (has_number t.offered.numbers.now) says };
 
     fn tried<S: Source>(
         &self,
         src: &mut Counted<S>,
         index: u64,
-    ) -> Result<Option<TrialAnswer>, Fault> {
+    ) -> Result<Option<SymbolMatch>, Fault> {
         Ok(if_defined(self.offered.tried(src, index)?))
     }
 }
 
 /// The answer of a trial, unless its symbol is undefined.
-fn if_defined(answer: Option<TrialAnswer>) -> Option<TrialAnswer>
+fn if_defined(answer: Option<SymbolMatch>) -> Option<SymbolMatch>
     ensures { result ≡ the_defined answer }
 {
     match answer {
@@ -72,109 +72,109 @@ fn if_defined(answer: Option<TrialAnswer>) -> Option<TrialAnswer>
 /// symbol's version, which is not told.
 pub(crate) fn find_definer<S: Source>(
     src: &mut Counted<S>,
-    scope: &Scope,
+    scope: &LookupTables,
     ready: &Option<HashTable>,
     wanted: &Wanted<'_>,
 ) -> Result<Option<u64>, Fault>
-    requires may { MayLookOn src.old scope.now (the_wanted wanted.now) }
+    requires may { MayLookOn src.old scope.now (query_of wanted.now) }
     requires place { IfSome ready.now (λ table. place_of_table table ≡ scope.now.hash) }
-    ensures { DefinesOn src.old src.new scope.now (the_wanted wanted.now) result 28
-        (lookup_bytes 28 src.old.seen.size (the_wanted wanted.now)) (λ file told leaves.
-        IsReadyIf file told ready.now → leaves 0 (definer_in file told (the_wanted wanted.now))) }
+    ensures { DefinesOn src.old src.new scope.now (query_of wanted.now) result 28
+        (lookup_bytes 28 src.old.seen.size (query_of wanted.now)) (λ file told leaves.
+        IsReadyIf file told ready.now → leaves 0 (definition_in file told (query_of wanted.now))) }
 {
     match ready {
-        Some(table) if !has_nul(&wanted.asked) => definer_unless(src, scope, table, wanted),
-        _ => definer_counted(src, scope, wanted),
+        Some(table) if !has_nul(&wanted.asked) => definition_unless(src, scope, table, wanted),
+        _ => definition_counted(src, scope, wanted),
     }
 }
 
 /// Reads the counts of the hash table, and looks in it.
 ///
 /// # Errors
-/// Those of [`counts`], and of [`definer_in_table`].
-fn definer_counted<S: Source>(
+/// Those of [`counts`], and of [`definition_in_table`].
+fn definition_counted<S: Source>(
     src: &mut Counted<S>,
-    scope: &Scope,
+    scope: &LookupTables,
     wanted: &Wanted<'_>,
 ) -> Result<Option<u64>, Fault>
-    requires { MayLookOn src.old scope.now (the_wanted wanted.now) }
-    ensures { DefinesOn src.old src.new scope.now (the_wanted wanted.now) result 28
-        (lookup_bytes 28 src.old.seen.size (the_wanted wanted.now))
-        (λ file told leaves. leaves 0 (definer_in file told (the_wanted wanted.now))) }
+    requires { MayLookOn src.old scope.now (query_of wanted.now) }
+    ensures { DefinesOn src.old src.new scope.now (query_of wanted.now) result 28
+        (lookup_bytes 28 src.old.seen.size (query_of wanted.now))
+        (λ file told leaves. leaves 0 (definition_in file told (query_of wanted.now))) }
 {
     let table = counts(src, &scope.hash)?;
-    definer_in_table(src, scope, &table, wanted)
+    definition_in_table(src, scope, &table, wanted)
 }
 
 /// Looks in a hash table whose counts, and whose file's records of versions, have no fault, unless the
 /// table excludes the name.
 ///
 /// # Errors
-/// Those of [`definer_in_table`].
-fn definer_unless<S: Source>(
+/// Those of [`definition_in_table`].
+fn definition_unless<S: Source>(
     src: &mut Counted<S>,
-    scope: &Scope,
+    scope: &LookupTables,
     table: &HashTable,
     wanted: &Wanted<'_>,
 ) -> Result<Option<u64>, Fault>
-    requires may { MayLookOn src.old scope.now (the_wanted wanted.now) }
+    requires may { MayLookOn src.old scope.now (query_of wanted.now) }
     requires place { place_of_table table.now ≡ scope.now.hash }
-    requires plain { HasNoNul (the_wanted wanted.now).asked }
-    ensures { DefinesOn src.old src.new scope.now (the_wanted wanted.now) result 28
-        (lookup_bytes 28 src.old.seen.size (the_wanted wanted.now)) (λ file told leaves.
+    requires plain { HasNoNul (query_of wanted.now).asked }
+    ensures { DefinesOn src.old src.new scope.now (query_of wanted.now) result 28
+        (lookup_bytes 28 src.old.seen.size (query_of wanted.now)) (λ file told leaves.
         IsReadyTable file told table.now →
-        leaves 0 (definer_in file told (the_wanted wanted.now))) }
+        leaves 0 (definition_in file told (query_of wanted.now))) }
 {
     if excludes(src, table, wanted.name)? {
         return Ok(None);
     }
-    definer_in_table(src, scope, table, wanted)
+    definition_in_table(src, scope, table, wanted)
 }
 
 /// Looks in a hash table with its counts: tells the numbers of the version that is asked for, and goes
 /// along the chain.
 ///
 /// # Errors
-/// Those of [`wanted_numbers`], and of [`definer_along`].
-fn definer_in_table<S: Source>(
+/// Those of [`version_indices`], and of [`definition_along`].
+fn definition_in_table<S: Source>(
     src: &mut Counted<S>,
-    scope: &Scope,
+    scope: &LookupTables,
     table: &HashTable,
     wanted: &Wanted<'_>,
 ) -> Result<Option<u64>, Fault>
-    requires may { MayLookOn src.old scope.now (the_wanted wanted.now) }
+    requires may { MayLookOn src.old scope.now (query_of wanted.now) }
     requires place { place_of_table table.now ≡ scope.now.hash }
-    ensures { DefinesOn src.old src.new scope.now (the_wanted wanted.now) result 12
-        (lookup_bytes 12 src.old.seen.size (the_wanted wanted.now)) (λ file told leaves.
-        IsTable file told table.now → leaves 0 (definer_with file told (the_wanted wanted.now)
-        (wanted_numbers file told (the_wanted wanted.now).asked))) }
+    ensures { DefinesOn src.old src.new scope.now (query_of wanted.now) result 12
+        (lookup_bytes 12 src.old.seen.size (query_of wanted.now)) (λ file told leaves.
+        IsTable file told table.now → leaves 0 (definer_with file told (query_of wanted.now)
+        (version_indices file told (query_of wanted.now).asked))) }
 {
-    let numbers = wanted_numbers(src, &scope.symbols, &wanted.asked)?;
-    definer_along(src, scope, table, wanted, &numbers)
+    let numbers = version_indices(src, &scope.symbols, &wanted.asked)?;
+    definition_along(src, scope, table, wanted, &numbers)
 }
 
 /// Goes along the chain of the wanted name for the symbol that defines it.
 ///
 /// # Errors
 /// Those of [`walk`].
-fn definer_along<S: Source>(
+fn definition_along<S: Source>(
     src: &mut Counted<S>,
-    scope: &Scope,
+    scope: &LookupTables,
     table: &HashTable,
     wanted: &Wanted<'_>,
-    numbers: &NumberSet,
+    numbers: &VersionIndexSet,
 ) -> Result<Option<u64>, Fault>
-    requires may { MayLookOn src.old scope.now (the_wanted wanted.now) }
+    requires may { MayLookOn src.old scope.now (query_of wanted.now) }
     requires place { place_of_table table.now ≡ scope.now.hash }
-    ensures { DefinesOn src.old src.new scope.now (the_wanted wanted.now) result 12
+    ensures { DefinesOn src.old src.new scope.now (query_of wanted.now) result 12
         (walk_bytes 12 (scope.now.hash.size / 4) (scope.now.hash.size / 4)
-        (trial_bytes (the_wanted wanted.now))) (λ file told leaves. (before : ℕ) →
-        IsTable file told table.now → leaves (before * record_cost (the_wanted wanted.now).asked)
-        (definer_by before (definer_walk file told (the_wanted wanted.now)
+        (match_bytes (query_of wanted.now))) (λ file told leaves. (before : ℕ) →
+        IsTable file told table.now → leaves (before * record_cost (query_of wanted.now).asked)
+        (definer_by before (definer_walk file told (query_of wanted.now)
         (has_number numbers.now)))) }
 {
-    let trial = DefinerTrial {
-        offered: WantedTrial {
+    let trial = DefinitionMatcher {
+        offered: VersionMatcher {
             symbols: &scope.symbols,
             wanted,
             numbers,
@@ -185,7 +185,7 @@ fn definer_along<S: Source>(
 }
 
 /// The index of the symbol that a walk finds.
-fn index_found(walked: &Walked) -> Option<u64>
+fn index_found(walked: &ChainResult) -> Option<u64>
     ensures { result ≡ index_of walked.now.found }
 {
     match walked.found {

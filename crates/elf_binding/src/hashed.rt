@@ -1,26 +1,29 @@
 //! How many symbols a file has.
 ghost use Rattle.std.specs.Prelude.{◌≡◌, ◌+◌, ◌≤◌, List};
-ghost use Rattle.elf_binding.specs.Sought.{TellsAs};
-ghost use Rattle.elf_headers.specs.Ledger.{Did, why_stopped};
-ghost use Rattle.elf_lookup_tables.specs.Scopes.{IsScope};
+ghost use Rattle.elf_binding.specs.Sought.{ReturnsAs};
+ghost use Rattle.elf_headers.specs.Ledger.{CallDid, fault_of_result};
+ghost use Rattle.elf_lookup_tables.specs.Scopes.{IsLookupTables};
 ghost use Rattle.elf_model.specs.Bindings.{symbols_hashed};
-ghost use Rattle.elf_model.specs.LoaderScope.{Scope as IsScopeOf};
+ghost use Rattle.elf_model.specs.LoaderScope.{LookupTables as IsScopeOf};
 
 use elf_hash::counts;
 use elf_headers::Fault;
-use elf_lookup_tables::Scope;
+use elf_lookup_tables::LookupTables;
 use elf_source::{Counted, Source};
 
 /// How many symbols a file has, by its hash table, of those that there is room for.
 ///
 /// # Errors
 /// Those of [`counts`], and of [`elf_lookup_tables::Symbols::extent`].
-pub(crate) fn hashed_symbols<S: Source>(src: &mut Counted<S>, scope: &Scope) -> Result<u64, Fault>
+pub(crate) fn hashed_symbols<S: Source>(
+    src: &mut Counted<S>,
+    scope: &LookupTables,
+) -> Result<u64, Fault>
     requires within { scope.now.hash.at + scope.now.hash.size ≤ src.old.seen.size }
     requires count { scope.now.symbols.table.count ≡ scope.now.hash.symbols }
-    ensures { Did src.old src.new (why_stopped result) (16 + scope.now.hash.size)
-        (λ file. (told : IsScopeOf) → IsScope file told scope.now →
-        TellsAs (symbols_hashed file told) result) }
+    ensures { CallDid src.old src.new (fault_of_result result) (16 + scope.now.hash.size)
+        (λ file. (told : IsScopeOf) → IsLookupTables file told scope.now →
+        ReturnsAs (symbols_hashed file told) result) }
 {
     let table = counts(src, &scope.hash)?;
     let count = scope.symbols.extent(src, &table)?;

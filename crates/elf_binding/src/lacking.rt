@@ -1,18 +1,18 @@
 //! Whether a file lacks a version.
 ghost use Rattle.std.specs.Prelude.{◌≡◌, ◌≤◌, length, MatchBool};
 ghost use Rattle.elf_binding.specs.Lacking.{HasNoTable, definition_if, definitions_of};
-ghost use Rattle.elf_binding.specs.Sought.{TellsAs};
-ghost use Rattle.elf_headers.specs.Ledger.{Did, why_stopped};
+ghost use Rattle.elf_binding.specs.Sought.{ReturnsAs};
+ghost use Rattle.elf_headers.specs.Ledger.{CallDid, fault_of_result};
 ghost use Rattle.elf_loader.specs.Comparing.{comparing_bytes};
-ghost use Rattle.elf_loader.specs.Tables.{most_versions};
+ghost use Rattle.elf_loader.specs.Tables.{max_versions_of};
 ghost use Rattle.elf_model.specs.BoundSymbols.{lacks_version};
 ghost use Rattle.elf_model.specs.Loader.{Version};
-ghost use Rattle.elf_model.specs.LoaderScope.{Scope as IsScopeOf};
-ghost use Rattle.elf_lookup_tables.specs.Symbols.{IsSymbols, SymbolsLie};
+ghost use Rattle.elf_model.specs.LoaderScope.{LookupTables as IsScopeOf};
+ghost use Rattle.elf_lookup_tables.specs.Symbols.{IsDynamicSymbols, DynamicSymbolsInBounds};
 
 use elf_headers::Fault;
-use elf_loader::wanted_numbers;
-use elf_lookup_tables::{RecordTable, Symbols};
+use elf_loader::version_indices;
+use elf_lookup_tables::{Symbols, VersionRecordTable};
 use elf_record::VersionKind;
 use elf_source::{Counted, Source};
 use elf_wanted::Asked;
@@ -20,18 +20,18 @@ use elf_wanted::Asked;
 /// Whether a file defines versions, and none by a name of at most 4,096 bytes.
 ///
 /// # Errors
-/// Those of [`wanted_numbers`], of the definitions.
+/// Those of [`version_indices`], of the definitions.
 pub(crate) fn lacks_version<S: Source>(
     src: &mut Counted<S>,
     symbols: &Symbols,
     version: &[u8],
 ) -> Result<bool, Fault>
     requires most { length version.now ≤ 4096 }
-    requires lies { SymbolsLie src.old.seen.size symbols.now }
-    ensures { Did src.old src.new (why_stopped result)
-        (comparing_bytes (Version version.now) (most_versions symbols.now))
-        (λ file. (told : IsScopeOf) → IsSymbols file told.symbols symbols.now →
-        TellsAs (lacks_version file told.symbols version.now) result) }
+    requires lies { DynamicSymbolsInBounds src.old.seen.size symbols.now }
+    ensures { CallDid src.old src.new (fault_of_result result)
+        (comparing_bytes (Version version.now) (max_versions_of symbols.now))
+        (λ file. (told : IsScopeOf) → IsDynamicSymbols file told.symbols symbols.now →
+        ReturnsAs (lacks_version file told.symbols version.now) result) }
 {
     if symbols.words.is_none() {
         return Ok(false);
@@ -40,7 +40,7 @@ pub(crate) fn lacks_version<S: Source>(
     if is_bare(&own) {
         return Ok(false);
     }
-    let numbers = wanted_numbers(src, &own, &Asked::Version(version))?;
+    let numbers = version_indices(src, &own, &Asked::Version(version))?;
     Ok(numbers.is_empty())
 }
 
@@ -66,7 +66,7 @@ fn definitions_of(symbols: &Symbols) -> Symbols
 }
 
 /// A table of records, if there is one and it is of definitions.
-fn definition_if(records: Option<RecordTable>) -> Option<RecordTable>
+fn definition_if(records: Option<VersionRecordTable>) -> Option<VersionRecordTable>
     ensures { result ≡ definition_if records }
 {
     match records {

@@ -1,21 +1,21 @@
 //! A file that names are looked for in.
 ghost use Rattle.std.specs.Prelude.{◌≡◌, ◌≤◌, ◌+◌, ◌*◌, length, true};
-ghost use Rattle.elf_headers.specs.Ledger.{Did};
+ghost use Rattle.elf_headers.specs.Ledger.{CallDid};
 ghost use Rattle.elf_binding.specs.Kept.{KeepsScope, source_of, why_back};
-ghost use Rattle.elf_binding.specs.Looks.{Looks, Prepares};
+ghost use Rattle.elf_binding.specs.Looks.{LooksInObject, Prepares};
 ghost use Rattle.elf_binding.specs.Sought.{CountsHashed, LooksForVersion, ReadsFileName, Seeks};
 ghost use Rattle.elf_loader.specs.Lookups.{AreShort};
-ghost use Rattle.elf_wanted.specs.Wants.{the_wanted};
+ghost use Rattle.elf_wanted.specs.Wants.{query_of};
 
 use crate::definer::find_definer;
 use crate::hashed::hashed_symbols;
 use crate::lacking::lacks_version;
 use crate::ready::ready_table;
-use crate::sought::{SoughtSymbol, sought_of, whole_name};
-use crate::spending::take_off;
+use crate::sought::{SymbolReference, reference_of, whole_name};
+use crate::spending::spend_budget;
 use elf_hash::HashTable;
 use elf_headers::{Fault, HeaderStore};
-use elf_lookup_tables::{Scope, find_scope};
+use elf_lookup_tables::{LookupTables, find_lookup_tables};
 use elf_source::{Counted, Source};
 use elf_table::NameBuf;
 use elf_versions::VersionRecord;
@@ -26,16 +26,16 @@ use std::marker::Model;
 #[derive(Drop)]
 pub struct Object<S: Source> {
     source: Counted<S>,
-    scope: Scope,
+    scope: LookupTables,
     headers: u16,
     // The hash table with its counts, where no lookup is refused before its walk, once that is known.
     ready: Option<HashTable>,
 }
 
 impl<S: Source> Model for Object<S> {
-    ghost use Rattle.elf_binding.specs.Kept.{IsKept, KeptObject};
+    ghost use Rattle.elf_binding.specs.Kept.{IsKept, LookupObjectState};
 
-    ghost Value = { KeptObject };
+    ghost Value = { LookupObjectState };
 
     ghost view = { λ o. record { src = o.source; headers = o.headers } };
 
@@ -43,24 +43,24 @@ impl<S: Source> Model for Object<S> {
 }
 
 impl<S: Source> Object<S> {
-    /// Finds what a lookup in a file is made in, as [`find_scope`] does, once, and keeps it: by its program
+    /// Finds what a lookup in a file is made in, as [`find_lookup_tables`] does, once, and keeps it: by its program
     /// headers, since the source hides where section headers are. The headers are loaded into the store, which
     /// is free again afterwards.
     ///
     /// # Errors
-    /// Those of [`find_scope`]; the source is given back.
+    /// Those of [`find_lookup_tables`]; the source is given back.
     pub fn open(
         source: Counted<S>,
         store: &mut HeaderStore,
     ) -> Result<Object<S>, (Counted<S>, Fault)>
         requires by_segments { source.hides ≡ true }
-        ensures did { Did source (source_of result) (why_back result)
+        ensures did { CallDid source (source_of result) (why_back result)
             (64 + 64 * store.old.slots + source.seen.size)
             (λ file. KeepsScope file store.old.slots source result) }
         ensures slots { store.new.slots ≡ store.old.slots }
     {
         let mut source = source;
-        match find_scope(&mut source, store) {
+        match find_lookup_tables(&mut source, store) {
             Ok(scope) => Ok(Object {
                 source,
                 scope,
@@ -82,7 +82,7 @@ impl<S: Source> Object<S> {
         self.source.limit(*left);
         let ready = ready_table(&mut self.source, &self.scope);
         self.source.limit(None);
-        take_off(left, self.source.asked() - asked);
+        spend_budget(left, self.source.asked() - asked);
         self.ready = ready.unwrap_or(None);
     }
 
@@ -103,14 +103,14 @@ impl<S: Source> Object<S> {
         left: &mut Option<u64>,
         wanted: &Wanted<'_>,
     ) -> Result<Option<u64>, Fault>
-        requires { AreShort (the_wanted wanted.now) }
-        ensures { Looks (the_wanted wanted.now) self.old self.new left.old left.new result }
+        requires { AreShort (query_of wanted.now) }
+        ensures { LooksInObject (query_of wanted.now) self.old self.new left.old left.new result }
     {
         let asked = self.source.asked();
         self.source.limit(*left);
         let found = find_definer(&mut self.source, &self.scope, &self.ready, wanted);
         self.source.limit(None);
-        take_off(left, self.source.asked() - asked);
+        spend_budget(left, self.source.asked() - asked);
         found
     }
 
@@ -127,7 +127,7 @@ impl<S: Source> Object<S> {
         self.source.limit(*left);
         let count = hashed_symbols(&mut self.source, &self.scope);
         self.source.limit(None);
-        take_off(left, self.source.asked() - asked);
+        spend_budget(left, self.source.asked() - asked);
         count
     }
 
@@ -137,21 +137,21 @@ impl<S: Source> Object<S> {
     /// taken off. Afterwards no limit is set.
     ///
     /// # Errors
-    /// Those of [`sought_symbol`].
+    /// Those of [`reference_symbol`].
     pub fn sought(
         &mut self,
         left: &mut Option<u64>,
         index: u64,
         name: &mut NameBuf,
         version: &mut NameBuf,
-    ) -> Result<Option<SoughtSymbol>, Fault>
+    ) -> Result<Option<SymbolReference>, Fault>
         ensures { Seeks index name.new version.new self.old self.new left.old left.new result }
     {
         let asked = self.source.asked();
         self.source.limit(*left);
-        let sought = sought_of(&mut self.source, &self.scope.symbols, index, name, version);
+        let sought = reference_of(&mut self.source, &self.scope.symbols, index, name, version);
         self.source.limit(None);
-        take_off(left, self.source.asked() - asked);
+        spend_budget(left, self.source.asked() - asked);
         sought
     }
 
@@ -177,7 +177,7 @@ impl<S: Source> Object<S> {
         let names = self.scope.symbols.names;
         let read = whole_name(&mut self.source, names, off, file.named_at, name);
         self.source.limit(None);
-        take_off(left, self.source.asked() - asked);
+        spend_budget(left, self.source.asked() - asked);
         read
     }
 
@@ -196,7 +196,7 @@ impl<S: Source> Object<S> {
         self.source.limit(*left);
         let lacks = lacks_version(&mut self.source, &self.scope.symbols, version);
         self.source.limit(None);
-        take_off(left, self.source.asked() - asked);
+        spend_budget(left, self.source.asked() - asked);
         lacks
     }
 }

@@ -3,8 +3,8 @@ ghost use Rattle.std.specs.Prelude.{◌≡◌, [], IfOk};
 ghost use Rattle.elf_binding.specs.Opens.{AsksKept, KeepsOne};
 
 use crate::object::Object;
-use crate::paged_source::PagedSource;
-use crate::spending::take_off;
+use crate::paged_source::CachedSource;
+use crate::spending::spend_budget;
 use elf_headers::{Fault, HeaderStore};
 use elf_record::{Cause, Refusal};
 use elf_source::{Counted, Source};
@@ -47,7 +47,7 @@ impl<S: Source + Drop> OpenObjects<S> {
     }
 }
 
-impl<S: Source + Drop> OpenObjects<PagedSource<S>> {
+impl<S: Source + Drop> OpenObjects<CachedSource<S>> {
     /// Keeps the file of the object of an index open, if there is room for it and it has a hash table. Lookups
     /// in it go by its program headers, as a loader's do, whatever its section headers say.
     /// No more is asked for than what is left of a budget, where there is one; what was asked for is taken
@@ -68,19 +68,19 @@ impl<S: Source + Drop> OpenObjects<PagedSource<S>> {
             return Ok(());
         }
         let keeps = left.is_none();
-        let mut source = Counted::new(PagedSource::new(source, keeps));
-        source.hide_sections(true);
+        let mut source = Counted::new(CachedSource::new(source, keeps));
+        source.mask_section_headers(true);
         source.limit(*left);
         match Object::open(source, store) {
             Ok(object) => {
                 let mut object = object;
-                take_off(left, object.asked());
+                spend_budget(left, object.asked());
                 object.prepare(left);
                 self.push(index, object);
                 Ok(())
             }
             Err((source, fault)) => {
-                take_off(left, source.asked());
+                spend_budget(left, source.asked());
                 unless_no_hash(fault)
             }
         }

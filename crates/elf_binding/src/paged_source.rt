@@ -1,7 +1,7 @@
 //! A source over another, of which some pages are kept.
 ghost use Rattle.std.specs.Prelude.{◌≡◌, ℕ, ◌+◌, ◌≤◌, List, length, take, drop, Some, IfErr, OnOk, ⊤};
 ghost use Rattle.elf_binding.specs.Pages.{GivesOf};
-ghost use Rattle.elf_source.specs.Source.{Keeps, Faults};
+ghost use Rattle.elf_source.specs.Source.{Keeps, IsSourceFault};
 
 use crate::page::{PAGE_BYTES, Page};
 use elf_source::{Source, SourceFault};
@@ -13,7 +13,7 @@ pub const PAGES: usize = 8;
 /// A source over another of which the last eight pages that were read are kept, 1,024 bytes each. Its
 /// file, its length and its failures are the other's.
 #[derive(Drop)]
-pub struct PagedSource<S: Source> {
+pub struct CachedSource<S: Source> {
     source: S,
     keeps: bool,
     // The place of the page that was read first.
@@ -21,23 +21,23 @@ pub struct PagedSource<S: Source> {
     pages: [Page; PAGES],
 }
 
-impl<S: Source> Model for PagedSource<S> {
-    ghost use Rattle.elf_source.specs.Source.{Seen};
+impl<S: Source> Model for CachedSource<S> {
+    ghost use Rattle.elf_source.specs.Source.{SourceState};
     ghost use Rattle.elf_binding.specs.Pages.{AreHeld};
 
-    ghost Value = { Seen };
+    ghost Value = { SourceState };
 
     ghost view = { λ p. S.seen p.source };
 
     ghost invariant = { λ p. AreHeld (S.seen p.source) p.pages };
 }
 
-impl<S: Source> PagedSource<S> {
+impl<S: Source> CachedSource<S> {
     /// A source over another, of which no page is kept yet, and with `keeps` false none ever.
     pub fn new(source: S, keeps: bool) -> Self
         ensures { result ≡ S.seen source }
     {
-        PagedSource {
+        CachedSource {
             source,
             keeps,
             next: 0,
@@ -67,7 +67,7 @@ impl<S: Source> PagedSource<S> {
     }
 }
 
-impl<S: Source> Source for PagedSource<S> {
+impl<S: Source> Source for CachedSource<S> {
     ghost seen = { λ s. s };
 
     ghost one_read = { λ _ _ _ _. ⊤ };
@@ -86,7 +86,7 @@ impl<S: Source> Source for PagedSource<S> {
         requires { at + length out.old ≤ self.old.size }
         ensures slice { (file : List ℕ) → self.old.file ≡ Some file → OnOk result
             (out.new ≡ take (length out.old) (drop at file)) }
-        ensures faults { IfErr result (Faults self.old self.new) }
+        ensures faults { IfErr result (IsSourceFault self.old self.new) }
         ensures keeps { Keeps self.old self.new }
     {
         if self.give(at, out) {

@@ -1,17 +1,17 @@
 //! What the lookups in a file have in common, read once.
 ghost use Rattle.std.specs.Prelude.{◌≡◌, ⊤, IfOk, IfSome, IsTrue, MatchBool};
-ghost use Rattle.elf_binding.specs.Ready.{HasNoNul, NamesEnd, TellsReady, ready_bytes, table_where};
+ghost use Rattle.elf_binding.specs.Ready.{HasNoNul, NamesEnd, ReturnsReady, ready_bytes, table_where};
 ghost use Rattle.elf_hash.specs.Scopes.{place_of_table};
-ghost use Rattle.elf_headers.specs.Ledger.{Did, why_stopped};
-ghost use Rattle.elf_model.specs.LoaderScope.{Scope as IsScopeOf};
-ghost use Rattle.elf_lookup_tables.specs.Scopes.{IsScope, ScopeLies};
-ghost use Rattle.elf_lookup_tables.specs.Symbols.{RecordsWithin};
+ghost use Rattle.elf_headers.specs.Ledger.{CallDid, fault_of_result};
+ghost use Rattle.elf_model.specs.LoaderScope.{LookupTables as IsScopeOf};
+ghost use Rattle.elf_lookup_tables.specs.Scopes.{IsLookupTables, LookupTablesInBounds};
+ghost use Rattle.elf_lookup_tables.specs.Symbols.{VersionRecordsInBounds};
 ghost use Rattle.elf_wanted.specs.Wants.{asked_of};
 
 use elf_hash::{HashTable, counts};
 use elf_headers::Fault;
-use elf_loader::wanted_numbers;
-use elf_lookup_tables::{RecordTable, Scope};
+use elf_loader::version_indices;
+use elf_lookup_tables::{LookupTables, VersionRecordTable};
 use elf_source::{Counted, Source};
 use elf_wanted::Asked;
 
@@ -22,17 +22,17 @@ use elf_wanted::Asked;
 /// A fault of the counts or of the records, or of a read.
 pub(crate) fn ready_table<S: Source>(
     src: &mut Counted<S>,
-    scope: &Scope,
+    scope: &LookupTables,
 ) -> Result<Option<HashTable>, Fault>
-    requires { ScopeLies src.old.seen.size scope.now }
-    ensures did { Did src.old src.new (why_stopped result) (ready_bytes src.old.seen.size)
-        (λ file. (told : IsScopeOf) → IsScope file told scope.now → TellsReady file told result) }
+    requires { LookupTablesInBounds src.old.seen.size scope.now }
+    ensures did { CallDid src.old src.new (fault_of_result result) (ready_bytes src.old.seen.size)
+        (λ file. (told : IsScopeOf) → IsLookupTables file told scope.now → ReturnsReady file told result) }
     ensures place { IfOk result (λ ready.
         IfSome ready (λ table. place_of_table table ≡ scope.now.hash)) }
 {
     let table = counts(src, &scope.hash)?;
     let symbols = &scope.symbols;
-    let _numbers = wanted_numbers(src, symbols, &Asked::Version(&[]))?;
+    let _numbers = version_indices(src, symbols, &Asked::Version(&[]))?;
     let definitions_end = ends_in_nul(src, &symbols.definitions)?;
     let needs_end = ends_in_nul(src, &symbols.needs)?;
     Ok(table_where(definitions_end, needs_end, table))
@@ -51,10 +51,10 @@ fn table_where(one: bool, other: bool, table: HashTable) -> Option<HashTable>
 /// A fault of a read.
 fn ends_in_nul<S: Source>(
     src: &mut Counted<S>,
-    records: &Option<RecordTable>,
+    records: &Option<VersionRecordTable>,
 ) -> Result<bool, Fault>
-    requires { IfSome records.now (RecordsWithin src.old.seen.size) }
-    ensures { Did src.old src.new (why_stopped result) 64
+    requires { IfSome records.now (VersionRecordsInBounds src.old.seen.size) }
+    ensures { CallDid src.old src.new (fault_of_result result) 64
         (λ file. IfOk result (λ ends. IsTrue ends → IfSome records.now (NamesEnd file))) }
 {
     let Some(records) = records else {

@@ -1,19 +1,19 @@
 //! What a symbol of a file asks others for.
 ghost use Rattle.std.specs.Prelude.{◌≡◌, ℕ, ◌+◌, ◌*◌, ◌<◌, ◌∷◌, [], List, None, Some, IfOk};
-ghost use Rattle.elf_binding.specs.Sought.{SeeksOf, TellsAsked, TellsSought, TellsVersionIf, TellsWhole};
-ghost use Rattle.elf_headers.specs.Ledger.{Did, why_stopped};
+ghost use Rattle.elf_binding.specs.Sought.{SeeksOf, ReturnsAsked, ReturnsSought, ReturnsVersionIf, ReturnsWhole};
+ghost use Rattle.elf_headers.specs.Ledger.{CallDid, fault_of_result};
 ghost use Rattle.elf_loader.specs.Naming.{IsFileIf};
-ghost use Rattle.elf_loader.specs.Tables.{most_versions};
-ghost use Rattle.elf_model.specs.Bindings.{SOUGHT_BYTES, is_sought, is_weak, sought_at, sought_by_number, sought_version, whole_name};
+ghost use Rattle.elf_loader.specs.Tables.{max_versions_of};
+ghost use Rattle.elf_model.specs.Bindings.{SOUGHT_BYTES, is_reference, is_weak, reference_at, reference_by_index, reference_version, whole_name};
 ghost use Rattle.elf_model.specs.BoundSymbols.{file_before, file_of_version};
 ghost use Rattle.elf_model.specs.Loader.{Symbols as AreSymbolsOf, is_among, readings, symbol_offset};
 ghost use Rattle.elf_model.specs.Names.{name_bytes};
 ghost use Rattle.elf_model.specs.Numbers.{STB_GLOBAL, STB_WEAK, STB_GNU_UNIQUE};
 ghost use Rattle.elf_record.specs.Sym.{IsSym};
-ghost use Rattle.elf_lookup_tables.specs.Symbols.{IsSymbols, SymbolsLie};
-ghost use Rattle.elf_table.specs.Tables.{StringsWithin, strings_in};
+ghost use Rattle.elf_lookup_tables.specs.Symbols.{IsDynamicSymbols, DynamicSymbolsInBounds};
+ghost use Rattle.elf_table.specs.Tables.{StringsInBounds, strings_in};
 
-use elf_headers::{Cap, Fault, refused};
+use elf_headers::{Fault, NameLimit, refused};
 use elf_loader::{name_of, read_half};
 use elf_lookup_tables::Symbols;
 use elf_record::gnu_numbers::STB_GNU_UNIQUE;
@@ -24,11 +24,11 @@ use elf_table::{NameBuf, NameEnd, Names};
 use elf_versions::VersionRecord;
 
 /// How many bytes a name of a symbol or a version has at most that is asked for.
-const SOUGHT_CAP: Cap = Cap { bytes: 4096 };
+const SOUGHT_CAP: NameLimit = NameLimit { bytes: 4096 };
 
 /// A symbol that others are asked for.
 #[derive(Clone, Copy)]
-pub struct SoughtSymbol {
+pub struct SymbolReference {
     /// Whether it is weak: it may be defined by none.
     pub weak: bool,
     /// Whether it asks for a version.
@@ -39,7 +39,7 @@ pub struct SoughtSymbol {
 
 /// The version that a symbol asks for.
 #[derive(Clone, Copy)]
-struct SoughtVersion {
+struct VersionReference {
     /// Whether it asks for one.
     versioned: bool,
     /// The record of the needed file that it is of, if it is of one.
@@ -47,7 +47,7 @@ struct SoughtVersion {
 }
 
 /// No version.
-const NO_VERSION: SoughtVersion = SoughtVersion {
+const NO_VERSION: VersionReference = VersionReference {
     versioned: false,
     file: None,
 };
@@ -61,31 +61,31 @@ const NO_VERSION: SoughtVersion = SoughtVersion {
 /// 4,096 bytes. `VersionCut` at what tells of the words of versions where it has none. Those of the
 /// records up to the first that has the number of its version; `VersionIndex` at the word where none
 /// has; at what holds the name of the version the same as of the symbol's. Else a fault of a read.
-pub(crate) fn sought_symbol<S: Source>(
+pub(crate) fn reference_symbol<S: Source>(
     src: &mut Counted<S>,
     symbols: &Symbols,
     index: u64,
     name: &mut NameBuf,
     version: &mut NameBuf,
-) -> Result<Option<SoughtSymbol>, Fault>
+) -> Result<Option<SymbolReference>, Fault>
     requires below { index < symbols.now.table.count }
-    requires lies { SymbolsLie src.old.seen.size symbols.now }
-    ensures did { Did src.old src.new (why_stopped result) (24 + name_bytes SOUGHT_BYTES
-        + (2 + most_versions symbols.now * 28 + name_bytes SOUGHT_BYTES))
-        (λ file. (told : AreSymbolsOf) → IsSymbols file told symbols.now →
-        TellsSought (sought_at file told index) (is_weak file (symbol_offset told index))
+    requires lies { DynamicSymbolsInBounds src.old.seen.size symbols.now }
+    ensures did { CallDid src.old src.new (fault_of_result result) (24 + name_bytes SOUGHT_BYTES
+        + (2 + max_versions_of symbols.now * 28 + name_bytes SOUGHT_BYTES))
+        (λ file. (told : AreSymbolsOf) → IsDynamicSymbols file told symbols.now →
+        ReturnsSought (reference_at file told index) (is_weak file (symbol_offset told index))
         name.new version.new result) }
     ensures file { (bytes : List ℕ) → src.old.seen.file ≡ Some bytes → (told : AreSymbolsOf) →
-        IsSymbols bytes told symbols.now → SeeksOf bytes (file_of_version bytes told index) result }
+        IsDynamicSymbols bytes told symbols.now → SeeksOf bytes (file_of_version bytes told index) result }
 {
     let symbol = symbols.table.symbol(src, index)?;
-    if !is_sought(&symbol) {
+    if !is_reference(&symbol) {
         return Ok(None);
     }
     let place = symbols.table.place(index);
     whole_name(src, symbols.names, u64::from(symbol.st_name), place, name)?;
-    let asked = sought_version(src, symbols, index, version)?;
-    Ok(Some(SoughtSymbol {
+    let asked = reference_version(src, symbols, index, version)?;
+    Ok(Some(SymbolReference {
         weak: is_weak(&symbol),
         versioned: asked.versioned,
         file: asked.file,
@@ -95,40 +95,40 @@ pub(crate) fn sought_symbol<S: Source>(
 /// The same, and None behind the last symbol that there is room for.
 ///
 /// # Errors
-/// Those of [`sought_symbol`].
-pub(crate) fn sought_of<S: Source>(
+/// Those of [`reference_symbol`].
+pub(crate) fn reference_of<S: Source>(
     src: &mut Counted<S>,
     symbols: &Symbols,
     index: u64,
     name: &mut NameBuf,
     version: &mut NameBuf,
-) -> Result<Option<SoughtSymbol>, Fault>
-    requires lies { SymbolsLie src.old.seen.size symbols.now }
-    ensures did { Did src.old src.new (why_stopped result) (24 + name_bytes SOUGHT_BYTES
-        + (2 + most_versions symbols.now * 28 + name_bytes SOUGHT_BYTES))
-        (λ file. (told : AreSymbolsOf) → IsSymbols file told symbols.now →
+) -> Result<Option<SymbolReference>, Fault>
+    requires lies { DynamicSymbolsInBounds src.old.seen.size symbols.now }
+    ensures did { CallDid src.old src.new (fault_of_result result) (24 + name_bytes SOUGHT_BYTES
+        + (2 + max_versions_of symbols.now * 28 + name_bytes SOUGHT_BYTES))
+        (λ file. (told : AreSymbolsOf) → IsDynamicSymbols file told symbols.now →
         index < symbols.now.table.count →
-        TellsSought (sought_at file told index) (is_weak file (symbol_offset told index))
+        ReturnsSought (reference_at file told index) (is_weak file (symbol_offset told index))
         name.new version.new result) }
     ensures file { (bytes : List ℕ) → src.old.seen.file ≡ Some bytes → (told : AreSymbolsOf) →
-        IsSymbols bytes told symbols.now → SeeksOf bytes (file_of_version bytes told index) result }
+        IsDynamicSymbols bytes told symbols.now → SeeksOf bytes (file_of_version bytes told index) result }
 {
     if index >= symbols.table.len() {
         return Ok(None);
     }
-    sought_symbol(src, symbols, index, name, version)
+    reference_symbol(src, symbols, index, name, version)
 }
 
 /// Whether a symbol asks others for something: it is undefined, global, weak or unique, and has a name.
-#[tactic(auto, unfolding(elf_model::specs::Bindings::is_sought))]
-fn is_sought(symbol: &Sym) -> bool
-    ensures { (file : List ℕ) (at : ℕ) → IsSym file at symbol.now → result ≡ is_sought file at }
+#[tactic(auto, unfolding(elf_model::specs::Bindings::is_reference))]
+fn is_reference(symbol: &Sym) -> bool
+    ensures { (file : List ℕ) (at : ℕ) → IsSym file at symbol.now → result ≡ is_reference file at }
 {
-    symbol.st_shndx == SHN_UNDEF && has_sought_binding(symbol.binding()) && symbol.st_name != 0
+    symbol.st_shndx == SHN_UNDEF && has_reference_binding(symbol.binding()) && symbol.st_name != 0
 }
 
 // Whether a binding is one of symbols that others are asked for.
-fn has_sought_binding(binding: u8) -> bool
+fn has_reference_binding(binding: u8) -> bool
     ensures { result ≡ is_among binding (STB_GLOBAL ∷ STB_WEAK ∷ STB_GNU_UNIQUE ∷ []) }
 {
     binding == STB_GLOBAL || binding == STB_WEAK || binding == STB_GNU_UNIQUE
@@ -152,9 +152,9 @@ pub(crate) fn whole_name<S: Source>(
     at: u64,
     name: &mut NameBuf,
 ) -> Result<(), Fault>
-    requires { StringsWithin src.old.seen.size names }
-    ensures { Did src.old src.new (why_stopped result) (name_bytes SOUGHT_BYTES)
-        (λ file. TellsWhole (whole_name (strings_in file names) off at) name.new result) }
+    requires { StringsInBounds src.old.seen.size names }
+    ensures { CallDid src.old src.new (fault_of_result result) (name_bytes SOUGHT_BYTES)
+        (λ file. ReturnsWhole (whole_name (strings_in file names) off at) name.new result) }
 {
     match names.read(src, off, at, SOUGHT_CAP, name)? {
         NameEnd::Whole => Ok(()),
@@ -165,20 +165,20 @@ pub(crate) fn whole_name<S: Source>(
 /// Whether the symbol of an index asks for a version, which is read.
 ///
 /// # Errors
-/// Those of [`sought_symbol`] behind its name.
-fn sought_version<S: Source>(
+/// Those of [`reference_symbol`] behind its name.
+fn reference_version<S: Source>(
     src: &mut Counted<S>,
     symbols: &Symbols,
     index: u64,
     version: &mut NameBuf,
-) -> Result<SoughtVersion, Fault>
-    requires lies { SymbolsLie src.old.seen.size symbols.now }
-    ensures did { Did src.old src.new (why_stopped result)
-        (2 + most_versions symbols.now * 28 + name_bytes SOUGHT_BYTES)
-        (λ file. (told : AreSymbolsOf) → IsSymbols file told symbols.now →
-        TellsVersionIf (sought_version file told index) version.new result) }
+) -> Result<VersionReference, Fault>
+    requires lies { DynamicSymbolsInBounds src.old.seen.size symbols.now }
+    ensures did { CallDid src.old src.new (fault_of_result result)
+        (2 + max_versions_of symbols.now * 28 + name_bytes SOUGHT_BYTES)
+        (λ file. (told : AreSymbolsOf) → IsDynamicSymbols file told symbols.now →
+        ReturnsVersionIf (reference_version file told index) version.new result) }
     ensures file { (bytes : List ℕ) → src.old.seen.file ≡ Some bytes → (told : AreSymbolsOf) →
-        IsSymbols bytes told symbols.now →
+        IsDynamicSymbols bytes told symbols.now →
         IfOk result (λ asked. IsFileIf bytes (file_of_version bytes told index) asked.file) }
 {
     let Some(words) = &symbols.words else {
@@ -193,7 +193,7 @@ fn sought_version<S: Source>(
         return Ok(NO_VERSION);
     }
     let file = by_number(src, symbols, number, place, version)?;
-    Ok(SoughtVersion {
+    Ok(VersionReference {
         versioned: true,
         file,
     })
@@ -203,7 +203,7 @@ fn sought_version<S: Source>(
 /// the needed file that it is of, if it is of one.
 ///
 /// # Errors
-/// Those of [`sought_symbol`] behind the word.
+/// Those of [`reference_symbol`] behind the word.
 fn by_number<S: Source>(
     src: &mut Counted<S>,
     symbols: &Symbols,
@@ -211,13 +211,13 @@ fn by_number<S: Source>(
     at: u64,
     version: &mut NameBuf,
 ) -> Result<Option<VersionRecord>, Fault>
-    requires lies { SymbolsLie src.old.seen.size symbols.now }
-    ensures did { Did src.old src.new (why_stopped result)
-        (most_versions symbols.now * 28 + name_bytes SOUGHT_BYTES)
-        (λ file. (told : AreSymbolsOf) → IsSymbols file told symbols.now →
-        TellsAsked (sought_by_number file told.records number at) version.new result) }
+    requires lies { DynamicSymbolsInBounds src.old.seen.size symbols.now }
+    ensures did { CallDid src.old src.new (fault_of_result result)
+        (max_versions_of symbols.now * 28 + name_bytes SOUGHT_BYTES)
+        (λ file. (told : AreSymbolsOf) → IsDynamicSymbols file told symbols.now →
+        ReturnsAsked (reference_by_index file told.records number at) version.new result) }
     ensures file { (bytes : List ℕ) → src.old.seen.file ≡ Some bytes → (told : AreSymbolsOf) →
-        IsSymbols bytes told symbols.now → IfOk result
+        IsDynamicSymbols bytes told symbols.now → IfOk result
         (IsFileIf bytes (file_before bytes number None (readings bytes told.records))) }
 {
     let Some(named) = name_of(src, symbols, number)? else {

@@ -3,9 +3,9 @@ ghost use Rattle.std.specs.Prelude.{◌≡◌};
 ghost use Rattle.arrayvec.specs.ArrayVec.{array_vec_len};
 ghost use Rattle.elf_binding.specs.Sought.{asked_if};
 ghost use Rattle.elf_loader.specs.Lookups.{AreShort};
-ghost use Rattle.elf_model.specs.BindingLines.{sought_name};
+ghost use Rattle.elf_model.specs.BindingLines.{reference_name};
 ghost use Rattle.elf_model.specs.Loader.{asked_name};
-ghost use Rattle.elf_wanted.specs.Wants.{the_wanted};
+ghost use Rattle.elf_wanted.specs.Wants.{query_of};
 
 use arrayvec::ArrayVec;
 use elf_table::NameBuf;
@@ -19,7 +19,7 @@ pub type ShownName = ArrayVec<u8, SHOWN_BYTES>;
 
 /// The name and the version that a symbol asks others for.
 #[derive(Drop)]
-pub struct SoughtNames {
+pub struct ReferenceNames {
     /// The name.
     pub name: NameBuf,
     /// The version, where it asks for one.
@@ -30,10 +30,10 @@ pub struct SoughtNames {
     pub shown: ShownName,
 }
 
-impl SoughtNames {
+impl ReferenceNames {
     /// No name.
-    pub fn new() -> SoughtNames {
-        SoughtNames {
+    pub fn new() -> ReferenceNames {
+        ReferenceNames {
             name: NameBuf::new(),
             version: NameBuf::new(),
             file: NameBuf::new(),
@@ -43,9 +43,9 @@ impl SoughtNames {
 
     /// What is looked for.
     pub fn wanted(&self, versioned: bool) -> Wanted<'_>
-        ensures short { AreShort (the_wanted result) }
-        ensures name { (the_wanted result).name ≡ self.now.name }
-        ensures asked { (the_wanted result).asked ≡ asked_if versioned self.now.version }
+        ensures short { AreShort (query_of result) }
+        ensures name { (query_of result).name ≡ self.now.name }
+        ensures asked { (query_of result).asked ≡ asked_if versioned self.now.version }
     {
         let name = self.name.bytes();
         if !versioned {
@@ -63,7 +63,7 @@ impl SoughtNames {
 
 /// Puts a name together with its version, if there is one.
 pub fn show_name(name: &NameBuf, version: &NameBuf, versioned: bool, shown: &mut ShownName)
-    ensures { shown.new.items ≡ sought_name name.now
+    ensures { shown.new.items ≡ reference_name name.now
         (asked_name (asked_if versioned version.now)) }
 {
     shown.clear();

@@ -5,15 +5,15 @@ use Rattle.elf_model.specs.Apply.{applied}
 use Rattle.elf_model.specs.ApplyCost.{apply_cost_by_order}
 use Rattle.elf_model.specs.Placing.{Layout}
 use Rattle.elf_model.specs.declared.causes.Refusal.{Refusal}
-use Rattle.elf_source.specs.Output.{Written}
-use Rattle.elf_source.specs.Source.{Counting, SetsLimit, honest, seen_by}
-use Rattle.elf_headers.specs.declared.stop.Stop.{Stop}
-use Rattle.elf_headers.specs.declared.stop.Stop.TheVariants.{Refused, Source, Out}
-use Rattle.elf_apply.specs.Applied.{Applies, ApplySays, WantsBudget, text_of}
+use Rattle.elf_source.specs.Output.{OutState}
+use Rattle.elf_source.specs.Source.{CountedState, SetsLimit, honest, seen_by}
+use Rattle.elf_headers.specs.declared.stop.RunFault.{RunFault}
+use Rattle.elf_headers.specs.declared.stop.RunFault.TheVariants.{Refused, Source, Out}
+use Rattle.elf_apply.specs.Applied.{Applies, ApplySays, BudgetTooSmall, text_of}
 use Rattle.elf_apply.specs.declared.applying.Applied.{Applied}
 use Rattle.elf_calls.specs.Applied.{AppliesFor}
 use Rattle.elf_calls.specs.Lent.{spared}
-use Rattle.elf_calls.specs.Told.{told_from}
+use Rattle.elf_calls.specs.Told.{status_from}
 use Rattle.elf_calls.proofs.BudgetLaws.{wanting}
 use Rattle.elf_calls.proofs.ListingLaws.{more, never, took}
 
@@ -31,19 +31,19 @@ whole (Ok text) out rest byte is = ap Ok is
 whole (Err refusal) out rest byte is = absurd (some_bytes out rest byte is)
 
 -- a sink that took a byte is not as it was
-unchanged : (name other : ℕ) (xs : List ℕ) (byte : ℕ) (old new : Written) → old.taken ≡ Some (name ∷ []) → Some (other ∷ (xs ++ byte ∷ [])) ≡ new.taken → new ≡ old → ⊥
+unchanged : (name other : ℕ) (xs : List ℕ) (byte : ℕ) (old new : OutState) → old.taken ≡ Some (name ∷ []) → Some (other ∷ (xs ++ byte ∷ [])) ≡ new.taken → new ≡ old → ⊥
 unchanged name other xs byte old new before after same =
-    let both : Some (other ∷ (xs ++ byte ∷ [])) ≡ Some (name ∷ []) = after ∙ ap (λ (w : Written). w.taken) same ∙ before in
+    let both : Some (other ∷ (xs ++ byte ∷ [])) ≡ Some (name ∷ []) = after ∙ ap (λ (w : OutState). w.taken) same ∙ before in
     let none : [] ≡ xs ++ byte ∷ [] = cc in
     some_byte xs byte none
 
 module _ (file : List ℕ) (headers section : ℕ) (budget : Option ℕ) (layout : Layout) where
   -- WHAT STANDS IN THE MEMORY once a section is written to it
-  pub stands : (name other len entries n : ℕ) (out bytes : List ℕ) (spare : Option ℕ) (failed : Bool) (old new : Written) (s0 s1 t : Counting) (result : Result Applied Stop)
+  pub stands : (name other len entries n : ℕ) (out bytes : List ℕ) (spare : Option ℕ) (failed : Bool) (old new : OutState) (s0 s1 t : CountedState) (result : Result Applied RunFault)
       → old.taken ≡ Some (name ∷ []) → Some (other ∷ (take len out ++ spared spare)) ≡ new.taken → failed ≡ new.failed → (IsSome spare → len ≡ length out)
       → (IsTrue failed → IsSome spare) → honest bytes ≡ t.source → SetsLimit s0 s1 budget → s0.asked ≡ 0 → length file ≡ s1.seen.size → IfErr result (ApplySays s1 t new n)
-      → IfErr result (WantsBudget s1 (apply_cost_by_order file headers section layout)) → Applies old new result entries (applied file headers section layout)
-      → AppliesFor file headers budget section layout out len (told_from result (is_some spare))
+      → IfErr result (BudgetTooSmall s1 (apply_cost_by_order file headers section layout)) → Applies old new result entries (applied file headers section layout)
+      → AppliesFor file headers budget section layout out len (status_from result (is_some spare))
   stands name other len entries n out bytes None failed old new s0 s1 t (Ok done) before after fails full over is set first sized says wants wrote =
       wrote.1 ∙ ap Ok (sym (took name other _ old.taken new.taken wrote.0 before after wrote.2.appends) ∙ append-nil (take len out))
   stands name other len entries n out bytes None failed old new s0 s1 t (Err (Refused refusal)) before after fails full over is set first sized says wants wrote = (

@@ -4,7 +4,7 @@ use Rattle.elf_model.specs.Choice.{EveryRow}
 use Rattle.elf_model.specs.Style.{Style}
 use Rattle.elf_wanted.specs.Names.{texts_of}
 use Rattle.elf_name_lists.specs.NamedRows.{named_style}
-use Rattle.elf_calls.specs.Asked.{AsksListing, GivesListing, IsChosenPart, LentTexts, MayChoose, every_row_of, has_versions_in, style_of_flags}
+use Rattle.elf_calls.specs.Asked.{AsksListing, GivesListing, IsChosenPart, BorrowedTexts, AreLendableNames, every_row_of, has_versions_in, style_of_flags}
 use Rattle.elf_calls.specs.declared.caller_listing.CallerListing.{CallerListing}
 
 -- a style of every row is none by names
@@ -21,11 +21,11 @@ module _ (asked : List ℕ) (every : CallerListing) (gives : GivesListing asked 
   pub versions_are : every.versions ≡ has_versions_in asked
   versions_are = ap (λ (s : Style). s.versions) (every_row 0)
 
-  pub no_part : (names : LentTexts) → (IsChosenPart every.parts.0 → ⊥) → AsksListing asked (Some names) → ⊥
+  pub no_part : (names : BorrowedTexts) → (IsChosenPart every.parts.0 → ⊥) → AsksListing asked (Some names) → ⊥
   no_part names none asks = none (subst IsChosenPart (sym gives.1) asks.1.0)
 
-  pub no_names : (names : LentTexts) → (MayChoose every.versions names → ⊥) → AsksListing asked (Some names) → ⊥
-  no_names names none asks = none (subst (λ (v : Bool). MayChoose v names) (sym versions_are) asks.1.1)
+  pub no_names : (names : BorrowedTexts) → (AreLendableNames every.versions names → ⊥) → AsksListing asked (Some names) → ⊥
+  no_names names none asks = none (subst (λ (v : Bool). AreLendableNames v names) (sym versions_are) asks.1.1)
 
-  pub asks_named : (names : LentTexts) → IsChosenPart every.parts.0 → MayChoose every.versions names → AsksListing asked (Some names)
-  asks_named names part may = (gives.0.0, (subst IsChosenPart gives.1 part, subst (λ (v : Bool). MayChoose v names) versions_are may))
+  pub asks_named : (names : BorrowedTexts) → IsChosenPart every.parts.0 → AreLendableNames every.versions names → AsksListing asked (Some names)
+  asks_named names part may = (gives.0.0, (subst IsChosenPart gives.1 part, subst (λ (v : Bool). AreLendableNames v names) versions_are may))

@@ -2,14 +2,14 @@
 use Rattle.std.proofs.Common.{◌≡◌, ℕ, List, length, Option, Err, arith}
 use Rattle.elf_model.specs.Find.{find_cost}
 use Rattle.elf_model.specs.declared.causes.Refusal.{Refusal}
-use Rattle.elf_source.specs.Source.{Counting, SetsLimit}
+use Rattle.elf_source.specs.Source.{CountedState, SetsLimit}
 use Rattle.elf_headers.specs.declared.fault.Fault.TheVariants.{Refused as Refuses}
 use Rattle.elf_hash.specs.Lookups.{FindsBySysv}
 use Rattle.elf_calls.specs.Found.{LooksIn}
 use Rattle.elf_calls.proofs.BudgetLaws.{wanting}
 
 -- a refusal is the lookup's own, or the budget is less than it costs
-pub refused_in : (file : List ℕ) (headers : ℕ) (name : List ℕ) (budget : Option ℕ) (s0 s1 s2 : Counting) (refusal : Refusal) → SetsLimit s0 s1 budget → s0.asked ≡ 0 → length file ≡ s1.seen.size
+pub refused_in : (file : List ℕ) (headers : ℕ) (name : List ℕ) (budget : Option ℕ) (s0 s1 s2 : CountedState) (refusal : Refusal) → SetsLimit s0 s1 budget → s0.asked ≡ 0 → length file ≡ s1.seen.size
     → FindsBySysv file headers name s1 s2 (Err (Refuses refusal)) → LooksIn file headers budget name (Err refusal)
 refused_in file headers name budget s0 s1 s2 refusal set first sized finds = (
   finds.finds,

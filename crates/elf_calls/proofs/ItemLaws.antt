@@ -69,8 +69,8 @@ put_before items i d old next new within puts lays =
     let one : i + 1 ≡ suc i = omega arith in
     laid_before items i d old next new within puts (subst (λ n. LaysItems next (drop n items) new) one lays)
 
-pub put_behind : (items : List CallerItem) (i : ℕ) (d : CallerItem) (old next new : Layout) → i < length items
+pub put_after : (items : List CallerItem) (i : ℕ) (d : CallerItem) (old next new : Layout) → i < length items
     → LaysItem (slice_index_or items i d) old next → LaysItems old (drop i items) new → LaysItems next (drop (i + 1) items) new
-put_behind items i d old next new within puts lays =
+put_after items i d old next new within puts lays =
     let one : suc i ≡ i + 1 = omega arith in
     subst (λ n. LaysItems next (drop n items) new) one (laid_behind items i d old next new within puts lays)

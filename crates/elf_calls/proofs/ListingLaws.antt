@@ -6,30 +6,30 @@ use Rattle.std.specs.Io.KnownBytes.{Appends}
 use Rattle.elf_model.specs.Budget.{IsBudgeted}
 use Rattle.elf_model.specs.Style.{without_sections}
 use Rattle.elf_model.specs.declared.causes.Refusal.{Refusal}
-use Rattle.elf_source.specs.Output.{Written}
-use Rattle.elf_source.specs.Source.{Counting, Seen, Faults, file_by, honest, seen_by}
+use Rattle.elf_source.specs.Output.{OutState}
+use Rattle.elf_source.specs.Source.{CountedState, SourceState, IsSourceFault, file_by, honest, seen_by}
 use Rattle.elf_source.specs.declared.faults.SourceFault.{SourceFault}
 use Rattle.elf_source.specs.declared.faults.SourceFault.TheVariants.{Device, Ended}
 use Rattle.elf_headers.specs.declared.caps.Caps.{Caps}
-use Rattle.elf_headers.specs.declared.stop.Stop.{Stop}
-use Rattle.elf_headers.specs.declared.stop.Stop.TheVariants.{Refused, Source, Out}
-use Rattle.elf_listing.specs.Reports.{Reports, FaultSays}
+use Rattle.elf_headers.specs.declared.stop.RunFault.{RunFault}
+use Rattle.elf_headers.specs.declared.stop.RunFault.TheVariants.{Refused, Source, Out}
+use Rattle.elf_listing.specs.Reports.{WroteReport, FaultSays}
 use Rattle.elf_calls.specs.Lent.{spared}
 use Rattle.elf_calls.specs.Shown.{ListsInMemory}
-use Rattle.elf_calls.specs.Told.{told_from}
+use Rattle.elf_calls.specs.Told.{status_from}
 
 -- a name and the bytes behind it, to which some bytes are appended
 behind : (name other : ℕ) (now bytes : List ℕ) → Appends (Some (name ∷ [])) (Some (other ∷ now)) bytes → now ≡ bytes
 behind name other now bytes p = cc
 
 -- a source that gives these bytes never fails, whatever of them is hidden
-pub never : (file : List ℕ) (hides : Bool) (old new : Seen) (fault : SourceFault) → new ≡ seen_by hides (honest file) → Faults old new fault → ⊥
+pub never : (file : List ℕ) (hides : Bool) (old new : SourceState) (fault : SourceFault) → new ≡ seen_by hides (honest file) → IsSourceFault old new fault → ⊥
 never file hides old new Device is says =
-    let none : new.failures ≡ 0 = ap (λ (s : Seen). s.failures) is in
+    let none : new.failures ≡ 0 = ap (λ (s : SourceState). s.failures) is in
     omega (arith, none, says)
 never file hides old new Ended is says =
     let given = shown hides in
-    says (record { file = given.0; gives = ap (λ (s : Seen). s.file) is ∙ given.1; not_worn = omega (arith, ap (λ (s : Seen). s.failures) is) })
+    says (record { file = given.0; gives = ap (λ (s : SourceState). s.file) is ∙ given.1; not_worn = omega (arith, ap (λ (s : SourceState). s.failures) is) })
   where
     shown : (hides : Bool) → (bytes : List ℕ) × (file_by hides (Some file) ≡ Some bytes)
     shown true = (without_sections file, refl)
@@ -67,10 +67,10 @@ module _ (file : List ℕ) (caps : Caps) (parts : ℕ) where
   Is text fault = IsBudgeted caps.limits.budget file caps.limits.headers (style_of caps.style) parts text fault
 
   -- WHAT STANDS IN THE MEMORY once a listing is written to it
-  pub lists : {X : Type 0} (name other len : ℕ) (out bytes : List ℕ) (spare : Option ℕ) (failed : Bool) (old new : Written) (s t : Counting) (result : Result X Stop)
+  pub lists : {X : Type 0} (name other len : ℕ) (out bytes : List ℕ) (spare : Option ℕ) (failed : Bool) (old new : OutState) (s t : CountedState) (result : Result X RunFault)
       → old.taken ≡ Some (name ∷ []) → Some (other ∷ (take len out ++ spared spare)) ≡ new.taken → failed ≡ new.failed → (IsSome spare → len ≡ length out)
-      → (IsTrue failed → IsSome spare) → honest bytes ≡ t.source → IfErr result (FaultSays s t new) → Reports file caps parts old new result
-      → ListsInMemory file caps parts out len (told_from result (is_some spare))
+      → (IsTrue failed → IsSome spare) → honest bytes ≡ t.source → IfErr result (FaultSays s t new) → WroteReport file caps parts old new result
+      → ListsInMemory file caps parts out len (status_from result (is_some spare))
   lists name other len out bytes None failed old new s t (Ok x) before after fails full over is says reports =
       told Is reports.text (take len out) reports.fault None (sym (append-nil (take len out)) ∙ took name other _ old.taken new.taken reports.text before after reports.wrote.0.appends) reports.wrote.1 reports.listed
   lists name other len out bytes None failed old new s t (Err (Refused refusal)) before after fails full over is says reports =

@@ -4,15 +4,15 @@ use Rattle.std.specs.Borrow.{Bor}
 use Rattle.std.specs.Cmp.Lexicographic.{slice_cmp}
 use Rattle.std.proofs.lemmas.Bool.{cases_lt}
 use Rattle.elf_name_lists.specs.NameLists.{IsRowName}
-use Rattle.elf_calls.specs.Asked.{LentTexts, MayChoose, MayStand}
+use Rattle.elf_calls.specs.Asked.{BorrowedTexts, AreLendableNames, IsLendableNameAt}
 
-some_name : (names : LentTexts) → 0 < length names → Bor (List ℕ)
+some_name : (names : BorrowedTexts) → 0 < length names → Bor (List ℕ)
 some_name [] within = absurd (omega (arith, within))
 some_name (name ∷ names) within = name
 
-module _ (versions : Bool) (names : LentTexts) where
+module _ (versions : Bool) (names : BorrowedTexts) where
   -- a name that can't be looked for may not stand
-  pub no_name_stands : (i : ℕ) (name : List ℕ) → i < length names → ((d : Bor (List ℕ)) → name ≡ (get_or names i d).now) → (IsRowName versions name → ⊥) → MayStand versions names i → ⊥
+  pub no_name_stands : (i : ℕ) (name : List ℕ) → i < length names → ((d : Bor (List ℕ)) → name ≡ (get_or names i d).now) → (IsRowName versions name → ⊥) → IsLendableNameAt versions names i → ⊥
   no_name_stands i name within is none stand =
       let d = some_name names (omega (arith, within)) in
       none (subst (IsRowName versions) (sym (is d)) (stand.0 d))
@@ -24,30 +24,30 @@ module _ (versions : Bool) (names : LentTexts) where
         (ap (λ (t : List ℕ). is_lt (slice_cmp nat_cmp t other)) (is d) ∙ ap (λ (t : List ℕ). is_lt (slice_cmp nat_cmp (get_or names i d).now t)) (was d))
 
     -- one that can stands where it is not below the one before it
-    pub stands_by : (below : Bool) → below ≡ is_lt (slice_cmp nat_cmp name other) → IsRowName versions name → MatchBool (not below) (MayStand versions names i) (MayStand versions names i → ⊥)
+    pub stands_by : (below : Bool) → below ≡ is_lt (slice_cmp nat_cmp name other) → IsRowName versions name → MatchBool (not below) (IsLendableNameAt versions names i) (IsLendableNameAt versions names i → ⊥)
     stands_by true lower row = λ stand.
         let d = some_name names (omega (arith, within)) in
         let falls : true ≡ false = lower ∙ compared (i - 1) d (omega (arith, some)) ∙ stand.1 (i - 1) d (omega (arith, some)) in
         absurd (cc)
     stands_by false lower row = (λ d. subst (IsRowName versions) (is d) row, λ j d next. sym (lower ∙ compared j d next))
 
-module _ (versions : Bool) (names : LentTexts) where
+module _ (versions : Bool) (names : BorrowedTexts) where
   -- one more
-  pub stand_more : (n : ℕ) → ((k : ℕ) → k < n → MayStand versions names k) → MayStand versions names n → (k : ℕ) → k < n + 1 → MayStand versions names k
+  pub stand_more : (n : ℕ) → ((k : ℕ) → k < n → IsLendableNameAt versions names k) → IsLendableNameAt versions names n → (k : ℕ) → k < n + 1 → IsLendableNameAt versions names k
   stand_more n before here k within = elim (cases_lt k n) [
     | inl inside ↦ before k inside
-    | inr top ↦ subst (λ m. MayStand versions names m) {x = n} (omega (arith, top, within)) here
+    | inr top ↦ subst (λ m. IsLendableNameAt versions names m) {x = n} (omega (arith, top, within)) here
   ]
 
   -- all
-  pub all_stand : (n : ℕ) → ((k : ℕ) → k < n → MayStand versions names k) → length names ≤ n → MayChoose versions names
+  pub all_stand : (n : ℕ) → ((k : ℕ) → k < n → IsLendableNameAt versions names k) → length names ≤ n → AreLendableNames versions names
   all_stand n stand past = (
     λ k d low within. (stand (k + 1) (omega (arith, past, within))).1 k d refl,
     λ k d within. (stand k (omega (arith, past, within))).0 d,
   )
 
   -- and each of them
-  pub each_stands : (i : ℕ) → i < length names → MayChoose versions names → MayStand versions names i
+  pub each_stands : (i : ℕ) → i < length names → AreLendableNames versions names → IsLendableNameAt versions names i
   each_stands i within may = (
     λ d. may.1 i d within,
     λ j d next.

@@ -2,13 +2,13 @@
 use Rattle.std.specs.Prelude.{ℕ, ◌≡◌, ◌<◌, ◌≤◌, ◌^◌, List, ◌∷◌, ◌++◌, take, length, Option, IfSome, Ok, Err}
 use Rattle.elf_model.specs.Apply.{applied}
 use Rattle.elf_model.specs.ApplyCost.{apply_cost_by_order}
-use Rattle.elf_model.specs.Budget.{IsBudget}
+use Rattle.elf_model.specs.Budget.{IsBudgetRefusal}
 use Rattle.elf_model.specs.Placing.{Layout, no_items}
 use Rattle.elf_calls.specs.Items.{LaysItems}
 use Rattle.elf_calls.specs.Limits.{AreInRange, budget_of, headers_of}
 use Rattle.elf_calls.specs.Told.{IsStatus, Untouched}
 use Rattle.elf_calls.specs.Wants.{IsWanting}
-use Rattle.elf_calls.specs.declared.applied.WantedSection.{WantedSection}
+use Rattle.elf_calls.specs.declared.applied.ApplyInput.{ApplyInput}
 use Rattle.elf_calls.specs.declared.items.Job.{Job}
 use Rattle.elf_memory_rows.specs.declared.end.End.{End}
 use Rattle.elf_calls.specs.declared.limits.CallerLimits.{CallerLimits}
@@ -20,14 +20,14 @@ use Rattle.elf_calls.specs.declared.told.Told.TheVariants.{Done, Refused, Full, 
 abbrev pub AppliesFor : List ℕ → ℕ → Option ℕ → ℕ → Layout → List ℕ → ℕ → Told → Type 0
 AppliesFor file headers budget section layout out written Done = applied file headers section layout ≡ Ok (take written out)
 AppliesFor file headers budget section layout out written (Refused refusal) =
-    ((IsBudget refusal → ⊥) → applied file headers section layout ≡ Err refusal)
-    × (IsBudget refusal → IsWanting budget (apply_cost_by_order file headers section layout) (length file) refusal)
+    ((IsBudgetRefusal refusal → ⊥) → applied file headers section layout ≡ Err refusal)
+    × (IsBudgetRefusal refusal → IsWanting budget (apply_cost_by_order file headers section layout) (length file) refusal)
 AppliesFor file headers budget section layout out written Full =
     (written ≡ length out) × (byte : ℕ) × (rest : List ℕ) × (applied file headers section layout ≡ Ok (out ++ byte ∷ rest))
 AppliesFor file headers budget section layout out written BadCall = ⊥
 
 -- the same by what is wanted
-abbrev pub AppliesIn : List ℕ → ℕ → WantedSection → List ℕ → ℕ → Told → Type 0
+abbrev pub AppliesIn : List ℕ → ℕ → ApplyInput → List ℕ → ℕ → Told → Type 0
 AppliesIn file headers wanted out written told = AppliesFor file headers wanted.budget wanted.section wanted.layout.now out written told
 
 -- limits, room and a section's index in their ranges, and items that give this layout

@@ -11,14 +11,14 @@ use Rattle.elf_model.specs.Listing.{RELOCS, SYMBOLS, VERSIONS, all_parts, has}
 use Rattle.elf_model.specs.Style.{Style}
 use Rattle.elf_model.specs.declared.formats.Format.{Format}
 use Rattle.elf_model.specs.declared.formats.Format.TheVariants.{Columns, Object}
-use Rattle.elf_wanted.specs.Names.{NeverFall, texts_of}
+use Rattle.elf_wanted.specs.Names.{NeverDescend, texts_of}
 use Rattle.elf_name_lists.specs.NameLists.{IsRowName}
 use Rattle.elf_name_lists.specs.NamedRows.{named_style}
 use Rattle.elf_calls.specs.declared.caller_listing.CallerListing.{CallerListing}
 
 -- names that are lent
-abbrev pub LentTexts : Type 0
-LentTexts = List (Bor (List ℕ))
+abbrev pub BorrowedTexts : Type 0
+BorrowedTexts = List (Bor (List ℕ))
 
 -- which parts are asked for, and the sum of the flags
 abbrev pub parts_in : List ℕ → ℕ
@@ -51,7 +51,7 @@ style_of_flags asked cap = record {
 }
 
 -- the same, or where there are names those rows alone whose name is one of them
-abbrev pub style_in : List ℕ → Option LentTexts → ℕ → Style
+abbrev pub style_in : List ℕ → Option BorrowedTexts → ℕ → Style
 style_in asked None cap = style_of_flags asked cap
 style_in asked (Some names) cap = named_style (texts_of names) (style_of_flags asked cap)
 
@@ -70,22 +70,22 @@ abbrev pub IsChosenPart : ℕ → Type 0
 IsChosenPart parts = (parts ≡ SYMBOLS) ⊎ (parts ≡ RELOCS) ⊎ (parts ≡ VERSIONS)
 
 -- names that may be lent: each can be looked for, and none is below the one before it
-abbrev pub MayChoose : (versions : Bool) → LentTexts → Type 0
-MayChoose versions names = NeverFall names × All (λ name. IsRowName versions name.now) names
+abbrev pub AreLendableNames : (versions : Bool) → BorrowedTexts → Type 0
+AreLendableNames versions names = NeverDescend names × All (λ name. IsRowName versions name.now) names
 
 -- so of the name at a place
-abbrev pub MayStand : (versions : Bool) → LentTexts → ℕ → Type 0
-MayStand versions names i =
+abbrev pub IsLendableNameAt : (versions : Bool) → BorrowedTexts → ℕ → Type 0
+IsLendableNameAt versions names i =
     ((d : Bor (List ℕ)) → IsRowName versions (slice_index_or names i d).now)
     × ((j : ℕ) (d : Bor (List ℕ)) → j + 1 ≡ i → is_lt (slice_cmp nat_cmp (slice_index_or names i d).now (slice_index_or names j d).now) ≡ false)
 
 -- rows may be chosen by these names, where there are some
-abbrev ChoosesBy : List ℕ → Option LentTexts → Type 0
+abbrev ChoosesBy : List ℕ → Option BorrowedTexts → Type 0
 ChoosesBy asked None = ⊤
-ChoosesBy asked (Some names) = IsChosenPart (parts_in asked) × MayChoose (has_versions_in asked) names
+ChoosesBy asked (Some names) = IsChosenPart (parts_in asked) × AreLendableNames (has_versions_in asked) names
 
 -- A LISTING IS ASKED FOR, of every row or of those of some names
-abbrev pub AsksListing : List ℕ → Option LentTexts → Type 0
+abbrev pub AsksListing : List ℕ → Option BorrowedTexts → Type 0
 AsksListing asked names = AsksStyled asked × ChoosesBy asked names
 
 -- how rows of a listing are shown, with so many bytes of a name
@@ -104,7 +104,7 @@ caller_style listing cap =
     if listing.by_name then named_style (texts_of listing.names.now) (every_row_of listing cap) else every_row_of listing cap
 
 -- the listing is given that is asked for, and none where none is
-abbrev pub GivesListing : List ℕ → Option LentTexts → Option CallerListing → Type 0
+abbrev pub GivesListing : List ℕ → Option BorrowedTexts → Option CallerListing → Type 0
 GivesListing asked names None = AsksListing asked names → ⊥
 GivesListing asked names (Some listing) =
     AsksListing asked names × (listing.parts.0 ≡ parts_in asked) × ((cap : ℕ) → caller_style listing cap ≡ style_in asked names cap)

@@ -1,11 +1,11 @@
 -- What a call has of the symbols that a loader knows of a file in memory.
 use Rattle.std.specs.Prelude.{ℕ, ◌≡◌, ◌≤◌, ◌==◌, List, length, Option, None, Some, Result, Ok, Err, IfSome}
-use Rattle.elf_model.specs.Budget.{IsBudget}
+use Rattle.elf_model.specs.Budget.{IsBudgetRefusal}
 use Rattle.elf_model.specs.Style.{looked_at}
 use Rattle.elf_model.specs.declared.causes.Refusal.{Refusal}
 use Rattle.elf_headers.specs.declared.fault.Fault.TheVariants.{Refused}
-use Rattle.elf_memory_rows.specs.Hashed.{TellsHashedRows, hashed_cost}
-use Rattle.elf_memory_rows.specs.declared.rows.RowsLeft.{RowsLeft}
+use Rattle.elf_memory_rows.specs.Hashed.{ReturnsHashedRows, hashed_cost}
+use Rattle.elf_memory_rows.specs.declared.rows.RowPosition.{RowPosition}
 use Rattle.elf_calls.specs.Limits.{AreInRange, budget_of, headers_of}
 use Rattle.elf_memory_rows.specs.Ends.{IsOpenedTable}
 use Rattle.elf_calls.specs.Wants.{IsWanting}
@@ -14,11 +14,11 @@ use Rattle.elf_calls.specs.declared.limits.CallerLimits.{CallerLimits}
 
 -- such symbols within a budget, in a file of so many bytes: a place before the first; or the refusal, which comes for want of budget
 -- only where they cost more
-abbrev pub ReadsHashed : List ℕ → (headers : ℕ) → Option ℕ → (size : ℕ) → Result (Option RowsLeft) Refusal → Type 0
+abbrev pub ReadsHashed : List ℕ → (headers : ℕ) → Option ℕ → (size : ℕ) → Result (Option RowPosition) Refusal → Type 0
 ReadsHashed file headers budget size (Ok None) = ⊥
-ReadsHashed file headers budget size (Ok (Some rows)) = TellsHashedRows file headers (Ok rows)
+ReadsHashed file headers budget size (Ok (Some rows)) = ReturnsHashedRows file headers (Ok rows)
 ReadsHashed file headers budget size (Err refusal) =
-    TellsHashedRows file headers (Err (Refused refusal)) × (IsBudget refusal → IsWanting budget (hashed_cost file headers) size refusal)
+    ReturnsHashedRows file headers (Err (Refused refusal)) × (IsBudgetRefusal refusal → IsWanting budget (hashed_cost file headers) size refusal)
 
 -- the file that is looked at: with zeros where its header tells of section headers, for a flag of 1
 abbrev pub by_flags : ℕ → List ℕ → List ℕ
@@ -29,15 +29,15 @@ abbrev MayOpenHashed : CallerLimits → (room flags : ℕ) → Type 0
 MayOpenHashed limits room flags = AreInRange limits room × (flags ≤ 1)
 
 -- what a call opens
-abbrev pub OpensHashed : List ℕ → CallerLimits → (room flags : ℕ) → Option (Result (Option RowsLeft) Refusal) → Type 0
+abbrev pub OpensHashed : List ℕ → CallerLimits → (room flags : ℕ) → Option (Result (Option RowPosition) Refusal) → Type 0
 OpensHashed file limits room flags None = MayOpenHashed limits room flags → ⊥
 OpensHashed file limits room flags (Some read) =
     MayOpenHashed limits room flags × ReadsHashed (by_flags flags file) (headers_of limits room) (budget_of limits) (length file) read
 
 -- WHAT A CALLER HAS of these symbols, with so many bytes of room: what was opened, as the numbers have it, beside which they tell how
 -- many bytes were asked for
-pub record HasHashed (file : List ℕ) (limits : CallerLimits) (room flags status : ℕ) (old new : RowsLeft) (end : End) : Type 0 where
-  pub opened : Option (Result (Option RowsLeft) Refusal)
+pub record HasHashed (file : List ℕ) (limits : CallerLimits) (room flags status : ℕ) (old new : RowPosition) (end : End) : Type 0 where
+  pub opened : Option (Result (Option RowPosition) Refusal)
   pub opens : OpensHashed file limits room flags opened
   pub told : End
   pub tells : IsOpenedTable status old new told opened

@@ -5,8 +5,8 @@ use Rattle.elf_memory_rows.specs.Openings.{ReadsSectionNames, ReadsRows}
 use Rattle.elf_memory_rows.specs.VersionRecords.{ReadsRecords}
 use Rattle.elf_memory_rows.specs.declared.kind.RowKind.{RowKind}
 use Rattle.elf_memory.specs.declared.name.ByteRange.{ByteRange}
-use Rattle.elf_memory_rows.specs.declared.records.RecordsLeft.{RecordsLeft}
-use Rattle.elf_memory_rows.specs.declared.rows.RowsLeft.{RowsLeft}
+use Rattle.elf_memory_rows.specs.declared.records.VersionRecordPosition.{VersionRecordPosition}
+use Rattle.elf_memory_rows.specs.declared.rows.RowPosition.{RowPosition}
 use Rattle.elf_calls.specs.Limits.{AreInRange, headers_of}
 use Rattle.elf_calls.specs.declared.limits.CallerLimits.{CallerLimits}
 
@@ -16,7 +16,7 @@ OpensBy reads limits room (Some read) = AreInRange limits room × reads (headers
 OpensBy reads limits room None = AreInRange limits room → ⊥
 
 -- of a section of rows of a kind
-abbrev pub OpensRows : RowKind → List ℕ → CallerLimits → ℕ → ℕ → Option (Result (Option RowsLeft) Refusal) → Type 0
+abbrev pub OpensRows : RowKind → List ℕ → CallerLimits → ℕ → ℕ → Option (Result (Option RowPosition) Refusal) → Type 0
 OpensRows kind file limits room section opened = OpensBy (λ headers. ReadsRows kind file headers section) limits room opened
 
 -- of the section names
@@ -24,5 +24,5 @@ abbrev pub OpensNames : List ℕ → CallerLimits → ℕ → Option (Result (Op
 OpensNames file limits room opened = OpensBy (ReadsSectionNames file) limits room opened
 
 -- of a section of version definitions or needs
-abbrev pub OpensRecords : List ℕ → CallerLimits → ℕ → ℕ → Option (Result (Option RecordsLeft) Refusal) → Type 0
+abbrev pub OpensRecords : List ℕ → CallerLimits → ℕ → ℕ → Option (Result (Option VersionRecordPosition) Refusal) → Type 0
 OpensRecords file limits room section opened = OpensBy (λ headers. ReadsRecords file headers section) limits room opened

@@ -7,7 +7,7 @@ use Rattle.elf_loader.specs.declared.found.VersionName.TheVariants.{Wanted as Is
 use Rattle.elf_loader.specs.declared.lookup.FoundSymbol.{FoundSymbol}
 use Rattle.elf_loader.specs.declared.lookup.SymbolLookup.{SymbolLookup}
 use Rattle.elf_loader.specs.declared.lookup.SymbolLookup.TheVariants.{Found, Absent}
-use Rattle.elf_model.specs.Budget.{IsBudget}
+use Rattle.elf_model.specs.Budget.{IsBudgetRefusal}
 use Rattle.elf_model.specs.Hash.{Refused}
 use Rattle.elf_model.specs.Loader.{Wanted, is_hidden}
 use Rattle.elf_model.specs.LoaderFind.{loader_cost, loader_looked}
@@ -18,7 +18,7 @@ use Rattle.elf_memory_rows.specs.Symbols.{HasFields}
 use Rattle.elf_table.specs.declared.names.NameEnd.{NameEnd}
 use Rattle.elf_table.specs.declared.names.NameEnd.TheVariants.{Whole, Cut}
 use Rattle.elf_calls.specs.Found.{no_symbol}
-use Rattle.elf_memory_rows.specs.Ends.{TellsCause, TellsNone}
+use Rattle.elf_memory_rows.specs.Ends.{ReturnsCause, ReturnsNone}
 use Rattle.elf_calls.specs.Limits.{AreInRange, budget_of, headers_of}
 use Rattle.elf_calls.specs.Queries.{QueryAsked, IsPermitted, goes_by_segments, wanted_by}
 use Rattle.elf_calls.specs.Wants.{IsWanting}
@@ -53,8 +53,8 @@ abbrev pub ResolvesIn : List ℕ → ℕ → Option ℕ → ℕ → Wanted → L
 ResolvesIn file headers budget size wanted told (Ok lookup) =
     AnswersLoaderLookup file wanted.asked told (loader_looked file headers wanted) lookup
 ResolvesIn file headers budget size wanted told (Err refusal) =
-    ((IsBudget refusal → ⊥) → (loader_looked file headers wanted).lookup.answer ≡ Refused refusal)
-    × (IsBudget refusal → IsWanting budget (loader_cost file headers wanted) size refusal)
+    ((IsBudgetRefusal refusal → ⊥) → (loader_looked file headers wanted).lookup.answer ≡ Refused refusal)
+    × (IsBudgetRefusal refusal → IsWanting budget (loader_cost file headers wanted) size refusal)
 
 -- limits in their ranges, room for a header, flags that are known, and a name and a version of at most 4,096 bytes
 abbrev MayResolve : CallerLimits → ℕ → QueryAsked → Type 0
@@ -85,28 +85,28 @@ cut_number Whole = 0
 cut_number Cut = 1
 
 -- the name of a version: so many bytes from an offset on, where it is told, and no bytes where it is the wanted one or none
-abbrev TellsName : Resolved → ℕ → ℕ → VersionName → Type 0
-TellsName resolved at told IsWanted = (resolved.version ≡ record { at = 0; len = 0 }) × (resolved.is_cut ≡ 0)
-TellsName resolved at told Unnamed = (resolved.version ≡ record { at = 0; len = 0 }) × (resolved.is_cut ≡ 0)
-TellsName resolved at told (Told end) = (resolved.version ≡ record { at = at; len = told }) × (resolved.is_cut ≡ cut_number end)
+abbrev ReturnsName : Resolved → ℕ → ℕ → VersionName → Type 0
+ReturnsName resolved at told IsWanted = (resolved.version ≡ record { at = 0; len = 0 }) × (resolved.is_cut ≡ 0)
+ReturnsName resolved at told Unnamed = (resolved.version ≡ record { at = 0; len = 0 }) × (resolved.is_cut ≡ 0)
+ReturnsName resolved at told (Told end) = (resolved.version ≡ record { at = at; len = told }) × (resolved.is_cut ≡ cut_number end)
 
 -- the numbers of a version, of whose name so many bytes are held; all 0 where there are no versions
-abbrev pub TellsFoundVersion : Resolved → ℕ → Option FoundVersion → Type 0
-TellsFoundVersion resolved told None =
+abbrev pub ReturnsFoundVersion : Resolved → ℕ → Option FoundVersion → Type 0
+ReturnsFoundVersion resolved told None =
     (resolved.has_version ≡ 0) × (resolved.is_hidden ≡ 0) × (resolved.words ≡ 0) × (resolved.number ≡ 0)
     × (resolved.version ≡ record { at = 0; len = 0 }) × (resolved.is_cut ≡ 0)
-TellsFoundVersion resolved told (Some version) =
+ReturnsFoundVersion resolved told (Some version) =
     (resolved.has_version ≡ 1) × (resolved.is_hidden ≡ elim (is_hidden version.word) [ true ↦ 1 | false ↦ 0 ])
     × (resolved.words ≡ version.index) × (resolved.number ≡ number_in version.word)
-    × TellsName resolved version.name_at told version.name
+    × ReturnsName resolved version.name_at told version.name
 
 -- what is told as numbers
-abbrev pub TellsResolved : ℕ → Resolved → End → ℕ → Option (Result SymbolLookup Refusal) → Type 0
-TellsResolved status resolved end told (Some (Ok (Found found))) =
-    (status ≡ 0) × HasSymbol resolved found × TellsFoundVersion resolved told found.version × TellsNone end
-TellsResolved status resolved end told (Some (Ok (Absent tried))) = (status ≡ 2) × (resolved ≡ nothing_resolved tried) × TellsNone end
-TellsResolved status resolved end told (Some (Err refusal)) = (status ≡ 1) × (resolved ≡ nothing_resolved 0) × TellsCause end refusal
-TellsResolved status resolved end told None = (status ≡ 4) × (resolved ≡ nothing_resolved 0) × TellsNone end
+abbrev pub ReturnsResolved : ℕ → Resolved → End → ℕ → Option (Result SymbolLookup Refusal) → Type 0
+ReturnsResolved status resolved end told (Some (Ok (Found found))) =
+    (status ≡ 0) × HasSymbol resolved found × ReturnsFoundVersion resolved told found.version × ReturnsNone end
+ReturnsResolved status resolved end told (Some (Ok (Absent tried))) = (status ≡ 2) × (resolved ≡ nothing_resolved tried) × ReturnsNone end
+ReturnsResolved status resolved end told (Some (Err refusal)) = (status ≡ 1) × (resolved ≡ nothing_resolved 0) × ReturnsCause end refusal
+ReturnsResolved status resolved end told None = (status ≡ 4) × (resolved ≡ nothing_resolved 0) × ReturnsNone end
 
 -- WHAT A CALLER HAS of a loader's lookup, with so many bytes of room: what it answers, as the numbers have it, with what is told of
 -- the name of a version
@@ -114,7 +114,7 @@ pub record IsResolved (file : List ℕ) (limits : CallerLimits) (room : ℕ) (as
   pub told : List ℕ
   pub answer : Option (Result SymbolLookup Refusal)
   pub resolves : Resolves file limits room asks told end.asked answer
-  pub tells : TellsResolved status resolved end (length told) answer
+  pub tells : ReturnsResolved status resolved end (length told) answer
   pub nothing : (end.written ≡ 0) × (end.none ≡ 0)
   pub cost : end.asked ≤ loader_cost (file_of asks file) (headers_of limits room) (wanted_by asks)
   pub budget : IfSome (budget_of limits) (λ bytes. end.asked ≤ bytes)

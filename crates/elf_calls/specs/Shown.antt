@@ -6,7 +6,7 @@ use Rattle.elf_model.specs.Budget.{IsBudgeted}
 use Rattle.elf_model.specs.Cost.{listing_cost}
 use Rattle.elf_model.specs.declared.causes.Refusal.{Refusal}
 use Rattle.elf_headers.specs.declared.caps.Caps.{Caps}
-use Rattle.elf_calls.specs.Asked.{AsksListing, LentTexts, parts_in, style_in}
+use Rattle.elf_calls.specs.Asked.{AsksListing, BorrowedTexts, parts_in, style_in}
 use Rattle.elf_calls.specs.Limits.{AreCaps, budget_of, headers_of}
 use Rattle.elf_calls.specs.Told.{IsStatus, Untouched}
 use Rattle.elf_memory_rows.specs.declared.end.End.{End}
@@ -47,6 +47,6 @@ HasListing file limits room parts status before out end =
     HasStyledListing (AreCaps limits room) file limits room (standard limits.name) parts status before out end
 
 -- of the listing that the bytes of a struct ask for, of every row or of those of some names
-abbrev pub HasAskedListing : List ℕ → CallerLimits → (room : ℕ) → (asked : List ℕ) → Option LentTexts → (status : ℕ) → (before out : List ℕ) → End → Type 0
+abbrev pub HasAskedListing : List ℕ → CallerLimits → (room : ℕ) → (asked : List ℕ) → Option BorrowedTexts → (status : ℕ) → (before out : List ℕ) → End → Type 0
 HasAskedListing file limits room asked names status before out end =
     HasStyledListing (AreCaps limits room × AsksListing asked names) file limits room (style_in asked names limits.name) (parts_in asked) status before out end

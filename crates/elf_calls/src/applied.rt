@@ -3,9 +3,9 @@ ghost use Rattle.std.specs.Prelude.{◌≡◌, ◌≤◌, IfSome, length};
 ghost use Rattle.elf_model.specs.ApplyCost.{apply_cost_by_order};
 ghost use Rattle.elf_calls.specs.Applied.{AppliesIn};
 
-use crate::lent_sink::LentSink;
+use crate::lent_sink::ProbeSink;
 use crate::listing::CallOutcome;
-use crate::told::told_from;
+use crate::told::status_from;
 use elf_apply::apply_with;
 use elf_headers::HeaderStore;
 use elf_layout::Addresses;
@@ -14,7 +14,7 @@ use elf_source::{Counted, MemorySource, Out};
 /// A section that is to be written, the addresses that it is written for, and how many bytes may be read,
 /// where that is limited.
 #[derive(Clone, Copy)]
-pub struct WantedSection<'a> {
+pub struct ApplyInput<'a> {
     /// Its index.
     pub section: u16,
     /// The addresses.
@@ -27,7 +27,7 @@ pub struct WantedSection<'a> {
 pub fn write_section(
     file: &[u8],
     store: &mut HeaderStore,
-    wanted: &WantedSection<'_>,
+    wanted: &ApplyInput<'_>,
     out: &mut [u8],
     outcome: &mut CallOutcome,
 ) -> usize
@@ -38,7 +38,7 @@ pub fn write_section(
         wanted.now.section wanted.now.layout.now }
     ensures budget { IfSome wanted.now.budget (λ bytes. outcome.new.asked ≤ bytes) }
 {
-    let LentSink {
+    let ProbeSink {
         buffer: _buffer,
         len,
         spare: _spare,
@@ -51,10 +51,10 @@ pub fn write_section(
 fn write_to_sink<'a>(
     file: &[u8],
     store: &mut HeaderStore,
-    wanted: &WantedSection<'_>,
+    wanted: &ApplyInput<'_>,
     out: &'a mut [u8],
     outcome: &mut CallOutcome,
-) -> LentSink<'a>
+) -> ProbeSink<'a>
     ensures slots { store.new.slots ≡ store.old.slots }
     ensures same { result.buffer.ghost_name ≡ out.entry.ghost_name }
     ensures text { AppliesIn file.now store.old.slots wanted.now result.buffer.now result.len
@@ -65,11 +65,11 @@ fn write_to_sink<'a>(
 {
     let mut src = Counted::new(MemorySource::new(file));
     src.limit(wanted.budget);
-    let mut out = Out::new(LentSink::new(out));
+    let mut out = Out::new(ProbeSink::new(out));
     let applied = apply_with(&mut src, store, wanted.section, wanted.layout, &mut out);
     outcome.asked = src.asked();
     let _ = src.into_inner();
     let sink = out.into_inner();
-    outcome.told = told_from(&applied, sink.spare.is_some());
+    outcome.told = status_from(&applied, sink.spare.is_some());
     sink
 }

@@ -42,8 +42,8 @@ pub fn listing_of(asked: &[u8]) -> Option<CallerListing<'static>>
         by_name: false,
         names: &[],
     };
-    let lacks_gnu = listing.versions && !listing.gnu;
-    if flags & NO_FLAGS != 0 || lacks_gnu || listing.parts.0 > most_parts(listing.gnu) {
+    let gnu_option_is_missing = listing.versions && !listing.gnu;
+    if flags & NO_FLAGS != 0 || gnu_option_is_missing || listing.parts.0 > most_parts(listing.gnu) {
         return None;
     }
     Some(listing)

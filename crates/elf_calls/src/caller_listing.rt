@@ -1,11 +1,11 @@
 //! A listing, as a caller asks for it.
-ghost use Rattle.elf_wanted.specs.Names.{NeverFall};
+ghost use Rattle.elf_wanted.specs.Names.{NeverDescend};
 
-use elf_headers::{Cap, Style};
+use elf_headers::{NameLimit, Style};
 use elf_model::Format;
-use elf_name_lists::style_by_names;
+use elf_name_lists::style_with_names;
 use elf_record::Parts;
-use elf_wanted::RowChoice;
+use elf_wanted::RowFilter;
 
 /// A listing, as a caller asks for it: which parts it has, and how its rows are shown, but for how
 /// many bytes of a name.
@@ -25,7 +25,7 @@ pub struct CallerListing<'n> {
     pub by_name: bool,
     /// The names that they are chosen by, in the rising order of their bytes.
     pub names: &'n [&'n [u8]],
-    pub ghost sorted: { NeverFall names.now },
+    pub ghost sorted: { NeverDescend names.now },
 }
 
 impl<'n> CallerListing<'n> {
@@ -52,7 +52,7 @@ impl<'n> CallerListing<'n> {
     }
 
     /// How its rows are shown, with so many bytes of a name.
-    pub fn style(self, cap: Cap) -> Style<'n>
+    pub fn style(self, cap: NameLimit) -> Style<'n>
         ensures { style_of result ≡ caller_style self.entry cap.bytes }
     {
         let style = Style {
@@ -60,11 +60,11 @@ impl<'n> CallerListing<'n> {
             gnu: self.gnu,
             by_segments: self.by_segments,
             format: self.format,
-            choice: RowChoice::every_row(),
+            choice: RowFilter::every_row(),
             versions: self.versions,
         };
         if self.by_name {
-            style_by_names(style, self.names)
+            style_with_names(style, self.names)
         } else {
             style
         }

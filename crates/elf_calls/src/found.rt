@@ -1,13 +1,13 @@
 //! What a lookup answers, as C sees it.
 ghost use Rattle.std.specs.Prelude.{◌≡◌};
-ghost use Rattle.elf_calls.specs.Found.{no_symbol, nothing_behind};
+ghost use Rattle.elf_calls.specs.Found.{no_symbol, nothing_after};
 
 use elf_memory_rows::Symbol;
 
 /// What a lookup found; all 0 where it found nothing, but for the steps.
 #[repr(C)]
 #[derive(Clone, Copy)]
-pub struct LookupNumbers {
+pub struct LookupFields {
     /// The symbol.
     pub symbol: Symbol,
     /// Its index in its section.
@@ -22,12 +22,12 @@ pub struct LookupNumbers {
     pub none_behind: u32,
 }
 
-impl LookupNumbers {
+impl LookupFields {
     /// Nothing was found, and no name compared.
     pub fn clear(&mut self)
-        ensures { self.new ≡ nothing_behind 0 }
+        ensures { self.new ≡ nothing_after 0 }
     {
-        *self = LookupNumbers {
+        *self = LookupFields {
             symbol: no_symbol(),
             index: 0,
             steps: 0,

@@ -6,7 +6,7 @@ ghost use Rattle.elf_calls.specs.HashedRows.{ReadsHashed};
 
 use crate::counts::short;
 use elf_headers::{Fault, HeaderStore};
-use elf_memory_rows::{RowsLeft, hashed_rows};
+use elf_memory_rows::{RowPosition, hashed_rows};
 use elf_record::Refusal;
 use elf_source::{Counted, MemorySource};
 
@@ -21,14 +21,14 @@ pub fn open_hashed(
     budget: Option<u64>,
     by_segments: bool,
     asked: &mut u64,
-) -> Result<Option<RowsLeft>, Refusal>
+) -> Result<Option<RowPosition>, Refusal>
     ensures reads { ReadsHashed (looked_at by_segments file.now) store.old.slots budget
         (length file.now) result }
     ensures cost { asked.new ≤ hashed_cost (looked_at by_segments file.now) store.old.slots }
     ensures budget { IfSome budget (λ bytes. asked.new ≤ bytes) }
 {
     let mut src = Counted::new(MemorySource::new(file));
-    src.hide_sections(by_segments);
+    src.mask_section_headers(by_segments);
     src.limit(budget);
     let found = hashed_rows(&mut src, store);
     *asked = short(src.asked());

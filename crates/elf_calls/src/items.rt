@@ -49,7 +49,7 @@ pub struct Job<'a> {
 }
 
 /// Lays out items, from the first to the last, and no other items; whether they can be laid out.
-pub fn lay_out(items: &[CallerItem<'_>], layout: &mut Layout) -> bool
+pub fn layout_from(items: &[CallerItem<'_>], layout: &mut Layout) -> bool
     ensures { LaysOut items.now layout.new result }
 {
     *layout = Layout::new();

@@ -1,10 +1,10 @@
 //! A layout of any size, as C has it.
 ghost use Rattle.std.specs.Prelude.{◌≡◌, MatchOption};
 ghost use Rattle.std.specs.Ordering.{nat_cmp};
-ghost use Rattle.elf_layout.specs.Lent.{KeysRise, MayLend, lent_index, named, placed};
+ghost use Rattle.elf_layout.specs.Lent.{KeysAscend, MayBorrow, borrowed_index, named, placed};
 ghost use Rattle.elf_calls.specs.LentLayouts.{GivesLayout};
 
-use elf_layout::{LentLayout, LentName, LentSection, SortedNames, SortedSections};
+use elf_layout::{BorrowedLayout, LentName, LentSection, SortedNames, SortedSections};
 
 /// Addresses at which sections, names and the entries of names are to lie, as many as a caller lends.
 #[repr(C)]
@@ -25,7 +25,7 @@ pub struct CallerLayout<'a> {
 impl<'a> CallerLayout<'a> {
     /// The layout; None where an index or a name is not above the one before it, or a name is none of 1
     /// to 255 bytes without a NUL.
-    pub fn lend(&self) -> Option<LentLayout<'a>>
+    pub fn lend(&self) -> Option<BorrowedLayout<'a>>
         ensures { GivesLayout self.now result }
     {
         let sections = sections_of(self.sections)?;
@@ -33,7 +33,7 @@ impl<'a> CallerLayout<'a> {
         let linkage = names_of(self.linkage)?;
         let table = names_of(self.table)?;
         let thread = names_of(self.thread)?;
-        Some(LentLayout {
+        Some(BorrowedLayout {
             sections,
             definitions,
             linkage,
@@ -45,8 +45,8 @@ impl<'a> CallerLayout<'a> {
 
 /// Sections whose indices rise; None of others.
 fn sections_of(items: &[LentSection]) -> Option<SortedSections<'_>>
-    ensures { MatchOption result (KeysRise nat_cmp lent_index items.now → ⊥)
-        (λ sections. (sections ≡ placed items.now) × KeysRise nat_cmp lent_index items.now) }
+    ensures { MatchOption result (KeysAscend nat_cmp borrowed_index items.now → ⊥)
+        (λ sections. (sections ≡ placed items.now) × KeysAscend nat_cmp borrowed_index items.now) }
 {
     match SortedSections::new(items) {
         Ok(sections) => Some(sections),
@@ -56,8 +56,8 @@ fn sections_of(items: &[LentSection]) -> Option<SortedSections<'_>>
 
 /// Names that rise; None of others.
 fn names_of<'a>(items: &'a [LentName<'a>]) -> Option<SortedNames<'a>>
-    ensures { MatchOption result (MayLend items.now → ⊥)
-        (λ names. (names ≡ named items.now) × MayLend items.now) }
+    ensures { MatchOption result (MayBorrow items.now → ⊥)
+        (λ names. (names ≡ named items.now) × MayBorrow items.now) }
 {
     match SortedNames::new(items) {
         Ok(names) => Some(names),

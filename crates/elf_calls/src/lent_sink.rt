@@ -9,7 +9,7 @@ use elf_source::{Sink, SinkFault};
 /// text that it has more bytes than the slice. Unlike `elf_source::SliceSink` it is seen whole in
 /// contracts, and what it took begins with the ghost name of the slice: so calls that keep what a sink
 /// took, and add to it, are known to keep the slice too, though their contracts name no sink.
-pub(crate) struct LentSink<'a> {
+pub(crate) struct ProbeSink<'a> {
     /// The memory.
     pub(crate) buffer: &'a mut [u8],
     /// How many bytes of it are written.
@@ -23,14 +23,14 @@ pub(crate) struct LentSink<'a> {
     pub(crate) ghost over: { IsTrue failed → IsSome spare },
 }
 
-impl<'a> LentSink<'a> {
+impl<'a> ProbeSink<'a> {
     /// A sink with all of `buffer` free.
     pub(crate) fn new(buffer: &'a mut [u8]) -> Self
         ensures same { result.buffer.ghost_name ≡ buffer.entry.ghost_name }
         ensures len { result.len ≡ 0 }
         ensures spare { result.spare ≡ None }
     {
-        LentSink {
+        ProbeSink {
             buffer,
             len: 0,
             spare: None,
@@ -39,7 +39,7 @@ impl<'a> LentSink<'a> {
     }
 }
 
-impl<'a> Sink for LentSink<'a> {
+impl<'a> Sink for ProbeSink<'a> {
     ghost taken = { λ s.
         Some (s.buffer.ghost_name ∷ (take s.len s.buffer.now ++ spared s.spare)) };
 

@@ -3,7 +3,7 @@ ghost use Rattle.elf_calls.specs.Limits.{GivesCaps, GivesLimits, budget_of};
 ghost use Rattle.std.specs.Prelude.{◌≡◌};
 
 use crate::caller_listing::CallerListing;
-use elf_headers::{Cap, Caps};
+use elf_headers::{Caps, NameLimit};
 
 /// How many bytes of room a header takes.
 const HEADER_BYTES: usize = 64;
@@ -51,7 +51,7 @@ pub fn caps_of<'n>(
 ) -> Option<Caps<'n>>
     ensures { GivesCaps limits.now room listing.entry result }
 {
-    let style = listing.style(Cap::new(limits.name)?);
+    let style = listing.style(NameLimit::new(limits.name)?);
     let limits = limits_of(limits, room)?;
     Some(Caps { limits, style })
 }

@@ -4,8 +4,8 @@ ghost use Rattle.elf_model.specs.Cost.{listing_cost};
 ghost use Rattle.elf_headers.specs.Permitted.{style_of};
 ghost use Rattle.elf_calls.specs.Shown.{ListsInMemory};
 
-use crate::lent_sink::LentSink;
-use crate::told::{Told, told_from};
+use crate::lent_sink::ProbeSink;
+use crate::told::{Told, status_from};
 use elf_headers::{Caps, HeaderStore};
 use elf_listing::show;
 use elf_record::Parts;
@@ -35,7 +35,7 @@ pub fn list(
         ≤ listing_cost file.now caps.entry.limits.headers (style_of caps.entry.style) parts.0 }
     ensures budget { IfSome caps.entry.limits.budget (λ bytes. outcome.new.asked ≤ bytes) }
 {
-    let LentSink {
+    let ProbeSink {
         buffer: _buffer,
         len,
         spare: _spare,
@@ -52,7 +52,7 @@ fn list_to_sink<'a>(
     parts: Parts,
     out: &'a mut [u8],
     outcome: &mut CallOutcome,
-) -> LentSink<'a>
+) -> ProbeSink<'a>
     requires { store.old.slots ≡ caps.limits.headers }
     ensures same { result.buffer.ghost_name ≡ out.entry.ghost_name }
     ensures text { ListsInMemory file.now caps.entry parts.0 result.buffer.now result.len
@@ -62,11 +62,11 @@ fn list_to_sink<'a>(
     ensures budget { IfSome caps.entry.limits.budget (λ bytes. outcome.new.asked ≤ bytes) }
 {
     let mut src = Counted::new(MemorySource::new(file));
-    let mut out = Out::new(LentSink::new(out));
+    let mut out = Out::new(ProbeSink::new(out));
     let listed = show(&mut src, store, caps, parts, &mut out);
     outcome.asked = src.asked();
     let _ = src.into_inner();
     let sink = out.into_inner();
-    outcome.told = told_from(&listed, sink.spare.is_some());
+    outcome.told = status_from(&listed, sink.spare.is_some());
     sink
 }

@@ -1,9 +1,9 @@
 //! A name looked up in a file in memory as a loader does, and what a caller is told of it.
 ghost use Rattle.std.specs.Prelude.{◌≡◌, ◌≤◌, IfSome, length};
 ghost use Rattle.elf_model.specs.LoaderFind.{loader_cost};
-ghost use Rattle.elf_memory_rows.specs.Ends.{TellsNone};
+ghost use Rattle.elf_memory_rows.specs.Ends.{ReturnsNone};
 ghost use Rattle.elf_calls.specs.Queries.{IsPermitted, asks_of, wanted_by};
-ghost use Rattle.elf_calls.specs.Resolved.{ResolvesIn, TellsResolved, file_of, nothing_resolved};
+ghost use Rattle.elf_calls.specs.Resolved.{ResolvesIn, ReturnsResolved, file_of, nothing_resolved};
 
 use crate::counts::short;
 use crate::query::Query;
@@ -49,15 +49,15 @@ pub fn resolve_in(
 
 /// Tells what was found as numbers, and answers the status. None is a call with a number outside its
 /// range. Of the name of a version `told` bytes are held.
-pub fn tell_resolved(
+pub fn report_resolved(
     answer: &Option<Result<SymbolLookup, Refusal>>,
     told: u64,
     resolved: &mut Resolved,
     end: &mut End,
 ) -> u32
     requires nothing { resolved.old ≡ nothing_resolved 0 }
-    requires none { TellsNone end.old }
-    ensures tells { TellsResolved result resolved.new end.new told answer.now }
+    requires none { ReturnsNone end.old }
+    ensures tells { ReturnsResolved result resolved.new end.new told answer.now }
     ensures written { end.new.written ≡ end.old.written }
     ensures asked { end.new.asked ≡ end.old.asked }
     ensures none { end.new.none ≡ end.old.none }

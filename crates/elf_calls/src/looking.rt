@@ -1,11 +1,11 @@
 //! A name looked up in a file in memory, and what a caller is told of it.
 ghost use Rattle.std.specs.Prelude.{◌≡◌, ◌≤◌, IfSome, length};
 ghost use Rattle.elf_model.specs.Find.{find_cost};
-ghost use Rattle.elf_memory_rows.specs.Ends.{TellsNone};
-ghost use Rattle.elf_calls.specs.Found.{LooksIn, TellsLooked, nothing_behind};
+ghost use Rattle.elf_memory_rows.specs.Ends.{ReturnsNone};
+ghost use Rattle.elf_calls.specs.Found.{LooksIn, ReturnsLooked, nothing_after};
 
 use crate::counts::short;
-use crate::found::LookupNumbers;
+use crate::found::LookupFields;
 use elf_hash::{Lookup, find};
 use elf_headers::{Fault, HeaderStore};
 use elf_memory_rows::{End, Symbol};
@@ -42,14 +42,14 @@ pub fn look_in(
 
 /// Tells what was found as numbers, and answers the status. None is a call with a number outside its
 /// range.
-pub fn tell_found(
+pub fn report_found(
     looked: &Option<Result<Lookup, Refusal>>,
-    found: &mut LookupNumbers,
+    found: &mut LookupFields,
     end: &mut End,
 ) -> u32
-    requires nothing { found.old ≡ nothing_behind 0 }
-    requires none { TellsNone end.old }
-    ensures tells { TellsLooked result found.new end.new looked.now }
+    requires nothing { found.old ≡ nothing_after 0 }
+    requires none { ReturnsNone end.old }
+    ensures tells { ReturnsLooked result found.new end.new looked.now }
     ensures written { end.new.written ≡ end.old.written }
     ensures asked { end.new.asked ≡ end.old.asked }
     ensures none { end.new.none ≡ end.old.none }

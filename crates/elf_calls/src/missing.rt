@@ -1,10 +1,10 @@
 //! What a layout lacks, as C has it.
 ghost use Rattle.std.specs.Prelude.{◌≡◌, ◌≤◌, None, Some, length, take};
 ghost use Rattle.elf_explain.specs.Explained.{lack_as};
-ghost use Rattle.elf_calls.specs.LentLayouts.{TellsMissing, helpful, wanted_section};
+ghost use Rattle.elf_calls.specs.LentLayouts.{ReturnsMissing, helpful, apply_input_of};
 ghost use Rattle.elf_calls.specs.Resolved.{cut_number};
 
-use elf_model::{Base, LayoutAddress, Missing};
+use elf_model::{LayoutAddress, Missing, RelocationBase};
 use elf_table::NameEnd;
 
 /// What a layout lacks where a section was refused; all 0 where no address would help.
@@ -30,7 +30,7 @@ pub struct CallerMissing {
 impl CallerMissing {
     /// Nothing is missing.
     pub fn clear(&mut self)
-        ensures { TellsMissing self.new None }
+        ensures { ReturnsMissing self.new None }
     {
         *self = CallerMissing {
             helpful: 0,
@@ -45,11 +45,11 @@ impl CallerMissing {
     /// Tells what is missing, with the bytes of the symbol's name.
     pub fn tell(&mut self, missing: &Missing, end: NameEnd, name: &[u8])
         requires { length name.now ≤ 256 }
-        ensures { TellsMissing self.new (lack_as name.now (Some (missing.now, end))) }
+        ensures { ReturnsMissing self.new (lack_as name.now (Some (missing.now, end))) }
     {
         *self = CallerMissing {
             helpful: helpful(missing.wanted),
-            section: wanted_section(missing.wanted),
+            section: apply_input_of(missing.wanted),
             relocation: missing.kind,
             name_len: name.len() as u32,
             is_cut: cut_number(end),
@@ -81,17 +81,17 @@ fn helpful(wanted: LayoutAddress) -> u32
 {
     match wanted {
         LayoutAddress::Place(_) => 1,
-        LayoutAddress::Named(Base::Symbol) => 2,
-        LayoutAddress::Named(Base::Linkage) => 6,
-        LayoutAddress::Named(Base::Table) => 8,
-        LayoutAddress::Named(Base::Thread) => 16,
+        LayoutAddress::Named(RelocationBase::Symbol) => 2,
+        LayoutAddress::Named(RelocationBase::Linkage) => 6,
+        LayoutAddress::Named(RelocationBase::Table) => 8,
+        LayoutAddress::Named(RelocationBase::Thread) => 16,
         LayoutAddress::Entry => 4,
     }
 }
 
 /// The section that wants an address; 0 where a name does.
-fn wanted_section(wanted: LayoutAddress) -> u32
-    ensures { result ≡ wanted_section wanted }
+fn apply_input_of(wanted: LayoutAddress) -> u32
+    ensures { result ≡ apply_input_of wanted }
 {
     match wanted {
         LayoutAddress::Place(section) => u32::from(section),

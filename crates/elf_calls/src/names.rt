@@ -4,14 +4,14 @@ ghost use Rattle.std.specs.Borrow.{Bor};
 ghost use Rattle.std.specs.Prelude.{List, ℕ};
 ghost use Rattle.std.specs.Cmp.Lexicographic.{slice_cmp};
 ghost use Rattle.std.specs.Ordering.{is_lt, nat_cmp};
-ghost use Rattle.elf_calls.specs.Asked.{MayChoose, MayStand};
+ghost use Rattle.elf_calls.specs.Asked.{AreLendableNames, IsLendableNameAt};
 
-use elf_name_lists::is_row_name;
+use elf_name_lists::is_valid_row_name;
 
-/// Whether rows may be chosen by these names: each can be looked for ([`is_row_name`]), and none is below
+/// Whether rows may be chosen by these names: each can be looked for ([`is_valid_row_name`]), and none is below
 /// the one before it.
 pub(crate) fn may_choose(names: &[&[u8]], versions: bool) -> bool
-    ensures { MatchBool result (MayChoose versions names.now) (MayChoose versions names.now → ⊥) }
+    ensures { MatchBool result (AreLendableNames versions names.now) (AreLendableNames versions names.now → ⊥) }
 {
     let mut i = 0;
     while i < names.len() {
@@ -26,11 +26,11 @@ pub(crate) fn may_choose(names: &[&[u8]], versions: bool) -> bool
 /// Whether the name at a place can be looked for, and is not below the one before it.
 fn may_stand(names: &[&[u8]], i: usize, versions: bool) -> bool
     requires { i < length names.now }
-    ensures { MatchBool result (MayStand versions names.now i)
-        (MayStand versions names.now i → ⊥) }
+    ensures { MatchBool result (IsLendableNameAt versions names.now i)
+        (IsLendableNameAt versions names.now i → ⊥) }
 {
     let name = name_at(names, i);
-    is_row_name(name, versions) && (i == 0 || !is_below(name, name_at(names, i - 1)))
+    is_valid_row_name(name, versions) && (i == 0 || !is_below(name, name_at(names, i - 1)))
 }
 
 /// The name at a place.

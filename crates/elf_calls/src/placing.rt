@@ -6,7 +6,7 @@ ghost use Rattle.elf_calls.specs.Applied.{AppliesFor};
 ghost use Rattle.elf_memory_rows.specs.Ends.{no_end};
 ghost use Rattle.elf_calls.specs.LentLayouts.{CountsWritten, ExplainsRefusal, ExplainsTold};
 
-use crate::applied::{WantedSection, write_section};
+use crate::applied::{ApplyInput, write_section};
 use crate::counts::short;
 use crate::listing::CallOutcome;
 use crate::missing::CallerMissing;
@@ -23,7 +23,7 @@ use elf_table::NameBuf;
 pub fn place_section(
     file: &[u8],
     store: &mut HeaderStore,
-    wanted: &WantedSection<'_>,
+    wanted: &ApplyInput<'_>,
     out: &mut [u8],
     missing: &mut CallerMissing,
     end: &mut End,
@@ -62,7 +62,7 @@ pub fn place_section(
 fn tell_lack(
     file: &[u8],
     store: &mut HeaderStore,
-    wanted: &WantedSection<'_>,
+    wanted: &ApplyInput<'_>,
     asked: u128,
     refusal: Refusal,
     missing: &mut CallerMissing,

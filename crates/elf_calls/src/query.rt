@@ -2,7 +2,7 @@
 ghost use Rattle.std.specs.Prelude.{◌≡◌, ◌≤◌, IfSome, MatchBool, length};
 ghost use Rattle.elf_loader.specs.Lookups.{AreShort};
 ghost use Rattle.elf_model.specs.Loader.{asked_name};
-ghost use Rattle.elf_wanted.specs.Wants.{asked_of, the_wanted};
+ghost use Rattle.elf_wanted.specs.Wants.{asked_of, query_of};
 ghost use Rattle.elf_calls.specs.Queries.{IsPermitted, asked_version, asks_of, goes_by_segments, wanted_by};
 
 use elf_wanted::{Asked, Wanted};
@@ -45,8 +45,8 @@ impl<'a> Query<'a> {
 
     /// What is wanted.
     pub fn wanted(&self) -> Wanted<'a>
-        ensures is { the_wanted result ≡ wanted_by (asks_of self.now) }
-        ensures short { IsPermitted (asks_of self.now) → AreShort (the_wanted result) }
+        ensures is { query_of result ≡ wanted_by (asks_of self.now) }
+        ensures short { IsPermitted (asks_of self.now) → AreShort (query_of result) }
     {
         Wanted {
             name: self.name,

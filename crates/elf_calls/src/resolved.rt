@@ -1,6 +1,6 @@
 //! What a loader's lookup answers, as C sees it.
 ghost use Rattle.std.specs.Prelude.{◌≡◌, Some};
-ghost use Rattle.elf_calls.specs.Resolved.{HasSymbol, SameSymbol, TellsFoundVersion, nothing_resolved};
+ghost use Rattle.elf_calls.specs.Resolved.{HasSymbol, SameSymbol, ReturnsFoundVersion, nothing_resolved};
 
 use crate::found::no_symbol;
 use elf_loader::{FoundSymbol, FoundVersion, VersionName};
@@ -65,7 +65,7 @@ impl Resolved {
     pub fn tell(&mut self, found: &FoundSymbol, told: u64)
         requires { self.old ≡ nothing_resolved 0 }
         ensures symbol { HasSymbol self.new found.now }
-        ensures version { TellsFoundVersion self.new told found.now.version }
+        ensures version { ReturnsFoundVersion self.new told found.now.version }
     {
         self.symbol = Symbol::of(&found.symbol);
         self.index = found.index;
@@ -79,7 +79,7 @@ impl Resolved {
     /// Tells of a version.
     fn tell_version(&mut self, version: &FoundVersion, told: u64)
         requires none { (self.old.version ≡ record { at = 0; len = 0 }) × (self.old.is_cut ≡ 0) }
-        ensures version { TellsFoundVersion self.new told (Some version.now) }
+        ensures version { ReturnsFoundVersion self.new told (Some version.now) }
         ensures others { SameSymbol self.old self.new }
     {
         let number = version_number(version.word);

@@ -6,7 +6,7 @@ ghost use Rattle.elf_calls.specs.Within.{StepsBudgeted, asked_more, budget_left,
 
 use crate::counts::short;
 use crate::limits::{CallerLimits, budget_of};
-use elf_memory_rows::{End, RowsLeft, TableRow, next_rows};
+use elf_memory_rows::{End, RowPosition, TableRow, next_rows};
 use elf_record::sizes::DYNAMIC_BYTES;
 use elf_record::{Cause, Refusal};
 
@@ -17,7 +17,7 @@ pub fn next_within<R: TableRow>(
     file: &[u8],
     limits: &CallerLimits,
     asked: &mut u64,
-    rows: &mut RowsLeft,
+    rows: &mut RowPosition,
     out: &mut [R],
     end: &mut End,
 ) -> usize
@@ -68,7 +68,11 @@ fn count_bytes(bytes: u128, asked: &mut u64)
 }
 
 /// Counts the dynamic entries that an opening looked at, of which it might look at `most`.
-pub fn count_entries(opened: &Option<Result<Option<RowsLeft>, Refusal>>, most: u64, asked: &mut u64)
+pub fn count_entries(
+    opened: &Option<Result<Option<RowPosition>, Refusal>>,
+    most: u64,
+    asked: &mut u64,
+)
     ensures { asked.new ≡ asked_more asked.old (16 * entries_looked most opened.now) }
 {
     let looked = match opened {
@@ -87,7 +91,7 @@ pub fn count_entries(opened: &Option<Result<Option<RowsLeft>, Refusal>>, most: u
 }
 
 /// Tells whether the budget ended a step: where more rows are left, and room for `free` rows.
-fn tell_rest(size: usize, rows: &RowsLeft, entry: u64, free: usize, end: &mut End)
+fn tell_rest(size: usize, rows: &RowPosition, entry: u64, free: usize, end: &mut End)
     requires { 0 < entry }
     ensures { end.new ≡ step_end size entry rows.now free }
 {

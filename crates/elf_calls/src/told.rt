@@ -1,9 +1,9 @@
 //! What a caller is told of a listing, or of a section with its relocations applied.
 ghost use Rattle.std.specs.Prelude.{◌≡◌};
-ghost use Rattle.elf_memory_rows.specs.Ends.{TellsNone};
-ghost use Rattle.elf_calls.specs.Told.{IsStatus, told_from};
+ghost use Rattle.elf_memory_rows.specs.Ends.{ReturnsNone};
+ghost use Rattle.elf_calls.specs.Told.{IsStatus, status_from};
 
-use elf_headers::Stop;
+use elf_headers::RunFault;
 use elf_memory_rows::End;
 use elf_record::Refusal;
 
@@ -22,20 +22,20 @@ pub enum Told {
 
 /// What a call did by its answer, and by whether there were more bytes than memory for them. Neither a
 /// fault of a source in memory nor one of an output that is not full comes.
-pub fn told_from<T>(answer: &Result<T, Stop>, full: bool) -> Told
-    ensures { result ≡ told_from answer.now full }
+pub fn status_from<T>(answer: &Result<T, RunFault>, full: bool) -> Told
+    ensures { result ≡ status_from answer.now full }
 {
     match answer {
         _ if full => Told::Full,
         Ok(_) => Told::Done,
-        Err(Stop::Refused(refusal)) => Told::Refused(*refusal),
-        Err(Stop::Source { .. } | Stop::Out(_)) => Told::Full,
+        Err(RunFault::Refused(refusal)) => Told::Refused(*refusal),
+        Err(RunFault::Source { .. } | RunFault::Out(_)) => Told::Full,
     }
 }
 
 /// Tells it as numbers, and answers the status: 0, 1, 3 or 4.
-pub fn tell_told(told: Told, end: &mut End) -> u32
-    requires { TellsNone end.old × (end.old.none ≡ 0) }
+pub fn report_status(told: Told, end: &mut End) -> u32
+    requires { ReturnsNone end.old × (end.old.none ≡ 0) }
     ensures status { IsStatus result end.new told }
     ensures written { end.new.written ≡ end.old.written }
     ensures asked { end.new.asked ≡ end.old.asked }

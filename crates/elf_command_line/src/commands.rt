@@ -5,12 +5,12 @@ ghost use Rattle.clap.specs.Words.{app_of};
 ghost use Rattle.clap.specs.declared.builder.value_parser.ValueParser.TheVariants.{Names};
 ghost use Rattle.elf_command_line.specs.Building.{IsBuilt};
 ghost use Rattle.elf_command_line.specs.CommandLine.{Words};
-ghost use Rattle.elf_command_line.specs.Described.{with_commands};
+ghost use Rattle.elf_command_line.specs.Described.{add_subcommands};
 ghost use Rattle.elf_command_line.specs.CommandLine.{archive_command, check_command, find_command, list_command, program};
 ghost use Rattle.elf_command_line.specs.CommandLine.{needs_command, sample_command, show_command, traits_command};
 ghost use Rattle.elf_command_line.specs.CommandLine.{with_many_files, with_one_file, without_command};
 
-use crate::adding::{Described, command_of, new_command, with_command, with_commands};
+use crate::adding::{CommandSpec, add_subcommands, clap_command_of, new_command, with_command};
 use crate::options::{
     AS_LOADED, AS_LOADER, BINDINGS, BY_SEGMENTS, DEFAULT, EXPLAIN, FILE, GNU, HEADERS, INSIDE,
     ITEM, JSON, LAYOUT, LIBRARY_PATH, LIST, MAX_READ, NAME, NAME_LIST, NAMES, ONLY, PATH, REQUIRE,
@@ -21,7 +21,7 @@ use clap::Command;
 use clap::builder::ValueParser;
 use std::alloc::{AllocError, Global};
 
-const SHOW: Described = Described {
+const SHOW: CommandSpec = CommandSpec {
     name: "show",
     about: "List a file, whole or one part of it",
     more: SHOWN,
@@ -40,7 +40,7 @@ const SHOW: Described = Described {
     ],
 };
 
-const SAMPLE: Described = Described {
+const SAMPLE: CommandSpec = CommandSpec {
     name: "sample",
     about: "List a small file that the program carries",
     more: "Example: elfsee sample --only header",
@@ -56,21 +56,21 @@ const SAMPLE: Described = Described {
     ],
 };
 
-const FIND: Described = Described {
+const FIND: CommandSpec = CommandSpec {
     name: "find",
     about: "Look a name up by the file's own hash table",
     more: FOUND,
     words: &[HEADERS, MAX_READ, AS_LOADER, AS_LOADED, JSON, FILE, NAME],
 };
 
-const APPLY: Described = Described {
+const APPLY: CommandSpec = CommandSpec {
     name: "apply",
     about: "Write a section's bytes with its relocations applied",
     more: ITEMS,
     words: &[HEADERS, MAX_READ, LAYOUT, EXPLAIN, FILE, SECTION, ITEM],
 };
 
-const CHECK: Described = Described {
+const CHECK: CommandSpec = CommandSpec {
     name: "check",
     about: "Check many files: which are at fault, where and why",
     more: CHECKED,
@@ -88,7 +88,7 @@ const CHECK: Described = Described {
     ],
 };
 
-const LIST_FILES: Described = Described {
+const LIST_FILES: CommandSpec = CommandSpec {
     name: "list",
     about: "List many files, each whole or one part of it",
     more: LISTED,
@@ -109,14 +109,14 @@ const LIST_FILES: Described = Described {
     ],
 };
 
-const TRAITS: Described = Described {
+const TRAITS: CommandSpec = CommandSpec {
     name: "traits",
     about: "Tell of many files how each is hardened",
     more: HARDENED,
     words: &[HEADERS, MAX_READ, REQUIRE, JSON, LIST, PATH],
 };
 
-const NEEDS: Described = Described {
+const NEEDS: CommandSpec = CommandSpec {
     name: "needs",
     about: "Tell which libraries a program needs, and where they are",
     more: NEEDED,
@@ -132,7 +132,7 @@ const NEEDS: Described = Described {
     ],
 };
 
-const ARCHIVE: Described = Described {
+const ARCHIVE: CommandSpec = CommandSpec {
     name: "archive",
     about: "List the members of an archive, such as a static library, and what is in each",
     more: MEMBERS,
@@ -151,16 +151,16 @@ const ARCHIVE: Described = Described {
     ],
 };
 
-const VERSION: Described = Described {
+const VERSION: CommandSpec = CommandSpec {
     name: "version",
     about: "Tell the version of this program",
     more: "Example: elfsee version",
     words: &[],
 };
 
-static OF_ONE_FILE: [Described; 4] = [SHOW, SAMPLE, FIND, APPLY];
+static OF_ONE_FILE: [CommandSpec; 4] = [SHOW, SAMPLE, FIND, APPLY];
 
-static OF_MANY_FILES: [Described; 4] = [CHECK, LIST_FILES, TRAITS, NEEDS];
+static OF_MANY_FILES: [CommandSpec; 4] = [CHECK, LIST_FILES, TRAITS, NEEDS];
 
 /// The command line, with the names of the parts of a listing, and of those of an archive's: all
 /// commands with their arguments and help, as `clap` reads words by them.
@@ -176,24 +176,24 @@ pub fn command_line<'a>(
         ≡ program (record { listed = parts.entry; archived = member_parts.entry })) }
 {
     let program = program(alloc)?;
-    let command = with_commands(alloc, program, of_one_file(), ValueParser::Names(parts))?;
-    let command = with_commands(alloc, command, of_many_files(), ValueParser::Names(parts))?;
+    let command = add_subcommands(alloc, program, of_one_file(), ValueParser::Names(parts))?;
+    let command = add_subcommands(alloc, command, of_many_files(), ValueParser::Names(parts))?;
     let command = with_command(alloc, command, &ARCHIVE, ValueParser::Names(member_parts))?;
     with_command(alloc, command, &VERSION, ValueParser::Names(parts))
 }
 
 /// The commands that read one file, but for the one that lists an archive.
-fn of_one_file() -> &'static [Described]
+fn of_one_file() -> &'static [CommandSpec]
     ensures { (parts : Words)
-        → with_commands (Names parts) without_command result.now ≡ with_one_file parts }
+        → add_subcommands (Names parts) without_command result.now ≡ with_one_file parts }
 {
     &OF_ONE_FILE
 }
 
 /// The commands that read many files.
-fn of_many_files() -> &'static [Described]
+fn of_many_files() -> &'static [CommandSpec]
     ensures { (parts : Words) (app : App)
-        → with_commands (Names parts) app result.now ≡ with_many_files parts app }
+        → add_subcommands (Names parts) app result.now ≡ with_many_files parts app }
 {
     &OF_MANY_FILES
 }
@@ -217,7 +217,7 @@ fn program<'a>(alloc: Global) -> Result<Command<'a>, AllocError>
 pub fn show<'a>(alloc: Global, parts: &'a [&'a str]) -> Result<Command<'a>, AllocError>
     ensures { IfOk result (IsBuilt (show_command parts.entry)) }
 {
-    command_of(alloc, &SHOW, ValueParser::Names(parts))
+    clap_command_of(alloc, &SHOW, ValueParser::Names(parts))
 }
 
 /// The command that lists the sample, with the names of the parts that it can list alone.
@@ -227,7 +227,7 @@ pub fn show<'a>(alloc: Global, parts: &'a [&'a str]) -> Result<Command<'a>, Allo
 pub fn sample<'a>(alloc: Global, parts: &'a [&'a str]) -> Result<Command<'a>, AllocError>
     ensures { IfOk result (IsBuilt (sample_command parts.entry)) }
 {
-    command_of(alloc, &SAMPLE, ValueParser::Names(parts))
+    clap_command_of(alloc, &SAMPLE, ValueParser::Names(parts))
 }
 
 /// The command that looks a name up.
@@ -237,7 +237,7 @@ pub fn sample<'a>(alloc: Global, parts: &'a [&'a str]) -> Result<Command<'a>, Al
 pub fn find<'a>(alloc: Global) -> Result<Command<'a>, AllocError>
     ensures { IfOk result (IsBuilt find_command) }
 {
-    command_of(alloc, &FIND, ValueParser::Names(&[]))
+    clap_command_of(alloc, &FIND, ValueParser::Names(&[]))
 }
 
 /// The command that checks many files, with the names of the parts that it can go by.
@@ -247,7 +247,7 @@ pub fn find<'a>(alloc: Global) -> Result<Command<'a>, AllocError>
 pub fn check<'a>(alloc: Global, parts: &'a [&'a str]) -> Result<Command<'a>, AllocError>
     ensures { IfOk result (IsBuilt (check_command parts.entry)) }
 {
-    command_of(alloc, &CHECK, ValueParser::Names(parts))
+    clap_command_of(alloc, &CHECK, ValueParser::Names(parts))
 }
 
 /// The command that lists many files, with the names of the parts that it can list alone.
@@ -257,7 +257,7 @@ pub fn check<'a>(alloc: Global, parts: &'a [&'a str]) -> Result<Command<'a>, All
 pub fn list<'a>(alloc: Global, parts: &'a [&'a str]) -> Result<Command<'a>, AllocError>
     ensures { IfOk result (IsBuilt (list_command parts.entry)) }
 {
-    command_of(alloc, &LIST_FILES, ValueParser::Names(parts))
+    clap_command_of(alloc, &LIST_FILES, ValueParser::Names(parts))
 }
 
 /// The command that lists how files are hardened.
@@ -267,7 +267,7 @@ pub fn list<'a>(alloc: Global, parts: &'a [&'a str]) -> Result<Command<'a>, Allo
 pub fn traits<'a>(alloc: Global) -> Result<Command<'a>, AllocError>
     ensures { IfOk result (IsBuilt traits_command) }
 {
-    command_of(alloc, &TRAITS, ValueParser::Names(&[]))
+    clap_command_of(alloc, &TRAITS, ValueParser::Names(&[]))
 }
 
 /// The command that lists which libraries a program needs.
@@ -277,7 +277,7 @@ pub fn traits<'a>(alloc: Global) -> Result<Command<'a>, AllocError>
 pub fn needs<'a>(alloc: Global) -> Result<Command<'a>, AllocError>
     ensures { IfOk result (IsBuilt needs_command) }
 {
-    command_of(alloc, &NEEDS, ValueParser::Names(&[]))
+    clap_command_of(alloc, &NEEDS, ValueParser::Names(&[]))
 }
 
 /// The command that lists an archive, with the names of its parts: the members, and those of a listing.
@@ -287,5 +287,5 @@ pub fn needs<'a>(alloc: Global) -> Result<Command<'a>, AllocError>
 pub fn archive<'a>(alloc: Global, parts: &'a [&'a str]) -> Result<Command<'a>, AllocError>
     ensures { IfOk result (IsBuilt (archive_command parts.entry)) }
 {
-    command_of(alloc, &ARCHIVE, ValueParser::Names(parts))
+    clap_command_of(alloc, &ARCHIVE, ValueParser::Names(parts))
 }

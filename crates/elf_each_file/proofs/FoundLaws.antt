@@ -1,7 +1,7 @@
 -- What is found of a file, by what the search for its traits answered.
 use Rattle.std.proofs.Common.{◌≡◌, ℕ, ◌^◌, ◌<◌, ◌≤◌, ◌++◌, ◌⊎◌, true, false, if◌then◌else◌, List, length, Option, None, Some, Result, Ok, Err, inl, inr, refl, sym, ap, subst, ◌∙◌, nat_lt, arith}
 use Rattle.std.proofs.lemmas.Bool.Decides.{nat_tests}
-use Rattle.elf_model.specs.Budget.{IsBudget}
+use Rattle.elf_model.specs.Budget.{IsBudgetRefusal}
 use Rattle.elf_model.specs.Checking.{is_not_elf, state_of}
 use Rattle.elf_model.specs.Checks.{first_refusal, header_checks, load_checks}
 use Rattle.elf_model.specs.Style.{without_sections}
@@ -9,12 +9,12 @@ use Rattle.elf_model.specs.TraitCost.{traits_cost}
 use Rattle.elf_model.specs.Traits.{loaded_traits, traits_by_segments, traits_of}
 use Rattle.elf_model.specs.declared.causes.Cause.TheVariants.{Budget, Short}
 use Rattle.elf_model.specs.declared.causes.Refusal.{Refusal}
-use Rattle.elf_model.specs.declared.states.FileState.{FileState}
-use Rattle.elf_model.specs.declared.states.FileState.TheVariants as state
+use Rattle.elf_model.specs.declared.states.FileStatus.{FileStatus}
+use Rattle.elf_model.specs.declared.states.FileStatus.TheVariants as state
 use Rattle.elf_model.specs.declared.traits.Traits.{Traits}
-use Rattle.elf_model.proofs.BudgetLaws.{is_budget}
+use Rattle.elf_model.proofs.BudgetLaws.{is_budget_fault}
 use Rattle.elf_model.proofs.StyleLemmas.{from_length}
-use Rattle.elf_source.specs.Source.{Counting, SetsLimit}
+use Rattle.elf_source.specs.Source.{CountedState, SetsLimit}
 use Rattle.elf_source.proofs.LimitLaws.{budget_below}
 use Rattle.elf_headers.specs.declared.fault.Fault.TheVariants.{Refused}
 use Rattle.elf_traits.specs.Finding.{FindsTraits}
@@ -47,12 +47,12 @@ short_traits file headers short =
     ∙ ap (λ at. Err (record { at = at; cause = Short })) same
 
 -- what the definitions tell is found, within every budget
-told : (budget : Option ℕ) (headers : ℕ) (file : List ℕ) (found : Result Traits FileState) → found ≡ traits_found budget file (traits_of file headers)
+told : (budget : Option ℕ) (headers : ℕ) (file : List ℕ) (found : Result Traits FileStatus) → found ≡ traits_found budget file (traits_of file headers)
     → IsFoundWithin budget headers file found
 told None headers file found is = is
 told (Some bytes) headers file found is = inl is
 
-finds : (budget : Option ℕ) (headers : ℕ) (file : List ℕ) (found : Result Traits FileState) → IsFoundWithin budget headers file found → FindsWithin budget headers file found
+finds : (budget : Option ℕ) (headers : ℕ) (file : List ℕ) (found : Result Traits FileStatus) → IsFoundWithin budget headers file found → FindsWithin budget headers file found
 finds budget headers file (Ok traits) is = is
 finds budget headers file (Err state.Ok) is = is
 finds budget headers file (Err (state.Refused refusal)) is = is
@@ -60,13 +60,13 @@ finds budget headers file (Err state.NoElf) is = is
 finds budget headers file (Err state.Unread) is = tt
 finds budget headers file (Err state.Memory) is = is
 
-short_is : (budget : Option ℕ) (headers : ℕ) (file : List ℕ) (found : FileState) → length file < 64 → found ≡ state_of budget file (Some (short_refusal file))
+short_is : (budget : Option ℕ) (headers : ℕ) (file : List ℕ) (found : FileStatus) → length file < 64 → found ≡ state_of budget file (Some (short_refusal file))
     → FindsWithin budget headers file (Err found)
 short_is budget headers file found short is =
     finds budget headers file (Err found) (told budget headers file (Err found) (ap (λ s. Err s) is ∙ sym (ap (traits_found budget file) (short_traits file headers short))))
 
 -- THE STATE of a file that is too short
-pub short_within : (budget : Option ℕ) (headers : ℕ) (file : List ℕ) (found : FileState) → length file < 64 → FindsShort budget file found → FindsWithin budget headers file (Err found)
+pub short_within : (budget : Option ℕ) (headers : ℕ) (file : List ℕ) (found : FileStatus) → length file < 64 → FindsShort budget file found → FindsWithin budget headers file (Err found)
 short_within budget headers file state.Ok short is = short_is budget headers file state.Ok short is
 short_within budget headers file (state.Refused refusal) short is = short_is budget headers file (state.Refused refusal) short is
 short_within budget headers file state.NoElf short is = short_is budget headers file state.NoElf short is
@@ -74,14 +74,14 @@ short_within budget headers file state.Unread short is = tt
 short_within budget headers file state.Memory short is = short_is budget headers file state.Memory short is
 
 -- THE TRAITS of a file that has them
-pub found_within : (budget : Option ℕ) (headers : ℕ) (file : List ℕ) (traits : Traits) (s1 s2 : Counting) → FindsTraits file headers s1 s2 (Ok traits)
+pub found_within : (budget : Option ℕ) (headers : ℕ) (file : List ℕ) (traits : Traits) (s1 s2 : CountedState) → FindsTraits file headers s1 s2 (Ok traits)
     → FindsWithin budget headers file (Ok traits)
 found_within budget headers file traits s1 s2 did =
     finds budget headers file (Ok traits) (told budget headers file (Ok traits) (sym (ap (traits_found budget file) did.finds)))
 
 -- a refusal for want of budget: the budget is less than what the traits cost
-lacking_within : (budget : Option ℕ) (headers : ℕ) (file : List ℕ) (s0 s1 s2 : Counting) (refusal : Refusal) → s0.asked ≤ 2 ^ 127 → SetsLimit s0 s1 budget
-    → length file ≡ s1.seen.size → IsBudget refusal → FindsTraits file headers s1 s2 (Err (Refused refusal)) → IsFoundWithin budget headers file (Err (state.Refused refusal))
+lacking_within : (budget : Option ℕ) (headers : ℕ) (file : List ℕ) (s0 s1 s2 : CountedState) (refusal : Refusal) → s0.asked ≤ 2 ^ 127 → SetsLimit s0 s1 budget
+    → length file ≡ s1.seen.size → IsBudgetRefusal refusal → FindsTraits file headers s1 s2 (Err (Refused refusal)) → IsFoundWithin budget headers file (Err (state.Refused refusal))
 lacking_within None headers file s0 s1 s2 refusal small set sized budget did =
     let none = set.most in let some = (did.costs.says budget).1.is_set in cc
 lacking_within (Some bytes) headers file s0 s1 s2 refusal small set sized budget did =
@@ -95,10 +95,10 @@ lacking_within (Some bytes) headers file s0 s1 s2 refusal small set sized budget
     )
 
 -- a refusal of a file that has room for a file header
-pub refused_within : (budget : Option ℕ) (headers : ℕ) (file : List ℕ) (s0 s1 s2 : Counting) (refusal : Refusal) (found : FileState) → 64 ≤ length file → s0.asked ≤ 2 ^ 127
+pub refused_within : (budget : Option ℕ) (headers : ℕ) (file : List ℕ) (s0 s1 s2 : CountedState) (refusal : Refusal) (found : FileStatus) → 64 ≤ length file → s0.asked ≤ 2 ^ 127
     → SetsLimit s0 s1 budget → length file ≡ s1.seen.size → FindsTraits file headers s1 s2 (Err (Refused refusal))
     → found ≡ (if is_not_elf refusal.cause then state.NoElf else state.Refused refusal) → FindsWithin budget headers file (Err found)
-refused_within budget headers file s0 s1 s2 refusal found long small set sized did is = by (is_budget refusal.cause)
+refused_within budget headers file s0 s1 s2 refusal found long small set sized did is = by (is_budget_fault refusal.cause)
   where
     by : (refusal.cause ≡ Budget) ⊎ (refusal.cause ≡ Budget → ⊥) → FindsWithin budget headers file (Err found)
     by (inl wants) =

@@ -6,27 +6,27 @@ use Rattle.elf_model.specs.declared.formats.Format.{Format}
 use Rattle.elf_model.specs.declared.traits.TraitColumn.{TraitColumn}
 use Rattle.elf_model.specs.declared.traits.Traits.{Traits}
 use Rattle.elf_wanted.specs.Required.{required_word, required_words}
-use Rattle.elf_wanted.specs.declared.required.RequiredWord.{RequiredWord}
+use Rattle.elf_wanted.specs.declared.required.RequiredTrait.{RequiredTrait}
 
-parted : (words : List RequiredWord) (i : ℕ) (d : RequiredWord) → i < length words → drop i words ≡ slice_index_or words i d ∷ drop (suc i) words
+parted : (words : List RequiredTrait) (i : ℕ) (d : RequiredTrait) → i < length words → drop i words ≡ slice_index_or words i d ∷ drop (suc i) words
 parted [] i d low = absurd (omega arith)
 parted (w ∷ words) zero d low = refl
 parted (w ∷ words) (suc i) d low = parted words i d (omega arith)
 
 -- among some words, by whether the file has the first of them
-one : (t : Traits) (w : RequiredWord) (words : List RequiredWord) (has : Bool) → has_word t (required_word w) ≡ has
+one : (t : Traits) (w : RequiredTrait) (words : List RequiredTrait) (has : Bool) → has_word t (required_word w) ≡ has
     → first_lacking t (required_words (w ∷ words)) ≡ elim has as (λ _. Option TraitColumn) [ true ↦ first_lacking t (required_words words) | false ↦ Some w.column ]
 unfolding first_lacking
 one t w words has is =
     subst (λ (b : Bool). first_lacking t (required_words (w ∷ words)) ≡ elim b as (λ _. Option TraitColumn) [ true ↦ first_lacking t (required_words words) | false ↦ Some w.column ]) is refl
 
-pub had : (t : Traits) (words : List RequiredWord) (i j : ℕ) (d : RequiredWord) → i < length words → j ≡ suc i → has_word t (required_word (slice_index_or words i d)) ≡ true
+pub had : (t : Traits) (words : List RequiredTrait) (i j : ℕ) (d : RequiredTrait) → i < length words → j ≡ suc i → has_word t (required_word (slice_index_or words i d)) ≡ true
     → first_lacking t (required_words (drop i words)) ≡ first_lacking t (required_words (drop j words))
 had t words i j d low next is =
     ap (λ l. first_lacking t (required_words l)) (parted words i d low) ∙ one t (slice_index_or words i d) (drop (suc i) words) true is
     ∙ ap (λ n. first_lacking t (required_words (drop n words))) (sym next)
 
-pub lacked : (t : Traits) (words : List RequiredWord) (i : ℕ) (d : RequiredWord) → i < length words → has_word t (required_word (slice_index_or words i d)) ≡ false
+pub lacked : (t : Traits) (words : List RequiredTrait) (i : ℕ) (d : RequiredTrait) → i < length words → has_word t (required_word (slice_index_or words i d)) ≡ false
     → first_lacking t (required_words (drop i words)) ≡ Some (slice_index_or words i d).column
 lacked t words i d low is =
     ap (λ l. first_lacking t (required_words l)) (parted words i d low) ∙ one t (slice_index_or words i d) (drop (suc i) words) false is

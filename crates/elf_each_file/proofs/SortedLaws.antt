@@ -5,9 +5,9 @@ use Rattle.elf_model.specs.ArchiveCost.{archive_ceiling}
 use Rattle.elf_model.specs.Cost.{style_ceiling}
 use Rattle.elf_model.specs.FileLists.{front_size}
 use Rattle.elf_model.specs.Style.{Style}
-use Rattle.elf_model.specs.declared.states.FileState.{FileState}
-use Rattle.elf_model.specs.declared.states.FileState.TheVariants as state
-use Rattle.elf_source.specs.Source.{Counting}
+use Rattle.elf_model.specs.declared.states.FileStatus.{FileStatus}
+use Rattle.elf_model.specs.declared.states.FileStatus.TheVariants as state
+use Rattle.elf_source.specs.Source.{CountedState}
 use Rattle.elf_headers.specs.Permitted.{style_of}
 use Rattle.elf_headers.specs.declared.caps.Caps.{Caps}
 use Rattle.elf_many.specs.Checked.{FailsRead}
@@ -21,7 +21,7 @@ unfolding archive_ceiling
 check_most true size headers style = omega arith
 check_most false size headers style = omega arith
 
-pub asks_as_archive : (caps : Caps) (old new : Counting) → AsksNoMore (check_ceiling old.seen.size caps.limits.headers (style_of caps.style)) caps.limits.budget old new
+pub asks_as_archive : (caps : Caps) (old new : CountedState) → AsksNoMore (check_ceiling old.seen.size caps.limits.headers (style_of caps.style)) caps.limits.budget old new
     → AsksNoMore (archive_ceiling old.seen.size caps.limits.headers (style_of caps.style)) caps.limits.budget old new
 asks_as_archive caps old new asks =
     let most : check_ceiling old.seen.size caps.limits.headers (style_of caps.style) ≤ archive_ceiling old.seen.size caps.limits.headers (style_of caps.style) =
@@ -33,7 +33,7 @@ some_within : (budget : Option ℕ) (old new : ℕ) → new ≡ old → IfSome b
 some_within None old new is = tt
 some_within (Some bytes) old new is = omega (arith, is)
 
-pub asks_nothing : (caps : Caps) (old new : Counting) → new.asked ≡ old.asked → AsksNoMore (archive_ceiling old.seen.size caps.limits.headers (style_of caps.style)) caps.limits.budget old new
+pub asks_nothing : (caps : Caps) (old new : CountedState) → new.asked ≡ old.asked → AsksNoMore (archive_ceiling old.seen.size caps.limits.headers (style_of caps.style)) caps.limits.budget old new
 asks_nothing caps old new is = record { ceiling = omega (arith, is); budget = some_within caps.limits.budget old.asked new.asked is }
 
 -- the bytes that tell what a file is are eight at most
@@ -50,7 +50,7 @@ pub front_eight : (budget : Option ℕ) (size : ℕ) → front_asked true budget
 front_eight budget size = front_few (nat_lt size 4) _ (front_size true size) (size_few (nat_lt size 8))
 
 -- a state that is found
-pub sorted_found : (caps : Caps) (parts : ℕ) (file : List ℕ) (found : FileState) → FindsSortedState caps parts file found → FindsSorted caps parts file found
+pub sorted_found : (caps : Caps) (parts : ℕ) (file : List ℕ) (found : FileStatus) → FindsSortedState caps parts file found → FindsSorted caps parts file found
 sorted_found caps parts file state.Ok finds = finds
 sorted_found caps parts file (state.Refused refusal) finds = finds
 sorted_found caps parts file state.NoElf finds = finds
@@ -58,9 +58,9 @@ sorted_found caps parts file state.Unread finds = tt
 sorted_found caps parts file state.Memory finds = finds
 
 -- a file that was not read behind reads that did not fail
-pub state_behind : (a b c : Counting) (found : FileState) → a.seen.failures ≤ b.seen.failures → FailsRead b c found → FailsRead a c found
-state_behind a b c state.Ok fewer fails = tt
-state_behind a b c (state.Refused refusal) fewer fails = tt
-state_behind a b c state.NoElf fewer fails = tt
-state_behind a b c state.Unread fewer fails = λ honest. let rose = fails honest in omega (arith, fewer, rose)
-state_behind a b c state.Memory fewer fails = fails
+pub state_after : (a b c : CountedState) (found : FileStatus) → a.seen.failures ≤ b.seen.failures → FailsRead b c found → FailsRead a c found
+state_after a b c state.Ok fewer fails = tt
+state_after a b c (state.Refused refusal) fewer fails = tt
+state_after a b c state.NoElf fewer fails = tt
+state_after a b c state.Unread fewer fails = λ honest. let rose = fails honest in omega (arith, fewer, rose)
+state_after a b c state.Memory fewer fails = fails

@@ -1,11 +1,11 @@
 -- What is asked for to tell what a file is, by its first bytes.
 use Rattle.std.specs.Prelude.{ℕ, nat_lt, if◌then◌else◌, Bool, Option}
-use Rattle.elf_model.specs.FileLists.{front_size, permits_bytes}
+use Rattle.elf_model.specs.FileLists.{front_size, may_read_bytes}
 use Rattle.elf_model.specs.Records.{ELF_MAGIC_SIZE}
 
 -- how many bytes are asked for: where the file and the budget have them
 abbrev pub front_asked : Bool → Option ℕ → (size : ℕ) → ℕ
 front_asked members budget size =
     if nat_lt size ELF_MAGIC_SIZE then 0
-    else if permits_bytes budget (front_size members size) then front_size members size
+    else if may_read_bytes budget (front_size members size) then front_size members size
     else 0

@@ -2,68 +2,68 @@
 use Rattle.std.specs.Prelude.{ℕ, ◌≡◌, List, [], ◌++◌, Option, None, Some, Bool, false, Result, Ok, Err}
 use Rattle.elf_model.specs.ArchiveCost.{IsArchiveBudgeted, any_refused, archive_ceiling, archive_cost}
 use Rattle.elf_model.specs.Budget.{IsBudgeted}
-use Rattle.elf_model.specs.Choice.{RowChoice}
+use Rattle.elf_model.specs.Choice.{RowFilter}
 use Rattle.elf_model.specs.Cost.{listing_cost, style_ceiling}
 use Rattle.elf_model.specs.FileLists.{headed, members_alone}
 use Rattle.elf_model.specs.Style.{Style}
 use Rattle.elf_model.specs.declared.causes.Refusal.{Refusal}
-use Rattle.elf_model.specs.declared.states.FileSort.{FileSort}
-use Rattle.elf_model.specs.declared.states.FileSort.TheVariants as sort
-use Rattle.elf_source.specs.Output.{Written, Takes, TakesFront}
+use Rattle.elf_model.specs.declared.states.FileMagic.{FileMagic}
+use Rattle.elf_model.specs.declared.states.FileMagic.TheVariants as sort
+use Rattle.elf_source.specs.Output.{OutState, SinkTakes, SinkTakesPrefix}
 use Rattle.elf_headers.specs.declared.caps.Limits.{Limits}
-use Rattle.elf_headers.specs.declared.stop.Stop.{Stop}
-use Rattle.elf_headers.specs.declared.stop.Stop.TheVariants.{Refused, Source, Out}
-use Rattle.elf_listing.specs.Reports.{Wrote}
+use Rattle.elf_headers.specs.declared.stop.RunFault.{RunFault}
+use Rattle.elf_headers.specs.declared.stop.RunFault.TheVariants.{Refused, Source, Out}
+use Rattle.elf_listing.specs.Reports.{WroteText}
 
 -- a text with this fault is what is listed of a file of a sort within a budget: its listing, or that of an archive, whose members'
 -- lines stand alone where all rows are shown
-abbrev pub IsListedText : FileSort → Option ℕ → List ℕ → ℕ → Style → ℕ → List ℕ → Option Refusal → Type 0
+abbrev pub IsListedText : FileMagic → Option ℕ → List ℕ → ℕ → Style → ℕ → List ℕ → Option Refusal → Type 0
 IsListedText sort.Elf = IsBudgeted
 IsListedText sort.Archive = λ budget file headers style. IsArchiveBudgeted (members_alone style.choice) budget file headers style
 IsListedText sort.Foreign = λ budget file headers style parts text fault. (text ≡ []) × (fault ≡ None)
 
 -- the listing of a member is refused
-abbrev pub lists_refused : FileSort → List ℕ → ℕ → Style → ℕ → Bool
+abbrev pub lists_refused : FileMagic → List ℕ → ℕ → Style → ℕ → Bool
 lists_refused sort.Archive = any_refused
 lists_refused _ = λ file headers style parts. false
 
 -- how many bytes it asks for at most
-abbrev pub sort_cost : FileSort → List ℕ → ℕ → Style → ℕ → ℕ
+abbrev pub sort_cost : FileMagic → List ℕ → ℕ → Style → ℕ → ℕ
 sort_cost sort.Elf = listing_cost
 sort_cost sort.Archive = archive_cost
 sort_cost sort.Foreign = λ file headers style parts. 0
 
 -- the same of every source
-abbrev pub sort_ceiling : FileSort → (size headers : ℕ) → Style → ℕ
+abbrev pub sort_ceiling : FileMagic → (size headers : ℕ) → Style → ℕ
 sort_ceiling sort.Elf = style_ceiling
 sort_ceiling sort.Archive = archive_ceiling
 sort_ceiling sort.Foreign = λ size headers style. 0
 
 -- the answer is whether the listing of a member was refused
-abbrev pub TellsRefused : Result Bool Stop → Bool → Type 0
-TellsRefused (Ok refused) any = refused ≡ any
-TellsRefused (Err stop) any = Unit {0}
+abbrev pub ReturnsRefused : Result Bool RunFault → Bool → Type 0
+ReturnsRefused (Ok refused) any = refused ≡ any
+ReturnsRefused (Err stop) any = Unit {0}
 
 -- WHAT WAS LISTED of a file of a sort: a text with a fault was written, whole where the answer tells that it is, else a front of it
-pub record ListsSort (kind : FileSort) (file : List ℕ) (limits : Limits) (style : Style) (parts : ℕ) (old new : Written) (result : Result Bool Stop) : Type 0 where
+pub record ListsSort (kind : FileMagic) (file : List ℕ) (limits : Limits) (style : Style) (parts : ℕ) (old new : OutState) (result : Result Bool RunFault) : Type 0 where
   pub text : List ℕ
   pub fault : Option Refusal
   pub listed : IsListedText kind limits.budget file limits.headers style parts text fault
-  pub wrote : Wrote old new result text fault
-  pub refused : TellsRefused result (lists_refused kind file limits.headers style parts)
+  pub wrote : WroteText old new result text fault
+  pub refused : ReturnsRefused result (lists_refused kind file limits.headers style parts)
 
 -- THE SAME BEHIND THE LINE of a path, which stands as the choice of rows has it. At a fault of the source or the output a front of
 -- both was written
-abbrev pub WroteHeaded : RowChoice → List ℕ → Written → Written → Result Bool Stop → List ℕ → Option Refusal → Type 0
-WroteHeaded choice line old new (Ok refused) text fault = Takes old new (headed choice line text) × (None ≡ fault)
-WroteHeaded choice line old new (Err (Refused refusal)) text fault = Takes old new (headed choice line text) × (Some refusal ≡ fault)
+abbrev pub WroteHeaded : RowFilter → List ℕ → OutState → OutState → Result Bool RunFault → List ℕ → Option Refusal → Type 0
+WroteHeaded choice line old new (Ok refused) text fault = SinkTakes old new (headed choice line text) × (None ≡ fault)
+WroteHeaded choice line old new (Err (Refused refusal)) text fault = SinkTakes old new (headed choice line text) × (Some refusal ≡ fault)
 WroteHeaded choice line old new (Err (Source cause at)) text fault =
-    (front : List ℕ) × (rest : List ℕ) × (text ≡ front ++ rest) × Takes old new (headed choice line front)
-WroteHeaded choice line old new (Err (Out cause)) text fault = TakesFront old new (headed choice line text)
+    (front : List ℕ) × (rest : List ℕ) × (text ≡ front ++ rest) × SinkTakes old new (headed choice line front)
+WroteHeaded choice line old new (Err (Out cause)) text fault = SinkTakesPrefix old new (headed choice line text)
 
-pub record ListsHeaded (kind : FileSort) (line file : List ℕ) (limits : Limits) (style : Style) (parts : ℕ) (old new : Written) (result : Result Bool Stop) : Type 0 where
+pub record ListsHeaded (kind : FileMagic) (line file : List ℕ) (limits : Limits) (style : Style) (parts : ℕ) (old new : OutState) (result : Result Bool RunFault) : Type 0 where
   pub text : List ℕ
   pub fault : Option Refusal
   pub listed : IsListedText kind limits.budget file limits.headers style parts text fault
   pub wrote : WroteHeaded style.choice line old new result text fault
-  pub refused : TellsRefused result (lists_refused kind file limits.headers style parts)
+  pub refused : ReturnsRefused result (lists_refused kind file limits.headers style parts)

@@ -2,9 +2,9 @@
 use Rattle.std.specs.Prelude.{ℕ, ◌≡◌, ◌+◌, ◌≤◌, Bool, true, false, List, Some, Result, IfOk}
 use Rattle.elf_model.specs.Checking.{check_line}
 use Rattle.elf_model.specs.Style.{Style}
-use Rattle.elf_model.specs.declared.states.FileState.{FileState}
-use Rattle.elf_source.specs.Output.{Puts, Written}
-use Rattle.elf_source.specs.Source.{Counting}
+use Rattle.elf_model.specs.declared.states.FileStatus.{FileStatus}
+use Rattle.elf_source.specs.Output.{OutPuts, OutState}
+use Rattle.elf_source.specs.Source.{CountedState}
 use Rattle.elf_source.specs.declared.faults.OutFault.{OutFault}
 use Rattle.elf_headers.specs.Permitted.{style_of}
 use Rattle.elf_headers.specs.declared.caps.Caps.{Caps}
@@ -14,7 +14,7 @@ use Rattle.elf_each_file.specs.Checked.{AsksNoMore, FindsState, check_ceiling, c
 use Rattle.elf_each_file.specs.Members.{FindsSorted, sorted_ceiling, sorted_cost}
 
 -- the state that is found of a file: that of its listing, or where archives are gone into by what it is
-abbrev pub Finds : (members : Bool) → Caps → ℕ → List ℕ → FileState → Type 0
+abbrev pub Finds : (members : Bool) → Caps → ℕ → List ℕ → FileStatus → Type 0
 Finds true = FindsSorted
 Finds false = FindsState
 
@@ -31,11 +31,11 @@ ceiling_of_check false = check_ceiling
 -- THE CHECK of a file among many, by its source and the output before and after: the line of the state that its own listing
 -- has where the file is known, unread only where a read failed, and the status that this calls for; no more is asked of the
 -- source than the listing's cost, and than the budget of a file
-pub record TellsState (members : Bool) (caps : Caps) (parts : ℕ) (path : List ℕ) (before after : Counting) (old new : Written) (answer : Result ℕ OutFault) : Type 0 where
-  pub state : FileState
+pub record ReturnsState (members : Bool) (caps : Caps) (parts : ℕ) (path : List ℕ) (before after : CountedState) (old new : OutState) (answer : Result ℕ OutFault) : Type 0 where
+  pub state : FileStatus
   pub found : (file : List ℕ) → before.seen.file ≡ Some file → Finds members caps parts file state
   pub read : FailsRead before after state
-  pub puts : Puts old new answer (check_line caps.style.format state path)
+  pub puts : OutPuts old new answer (check_line caps.style.format state path)
   pub status : IfOk answer (λ status. status ≡ state_status state)
   pub cost : (file : List ℕ) → before.seen.file ≡ Some file → after.asked ≤ before.asked + cost_of_check members caps file caps.limits.headers (style_of caps.style) parts
   pub asks : AsksNoMore (ceiling_of_check members before.seen.size caps.limits.headers (style_of caps.style)) caps.limits.budget before after

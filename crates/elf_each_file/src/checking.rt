@@ -2,10 +2,10 @@
 ghost use Rattle.std.specs.Prelude.{◌≡◌, ◌≤◌, ◌^◌};
 ghost use Rattle.elf_each_file.specs.Checked.{ChecksFile, FindsState, check_ceiling, check_cost};
 
-use elf_headers::{Caps, HeaderStore, Stop};
+use elf_headers::{Caps, HeaderStore, RunFault};
 use elf_listing::show;
-use elf_many::{refused_state, short_state};
-use elf_model::FileState;
+use elf_many::{refused_state, short_file_status};
+use elf_model::FileStatus;
 use elf_record::Parts;
 use elf_source::{Counted, NullSink, Out, Source};
 
@@ -22,22 +22,22 @@ pub fn check<S: Source>(
     store: &mut HeaderStore,
     caps: Caps,
     parts: Parts,
-) -> FileState
+) -> FileStatus
     requires { (store.old.slots ≡ caps.limits.headers) × (src.old.asked ≤ 2 ^ 127) }
     ensures { ChecksFile store.old.slots store.new.slots caps.entry parts.0 src.old src.new result
         FindsState check_cost check_ceiling }
 {
     if src.length() < HEADER_BYTES {
-        return short_state(src, caps.limits.budget);
+        return short_file_status(src, caps.limits.budget);
     }
     let mut out = Out::new(NullSink);
     let listed = show(src, store, caps, parts, &mut out);
     let _sink = out.into_inner();
     match listed {
-        Ok(()) => FileState::Ok,
-        Err(Stop::Refused(refusal)) => refused_state(refusal),
-        Err(Stop::Source { .. }) => FileState::Unread,
+        Ok(()) => FileStatus::Ok,
+        Err(RunFault::Refused(refusal)) => refused_state(refusal),
+        Err(RunFault::Source { .. }) => FileStatus::Unread,
         // Not reached: the sink never fails.
-        Err(Stop::Out(_)) => FileState::Unread,
+        Err(RunFault::Out(_)) => FileStatus::Unread,
     }
 }

@@ -8,15 +8,15 @@ use crate::checking::check;
 use crate::sorted::check_sorted;
 use elf_headers::{Caps, HeaderStore};
 use elf_lines::show_check;
-use elf_many::{EachFile, status};
-use elf_model::FileState;
+use elf_many::{FileVisitor, status};
+use elf_model::FileStatus;
 use elf_record::Parts;
-use elf_source::{Counted, HoldingSink, Out, OutFault, RangeSource, Sink, Source};
+use elf_source::{Counted, DeferredSink, Out, OutFault, RangeSource, Sink, Source};
 use std::marker::Model;
 
 /// The rule by which files are checked.
 #[derive(Clone, Copy)]
-pub struct CheckRule {
+pub struct CheckOptions {
     /// How much of the file may be read, and how rows of its listing are shown.
     pub caps: Caps<'static>,
     /// The parts of its listing that count.
@@ -27,46 +27,46 @@ pub struct CheckRule {
 
 /// Checks files, and writes the line of each: what its own listing ends with, within what is asked for.
 #[derive(Drop)]
-pub struct Checks<'a> {
+pub struct CheckFiles<'a> {
     store: HeaderStore<'a>,
-    rule: CheckRule,
+    rule: CheckOptions,
 }
 
-impl<'a> Model for Checks<'a> {
+impl<'a> Model for CheckFiles<'a> {
     ghost use Rattle.std.specs.Prelude.{◌≡◌};
-    ghost use Rattle.elf_each_file.specs.declared.checks.CheckRule.{CheckRule};
+    ghost use Rattle.elf_each_file.specs.declared.checks.CheckOptions.{CheckOptions};
 
-    ghost Value = { CheckRule };
+    ghost Value = { CheckOptions };
 
     ghost view = { λ c. c.rule };
 
     ghost invariant = { λ c. c.store.slots ≡ c.rule.caps.limits.headers };
 }
 
-impl<'a> Checks<'a> {
+impl<'a> CheckFiles<'a> {
     /// A check by a rule, with a store, which has a slot for each header that the rule permits.
-    pub fn new(store: HeaderStore<'a>, rule: CheckRule) -> Self
+    pub fn new(store: HeaderStore<'a>, rule: CheckOptions) -> Self
         requires { store.slots ≡ rule.caps.limits.headers }
         ensures { result ≡ rule }
     {
-        Checks { store, rule }
+        CheckFiles { store, rule }
     }
 }
 
-impl<'a> EachFile for Checks<'a> {
-    type Rule = CheckRule;
+impl<'a> FileVisitor for CheckFiles<'a> {
+    type Rule = CheckOptions;
 
-    ghost use Rattle.elf_each_file.specs.ToldChecks.{TellsState};
+    ghost use Rattle.elf_each_file.specs.ToldChecks.{ReturnsState};
 
     ghost rule = { λ c. c };
 
-    ghost tells = { λ rule path. TellsState rule.members rule.caps rule.parts.0 path };
+    ghost tells = { λ rule path. ReturnsState rule.members rule.caps rule.parts.0 path };
 
     fn tell<S: Source, W: Sink>(
         &mut self,
         src: &mut Counted<RangeSource<S>>,
         path: &[u8],
-        out: &mut Out<HoldingSink<W>>,
+        out: &mut Out<DeferredSink<W>>,
     ) -> Result<u8, OutFault> {
         let state = find_state(src, &mut self.store, &self.rule);
         show_check(state, path, self.rule.caps.style.format, out)?;
@@ -78,8 +78,8 @@ impl<'a> EachFile for Checks<'a> {
 fn find_state<S: Source>(
     src: &mut Counted<RangeSource<S>>,
     store: &mut HeaderStore,
-    rule: &CheckRule,
-) -> FileState
+    rule: &CheckOptions,
+) -> FileStatus
     requires small { (store.old.slots ≡ rule.now.caps.limits.headers) × (src.old.asked ≤ 2 ^ 126) }
     requires whole { IsAll src.old }
     ensures { ChecksFile store.old.slots store.new.slots rule.now.caps rule.now.parts.0

@@ -1,98 +1,98 @@
 //! The listing of each of many files.
 ghost use Rattle.std.specs.Prelude.{◌≡◌, true, false};
 ghost use Rattle.elf_each_file.specs.ToldListings.{LeavesLimits, EndsListing, PutsUnread};
-ghost use Rattle.elf_model.specs.FileLists.{budget_behind};
-ghost use Rattle.elf_model.specs.declared.states.FileSort.TheVariants.{Foreign};
+ghost use Rattle.elf_model.specs.FileLists.{budget_after};
+ghost use Rattle.elf_model.specs.declared.states.FileMagic.TheVariants.{Foreign};
 
-use crate::fronts::{find_sort, front_bytes};
-use crate::headed::list_headed;
-use crate::rule::ListRule;
-use elf_headers::{Caps, HeaderStore, Limits, Stop};
+use crate::fronts::{find_file_type, front_bytes};
+use crate::headed::list_with_path_line;
+use crate::rule::ListOptions;
+use elf_headers::{Caps, HeaderStore, Limits, RunFault};
 use elf_lines::show_check;
-use elf_many::{EachFile, status};
-use elf_model::{FileSort, FileState, Format};
-use elf_source::{Counted, HoldingSink, Out, OutFault, RangeSource, Sink, Source};
+use elf_many::{FileVisitor, status};
+use elf_model::{FileMagic, FileStatus, Format};
+use elf_source::{Counted, DeferredSink, Out, OutFault, RangeSource, Sink, Source};
 use std::marker::Model;
 
 /// Lists files: for each the line of its path, and behind it its listing, within what is asked for.
 #[derive(Drop)]
-pub struct FileLists<'a> {
+pub struct ListFiles<'a> {
     store: HeaderStore<'a>,
-    rule: ListRule<'a>,
+    rule: ListOptions<'a>,
 }
 
-impl<'a> Model for FileLists<'a> {
+impl<'a> Model for ListFiles<'a> {
     ghost use Rattle.std.specs.Prelude.{◌≡◌};
-    ghost use Rattle.elf_each_file.specs.declared.rule.ListRule.{ListRule};
+    ghost use Rattle.elf_each_file.specs.declared.rule.ListOptions.{ListOptions};
 
-    ghost Value = { ListRule };
+    ghost Value = { ListOptions };
 
     ghost view = { λ f. f.rule };
 
     ghost invariant = { λ f. f.store.slots ≡ f.rule.caps.limits.headers };
 }
 
-impl<'a> FileLists<'a> {
+impl<'a> ListFiles<'a> {
     /// Listings by a rule, with a store, which has a slot for each header that the rule permits.
-    pub fn new(store: HeaderStore<'a>, rule: ListRule<'a>) -> Self
+    pub fn new(store: HeaderStore<'a>, rule: ListOptions<'a>) -> Self
         requires { store.slots ≡ rule.caps.limits.headers }
         ensures { result ≡ rule.entry }
     {
-        FileLists { store, rule }
+        ListFiles { store, rule }
     }
 }
 
-impl<'a> EachFile for FileLists<'a> {
-    type Rule = ListRule<'a>;
+impl<'a> FileVisitor for ListFiles<'a> {
+    type Rule = ListOptions<'a>;
 
-    ghost use Rattle.elf_each_file.specs.ToldListings.{TellsListing};
+    ghost use Rattle.elf_each_file.specs.ToldListings.{ReturnsListing};
 
     ghost rule = { λ f. f };
 
-    ghost tells = { TellsListing };
+    ghost tells = { ReturnsListing };
 
     fn tell<S: Source, W: Sink>(
         &mut self,
         src: &mut Counted<RangeSource<S>>,
         path: &[u8],
-        out: &mut Out<HoldingSink<W>>,
+        out: &mut Out<DeferredSink<W>>,
     ) -> Result<u8, OutFault> {
         let format = self.rule.caps.style.format;
         let size = src.length();
-        let sort = match find_sort(src, self.rule.members, self.rule.caps.limits.budget) {
+        let sort = match find_file_type(src, self.rule.members, self.rule.caps.limits.budget) {
             Ok(sort) => sort,
-            Err(_) => return tell_unread(path, format, out),
+            Err(_) => return report_unread(path, format, out),
         };
-        if is_foreign(sort) {
+        if lacks_elf_magic(sort) {
             return Ok(0);
         }
         let rule = behind(&self.rule, size);
-        let listed = list_headed(src, &mut self.store, &rule, sort, path, out);
+        let listed = list_with_path_line(src, &mut self.store, &rule, sort, path, out);
         end_list(listed, path, format, out)
     }
 }
 
 /// Whether a file is of another kind.
-fn is_foreign(sort: FileSort) -> bool
+fn lacks_elf_magic(sort: FileMagic) -> bool
     ensures yes { result ≡ true → sort ≡ Foreign }
     ensures no { result ≡ false → sort ≡ Foreign → ⊥ }
 {
     match sort {
-        FileSort::Foreign => true,
-        FileSort::Elf | FileSort::Archive => false,
+        FileMagic::Foreign => true,
+        FileMagic::Elf | FileMagic::Archive => false,
     }
 }
 
 /// The rule for what stands behind the bytes that tell what a file of so many bytes is: of the budget is
 /// left what they did not take.
-fn behind<'n>(rule: &ListRule<'n>, size: u64) -> ListRule<'n>
+fn behind<'n>(rule: &ListOptions<'n>, size: u64) -> ListOptions<'n>
     ensures limits { LeavesLimits rule.now size result.caps.limits }
     ensures style { result.caps.style ≡ rule.now.caps.style }
     ensures parts { result.parts ≡ rule.now.parts }
 {
     let limits = rule.caps.limits;
-    let budget = budget_behind(limits.budget, front_bytes(rule.members, size));
-    ListRule {
+    let budget = budget_after(limits.budget, front_bytes(rule.members, size));
+    ListOptions {
         caps: Caps {
             limits: Limits {
                 headers: limits.headers,
@@ -106,8 +106,8 @@ fn behind<'n>(rule: &ListRule<'n>, size: u64) -> ListRule<'n>
 }
 
 /// What is left of a budget behind so many bytes; of one that has no room for them all of it.
-pub fn budget_behind(budget: Option<u64>, count: u64) -> Option<u64>
-    ensures { result ≡ budget_behind budget count }
+pub fn budget_after(budget: Option<u64>, count: u64) -> Option<u64>
+    ensures { result ≡ budget_after budget count }
 {
     match budget {
         None => None,
@@ -121,7 +121,7 @@ pub fn budget_behind(budget: Option<u64>, count: u64) -> Option<u64>
 /// # Errors
 /// A fault of the output.
 fn end_list<W: Sink>(
-    listed: Result<bool, Stop>,
+    listed: Result<bool, RunFault>,
     path: &[u8],
     format: Format,
     out: &mut Out<W>,
@@ -130,9 +130,9 @@ fn end_list<W: Sink>(
 {
     match listed {
         Ok(refused) => Ok(u8::from(refused)),
-        Err(Stop::Refused(_)) => Ok(1),
-        Err(Stop::Source { .. }) => tell_unread(path, format, out),
-        Err(Stop::Out(fault)) => Err(fault),
+        Err(RunFault::Refused(_)) => Ok(1),
+        Err(RunFault::Source { .. }) => report_unread(path, format, out),
+        Err(RunFault::Out(fault)) => Err(fault),
     }
 }
 
@@ -140,9 +140,9 @@ fn end_list<W: Sink>(
 ///
 /// # Errors
 /// A fault of the output, with a front of the line written.
-fn tell_unread<W: Sink>(path: &[u8], format: Format, out: &mut Out<W>) -> Result<u8, OutFault>
+fn report_unread<W: Sink>(path: &[u8], format: Format, out: &mut Out<W>) -> Result<u8, OutFault>
     ensures { PutsUnread format path.now out.old out.new result }
 {
-    show_check(FileState::Unread, path, format, out)?;
-    Ok(status(FileState::Unread))
+    show_check(FileStatus::Unread, path, format, out)?;
+    Ok(status(FileStatus::Unread))
 }

@@ -6,8 +6,8 @@ ghost use Rattle.elf_each_file.specs.Checked.{AsksNoMore};
 ghost use Rattle.elf_each_file.specs.Found.{FindsWithin, file_traits_ceiling, file_traits_cost};
 
 use elf_headers::{Fault, HeaderStore, Limits};
-use elf_many::{refused_state, short_state};
-use elf_model::{FileState, Traits};
+use elf_many::{refused_state, short_file_status};
+use elf_model::{FileStatus, Traits};
 use elf_source::{Counted, Source};
 use elf_traits::find_traits;
 
@@ -24,7 +24,7 @@ pub fn traits_within<S: Source>(
     src: &mut Counted<S>,
     store: &mut HeaderStore,
     limits: Limits,
-) -> Result<Traits, FileState>
+) -> Result<Traits, FileStatus>
     requires { (store.old.slots ≡ limits.headers) × (src.old.asked ≤ 2 ^ 127) }
     ensures slots { store.new.slots ≡ store.old.slots }
     ensures keeps { Keeps src.old.seen src.new.seen }
@@ -39,7 +39,7 @@ pub fn traits_within<S: Source>(
         src.old src.new }
 {
     if src.length() < HEADER_BYTES {
-        return Err(short_state(src, limits.budget));
+        return Err(short_file_status(src, limits.budget));
     }
     src.limit(limits.budget);
     let found = find_traits(src, store);
@@ -47,6 +47,6 @@ pub fn traits_within<S: Source>(
     match found {
         Ok(traits) => Ok(traits),
         Err(Fault::Refused(refusal)) => Err(refused_state(refusal)),
-        Err(Fault::Source { .. }) => Err(FileState::Unread),
+        Err(Fault::Source { .. }) => Err(FileStatus::Unread),
     }
 }

@@ -2,13 +2,13 @@
 ghost use Rattle.std.specs.Prelude.{◌≡◌, ◌+◌, ◌≤◌, ◌==◌, ℕ, List, None, Some, IfErr, IfOk, if◌then◌else◌};
 ghost use Rattle.elf_model.specs.Archive.{ARCHIVE_MAGIC};
 ghost use Rattle.elf_model.specs.Bytes.{field};
-ghost use Rattle.elf_model.specs.FileLists.{file_sort, front_size, permits_bytes};
-ghost use Rattle.elf_model.specs.Records.{begins_as_elf};
-ghost use Rattle.elf_model.specs.declared.states.FileSort.TheVariants.{Archive, Elf, Foreign};
-ghost use Rattle.elf_source.specs.Source.{Faults, Fills, Keeps};
+ghost use Rattle.elf_model.specs.FileLists.{file_magic, front_size, may_read_bytes};
+ghost use Rattle.elf_model.specs.Records.{has_elf_magic};
+ghost use Rattle.elf_model.specs.declared.states.FileMagic.TheVariants.{Archive, Elf, Foreign};
+ghost use Rattle.elf_source.specs.Source.{IsSourceFault, FillsUnlimited, Keeps};
 ghost use Rattle.elf_each_file.specs.Fronts.{front_asked};
 
-use elf_model::FileSort;
+use elf_model::FileMagic;
 use elf_record::{u64_at, word};
 use elf_source::{Counted, Source, SourceFault};
 
@@ -27,28 +27,28 @@ const ARCHIVE_MAGIC_BYTES: u64 = 8;
 ///
 /// # Errors
 /// A fault of the source.
-#[tactic(auto, unfolding(elf_model::specs::FileLists::file_sort))]
-pub fn find_sort<S: Source>(
+#[tactic(auto, unfolding(elf_model::specs::FileLists::file_magic))]
+pub fn find_file_type<S: Source>(
     src: &mut Counted<S>,
     members: bool,
     budget: Option<u64>,
-) -> Result<FileSort, SourceFault>
+) -> Result<FileMagic, SourceFault>
     ensures keeps { Keeps src.old.seen src.new.seen }
     ensures shows { src.new.hides ≡ src.old.hides }
     ensures free { src.new.most ≡ None }
     ensures asks { src.new.asked ≤ src.old.asked + front_asked members budget src.old.seen.size }
-    ensures fails { IfErr result (Faults src.old.seen src.new.seen) }
+    ensures fails { IfErr result (IsSourceFault src.old.seen src.new.seen) }
     ensures finds { (file : List ℕ) → src.old.seen.file ≡ Some file →
-        IfOk result (λ sort. sort ≡ file_sort members budget file) }
+        IfOk result (λ sort. sort ≡ file_magic members budget file) }
 {
     src.limit(None);
     let size = src.length();
     if size < ELF_MAGIC_BYTES {
-        return Ok(FileSort::Foreign);
+        return Ok(FileMagic::Foreign);
     }
     let front = front_bytes(members, size);
-    if !permits_bytes(budget, front) {
-        return Ok(FileSort::Elf);
+    if !may_read_bytes(budget, front) {
+        return Ok(FileMagic::Elf);
     }
     let sort = if front == ARCHIVE_MAGIC_BYTES {
         sort_with_members(src)
@@ -71,8 +71,8 @@ pub fn front_bytes(members: bool, size: u64) -> u64
 }
 
 /// Whether a budget has so many bytes.
-fn permits_bytes(budget: Option<u64>, count: u64) -> bool
-    ensures { result ≡ permits_bytes budget count }
+fn may_read_bytes(budget: Option<u64>, count: u64) -> bool
+    ensures { result ≡ may_read_bytes budget count }
 {
     match budget {
         None => true,
@@ -84,19 +84,19 @@ fn permits_bytes(budget: Option<u64>, count: u64) -> bool
 ///
 /// # Errors
 /// A fault of the source.
-fn sort_alone<S: Source>(src: &mut Counted<S>) -> Result<FileSort, SourceFault>
+fn sort_alone<S: Source>(src: &mut Counted<S>) -> Result<FileMagic, SourceFault>
     requires { 4 ≤ src.old.seen.size }
-    ensures fills { Fills src.old src.new 4 }
-    ensures fails { IfErr result (Faults src.old.seen src.new.seen) }
+    ensures fills { FillsUnlimited src.old src.new 4 }
+    ensures fails { IfErr result (IsSourceFault src.old.seen src.new.seen) }
     ensures finds { (file : List ℕ) → src.old.seen.file ≡ Some file →
-        IfOk result (λ sort. sort ≡ (if begins_as_elf file then Elf else Foreign)) }
+        IfOk result (λ sort. sort ≡ (if has_elf_magic file then Elf else Foreign)) }
 {
     let mut bytes = [0; 4];
     src.fill(0, &mut bytes)?;
     if word(&bytes) == ELF_MAGIC {
-        return Ok(FileSort::Elf);
+        return Ok(FileMagic::Elf);
     }
-    Ok(FileSort::Foreign)
+    Ok(FileMagic::Foreign)
 }
 
 /// What a file of eight bytes or more is, where archives are gone into.
@@ -104,23 +104,23 @@ fn sort_alone<S: Source>(src: &mut Counted<S>) -> Result<FileSort, SourceFault>
 /// # Errors
 /// A fault of the source.
 #[tactic(auto, using(crate::proofs::FrontLaws::front_word, crate::proofs::FrontLaws::front_words))]
-fn sort_with_members<S: Source>(src: &mut Counted<S>) -> Result<FileSort, SourceFault>
+fn sort_with_members<S: Source>(src: &mut Counted<S>) -> Result<FileMagic, SourceFault>
     requires { 8 ≤ src.old.seen.size }
-    ensures fills { Fills src.old src.new 8 }
-    ensures fails { IfErr result (Faults src.old.seen src.new.seen) }
+    ensures fills { FillsUnlimited src.old src.new 8 }
+    ensures fails { IfErr result (IsSourceFault src.old.seen src.new.seen) }
     ensures finds { (file : List ℕ) → src.old.seen.file ≡ Some file →
-        IfOk result (λ sort. sort ≡ (if begins_as_elf file then Elf
+        IfOk result (λ sort. sort ≡ (if has_elf_magic file then Elf
         else if field file 0 8 == ARCHIVE_MAGIC then Archive else Foreign)) }
 {
     let mut bytes = [0; 8];
     src.fill(0, &mut bytes)?;
     if first_word(&bytes) == ELF_MAGIC {
-        return Ok(FileSort::Elf);
+        return Ok(FileMagic::Elf);
     }
     if u64_at(&bytes, 0) == ARCHIVE_MAGIC {
-        return Ok(FileSort::Archive);
+        return Ok(FileMagic::Archive);
     }
-    Ok(FileSort::Foreign)
+    Ok(FileMagic::Foreign)
 }
 
 /// The number in the first four of eight bytes.

@@ -6,8 +6,8 @@ ghost use Rattle.elf_each_file.specs.Checked.{ChecksFile};
 ghost use Rattle.elf_each_file.specs.Members.{FindsArchive};
 
 use elf_archive::find_fault;
-use elf_headers::{Caps, HeaderStore, Stop};
-use elf_model::FileState;
+use elf_headers::{Caps, HeaderStore, RunFault};
+use elf_model::FileStatus;
 use elf_record::Parts;
 use elf_source::{Counted, RangeSource, Source};
 
@@ -22,17 +22,17 @@ pub fn check_archive<S: Source>(
     store: &mut HeaderStore,
     caps: Caps,
     parts: Parts,
-) -> FileState
+) -> FileStatus
     requires small { (store.old.slots ≡ caps.limits.headers) × (src.old.asked ≤ 2 ^ 127) }
     requires whole { IsAll src.old }
     ensures { ChecksFile store.old.slots store.new.slots caps.entry parts.0 src.old src.new result
         FindsArchive archive_cost archive_ceiling }
 {
     match find_fault(src, store, caps, parts) {
-        Ok(()) => FileState::Ok,
-        Err(Stop::Refused(refusal)) => FileState::Refused(refusal),
-        Err(Stop::Source { .. }) => FileState::Unread,
+        Ok(()) => FileStatus::Ok,
+        Err(RunFault::Refused(refusal)) => FileStatus::Refused(refusal),
+        Err(RunFault::Source { .. }) => FileStatus::Unread,
         // Not reached: nothing is put out.
-        Err(Stop::Out(_)) => FileState::Unread,
+        Err(RunFault::Out(_)) => FileStatus::Unread,
     }
 }

@@ -3,19 +3,19 @@ ghost use Rattle.std.specs.Prelude.{◌≡◌, ◌≤◌, length};
 ghost use Rattle.elf_fields.specs.Fronts.{front_of};
 ghost use Rattle.elf_model.specs.FileLists.{path_front, path_line};
 ghost use Rattle.elf_archive.specs.Listed.{HoldsOrBreaks};
-ghost use Rattle.elf_source.specs.Output.{Puts};
+ghost use Rattle.elf_source.specs.Output.{OutPuts};
 
-use elf_archive::HELD_LINE_BYTES;
-use elf_fields::{Columns, LineFront, Object, Render, begin_named, show_named};
+use elf_archive::DEFERRED_LINE_BYTES;
+use elf_fields::{Columns, LinePrefix, Object, Render, begin_named, show_named};
 use elf_model::Format;
-use elf_source::{HeldLine, HoldingSink, Out, OutFault, Sink, SliceSink};
+use elf_source::{DeferredLine, DeferredSink, Out, OutFault, Sink, SliceSink};
 
 /// Room for the lines that a list holds back at most, the line of a path and of a member, and a byte more.
-pub const HELD_BYTES: usize = 2 * HELD_LINE_BYTES;
+pub const HELD_BYTES: usize = 2 * DEFERRED_LINE_BYTES;
 
 /// The `@` line of a file up to its path.
 #[tactic(auto, unfolding(elf_model::specs::FileLists::path_front))]
-fn path_row<R: Render>(front: &mut LineFront)
+fn path_row<R: Render>(front: &mut LinePrefix)
     ensures front { front_of front.new ≡ path_front R.FORMAT }
     ensures key { length front.new.key.now ≤ 16 }
 {
@@ -27,9 +27,9 @@ fn path_row<R: Render>(front: &mut LineFront)
 /// # Errors
 /// A fault of the output, with a front of the line written.
 pub fn show_path<W: Sink>(path: &[u8], format: Format, out: &mut Out<W>) -> Result<(), OutFault>
-    ensures puts { Puts out.old out.new result (path_line format path.now) }
+    ensures puts { OutPuts out.old out.new result (path_line format path.now) }
 {
-    let mut front = LineFront::new();
+    let mut front = LinePrefix::new();
     match format {
         Format::Columns => path_row::<Columns>(&mut front),
         Format::Object => path_row::<Object>(&mut front),
@@ -43,19 +43,19 @@ pub fn show_path<W: Sink>(path: &[u8], format: Format, out: &mut Out<W>) -> Resu
 /// A fault of the output, with nothing of the line taken: it failed before, or fails for good since the line
 /// has no room in it, which that of a path of at most 4,096 bytes has.
 #[inline(never)]
-pub fn hold_path<W: Sink>(
+pub fn defer_path_line<W: Sink>(
     path: &[u8],
     format: Format,
-    out: &mut Out<HoldingSink<W>>,
-) -> Result<HeldLine, OutFault>
+    out: &mut Out<DeferredSink<W>>,
+) -> Result<DeferredLine, OutFault>
     ensures holds { HoldsOrBreaks out.old out.new result (path_line format path.now) }
 {
-    let mut buffer = [0; HELD_LINE_BYTES];
+    let mut buffer = [0; DEFERRED_LINE_BYTES];
     let mut line = Out::new(SliceSink::new(&mut buffer));
     let shown = show_path(path, format, &mut line);
     let sink = line.into_inner();
     match shown {
-        Ok(()) => out.hold_line(sink.written()),
-        Err(_) => Err(out.break_off()),
+        Ok(()) => out.defer_line(sink.written()),
+        Err(_) => Err(out.fail_output()),
     }
 }

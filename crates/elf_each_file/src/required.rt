@@ -5,12 +5,12 @@ ghost use Rattle.elf_wanted.specs.Required.{required_word, required_words};
 
 use elf_lines::column_word;
 use elf_model::{ProgramKind, TraitColumn, Traits};
-use elf_wanted::RequiredWord;
+use elf_wanted::RequiredTrait;
 
 /// The column of the first of some words that a file lacks, if it lacks one. None is required of a file
 /// that is neither a program nor a library.
 #[tactic(auto, unfolding(elf_model::specs::TraitWords::lacking, elf_model::specs::TraitWords::first_lacking))]
-pub fn lacking(traits: Traits, required: &[RequiredWord<'_>]) -> Option<TraitColumn>
+pub fn lacking(traits: Traits, required: &[RequiredTrait<'_>]) -> Option<TraitColumn>
     ensures { result ≡ lacking traits (required_words required.now) }
 {
     if !is_program(traits.kind) {
@@ -25,7 +25,7 @@ pub fn lacking(traits: Traits, required: &[RequiredWord<'_>]) -> Option<TraitCol
 }
 
 /// Whether a file has the word that is required of a column.
-fn has_word(traits: Traits, wanted: &RequiredWord<'_>) -> bool
+fn has_word(traits: Traits, wanted: &RequiredTrait<'_>) -> bool
     ensures { result ≡ has_word traits (required_word wanted.now) }
 {
     let word = column_word(traits, wanted.column).as_bytes();

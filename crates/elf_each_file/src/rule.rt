@@ -4,7 +4,7 @@ use elf_record::Parts;
 
 /// The rule by which files are listed.
 #[derive(Clone, Copy)]
-pub struct ListRule<'n> {
+pub struct ListOptions<'n> {
     /// How much of the file may be read, and how rows of its listing are shown.
     pub caps: Caps<'n>,
     /// The parts of its listing.

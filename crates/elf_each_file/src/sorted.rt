@@ -3,14 +3,14 @@ ghost use Rattle.std.specs.Prelude.{◌≡◌, ◌≤◌, ◌^◌};
 ghost use Rattle.elf_archive.specs.Listed.{IsAll};
 ghost use Rattle.elf_model.specs.ArchiveCost.{archive_ceiling};
 ghost use Rattle.elf_each_file.specs.Checked.{ChecksFile};
-ghost use Rattle.elf_each_file.specs.Members.{FindsBySort, FindsSorted, IsCapsBehind};
+ghost use Rattle.elf_each_file.specs.Members.{FindsBySort, FindsSorted, IsCapsAfter};
 ghost use Rattle.elf_each_file.specs.Members.{cost_by, sorted_ceiling, sorted_cost};
 
 use crate::checking::check;
 use crate::members::check_archive;
-use crate::{budget_behind, find_sort, front_bytes};
+use crate::{budget_after, find_file_type, front_bytes};
 use elf_headers::{Caps, HeaderStore, Limits};
-use elf_model::{FileSort, FileState};
+use elf_model::{FileMagic, FileStatus};
 use elf_record::Parts;
 use elf_source::{Counted, RangeSource, Source};
 
@@ -22,40 +22,40 @@ pub fn check_sorted<S: Source>(
     store: &mut HeaderStore,
     caps: Caps,
     parts: Parts,
-) -> FileState
+) -> FileStatus
     requires small { (store.old.slots ≡ caps.limits.headers) × (src.old.asked ≤ 2 ^ 126) }
     requires whole { IsAll src.old }
     ensures { ChecksFile store.old.slots store.new.slots caps.entry parts.0 src.old src.new result
         FindsSorted (sorted_cost caps.entry) sorted_ceiling }
 {
     let size = src.length();
-    let sort = match find_sort(src, true, caps.limits.budget) {
+    let sort = match find_file_type(src, true, caps.limits.budget) {
         Ok(sort) => sort,
-        Err(_) => return FileState::Unread,
+        Err(_) => return FileStatus::Unread,
     };
     let left = behind(caps, size);
-    check_by_sort(src, store, left, parts, sort)
+    check_by_type(src, store, left, parts, sort)
 }
 
 /// Checks one file of a sort. Afterwards no limit is set.
-fn check_by_sort<S: Source>(
+fn check_by_type<S: Source>(
     src: &mut Counted<RangeSource<S>>,
     store: &mut HeaderStore,
     caps: Caps,
     parts: Parts,
-    sort: FileSort,
-) -> FileState
+    sort: FileMagic,
+) -> FileStatus
     requires small { (store.old.slots ≡ caps.limits.headers) × (src.old.asked ≤ 2 ^ 127) }
     requires whole { IsAll src.old }
     ensures { ChecksFile store.old.slots store.new.slots caps.entry parts.0 src.old src.new result
         (FindsBySort sort) (cost_by sort) archive_ceiling }
 {
     match sort {
-        FileSort::Elf => check(src, store, caps, parts),
-        FileSort::Archive => check_archive(src, store, caps, parts),
-        FileSort::Foreign => {
+        FileMagic::Elf => check(src, store, caps, parts),
+        FileMagic::Archive => check_archive(src, store, caps, parts),
+        FileMagic::Foreign => {
             src.limit(None);
-            FileState::NoElf
+            FileStatus::NoElf
         }
     }
 }
@@ -63,12 +63,12 @@ fn check_by_sort<S: Source>(
 /// The caps for what stands behind the bytes that tell what a file of so many bytes is: of the budget is
 /// left what they did not take.
 fn behind<'n>(caps: Caps<'n>, size: u64) -> Caps<'n>
-    ensures { IsCapsBehind caps.entry size result }
+    ensures { IsCapsAfter caps.entry size result }
 {
     Caps {
         limits: Limits {
             headers: caps.limits.headers,
-            budget: budget_behind(caps.limits.budget, front_bytes(true, size)),
+            budget: budget_after(caps.limits.budget, front_bytes(true, size)),
         },
         style: caps.style,
     }

@@ -2,18 +2,18 @@
 ghost use Rattle.std.specs.Prelude.{◌≡◌, ◌+◌, ◌≤◌, ◌^◌, ℕ, List, Some, IfErr};
 ghost use Rattle.elf_archive.specs.Listed.{ArchiveSays, IsAll};
 ghost use Rattle.elf_headers.specs.Permitted.{style_of};
-ghost use Rattle.elf_listing.specs.Reports.{Leaves};
+ghost use Rattle.elf_listing.specs.Reports.{KeepsSourceUnlimited};
 ghost use Rattle.elf_each_file.specs.Checked.{AsksNoMore};
 ghost use Rattle.elf_each_file.specs.Lists.{ListsSort, sort_ceiling, sort_cost};
 ghost use Rattle.elf_model.specs.FileLists.{members_alone};
-ghost use Rattle.elf_source.specs.Growth.{Grows};
+ghost use Rattle.elf_source.specs.Growth.{OutGrows};
 
 use elf_archive::show_archive;
-use elf_headers::{Caps, HeaderStore, Stop, Style};
+use elf_headers::{Caps, HeaderStore, RunFault, Style};
 use elf_listing::show;
-use elf_model::FileSort;
+use elf_model::FileMagic;
 use elf_record::Parts;
-use elf_source::{Counted, HoldingSink, Out, RangeSource, Sink, Source};
+use elf_source::{Counted, DeferredSink, Out, RangeSource, Sink, Source};
 
 /// Writes the listing of a file of a sort: of an ELF file its own, of an archive that of its members, whose
 /// lines stand alone where all rows are shown, of another file nothing. The last line is that of its refusal, if it has one. Answers whether the listing
@@ -22,19 +22,19 @@ use elf_source::{Counted, HoldingSink, Out, RangeSource, Sink, Source};
 ///
 /// # Errors
 /// As of [`show`] and [`show_archive`].
-pub fn list_sort<S: Source, W: Sink>(
+pub fn list_by_type<S: Source, W: Sink>(
     src: &mut Counted<RangeSource<S>>,
     store: &mut HeaderStore,
     caps: Caps,
     parts: Parts,
-    sort: FileSort,
-    out: &mut Out<HoldingSink<W>>,
-) -> Result<bool, Stop>
+    sort: FileMagic,
+    out: &mut Out<DeferredSink<W>>,
+) -> Result<bool, RunFault>
     requires small { (store.old.slots ≡ caps.limits.headers) × (src.old.asked ≤ 2 ^ 127) }
     requires whole { IsAll src.old }
     ensures slots { store.new.slots ≡ store.old.slots }
-    ensures grows { Grows out.old out.new }
-    ensures leaves { Leaves src.old src.new }
+    ensures grows { OutGrows out.old out.new }
+    ensures leaves { KeepsSourceUnlimited src.old src.new }
     ensures says { IfErr result (ArchiveSays src.old src.new out.new) }
     ensures lists { (file : List ℕ) → src.old.seen.file ≡ Some file →
         ListsSort sort file caps.entry.limits (style_of caps.entry.style) parts.0
@@ -46,15 +46,15 @@ pub fn list_sort<S: Source, W: Sink>(
         (style_of caps.entry.style)) caps.entry.limits.budget src.old src.new }
 {
     match sort {
-        FileSort::Elf => {
+        FileMagic::Elf => {
             show(src, store, caps, parts, out)?;
             Ok(false)
         }
-        FileSort::Archive => {
+        FileMagic::Archive => {
             let alone = are_alone(&caps.style);
             show_archive(src, store, caps, parts, alone, out)
         }
-        FileSort::Foreign => {
+        FileMagic::Foreign => {
             src.limit(None);
             Ok(false)
         }

@@ -1,76 +1,76 @@
 //! The lines of each of many files.
 ghost use Rattle.std.specs.Prelude.{◌≡◌, IfOk};
-ghost use Rattle.elf_source.specs.Output.{Puts};
+ghost use Rattle.elf_source.specs.Output.{OutPuts};
 ghost use Rattle.elf_model.specs.TraitWords.{traits_status, traits_text};
 ghost use Rattle.elf_wanted.specs.Required.{required_words};
 
 use crate::finding::traits_within;
 use crate::required::lacking;
 use elf_headers::{HeaderStore, Limits};
-use elf_lines::{show_check, show_lacking, show_traits};
-use elf_many::{EachFile, status};
-use elf_model::{FileState, Format, Traits};
-use elf_source::{Counted, HoldingSink, Out, OutFault, RangeSource, Sink, Source};
-use elf_wanted::RequiredWord;
+use elf_lines::{show_check, show_missing_trait, show_traits};
+use elf_many::{FileVisitor, status};
+use elf_model::{FileStatus, Format, Traits};
+use elf_source::{Counted, DeferredSink, Out, OutFault, RangeSource, Sink, Source};
+use elf_wanted::RequiredTrait;
 use std::marker::Model;
 
 /// The rule by which files' traits are told of.
 #[derive(Clone, Copy)]
-pub struct TraitRule<'a> {
+pub struct TraitOptions<'a> {
     /// How much of a file may be read.
     pub limits: Limits,
     /// How lines are written.
     pub format: Format,
     /// The words that are required of a program or library.
-    pub required: &'a [RequiredWord<'a>],
+    pub required: &'a [RequiredTrait<'a>],
 }
 
 /// Tells how each of many files is hardened, and what it lacks of what is required.
 #[derive(Drop)]
-pub struct TraitLines<'a> {
+pub struct TraitReport<'a> {
     store: HeaderStore<'a>,
-    rule: TraitRule<'a>,
+    rule: TraitOptions<'a>,
 }
 
-impl<'a> Model for TraitLines<'a> {
+impl<'a> Model for TraitReport<'a> {
     ghost use Rattle.std.specs.Prelude.{◌≡◌};
-    ghost use Rattle.elf_each_file.specs.declared.trait_lines.TraitRule.{TraitRule};
+    ghost use Rattle.elf_each_file.specs.declared.trait_lines.TraitOptions.{TraitOptions};
 
-    ghost Value = { TraitRule };
+    ghost Value = { TraitOptions };
 
     ghost view = { λ t. t.rule };
 
     ghost invariant = { λ t. t.store.slots ≡ t.rule.limits.headers };
 }
 
-impl<'a> TraitLines<'a> {
+impl<'a> TraitReport<'a> {
     /// The lines by a rule, with a store, which has a slot for each header that the rule permits.
-    pub fn new(store: HeaderStore<'a>, rule: TraitRule<'a>) -> Self
+    pub fn new(store: HeaderStore<'a>, rule: TraitOptions<'a>) -> Self
         requires { store.slots ≡ rule.limits.headers }
         ensures { result ≡ rule.entry }
     {
-        TraitLines { store, rule }
+        TraitReport { store, rule }
     }
 }
 
-impl<'a> EachFile for TraitLines<'a> {
-    type Rule = TraitRule<'a>;
+impl<'a> FileVisitor for TraitReport<'a> {
+    type Rule = TraitOptions<'a>;
 
-    ghost use Rattle.elf_each_file.specs.ToldTraits.{TellsTraits};
+    ghost use Rattle.elf_each_file.specs.ToldTraits.{ReturnsTraits};
 
     ghost rule = { λ t. t };
 
-    ghost tells = { TellsTraits };
+    ghost tells = { ReturnsTraits };
 
     fn tell<S: Source, W: Sink>(
         &mut self,
         src: &mut Counted<RangeSource<S>>,
         path: &[u8],
-        out: &mut Out<HoldingSink<W>>,
+        out: &mut Out<DeferredSink<W>>,
     ) -> Result<u8, OutFault> {
         match traits_within(src, &mut self.store, self.rule.limits) {
             Ok(traits) => show_lines(traits, &self.rule, path, out),
-            Err(FileState::NoElf) => Ok(0),
+            Err(FileStatus::NoElf) => Ok(0),
             Err(state) => {
                 show_check(state, path, self.rule.format, out)?;
                 Ok(status(state))
@@ -87,11 +87,11 @@ impl<'a> EachFile for TraitLines<'a> {
 #[tactic(auto, unfolding(elf_model::specs::TraitWords::traits_text, elf_model::specs::TraitWords::traits_status))]
 fn show_lines<W: Sink>(
     traits: Traits,
-    rule: &TraitRule<'_>,
+    rule: &TraitOptions<'_>,
     path: &[u8],
     out: &mut Out<W>,
 ) -> Result<u8, OutFault>
-    ensures puts { Puts out.old out.new result
+    ensures puts { OutPuts out.old out.new result
         (traits_text rule.now.format traits (required_words rule.now.required.now) path.now) }
     ensures status { IfOk result
         (λ status. status ≡ traits_status traits (required_words rule.now.required.now)) }
@@ -99,7 +99,7 @@ fn show_lines<W: Sink>(
     show_traits(traits, path, rule.format, out)?;
     match lacking(traits, rule.required) {
         None => Ok(0),
-        Some(column) => match show_lacking(traits, column, rule.format, out) {
+        Some(column) => match show_missing_trait(traits, column, rule.format, out) {
             Ok(()) => Ok(1),
             Err(fault) => Err(fault),
         },

@@ -5,12 +5,12 @@ use Rattle.std.proofs.lemmas.List.{drop_all}
 use Rattle.std.proofs.lemmas.Bool.{cases_Bool}
 use Rattle.std.proofs.lemmas.Bool.Decides.{nat_tests}
 use Rattle.elf_model.specs.Lines.{name_byte_text}
-use Rattle.elf_fields.specs.Told.{told_byte, told_text}
+use Rattle.elf_fields.specs.Told.{reported_byte, reported_text}
 use Rattle.elf_fields.specs.Pieces.{TakesBefore}
 use Rattle.elf_fields.proofs.Pieces.{TakesBefore-front, TakesBefore-then}
 use Rattle.elf_model.specs.Text.{digit, hex}
-use Rattle.elf_source.specs.Output.{Written, Takes, TakesFront}
-use Rattle.elf_source.proofs.PutsLaws.{TakesFront-more}
+use Rattle.elf_source.specs.Output.{OutState, SinkTakes, SinkTakesPrefix}
+use Rattle.elf_source.proofs.PutsLaws.{SinkTakesPrefix-more}
 use Rattle.elf_endings.specs.Marked.{byte_beside, bytes_beside, told_beside}
 
 -- the bytes that are left are the next byte and those behind it
@@ -34,28 +34,28 @@ beside-same text marked same =
     rw is refl
 
 -- beside one of another length each newline stands as it is
-pub beside-other : (text marked : List ℕ) → length text ≢ length marked → told_beside text marked ≡ told_text text
+pub beside-other : (text marked : List ℕ) → length text ≢ length marked → told_beside text marked ≡ reported_text text
 unfolding told_beside
 beside-other text marked other =
     let is : (length text == length marked) ≡ false = grind (arith, nat_tests) in
     rw is refl
 
 -- the byte that is left next was told
-pub beside-more : {a b c : Written} {whole : List ℕ} (text marked : List ℕ) (i : ℕ) → i < length text → length text ≡ length marked
+pub beside-more : {a b c : OutState} {whole : List ℕ} (text marked : List ℕ) (i : ℕ) → i < length text → length text ≡ length marked
     → TakesBefore a b whole (bytes_beside (drop i text) (drop i marked))
-    → Takes b c (byte_beside (get_or text i 0) (get_or marked i 0))
+    → SinkTakes b c (byte_beside (get_or text i 0) (get_or marked i 0))
     → TakesBefore a c whole (bytes_beside (drop (i + 1) text) (drop (i + 1) marked))
 beside-more {a} {b} {c} {whole} text marked i inside same before took =
     TakesBefore-then (subst (TakesBefore a b whole) (beside-next text marked i inside same) before) (record { front = byte_beside (get_or text i 0) (get_or marked i 0); split = refl; takes = took })
 
 -- or a front of it
-pub beside-front : {a b c : Written} {whole : List ℕ} (text marked : List ℕ) (i : ℕ) → i < length text → length text ≡ length marked
+pub beside-front : {a b c : OutState} {whole : List ℕ} (text marked : List ℕ) (i : ℕ) → i < length text → length text ≡ length marked
     → TakesBefore a b whole (bytes_beside (drop i text) (drop i marked))
-    → TakesFront b c (byte_beside (get_or text i 0) (get_or marked i 0))
-    → TakesFront a c whole
+    → SinkTakesPrefix b c (byte_beside (get_or text i 0) (get_or marked i 0))
+    → SinkTakesPrefix a c whole
 beside-front {a} {b} {c} {whole} text marked i inside same before took =
     TakesBefore-front (subst (TakesBefore a b whole) (beside-next text marked i inside same) before)
-    (TakesFront-more (byte_beside (get_or text i 0) (get_or marked i 0)) (bytes_beside (drop (i + 1) text) (drop (i + 1) marked)) took)
+    (SinkTakesPrefix-more (byte_beside (get_or text i 0) (get_or marked i 0)) (bytes_beside (drop (i + 1) text) (drop (i + 1) marked)) took)
 
 -- a newline of a word
 pub newline-told : (byte mark : ℕ) → byte ≡ 10 → (mark == 10) ≡ false → codes "\\x0a" ≡ byte_beside byte mark
@@ -63,8 +63,8 @@ unfolding byte_beside name_byte_text hex digit
 newline-told byte mark is other = rw (is, other) refl
 
 -- a byte that is told alone
-pub byte-told : (byte mark : ℕ) → (byte ≡ 10 → mark ≡ 10) → told_text (byte ∷ []) ≡ byte_beside byte mark
-unfolding told_text told_byte byte_beside
+pub byte-told : (byte mark : ℕ) → (byte ≡ 10 → mark ≡ 10) → reported_text (byte ∷ []) ≡ byte_beside byte mark
+unfolding reported_text reported_byte byte_beside
 byte-told byte mark h = elim (cases_Bool (byte == 10)) [
   | inl is ↦
       let same : (mark == 10) ≡ true = let e : byte ≡ 10 = grind (arith, nat_tests) in let m : mark ≡ 10 = h e in grind (arith, nat_tests) in

@@ -1,20 +1,20 @@
 -- How a program ends: the exit status of a run, and the line on standard error.
 use Rattle.std.specs.Prelude.{ℕ, ◌≡◌, Bool, true, false, List, ◌++◌, Option, Result, Ok, Err, [], codes}
 use Rattle.std.specs.Io.KnownBytes.{Appends}
-use Rattle.elf_headers.specs.declared.stop.Stop.{Stop}
-use Rattle.elf_headers.specs.declared.stop.Stop.TheVariants.{Refused, Source, Out}
+use Rattle.elf_headers.specs.declared.stop.RunFault.{RunFault}
+use Rattle.elf_headers.specs.declared.stop.RunFault.TheVariants.{Refused, Source, Out}
 use Rattle.elf_listing_requests.specs.declared.faults.RequestFault.{RequestFault}
 use Rattle.elf_listing_requests.specs.declared.faults.RequestFault.TheVariants.{Words, BadName, NamesFull, BadItem, LayoutFull, LayoutRepeat, BadTrait, Memory}
 use Rattle.elf_endings.specs.declared.outputs.Ended.{Ended}
 use Rattle.elf_endings.specs.declared.outputs.Ended.TheVariants.{Status, Told, Unwritten}
 
-abbrev pub exit_status : Result ℕ Stop → ℕ
+abbrev pub exit_status : Result ℕ RunFault → ℕ
 exit_status (Ok status) = status
 exit_status (Err (Refused refusal)) = 1
 exit_status (Err (Source fault at)) = 3
 exit_status (Err (Out fault)) = 3
 
-abbrev pub error_line : Result ℕ Stop → List ℕ
+abbrev pub error_line : Result ℕ RunFault → List ℕ
 error_line (Ok status) = []
 error_line (Err (Refused refusal)) = []
 error_line (Err (Source fault at)) = codes "elfsee: read fault"
@@ -47,13 +47,13 @@ EndsWords fault status line = (status ≡ refused_status fault) × (line ≡ ref
 
 -- how a program ends whose output is written last: as its run, or, where the sink has failed, by a fault of the output; after
 -- a fault of the source by that
-abbrev pub Ends : Result ℕ Stop → Bool → ℕ → List ℕ → Type 0
+abbrev pub Ends : Result ℕ RunFault → Bool → ℕ → List ℕ → Type 0
 Ends (Err (Source fault at)) failed status line = (status ≡ 3) × (line ≡ codes "elfsee: read fault")
 Ends answer true status line = (status ≡ 3) × (line ≡ codes "elfsee: write fault")
 Ends answer false status line = (status ≡ exit_status answer) × (line ≡ error_line answer)
 
 -- whether what is left of an output is to be written: not after its fault
-abbrev pub wants_rest : Result ℕ Stop → Bool
+abbrev pub wants_rest : Result ℕ RunFault → Bool
 wants_rest (Err (Out fault)) = false
 wants_rest answer = true
 

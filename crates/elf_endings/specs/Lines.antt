@@ -1,10 +1,10 @@
 -- What a sink of whole lines gives on.
 use Rattle.std.specs.Prelude.{◌≡◌, ℕ, ◌+◌, ◌-◌, ◌<◌, ◌≤◌, ◌⊎◌, slice_index, false, List, length, drop, take}
 use Rattle.std.specs.Io.KnownBytes.{Appends}
-use Rattle.elf_source.specs.Output.{HeldOutput}
+use Rattle.elf_source.specs.Output.{DeferredState}
 
 -- it gave on a front of what it kept, of at most so many bytes, and keeps the rest: all of that front unless the sink below fails
-pub record GivesFront (old new : HeldOutput) (count : ℕ) : Type 0 where
+pub record GivesFront (old new : DeferredState) (count : ℕ) : Type 0 where
   pub given : ℕ
   pub within : given ≤ count
   pub went : Appends old.below new.below (take given old.held)

@@ -2,7 +2,7 @@
 use Rattle.std.specs.Prelude.{ℕ, ◌==◌, ◌&&◌, if◌then◌else◌, List, [], ◌∷◌, ◌++◌, length}
 use Rattle.elf_model.specs.Text.{newline}
 use Rattle.elf_model.specs.Lines.{name_byte_text}
-use Rattle.elf_fields.specs.Told.{told_text}
+use Rattle.elf_fields.specs.Told.{reported_text}
 
 -- a byte of a text, by the byte at its place in another: where both are newlines it stands as it is, else it is spelt as in a name
 unfoldable pub byte_beside : ℕ → ℕ → List ℕ
@@ -16,4 +16,4 @@ bytes_beside (byte ∷ bytes) (mark ∷ marks) = byte_beside byte mark ++ bytes_
 
 -- A TEXT AS IT IS TOLD beside another: by its bytes where they are as many, else each newline stands as it is
 unfoldable pub told_beside : List ℕ → List ℕ → List ℕ
-told_beside text marked = if length text == length marked then bytes_beside text marked else told_text text
+told_beside text marked = if length text == length marked then bytes_beside text marked else reported_text text

@@ -3,66 +3,66 @@ ghost use Rattle.std.specs.Prelude.{◌≡◌, IfErr, IfOk};
 ghost use Rattle.std.specs.Process.{exit_status as status_of};
 ghost use Rattle.elf_endings.specs.Endings.{error_line, exit_status, refused_line, refused_status};
 
-use elf_headers::Stop;
+use elf_headers::RunFault;
 use elf_listing_requests::RequestFault;
 use std::process::ExitCode;
 
 /// An exit status, and a line for standard error, which is empty where there is nothing to say.
-pub type Ending = (u8, &'static str);
+pub type ExitLine = (u8, &'static str);
 
 /// The words ask for nothing that there is, or for help: what is said about that stands before.
-pub(crate) const BAD_WORDS: Ending = (2, "");
+pub(crate) const BAD_WORDS: ExitLine = (2, "");
 
 /// The words are no text.
-pub(crate) const NOT_UTF8: Ending = (2, "elfsee: words are not UTF-8");
+pub(crate) const NOT_UTF8: ExitLine = (2, "elfsee: words are not UTF-8");
 
 /// There was no memory.
-pub const OUT_OF_MEMORY: Ending = (3, "elfsee: out of memory");
+pub const OUT_OF_MEMORY: ExitLine = (3, "elfsee: out of memory");
 
 /// The file can't be opened.
-pub const CANNOT_OPEN: Ending = (3, "elfsee: cannot open");
+pub const CANNOT_OPEN: ExitLine = (3, "elfsee: cannot open");
 
 /// The file can't be read.
-pub const READ_FAULT: Ending = (3, "elfsee: read fault");
+pub const READ_FAULT: ExitLine = (3, "elfsee: read fault");
 
 /// The output can't be written.
-pub(crate) const WRITE_FAULT: Ending = (3, "elfsee: write fault");
+pub(crate) const WRITE_FAULT: ExitLine = (3, "elfsee: write fault");
 
 /// The word is no name that can be looked up.
-const BAD_NAME: Ending = (2, "elfsee: bad name");
+const BAD_NAME: ExitLine = (2, "elfsee: bad name");
 
 /// The word is no item of a layout.
-const BAD_ITEM: Ending = (2, "elfsee: bad item");
+const BAD_ITEM: ExitLine = (2, "elfsee: bad item");
 
 /// There are more items of a sort than a layout holds.
-const LAYOUT_FULL: Ending = (2, "elfsee: layout-full");
+const LAYOUT_FULL: ExitLine = (2, "elfsee: layout-full");
 
 /// There is an item of the same sort with the same index or name.
-const LAYOUT_REPEAT: Ending = (2, "elfsee: layout-repeat");
+const LAYOUT_REPEAT: ExitLine = (2, "elfsee: layout-repeat");
 
 /// There are more names among the words than may stand there.
-const NAMES_FULL: Ending = (2, "elfsee: too many names");
+const NAMES_FULL: ExitLine = (2, "elfsee: too many names");
 
 /// A word that is required of traits is none.
-const BAD_TRAIT: Ending = (2, "elfsee: bad trait");
+const BAD_TRAIT: ExitLine = (2, "elfsee: bad trait");
 
 /// The exit status of a run, which is 1 for a refusal, and its line on standard error, which is empty
 /// for a status of 0 or 1.
-pub fn outcome(answer: &Result<u8, Stop>) -> Ending
+pub fn outcome(answer: &Result<u8, RunFault>) -> ExitLine
     ensures status { result.0 ≡ exit_status answer.now }
     ensures line { result.1.now ≡ error_line answer.now }
 {
     match answer {
         Ok(status) => (*status, ""),
-        Err(Stop::Refused(_)) => (1, ""),
-        Err(Stop::Source { .. }) => READ_FAULT,
-        Err(Stop::Out(_)) => WRITE_FAULT,
+        Err(RunFault::Refused(_)) => (1, ""),
+        Err(RunFault::Source { .. }) => READ_FAULT,
+        Err(RunFault::Out(_)) => WRITE_FAULT,
     }
 }
 
 /// The exit status for words that are no request, and the line on standard error, which is empty for
 /// `Words`: what is said then is in the fault.
-pub(crate) fn refused(fault: &RequestFault) -> Ending
+pub(crate) fn refused(fault: &RequestFault) -> ExitLine
     ensures status { result.0 ≡ refused_status fault.now }
     ensures line { result.1.now ≡ refused_line fault.now }
 {
@@ -80,7 +80,7 @@ pub(crate) fn refused(fault: &RequestFault) -> Ending
 
 /// Tells the line of an ending on standard error, if it has one, and answers its exit status. Where
 /// standard error can't be written either, the status alone says so.
-pub fn exit<R: Eprint>(rt: &R, ending: Result<Ending, Ending>) -> ExitCode
+pub fn exit<R: Eprint>(rt: &R, ending: Result<ExitLine, ExitLine>) -> ExitCode
     ensures ok { IfOk ending.entry (λ ending. status_of result ≡ ending.0) }
     ensures err { IfErr ending.entry (λ ending. status_of result ≡ ending.0) }
 {

@@ -1,8 +1,8 @@
 //! The files that programs open.
 ghost use Rattle.std.specs.Prelude.{◌≡◌, ◌⊎◌, IfErr, codes};
 
-use crate::endings::{CANNOT_OPEN, Ending, READ_FAULT};
-use elf_source::{OffsetReader, StreamSource, opened_path};
+use crate::endings::{CANNOT_OPEN, ExitLine, READ_FAULT};
+use elf_source::{FileReader, StreamSource, opened_path};
 use std::fs;
 use std::os::unix::fs::{FileExt, FileTypeExt};
 use std::rt::Files;
@@ -12,7 +12,7 @@ use std::rt::Files;
 ///
 /// # Errors
 /// How the program ends where there is no such file, or where its size can't be found.
-pub fn open<R: Files>(rt: &R, path: &str) -> Result<StreamSource<OffsetReader<R::File>>, Ending>
+pub fn open<R: Files>(rt: &R, path: &str) -> Result<StreamSource<FileReader<R::File>>, ExitLine>
 where
     R::File: FileExt,
     ensures { IfErr result (λ ending. (ending.0 ≡ 3)
@@ -30,7 +30,7 @@ where
     let Ok(file) = fs::open(rt, path) else {
         return Err(CANNOT_OPEN);
     };
-    match StreamSource::over(OffsetReader::new(file)) {
+    match StreamSource::over(FileReader::new(file)) {
         Ok(source) => Ok(source),
         Err(_) => Err(READ_FAULT),
     }

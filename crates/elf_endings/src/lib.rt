@@ -8,11 +8,11 @@ mod outputs;
 mod version;
 mod words;
 
-pub use endings::{CANNOT_OPEN, Ending, OUT_OF_MEMORY, READ_FAULT, exit, outcome};
+pub use endings::{CANNOT_OPEN, ExitLine, OUT_OF_MEMORY, READ_FAULT, exit, outcome};
 pub use files::open;
 pub use line_sink::LineSink;
 pub use outputs::{
     ERROR_LINE_BYTES, Ended, OUTPUT_BYTES, PIPE_BYTES, end_answer, end_lines, end_run, write_rest,
 };
 pub use version::tell_version;
-pub use words::{read_words, tell_refused};
+pub use words::{read_words, report_refused};

@@ -1,7 +1,7 @@
 //! A sink that gives on whole lines.
 ghost use Rattle.std.specs.Prelude.{◌≡◌, ◌+◌, ◌<◌, ◌≤◌, [], Some, false, drop, length};
 ghost use Rattle.std.specs.Io.KnownBytes.{Keeps, append_known};
-ghost use Rattle.elf_source.specs.Output.{KeepsSome, nothing_held};
+ghost use Rattle.elf_source.specs.Output.{KeepsPart, nothing_held};
 ghost use Rattle.elf_endings.specs.Lines.{AreWholeLines, GivesFront};
 
 use elf_source::{Sink, SinkFault, give};
@@ -22,9 +22,9 @@ pub struct LineSink<W: Sink> {
 
 impl<W: Sink> Model for LineSink<W> {
     ghost use Rattle.std.specs.Prelude.{◌-◌, ◌<◌, ◌≤◌, length, take};
-    ghost use Rattle.elf_source.specs.Output.{HeldOutput};
+    ghost use Rattle.elf_source.specs.Output.{DeferredState};
 
-    ghost Value = { HeldOutput };
+    ghost Value = { DeferredState };
 
     ghost view = { λ s. record {
       below = W.taken s.sink;
@@ -70,7 +70,7 @@ impl<W: Sink> LineSink<W> {
     fn keep(&mut self, bytes: &[u8]) -> usize
         requires { (0 < length bytes.now) × (0 < self.old.free) }
         ensures failed { self.new.failed ≡ self.old.failed }
-        ensures kept { KeepsSome self.old self.new (Some result) bytes.now }
+        ensures kept { KeepsPart self.old self.new (Some result) bytes.now }
     {
         let count = bytes.len().min(self.room.len() - self.len);
         let end = self.len + count;

@@ -3,9 +3,9 @@ ghost use Rattle.std.specs.Prelude.{◌≡◌, true, false};
 ghost use Rattle.std.specs.Io.Buffered.{writer_buffer, writer_inner};
 ghost use Rattle.elf_endings.specs.Endings.{Ends, EndsRun, PutsRest, wants_rest, wants_rest_of};
 
-use crate::endings::{Ending, READ_FAULT, WRITE_FAULT, outcome};
+use crate::endings::{ExitLine, READ_FAULT, WRITE_FAULT, outcome};
 use crate::line_sink::LineSink;
-use elf_headers::Stop;
+use elf_headers::RunFault;
 use elf_source::{Out, Sink, WriteSink};
 use std::io::{BufWriter, Write};
 
@@ -25,7 +25,7 @@ pub enum Ended {
     /// With this exit status.
     Status(u8),
     /// By a fault that is reported whatever becomes of the output.
-    Told(Ending),
+    Told(ExitLine),
     /// By a fault of the output.
     Unwritten,
 }
@@ -34,17 +34,17 @@ pub enum Ended {
 /// the source had no fault, by one of the output, exactly where the sink that comes back has failed.
 /// After such a fault nothing more is written.
 pub fn end_answer<W: Write + Drop>(
-    answer: &Result<u8, Stop>,
+    answer: &Result<u8, RunFault>,
     output: BufWriter<W>,
-) -> (Ending, WriteSink<W>)
+) -> (ExitLine, WriteSink<W>)
     ensures ends { Ends answer.now result.1.failed result.0.0 result.0.1.now }
     ensures rest { PutsRest (wants_rest answer.now) result.1.failed (writer_buffer output)
         (W.contents (writer_inner output)) (W.contents result.1.writer) }
 {
-    let wanted = !matches!(answer, Err(Stop::Out(_)));
+    let wanted = !matches!(answer, Err(RunFault::Out(_)));
     let rest = write_rest(output, wanted);
     let ending = match answer {
-        Err(Stop::Source { .. }) => READ_FAULT,
+        Err(RunFault::Source { .. }) => READ_FAULT,
         Err(_) | Ok(_) if rest.failed() => WRITE_FAULT,
         Err(_) | Ok(_) => outcome(answer),
     };
@@ -53,7 +53,7 @@ pub fn end_answer<W: Write + Drop>(
 
 /// The same where a run reports faults of its own: a status stands unless the sink that comes back has
 /// failed, and a fault of the run's own is reported all the same.
-pub fn end_run<W: Write + Drop>(ended: Ended, output: BufWriter<W>) -> (Ending, WriteSink<W>)
+pub fn end_run<W: Write + Drop>(ended: Ended, output: BufWriter<W>) -> (ExitLine, WriteSink<W>)
     ensures ends { EndsRun ended result.1.failed result.0.0 result.0.1.now }
     ensures rest { PutsRest (wants_rest_of ended) result.1.failed (writer_buffer output)
         (W.contents (writer_inner output)) (W.contents result.1.writer) }
@@ -63,7 +63,7 @@ pub fn end_run<W: Write + Drop>(ended: Ended, output: BufWriter<W>) -> (Ending, 
 }
 
 /// The same of an output of whole lines. Gives back the sink below it.
-pub fn end_lines<W: Sink>(ended: Ended, output: LineSink<W>) -> (Ending, W)
+pub fn end_lines<W: Sink>(ended: Ended, output: LineSink<W>) -> (ExitLine, W)
     ensures ends { EndsRun ended (W.failed result.1) result.0.0 result.0.1.now }
     ensures rest { wants_rest_of ended ≡ true →
         PutsRest true (W.failed result.1) output.held output.below (W.taken result.1) }
@@ -88,7 +88,7 @@ fn is_rest_wanted(ended: Ended) -> bool
 }
 
 /// How the program ends by how its run did, and by whether the output failed.
-fn ending_of(ended: Ended, failed: bool) -> Ending
+fn ending_of(ended: Ended, failed: bool) -> ExitLine
     ensures { EndsRun ended failed result.0 result.1.now }
 {
     match ended {

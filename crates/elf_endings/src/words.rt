@@ -1,14 +1,14 @@
 //! The words of a program, and what is said of wrong ones.
 ghost use Rattle.std.specs.Prelude.{◌≡◌, ◌≢◌, ◌⊎◌, All, IfErr, IfOk, [], codes, string_bytes};
-ghost use Rattle.elf_source.specs.Output.{Puts};
+ghost use Rattle.elf_source.specs.Output.{OutPuts};
 ghost use Rattle.elf_endings.specs.Endings.{EndsWords};
 ghost use Rattle.elf_endings.specs.Marked.{byte_beside, told_beside};
 ghost use Rattle.elf_listing_requests.specs.declared.faults.RequestFault.TheVariants.{Memory};
 
-use crate::endings::{BAD_WORDS, Ending, NOT_UTF8, OUT_OF_MEMORY, refused};
+use crate::endings::{BAD_WORDS, ExitLine, NOT_UTF8, OUT_OF_MEMORY, refused};
 use crate::outputs::{ERROR_LINE_BYTES, write_rest};
-use elf_fields::show_told;
-use elf_listing_requests::{RequestFault, matches_of};
+use elf_fields::show_escaped_text;
+use elf_listing_requests::{RequestFault, parse_arguments};
 use elf_source::{Out, OutFault, Sink, WriteSink};
 use std::alloc::{AllocError, Global};
 use std::env;
@@ -22,7 +22,7 @@ const NEWLINE: &str = "\\x0a";
 ///
 /// # Errors
 /// How the program ends where they are no text, or there is no memory for them.
-pub fn read_words<R: Env + AllocGlobal>(rt: &R) -> Result<Vec<String>, Ending>
+pub fn read_words<R: Env + AllocGlobal>(rt: &R) -> Result<Vec<String>, ExitLine>
     ensures told { IfErr result (λ ending. (ending.1.now ≡ codes "elfsee: out of memory")
         ⊎ (ending.1.now ≡ codes "elfsee: words are not UTF-8")) }
 {
@@ -41,19 +41,24 @@ pub fn read_words<R: Env + AllocGlobal>(rt: &R) -> Result<Vec<String>, Ending>
 /// Tells why words are no request, and answers how the program ends: by the fault, or where there is no
 /// memory for telling what is wrong with the words, as for want of it. What is wrong with them, and help,
 /// is written to `errors`.
-pub fn tell_refused(alloc: Global, fault: &RequestFault, words: &[String], errors: Stderr) -> Ending
+pub fn report_refused(
+    alloc: Global,
+    fault: &RequestFault,
+    words: &[String],
+    errors: Stderr,
+) -> ExitLine
     ensures { EndsWords fault.now result.0 result.1.now
         ⊎ EndsWords Memory result.0 result.1.now }
 {
     match fault {
-        RequestFault::Words(told) => tell_words(alloc, told, words, errors),
+        RequestFault::Words(told) => report_words(alloc, told, words, errors),
         _ => refused(fault),
     }
 }
 
 /// Writes what is wrong with words, or help, with each byte of a word spelt so that no terminal acts on
 /// it, and answers how the program ends. Where it can't be written, the status alone says so.
-fn tell_words(alloc: Global, told: &clap::Error, words: &[String], errors: Stderr) -> Ending
+fn report_words(alloc: Global, told: &clap::Error, words: &[String], errors: Stderr) -> ExitLine
     ensures { ((result.0 ≡ 2) × (result.1.now ≡ []))
         ⊎ ((result.0 ≡ 3) × (result.1.now ≡ codes "elfsee: out of memory")) }
 {
@@ -103,7 +108,7 @@ fn marked_text(alloc: Global, words: &[String]) -> Result<String, AllocError>
             return Err(AllocError);
         }
     }
-    match matches_of(alloc, others.as_slice()) {
+    match parse_arguments(alloc, others.as_slice()) {
         Ok(_) => Ok(String::new(alloc)),
         Err(RequestFault::Words(told)) => format!(in alloc; "{told}"),
         Err(_) => Err(AllocError),
@@ -129,10 +134,10 @@ fn marked_word(alloc: Global, word: &str) -> Result<String, AllocError> {
 /// # Errors
 /// A fault of the output, with a front of the text written.
 fn show_marked<W: Sink>(text: &[u8], marked: &[u8], out: &mut Out<W>) -> Result<(), OutFault>
-    ensures { Puts out.old out.new result (told_beside text.now marked.now) }
+    ensures { OutPuts out.old out.new result (told_beside text.now marked.now) }
 {
     if text.len() != marked.len() {
-        return show_told(text, out);
+        return show_escaped_text(text, out);
     }
     for i in 0..text.len() {
         show_byte(text[i], marked[i], out)?;
@@ -147,10 +152,10 @@ fn show_marked<W: Sink>(text: &[u8], marked: &[u8], out: &mut Out<W>) -> Result<
 /// A fault of the output, with a front of the byte's text written.
 #[tactic(auto, unfolding(crate::specs::Marked::byte_beside))]
 fn show_byte<W: Sink>(byte: u8, mark: u8, out: &mut Out<W>) -> Result<(), OutFault>
-    ensures { Puts out.old out.new result (byte_beside byte mark) }
+    ensures { OutPuts out.old out.new result (byte_beside byte mark) }
 {
     if byte == b'\n' && mark != b'\n' {
         return out.put(NEWLINE.as_bytes());
     }
-    show_told(&[byte], out)
+    show_escaped_text(&[byte], out)
 }

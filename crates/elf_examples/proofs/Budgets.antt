@@ -5,27 +5,27 @@ use Rattle.std.proofs.Common.{◌≡◌, ◌<◌, ◌⊎◌, ℕ, List, ◌++◌
 use Rattle.std.proofs.Math.Seq.{take-append_seam}
 use Rattle.std.proofs.lemmas.List.{take-append-drop}
 use Rattle.elf_model.specs.Answer.{Answer, IsShown, status_of, show_answer}
-use Rattle.elf_model.specs.Budget.{IsBudget, IsCut, IsBudgeted}
+use Rattle.elf_model.specs.Budget.{IsBudgetRefusal, IsCut, IsBudgeted}
 use Rattle.elf_model.specs.Lines.{refusal_line}
 use Rattle.elf_model.specs.Listing.{ListingItem, lines_of, fault_of}
 use Rattle.elf_model.specs.Report.{items, report, report_fault}
 use Rattle.elf_model.specs.declared.causes.Refusal.{Refusal}
-use Rattle.elf_examples.specs.ListedBudgets.{spent_at, EndsBehind, BudgetMayEndAListing, NothingElseIsAllowed, AllowedAnswersAreShown, NothingElseIsShown}
+use Rattle.elf_examples.specs.ListedBudgets.{spent_at, EndsAfter, BudgetMayEndAListing, NothingElseIsAllowed, AllowedAnswersAreShown, NothingElseIsShown}
 
 -- a cut by the number of its lines and the offset of its read
-abbrev pub CutBehind : ℕ → List ListingItem → List ℕ → Option Refusal → Type 0
-CutBehind size all text fault =
+abbrev pub CutAfter : ℕ → List ListingItem → List ℕ → Option Refusal → Type 0
+CutAfter size all text fault =
     (count : ℕ) × (at : ℕ) × (fault ≡ Some (spent_at at)) × (at < size) × (fault_of (take count all) ≡ None)
     × (text ≡ lines_of (take count all) ++ refusal_line Columns (spent_at at))
 
 front_taken : (all front rest : List ListingItem) → all ≡ front ++ rest → take (length front) all ≡ front
 front_taken all front rest split = ap (take (length front)) split ∙ take-append_seam front rest
 
-budget_spent : (refusal : Refusal) → IsBudget refusal → refusal ≡ spent_at refusal.at
+budget_spent : (refusal : Refusal) → IsBudgetRefusal refusal → refusal ≡ spent_at refusal.at
 budget_spent refusal budget = rw budget refl
 
-pub cut_behind : (size : ℕ) (all : List ListingItem) (text : List ℕ) (fault : Option Refusal) → IsCut Columns size all text fault → CutBehind size all text fault
-cut_behind size all text fault cut =
+pub cut_after : (size : ℕ) (all : List ListingItem) (text : List ℕ) (fault : Option Refusal) → IsCut Columns size all text fault → CutAfter size all text fault
+cut_after size all text fault cut =
     let taken = front_taken all cut.front cut.rest cut.split in
     let spent = budget_spent cut.refusal cut.for_budget in
     let lines = ap (λ front. lines_of front ++ refusal_line Columns cut.refusal) (sym taken) in
@@ -38,8 +38,8 @@ cut_behind size all text fault cut =
       cut.text_is ∙ lines ∙ line,
     )
 
-pub behind_cut : BudgetMayEndAListing
-behind_cut file headers cap parts budget count at text ends =
+pub after_cut : BudgetMayEndAListing
+after_cut file headers cap parts budget count at text ends =
     let all = items file headers cap parts in
     inr (
       ends.0,
@@ -58,10 +58,10 @@ behind_cut file headers cap parts budget count at text ends =
 
 pub allowed : (file : List ℕ) (headers cap parts budget : ℕ) (text : List ℕ) (fault : Option Refusal) → IsBudgeted (Some budget) file headers (standard cap) parts text fault
     → ((text ≡ report file headers cap parts) × (fault ≡ report_fault file headers cap parts))
-    ⊎ ((count : ℕ) × (at : ℕ) × (fault ≡ Some (spent_at at)) × EndsBehind file headers cap parts budget count at text)
+    ⊎ ((count : ℕ) × (at : ℕ) × (fault ≡ Some (spent_at at)) × EndsAfter file headers cap parts budget count at text)
 allowed file headers cap parts budget text fault (inl is) = inl (is.text_is, is.fault_is)
 allowed file headers cap parts budget text fault (inr (dear, cut)) =
-    let ends = cut_behind (length file) (items file headers cap parts) text fault cut in
+    let ends = cut_after (length file) (items file headers cap parts) text fault cut in
     inr (ends.0, ends.1, ends.2, (dear, ends.3, ends.4, ends.5))
 
 pub nothing_else : NothingElseIsAllowed
@@ -105,7 +105,7 @@ answers_shown file headers cap parts = (
   λ budget. whole_shown budget file headers cap parts,
   λ budget count at text ends.
       allowed_shown (Some budget) file headers cap parts text (Some (spent_at at))
-      (behind_cut file headers cap parts budget count at text ends),
+      (after_cut file headers cap parts budget count at text ends),
 )
 
 -- an answer with the status of its fault
@@ -121,11 +121,11 @@ shown_whole file headers cap parts answer fault status is =
 -- an answer that is cut short
 abbrev pub EndsEarly : List ℕ → ℕ → ℕ → ℕ → ℕ → Answer → Type 0
 EndsEarly file headers cap parts budget answer =
-    (answer.status ≡ 1) × ((count : ℕ) × (at : ℕ) × EndsBehind file headers cap parts budget count at answer.text)
+    (answer.status ≡ 1) × ((count : ℕ) × (at : ℕ) × EndsAfter file headers cap parts budget count at answer.text)
 
 within : (file : List ℕ) (headers cap parts budget : ℕ) (answer : Answer) (fault : Option Refusal) → answer.status ≡ status_of fault
     → (((answer.text ≡ report file headers cap parts) × (fault ≡ report_fault file headers cap parts))
-    ⊎ ((count : ℕ) × (at : ℕ) × (fault ≡ Some (spent_at at)) × EndsBehind file headers cap parts budget count at answer.text))
+    ⊎ ((count : ℕ) × (at : ℕ) × (fault ≡ Some (spent_at at)) × EndsAfter file headers cap parts budget count at answer.text))
     → (answer ≡ show_answer file headers cap parts) ⊎ EndsEarly file headers cap parts budget answer
 within file headers cap parts budget answer fault status (inl is) = inl (shown_whole file headers cap parts answer fault status is)
 within file headers cap parts budget answer fault status (inr (count, at, is, ends)) = inr (status ∙ ap status_of is, (count, at, ends))

@@ -5,7 +5,7 @@ use Rattle.elf_model.specs.Listing.{HEADER, ALL}
 use Rattle.elf_model.specs.Report.{report}
 use Rattle.elf_model.specs.Fixtures.{one_symbol_table}
 use Rattle.elf_model.proofs.OnLiterals.{on_literals}
-use Rattle.elf_examples.specs.ListedBudgets.{EndsBehind, OtherAnswersAreNotShown, ShowsWithin, header_and_budget}
+use Rattle.elf_examples.specs.ListedBudgets.{EndsAfter, OtherAnswersAreNotShown, ShowsWithin, header_and_budget}
 use Rattle.elf_examples.proofs.Budgets.{EndsEarly, answers_shown, nothing_shown}
 use Rattle.elf_examples.proofs.OtherTexts.{clash, same_byte}
 
@@ -38,7 +38,7 @@ unfolding on_literals
 not_cut status is =
     clash 33 83 (omega arith) (same_byte 91 header_and_budget (report one_symbol_table 3 63 ALL) (ap (λ a. a.text) is))
 
-ends : EndsBehind one_symbol_table 3 63 ALL 64 1 0x78 header_and_budget
+ends : EndsAfter one_symbol_table 3 63 ALL 64 1 0x78 header_and_budget
 unfolding on_literals
 ends = (omega arith, omega arith, refl, refl)
 

@@ -1,6 +1,6 @@
 -- Members whose names stand at the front of their data, as BSD's `ar` writes long ones.
 use Rattle.std.specs.Prelude.{ℕ, ◌≡◌, ◌+◌, List, [], ◌∷◌, ◌++◌, codes, None, Some}
-use Rattle.elf_model.specs.Archive.{archive, bsd_name_size}
+use Rattle.elf_model.specs.Archive.{archive, bsd_name_length}
 use Rattle.elf_model.specs.ArchiveCost.{archive_cost}
 use Rattle.elf_model.specs.Listing.{ALL}
 use Rattle.elf_model.specs.Report.{report}
@@ -57,14 +57,14 @@ BsdNamesHaveRoom =
 abbrev pub OtherFieldsAreShort : Type 0
 OtherFieldsAreShort =
     (listed 63 (member (codes "#1/x") (codes "xy")) ≡ codes "A     0 0000000000000044 0000000000000002 #1\n")
-    × (bsd_name_size (codes "#1/             ") ≡ None)
-    × (bsd_name_size (codes "#1/2x           ") ≡ None)
-    × (bsd_name_size (codes "#1/1 2          ") ≡ None)
-    × (bsd_name_size (codes "#1/ 2           ") ≡ None)
-    × (bsd_name_size (codes "#2/2            ") ≡ None)
-    × (bsd_name_size (codes "!1/2            ") ≡ None)
-    × (bsd_name_size (codes "#1-2            ") ≡ None)
-    × (bsd_name_size (codes "#1/19           ") ≡ Some 19)
+    × (bsd_name_length (codes "#1/             ") ≡ None)
+    × (bsd_name_length (codes "#1/2x           ") ≡ None)
+    × (bsd_name_length (codes "#1/1 2          ") ≡ None)
+    × (bsd_name_length (codes "#1/ 2           ") ≡ None)
+    × (bsd_name_length (codes "#2/2            ") ≡ None)
+    × (bsd_name_length (codes "!1/2            ") ≡ None)
+    × (bsd_name_length (codes "#1-2            ") ≡ None)
+    × (bsd_name_length (codes "#1/19           ") ≡ Some 19)
 
 -- BSD's index of symbols is a member as others are; and a name of two slashes in the data is no table of names
 abbrev pub BsdNamesAreNamesAlone : Type 0

@@ -3,7 +3,7 @@ use Rattle.elf_model.specs.declared.formats.Format.TheVariants.{Columns}
 use Rattle.elf_model.specs.Style.{standard}
 use Rattle.std.specs.Prelude.{ℕ, ◌≡◌, ◌<◌, ◌⊎◌, ◌++◌, List, [], ◌∷◌, length, take, Option, None, Some, codes}
 use Rattle.elf_model.specs.Answer.{Answer, IsShown, show_answer}
-use Rattle.elf_model.specs.Budget.{IsBudget, IsCut, IsBudgeted}
+use Rattle.elf_model.specs.Budget.{IsBudgetRefusal, IsCut, IsBudgeted}
 use Rattle.elf_model.specs.Cost.{cost}
 use Rattle.elf_model.specs.Lines.{refusal_line}
 use Rattle.elf_model.specs.Listing.{Line, Fault, HEADER, ALL, lines_of, fault_of}
@@ -17,8 +17,8 @@ abbrev pub spent_at : ℕ → Refusal
 spent_at at = record { at = at; cause = Budget }
 
 -- a text is so many items of a listing that costs more than a budget, and the line of a read at an offset of the file
-abbrev pub EndsBehind : (file : List ℕ) (headers cap parts budget count at : ℕ) (text : List ℕ) → Type 0
-EndsBehind file headers cap parts budget count at text =
+abbrev pub EndsAfter : (file : List ℕ) (headers cap parts budget count at : ℕ) (text : List ℕ) → Type 0
+EndsAfter file headers cap parts budget count at text =
     (budget < cost file headers cap parts)
     × (at < length file)
     × (fault_of (take count (items file headers cap parts)) ≡ None)
@@ -28,7 +28,7 @@ EndsBehind file headers cap parts budget count at text =
 abbrev pub BudgetMayEndAListing : Type 0
 BudgetMayEndAListing =
     (file : List ℕ) (headers cap parts budget count at : ℕ) (text : List ℕ)
-    → EndsBehind file headers cap parts budget count at text
+    → EndsAfter file headers cap parts budget count at text
     → IsBudgeted (Some budget) file headers (standard cap) parts text (Some (spent_at at))
 
 -- nothing else is: without a budget the report and its fault, with one these or such a text and the refusal of its read
@@ -40,7 +40,7 @@ NothingElseIsAllowed =
     × ((budget : ℕ)
     → IsBudgeted (Some budget) file headers (standard cap) parts text fault
     → ((text ≡ report file headers cap parts) × (fault ≡ report_fault file headers cap parts))
-    ⊎ ((count : ℕ) × (at : ℕ) × (fault ≡ Some (spent_at at)) × EndsBehind file headers cap parts budget count at text))
+    ⊎ ((count : ℕ) × (at : ℕ) × (fault ≡ Some (spent_at at)) × EndsAfter file headers cap parts budget count at text))
 
 -- no cut of a file of 64 bytes: an offset at the file's length, another cause, no fault, the fault of another offset, a line that
 -- is not the first, the fault's line before the budget's
@@ -62,7 +62,7 @@ AllowedAnswersAreShown =
     (file : List ℕ) (headers cap parts : ℕ)
     → ((budget : Option ℕ) → IsShown budget file headers (standard cap) parts (show_answer file headers cap parts))
     × ((budget count at : ℕ) (text : List ℕ)
-    → EndsBehind file headers cap parts budget count at text
+    → EndsAfter file headers cap parts budget count at text
     → IsShown (Some budget) file headers (standard cap) parts (record { text = text; status = 1 }))
 
 -- and nothing else is shown
@@ -73,7 +73,7 @@ NothingElseIsShown =
     × ((budget : ℕ)
     → IsShown (Some budget) file headers (standard cap) parts answer
     → (answer ≡ show_answer file headers cap parts)
-    ⊎ ((answer.status ≡ 1) × ((count : ℕ) × (at : ℕ) × EndsBehind file headers cap parts budget count at answer.text)))
+    ⊎ ((answer.status ≡ 1) × ((count : ℕ) × (at : ℕ) × EndsAfter file headers cap parts budget count at answer.text)))
 
 -- what is listed behind the file header's line where the section headers can't be read any more
 abbrev pub header_and_budget : List ℕ
@@ -84,10 +84,10 @@ header_and_budget =
 -- and one byte too few ends it before the last name
 abbrev pub BudgetsThatEnd : Type 0
 BudgetsThatEnd =
-    EndsBehind one_symbol_table 3 63 ALL 0 0 0 (codes "! 0000000000000000 budget\n")
-    × EndsBehind one_symbol_table 3 63 ALL 63 0 0 (codes "! 0000000000000000 budget\n")
-    × EndsBehind one_symbol_table 3 63 ALL 64 1 0x78 header_and_budget
-    × EndsBehind one_symbol_table 3 63 ALL 431 5 0x71
+    EndsAfter one_symbol_table 3 63 ALL 0 0 0 (codes "! 0000000000000000 budget\n")
+    × EndsAfter one_symbol_table 3 63 ALL 63 0 0 (codes "! 0000000000000000 budget\n")
+    × EndsAfter one_symbol_table 3 63 ALL 64 1 0x78 header_and_budget
+    × EndsAfter one_symbol_table 3 63 ALL 431 5 0x71
     (lines_of (take 5 (items one_symbol_table 3 63 ALL)) ++ refusal_line Columns (spent_at 0x71))
 
 -- a budget of the cost allows the report alone: of a whole listing, and of the file header's line
@@ -102,7 +102,7 @@ abbrev pub CutsAreForBudget : Type 0
 CutsAreForBudget =
     (text : List ℕ) (refusal : Refusal)
     → IsBudgeted (Some 0) one_symbol_table 3 (standard 63) ALL text (Some refusal)
-    → IsBudget refusal × (refusal.at < 312)
+    → IsBudgetRefusal refusal × (refusal.at < 312)
 
 -- an empty file is short under every budget
 abbrev pub EmptyFileIsShort : Type 0

@@ -9,15 +9,15 @@ use Rattle.elf_model.specs.Listing.{ALL}
 use Rattle.elf_model.specs.Report.{report_fault}
 use Rattle.elf_model.specs.declared.causes.Cause.TheVariants.{Short, BadClass, TableOutside, Budget}
 use Rattle.elf_model.specs.declared.causes.Refusal.{Refusal}
-use Rattle.elf_model.specs.declared.states.FileState.{FileState}
-use Rattle.elf_model.specs.declared.states.FileState.TheVariants as state
+use Rattle.elf_model.specs.declared.states.FileStatus.{FileStatus}
+use Rattle.elf_model.specs.declared.states.FileStatus.TheVariants as state
 
 -- the state of a file by its whole report
-abbrev pub whole_state : List ℕ → FileState
+abbrev pub whole_state : List ℕ → FileStatus
 whole_state file = state_of None file (report_fault file 3 63 ALL)
 
 -- a refusal for a cause at an offset
-abbrev pub refused : Refusal → FileState
+abbrev pub refused : Refusal → FileStatus
 refused refusal = state.Refused refusal
 
 -- files without a fault, with one, and of another kind

@@ -3,7 +3,7 @@ use Rattle.std.specs.Prelude.{ℕ, ◌≡◌, ◌^◌, ◌-◌, List, [], ◌∷
 use Rattle.elf_model.specs.declared.formats.Format.TheVariants.{Columns, Object}
 use Rattle.elf_model.specs.Bytes.{little}
 use Rattle.elf_model.specs.Choice.{EveryRow, RowsOf}
-use Rattle.elf_model.specs.FileLists.{archive_fault, budget_behind, file_sort, headed, list_status, members_alone, path_line, placed_behind}
+use Rattle.elf_model.specs.FileLists.{archive_fault, budget_after, file_magic, headed, list_status, members_alone, path_line, placed_after}
 use Rattle.elf_model.specs.Fixtures.{bare_header, one_symbol_table, with_bytes}
 use Rattle.elf_model.specs.FixturesArchive.{archive_of, library, member}
 use Rattle.elf_model.specs.Listing.{SYMBOLS}
@@ -11,7 +11,7 @@ use Rattle.elf_model.specs.Style.{standard}
 use Rattle.elf_model.specs.declared.causes.Cause.{Cause}
 use Rattle.elf_model.specs.declared.causes.Cause.TheVariants.{MemberCut, NameOutside, NotArchive, Short, Thin}
 use Rattle.elf_model.specs.declared.causes.Refusal.{Refusal}
-use Rattle.elf_model.specs.declared.states.FileSort.TheVariants.{Archive, Elf, Foreign}
+use Rattle.elf_model.specs.declared.states.FileMagic.TheVariants.{Archive, Elf, Foreign}
 
 -- the line of a path: spelt as names are, empty, and as an object
 abbrev pub PathLines : Type 0
@@ -39,20 +39,20 @@ magic = 127 ∷ 69 ∷ 76 ∷ 70 ∷ []
 -- ELF files, archives, and others; the budget has room for the first bytes, or for one less
 abbrev pub FileSorts : Type 0
 FileSorts =
-    (file_sort false None [] ≡ Foreign) × (file_sort false (Some 0) (127 ∷ 69 ∷ 76 ∷ []) ≡ Foreign)
-    × (file_sort false None magic ≡ Elf) × (file_sort true (Some 4) magic ≡ Elf)
-    × (file_sort false None (codes "text") ≡ Foreign) × (file_sort false (Some 4) (codes "text") ≡ Foreign)
-    × (file_sort false (Some 3) (codes "text") ≡ Elf)
-    × (file_sort false None (archive_of []) ≡ Foreign) × (file_sort true None (archive_of []) ≡ Archive)
-    × (file_sort true (Some 8) (archive_of []) ≡ Archive) × (file_sort true (Some 7) (archive_of []) ≡ Elf)
-    × (file_sort true None (codes "!<arch>") ≡ Foreign) × (file_sort true (Some 4) (codes "!<arch>") ≡ Foreign)
-    × (file_sort true None (codes "!<thin>\n") ≡ Foreign)
+    (file_magic false None [] ≡ Foreign) × (file_magic false (Some 0) (127 ∷ 69 ∷ 76 ∷ []) ≡ Foreign)
+    × (file_magic false None magic ≡ Elf) × (file_magic true (Some 4) magic ≡ Elf)
+    × (file_magic false None (codes "text") ≡ Foreign) × (file_magic false (Some 4) (codes "text") ≡ Foreign)
+    × (file_magic false (Some 3) (codes "text") ≡ Elf)
+    × (file_magic false None (archive_of []) ≡ Foreign) × (file_magic true None (archive_of []) ≡ Archive)
+    × (file_magic true (Some 8) (archive_of []) ≡ Archive) × (file_magic true (Some 7) (archive_of []) ≡ Elf)
+    × (file_magic true None (codes "!<arch>") ≡ Foreign) × (file_magic true (Some 4) (codes "!<arch>") ≡ Foreign)
+    × (file_magic true None (codes "!<thin>\n") ≡ Foreign)
 
 -- what is left of a budget behind them
-abbrev pub BudgetsBehind : Type 0
-BudgetsBehind =
-    (budget_behind None 4 ≡ None) × (budget_behind (Some 100) 4 ≡ Some 96) × (budget_behind (Some 4) 4 ≡ Some 0)
-    × (budget_behind (Some 3) 4 ≡ Some 3)
+abbrev pub BudgetsAfter : Type 0
+BudgetsAfter =
+    (budget_after None 4 ≡ None) × (budget_after (Some 100) 4 ≡ Some 96) × (budget_after (Some 4) 4 ≡ Some 0)
+    × (budget_after (Some 3) 4 ≡ Some 3)
 
 -- the fault of an archive of some members, with three headers permitted
 abbrev FaultIs : List ℕ → Option Refusal → Type 0
@@ -73,7 +73,7 @@ ArchiveFaults =
     × FaultIs (archive_of (member (codes "a.o/") bare_header ++ member (codes "b.o/") faulty ++ codes "x")) (at_fault 0x100 NameOutside)
     × FaultIs (archive_of (member (codes "a.o/") bare_header ++ codes "x")) (at_fault 0x84 MemberCut)
     × FaultIs (archive_of (member (codes "a.o/") faulty ++ member (codes "b.o/") (take 70 faulty))) (at_fault 0x84 NameOutside)
-    × (placed_behind 8 (record { at = 2 ^ 64 - 4; cause = Short }) ≡ record { at = 2 ^ 64 - 1; cause = Short })
+    × (placed_after 8 (record { at = 2 ^ 64 - 4; cause = Short }) ≡ record { at = 2 ^ 64 - 1; cause = Short })
 
 -- the lines of members stand alone where all rows are shown, and not where some names choose them
 abbrev pub MembersAlone : Type 0
@@ -81,8 +81,8 @@ MembersAlone = (members_alone EveryRow ≡ true) × (members_alone (RowsOf []) �
 
 -- a fault of a member is counted from where its data begin behind a name of four bytes; a member that is no ELF file has none, nor
 -- has one of which no part is listed
-abbrev pub FaultsBehindNames : Type 0
-FaultsBehindNames =
+abbrev pub FaultsAfterNames : Type 0
+FaultsAfterNames =
     FaultIs (archive_of (member (codes "#1/4") (codes "ab.o" ++ faulty))) (at_fault 0x88 NameOutside)
     × FaultIs (archive_of (member (codes "a.o/") (codes "text") ++ member (codes "b.o/") faulty)) (at_fault 0xc4 NameOutside)
     × (archive_fault (archive_of (member (codes "b.o/") faulty)) 3 (standard 63) 0 ≡ None)

@@ -1,10 +1,10 @@
 -- Members of archives: their headers, their names, and their listings.
 use Rattle.std.specs.Prelude.{ℕ, ◌≡◌, ◌+◌, ◌*◌, ◌<◌, List, [], ◌∷◌, ◌++◌, codes, true, false, Option, None, Some}
 use Rattle.elf_model.specs.declared.formats.Format.TheVariants.{Columns}
-use Rattle.elf_model.specs.Archive.{archive, archive_items, is_elf, is_name_table, padded_decimal, told_size}
+use Rattle.elf_model.specs.Archive.{archive, archive_items, is_elf, is_name_table, padded_number, parsed_member_size}
 use Rattle.elf_model.specs.ArchiveCost.{IsArchiveBudgeted, any_refused, archive_ceiling, archive_cost}
 use Rattle.elf_model.specs.Bytes.{little}
-use Rattle.elf_model.specs.Budget.{IsBudget}
+use Rattle.elf_model.specs.Budget.{IsBudgetRefusal}
 use Rattle.elf_model.specs.Choice.{EveryRow}
 use Rattle.elf_model.specs.Lines.{refusal_line}
 use Rattle.elf_model.specs.Listing.{ALL, HEADER, SECTIONS, SYMBOLS, VERSIONS, report_of}
@@ -19,18 +19,18 @@ use Rattle.elf_examples.specs.ListedBsdNames.{listed}
 -- decimal numbers of the digits up to 9 and of ten of them, and the bytes beside the digits
 abbrev pub DigitsAreDecimal : Type 0
 DigitsAreDecimal =
-    (padded_decimal (codes "9         ") ≡ Some 9)
-    × (padded_decimal (codes "0123456789") ≡ Some 123456789)
-    × (padded_decimal (codes "/         ") ≡ None)
-    × (padded_decimal (codes ":         ") ≡ None)
-    × (padded_decimal (codes "1:        ") ≡ None)
-    × (told_size (member_header (codes "a") (codes "9876543210")) 0 ≡ Some 9876543210)
+    (padded_number (codes "9         ") ≡ Some 9)
+    × (padded_number (codes "0123456789") ≡ Some 123456789)
+    × (padded_number (codes "/         ") ≡ None)
+    × (padded_number (codes ":         ") ≡ None)
+    × (padded_number (codes "1:        ") ≡ None)
+    × (parsed_member_size (member_header (codes "a") (codes "9876543210")) 0 ≡ Some 9876543210)
 
 -- a header ends in its mark, both bytes
 abbrev pub MarksEndHeaders : Type 0
 MarksEndHeaders =
-    (told_size (with_bytes 58 (0x61 ∷ []) (member_header (codes "a") (codes "1"))) 0 ≡ None)
-    × (told_size (with_bytes 59 (0x0d ∷ []) (member_header (codes "a") (codes "1"))) 0 ≡ None)
+    (parsed_member_size (with_bytes 58 (0x61 ∷ []) (member_header (codes "a") (codes "1"))) 0 ≡ None)
+    × (parsed_member_size (with_bytes 59 (0x0d ∷ []) (member_header (codes "a") (codes "1"))) 0 ≡ None)
     × (listed 63 (with_bytes 59 (0x0d ∷ []) (member (codes "a/") [])) ≡ codes "! 0000000000000008 member-cut\n")
 
 -- the table of names is known by all 16 bytes of its name
@@ -130,4 +130,4 @@ BudgetsThatEndArchives =
 -- and nothing but its want ends it
 abbrev pub CutsOfArchivesAreForBudget : Type 0
 CutsOfArchivesAreForBudget =
-    (text : List ℕ) (refusal : Refusal) → Allows (Some 40) text (Some refusal) → IsBudget refusal × (refusal.at < 68)
+    (text : List ℕ) (refusal : Refusal) → Allows (Some 40) text (Some refusal) → IsBudgetRefusal refusal × (refusal.at < 68)

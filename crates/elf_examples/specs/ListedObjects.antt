@@ -1,20 +1,20 @@
 -- Lines as JSON objects.
 use Rattle.std.specs.Prelude.{ℕ, ◌^◌, ◌≡◌, true, false, [], ◌∷◌, ◌++◌, codes}
-use Rattle.elf_model.specs.Archive.{member_front}
+use Rattle.elf_model.specs.Archive.{member_prefix}
 use Rattle.elf_model.specs.Choice.{EveryRow}
 use Rattle.elf_model.specs.Checking.{check_line, unnamed_line}
 use Rattle.elf_model.specs.Fixtures.{one_symbol_table}
-use Rattle.elf_model.specs.LineFronts.{dynamic_front, note_front, relocation_front, section_front}
+use Rattle.elf_model.specs.LineFronts.{dynamic_prefix, note_prefix, relocation_prefix, section_prefix}
 use Rattle.elf_model.specs.Lines.{named_line, note_line, refusal_line, segment_line, steps_line}
 use Rattle.elf_model.specs.Listing.{ALL, SYMBOLS, report_of}
-use Rattle.elf_model.specs.Names.Shown.{Whole, Cut}
+use Rattle.elf_model.specs.Names.DisplayedName.{Whole, Cut}
 use Rattle.elf_model.specs.Report.{listing}
 use Rattle.elf_model.specs.Style.{Style}
-use Rattle.elf_model.specs.VersionRows.{symbol_version_front, version_front}
+use Rattle.elf_model.specs.VersionRows.{symbol_version_prefix, version_prefix}
 use Rattle.elf_model.specs.FixturesTables.{numbers_from}
 use Rattle.elf_model.specs.declared.causes.Cause.TheVariants.{Short, TableOutside}
 use Rattle.elf_model.specs.declared.formats.Format.TheVariants.{Object}
-use Rattle.elf_model.specs.declared.states.FileState.TheVariants as state
+use Rattle.elf_model.specs.declared.states.FileStatus.TheVariants as state
 use Rattle.elf_model.specs.declared.versions.VersionKind.TheVariants.{Definition}
 
 -- objects, with so many bytes of a name
@@ -54,21 +54,21 @@ ObjectsOfNames =
 -- the other kinds of lines, of bytes 0 to 127: numbers without names, letters, an addend
 abbrev pub ObjectsOfLines : Type 0
 ObjectsOfLines =
-    ((section_front Object false 0x1312 (numbers_from 0 128) 0x40 7).text
+    ((section_prefix Object false 0x1312 (numbers_from 0 128) 0x40 7).text
     ≡ codes "{\"line\":\"S\",\"index\":7,\"type\":1195787588,\"flags\":\"IOC?\",\"address\":6293311349960364368,\"offset\":6872032732664977752,\"size\":7450754115369591136,\"link\":1802135912,\"info\":1869507948")
     × (segment_line Object false (numbers_from 0 128) 0x40 7
     ≡ codes "{\"line\":\"P\",\"index\":7,\"type\":1128415552,\"permissions\":\"R--\",\"offset\":5714589967255750984,\"vaddr\":6293311349960364368,\"paddr\":6872032732664977752,\"filesz\":7450754115369591136,\"memsz\":8029475498074204520,\"align\":8608196880778817904}\n")
-    × ((relocation_front Object false 62 (numbers_from 0 128) 0x40 3).text
+    × ((relocation_prefix Object false 62 (numbers_from 0 128) 0x40 3).text
     ≡ codes "{\"line\":\"R\",\"table\":3,\"offset\":5135868584551137600,\"type\":1263159624,\"symbol\":1330531660,\"addend\":6293311349960364368")
-    × ((dynamic_front Object false (numbers_from 0 128) 0x40 5).text
+    × ((dynamic_prefix Object false (numbers_from 0 128) 0x40 5).text
     ≡ codes "{\"line\":\"D\",\"index\":5,\"tag\":5135868584551137600,\"value\":5714589967255750984")
-    × (note_line (note_front Object 1 3 4 40) (Whole (codes "GNU")) (numbers_from 0 40)
+    × (note_line (note_prefix Object 1 3 4 40) (Whole (codes "GNU")) (numbers_from 0 40)
     ≡ codes "{\"line\":\"N\",\"index\":1,\"type\":3,\"namesz\":4,\"descsz\":40,\"name\":\"GNU\",\"descriptor\":\"000102030405060708090a0b0c0d0e0f101112131415161718191a1b1c1d1e1f\"}\n")
-    × (note_line (note_front Object 1 3 4 1) (Cut (codes "G")) (5 ∷ [])
+    × (note_line (note_prefix Object 1 3 4 1) (Cut (codes "G")) (5 ∷ [])
     ≡ codes "{\"line\":\"N\",\"index\":1,\"type\":3,\"namesz\":4,\"descsz\":1,\"name\":\"G\",\"cut\":true,\"descriptor\":\"05\"}\n")
-    × (named_line (version_front Object Definition 4 2 1 0x0d696910) (Whole (codes "V1"))
+    × (named_line (version_prefix Object Definition 4 2 1 0x0d696910) (Whole (codes "V1"))
     ≡ codes "{\"line\":\"V\",\"index\":4,\"kind\":\"DEF\",\"number\":2,\"flags\":1,\"hash\":225011984,\"name\":\"V1\"}\n")
-    × (named_line (symbol_version_front Object 5 12345678901 0x8002) (Whole [])
+    × (named_line (symbol_version_prefix Object 5 12345678901 0x8002) (Whole [])
     ≡ codes "{\"line\":\"X\",\"table\":5,\"index\":12345678901,\"number\":2,\"hidden\":\"H\",\"name\":\"\"}\n")
-    × (named_line (member_front Object 0 68 5) (Whole (codes "a.o"))
+    × (named_line (member_prefix Object 0 68 5) (Whole (codes "a.o"))
     ≡ codes "{\"line\":\"A\",\"index\":0,\"offset\":68,\"size\":5,\"name\":\"a.o\"}\n")

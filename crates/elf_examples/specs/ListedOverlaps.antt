@@ -89,8 +89,8 @@ OverlapsBySegmentsAlone =
     × (report covered 8 63 NOTES ≡ [])
 
 -- the file's own checks stand before it, and it asks for nothing more
-abbrev pub OverlapsBehindTheLoad : Type 0
-OverlapsBehindTheLoad =
+abbrev pub OverlapsAfterTheLoad : Type 0
+OverlapsAfterTheLoad =
     (report_of Columns (listing covered 1 by_segments SEGMENTS) ≡ codes "! 0000000000000038 too-many-headers\n")
     × (listing_cost covered 8 by_segments SEGMENTS ≡ 64 + 112)
     × (listing_cost covered 8 by_segments SYMBOLS ≡ 64)

@@ -8,8 +8,8 @@ use Rattle.elf_model.specs.Fixtures.{with_bytes, one_symbol_table}
 use Rattle.elf_model.specs.FixturesHash.{hash_with_cycle}
 use Rattle.elf_model.specs.FixturesTables.{tables_over_headers, special_places, odd_name}
 use Rattle.elf_model.specs.Lines.{named_line, steps_line}
-use Rattle.elf_model.specs.LineFronts.{symbol_front}
-use Rattle.elf_model.specs.Names.Shown.{Whole}
+use Rattle.elf_model.specs.LineFronts.{symbol_prefix}
+use Rattle.elf_model.specs.Names.DisplayedName.{Whole}
 
 -- one symbol table: the whole listing
 abbrev pub OneSymbolTableLists : Type 0
@@ -162,8 +162,8 @@ SpecialPlacesList =
     ++ codes "Y     1          4 0000000000000000 0000000000000000      13      9 PROTECTED 65285 \n"
 
 -- a backslash is doubled, a byte that is no printing character is spelt
-abbrev pub OddBytesAreSpelt : Type 0
-OddBytesAreSpelt =
+abbrev pub OddBytesAreEscaped : Type 0
+OddBytesAreEscaped =
     (report odd_name 3 63 SYMBOLS
     ≡ codes "Y     1          0 0000000000000000 0000000000000000 NOTYPE  LOCAL  DEFAULT   UND   a\\\\b\\x07\n")
     × (report odd_name 3 3 SYMBOLS
@@ -178,7 +178,7 @@ EmptySymbolTableIsNotChecked =
 -- the lines of a lookup: the symbol with the wanted name, whole, and the number of symbols compared
 abbrev pub LookupLinesList : Type 0
 LookupLinesList =
-    (named_line (symbol_front Columns false 62 hash_with_cycle 0x88 2 2) (Whole (codes "b")) ++ steps_line Columns true 2
+    (named_line (symbol_prefix Columns false 62 hash_with_cycle 0x88 2 2) (Whole (codes "b")) ++ steps_line Columns true 2
     ≡ codes "Y     2          2 0000000000000020 0000000000000000 FUNC    GLOBAL DEFAULT   ABS   b\n"
     ++ codes "F found           2\n")
     × (steps_line Columns false 2 ≡ codes "F absent          2\n")

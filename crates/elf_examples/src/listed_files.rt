@@ -1,5 +1,5 @@
 //! Many files listed, and archives checked, each example computed by the prover.
-ghost use Rattle.elf_examples.specs.ListedFiles.{ArchiveFaults, BudgetsBehind, FaultsBehindNames, FileSorts, HeadedListings, ListStatuses, MembersAlone, PathLines};
+ghost use Rattle.elf_examples.specs.ListedFiles.{ArchiveFaults, BudgetsAfter, FaultsAfterNames, FileSorts, HeadedListings, ListStatuses, MembersAlone, PathLines};
 
 /// The line of a path.
 #[tactic(auto, unfolding(elf_model::proofs::OnLiterals::on_literals))]
@@ -27,8 +27,8 @@ pub fn file_sorts()
 
 /// What is left of a budget behind the bytes that tell what a file is.
 #[tactic(auto, unfolding(elf_model::proofs::OnLiterals::on_literals))]
-pub fn budgets_behind()
-    ensures { BudgetsBehind }
+pub fn budgets_after()
+    ensures { BudgetsAfter }
 {}
 
 /// The fault of an archive: the first of its members' and of its own.
@@ -45,6 +45,6 @@ pub fn members_stand_alone()
 
 /// Faults of members behind a name in their data, and members without one.
 #[tactic(auto, unfolding(elf_model::proofs::OnLiterals::on_literals))]
-pub fn faults_behind_names()
-    ensures { FaultsBehindNames }
+pub fn faults_after_names()
+    ensures { FaultsAfterNames }
 {}

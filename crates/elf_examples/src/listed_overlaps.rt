@@ -1,5 +1,5 @@
 //! Listings by the program headers of files whose LOAD segments lie over each other, each computed by the prover.
-ghost use Rattle.elf_examples.specs.ListedOverlaps.{PagesAreShared, OthersTakeNoPages, AddressesRise, PagesDoNotWrap, OverlapsBySegmentsAlone, OverlapsBehindTheLoad};
+ghost use Rattle.elf_examples.specs.ListedOverlaps.{PagesAreShared, OthersTakeNoPages, AddressesRise, PagesDoNotWrap, OverlapsBySegmentsAlone, OverlapsAfterTheLoad};
 
 /// Two LOAD segments over one page, and two whose pages touch.
 #[tactic(auto, unfolding(elf_model::proofs::OnLiterals::on_literals))]
@@ -33,6 +33,6 @@ pub fn overlaps_by_segments_alone()
 
 /// Which refusals stand before it, and what it asks for.
 #[tactic(auto, unfolding(elf_model::proofs::OnLiterals::on_literals))]
-pub fn overlaps_behind_the_load()
-    ensures { OverlapsBehindTheLoad }
+pub fn overlaps_after_the_load()
+    ensures { OverlapsAfterTheLoad }
 {}

@@ -1,5 +1,5 @@
 //! Listings of symbols, each computed by the prover.
-ghost use Rattle.elf_examples.specs.ListedSymbols.{OneSymbolTableLists, TablesOverHeadersList, HashFileLists, SymbolsOutsideTheFile, RangesOfOtherSections, SymbolTableChecksInOrder, HostileSizesKeepTheLinesBefore, SymbolNamesAreChecked, SpecialPlacesList, OddBytesAreSpelt, EmptySymbolTableIsNotChecked, LookupLinesList};
+ghost use Rattle.elf_examples.specs.ListedSymbols.{OneSymbolTableLists, TablesOverHeadersList, HashFileLists, SymbolsOutsideTheFile, RangesOfOtherSections, SymbolTableChecksInOrder, HostileSizesKeepTheLinesBefore, SymbolNamesAreChecked, SpecialPlacesList, OddBytesAreEscaped, EmptySymbolTableIsNotChecked, LookupLinesList};
 
 /// A file with one symbol table: its whole listing.
 #[tactic(auto, unfolding(elf_model::proofs::OnLiterals::on_literals))]
@@ -57,8 +57,8 @@ pub fn special_places_list()
 
 /// A backslash is doubled, and a byte that is no printing character is spelt.
 #[tactic(auto, unfolding(elf_model::proofs::OnLiterals::on_literals))]
-pub fn odd_bytes_are_spelt()
-    ensures { OddBytesAreSpelt }
+pub fn odd_bytes_are_escaped()
+    ensures { OddBytesAreEscaped }
 {}
 
 /// A symbol table of size 0 has no rows, and neither it nor its link is checked.

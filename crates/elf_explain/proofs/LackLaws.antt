@@ -12,11 +12,11 @@ use Rattle.elf_model.specs.declared.relocation_types.RelocationType.{RelocationT
 use Rattle.elf_model.specs.Tables.{linked_at, strings_of}
 use Rattle.elf_model.specs.declared.missing.Missing.{Missing}
 use Rattle.elf_model.specs.declared.missing.LayoutAddress.{LayoutAddress}
-use Rattle.elf_table.specs.Tables.{Strings, strings_in}
+use Rattle.elf_table.specs.Tables.{StringTableRange, strings_in}
 use Rattle.elf_record.specs.declared.rela.Rela.{Rela}
 use Rattle.elf_explain.specs.Explained.{EntryRead, NamesEntrySymbol, LackOf, Lacks}
-use Rattle.elf_explain.specs.declared.lacking.Lacking.{Lacking}
-use Rattle.elf_explain.specs.declared.lacking.SymbolOfEntry.{SymbolOfEntry}
+use Rattle.elf_explain.specs.declared.lacking.MissingItem.{MissingItem}
+use Rattle.elf_explain.specs.declared.lacking.RelocationSymbol.{RelocationSymbol}
 
 module _ (file : List ℕ) (header : ℕ) (layout : Layout) (section : ℕ) (refusal : Refusal) where
   -- the type is none that stores a value
@@ -30,25 +30,25 @@ module _ (file : List ℕ) (header : ℕ) (layout : Layout) (section : ℕ) (ref
   unlinked h = grind arith
 
   -- the symbol is known
-  pub missing_by : (named : SymbolOfEntry) (type : RelocationType) → NamesEntrySymbol file header refusal.at named → kind_of (r_type file refusal.at) ≡ Some type
+  pub missing_by : (named : RelocationSymbol) (type : RelocationType) → NamesEntrySymbol file header refusal.at named → kind_of (r_type file refusal.at) ≡ Some type
       → missing file header layout section refusal ≡ missing_of (r_type file refusal.at) named.name (wanted refusal.cause type layout section named.symbol)
   unfolding missing
   missing_by named type is kind = grind (arith, nat_tests, is.passed, is.zero, is.fields)
 
 -- the name of a symbol stands in the table that its section links to
-names_of : (file : List ℕ) (header rela : ℕ) (named : SymbolOfEntry) → NamesEntrySymbol file header rela named → named.name ≢ 0
+names_of : (file : List ℕ) (header rela : ℕ) (named : RelocationSymbol) → NamesEntrySymbol file header rela named → named.name ≢ 0
     → strings_in file named.names ≡ strings_of file (linked_at file header)
 names_of file header rela named is some = (is.fields (λ zero. some (is.zero zero).0)).2
 
 -- what is missing, by what is wanted
-pub lacks_by : (file : List ℕ) (header rela kind : ℕ) (named : SymbolOfEntry) (wanted : Option LayoutAddress) (missed : Option Missing) (found : Option Lacking)
+pub lacks_by : (file : List ℕ) (header rela kind : ℕ) (named : RelocationSymbol) (wanted : Option LayoutAddress) (missed : Option Missing) (found : Option MissingItem)
     → NamesEntrySymbol file header rela named → missed ≡ missing_of kind named.name wanted → LackOf kind named wanted found → Lacks file header missed found
 unfolding missing_of
 lacks_by file header rela kind named wanted missed None is same lack = same ∙ lack
 lacks_by file header rela kind named None missed (Some lacking) is same lack = absurd (cc)
 lacks_by file header rela kind named (Some wanted) missed (Some lacking) is same lack =
     let here : named.name ≡ lacking.missing.name = grind arith in
-    (same ∙ lack.0, λ some. ap (λ (n : Strings). strings_in file n) lack.1 ∙ names_of file header rela named is (λ zero. some (sym here ∙ zero)))
+    (same ∙ lack.0, λ some. ap (λ (n : StringTableRange). strings_in file n) lack.1 ∙ names_of file header rela named is (λ zero. some (sym here ∙ zero)))
 
 -- the type of an entry, and its symbol, as the code has them
 pub type_is : (file : List ℕ) (at : ℕ) (entry : Rela) {kind : ℕ} → EntryRead file at (Ok entry) → kind ≡ entry.r_info % 2 ^ 32 → kind ≡ r_type file at

@@ -1,40 +1,40 @@
 -- What is told of a symbol's name.
 use Rattle.std.proofs.Common.{◌≡◌, ◌≢◌, ℕ, List, [], Some, Option, None, Result, Ok, Err, refl, arith}
-use Rattle.elf_model.specs.Explain.{ITEM_NAME_SIZE, told_symbol_name}
-use Rattle.elf_model.specs.Names.{Shown, shown}
-use Rattle.elf_model.specs.Names.Shown.{Whole as ShownWhole}
+use Rattle.elf_model.specs.Explain.{ITEM_NAME_SIZE, resolved_symbol_name}
+use Rattle.elf_model.specs.Names.{DisplayedName, shown}
+use Rattle.elf_model.specs.Names.DisplayedName.{Whole as ShownWhole}
 use Rattle.elf_model.specs.declared.causes.Cause.{Cause}
-use Rattle.elf_source.specs.Source.{Counting, Reads}
-use Rattle.elf_headers.specs.Faults.{Says}
-use Rattle.elf_headers.specs.Ledger.{Did, why_stopped}
+use Rattle.elf_source.specs.Source.{CountedState, ReadsUpTo}
+use Rattle.elf_headers.specs.Faults.{IsReadFault}
+use Rattle.elf_headers.specs.Ledger.{CallDid, fault_of_result}
 use Rattle.elf_headers.specs.declared.fault.Fault.{Fault}
 use Rattle.elf_headers.specs.declared.fault.Fault.TheVariants.{Refused, Source}
-use Rattle.elf_headers.proofs.LedgerLaws.{Did-of}
+use Rattle.elf_headers.proofs.LedgerLaws.{CallDid-of}
 use Rattle.elf_table.specs.NamesRead.{NameRead, Refuses, shown_by}
 use Rattle.elf_table.specs.declared.names.NameEnd.{NameEnd}
 use Rattle.elf_table.specs.declared.names.NameEnd.TheVariants.{Whole, Cut}
-use Rattle.elf_explain.specs.Explained.{TellsSymbolName, WithoutName}
+use Rattle.elf_explain.specs.Explained.{ReturnsSymbolName, WithoutName}
 
 -- there is no name where st_name is 0, else the one that is shown
-pub unnamed : (strings : List ℕ) (index : ℕ) → index ≡ 0 → told_symbol_name strings index ≡ Ok (ShownWhole [])
-unfolding told_symbol_name
+pub unnamed : (strings : List ℕ) (index : ℕ) → index ≡ 0 → resolved_symbol_name strings index ≡ Ok (ShownWhole [])
+unfolding resolved_symbol_name
 unnamed strings index zero = rw zero refl
 
-pub named : (strings : List ℕ) (index : ℕ) → index ≢ 0 → told_symbol_name strings index ≡ shown strings index ITEM_NAME_SIZE
-unfolding told_symbol_name
+pub named : (strings : List ℕ) (index : ℕ) → index ≢ 0 → resolved_symbol_name strings index ≡ shown strings index ITEM_NAME_SIZE
+unfolding resolved_symbol_name
 named strings index some = grind arith
 
 -- a name that was read
-pub read_tells : (at : ℕ) (end : NameEnd) (bytes : List ℕ) (answer : Result Shown Cause) → NameRead at (Ok end) bytes answer → TellsSymbolName answer (Ok (Some end)) bytes
+pub read_tells : (at : ℕ) (end : NameEnd) (bytes : List ℕ) (answer : Result DisplayedName Cause) → NameRead at (Ok end) bytes answer → ReturnsSymbolName answer (Ok (Some end)) bytes
 read_tells at Whole bytes answer read = read
 read_tells at Cut bytes answer read = read
 
 -- a name that was not
-pub fault_tells : (a b : Counting) (n at : ℕ) (name : List ℕ) (answer : List ℕ → Result Shown Cause) (fault : Fault) (result : Result (Option NameEnd) Fault)
-    → WithoutName fault result → Reads a b n → Says a b n fault → ((file : List ℕ) → a.seen.file ≡ Some file → Refuses at fault (answer file))
-    → Did a b (why_stopped result) n (λ file. TellsSymbolName (answer file) result name)
+pub fault_tells : (a b : CountedState) (n at : ℕ) (name : List ℕ) (answer : List ℕ → Result DisplayedName Cause) (fault : Fault) (result : Result (Option NameEnd) Fault)
+    → WithoutName fault result → ReadsUpTo a b n → IsReadFault a b n fault → ((file : List ℕ) → a.seen.file ≡ Some file → Refuses at fault (answer file))
+    → CallDid a b (fault_of_result result) n (λ file. ReturnsSymbolName (answer file) result name)
 fault_tells a b n at name answer fault (Ok (Some end)) without reads says refuses = absurd without
 fault_tells a b n at name answer fault (Ok None) without reads says refuses =
-    Did-of reads tt (λ file held. let r = rw without.1 at (refuses file held) in (without.0.cause, (r without.2).1))
+    CallDid-of reads tt (λ file held. let r = rw without.1 at (refuses file held) in (without.0.cause, (r without.2).1))
 fault_tells a b n at name answer fault (Err same) without reads says refuses =
-    Did-of reads (rw without.0 says) (λ file held. rw without.0 without.1)
+    CallDid-of reads (rw without.0 says) (λ file held. rw without.0 without.1)

@@ -1,11 +1,11 @@
 -- What a layout lacks where a section was refused, as the code answers it, and what that asks for.
 use Rattle.std.specs.Prelude.{ℕ, ◌≡◌, ◌≢◌, ◌+◌, ◌*◌, ◌/◌, ◌-◌, ◌≤◌, ◌==◌, ◌&&◌, nat_lt, Bool, true, false, List, ◌++◌, Option, None, Some, Result, Ok, Err, IfSome}
 use Rattle.elf_model.specs.Apply.{symbol_checks}
-use Rattle.elf_model.specs.Budget.{IsBudget}
+use Rattle.elf_model.specs.Budget.{IsBudgetRefusal}
 use Rattle.elf_model.specs.Checks.{first_refusal, header_checks, load_checks}
-use Rattle.elf_model.specs.Explain.{Lack, missing_of, refused_in, relocates_at}
+use Rattle.elf_model.specs.Explain.{MissingEntry, missing_of, refused_in, relocates_at}
 use Rattle.elf_model.specs.Hash.{symbol_at}
-use Rattle.elf_model.specs.Names.{Shown, pad64}
+use Rattle.elf_model.specs.Names.{DisplayedName, pad64}
 use Rattle.elf_model.specs.Records.{r_sym, section_at, st_name, st_shndx, st_type}
 use Rattle.elf_model.specs.Tables.{linked_at, strings_of}
 use Rattle.elf_model.specs.declared.causes.Cause.{Cause}
@@ -20,18 +20,18 @@ use Rattle.elf_headers.specs.declared.fault.Fault.{Fault}
 use Rattle.elf_headers.specs.declared.fault.Fault.TheVariants.{Refused, Source}
 use Rattle.elf_table.specs.Cursors.{row_at}
 use Rattle.elf_table.specs.Relocations.{RefersTo}
-use Rattle.elf_table.specs.Tables.{Rows, Strings, SymbolsWithin, strings_in}
+use Rattle.elf_table.specs.Tables.{Rows, StringTableRange, SymbolTableInBounds, strings_in}
 use Rattle.elf_table.specs.declared.names.NameEnd.{NameEnd}
 use Rattle.elf_table.specs.NamesRead.{shown_by}
-use Rattle.elf_explain.specs.declared.lacking.Lacking.{Lacking}
-use Rattle.elf_explain.specs.declared.lacking.SymbolOfEntry.{SymbolOfEntry}
+use Rattle.elf_explain.specs.declared.lacking.MissingItem.{MissingItem}
+use Rattle.elf_explain.specs.declared.lacking.RelocationSymbol.{RelocationSymbol}
 
 -- an entry that is refused for this cause may lack an address
-unfoldable pub may_lack : Cause → Bool
-may_lack Unplaced = true
-may_lack Undefined = true
-may_lack Unsupported = true
-may_lack _ = false
+unfoldable pub may_be_missing : Cause → Bool
+may_be_missing Unplaced = true
+may_be_missing Undefined = true
+may_be_missing Unsupported = true
+may_be_missing _ = false
 
 -- how many bytes of the entry, its symbol, and the symbol's name
 abbrev pub entry_bytes : ℕ
@@ -42,18 +42,18 @@ abbrev pub explain_bytes : ℕ → ℕ
 explain_bytes slots = 64 + 64 * slots + entry_bytes
 
 -- what is lacking, with the bytes of the symbol's name
-abbrev pub lack_as : List ℕ → Option (Missing × NameEnd) → Option Lack
+abbrev pub lack_as : List ℕ → Option (Missing × NameEnd) → Option MissingEntry
 lack_as name None = None
 lack_as name (Some found) = Some (record { missing = found.0; name = shown_by found.1 name })
 
 -- WHAT IS EXPLAINED of a file: what the layout lacks; or the refusal of the file's own checks, unless it is for want of budget
-abbrev pub Explains : List ℕ → (headers : ℕ) → Option Lack → Result (Option (Missing × NameEnd)) Fault → List ℕ → Type 0
+abbrev pub Explains : List ℕ → (headers : ℕ) → Option MissingEntry → Result (Option (Missing × NameEnd)) Fault → List ℕ → Type 0
 Explains file headers lack (Ok found) name = lack_as name found ≡ lack
-Explains file headers lack (Err (Refused refusal)) name = (IsBudget refusal → ⊥) → first_refusal (header_checks file ++ load_checks file headers) ≡ Some refusal
+Explains file headers lack (Err (Refused refusal)) name = (IsBudgetRefusal refusal → ⊥) → first_refusal (header_checks file ++ load_checks file headers) ≡ Some refusal
 Explains file headers lack (Err (Source fault at)) name = Unit {0}
 
 -- the same behind those checks: nothing is refused but for want of budget
-abbrev pub ExplainsLoaded : Option Lack → Result (Option (Missing × NameEnd)) Fault → List ℕ → Type 0
+abbrev pub ExplainsLoaded : Option MissingEntry → Result (Option (Missing × NameEnd)) Fault → List ℕ → Type 0
 ExplainsLoaded lack (Ok found) name = lack_as name found ≡ lack
 ExplainsLoaded lack (Err fault) name = IsOfRead fault
 
@@ -62,16 +62,16 @@ abbrev pub has_row : Rows → ℕ → Bool
 has_row table at = let index = (at - table.at) / 24 in nat_lt index table.count && row_at table index == at
 
 -- a section relocates another and has an entry at an offset, and refers to these symbols; or it does not
-abbrev pub HasEntry : List ℕ → ℕ → ℕ → ℕ → Option (Option (Rows × Strings)) → Type 0
+abbrev pub HasEntry : List ℕ → ℕ → ℕ → ℕ → Option (Option (Rows × StringTableRange)) → Type 0
 HasEntry file section rela header None = relocates_at file section rela header ≡ false
 HasEntry file section rela header (Some linked) = (relocates_at file section rela header ≡ true) × RefersTo file header linked
 
 -- an entry lies within a source of this size, and the symbols that it may refer to
-abbrev pub EntryWithin : ℕ → ℕ → Option (Rows × Strings) → Type 0
-EntryWithin size rela linked = (rela + 24 ≤ size) × IfSome linked (SymbolsWithin size)
+abbrev pub EntryWithin : ℕ → ℕ → Option (Rows × StringTableRange) → Type 0
+EntryWithin size rela linked = (rela + 24 ≤ size) × IfSome linked (SymbolTableInBounds size)
 
 -- THE SECTION OF ENTRIES that a refusal points into, by the symbols that it refers to
-abbrev pub FoundEntries : List ℕ → ℕ → ℕ → Option (Option (Rows × Strings)) → Type 0
+abbrev pub FoundEntries : List ℕ → ℕ → ℕ → Option (Option (Rows × StringTableRange)) → Type 0
 FoundEntries file section rela None = refused_in file section rela ≡ None
 FoundEntries file section rela (Some linked) = (index : ℕ) × (refused_in file section rela ≡ Some index) × RefersTo file (section_at file index) linked
 
@@ -81,7 +81,7 @@ EntryRead file at (Ok entry) = IsRela file at entry
 EntryRead file at (Err fault) = IsOfRead fault
 
 -- the symbol that an entry names is symbol 0, or one of the linked table's, whose names are those of its string table
-pub record NamesEntrySymbol (file : List ℕ) (header rela : ℕ) (named : SymbolOfEntry) : Type 0 where
+pub record NamesEntrySymbol (file : List ℕ) (header rela : ℕ) (named : RelocationSymbol) : Type 0 where
   pub passed : first_refusal (symbol_checks file header rela) ≡ None
   pub zero : r_sym file rela ≡ 0 → (named.name ≡ 0) × (named.symbol ≡ None)
   pub fields : r_sym file rela ≢ 0
@@ -91,35 +91,35 @@ pub record NamesEntrySymbol (file : List ℕ) (header rela : ℕ) (named : Symbo
       × (strings_in file named.names ≡ strings_of file (linked_at file header))
 
 -- it was read, or is none
-abbrev pub EntrySymbolRead : List ℕ → (header rela : ℕ) → Result (Option SymbolOfEntry) Fault → Type 0
+abbrev pub EntrySymbolRead : List ℕ → (header rela : ℕ) → Result (Option RelocationSymbol) Fault → Type 0
 EntrySymbolRead file header rela (Ok None) = first_refusal (symbol_checks file header rela) ≢ None
 EntrySymbolRead file header rela (Ok (Some named)) = NamesEntrySymbol file header rela named
 EntrySymbolRead file header rela (Err fault) = IsOfRead fault
 
 -- what an entry of the type of a number lacks, by its symbol and what is wanted
-abbrev pub LackOf : (kind : ℕ) → SymbolOfEntry → Option LayoutAddress → Option Lacking → Type 0
+abbrev pub LackOf : (kind : ℕ) → RelocationSymbol → Option LayoutAddress → Option MissingItem → Type 0
 LackOf kind named wanted None = missing_of kind named.name wanted ≡ None
 LackOf kind named wanted (Some lacking) = (missing_of kind named.name wanted ≡ Some lacking.missing) × (lacking.names ≡ named.names)
 
 -- what is missing is known, with the string table of the symbol's name where it has one
-abbrev pub Lacks : List ℕ → (header : ℕ) → Option Missing → Option Lacking → Type 0
+abbrev pub Lacks : List ℕ → (header : ℕ) → Option Missing → Option MissingItem → Type 0
 Lacks file header missing None = missing ≡ None
 Lacks file header missing (Some lacking) =
     (missing ≡ Some lacking.missing) × (lacking.missing.name ≢ 0 → strings_in file lacking.names ≡ strings_of file (linked_at file header))
 
 -- that, once the entry was read
-abbrev pub LacksRead : List ℕ → (header : ℕ) → Option Missing → Result (Option Lacking) Fault → Type 0
+abbrev pub LacksRead : List ℕ → (header : ℕ) → Option Missing → Result (Option MissingItem) Fault → Type 0
 LacksRead file header missing (Ok found) = Lacks file header missing found
 LacksRead file header missing (Err fault) = IsOfRead fault
 
 -- a name is read, or has a fault
-abbrev pub TellsSymbolName : Result Shown Cause → Result (Option NameEnd) Fault → List ℕ → Type 0
-TellsSymbolName answer (Ok (Some end)) name = answer ≡ Ok (shown_by end name)
-TellsSymbolName answer (Ok None) name = (cause : Cause) × (answer ≡ Err cause)
-TellsSymbolName answer (Err fault) name = IsOfRead fault
+abbrev pub ReturnsSymbolName : Result DisplayedName Cause → Result (Option NameEnd) Fault → List ℕ → Type 0
+ReturnsSymbolName answer (Ok (Some end)) name = answer ≡ Ok (shown_by end name)
+ReturnsSymbolName answer (Ok None) name = (cause : Cause) × (answer ≡ Err cause)
+ReturnsSymbolName answer (Err fault) name = IsOfRead fault
 
 -- a name that is refused by a check is none; any other fault stays
 abbrev pub WithoutName : Fault → Result (Option NameEnd) Fault → Type 0
 WithoutName fault (Ok (Some end)) = ⊥
-WithoutName fault (Ok None) = (refusal : Refusal) × (fault ≡ Refused refusal) × (IsBudget refusal → ⊥)
+WithoutName fault (Ok None) = (refusal : Refusal) × (fault ≡ Refused refusal) × (IsBudgetRefusal refusal → ⊥)
 WithoutName fault (Err same) = (same ≡ fault) × IsOfRead fault

@@ -1,20 +1,20 @@
 //! The section of relocation entries that a refusal points into.
 ghost use Rattle.std.specs.Prelude.{◌≡◌, ℕ, ◌<◌, List, IfSome};
 ghost use Rattle.elf_model.specs.Records.{section_at};
-ghost use Rattle.elf_headers.specs.Load.{Belongs};
+ghost use Rattle.elf_headers.specs.Load.{HoldsSectionHeaders};
 ghost use Rattle.elf_explain.specs.Explained.{EntryWithin, FoundEntries, HasEntry, has_row};
 
 use elf_table::{File, Names, Table};
 
 /// Symbols with the string table of their names.
-pub(crate) type LinkedSymbols = Option<(Table, Names)>;
+pub(crate) type LinkedSymbolTable = Option<(Table, Names)>;
 
 /// The first section of relocation entries for a section whose checks pass and of whose entries one
 /// stands at the file offset `rela` (gABI 4, Relocation): the symbols that it refers to. None where
 /// there is no such section. No bytes are read.
-pub(crate) fn entries_at(file: &File<'_>, section: u16, rela: u64) -> Option<LinkedSymbols>
+pub(crate) fn entries_at(file: &File<'_>, section: u16, rela: u64) -> Option<LinkedSymbolTable>
     ensures within { IfSome result (EntryWithin file.now.loaded.size rela) }
-    ensures found { (bytes : List ℕ) → Belongs bytes file.now.loaded file.now.store.now →
+    ensures found { (bytes : List ℕ) → HoldsSectionHeaders bytes file.now.loaded file.now.store.now →
         FoundEntries bytes section rela result }
 {
     for index in 0..file.sections() {
@@ -27,10 +27,10 @@ pub(crate) fn entries_at(file: &File<'_>, section: u16, rela: u64) -> Option<Lin
 
 /// The symbols that the section of an index refers to, where it holds relocation entries for
 /// another, its checks pass, and one of its entries stands at the file offset `rela`.
-fn entry_in(file: &File<'_>, index: u16, section: u16, rela: u64) -> Option<LinkedSymbols>
+fn entry_in(file: &File<'_>, index: u16, section: u16, rela: u64) -> Option<LinkedSymbolTable>
     requires { index < file.now.store.now.loaded }
     ensures within { IfSome result (EntryWithin file.now.loaded.size rela) }
-    ensures has { (bytes : List ℕ) → Belongs bytes file.now.loaded file.now.store.now →
+    ensures has { (bytes : List ℕ) → HoldsSectionHeaders bytes file.now.loaded file.now.store.now →
         HasEntry bytes section rela (section_at bytes index) result }
 {
     if !file.section(index).applies_to(section) {

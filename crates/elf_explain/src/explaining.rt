@@ -1,10 +1,10 @@
 //! The call that explains a refusal.
 ghost use Rattle.std.specs.Prelude.{◌≡◌, ℕ, List, false};
 ghost use Rattle.elf_model.specs.Explain.{explained};
-ghost use Rattle.elf_headers.specs.Ledger.{Did, why_stopped};
-ghost use Rattle.elf_headers.specs.Load.{Belongs};
+ghost use Rattle.elf_headers.specs.Ledger.{CallDid, fault_of_result};
+ghost use Rattle.elf_headers.specs.Load.{HoldsSectionHeaders};
 ghost use Rattle.elf_explain.specs.Explained.{Explains, ExplainsLoaded, entry_bytes};
-ghost use Rattle.elf_explain.specs.Explained.{explain_bytes, may_lack};
+ghost use Rattle.elf_explain.specs.Explained.{explain_bytes, may_be_missing};
 
 use crate::entries::entries_at;
 use crate::lacking::lacking_at;
@@ -42,12 +42,12 @@ pub fn explain<S: Source>(
     name: &mut NameBuf,
 ) -> Result<Option<(Missing, NameEnd)>, Fault>
     ensures slots { store.new.slots ≡ store.old.slots }
-    ensures unread { may_lack refusal.cause ≡ false → src.new ≡ src.old }
-    ensures did { Did src.old src.new (why_stopped result) (explain_bytes store.old.slots)
+    ensures unread { may_be_missing refusal.cause ≡ false → src.new ≡ src.old }
+    ensures did { CallDid src.old src.new (fault_of_result result) (explain_bytes store.old.slots)
         (λ file. Explains file store.old.slots (explained file section layout.now refusal) result
         name.new) }
 {
-    if !may_lack(refusal.cause) {
+    if !may_be_missing(refusal.cause) {
         return Ok(None);
     }
     let header = header(src)?;
@@ -56,9 +56,9 @@ pub fn explain<S: Source>(
 }
 
 /// Whether an entry that is refused for this cause may lack an address.
-#[tactic(auto, unfolding(crate::specs::Explained::may_lack))]
-fn may_lack(cause: Cause) -> bool
-    ensures { result ≡ may_lack cause }
+#[tactic(auto, unfolding(crate::specs::Explained::may_be_missing))]
+fn may_be_missing(cause: Cause) -> bool
+    ensures { result ≡ may_be_missing cause }
 {
     matches!(
         cause,
@@ -79,8 +79,8 @@ fn explain_loaded<S: Source>(
     name: &mut NameBuf,
 ) -> Result<Option<(Missing, NameEnd)>, Fault>
     requires { file.now.loaded.size ≡ src.old.seen.size }
-    ensures { Did src.old src.new (why_stopped result) entry_bytes
-        (λ bytes. Belongs bytes file.now.loaded file.now.store.now →
+    ensures { CallDid src.old src.new (fault_of_result result) entry_bytes
+        (λ bytes. HoldsSectionHeaders bytes file.now.loaded file.now.store.now →
         ExplainsLoaded (explained bytes section layout.now refusal) result name.new) }
 {
     let Some(linked) = entries_at(file, section, refusal.at) else {

@@ -1,29 +1,29 @@
 //! What an entry lacks in a layout.
 ghost use Rattle.std.specs.Prelude.{◌≡◌, ◌+◌, ◌≤◌, ℕ, List, IfOk, IfSome};
-ghost use Rattle.elf_model.specs.Explain.{entry_wanted, missing, name_wanted, place_wanted};
-ghost use Rattle.elf_model.specs.Explain.{system_wanted, wanted};
+ghost use Rattle.elf_model.specs.Explain.{missing_for_type, missing, name_wanted, missing_place};
+ghost use Rattle.elf_model.specs.Explain.{missing_ifunc_entry, wanted};
 ghost use Rattle.elf_model.specs.Records.{r_sym};
-ghost use Rattle.elf_headers.specs.Ledger.{Did, why_stopped};
+ghost use Rattle.elf_headers.specs.Ledger.{CallDid, fault_of_result};
 ghost use Rattle.elf_table.specs.Relocations.{RefersTo};
-ghost use Rattle.elf_table.specs.Tables.{StringsWithin, SymbolsWithin};
+ghost use Rattle.elf_table.specs.Tables.{StringsInBounds, SymbolTableInBounds};
 ghost use Rattle.elf_explain.specs.Explained.{EntryRead, EntryWithin, LackOf, LacksRead};
 ghost use Rattle.elf_explain.specs.Explained.{EntrySymbolRead};
 
-use crate::entries::LinkedSymbols;
+use crate::entries::LinkedSymbolTable;
 use elf_headers::{Fault, fill};
 use elf_layout::Addresses;
 use elf_model::{LayoutAddress, Missing};
 use elf_record::gnu_numbers::STT_GNU_IFUNC;
 use elf_record::numbers::{SHN_LORESERVE, SHN_UNDEF};
 use elf_record::{Cause, Refusal, Rela};
-use elf_reloc::{Base, Formula, RelocationType, relocation_type, takes_place};
+use elf_reloc::{Formula, RelocationBase, RelocationType, relocation_type, takes_place};
 use elf_source::{Counted, Source};
 use elf_table::Names;
 
 /// The symbol that an entry names: where its name begins, its section index and its type, which
 /// symbol 0 does not have, the string table of its name, and the file offset at which it stands.
 #[derive(Clone, Copy)]
-pub(crate) struct SymbolOfEntry {
+pub(crate) struct RelocationSymbol {
     pub(crate) name: u32,
     pub(crate) symbol: Option<(u16, u8)>,
     pub(crate) names: Names,
@@ -32,7 +32,7 @@ pub(crate) struct SymbolOfEntry {
 
 /// What an entry lacks, with the string table of its symbol's name, and the symbol's file offset.
 #[derive(Clone, Copy)]
-pub(crate) struct Lacking {
+pub(crate) struct MissingItem {
     pub(crate) missing: Missing,
     pub(crate) names: Names,
     pub(crate) at: u64,
@@ -48,14 +48,14 @@ pub(crate) fn lacking_at<S: Source>(
     layout: &Addresses<'_>,
     section: u16,
     refusal: Refusal,
-    linked: LinkedSymbols,
-) -> Result<Option<Lacking>, Fault>
+    linked: LinkedSymbolTable,
+) -> Result<Option<MissingItem>, Fault>
     requires { EntryWithin src.old.seen.size refusal.at linked }
-    ensures did { Did src.old src.new (why_stopped result) 48
+    ensures did { CallDid src.old src.new (fault_of_result result) 48
         (λ file. (header : ℕ) → RefersTo file header linked →
         LacksRead file header (missing file header layout.now section refusal) result) }
     ensures within { IfOk result (λ found.
-        IfSome found (λ lacking. StringsWithin src.old.seen.size lacking.names)) }
+        IfSome found (λ lacking. StringsInBounds src.old.seen.size lacking.names)) }
 {
     let entry = read_entry(src, refusal.at)?;
     let kind = entry.kind();
@@ -75,7 +75,7 @@ pub(crate) fn lacking_at<S: Source>(
 /// A fault of the read, or a refusal for want of budget, at that offset.
 fn read_entry<S: Source>(src: &mut Counted<S>, at: u64) -> Result<Rela, Fault>
     requires { at + 24 ≤ src.old.seen.size }
-    ensures { Did src.old src.new (why_stopped result) 24 (λ file. EntryRead file at result) }
+    ensures { CallDid src.old src.new (fault_of_result result) 24 (λ file. EntryRead file at result) }
 {
     let mut bytes = [0; 24];
     fill(src, at, &mut bytes)?;
@@ -89,18 +89,18 @@ fn read_entry<S: Source>(src: &mut Counted<S>, at: u64) -> Result<Rela, Fault>
 /// A fault of the read, or a refusal for want of budget, at the symbol's offset.
 fn read_symbol<S: Source>(
     src: &mut Counted<S>,
-    linked: LinkedSymbols,
+    linked: LinkedSymbolTable,
     symbol: u32,
-) -> Result<Option<SymbolOfEntry>, Fault>
-    requires { IfSome linked (SymbolsWithin src.old.seen.size) }
-    ensures did { Did src.old src.new (why_stopped result) 24
+) -> Result<Option<RelocationSymbol>, Fault>
+    requires { IfSome linked (SymbolTableInBounds src.old.seen.size) }
+    ensures did { CallDid src.old src.new (fault_of_result result) 24
         (λ file. (header rela : ℕ) → RefersTo file header linked → symbol ≡ r_sym file rela →
         EntrySymbolRead file header rela result) }
     ensures within { IfOk result (λ found.
-        IfSome found (λ named. StringsWithin src.old.seen.size named.names)) }
+        IfSome found (λ named. StringsInBounds src.old.seen.size named.names)) }
 {
     if symbol == 0 {
-        return Ok(Some(SymbolOfEntry {
+        return Ok(Some(RelocationSymbol {
             name: 0,
             symbol: None,
             names: Names::new(0, 0),
@@ -116,7 +116,7 @@ fn read_symbol<S: Source>(
     }
     let at = symbols.place(index);
     let fields = symbols.symbol(src, index)?;
-    Ok(Some(SymbolOfEntry {
+    Ok(Some(RelocationSymbol {
         name: fields.st_name,
         symbol: Some((fields.st_shndx, fields.kind())),
         names,
@@ -126,11 +126,15 @@ fn read_symbol<S: Source>(
 
 /// What an entry of the type of a number lacks, which names this symbol, where something is wanted.
 #[tactic(auto, unfolding(elf_model::specs::Explain::missing_of))]
-fn lacking_of(kind: u32, named: &SymbolOfEntry, wanted: Option<LayoutAddress>) -> Option<Lacking>
+fn lacking_of(
+    kind: u32,
+    named: &RelocationSymbol,
+    wanted: Option<LayoutAddress>,
+) -> Option<MissingItem>
     ensures { LackOf kind named.now wanted result }
 {
     let wanted = wanted?;
-    Some(Lacking {
+    Some(MissingItem {
         missing: Missing {
             kind,
             name: named.name,
@@ -156,23 +160,23 @@ fn wanted(
     ensures { result ≡ wanted cause found layout.now section symbol }
 {
     match cause {
-        Cause::Unplaced => place_wanted(found.formula, layout, section, symbol),
+        Cause::Unplaced => missing_place(found.formula, layout, section, symbol),
         Cause::Undefined => name_wanted(found.base, symbol),
-        Cause::Unsupported => entry_wanted(found.base, symbol),
+        Cause::Unsupported => missing_for_type(found.base, symbol),
         _ => None,
     }
 }
 
 /// The section without an address: that which is relocated where the formula takes P, else the
 /// symbol's, where its index is one of a section.
-#[tactic(auto, unfolding(elf_model::specs::Explain::place_wanted, elf_model::specs::Explain::symbol_place))]
-fn place_wanted(
+#[tactic(auto, unfolding(elf_model::specs::Explain::missing_place, elf_model::specs::Explain::symbol_place))]
+fn missing_place(
     formula: Formula,
     layout: &Addresses<'_>,
     section: u16,
     symbol: Option<(u16, u8)>,
 ) -> Option<LayoutAddress>
-    ensures { result ≡ place_wanted formula layout.now section symbol }
+    ensures { result ≡ missing_place formula layout.now section symbol }
 {
     if takes_place(formula) && layout.section_address(section).is_none() {
         return Some(LayoutAddress::Place(section));
@@ -186,7 +190,7 @@ fn place_wanted(
 
 /// What a base takes of a symbol's name is wanted; nothing where the entry names symbol 0.
 #[tactic(auto, unfolding(elf_model::specs::Explain::name_wanted))]
-fn name_wanted(base: Base, symbol: Option<(u16, u8)>) -> Option<LayoutAddress>
+fn name_wanted(base: RelocationBase, symbol: Option<(u16, u8)>) -> Option<LayoutAddress>
     ensures { result ≡ name_wanted base symbol }
 {
     match symbol {
@@ -197,23 +201,23 @@ fn name_wanted(base: Base, symbol: Option<(u16, u8)>) -> Option<LayoutAddress>
 
 /// The entry that is wanted of a symbol where the relocation entry is not applied without: that
 /// which the base takes, where S has none; nothing where the entry names symbol 0.
-#[tactic(auto, unfolding(elf_model::specs::Explain::entry_wanted))]
-fn entry_wanted(base: Base, symbol: Option<(u16, u8)>) -> Option<LayoutAddress>
-    ensures { result ≡ entry_wanted base symbol }
+#[tactic(auto, unfolding(elf_model::specs::Explain::missing_for_type))]
+fn missing_for_type(base: RelocationBase, symbol: Option<(u16, u8)>) -> Option<LayoutAddress>
+    ensures { result ≡ missing_for_type base symbol }
 {
     let (_, kind) = symbol?;
     match base {
-        Base::Symbol => system_wanted(kind),
-        Base::Linkage => Some(LayoutAddress::Entry),
-        Base::Table | Base::Thread => Some(LayoutAddress::Named(base)),
+        RelocationBase::Symbol => missing_ifunc_entry(kind),
+        RelocationBase::Linkage => Some(LayoutAddress::Entry),
+        RelocationBase::Table | RelocationBase::Thread => Some(LayoutAddress::Named(base)),
     }
 }
 
 /// What S of a type that is specific to the system wants: of an indirect function its procedure
 /// linkage table entry; nothing helps with another.
-#[tactic(auto, unfolding(elf_model::specs::Explain::system_wanted))]
-fn system_wanted(kind: u8) -> Option<LayoutAddress>
-    ensures { result ≡ system_wanted kind }
+#[tactic(auto, unfolding(elf_model::specs::Explain::missing_ifunc_entry))]
+fn missing_ifunc_entry(kind: u8) -> Option<LayoutAddress>
+    ensures { result ≡ missing_ifunc_entry kind }
 {
     if kind == STT_GNU_IFUNC {
         return Some(LayoutAddress::Entry);

@@ -1,13 +1,13 @@
 //! The name of the symbol that an entry names.
 ghost use Rattle.std.specs.Prelude.{◌≡◌, ℕ, List, [], IfErr};
-ghost use Rattle.elf_model.specs.Explain.{told_symbol_name};
+ghost use Rattle.elf_model.specs.Explain.{resolved_symbol_name};
 ghost use Rattle.elf_model.specs.Names.{pad64};
-ghost use Rattle.elf_headers.specs.Ledger.{Did, why_stopped};
-ghost use Rattle.elf_table.specs.Tables.{StringsWithin, strings_in};
-ghost use Rattle.elf_explain.specs.Explained.{TellsSymbolName, WithoutName};
+ghost use Rattle.elf_headers.specs.Ledger.{CallDid, fault_of_result};
+ghost use Rattle.elf_table.specs.Tables.{StringsInBounds, strings_in};
+ghost use Rattle.elf_explain.specs.Explained.{ReturnsSymbolName, WithoutName};
 
-use crate::lacking::Lacking;
-use elf_headers::{Cap, Fault};
+use crate::lacking::MissingItem;
+use elf_headers::{Fault, NameLimit};
 use elf_layout::ITEM_NAME_BYTES;
 use elf_record::Cause;
 use elf_source::{Counted, Source};
@@ -21,12 +21,12 @@ use elf_table::{NameBuf, NameEnd};
 /// A fault of a read, or a refusal for want of budget, at the offset that was asked for.
 pub(crate) fn read_name<S: Source>(
     src: &mut Counted<S>,
-    lacking: &Lacking,
+    lacking: &MissingItem,
     name: &mut NameBuf,
 ) -> Result<Option<NameEnd>, Fault>
-    requires { StringsWithin src.old.seen.size lacking.now.names }
-    ensures { Did src.old src.new (why_stopped result) (pad64 256)
-        (λ file. TellsSymbolName (told_symbol_name (strings_in file lacking.now.names)
+    requires { StringsInBounds src.old.seen.size lacking.now.names }
+    ensures { CallDid src.old src.new (fault_of_result result) (pad64 256)
+        (λ file. ReturnsSymbolName (resolved_symbol_name (strings_in file lacking.now.names)
         lacking.now.missing.name) result name.new) }
 {
     let off = lacking.missing.name;
@@ -34,7 +34,7 @@ pub(crate) fn read_name<S: Source>(
         name.clear();
         return Ok(Some(NameEnd::Whole));
     }
-    let cap = Cap {
+    let cap = NameLimit {
         bytes: ITEM_NAME_BYTES as u16,
     };
     match lacking

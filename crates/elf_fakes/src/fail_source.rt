@@ -1,6 +1,6 @@
 //! A source of which one read fails.
 ghost use Rattle.std.specs.Prelude.{◌≡◌, ℕ, ◌+◌, ◌≤◌, List, Some, None, length, take, drop, Err, IfErr, OnOk, ⊤};
-ghost use Rattle.elf_source.specs.Source.{Keeps, Faults};
+ghost use Rattle.elf_source.specs.Source.{Keeps, IsSourceFault};
 ghost use Rattle.elf_fakes.specs.Failing.{Failing, seen_failing};
 
 use elf_source::{Source, SourceFault};
@@ -54,7 +54,7 @@ impl<S: Source> Source for FailSource<S> {
         requires { at + length out.old ≤ self.old.source.size }
         ensures slice { (file : List ℕ) → self.old.source.file ≡ Some file → OnOk result
             (out.new ≡ take (length out.old) (drop at file)) }
-        ensures faults { IfErr result (Faults (seen_failing self.old) (seen_failing self.new)) }
+        ensures faults { IfErr result (IsSourceFault (seen_failing self.old) (seen_failing self.new)) }
         ensures keeps { Keeps (seen_failing self.old) (seen_failing self.new) }
         ensures fails { self.old.due ≡ Some 0 → (result ≡ Err SourceFault.Device)
             × (self.new.source ≡ self.old.source) × (self.new.due ≡ None) }

@@ -11,9 +11,9 @@ mod tape;
 mod turn_source;
 
 pub use fail_source::FailSource;
-pub use pieces::Pieces;
-pub use printer::Printer;
-pub use script::{Script, Trouble};
-pub use sources::Planned;
-pub use tape::{Tape, stands_at};
+pub use pieces::ChunkedReader;
+pub use printer::ShortWriter;
+pub use script::{FaultScript, InjectedFault};
+pub use sources::FaultySource;
+pub use tape::{EndlessReader, stands_at};
 pub use turn_source::TurnSource;

@@ -2,24 +2,24 @@
 ghost use Rattle.std.specs.Prelude.{◌≡◌, IfErr};
 ghost use Rattle.elf_source.specs.Reader.{IsTurn};
 
-use elf_source::{Reader, ReaderFault};
+use elf_source::{ReadAtFault, Reader};
 
 /// A reader of bytes in memory that tells its file. It gives at most seven bytes at a turn, and each
 /// third turn is interrupted.
 #[derive(Drop)]
-pub struct Pieces<'a> {
+pub struct ChunkedReader<'a> {
     bytes: &'a [u8],
     turns: u64,
     interrupted: u64,
 }
 
-impl<'a> Pieces<'a> {
+impl<'a> ChunkedReader<'a> {
     /// A reader of these bytes.
     pub fn new(bytes: &'a [u8]) -> Self
         ensures bytes { result.bytes.now ≡ bytes.now }
         ensures interrupted { result.interrupted ≡ 0 }
     {
-        Pieces {
+        ChunkedReader {
             bytes,
             turns: 0,
             interrupted: 0,
@@ -27,21 +27,21 @@ impl<'a> Pieces<'a> {
     }
 
     // Takes a turn, unless it is interrupted.
-    fn turn(&mut self) -> Result<(), ReaderFault>
+    fn turn(&mut self) -> Result<(), ReadAtFault>
         ensures bytes { self.new.bytes ≡ self.old.bytes }
         ensures turn { IsTurn self.old.interrupted self.new.interrupted result }
-        ensures interrupted { IfErr result (λ fault. fault ≡ ReaderFault.Interrupted) }
+        ensures interrupted { IfErr result (λ fault. fault ≡ ReadAtFault.Interrupted) }
     {
         self.turns = self.turns.saturating_add(1);
         if self.turns % 3 != 0 {
             return Ok(());
         }
         self.interrupted = self.interrupted.saturating_add(1);
-        Err(ReaderFault::Interrupted)
+        Err(ReadAtFault::Interrupted)
     }
 }
 
-impl<'a> Reader for Pieces<'a> {
+impl<'a> Reader for ChunkedReader<'a> {
     ghost use Rattle.std.specs.Prelude.{Some};
 
     ghost file = { λ r. Some r.bytes.now };
@@ -51,12 +51,12 @@ impl<'a> Reader for Pieces<'a> {
     /// Its bytes stay, wherever a turn reads.
     ghost one_turn = { λ before _ _ after. after.bytes ≡ before.bytes };
 
-    fn end(&mut self) -> Result<u64, ReaderFault> {
+    fn end(&mut self) -> Result<u64, ReadAtFault> {
         self.turn()?;
         Ok(self.bytes.len() as u64)
     }
 
-    fn read_at(&mut self, at: u64, out: &mut [u8]) -> Result<usize, ReaderFault> {
+    fn read_at(&mut self, at: u64, out: &mut [u8]) -> Result<usize, ReadAtFault> {
         self.turn()?;
         let start = at as usize;
         if start >= self.bytes.len() {

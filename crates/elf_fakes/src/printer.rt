@@ -1,27 +1,27 @@
 //! A writer that takes little.
 ghost use Rattle.std.specs.Prelude.{◌≡◌, []};
 
-use crate::script::{Script, Trouble};
+use crate::script::{FaultScript, InjectedFault};
 use std::alloc::Global;
 use std::io;
 use std::io::{Error, Write};
 
 /// A writer that takes at most so many bytes at a write.
 #[derive(Drop)]
-pub struct Printer<'a> {
+pub struct ShortWriter<'a> {
     /// What was written.
     pub written: Vec<u8>,
     most: usize,
-    script: &'a Script,
+    script: &'a FaultScript,
 }
 
-impl<'a> Printer<'a> {
+impl<'a> ShortWriter<'a> {
     /// A writer that takes at most `most` bytes at a write, and does what its script has.
-    pub fn new(most: usize, script: &'a Script, alloc: Global) -> Self
+    pub fn new(most: usize, script: &'a FaultScript, alloc: Global) -> Self
         ensures written { result.written.items ≡ [] }
         ensures most { result.most ≡ most }
     {
-        Printer {
+        ShortWriter {
             written: Vec::new(alloc),
             most,
             script,
@@ -29,11 +29,11 @@ impl<'a> Printer<'a> {
     }
 }
 
-impl<'a> Write for Printer<'a> {
+impl<'a> Write for ShortWriter<'a> {
     fn write(&mut self, buf: &[u8]) -> io::Result<usize> {
         match self.script.turn() {
-            Some(Trouble::Fails(kind)) => return Err(Error::from(kind)),
-            Some(Trouble::Ends) => return Ok(0),
+            Some(InjectedFault::Fails(kind)) => return Err(Error::from(kind)),
+            Some(InjectedFault::Ends) => return Ok(0),
             None => {}
         }
         let most = buf.len().min(self.most);

@@ -4,7 +4,7 @@ use std::io::ErrorKind;
 
 /// What goes wrong at a call of a device.
 #[derive(Clone, Copy)]
-pub enum Trouble {
+pub enum InjectedFault {
     /// The call fails.
     Fails(ErrorKind),
     /// The device says that it has ended.
@@ -14,14 +14,14 @@ pub enum Trouble {
 /// What a device meets at its next calls, and what was asked of it. A call that is interrupted is
 /// counted, and nothing else goes wrong at it.
 #[derive(Drop)]
-pub struct Script {
+pub struct FaultScript {
     // How many of the next seeks are interrupted, how many of the next reads or writes, and how many
     // behind each of those that goes well.
     seeks_interrupted: Cell<u32>,
     turns_interrupted: Cell<u32>,
     then_interrupted: Cell<u32>,
     // What goes wrong, once, and how many calls go well before it.
-    trouble: Cell<Option<Trouble>>,
+    trouble: Cell<Option<InjectedFault>>,
     well: Cell<u32>,
     calls: Cell<u32>,
     seeks: Cell<u32>,
@@ -29,10 +29,10 @@ pub struct Script {
     asked_to: Cell<u64>,
 }
 
-impl Script {
+impl FaultScript {
     /// Every call goes well.
     pub fn new() -> Self {
-        Script {
+        FaultScript {
             seeks_interrupted: Cell::new(0),
             turns_interrupted: Cell::new(0),
             then_interrupted: Cell::new(0),
@@ -45,7 +45,7 @@ impl Script {
     }
 
     /// So many calls go well, and then one goes wrong.
-    pub fn go_wrong(&self, well: u32, trouble: Trouble) {
+    pub fn go_wrong(&self, well: u32, trouble: InjectedFault) {
         self.well.set(well);
         self.trouble.set(Some(trouble));
     }
@@ -74,7 +74,7 @@ impl Script {
     }
 
     /// A seek: what goes wrong at it.
-    pub(crate) fn seek(&self) -> Option<Trouble> {
+    pub(crate) fn seek(&self) -> Option<InjectedFault> {
         let trouble = self.call(&self.seeks_interrupted);
         if matches!(trouble, None) {
             rise(&self.seeks);
@@ -83,7 +83,7 @@ impl Script {
     }
 
     /// A read or a write: what goes wrong at it.
-    pub(crate) fn turn(&self) -> Option<Trouble> {
+    pub(crate) fn turn(&self) -> Option<InjectedFault> {
         let trouble = self.call(&self.turns_interrupted);
         if matches!(trouble, None) {
             self.turns_interrupted.set(self.then_interrupted.get());
@@ -97,10 +97,10 @@ impl Script {
     }
 
     // A call, which may be one of those that are interrupted: what goes wrong at it.
-    fn call(&self, interrupted: &Cell<u32>) -> Option<Trouble> {
+    fn call(&self, interrupted: &Cell<u32>) -> Option<InjectedFault> {
         rise(&self.calls);
         if falls(interrupted) {
-            return Some(Trouble::Fails(ErrorKind::Interrupted));
+            return Some(InjectedFault::Fails(ErrorKind::Interrupted));
         }
         if falls(&self.well) {
             return None;

@@ -5,7 +5,7 @@ use elf_source::{Source, SourceFault};
 
 /// A source over bytes in memory that counts what it is asked for, and fails at one of its reads.
 #[derive(Drop)]
-pub struct Planned<'a> {
+pub struct FaultySource<'a> {
     /// The bytes that it gives.
     pub bytes: &'a [u8],
     /// The number of the read that fails, counted from 1 on; 0 where none does.
@@ -20,7 +20,7 @@ pub struct Planned<'a> {
     pub largest: usize,
 }
 
-impl<'a> Planned<'a> {
+impl<'a> FaultySource<'a> {
     /// A source over `bytes` whose read with the number `failing` fails, counted from 1 on. With 0
     /// none does.
     pub fn new(bytes: &'a [u8], failing: u32) -> Self
@@ -28,7 +28,7 @@ impl<'a> Planned<'a> {
         ensures failing { (result.failing ≡ failing) × (result.has_failed ≡ false) }
         ensures none_yet { (result.reads ≡ 0) × (result.asked ≡ 0) × (result.largest ≡ 0) }
     {
-        Planned {
+        FaultySource {
             bytes,
             failing,
             has_failed: false,
@@ -39,7 +39,7 @@ impl<'a> Planned<'a> {
     }
 }
 
-impl<'a> Source for Planned<'a> {
+impl<'a> Source for FaultySource<'a> {
     ghost use Rattle.std.specs.Prelude.{⊤, length, if◌then◌else◌};
     ghost use Rattle.elf_source.specs.Source.{unknown};
 

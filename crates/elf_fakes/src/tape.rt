@@ -1,7 +1,7 @@
 //! A reader of bytes that are never stored.
 ghost use Rattle.std.specs.Prelude.{◌≡◌, ◌+◌, ◌%◌, ◌≤◌, length};
 
-use crate::script::{Script, Trouble};
+use crate::script::{FaultScript, InjectedFault};
 use std::io;
 use std::io::{Error, ErrorKind, Read, Seek, SeekFrom};
 use std::os::unix::fs::FileExt;
@@ -10,19 +10,19 @@ use std::os::unix::fs::FileExt;
 /// it stands or at an offset. It gives at most so many bytes at a read. Where a call fails it stands
 /// elsewhere afterwards, unless it was interrupted.
 #[derive(Drop)]
-pub struct Tape<'a> {
+pub struct EndlessReader<'a> {
     length: u64,
     at: u64,
     most: usize,
-    script: &'a Script,
+    script: &'a FaultScript,
 }
 
-impl<'a> Tape<'a> {
+impl<'a> EndlessReader<'a> {
     /// A reader of `length` bytes that gives at most `most` at a read, and does what its script has.
-    pub fn new(length: u64, most: usize, script: &'a Script) -> Self
+    pub fn new(length: u64, most: usize, script: &'a FaultScript) -> Self
         ensures { (result.length ≡ length) × (result.at ≡ 0) × (result.most ≡ most) }
     {
-        Tape {
+        EndlessReader {
             length,
             at: 0,
             most,
@@ -54,12 +54,12 @@ impl<'a> Tape<'a> {
     }
 }
 
-impl<'a> Read for Tape<'a> {
+impl<'a> Read for EndlessReader<'a> {
     fn read(&mut self, buf: &mut [u8]) -> io::Result<usize> {
         self.script.ask_to(self.at.saturating_add(buf.len() as u64));
         match self.script.turn() {
-            Some(Trouble::Fails(kind)) => return Err(self.fault(kind)),
-            Some(Trouble::Ends) => {
+            Some(InjectedFault::Fails(kind)) => return Err(self.fault(kind)),
+            Some(InjectedFault::Ends) => {
                 self.stray();
                 return Ok(0);
             }
@@ -71,12 +71,12 @@ impl<'a> Read for Tape<'a> {
     }
 }
 
-impl<'a> FileExt for Tape<'a> {
+impl<'a> FileExt for EndlessReader<'a> {
     fn read_at(&self, buf: &mut [u8], offset: u64) -> io::Result<usize> {
         self.script.ask_to(offset.saturating_add(buf.len() as u64));
         match self.script.turn() {
-            Some(Trouble::Fails(kind)) => Err(Error::from(kind)),
-            Some(Trouble::Ends) => Ok(0),
+            Some(InjectedFault::Fails(kind)) => Err(Error::from(kind)),
+            Some(InjectedFault::Ends) => Ok(0),
             None => Ok(self.give(offset, buf)),
         }
     }
@@ -86,9 +86,9 @@ impl<'a> FileExt for Tape<'a> {
     }
 }
 
-impl<'a> Seek for Tape<'a> {
+impl<'a> Seek for EndlessReader<'a> {
     fn seek(&mut self, to: SeekFrom) -> io::Result<u64> {
-        if let Some(Trouble::Fails(kind)) = self.script.seek() {
+        if let Some(InjectedFault::Fails(kind)) = self.script.seek() {
             return Err(self.fault(kind));
         }
         self.at = match to {

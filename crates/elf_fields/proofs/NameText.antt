@@ -8,11 +8,11 @@ use Rattle.std.proofs.lemmas.Bool.Decides.{nat_tests}
 use Rattle.elf_model.specs.Fields.{string_byte, string_text, quoted, member_key}
 use Rattle.elf_model.specs.Text.{digit, hex}
 use Rattle.elf_model.specs.Lines.{name_byte_text, escaped, name_text}
-use Rattle.elf_model.specs.Names.{Shown}
+use Rattle.elf_model.specs.Names.{DisplayedName}
 use Rattle.elf_model.specs.declared.formats.Format.{Format}
 use Rattle.elf_model.specs.declared.formats.Format.TheVariants.{Columns, Object}
-use Rattle.elf_source.specs.Output.{Written}
-use Rattle.elf_fields.specs.Named.{line_tailed, spelt_bytes, shown_as}
+use Rattle.elf_source.specs.Output.{OutState}
+use Rattle.elf_fields.specs.Named.{line_tailed, escaped_bytes, shown_as}
 use Rattle.elf_fields.specs.Pieces.{TakesBefore, name_start, byte_text, spelt, name_closing}
 use Rattle.elf_fields.proofs.Pieces.{TakesBefore-more, TakesBefore-then}
 
@@ -89,7 +89,7 @@ unfolding spelt
 spelt-none format items name i over = rw (drop_all i name over) (append-nil items)
 
 -- a byte is put behind a line that may have been begun anew
-pub TakesBefore-name_byte : {a b c : Written} {text line room put : List ℕ} (format : Format) (name : List ℕ) (i : ℕ)
+pub TakesBefore-name_byte : {a b c : OutState} {text line room put : List ℕ} (format : Format) (name : List ℕ) (i : ℕ)
     → i < length name → TakesBefore a b text (line ++ spelt format (drop i name))
     → TakesBefore b c line room → put ≡ room ++ byte_text format (get_or name i 0)
     → TakesBefore a c text (put ++ spelt format (drop (i + 1) name))
@@ -162,8 +162,8 @@ spelt-object (byte ∷ name) =
     ∙ sym (string_text-append (name_byte_text byte) (escaped name))
 
 -- so it is spelt in both
-pub spelt-all : (format : Format) (name : List ℕ) → spelt format name ≡ spelt_bytes format name
-unfolding spelt_bytes
+pub spelt-all : (format : Format) (name : List ℕ) → spelt format name ≡ escaped_bytes format name
+unfolding escaped_bytes
 spelt-all Columns name = spelt-columns name
 spelt-all Object name = spelt-object name
 
@@ -186,20 +186,20 @@ named-pieces Object key line name false =
     rw (spelt-object name) (member-whole line (member_key key) (codes "\"") (string_text (escaped name)))
 
 -- more stands behind a name
-pub tailed-more : (format : Format) (key line : List ℕ) (name : Shown) (tail more : List ℕ)
+pub tailed-more : (format : Format) (key line : List ℕ) (name : DisplayedName) (tail more : List ℕ)
     → line_tailed format key line name tail ++ more ≡ line_tailed format key line name (tail ++ more)
 unfolding line_tailed
 tailed-more Columns key line name tail more = simp append_assoc
 tailed-more Object key line name tail more = simp append_assoc
 
 -- so a text behind it
-pub tailed-pieces : (format : Format) (key line : List ℕ) (name : Shown) (tail : List ℕ)
+pub tailed-pieces : (format : Format) (key line : List ℕ) (name : DisplayedName) (tail : List ℕ)
     → line_tailed format key line name tail ≡ line_tailed format key line name [] ++ tail
 tailed-pieces format key line name tail = sym (tailed-more format key line name [] tail)
 
 -- and another name
-pub joined-pieces : (format : Format) (key line : List ℕ) (name : Shown) (between other tail : List ℕ)
-    → line_tailed format key line name (between ++ (spelt_bytes format other ++ tail))
+pub joined-pieces : (format : Format) (key line : List ℕ) (name : DisplayedName) (between other tail : List ℕ)
+    → line_tailed format key line name (between ++ (escaped_bytes format other ++ tail))
     ≡ ((line_tailed format key line name [] ++ between) ++ spelt format other) ++ tail
 joined-pieces format key line name between other tail =
     let front = line_tailed format key line name [] in

@@ -9,34 +9,34 @@ use Rattle.std.proofs.lemmas.List.{drop_all}
 use Rattle.std.proofs.lemmas.List.Elements.{All-nil, All-cons, All-head, All-tail, All-append}
 use Rattle.elf_model.specs.Text.{digit, hex}
 use Rattle.elf_model.specs.Lines.{name_byte_text}
-use Rattle.elf_source.specs.Output.{Written}
+use Rattle.elf_source.specs.Output.{OutState}
 use Rattle.elf_fields.specs.Pieces.{TakesBefore}
-use Rattle.elf_fields.specs.Told.{IsPlain, told_byte, told_text}
+use Rattle.elf_fields.specs.Told.{IsPlain, reported_byte, reported_text}
 use Rattle.elf_fields.proofs.Pieces.{TakesBefore-more, TakesBefore-then}
 
 -- the bytes that are left are the next byte and those behind it
-told-next : (text : List ℕ) (i : ℕ) → i < length text → told_text (drop i text) ≡ told_byte (get_or text i 0) ++ told_text (drop (i + 1) text)
-unfolding told_text
+told-next : (text : List ℕ) (i : ℕ) → i < length text → reported_text (drop i text) ≡ reported_byte (get_or text i 0) ++ reported_text (drop (i + 1) text)
+unfolding reported_text
 told-next text i inside = rw (add-one, drop-cons text i 0 inside) refl
 
 -- no bytes are left
-pub told-none : (items text : List ℕ) (i : ℕ) → length text ≤ i → items ++ told_text (drop i text) ≡ items
-unfolding told_text
+pub told-none : (items text : List ℕ) (i : ℕ) → length text ≤ i → items ++ reported_text (drop i text) ≡ items
+unfolding reported_text
 told-none items text i over = rw (drop_all i text over) (append-nil items)
 
 -- a byte is put behind a line that may have been begun anew
-pub told-more : {a b c : Written} {whole line room put : List ℕ} (text : List ℕ) (i : ℕ)
-    → i < length text → TakesBefore a b whole (line ++ told_text (drop i text))
-    → TakesBefore b c line room → put ≡ room ++ told_byte (get_or text i 0)
-    → TakesBefore a c whole (put ++ told_text (drop (i + 1) text))
+pub told-more : {a b c : OutState} {whole line room put : List ℕ} (text : List ℕ) (i : ℕ)
+    → i < length text → TakesBefore a b whole (line ++ reported_text (drop i text))
+    → TakesBefore b c line room → put ≡ room ++ reported_byte (get_or text i 0)
+    → TakesBefore a c whole (put ++ reported_text (drop (i + 1) text))
 told-more {a} {b} {c} {whole} {line} {room} {put} text i inside before made is =
-    let byte = told_byte (get_or text i 0) in
-    let rest = told_text (drop (i + 1) text) in
-    let same : room ++ told_text (drop i text) ≡ put ++ rest =
+    let byte = reported_byte (get_or text i 0) in
+    let rest = reported_text (drop (i + 1) text) in
+    let same : room ++ reported_text (drop i text) ≡ put ++ rest =
     ap (λ xs. room ++ xs) (told-next text i inside)
     ∙ sym (append_assoc room byte rest)
     ∙ ap (λ xs. xs ++ rest) (sym is) in
-    rw (sym same) (TakesBefore-then before (TakesBefore-more (told_text (drop i text)) made))
+    rw (sym same) (TakesBefore-then before (TakesBefore-more (reported_text (drop i text)) made))
 
 -- a hexadecimal digit is a printing character
 digit-plain : (n : ℕ) → n < 16 → IsPlain (digit n)
@@ -55,8 +55,8 @@ digits-plain byte =
     (All-cons IsPlain low [] (digit-plain (byte / 16 ^ 0 % 16) (omega arith)) (All-nil IsPlain))
 
 -- each byte is told in plain bytes
-byte-plain : (byte : ℕ) → All IsPlain (told_byte byte)
-unfolding told_byte name_byte_text
+byte-plain : (byte : ℕ) → All IsPlain (reported_byte byte)
+unfolding reported_byte name_byte_text
 byte-plain byte = elim (cases_Bool (byte == 10)) [
   | inl is ↦ rw is (All-cons IsPlain 10 [] (inl refl) (All-nil IsPlain))
   | inr other ↦ rw other (elim (cases_Bool (byte == 0x5c)) [
@@ -69,14 +69,14 @@ byte-plain byte = elim (cases_Bool (byte == 10)) [
 ]
 
 -- a text is told in plain bytes
-pub told-plain : (text : List ℕ) → All IsPlain (told_text text)
-unfolding told_text
+pub told-plain : (text : List ℕ) → All IsPlain (reported_text text)
+unfolding reported_text
 told-plain [] = All-nil IsPlain
-told-plain (byte ∷ bytes) = All-append IsPlain (told_byte byte) (told_text bytes) (byte-plain byte) (told-plain bytes)
+told-plain (byte ∷ bytes) = All-append IsPlain (reported_byte byte) (reported_text bytes) (byte-plain byte) (told-plain bytes)
 
 -- a plain byte that is no backslash stands as it is
-byte-stands : (byte : ℕ) → IsPlain byte → byte ≢ 0x5c → told_byte byte ≡ byte ∷ []
-unfolding told_byte name_byte_text
+byte-stands : (byte : ℕ) → IsPlain byte → byte ≢ 0x5c → reported_byte byte ≡ byte ∷ []
+unfolding reported_byte name_byte_text
 byte-stands byte (inl is) other = rw is refl
 byte-stands byte (inr prints) other =
     let a : (byte == 10) ≡ false = grind (arith, nat_tests) in
@@ -86,8 +86,8 @@ byte-stands byte (inr prints) other =
     rw (a, b, c, d) refl
 
 -- a plain text without a backslash stands as it is
-pub told-stands : (text : List ℕ) → All IsPlain text → All (λ byte. byte ≢ 0x5c) text → told_text text ≡ text
-unfolding told_text
+pub told-stands : (text : List ℕ) → All IsPlain text → All (λ byte. byte ≢ 0x5c) text → reported_text text ≡ text
+unfolding reported_text
 told-stands [] plain others = refl
 told-stands (byte ∷ bytes) plain others =
     rw (

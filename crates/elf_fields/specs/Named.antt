@@ -1,21 +1,21 @@
 -- Lines that end in a name, and what stands behind it.
 pub use Rattle.elf_model.specs.ShownNames.{shown_as}
 use Rattle.std.specs.Prelude.{ℕ, List, ◌++◌}
-use Rattle.elf_model.specs.Fields.{LineFront, string_text}
+use Rattle.elf_model.specs.Fields.{LinePrefix, string_text}
 use Rattle.elf_model.specs.Lines.{escaped, name_member, name_text}
-use Rattle.elf_model.specs.Names.{Shown}
+use Rattle.elf_model.specs.Names.{DisplayedName}
 use Rattle.elf_model.specs.declared.formats.Format.{Format}
 use Rattle.elf_model.specs.declared.formats.Format.TheVariants.{Columns, Object}
 
 -- a line that ends in a name and what stands behind it, the line's end too
-unfoldable pub line_tailed : Format → (key text : List ℕ) → Shown → List ℕ → List ℕ
+unfoldable pub line_tailed : Format → (key text : List ℕ) → DisplayedName → List ℕ → List ℕ
 line_tailed Columns key text name tail = text ++ (name_text name ++ tail)
 line_tailed Object key text name tail = text ++ (name_member key name ++ tail)
 
-abbrev pub tailed_line : LineFront → Shown → List ℕ → List ℕ
+abbrev pub tailed_line : LinePrefix → DisplayedName → List ℕ → List ℕ
 tailed_line front name tail = line_tailed front.format front.key front.text name tail
 
 -- the bytes of a name as they are spelt, in a column or in a string
-unfoldable pub spelt_bytes : Format → List ℕ → List ℕ
-spelt_bytes Columns name = escaped name
-spelt_bytes Object name = string_text (escaped name)
+unfoldable pub escaped_bytes : Format → List ℕ → List ℕ
+escaped_bytes Columns name = escaped name
+escaped_bytes Object name = string_text (escaped name)

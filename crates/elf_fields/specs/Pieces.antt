@@ -5,19 +5,19 @@ use Rattle.elf_model.specs.Lines.{name_byte_text, cut_mark}
 use Rattle.elf_model.specs.declared.formats.Format.{Format}
 use Rattle.elf_model.specs.declared.formats.Format.TheVariants.{Columns, Object}
 use Rattle.elf_source.specs.declared.faults.OutFault.{OutFault}
-use Rattle.elf_source.specs.Output.{Written, Takes, TakesFront, OutFails}
+use Rattle.elf_source.specs.Output.{OutState, SinkTakes, SinkTakesPrefix, IsOutFault}
 
 -- the sink took what stands before the rest of a text
-pub record TakesBefore (old new : Written) (text rest : List ℕ) : Type 0 where
+pub record TakesBefore (old new : OutState) (text rest : List ℕ) : Type 0 where
   pub front : List ℕ
   pub split : text ≡ front ++ rest
-  pub takes : Takes old new front
+  pub takes : SinkTakes old new front
 
 -- a text was put, but for its rest, which is still in a line; or a front of it at a fault
-abbrev pub PutsBefore : {X : Type 0} → Written → Written → Result X OutFault
+abbrev pub PutsBefore : {X : Type 0} → OutState → OutState → Result X OutFault
     → (text rest : List ℕ) → Type 0
 PutsBefore old new (Ok x) text rest = TakesBefore old new text rest
-PutsBefore old new (Err fault) text rest = TakesFront old new text × OutFails new fault
+PutsBefore old new (Err fault) text rest = SinkTakesPrefix old new text × IsOutFault new fault
 
 -- what stands before a name of a key
 unfoldable pub name_start : Format → List ℕ → List ℕ

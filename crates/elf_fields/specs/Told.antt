@@ -4,13 +4,13 @@ use Rattle.elf_model.specs.Text.{newline}
 use Rattle.elf_model.specs.Lines.{name_byte_text}
 
 -- a byte of a text: a newline stands as it is, any other byte is spelt as in a name
-unfoldable pub told_byte : ℕ → List ℕ
-told_byte byte = if byte == 10 then newline else name_byte_text byte
+unfoldable pub reported_byte : ℕ → List ℕ
+reported_byte byte = if byte == 10 then newline else name_byte_text byte
 
 -- the bytes of a text, each as it is written there
-unfoldable pub told_text : List ℕ → List ℕ
-told_text [] = []
-told_text (byte ∷ bytes) = told_byte byte ++ told_text bytes
+unfoldable pub reported_text : List ℕ → List ℕ
+reported_text [] = []
+reported_text (byte ∷ bytes) = reported_byte byte ++ reported_text bytes
 
 -- a byte on which no terminal acts but by beginning a line: a newline, or a printing ASCII character
 abbrev pub IsPlain : ℕ → Type 0

@@ -4,7 +4,7 @@ ghost use Rattle.arrayvec.specs.ArrayVec.{array_vec_len};
 ghost use Rattle.elf_model.specs.Text.{digit, hex, spaces, left_in, right_in};
 ghost use Rattle.elf_model.specs.NameTables.{number_sign};
 
-use crate::hexadecimal::eight_digits;
+use crate::hexadecimal::hex8;
 use arrayvec::ArrayVec;
 use itoa::{Buffer, write_digits};
 
@@ -14,11 +14,11 @@ pub const LINE_BYTES: usize = 256;
 pub const DIGIT_BYTES: usize = 40;
 
 /// A line, or the front of one: at most 256 bytes.
-pub type Line = ArrayVec<u8, 256>;
+pub type LineBuf = ArrayVec<u8, 256>;
 
 /// Puts a text at the end.
 #[inline(always)]
-pub fn put(line: &mut Line, text: &[u8])
+pub fn put(line: &mut LineBuf, text: &[u8])
     requires { array_vec_len line.old + length text.now ≤ 256 }
     ensures items { line.new.items ≡ line.old.items ++ text.now }
     ensures len { array_vec_len line.new ≡ array_vec_len line.old + length text.now }
@@ -27,18 +27,18 @@ pub fn put(line: &mut Line, text: &[u8])
 }
 
 /// A line that begins with a text.
-pub fn line_of(text: &[u8]) -> Line
+pub fn line_of(text: &[u8]) -> LineBuf
     requires { length text.now ≤ 256 }
     ensures items { result.items ≡ text.now }
     ensures len { array_vec_len result ≡ length text.now }
 {
-    let mut line = Line::new();
+    let mut line = LineBuf::new();
     put(&mut line, text);
     line
 }
 
 /// Puts so many spaces at the end.
-pub(crate) fn put_spaces(line: &mut Line, count: usize)
+pub(crate) fn put_spaces(line: &mut LineBuf, count: usize)
     requires { array_vec_len line.old + count ≤ 256 }
     ensures items { line.new.items ≡ line.old.items ++ spaces count }
     ensures len { array_vec_len line.new ≡ array_vec_len line.old + count }
@@ -52,7 +52,7 @@ pub(crate) fn put_spaces(line: &mut Line, count: usize)
 /// text is not cut.
 #[inline(always)]
 #[tactic(auto, unfolding(elf_model::specs::Text::left_in))]
-pub(crate) fn put_left(line: &mut Line, width: usize, text: &[u8], end: u8)
+pub(crate) fn put_left(line: &mut LineBuf, width: usize, text: &[u8], end: u8)
     requires { array_vec_len line.old + (max width (length text.now) + 1) ≤ 256 }
     ensures items { line.new.items ≡ line.old.items ++ left_in width text.now ++ end ∷ [] }
     ensures len { array_vec_len line.new
@@ -86,7 +86,7 @@ fn fill_cell(cell: &mut [u8; 16], width: usize, text: &[u8], end: u8)
 /// Puts a decimal number at the right of a column of this width, and the byte that ends the column.
 /// A longer number is not cut.
 #[inline(always)]
-pub(crate) fn put_right(line: &mut Line, width: usize, number: u64, end: u8)
+pub(crate) fn put_right(line: &mut LineBuf, width: usize, number: u64, end: u8)
     requires width { width ≤ 20 }
     requires room { array_vec_len line.old + (max width (length (decimal number)) + 1) ≤ 256 }
     ensures items { line.new.items
@@ -119,7 +119,7 @@ fn write_cell(cell: &mut [u8; 24], number: u64, end: u8) -> usize
 
 /// A number behind a sign of one.
 #[tactic(auto, unfolding(elf_model::specs::NameTables::number_sign))]
-pub fn number_sign(number: u32) -> Line
+pub fn number_sign(number: u32) -> LineBuf
     ensures text { result.items ≡ number_sign number }
     ensures short { array_vec_len result ≤ 11 }
 {
@@ -130,7 +130,7 @@ pub fn number_sign(number: u32) -> Line
 }
 
 /// Puts a text at the end where a condition holds, else nothing.
-pub fn put_where(line: &mut Line, holds: bool, text: &[u8])
+pub fn put_where(line: &mut LineBuf, holds: bool, text: &[u8])
     requires { array_vec_len line.old + length text.now ≤ 256 }
     ensures items { line.new.items ≡ line.old.items ++ (if holds then text.now else []) }
     ensures len { array_vec_len line.new ≤ array_vec_len line.old + length text.now }
@@ -142,7 +142,7 @@ pub fn put_where(line: &mut Line, holds: bool, text: &[u8])
 
 /// Puts the last hexadecimal digits of a number, in lower case, with leading zeros.
 #[inline(always)]
-pub(crate) fn put_hex(line: &mut Line, digits: u32, number: u64)
+pub(crate) fn put_hex(line: &mut LineBuf, digits: u32, number: u64)
     requires room { array_vec_len line.old + digits ≤ 256 }
     requires digits { digits ≤ 16 }
     ensures items { line.new.items ≡ line.old.items ++ hex digits number }
@@ -150,16 +150,16 @@ pub(crate) fn put_hex(line: &mut Line, digits: u32, number: u64)
 {
     match digits {
         16 => {
-            put(line, &eight_digits((number >> 32) as u32));
-            put(line, &eight_digits((number % (1 << 32)) as u32));
+            put(line, &hex8((number >> 32) as u32));
+            put(line, &hex8((number % (1 << 32)) as u32));
         }
-        8 => put(line, &eight_digits((number % (1 << 32)) as u32)),
+        8 => put(line, &hex8((number % (1 << 32)) as u32)),
         _ => put_digits(line, digits, number),
     }
 }
 
 /// The same, digit by digit.
-fn put_digits(line: &mut Line, digits: u32, number: u64)
+fn put_digits(line: &mut LineBuf, digits: u32, number: u64)
     requires room { array_vec_len line.old + digits ≤ 256 }
     requires digits { digits ≤ 16 }
     ensures items { line.new.items ≡ line.old.items ++ hex digits number }

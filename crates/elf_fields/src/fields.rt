@@ -4,31 +4,31 @@ ghost use Rattle.std.specs.Prelude.{option_copied};
 ghost use Rattle.arrayvec.specs.ArrayVec.{array_vec_len};
 ghost use Rattle.elf_model.specs.Fields.{begun, closing, with_field};
 ghost use Rattle.elf_model.specs.Fields.Field.{Decimal, Hexadecimal, NameOrDecimal};
-ghost use Rattle.elf_model.specs.Fields.Field.{NameOrHexadecimal, NameOrNumber, Signed, Word};
+ghost use Rattle.elf_model.specs.Fields.Field.{NameOrHexadecimal, NameOrNumber, Signed, ArgSpec};
 ghost use Rattle.elf_model.specs.Text.{space};
 ghost use Rattle.elf_fields.specs.Rooms.{half_room, number_room, text_room};
 
-use crate::columns::{Line, number_sign, put, put_hex, put_left, put_right, put_spaces};
+use crate::columns::{LineBuf, number_sign, put, put_hex, put_left, put_right, put_spaces};
 use crate::objects::{put_key, put_name_or_number, put_number, put_quoted};
 use crate::render::Render;
 use elf_model::Format;
 
 /// What stands before a line's name, how the line is written, and the key of the name.
 #[derive(Drop)]
-pub struct LineFront {
+pub struct LinePrefix {
     /// The line up to its name.
-    pub line: Line,
+    pub line: LineBuf,
     /// How it is written.
     pub format: Format,
     /// The key of its name in an object.
     pub key: &'static [u8],
 }
 
-impl LineFront {
+impl LinePrefix {
     /// Room for the fronts of lines, one after another.
-    pub fn new() -> LineFront {
-        LineFront {
-            line: Line::new(),
+    pub fn new() -> LinePrefix {
+        LinePrefix {
+            line: LineBuf::new(),
             format: Format::Columns,
             key: b"",
         }
@@ -36,7 +36,7 @@ impl LineFront {
 }
 
 /// Begins a line anew that ends in a name of a key, with its letter.
-pub fn begin_named<R: Render>(front: &mut LineFront, letter: &[u8], key: &'static [u8])
+pub fn begin_named<R: Render>(front: &mut LinePrefix, letter: &[u8], key: &'static [u8])
     requires { length letter.now ≤ 1 }
     ensures items { front.new.line.items ≡ begun R.FORMAT letter.now }
     ensures len { array_vec_len front.new.line ≤ 11 }
@@ -50,7 +50,7 @@ pub fn begin_named<R: Render>(front: &mut LineFront, letter: &[u8], key: &'stati
 
 /// Begins a line anew, with its letter.
 #[tactic(auto, unfolding(elf_model::specs::Fields::begun))]
-pub fn begin<R: Render>(line: &mut Line, letter: &[u8])
+pub fn begin<R: Render>(line: &mut LineBuf, letter: &[u8])
     requires { length letter.now ≤ 1 }
     ensures items { line.new.items ≡ begun R.FORMAT letter.now }
     ensures len { array_vec_len line.new ≤ 11 }
@@ -73,7 +73,7 @@ pub fn begin<R: Render>(line: &mut Line, letter: &[u8])
 /// ends the column. A longer number is not cut.
 #[tactic(auto, unfolding(elf_model::specs::Fields::with_field, elf_model::specs::Text::right_decimal))]
 #[inline(always)]
-pub fn put_decimal<R: Render>(line: &mut Line, key: &[u8], width: usize, number: u64, end: u8)
+pub fn put_decimal<R: Render>(line: &mut LineBuf, key: &[u8], width: usize, number: u64, end: u8)
     requires room { array_vec_len line.old + number_room (length key.now) ≤ 256 }
     requires width { width ≤ 20 }
     ensures items { line.new.items
@@ -90,7 +90,7 @@ pub fn put_decimal<R: Render>(line: &mut Line, key: &[u8], width: usize, number:
 /// column.
 #[tactic(auto, unfolding(elf_model::specs::Fields::with_field, elf_model::specs::Text::right_decimal))]
 #[inline(always)]
-pub fn put_half<R: Render>(line: &mut Line, key: &[u8], number: u16, end: u8)
+pub fn put_half<R: Render>(line: &mut LineBuf, key: &[u8], number: u16, end: u8)
     requires { array_vec_len line.old + half_room (length key.now) ≤ 256 }
     ensures items { line.new.items
         ≡ with_field R.FORMAT line.old.items (Decimal key.now 5 number) (end ∷ []) }
@@ -105,7 +105,7 @@ pub fn put_half<R: Render>(line: &mut Line, key: &[u8], number: u16, end: u8)
 /// Puts a number in so many hexadecimal digits, and the byte that ends the column.
 #[tactic(auto, unfolding(elf_model::specs::Fields::with_field))]
 #[inline(always)]
-pub fn put_hexadecimal<R: Render>(line: &mut Line, key: &[u8], digits: u32, number: u64, end: u8)
+pub fn put_hexadecimal<R: Render>(line: &mut LineBuf, key: &[u8], digits: u32, number: u64, end: u8)
     requires room { array_vec_len line.old + number_room (length key.now) ≤ 256 }
     requires digits { digits ≤ 16 }
     ensures items { line.new.items
@@ -124,7 +124,7 @@ pub fn put_hexadecimal<R: Render>(line: &mut Line, key: &[u8], digits: u32, numb
 /// Puts a number with its sign, and its absolute value in sixteen hexadecimal digits, and a space.
 #[tactic(auto, unfolding(elf_model::specs::Fields::with_field, elf_model::specs::Fields::signed_text))]
 #[inline(always)]
-pub fn put_signed<R: Render>(line: &mut Line, key: &[u8], number: i64)
+pub fn put_signed<R: Render>(line: &mut LineBuf, key: &[u8], number: i64)
     requires { array_vec_len line.old + number_room (length key.now) ≤ 256 }
     ensures items { line.new.items
         ≡ with_field R.FORMAT line.old.items (Signed key.now number) space }
@@ -143,11 +143,11 @@ pub fn put_signed<R: Render>(line: &mut Line, key: &[u8], number: i64)
 /// Puts a text at the left of a column of this width, and the byte that ends the column. A longer
 /// text is not cut.
 #[tactic(auto, unfolding(elf_model::specs::Fields::with_field))]
-pub fn put_text<R: Render>(line: &mut Line, key: &[u8], width: usize, text: &[u8], end: u8)
+pub fn put_text<R: Render>(line: &mut LineBuf, key: &[u8], width: usize, text: &[u8], end: u8)
     requires { array_vec_len line.old + text_room (length key.now) (max width (length text.now))
         ≤ 256 }
     ensures items { line.new.items
-        ≡ with_field R.FORMAT line.old.items (Word key.now width text.now) (end ∷ []) }
+        ≡ with_field R.FORMAT line.old.items (ArgSpec key.now width text.now) (end ∷ []) }
     ensures len { array_vec_len line.new
         ≤ array_vec_len line.old + text_room (length key.now) (max width (length text.now)) }
 {
@@ -165,7 +165,7 @@ pub fn put_text<R: Render>(line: &mut Line, key: &[u8], width: usize, text: &[u8
 #[tactic(auto, unfolding(elf_model::specs::Fields::with_field, elf_model::specs::Text::right_decimal))]
 #[inline(always)]
 pub fn put_name_or_decimal<R: Render>(
-    line: &mut Line,
+    line: &mut LineBuf,
     key: &[u8],
     width: usize,
     name: Option<&'static str>,
@@ -192,7 +192,7 @@ pub fn put_name_or_decimal<R: Render>(
 /// that has none, and a space.
 #[tactic(auto, using(crate::proofs::Digits::length_hex), unfolding(elf_model::specs::Fields::with_field, elf_model::specs::Text::left_in))]
 pub fn put_name_or_hex<R: Render>(
-    line: &mut Line,
+    line: &mut LineBuf,
     key: &[u8],
     width: usize,
     digits: u32,
@@ -225,7 +225,7 @@ pub fn put_name_or_hex<R: Render>(
 /// a space.
 #[tactic(auto, unfolding(elf_model::specs::Fields::with_field))]
 pub fn put_name_or_sign<R: Render>(
-    line: &mut Line,
+    line: &mut LineBuf,
     key: &[u8],
     name: Option<&'static str>,
     number: u32,
@@ -248,7 +248,7 @@ pub fn put_name_or_sign<R: Render>(
 
 /// Puts what ends a line behind its last field, which in columns has a newline behind it.
 #[tactic(auto, unfolding(elf_model::specs::Fields::closing))]
-pub fn put_closing<R: Render>(line: &mut Line)
+pub fn put_closing<R: Render>(line: &mut LineBuf)
     requires { array_vec_len line.old + 2 ≤ 256 }
     ensures items { line.new.items ≡ line.old.items ++ closing R.FORMAT }
     ensures len { array_vec_len line.new ≤ array_vec_len line.old + 2 }

@@ -4,19 +4,19 @@ ghost use Rattle.elf_model.specs.Text.{digit, hex};
 
 /// The last eight hexadecimal digits of a number, in lower case, with leading zeros.
 #[inline(always)]
-pub(crate) fn eight_digits(number: u32) -> [u8; 8]
+pub(crate) fn hex8(number: u32) -> [u8; 8]
     ensures { result ≡ hex 8 number }
 {
-    let (a, b) = pair_of(number >> 24);
-    let (c, d) = pair_of((number >> 16) % 256);
-    let (e, f) = pair_of((number >> 8) % 256);
-    let (g, h) = pair_of(number % 256);
+    let (a, b) = hex_pair(number >> 24);
+    let (c, d) = hex_pair((number >> 16) % 256);
+    let (e, f) = hex_pair((number >> 8) % 256);
+    let (g, h) = hex_pair(number % 256);
     [a, b, c, d, e, f, g, h]
 }
 
 /// The two digits of a number of eight bits.
 #[inline(always)]
-fn pair_of(byte: u32) -> (u8, u8)
+fn hex_pair(byte: u32) -> (u8, u8)
     requires { byte < 256 }
     ensures first { result.0 ≡ digit (byte / 16) }
     ensures last { result.1 ≡ digit (byte % 16) }

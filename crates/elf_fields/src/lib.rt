@@ -12,11 +12,11 @@ mod render;
 mod told;
 
 pub use buffers::LINES_BUFFER_BYTES;
-pub use columns::{Line, line_of, number_sign, put, put_where};
+pub use columns::{LineBuf, line_of, number_sign, put, put_where};
 pub use fields::{
-    LineFront, begin, begin_named, put_closing, put_decimal, put_half, put_hexadecimal,
+    LinePrefix, begin, begin_named, put_closing, put_decimal, put_half, put_hexadecimal,
     put_name_or_decimal, put_name_or_hex, put_name_or_sign, put_signed, put_text,
 };
-pub use named::{NextName, show_joined, show_named, show_tailed};
+pub use named::{SecondName, show_joined, show_named, show_tailed};
 pub use render::{Columns, Object, Render};
-pub use told::show_told;
+pub use told::show_escaped_text;

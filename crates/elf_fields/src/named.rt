@@ -3,13 +3,13 @@ ghost use Rattle.std.specs.Prelude.{◌≡◌, ℕ, ◌+◌, ◌<◌, ◌≤◌,
 ghost use Rattle.std.specs.Prelude.{slice_index, IsOk, IsTrue};
 ghost use Rattle.arrayvec.specs.ArrayVec.{array_vec_len};
 ghost use Rattle.elf_model.specs.Lines.{named_line, name_byte_text};
-ghost use Rattle.elf_source.specs.Output.{Puts};
+ghost use Rattle.elf_source.specs.Output.{OutPuts};
 ghost use Rattle.elf_fields.specs.Fronts.{front_of};
-ghost use Rattle.elf_fields.specs.Named.{spelt_bytes, shown_as, tailed_line};
+ghost use Rattle.elf_fields.specs.Named.{escaped_bytes, shown_as, tailed_line};
 ghost use Rattle.elf_fields.specs.Pieces.{PutsBefore, byte_text, name_closing, name_start, spelt};
 
-use crate::columns::{LINE_BYTES, Line, put, put_hex};
-use crate::fields::LineFront;
+use crate::columns::{LINE_BYTES, LineBuf, put, put_hex};
+use crate::fields::LinePrefix;
 use crate::objects::{put_key, put_quoted_byte};
 use elf_model::Format;
 use elf_source::{Out, OutFault, Sink};
@@ -21,13 +21,13 @@ use elf_source::{Out, OutFault, Sink};
 /// A fault of the output, with a front of the line written.
 #[tactic(auto, unfolding(elf_model::specs::Lines::line_named, crate::specs::Named::line_tailed, elf_model::specs::Fields::closing))]
 pub fn show_named<W: Sink>(
-    front: &mut LineFront,
+    front: &mut LinePrefix,
     name: &[u8],
     is_cut: bool,
     out: &mut Out<W>,
 ) -> Result<(), OutFault>
     requires { length front.old.key.now ≤ 16 }
-    ensures puts { Puts out.old out.new result
+    ensures puts { OutPuts out.old out.new result
         (named_line (front_of front.old) (shown_as is_cut name.now)) }
 {
     match front.format {
@@ -44,7 +44,7 @@ pub fn show_named<W: Sink>(
 /// A fault of the output, with a front of the line written.
 #[inline(always)]
 pub fn show_tailed<W: Sink>(
-    front: &mut LineFront,
+    front: &mut LinePrefix,
     name: &[u8],
     is_cut: bool,
     tail: &[u8],
@@ -52,7 +52,7 @@ pub fn show_tailed<W: Sink>(
 ) -> Result<(), OutFault>
     requires key { length front.old.key.now ≤ 16 }
     requires tail { length tail.now ≤ 256 }
-    ensures puts { Puts out.old out.new result
+    ensures puts { OutPuts out.old out.new result
         (tailed_line (front_of front.old) (shown_as is_cut name.now) tail.now) }
 {
     put_named(front, name, is_cut, out)?;
@@ -61,7 +61,7 @@ pub fn show_tailed<W: Sink>(
 
 /// A name that stands behind another: what stands between them, its bytes, and what stands behind
 /// it, with the line's end. The first and the last have at most 256 bytes.
-pub struct NextName<'a> {
+pub struct SecondName<'a> {
     /// What stands before it.
     pub between: &'a [u8],
     /// The name.
@@ -76,18 +76,18 @@ pub struct NextName<'a> {
 /// # Errors
 /// A fault of the output, with a front of the line written.
 pub fn show_joined<W: Sink>(
-    front: &mut LineFront,
+    front: &mut LinePrefix,
     name: &[u8],
     is_cut: bool,
-    next: &NextName<'_>,
+    next: &SecondName<'_>,
     out: &mut Out<W>,
 ) -> Result<(), OutFault>
     requires key { length front.old.key.now ≤ 16 }
     requires between { length next.now.between.now ≤ 256 }
     requires tail { length next.now.tail.now ≤ 256 }
     ensures puts { let front = front_of front.old in
-        let more = spelt_bytes front.format next.now.name.now ++ next.now.tail.now in
-        Puts out.old out.new result
+        let more = escaped_bytes front.format next.now.name.now ++ next.now.tail.now in
+        OutPuts out.old out.new result
         (tailed_line front (shown_as is_cut name.now) (next.now.between.now ++ more)) }
 {
     let format = front.format;
@@ -104,7 +104,7 @@ pub fn show_joined<W: Sink>(
 /// A fault of the output, with a front of these bytes written.
 #[inline(always)]
 fn put_named<W: Sink>(
-    front: &mut LineFront,
+    front: &mut LinePrefix,
     name: &[u8],
     is_cut: bool,
     out: &mut Out<W>,
@@ -126,7 +126,7 @@ fn put_named<W: Sink>(
 /// # Errors
 /// A fault of the output, with a front of the line written.
 #[inline(always)]
-fn put_piece<W: Sink>(line: &mut Line, text: &[u8], out: &mut Out<W>) -> Result<(), OutFault>
+fn put_piece<W: Sink>(line: &mut LineBuf, text: &[u8], out: &mut Out<W>) -> Result<(), OutFault>
     requires { length text.now ≤ 256 }
     ensures puts { let whole = line.old.items ++ text.now in
         PutsBefore out.old out.new result whole line.new.items }
@@ -141,9 +141,9 @@ fn put_piece<W: Sink>(line: &mut Line, text: &[u8], out: &mut Out<W>) -> Result<
 /// # Errors
 /// A fault of the output, with a front of these bytes written.
 #[inline(always)]
-fn show_last<W: Sink>(line: &mut Line, text: &[u8], out: &mut Out<W>) -> Result<(), OutFault>
+fn show_last<W: Sink>(line: &mut LineBuf, text: &[u8], out: &mut Out<W>) -> Result<(), OutFault>
     requires { length text.now ≤ 256 }
-    ensures puts { Puts out.old out.new result (line.old.items ++ text.now) }
+    ensures puts { OutPuts out.old out.new result (line.old.items ++ text.now) }
 {
     put_piece(line, text, out)?;
     out.put(line)
@@ -156,7 +156,7 @@ fn show_last<W: Sink>(line: &mut Line, text: &[u8], out: &mut Out<W>) -> Result<
 /// A fault of the output, with a front of the line written.
 #[inline(always)]
 #[tactic(auto, unfolding(crate::specs::Pieces::name_start))]
-fn begin_name<W: Sink>(front: &mut LineFront, out: &mut Out<W>) -> Result<(), OutFault>
+fn begin_name<W: Sink>(front: &mut LinePrefix, out: &mut Out<W>) -> Result<(), OutFault>
     requires { length front.old.key.now ≤ 16 }
     ensures puts { let text = front.old.line.items
         ++ name_start front.old.format front.old.key.now in
@@ -196,7 +196,7 @@ fn name_closing(format: Format, is_cut: bool) -> &'static [u8]
 /// A fault of the output, with a front of the line and the name written.
 #[inline(always)]
 fn put_name<W: Sink>(
-    line: &mut Line,
+    line: &mut LineBuf,
     format: Format,
     name: &[u8],
     out: &mut Out<W>,
@@ -207,7 +207,7 @@ fn put_name<W: Sink>(
     let room = LINE_BYTES - line.len();
     let plain = plain_bytes(format, name).min(room);
     put(line, &name[..plain]);
-    put_spelt(line, format, &name[plain..], out)
+    put_escaped(line, format, &name[plain..], out)
 }
 
 /// How many bytes at the front of a name stand in a line as they are.
@@ -286,8 +286,8 @@ fn is_plain(byte: u8) -> bool
 /// # Errors
 /// A fault of the output, with a front of the line and the name written.
 #[inline(always)]
-fn put_spelt<W: Sink>(
-    line: &mut Line,
+fn put_escaped<W: Sink>(
+    line: &mut LineBuf,
     format: Format,
     name: &[u8],
     out: &mut Out<W>,
@@ -304,7 +304,7 @@ fn put_spelt<W: Sink>(
 
 /// Puts a byte of a name as it is spelt.
 #[tactic(auto, unfolding(crate::specs::Pieces::byte_text))]
-fn put_byte(line: &mut Line, format: Format, byte: u8)
+fn put_byte(line: &mut LineBuf, format: Format, byte: u8)
     requires { array_vec_len line.old + 5 ≤ 256 }
     ensures items { line.new.items ≡ line.old.items ++ byte_text format byte }
     ensures len { array_vec_len line.new ≤ array_vec_len line.old + 5 }
@@ -322,7 +322,7 @@ fn put_byte(line: &mut Line, format: Format, byte: u8)
 /// A fault of the output, with a front of the line written.
 #[inline(always)]
 pub(crate) fn make_room<W: Sink>(
-    line: &mut Line,
+    line: &mut LineBuf,
     count: usize,
     out: &mut Out<W>,
 ) -> Result<(), OutFault>
@@ -341,7 +341,7 @@ pub(crate) fn make_room<W: Sink>(
 /// Puts a byte of a name as it is spelt in a listing: a backslash is doubled, a printing ASCII
 /// character stands as it is, and any other byte is `\x` and two hexadecimal digits.
 #[tactic(auto, unfolding(elf_model::specs::Lines::name_byte_text))]
-pub(crate) fn put_name_byte(line: &mut Line, byte: u8)
+pub(crate) fn put_name_byte(line: &mut LineBuf, byte: u8)
     requires { array_vec_len line.old + 4 ≤ 256 }
     ensures items { line.new.items ≡ line.old.items ++ name_byte_text byte }
     ensures len { array_vec_len line.new ≤ array_vec_len line.old + 4 }

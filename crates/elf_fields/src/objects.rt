@@ -6,12 +6,12 @@ ghost use Rattle.elf_model.specs.Fields.{member_key, name_or_value, quoted, stri
 ghost use Rattle.elf_model.specs.Fields.{string_text};
 ghost use Rattle.elf_model.specs.Lines.{name_byte_text};
 
-use crate::columns::{Line, put, put_hex};
+use crate::columns::{LineBuf, put, put_hex};
 use itoa::{Buffer, Integer};
 
 /// Puts a comma, a key and a colon.
 #[tactic(auto, unfolding(elf_model::specs::Fields::member_key))]
-pub(crate) fn put_key(line: &mut Line, key: &[u8])
+pub(crate) fn put_key(line: &mut LineBuf, key: &[u8])
     requires { array_vec_len line.old + (length key.now + 4) ≤ 256 }
     ensures items { line.new.items ≡ line.old.items ++ member_key key.now }
     ensures len { array_vec_len line.new ≡ array_vec_len line.old + (length key.now + 4) }
@@ -22,7 +22,7 @@ pub(crate) fn put_key(line: &mut Line, key: &[u8])
 }
 
 /// Puts a key, and a number in decimal.
-pub(crate) fn put_number<I: Integer>(line: &mut Line, key: &[u8], number: I)
+pub(crate) fn put_number<I: Integer>(line: &mut LineBuf, key: &[u8], number: I)
     requires { array_vec_len line.old + (length key.now + 4) + I.MAX_STR_LEN ≤ 256 }
     ensures items { line.new.items ≡ line.old.items ++ member_key key.now ++ I.text number }
     ensures len { array_vec_len line.new
@@ -35,7 +35,7 @@ pub(crate) fn put_number<I: Integer>(line: &mut Line, key: &[u8], number: I)
 
 /// Puts a key, and a name as a string, or a number.
 pub(crate) fn put_name_or_number(
-    line: &mut Line,
+    line: &mut LineBuf,
     key: &[u8],
     name: Option<&'static str>,
     number: u64,
@@ -60,7 +60,7 @@ pub(crate) fn put_name_or_number(
 
 /// Puts a text as a string.
 #[tactic(auto, unfolding(elf_model::specs::Fields::quoted))]
-pub(crate) fn put_quoted(line: &mut Line, text: &[u8])
+pub(crate) fn put_quoted(line: &mut LineBuf, text: &[u8])
     requires { array_vec_len line.old + (length text.now + length text.now + 2) ≤ 256 }
     ensures items { line.new.items ≡ line.old.items ++ quoted text.now }
     ensures len { array_vec_len line.new
@@ -75,7 +75,7 @@ pub(crate) fn put_quoted(line: &mut Line, text: &[u8])
 
 /// Puts a byte of a string.
 #[tactic(auto, unfolding(elf_model::specs::Fields::string_byte))]
-fn put_string_byte(line: &mut Line, byte: u8)
+fn put_string_byte(line: &mut LineBuf, byte: u8)
     requires { array_vec_len line.old + 2 ≤ 256 }
     ensures items { line.new.items ≡ line.old.items ++ string_byte byte }
     ensures len { array_vec_len line.new ≤ array_vec_len line.old + 2 }
@@ -88,7 +88,7 @@ fn put_string_byte(line: &mut Line, byte: u8)
 
 /// Puts a byte of a name, as it is spelt in a listing, in a string.
 #[tactic(auto, using(crate::proofs::NameText::string_hex), unfolding(elf_model::specs::Fields::string_byte, elf_model::specs::Fields::string_text, elf_model::specs::Lines::name_byte_text))]
-pub(crate) fn put_quoted_byte(line: &mut Line, byte: u8)
+pub(crate) fn put_quoted_byte(line: &mut LineBuf, byte: u8)
     requires { array_vec_len line.old + 5 ≤ 256 }
     ensures items { line.new.items ≡ line.old.items ++ string_text (name_byte_text byte) }
     ensures len { array_vec_len line.new ≤ array_vec_len line.old + 5 }

@@ -8,8 +8,8 @@ use Rattle.std.specs.Cmp.Lexicographic.{slice_cmp}
 use Rattle.std.specs.declared.cmp.Ordering.{Ordering}
 use Rattle.std.specs.declared.cmp.Ordering.TheVariants.{Less, Equal, Greater}
 use Rattle.elf_folder.specs.Kept.{IsCutFront, IsFront}
-use Rattle.elf_folder.specs.Order.{order, put_by}
-use Rattle.elf_folder.specs.Passes.{AreBehind, Ascends, names_after, in_order}
+use Rattle.elf_folder.specs.Order.{order, insert_by}
+use Rattle.elf_folder.specs.Passes.{AreAfter, Ascends, names_following, in_order}
 use Rattle.elf_folder.proofs.AscendLaws.{order_ascends}
 use Rattle.elf_folder.proofs.MemberLaws.{stays}
 use Rattle.elf_folder.proofs.OrderLaws.{put_less, put_equal, put_greater}
@@ -26,12 +26,12 @@ back_of_greater x y greater = total.antisymm y x ∙ ap ordering_reverse greater
 
 -- THE NAMES BEHIND ONE, WITH ONE MORE
 
-one_filtered : (low name : List ℕ) (names : List (List ℕ)) → names_after low (names ++ name ∷ []) ≡ names_after low names ++ cond (is_gt (order name low)) (name ∷ []) []
+one_filtered : (low name : List ℕ) (names : List (List ℕ)) → names_following low (names ++ name ∷ []) ≡ names_following low names ++ cond (is_gt (order name low)) (name ∷ []) []
 one_filtered low name [] = refl
 one_filtered low name (x ∷ xs) = by (is_gt (order x low)) (one_filtered low name xs)
   where
-    by : (b : Bool) → names_after low (xs ++ name ∷ []) ≡ names_after low xs ++ cond (is_gt (order name low)) (name ∷ []) []
-        → cond b (x ∷ names_after low (xs ++ name ∷ [])) (names_after low (xs ++ name ∷ [])) ≡ cond b (x ∷ names_after low xs) (names_after low xs) ++ cond (is_gt (order name low)) (name ∷ []) []
+    by : (b : Bool) → names_following low (xs ++ name ∷ []) ≡ names_following low xs ++ cond (is_gt (order name low)) (name ∷ []) []
+        → cond b (x ∷ names_following low (xs ++ name ∷ [])) (names_following low (xs ++ name ∷ [])) ≡ cond b (x ∷ names_following low xs) (names_following low xs) ++ cond (is_gt (order name low)) (name ∷ []) []
     by true ih = ap (λ l. x ∷ l) ih
     by false ih = ih
 
@@ -39,31 +39,31 @@ nothing_more : (names : List (List ℕ)) → names ++ [] ≡ names
 nothing_more [] = refl
 nothing_more (x ∷ xs) = ap (λ l. x ∷ l) (nothing_more xs)
 
-pub not_behind : (low name : List ℕ) (names : List (List ℕ)) → is_gt (order name low) ≡ false → in_order (names_after low (names ++ name ∷ [])) ≡ in_order (names_after low names)
+pub not_behind : (low name : List ℕ) (names : List (List ℕ)) → is_gt (order name low) ≡ false → in_order (names_following low (names ++ name ∷ [])) ≡ in_order (names_following low names)
 not_behind low name names is =
-    ap in_order (one_filtered low name names ∙ ap (λ b. names_after low names ++ cond b (name ∷ []) []) is ∙ nothing_more (names_after low names))
+    ap in_order (one_filtered low name names ∙ ap (λ b. names_following low names ++ cond b (name ∷ []) []) is ∙ nothing_more (names_following low names))
 
-pub one_behind : (low name : List ℕ) (names : List (List ℕ)) → is_gt (order name low) ≡ true
-    → in_order (names_after low (names ++ name ∷ [])) ≡ put_by (λ n. n) name (in_order (names_after low names))
-one_behind low name names is =
-    ap in_order (one_filtered low name names ∙ ap (λ b. names_after low names ++ cond b (name ∷ []) []) is) ∙ all_more (names_after low names) name []
+pub one_after : (low name : List ℕ) (names : List (List ℕ)) → is_gt (order name low) ≡ true
+    → in_order (names_following low (names ++ name ∷ [])) ≡ insert_by (λ n. n) name (in_order (names_following low names))
+one_after low name names is =
+    ap in_order (one_filtered low name names ∙ ap (λ b. names_following low names ++ cond b (name ∷ []) []) is) ∙ all_more (names_following low names) name []
 
 -- A NAME IS PUT
 
 put_within : (name limit : List ℕ) (front rest : List (List ℕ)) → order name limit ≡ Less
-    → put_by (λ n. n) name (front ++ limit ∷ rest) ≡ put_by (λ n. n) name front ++ limit ∷ rest
-unfolding put_by
+    → insert_by (λ n. n) name (front ++ limit ∷ rest) ≡ insert_by (λ n. n) name front ++ limit ∷ rest
+unfolding insert_by
 put_within name limit [] rest less = put_less (λ n. n) name limit rest less
 put_within name limit (x ∷ xs) rest less = by (order name x) (put_within name limit xs rest less)
   where
-    by : (o : Ordering) → put_by (λ n. n) name (xs ++ limit ∷ rest) ≡ put_by (λ n. n) name xs ++ limit ∷ rest
-        → elim o as (λ _. List (List ℕ)) [ Less ↦ name ∷ x ∷ (xs ++ limit ∷ rest) | Equal ↦ x ∷ (xs ++ limit ∷ rest) | Greater ↦ x ∷ put_by (λ n. n) name (xs ++ limit ∷ rest) ]
-        ≡ elim o as (λ _. List (List ℕ)) [ Less ↦ name ∷ x ∷ xs | Equal ↦ x ∷ xs | Greater ↦ x ∷ put_by (λ n. n) name xs ] ++ limit ∷ rest
+    by : (o : Ordering) → insert_by (λ n. n) name (xs ++ limit ∷ rest) ≡ insert_by (λ n. n) name xs ++ limit ∷ rest
+        → elim o as (λ _. List (List ℕ)) [ Less ↦ name ∷ x ∷ (xs ++ limit ∷ rest) | Equal ↦ x ∷ (xs ++ limit ∷ rest) | Greater ↦ x ∷ insert_by (λ n. n) name (xs ++ limit ∷ rest) ]
+        ≡ elim o as (λ _. List (List ℕ)) [ Less ↦ name ∷ x ∷ xs | Equal ↦ x ∷ xs | Greater ↦ x ∷ insert_by (λ n. n) name xs ] ++ limit ∷ rest
     by Less ih = refl
     by Equal ih = refl
     by Greater ih = ap (λ l. x ∷ l) ih
 
-before_limit : (x limit : List ℕ) (xs rest : List (List ℕ)) → AreBehind x (xs ++ limit ∷ rest) → order x limit ≡ Less
+before_limit : (x limit : List ℕ) (xs rest : List (List ℕ)) → AreAfter x (xs ++ limit ∷ rest) → order x limit ≡ Less
 before_limit x limit [] rest are = are.0
 before_limit x limit (y ∷ ys) rest are = before_limit x limit ys rest are.1
 
@@ -73,40 +73,40 @@ above x name limit low Equal is high = total.congr name limit x (sym is) ∙ bac
 above x name limit low Greater is high = back_of_less x name (total.trans x limit name low (back_of_greater name limit (sym is)))
 
 passes_front : (name limit : List ℕ) (front rest : List (List ℕ)) → Ascends (front ++ limit ∷ rest) → is_lt (order name limit) ≡ false
-    → put_by (λ n. n) name (front ++ limit ∷ rest) ≡ front ++ put_by (λ n. n) name (limit ∷ rest)
+    → insert_by (λ n. n) name (front ++ limit ∷ rest) ≡ front ++ insert_by (λ n. n) name (limit ∷ rest)
 passes_front name limit [] rest up high = refl
 passes_front name limit (x ∷ xs) rest up high =
     put_greater (λ n. n) name x (xs ++ limit ∷ rest) (above x name limit (before_limit x limit xs rest up.0) (order name limit) refl high)
     ∙ ap (λ l. x ∷ l) (passes_front name limit xs rest up.1 high)
 
 still_cut : (limit : List ℕ) (front kept all : List (List ℕ)) (name next : List ℕ) (rest : List (List ℕ)) → kept ≡ front ++ limit ∷ []
-    → all ≡ front ++ limit ∷ put_by (λ n. n) name (next ∷ rest) → IsCutFront limit kept all
-unfolding put_by
+    → all ≡ front ++ limit ∷ insert_by (λ n. n) name (next ∷ rest) → IsCutFront limit kept all
+unfolding insert_by
 still_cut limit front kept all name next rest are is = by (order name next) is
   where
     by : (o : Ordering)
-        → all ≡ front ++ limit ∷ elim o as (λ _. List (List ℕ)) [ Less ↦ name ∷ next ∷ rest | Equal ↦ next ∷ rest | Greater ↦ next ∷ put_by (λ n. n) name rest ]
+        → all ≡ front ++ limit ∷ elim o as (λ _. List (List ℕ)) [ Less ↦ name ∷ next ∷ rest | Equal ↦ next ∷ rest | Greater ↦ next ∷ insert_by (λ n. n) name rest ]
         → IsCutFront limit kept all
     by Less e = record { front = front; next = name; rest = next ∷ rest; kept_is = are; all_is = e }
     by Equal e = record { front = front; next = next; rest = rest; kept_is = are; all_is = e }
-    by Greater e = record { front = front; next = next; rest = put_by (λ n. n) name rest; kept_is = are; all_is = e }
+    by Greater e = record { front = front; next = next; rest = insert_by (λ n. n) name rest; kept_is = are; all_is = e }
 
 behind_limit : (name limit : List ℕ) (kept all : List (List ℕ)) → Ascends all → IsCutFront limit kept all
-    → (o : Ordering) → o ≡ order name limit → is_lt o ≡ false → IsCutFront limit kept (put_by (λ n. n) name all)
+    → (o : Ordering) → o ≡ order name limit → is_lt o ≡ false → IsCutFront limit kept (insert_by (λ n. n) name all)
 behind_limit name limit kept all up cut Less is high = absurd (both_ways true high refl)
 behind_limit name limit kept all up cut Equal is high =
     let passed = passes_front name limit cut.front (cut.next ∷ cut.rest) (subst Ascends cut.all_is up) (rw (sym is) refl) in
-    let same : put_by (λ n. n) name all ≡ cut.front ++ limit ∷ cut.next ∷ cut.rest =
-    ap (λ l. put_by (λ n. n) name l) cut.all_is ∙ passed ∙ ap (λ l. cut.front ++ l) (put_equal (λ n. n) name limit (cut.next ∷ cut.rest) (sym is)) in
+    let same : insert_by (λ n. n) name all ≡ cut.front ++ limit ∷ cut.next ∷ cut.rest =
+    ap (λ l. insert_by (λ n. n) name l) cut.all_is ∙ passed ∙ ap (λ l. cut.front ++ l) (put_equal (λ n. n) name limit (cut.next ∷ cut.rest) (sym is)) in
     record { front = cut.front; next = cut.next; rest = cut.rest; kept_is = cut.kept_is; all_is = same }
 behind_limit name limit kept all up cut Greater is high =
     let passed = passes_front name limit cut.front (cut.next ∷ cut.rest) (subst Ascends cut.all_is up) (rw (sym is) refl) in
-    still_cut limit cut.front kept (put_by (λ n. n) name all) name cut.next cut.rest cut.kept_is
-    (ap (λ l. put_by (λ n. n) name l) cut.all_is ∙ passed ∙ ap (λ l. cut.front ++ l) (put_greater (λ n. n) name limit (cut.next ∷ cut.rest) (sym is)))
+    still_cut limit cut.front kept (insert_by (λ n. n) name all) name cut.next cut.rest cut.kept_is
+    (ap (λ l. insert_by (λ n. n) name l) cut.all_is ∙ passed ∙ ap (λ l. cut.front ++ l) (put_greater (λ n. n) name limit (cut.next ∷ cut.rest) (sym is)))
 
 -- a name that is not wanted changes nothing
 pub front_unwanted : (name limit : List ℕ) (kept all : List (List ℕ)) (more : Bool) → Ascends all
-    → (not more || is_lt (order name limit)) ≡ false → IsFront limit more kept all → IsFront limit more kept (put_by (λ n. n) name all)
+    → (not more || is_lt (order name limit)) ≡ false → IsFront limit more kept all → IsFront limit more kept (insert_by (λ n. n) name all)
 front_unwanted name limit kept all false up is front = absurd (both_ways true is refl)
 front_unwanted name limit kept all true up is front = behind_limit name limit kept all up front (order name limit) refl is
 
@@ -117,16 +117,16 @@ lt_by Greater is = absurd (both_ways false refl is)
 
 -- a name that is wanted is put among those that are kept
 pub front_wanted : (name limit : List ℕ) (kept all : List (List ℕ)) (more : Bool) → (not more || is_lt (order name limit)) ≡ true
-    → IsFront limit more kept all → IsFront limit more (put_by (λ n. n) name kept) (put_by (λ n. n) name all)
-front_wanted name limit kept all false is front = ap (λ l. put_by (λ n. n) name l) front
+    → IsFront limit more kept all → IsFront limit more (insert_by (λ n. n) name kept) (insert_by (λ n. n) name all)
+front_wanted name limit kept all false is front = ap (λ l. insert_by (λ n. n) name l) front
 front_wanted name limit kept all true is front =
     let less = lt_by (order name limit) is in
     record {
-      front = put_by (λ n. n) name front.front;
+      front = insert_by (λ n. n) name front.front;
       next = front.next;
       rest = front.rest;
-      kept_is = ap (λ l. put_by (λ n. n) name l) front.kept_is ∙ put_within name limit front.front [] less;
-      all_is = ap (λ l. put_by (λ n. n) name l) front.all_is ∙ put_within name limit front.front (front.next ∷ front.rest) less;
+      kept_is = ap (λ l. insert_by (λ n. n) name l) front.kept_is ∙ put_within name limit front.front [] less;
+      all_is = ap (λ l. insert_by (λ n. n) name l) front.all_is ∙ put_within name limit front.front (front.next ∷ front.rest) less;
     }
 
 -- THE LAST ARE DROPPED
@@ -163,24 +163,24 @@ front_cut names all limit true k d within front =
 
 pub keeps_unwanted : (names : List (List ℕ)) (name low limit : List ℕ) (kept : List (List ℕ)) (more : Bool) (b : Bool) → b ≡ is_gt (order name low)
     → (b && (not more || is_lt (order name limit))) ≡ false
-    → IsFront limit more kept (in_order (names_after low names)) → IsFront limit more kept (in_order (names_after low (names ++ name ∷ [])))
+    → IsFront limit more kept (in_order (names_following low names)) → IsFront limit more kept (in_order (names_following low (names ++ name ∷ [])))
 keeps_unwanted names name low limit kept more true gt is front =
-    subst (λ l. IsFront limit more kept l) (sym (one_behind low name names (sym gt)))
-    (front_unwanted name limit kept (in_order (names_after low names)) more (order_ascends (names_after low names) [] tt) is front)
+    subst (λ l. IsFront limit more kept l) (sym (one_after low name names (sym gt)))
+    (front_unwanted name limit kept (in_order (names_following low names)) more (order_ascends (names_following low names) [] tt) is front)
 keeps_unwanted names name low limit kept more false gt is front =
     subst (λ l. IsFront limit more kept l) (sym (not_behind low name names (sym gt))) front
 
 pub keeps_wanted : (names : List (List ℕ)) (name low limit : List ℕ) (kept : List (List ℕ)) (more : Bool) (b : Bool) → b ≡ is_gt (order name low)
     → (b && (not more || is_lt (order name limit))) ≡ true
-    → IsFront limit more kept (in_order (names_after low names)) → IsFront limit more (put_by (λ n. n) name kept) (in_order (names_after low (names ++ name ∷ [])))
+    → IsFront limit more kept (in_order (names_following low names)) → IsFront limit more (insert_by (λ n. n) name kept) (in_order (names_following low (names ++ name ∷ [])))
 keeps_wanted names name low limit kept more true gt is front =
-    subst (λ l. IsFront limit more (put_by (λ n. n) name kept) l) (sym (one_behind low name names (sym gt)))
-    (front_wanted name limit kept (in_order (names_after low names)) more is front)
+    subst (λ l. IsFront limit more (insert_by (λ n. n) name kept) l) (sym (one_after low name names (sym gt)))
+    (front_wanted name limit kept (in_order (names_following low names)) more is front)
 keeps_wanted names name low limit kept more false gt is front = absurd (both_ways false refl is)
 
 -- NAMES ARE PUT IN ORDER, AND THE LAST ARE DROPPED
 
-behind_taken : (first : List ℕ) (n : ℕ) (names : List (List ℕ)) → AreBehind first names → AreBehind first (take n names)
+behind_taken : (first : List ℕ) (n : ℕ) (names : List (List ℕ)) → AreAfter first names → AreAfter first (take n names)
 behind_taken first zero names are = tt
 behind_taken first (suc n) [] are = tt
 behind_taken first (suc n) (x ∷ xs) are = (are.0, behind_taken first n xs are.1)

@@ -6,7 +6,7 @@ use Rattle.std.proofs.lemmas.List.{take_all, drop_all, drop-drop}
 use Rattle.std.specs.List.{flat_map}
 use Rattle.elf_folder.specs.Entries.{list_entries, whole_entries, last_entry, rest_from}
 use Rattle.elf_folder.specs.Gathered.{AreNamesOf, GathersNames, PutsNames, saturated, unnamed_count}
-use Rattle.elf_folder.specs.Kept.{IsNameable, Kept, KeepsFirst, is_dots}
+use Rattle.elf_folder.specs.Kept.{IsNameable, KeptNames, KeepsFirstNames, is_dot_entry}
 use Rattle.elf_folder.specs.declared.batch.Put.{Put}
 use Rattle.elf_folder.specs.declared.batch.Put.TheVariants.{Placed, Unnamed}
 use Rattle.elf_folder.proofs.EntryLaws.{all_left, first_ends, none_ends}
@@ -24,43 +24,43 @@ sorted_join (entry ∷ entries) others names more n m p q = elim p [
   ]
 ]
 
-dots_sorted : (entry : List ℕ) → is_dots entry ≡ true → AreNamesOf (entry ∷ []) [] 0
+dots_sorted : (entry : List ℕ) → is_dot_entry entry ≡ true → AreNamesOf (entry ∷ []) [] 0
 dots_sorted entry is = inl (is, (refl, refl))
 
-name_sorted : (entry : List ℕ) → is_dots entry ≡ false → IsNameable entry → AreNamesOf (entry ∷ []) (entry ∷ []) 0
+name_sorted : (entry : List ℕ) → is_dot_entry entry ≡ false → IsNameable entry → AreNamesOf (entry ∷ []) (entry ∷ []) 0
 name_sorted entry isnt is = inr (inl ([], isnt, is, refl, (refl, refl)))
 
-other_sorted : (entry : List ℕ) → is_dots entry ≡ false → ¬ (IsNameable entry) → AreNamesOf (entry ∷ []) [] 1
+other_sorted : (entry : List ℕ) → is_dot_entry entry ≡ false → ¬ (IsNameable entry) → AreNamesOf (entry ∷ []) [] 1
 other_sorted entry isnt is = inr (inr (0, isnt, is, refl, (refl, refl)))
 
 -- an entry that was put
-pub record PutOne (entry : List ℕ) (put : Put) (old new : Kept) : Type 0 where
+pub record PutOne (entry : List ℕ) (put : Put) (old new : KeptNames) : Type 0 where
   pub names : List (List ℕ)
   pub sorted : AreNamesOf (entry ∷ []) names (unnamed_count put)
-  pub keeps : (before : List (List ℕ)) → KeepsFirst before old → KeepsFirst (before ++ names) new
+  pub keeps : (before : List (List ℕ)) → KeepsFirstNames before old → KeepsFirstNames (before ++ names) new
 
 ok_same : {E : Type 0} (a b : Put) (result : Result Put E) → result ≡ Ok a → result ≡ Ok b → a ≡ b
 ok_same a b result p q = cc
 
-keeps_still : (old new : Kept) → new ≡ old → (before : List (List ℕ)) → KeepsFirst before old → KeepsFirst (before ++ []) new
-keeps_still old new same before h = subst (λ names. KeepsFirst names new) (sym (append-nil before)) (subst (KeepsFirst before) (sym same) h)
+keeps_still : (old new : KeptNames) → new ≡ old → (before : List (List ℕ)) → KeepsFirstNames before old → KeepsFirstNames (before ++ []) new
+keeps_still old new same before h = subst (λ names. KeepsFirstNames names new) (sym (append-nil before)) (subst (KeepsFirstNames before) (sym same) h)
 
-put_dots : (entry : List ℕ) (put : Put) (old new : Kept) → is_dots entry ≡ true → put ≡ Placed → new ≡ old → PutOne entry put old new
+put_dots : (entry : List ℕ) (put : Put) (old new : KeptNames) → is_dot_entry entry ≡ true → put ≡ Placed → new ≡ old → PutOne entry put old new
 put_dots entry put old new dot is same = record {
   names = [];
   sorted = subst (λ p. AreNamesOf (entry ∷ []) [] (unnamed_count p)) (sym is) (dots_sorted entry dot);
   keeps = keeps_still old new same;
 }
 
-put_named : {E : Type 0} (entry : List ℕ) (put : Put) (old new : Kept) (result : Result Put E) → result ≡ Ok put → is_dots entry ≡ false
+put_named : {E : Type 0} (entry : List ℕ) (put : Put) (old new : KeptNames) (result : Result Put E) → result ≡ Ok put → is_dot_entry entry ≡ false
     → (¬ (IsNameable entry) → (result ≡ Ok Unnamed) × (new ≡ old)) → (IsNameable entry → OnOk result (result ≡ Ok Placed)) → (result ≡ Ok Placed → IsNameable entry)
-    → (IsNameable entry → OnOk result ((names : List (List ℕ)) → KeepsFirst names old → KeepsFirst (names ++ entry ∷ []) new)) → PutOne entry put old new
+    → (IsNameable entry → OnOk result ((names : List (List ℕ)) → KeepsFirstNames names old → KeepsFirstNames (names ++ entry ∷ []) new)) → PutOne entry put old new
 put_named {E} entry Placed old new result is isnt unnamed placed named keeps =
     let can = named is in
     record {
       names = entry ∷ [];
       sorted = name_sorted entry isnt can;
-      keeps = (subst (λ (r : Result Put E). OnOk r ((names : List (List ℕ)) → KeepsFirst names old → KeepsFirst (names ++ entry ∷ []) new)) is (keeps can));
+      keeps = (subst (λ (r : Result Put E). OnOk r ((names : List (List ℕ)) → KeepsFirstNames names old → KeepsFirstNames (names ++ entry ∷ []) new)) is (keeps can));
     }
 put_named {E} entry Unnamed old new result is isnt unnamed placed named keeps =
     let cannot : ¬ (IsNameable entry) = λ can.
@@ -68,19 +68,19 @@ put_named {E} entry Unnamed old new result is isnt unnamed placed named keeps =
     let f : Unnamed ≡ Placed = ok_same Unnamed Placed result is e in cc in
     record { names = []; sorted = other_sorted entry isnt cannot; keeps = keeps_still old new (unnamed cannot).1 }
 
-pub put_one : {E : Type 0} (entry : List ℕ) (put : Put) (old new : Kept) (result : Result Put E) → result ≡ Ok put
-    → (is_dots entry ≡ true → (result ≡ Ok Placed) × (new ≡ old))
-    → (is_dots entry ≡ false → ¬ (IsNameable entry) → (result ≡ Ok Unnamed) × (new ≡ old))
-    → (is_dots entry ≡ false → IsNameable entry → OnOk result (result ≡ Ok Placed))
-    → (result ≡ Ok Placed → is_dots entry ≡ false → IsNameable entry)
-    → (is_dots entry ≡ false → IsNameable entry → OnOk result ((names : List (List ℕ)) → KeepsFirst names old → KeepsFirst (names ++ entry ∷ []) new))
+pub put_one : {E : Type 0} (entry : List ℕ) (put : Put) (old new : KeptNames) (result : Result Put E) → result ≡ Ok put
+    → (is_dot_entry entry ≡ true → (result ≡ Ok Placed) × (new ≡ old))
+    → (is_dot_entry entry ≡ false → ¬ (IsNameable entry) → (result ≡ Ok Unnamed) × (new ≡ old))
+    → (is_dot_entry entry ≡ false → IsNameable entry → OnOk result (result ≡ Ok Placed))
+    → (result ≡ Ok Placed → is_dot_entry entry ≡ false → IsNameable entry)
+    → (is_dot_entry entry ≡ false → IsNameable entry → OnOk result ((names : List (List ℕ)) → KeepsFirstNames names old → KeepsFirstNames (names ++ entry ∷ []) new))
     → PutOne entry put old new
 put_one {E} entry put old new result is dots unnamed placed named keeps =
-    let by : (b : Bool) → is_dots entry ≡ b → PutOne entry put old new = λ b. elim b as (λ b. is_dots entry ≡ b → PutOne entry put old new) [
+    let by : (b : Bool) → is_dot_entry entry ≡ b → PutOne entry put old new = λ b. elim b as (λ b. is_dot_entry entry ≡ b → PutOne entry put old new) [
       | true ↦ λ dot. put_dots entry put old new dot (ok_same put Placed result is (dots dot).0) (dots dot).1
       | false ↦ λ isnt. put_named entry put old new result is isnt (unnamed isnt) (placed isnt) (λ e. named e isnt) (keeps isnt)
     ] in
-    by (is_dots entry) refl
+    by (is_dot_entry entry) refl
 
 none_of_none : list_entries [] ≡ []
 unfolding whole_entries rest_from
@@ -109,16 +109,16 @@ first_entry a end some within nul none = elim (cases_lt end (length a)) [
 ]
 
 -- what was put of the entries in some bytes, so far
-pub record PutSoFar (bytes : List ℕ) (at unnamed : ℕ) (old new : Kept) : Type 0 where
+pub record PutSoFar (bytes : List ℕ) (at unnamed : ℕ) (old new : KeptNames) : Type 0 where
   pub done : List (List ℕ)
   pub names : List (List ℕ)
   pub others : ℕ
   pub entries : list_entries bytes ≡ done ++ list_entries (drop at bytes)
   pub sorted : AreNamesOf done names others
   pub counts : unnamed ≡ saturated others
-  pub keeps : (before : List (List ℕ)) → KeepsFirst before old → KeepsFirst (before ++ names) new
+  pub keeps : (before : List (List ℕ)) → KeepsFirstNames before old → KeepsFirstNames (before ++ names) new
 
-pub put_none : (bytes : List ℕ) (old : Kept) → PutSoFar bytes 0 0 old old
+pub put_none : (bytes : List ℕ) (old : KeptNames) → PutSoFar bytes 0 0 old old
 put_none bytes old = record {
   done = [];
   names = [];
@@ -126,14 +126,14 @@ put_none bytes old = record {
   entries = refl;
   sorted = (refl, refl);
   counts = refl;
-  keeps = λ before h. subst (λ names. KeepsFirst names old) (sym (append-nil before)) h;
+  keeps = λ before h. subst (λ names. KeepsFirstNames names old) (sym (append-nil before)) h;
 }
 
 -- one entry more
-pub put_more : (bytes : List ℕ) (at end next unnamed count : ℕ) (names : List (List ℕ)) (n : ℕ) (old mid new : Kept) → PutSoFar bytes at unnamed old mid
+pub put_more : (bytes : List ℕ) (at end next unnamed count : ℕ) (names : List (List ℕ)) (n : ℕ) (old mid new : KeptNames) → PutSoFar bytes at unnamed old mid
     → list_entries (drop at bytes) ≡ take end (drop at bytes) ∷ list_entries (drop (suc end) (drop at bytes)) → next ≡ suc (at + end)
     → AreNamesOf (take end (drop at bytes) ∷ []) names n → count ≡ min (unnamed + n) (2 ^ 64 - 1)
-    → ((before : List (List ℕ)) → KeepsFirst before mid → KeepsFirst (before ++ names) new) → PutSoFar bytes next count old new
+    → ((before : List (List ℕ)) → KeepsFirstNames before mid → KeepsFirstNames (before ++ names) new) → PutSoFar bytes next count old new
 put_more bytes at end next unnamed count names n old mid new so first is sorted counts keeps =
     let entry = take end (drop at bytes) in
     let behind : drop (suc end) (drop at bytes) ≡ drop next bytes = drop-drop (suc end) at bytes ∙ ap (λ k. drop k bytes) (omega (arith, is)) in
@@ -144,11 +144,11 @@ put_more bytes at end next unnamed count names n old mid new so first is sorted 
       entries = so.entries ∙ ap (λ es. so.done ++ es) (first ∙ ap (λ d. entry ∷ list_entries d) behind) ∙ sym (append_assoc so.done (entry ∷ []) (list_entries (drop next bytes)));
       sorted = sorted_join so.done (entry ∷ []) so.names names so.others n so.sorted sorted;
       counts = omega (arith, counts, so.counts);
-      keeps = λ before h. subst (λ ns. KeepsFirst ns new) (append_assoc before so.names names) (keeps (before ++ so.names) (so.keeps before h));
+      keeps = λ before h. subst (λ ns. KeepsFirstNames ns new) (append_assoc before so.names names) (keeps (before ++ so.names) (so.keeps before h));
     }
 
 -- one step over them
-pub put_step : (bytes : List ℕ) (at end next unnamed count : ℕ) (put : Put) (old mid new : Kept) → PutSoFar bytes at unnamed old mid → at < length bytes
+pub put_step : (bytes : List ℕ) (at end next unnamed count : ℕ) (put : Put) (old mid new : KeptNames) → PutSoFar bytes at unnamed old mid → at < length bytes
     → end ≤ length (take (length bytes - at) (drop at bytes))
     → (end < length (take (length bytes - at) (drop at bytes)) → get_or (take (length bytes - at) (drop at bytes)) end 0 ≡ 0)
     → ((k : ℕ) → k < end → get_or (take (length bytes - at) (drop at bytes)) k 0 ≢ 0)
@@ -166,7 +166,7 @@ put_step bytes at end next unnamed count put old mid new so some within nul firs
     entry.sorted counts entry.keeps
 
 -- all of them
-pub put_whole : (bytes : List ℕ) (at unnamed : ℕ) (old new : Kept) → PutSoFar bytes at unnamed old new → length bytes ≤ at → PutsNames bytes unnamed old new
+pub put_whole : (bytes : List ℕ) (at unnamed : ℕ) (old new : KeptNames) → PutSoFar bytes at unnamed old new → length bytes ≤ at → PutsNames bytes unnamed old new
 put_whole bytes at unnamed old new so all =
     let behind : drop at bytes ≡ [] = drop_all at bytes all in
     let entries : list_entries bytes ≡ so.done =
@@ -174,19 +174,19 @@ put_whole bytes at unnamed old new so all =
     record { names = so.names; others = so.others; sorted = subst (λ es. AreNamesOf es so.names so.others) (sym entries) so.sorted; counts = so.counts; keeps = so.keeps }
 
 -- what was gathered at some reads
-pub record GatheredSoFar (unnamed : ℕ) (old new : Kept) : Type 0 where
+pub record GatheredSoFar (unnamed : ℕ) (old new : KeptNames) : Type 0 where
   pub reads : List (List ℕ)
   pub names : List (List ℕ)
   pub others : ℕ
   pub sorted : AreNamesOf (flat_map list_entries reads) names others
   pub counts : unnamed ≡ saturated others
-  pub keeps : KeepsFirst names new
+  pub keeps : KeepsFirstNames names new
   pub after : new.after ≡ old.after
 
-pub gathered_none : (old : Kept) → KeepsFirst [] old → GatheredSoFar 0 old old
+pub gathered_none : (old : KeptNames) → KeepsFirstNames [] old → GatheredSoFar 0 old old
 gathered_none old h = record { reads = []; names = []; others = 0; sorted = (refl, refl); counts = refl; keeps = h; after = refl }
 
-pub gathered_more : (bytes : List ℕ) (unnamed more count : ℕ) (old mid new : Kept) → GatheredSoFar unnamed old mid → PutsNames bytes more mid new → new.after ≡ mid.after
+pub gathered_more : (bytes : List ℕ) (unnamed more count : ℕ) (old mid new : KeptNames) → GatheredSoFar unnamed old mid → PutsNames bytes more mid new → new.after ≡ mid.after
     → count ≡ min (unnamed + more) (2 ^ 64 - 1) → GatheredSoFar count old new
 gathered_more bytes unnamed more count old mid new so puts after counts = record {
   reads = so.reads ++ bytes ∷ [];
@@ -201,7 +201,7 @@ gathered_more bytes unnamed more count old mid new so puts after counts = record
   after = after ∙ so.after;
 }
 
-pub gathers_all : (unnamed : ℕ) (old mid new : Kept) → GatheredSoFar unnamed old mid → new.held ≡ new.names → ((names : List (List ℕ)) → KeepsFirst names mid → KeepsFirst names new)
+pub gathers_all : (unnamed : ℕ) (old mid new : KeptNames) → GatheredSoFar unnamed old mid → new.held ≡ new.names → ((names : List (List ℕ)) → KeepsFirstNames names mid → KeepsFirstNames names new)
     → new.after ≡ mid.after → GathersNames unnamed old new
 gathers_all unnamed old mid new so order keeps after = record {
   reads = so.reads;

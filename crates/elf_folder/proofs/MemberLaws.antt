@@ -12,8 +12,8 @@ use Rattle.std.specs.Ordering.{is_eq, nat_cmp, ordering_reverse}
 use Rattle.std.specs.Cmp.Lexicographic.{slice_cmp}
 use Rattle.std.specs.declared.cmp.Ordering.{Ordering}
 use Rattle.std.specs.declared.cmp.Ordering.TheVariants.{Less, Equal, Greater}
-use Rattle.elf_folder.specs.Order.{order, put_by, put_all_by}
-use Rattle.elf_folder.specs.Passes.{AreBehind, Ascends, in_order}
+use Rattle.elf_folder.specs.Order.{order, insert_by, put_all_by}
+use Rattle.elf_folder.specs.Passes.{AreAfter, Ascends, in_order}
 use Rattle.elf_folder.proofs.AscendLaws.{all_behind, order_ascends}
 
 total : IsTotalOrder (slice_cmp nat_cmp)
@@ -46,13 +46,13 @@ twice false c = refl
 as_other : (z x y : List ℕ) → order x y ≡ Equal → is_eq (order z x) ≡ is_eq (order z y)
 as_other z x y equal = ap (λ n. is_eq (order z n)) (same_name x y equal)
 
-put_has : (z x : List ℕ) (names : List (List ℕ)) → has z (put_by (λ n. n) x names) ≡ (is_eq (order z x) || has z names)
-unfolding put_by
+put_has : (z x : List ℕ) (names : List (List ℕ)) → has z (insert_by (λ n. n) x names) ≡ (is_eq (order z x) || has z names)
+unfolding insert_by
 put_has z x [] = refl
 put_has z x (first ∷ rest) = by (order x first) refl (put_has z x rest)
   where
-    by : (o : Ordering) → o ≡ order x first → has z (put_by (λ n. n) x rest) ≡ (is_eq (order z x) || has z rest)
-        → has z (elim o as (λ _. List (List ℕ)) [ Less ↦ x ∷ first ∷ rest | Equal ↦ first ∷ rest | Greater ↦ first ∷ put_by (λ n. n) x rest ])
+    by : (o : Ordering) → o ≡ order x first → has z (insert_by (λ n. n) x rest) ≡ (is_eq (order z x) || has z rest)
+        → has z (elim o as (λ _. List (List ℕ)) [ Less ↦ x ∷ first ∷ rest | Equal ↦ first ∷ rest | Greater ↦ first ∷ insert_by (λ n. n) x rest ])
         ≡ (is_eq (order z x) || (is_eq (order z first) || has z rest))
     by Less is ih = refl
     by Equal is ih =
@@ -65,18 +65,18 @@ all_has : (z : List ℕ) (names before : List (List ℕ)) → has z (put_all_by 
 unfolding put_all_by
 all_has z [] before = refl
 all_has z (x ∷ xs) before =
-    all_has z xs (put_by (λ n. n) x before) ∙ ap (λ b. has z xs || b) (put_has z x before)
+    all_has z xs (insert_by (λ n. n) x before) ∙ ap (λ b. has z xs || b) (put_has z x before)
     ∙ joined (is_eq (order z x)) (has z xs) (has z before)
 
 -- a name that all others are behind is none of them
-none_behind : (low : List ℕ) (names : List (List ℕ)) → AreBehind low names → has low names ≡ false
+none_behind : (low : List ℕ) (names : List (List ℕ)) → AreAfter low names → has low names ≡ false
 none_behind low [] are = refl
 none_behind low (x ∷ xs) are = rw (are.0) (none_behind low xs are.1)
 
 itself : (x : List ℕ) (xs : List (List ℕ)) → has x (x ∷ xs) ≡ true
 itself x xs = ap (λ o. is_eq o || has x xs) (tied_itself total x)
 
-tails : (z x : List ℕ) (xs ys : List (List ℕ)) (b : Bool) → b ≡ is_eq (order z x) → AreBehind x xs → AreBehind x ys
+tails : (z x : List ℕ) (xs ys : List (List ℕ)) (b : Bool) → b ≡ is_eq (order z x) → AreAfter x xs → AreAfter x ys
     → (is_eq (order z x) || has z xs) ≡ (is_eq (order z x) || has z ys) → has z xs ≡ has z ys
 tails z x xs ys true is ax ay same =
     let z_is : z ≡ x = (bytes_eq-Decides z x).0 (sym (is_eq-slice_cmp z x) ∙ sym is) in
@@ -97,7 +97,7 @@ unique (x ∷ xs) (y ∷ ys) ax ay same = by (order x y) refl (λ alike. unique 
         absurd (both_ways (has y (y ∷ ys)) (sym (same y) ∙ none_behind y (x ∷ xs) (back, all_behind y x xs back ax.0)) (itself y ys))
     by Equal is rest =
         let one : x ≡ y = same_name x y (sym is) in
-        let behind : AreBehind x ys = subst (λ n. AreBehind n ys) (sym one) ay.0 in
+        let behind : AreAfter x ys = subst (λ n. AreAfter n ys) (sym one) ay.0 in
         let alike = rest (λ z. tails z x xs ys (is_eq (order z x)) refl ax.0 behind
         (same z ∙ ap (λ n. is_eq (order z n) || has z ys) (sym one))) in
         ap (λ n. n ∷ xs) one ∙ ap (λ l. y ∷ l) alike

@@ -1,9 +1,9 @@
 -- What a pass over names keeps.
 use Rattle.std.proofs.Common.{◌≡◌, ℕ, suc, ◌+◌, Bool, true, false, nat_lt, List, [], ◌∷◌, ◌++◌, length, take, get_or, refl, ap, sym, ◌∙◌, arith}
 use Rattle.std.proofs.lemmas.Bool.{both_ways, lt-ltb, ltb-true}
-use Rattle.elf_folder.specs.Kept.{Kept, IsFront, KeepsFirst}
+use Rattle.elf_folder.specs.Kept.{KeptNames, IsFront, KeepsFirstNames}
 use Rattle.elf_folder.specs.Pass.{IsPass}
-use Rattle.elf_folder.specs.Passes.{names_after, in_order}
+use Rattle.elf_folder.specs.Passes.{names_following, in_order}
 
 all_taken : (names : List (List ℕ)) → names ≡ take (length names) names
 all_taken [] = refl
@@ -36,7 +36,7 @@ at_limit : (front : List (List ℕ)) (limit : List ℕ) (rest : List (List ℕ))
 at_limit [] limit rest d = refl
 at_limit (x ∷ xs) limit rest d = at_limit xs limit rest d
 
-by_more : (names : List (List ℕ)) (kept all : List (List ℕ)) (after limit : List ℕ) (more : Bool) → all ≡ in_order (names_after after names)
+by_more : (names : List (List ℕ)) (kept all : List (List ℕ)) (after limit : List ℕ) (more : Bool) → all ≡ in_order (names_following after names)
     → IsFront limit more kept all → IsPass names (record { names = kept; after = after; limit = limit; more = more; held = [] })
 by_more names kept all after limit false is front = record {
   first = front ∙ all_taken all ∙ ap (λ l. take (length l) all) (sym front) ∙ ap (λ l. take (length kept) l) is;
@@ -51,7 +51,7 @@ by_more names kept all after limit true is front =
       last = λ true_is. (length front.front, ap length front.kept_is ∙ counted front.front limit, at_limit front.front limit (front.next ∷ front.rest) after ∙ ap (λ l. get_or l (length front.front) after) whole);
     }
 
-pub pass_keeps : (names : List (List ℕ)) (kept : Kept) → KeepsFirst names kept → IsPass names kept
+pub pass_keeps : (names : List (List ℕ)) (kept : KeptNames) → KeepsFirstNames names kept → IsPass names kept
 pass_keeps names kept front =
-    let p = by_more names kept.names (in_order (names_after kept.after names)) kept.after kept.limit kept.more refl front in
+    let p = by_more names kept.names (in_order (names_following kept.after names)) kept.after kept.limit kept.more refl front in
     record { first = p.first; more = p.more; last = p.last }

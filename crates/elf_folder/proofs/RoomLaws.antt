@@ -6,9 +6,9 @@ use Rattle.std.specs.Prelude.{All, sum_by}
 use Rattle.std.specs.declared.cmp.Ordering.{Ordering}
 use Rattle.std.specs.declared.cmp.Ordering.TheVariants.{Less, Equal, Greater}
 use Rattle.elf_model.specs.Bytes.{slice}
-use Rattle.elf_folder.specs.Held.{IsEnough, IsFew, IsWithinKept, LeavesRoom, bytes_held}
-use Rattle.elf_folder.specs.Kept.{HoldsWithin, Kept}
-use Rattle.elf_folder.specs.Order.{order, put_by}
+use Rattle.elf_folder.specs.Held.{IsEnough, IsSmallFolder, IsWithinKept, LeavesRoom, bytes_held}
+use Rattle.elf_folder.specs.Kept.{HoldsWithin, KeptNames}
+use Rattle.elf_folder.specs.Order.{order, insert_by}
 use Rattle.elf_folder.specs.Passes.{in_order}
 use Rattle.elf_folder.proofs.SortedLaws.{all_more}
 
@@ -27,22 +27,22 @@ module _ {X : Type 0} (start len : X → ℕ) where
       ∙ sym (sum_by-cons len p ps)
 
 -- a name that is put takes none away
-pub put_rises : (name : List ℕ) (names : List (List ℕ)) → (length names ≤ length (put_by (λ n. n) name names)) × (bytes_held names ≤ bytes_held (put_by (λ n. n) name names))
-unfolding put_by
+pub put_rises : (name : List ℕ) (names : List (List ℕ)) → (length names ≤ length (insert_by (λ n. n) name names)) × (bytes_held names ≤ bytes_held (insert_by (λ n. n) name names))
+unfolding insert_by
 put_rises name [] = (omega arith, omega arith)
 put_rises name (first ∷ rest) = by (order name first) (put_rises name rest)
   where
-    by : (o : Ordering) → (length rest ≤ length (put_by (λ n. n) name rest)) × (bytes_held rest ≤ bytes_held (put_by (λ n. n) name rest))
-        → (length (first ∷ rest) ≤ length (elim o as (λ _. List (List ℕ)) [ Less ↦ name ∷ first ∷ rest | Equal ↦ first ∷ rest | Greater ↦ first ∷ put_by (λ n. n) name rest ]))
-        × (bytes_held (first ∷ rest) ≤ bytes_held (elim o as (λ _. List (List ℕ)) [ Less ↦ name ∷ first ∷ rest | Equal ↦ first ∷ rest | Greater ↦ first ∷ put_by (λ n. n) name rest ]))
+    by : (o : Ordering) → (length rest ≤ length (insert_by (λ n. n) name rest)) × (bytes_held rest ≤ bytes_held (insert_by (λ n. n) name rest))
+        → (length (first ∷ rest) ≤ length (elim o as (λ _. List (List ℕ)) [ Less ↦ name ∷ first ∷ rest | Equal ↦ first ∷ rest | Greater ↦ first ∷ insert_by (λ n. n) name rest ]))
+        × (bytes_held (first ∷ rest) ≤ bytes_held (elim o as (λ _. List (List ℕ)) [ Less ↦ name ∷ first ∷ rest | Equal ↦ first ∷ rest | Greater ↦ first ∷ insert_by (λ n. n) name rest ]))
     by Less ih = (omega arith, omega (arith, sum_by-cons (λ (n : List ℕ). length n) name (first ∷ rest)))
     by Equal ih = (omega arith, omega arith)
     by Greater ih = (
       omega (arith, ih.0),
-      omega (arith, ih.1, sum_by-cons (λ (n : List ℕ). length n) first rest, sum_by-cons (λ (n : List ℕ). length n) first (put_by (λ n. n) name rest)),
+      omega (arith, ih.1, sum_by-cons (λ (n : List ℕ). length n) first rest, sum_by-cons (λ (n : List ℕ). length n) first (insert_by (λ n. n) name rest)),
     )
 
-pub enough_more : (name : List ℕ) (names : List (List ℕ)) → IsEnough names → IsEnough (put_by (λ n. n) name names)
+pub enough_more : (name : List ℕ) (names : List (List ℕ)) → IsEnough names → IsEnough (insert_by (λ n. n) name names)
 enough_more name names (inl many) = inl (omega (arith, many, (put_rises name names).0))
 enough_more name names (inr long) = inr (omega (arith, long, (put_rises name names).1))
 
@@ -51,7 +51,7 @@ pub held_more : (names : List (List ℕ)) (name : List ℕ) → bytes_held (name
 held_more names name = sum_by_push (λ (n : List ℕ). length n) names name
 
 -- a name is put behind others that are not enough
-pub few_more : (names : List (List ℕ)) (name : List ℕ) → (0 < length names → IsFew names) → length name ≤ 255 → IsWithinKept (names ++ name ∷ [])
+pub few_more : (names : List (List ℕ)) (name : List ℕ) → (0 < length names → IsSmallFolder names) → length name ≤ 255 → IsWithinKept (names ++ name ∷ [])
 few_more [] name few short = (omega arith, omega (arith, held_more [] name))
 few_more (x ∷ xs) name few short =
     let now = few (omega arith) in
@@ -69,5 +69,5 @@ holds_more kept new name after limit more room short enough is =
     }
 
 -- no name more is held
-pub holds_still : (kept : Kept) → LeavesRoom kept.held → (kept.more ≡ true → IsEnough kept.names) → HoldsWithin kept
+pub holds_still : (kept : KeptNames) → LeavesRoom kept.held → (kept.more ≡ true → IsEnough kept.names) → HoldsWithin kept
 holds_still kept room enough = record { room = (omega (arith, room.0), omega (arith, room.1)); enough = enough }

@@ -13,7 +13,7 @@ use Rattle.std.specs.Cmp.Lexicographic.{slice_cmp}
 use Rattle.std.specs.declared.cmp.Ordering.{Ordering}
 use Rattle.std.specs.declared.cmp.Ordering.TheVariants.{Less, Equal, Greater}
 use Rattle.elf_folder.specs.Held.{repeats}
-use Rattle.elf_folder.specs.Order.{order, put_by, put_all_by}
+use Rattle.elf_folder.specs.Order.{order, insert_by, put_all_by}
 use Rattle.elf_folder.specs.Passes.{in_order}
 use Rattle.elf_folder.proofs.MemberLaws.{same_name}
 use Rattle.elf_folder.proofs.OrderLaws.{put_equal, put_greater}
@@ -23,27 +23,27 @@ total = nat_list_cmp_total
 
 -- one name more
 pub all_more : (xs : List (List ℕ)) (x : List ℕ) (before : List (List ℕ))
-    → put_all_by (λ n. n) (xs ++ x ∷ []) before ≡ put_by (λ n. n) x (put_all_by (λ n. n) xs before)
+    → put_all_by (λ n. n) (xs ++ x ∷ []) before ≡ insert_by (λ n. n) x (put_all_by (λ n. n) xs before)
 unfolding put_all_by
 all_more [] x before = refl
-all_more (y ∷ ys) x before = all_more ys x (put_by (λ n. n) y before)
+all_more (y ∷ ys) x before = all_more ys x (insert_by (λ n. n) y before)
 
 more_taken : (names : List (List ℕ)) (i : ℕ) → i < length names
-    → in_order (take (suc i) names) ≡ put_by (λ n. n) (get_or names i []) (in_order (take i names))
+    → in_order (take (suc i) names) ≡ insert_by (λ n. n) (get_or names i []) (in_order (take i names))
 more_taken names i within =
     ap in_order (take-suc names i [] within) ∙ all_more (take i names) (get_or names i []) []
 
-put_twice : (x : List ℕ) (xs : List (List ℕ)) → put_by (λ n. n) x (put_by (λ n. n) x xs) ≡ put_by (λ n. n) x xs
-unfolding put_by
+put_twice : (x : List ℕ) (xs : List (List ℕ)) → insert_by (λ n. n) x (insert_by (λ n. n) x xs) ≡ insert_by (λ n. n) x xs
+unfolding insert_by
 put_twice x [] = put_equal (λ n. n) x x [] (tied_itself total x)
 put_twice x (first ∷ rest) = by (order x first) refl (put_twice x rest)
   where
-    by : (o : Ordering) → o ≡ order x first → put_by (λ n. n) x (put_by (λ n. n) x rest) ≡ put_by (λ n. n) x rest
-        → put_by (λ n. n) x (elim o as (λ _. List (List ℕ)) [ Less ↦ x ∷ first ∷ rest | Equal ↦ first ∷ rest | Greater ↦ first ∷ put_by (λ n. n) x rest ])
-        ≡ elim o as (λ _. List (List ℕ)) [ Less ↦ x ∷ first ∷ rest | Equal ↦ first ∷ rest | Greater ↦ first ∷ put_by (λ n. n) x rest ]
+    by : (o : Ordering) → o ≡ order x first → insert_by (λ n. n) x (insert_by (λ n. n) x rest) ≡ insert_by (λ n. n) x rest
+        → insert_by (λ n. n) x (elim o as (λ _. List (List ℕ)) [ Less ↦ x ∷ first ∷ rest | Equal ↦ first ∷ rest | Greater ↦ first ∷ insert_by (λ n. n) x rest ])
+        ≡ elim o as (λ _. List (List ℕ)) [ Less ↦ x ∷ first ∷ rest | Equal ↦ first ∷ rest | Greater ↦ first ∷ insert_by (λ n. n) x rest ]
     by Less is ih = put_equal (λ n. n) x x (first ∷ rest) (tied_itself total x)
     by Equal is ih = put_equal (λ n. n) x first rest (sym is)
-    by Greater is ih = put_greater (λ n. n) x first (put_by (λ n. n) x rest) (sym is) ∙ ap (λ l. first ∷ l) ih
+    by Greater is ih = put_greater (λ n. n) x first (insert_by (λ n. n) x rest) (sym is) ∙ ap (λ l. first ∷ l) ih
 
 -- a name that repeats the one before it adds none
 pub repeated : (names : List (List ℕ)) (i : ℕ) → i < length names → repeats names i ≡ true → in_order (take i names) ≡ in_order (take (suc i) names)
@@ -53,8 +53,8 @@ repeated names (suc j) within is =
     (bytes_eq-Decides (get_or names (suc j) []) (get_or names j [])).0 is in
     let one = more_taken names j (omega arith) in
     let both : in_order (take (suc (suc j)) names) ≡ in_order (take (suc j) names) =
-    more_taken names (suc j) within ∙ ap (λ n. put_by (λ n. n) n (in_order (take (suc j) names))) same
-    ∙ ap (λ l. put_by (λ n. n) (get_or names j []) l) one ∙ put_twice (get_or names j []) (in_order (take j names)) ∙ sym one in
+    more_taken names (suc j) within ∙ ap (λ n. insert_by (λ n. n) n (in_order (take (suc j) names))) same
+    ∙ ap (λ l. insert_by (λ n. n) (get_or names j []) l) one ∙ put_twice (get_or names j []) (in_order (take j names)) ∙ sym one in
     sym both
 
 -- each of the names is below another
@@ -68,18 +68,18 @@ back_of_less x y less = total.antisymm y x ∙ ap ordering_reverse less
 back_of_greater : (x y : List ℕ) → order x y ≡ Greater → order y x ≡ Less
 back_of_greater x y greater = total.antisymm y x ∙ ap ordering_reverse greater
 
-at_end : (x : List ℕ) (ys : List (List ℕ)) → Below x ys → put_by (λ n. n) x ys ≡ ys ++ x ∷ []
-unfolding put_by
+at_end : (x : List ℕ) (ys : List (List ℕ)) → Below x ys → insert_by (λ n. n) x ys ≡ ys ++ x ∷ []
+unfolding insert_by
 at_end x [] are = refl
 at_end x (y ∷ ys) are = put_greater (λ n. n) x y ys (back_of_less y x are.0) ∙ ap (λ l. y ∷ l) (at_end x ys are.1)
 
-put_below : (x y : List ℕ) (ys : List (List ℕ)) → order y x ≡ Less → Below x ys → Below x (put_by (λ n. n) y ys)
-unfolding put_by
+put_below : (x y : List ℕ) (ys : List (List ℕ)) → order y x ≡ Less → Below x ys → Below x (insert_by (λ n. n) y ys)
+unfolding insert_by
 put_below x y [] less are = (less, tt)
 put_below x y (first ∷ rest) less are = by (order y first) (put_below x y rest less are.1)
   where
-    by : (o : Ordering) → Below x (put_by (λ n. n) y rest)
-        → Below x (elim o as (λ _. List (List ℕ)) [ Less ↦ y ∷ first ∷ rest | Equal ↦ first ∷ rest | Greater ↦ first ∷ put_by (λ n. n) y rest ])
+    by : (o : Ordering) → Below x (insert_by (λ n. n) y rest)
+        → Below x (elim o as (λ _. List (List ℕ)) [ Less ↦ y ∷ first ∷ rest | Equal ↦ first ∷ rest | Greater ↦ first ∷ insert_by (λ n. n) y rest ])
     by Less ih = (less, are)
     by Equal ih = are
     by Greater ih = (are.0, ih)
@@ -87,7 +87,7 @@ put_below x y (first ∷ rest) less are = by (order y first) (put_below x y rest
 all_below : (x : List ℕ) (xs before : List (List ℕ)) → Below x xs → Below x before → Below x (put_all_by (λ n. n) xs before)
 unfolding put_all_by
 all_below x [] before are were = were
-all_below x (y ∷ ys) before are were = all_below x ys (put_by (λ n. n) y before) are.1 (put_below x y before are.0 were)
+all_below x (y ∷ ys) before are were = all_below x ys (insert_by (λ n. n) y before) are.1 (put_below x y before are.0 were)
 
 below_more : (x y : List ℕ) (xs : List (List ℕ)) → Below x xs → order y x ≡ Less → Below x (xs ++ y ∷ [])
 below_more x y [] are less = (less, tt)
@@ -115,8 +115,8 @@ taken_below x names (suc n) within each =
     let rest : Below x (take n names) = taken_below x names n (omega arith) (λ k low. each k (omega arith)) in
     subst (λ l. Below x l) (sym (take-suc names n [] (omega arith))) (below_more x (get_or names n []) (take n names) rest (each n (omega arith)))
 
-first_put : (x : List ℕ) → [] ++ x ∷ [] ≡ put_by (λ n. n) x (put_all_by (λ n. n) [] [])
-unfolding put_all_by put_by
+first_put : (x : List ℕ) → [] ++ x ∷ [] ≡ insert_by (λ n. n) x (put_all_by (λ n. n) [] [])
+unfolding put_all_by insert_by
 first_put x = refl
 
 pub none_put : put_all_by (λ (n : List ℕ). n) [] [] ≡ []

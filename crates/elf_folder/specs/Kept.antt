@@ -3,7 +3,7 @@ use Rattle.std.specs.Prelude.{ℕ, ◌≡◌, ◌≤◌, Bool, true, false, not,
 use Rattle.std.specs.Ordering.{is_gt, is_lt}
 use Rattle.elf_folder.specs.Held.{IsEnough, IsWithinRoom}
 use Rattle.elf_folder.specs.Order.{order}
-use Rattle.elf_folder.specs.Passes.{in_order, names_after}
+use Rattle.elf_folder.specs.Passes.{in_order, names_following}
 
 -- the most bytes of a name in a folder
 abbrev pub FOLDER_NAME_BYTES : ℕ
@@ -11,7 +11,7 @@ FOLDER_NAME_BYTES = 255
 
 -- what is kept of a folder: its first names behind another one, in order; the same as they lie; that other one; whether the
 -- folder has more of them, and the last that is kept then
-pub record Kept : Type 0 where
+pub record KeptNames : Type 0 where
   pub names : List (List ℕ)
   pub held : List (List ℕ)
   pub after : List ℕ
@@ -19,8 +19,8 @@ pub record Kept : Type 0 where
   pub more : Bool
 
 -- the name of a folder within itself, or of the one above it
-abbrev pub is_dots : List ℕ → Bool
-is_dots name = bytes_eq name (codes ".") || bytes_eq name (codes "..")
+abbrev pub is_dot_entry : List ℕ → Bool
+is_dot_entry name = bytes_eq name (codes ".") || bytes_eq name (codes "..")
 
 -- a name that can be told
 abbrev pub IsNameable : List ℕ → Type 0
@@ -40,14 +40,14 @@ IsFront limit false kept all = kept ≡ all
 IsFront limit true kept all = IsCutFront limit kept all
 
 -- WHAT IS KEPT of the names that were put: the first of those behind `after` in the order of their bytes, each once
-abbrev pub KeepsFirst : List (List ℕ) → Kept → Type 0
-KeepsFirst names kept = IsFront kept.limit kept.more kept.names (in_order (names_after kept.after names))
+abbrev pub KeepsFirstNames : List (List ℕ) → KeptNames → Type 0
+KeepsFirstNames names kept = IsFront kept.limit kept.more kept.names (in_order (names_following kept.after names))
 
 -- a name has its place among those that are kept
-abbrev pub wants : List ℕ → Kept → Bool
+abbrev pub wants : List ℕ → KeptNames → Bool
 wants name kept = is_gt (order name kept.after) && (not kept.more || is_lt (order name kept.limit))
 
 -- HOW MUCH IS HELD of a folder: no more than there is memory for, and where the folder has more names, as many as are kept
-pub record HoldsWithin (kept : Kept) : Type 0 where
+pub record HoldsWithin (kept : KeptNames) : Type 0 where
   pub room : IsWithinRoom kept.held
   pub enough : kept.more ≡ true → IsEnough kept.names

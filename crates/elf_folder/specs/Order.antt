@@ -11,15 +11,15 @@ order a b = slice_cmp nat_cmp a b
 
 -- a member put among others in the order of their names: before the first that is larger; where one has its name
 -- already it is not put again
-unfoldable pub put_by : {X : Type 0} → (X → List ℕ) → X → List X → List X
-put_by name x [] = x ∷ []
-put_by name x (first ∷ rest) = elim (order (name x) (name first)) [
+unfoldable pub insert_by : {X : Type 0} → (X → List ℕ) → X → List X → List X
+insert_by name x [] = x ∷ []
+insert_by name x (first ∷ rest) = elim (order (name x) (name first)) [
   | Less ↦ x ∷ first ∷ rest
   | Equal ↦ first ∷ rest
-  | Greater ↦ first ∷ put_by name x rest
+  | Greater ↦ first ∷ insert_by name x rest
 ]
 
 -- members put one after another
 unfoldable pub put_all_by : {X : Type 0} → (X → List ℕ) → List X → List X → List X
 put_all_by name [] kept = kept
-put_all_by name (x ∷ xs) kept = put_all_by name xs (put_by name x kept)
+put_all_by name (x ∷ xs) kept = put_all_by name xs (insert_by name x kept)

@@ -9,18 +9,18 @@ abbrev pub in_order : List (List ℕ) → List (List ℕ)
 in_order names = put_all_by (λ n. n) names []
 
 -- those behind a name
-abbrev pub names_after : List ℕ → List (List ℕ) → List (List ℕ)
-names_after after names = filter (λ n. is_gt (order n after)) names
+abbrev pub names_following : List ℕ → List (List ℕ) → List (List ℕ)
+names_following after names = filter (λ n. is_gt (order n after)) names
 
 -- each of the names is behind another
-abbrev pub AreBehind : List ℕ → List (List ℕ) → Type 0
-AreBehind first [] = ⊤
-AreBehind first (name ∷ names) = (order first name ≡ Less) × AreBehind first names
+abbrev pub AreAfter : List ℕ → List (List ℕ) → Type 0
+AreAfter first [] = ⊤
+AreAfter first (name ∷ names) = (order first name ≡ Less) × AreAfter first names
 
 -- names that ascend: each is behind all before it
 abbrev pub Ascends : List (List ℕ) → Type 0
 Ascends [] = ⊤
-Ascends (name ∷ names) = AreBehind name names × Ascends names
+Ascends (name ∷ names) = AreAfter name names × Ascends names
 
 -- names in order ascend
 abbrev pub OrderAscends : Type 0
@@ -31,12 +31,12 @@ OrderAscends = (names : List (List ℕ)) → Ascends (in_order names)
 unfoldable pub passes : List ℕ → List (List ℕ) → List ℕ → List (List ℕ)
 passes [] names after = []
 passes (most ∷ mosts) names after =
-    let all = in_order (names_after after names) in
+    let all = in_order (names_following after names) in
     take (suc most) all ++ (if nat_lt (suc most) (length all) then passes mosts names (slice_index_or all most after) else [])
 
 -- ALL NAMES: however many each pass keeps, enough of them give all names of the folder behind the first one, in the order of
 -- their bytes, each once
 abbrev pub AllNames : Type 0
 AllNames =
-    (mosts : List ℕ) (names : List (List ℕ)) (after : List ℕ) → length (in_order (names_after after names)) ≤ length mosts
-    → passes mosts names after ≡ in_order (names_after after names)
+    (mosts : List ℕ) (names : List (List ℕ)) (after : List ℕ) → length (in_order (names_following after names)) ≤ length mosts
+    → passes mosts names after ≡ in_order (names_following after names)

@@ -2,11 +2,11 @@
 ghost use Rattle.std.specs.Prelude.{◌≡◌, ◌<◌, ◌++◌, ◌∷◌, List, ℕ, suc, slice_index_or, true, false, IfOk, IfSome, IsNone, OnOk, Ok, [], length, take};
 ghost use Rattle.std.specs.List.Sorted.{IsSorted};
 ghost use Rattle.elf_folder.specs.Held.{IsEnough, IsWithinKept, LeavesRoom, IsSettled};
-ghost use Rattle.elf_folder.specs.Kept.{HoldsWithin, IsFront, IsNameable, KeepsFirst, is_dots, wants};
+ghost use Rattle.elf_folder.specs.Kept.{HoldsWithin, IsFront, IsNameable, KeepsFirstNames, is_dot_entry, wants};
 ghost use Rattle.elf_folder.specs.Order.{order};
 ghost use Rattle.elf_folder.specs.Passes.{in_order};
 
-use crate::names::{FOLDER_NAME_BYTES, FolderNames};
+use crate::names::{DirNames, FOLDER_NAME_BYTES};
 use arrayvec::ArrayVec;
 use std::alloc::{AllocError, Global};
 use std::cmp::Ordering;
@@ -14,26 +14,26 @@ use std::marker::Model;
 use std::str;
 
 /// A name in a folder.
-pub type FolderName = ArrayVec<u8, 255>;
+pub type DirEntryName = ArrayVec<u8, 255>;
 
 /// The first names of a folder behind another one, in the order of their bytes, each once: as many as
 /// there is room for. A pass over the folder puts each name that it has; where there are more than are
 /// kept, another pass follows.
 #[derive(Drop)]
-pub struct Batch {
-    kept: FolderNames,
+pub struct NameBatch {
+    kept: DirNames,
     /// Where names are put in order.
-    spare: FolderNames,
-    after: FolderName,
-    limit: FolderName,
+    spare: DirNames,
+    after: DirEntryName,
+    limit: DirEntryName,
     more: bool,
 }
 
-impl Model for Batch {
-    ghost use Rattle.elf_folder.specs.Kept.{Kept};
+impl Model for NameBatch {
+    ghost use Rattle.elf_folder.specs.Kept.{KeptNames};
     ghost use Rattle.elf_folder.specs.Passes.{in_order};
 
-    ghost Value = { Kept };
+    ghost Value = { KeptNames };
 
     ghost view = { λ b. record {
       names = in_order b.kept;
@@ -53,27 +53,27 @@ pub enum Put {
     Unnamed,
 }
 
-impl Batch {
+impl NameBatch {
     /// A batch without a name. Its memory is taken from `alloc` here.
     ///
     /// # Errors
     /// Where memory is refused.
-    pub fn new(alloc: Global) -> Result<Batch, AllocError>
-        ensures { IfOk result (λ batch. KeepsFirst [] batch) }
+    pub fn new(alloc: Global) -> Result<NameBatch, AllocError>
+        ensures { IfOk result (λ batch. KeepsFirstNames [] batch) }
     {
-        Ok(Batch {
-            kept: FolderNames::new(alloc)?,
-            spare: FolderNames::new(alloc)?,
-            after: FolderName::new(),
-            limit: FolderName::new(),
+        Ok(NameBatch {
+            kept: DirNames::new(alloc)?,
+            spare: DirNames::new(alloc)?,
+            after: DirEntryName::new(),
+            limit: DirEntryName::new(),
             more: false,
         })
     }
 
     /// Begins a pass that wants the names behind another one, which is empty in the first pass over a
     /// folder.
-    pub fn begin(&mut self, after: &FolderName)
-        ensures keeps { KeepsFirst [] self.new }
+    pub fn begin(&mut self, after: &DirEntryName)
+        ensures keeps { KeepsFirstNames [] self.new }
         ensures after { self.new.after ≡ after.now.items }
         ensures more { self.new.more ≡ false }
         ensures room { HoldsWithin self.new }
@@ -95,21 +95,21 @@ impl Batch {
     /// # Errors
     /// Where memory is refused.
     pub fn put(&mut self, name: &[u8]) -> Result<Put, AllocError>
-        ensures dots { is_dots name.now ≡ true →
+        ensures dots { is_dot_entry name.now ≡ true →
             (result ≡ Ok Put.Placed) × (self.new ≡ self.old) }
-        ensures unnamed { is_dots name.now ≡ false → ¬ (IsNameable name.now) →
+        ensures unnamed { is_dot_entry name.now ≡ false → ¬ (IsNameable name.now) →
             (result ≡ Ok Put.Unnamed) × (self.new ≡ self.old) }
-        ensures placed { is_dots name.now ≡ false → IsNameable name.now →
+        ensures placed { is_dot_entry name.now ≡ false → IsNameable name.now →
             OnOk result (result ≡ Ok Put.Placed) }
-        ensures named { result ≡ Ok Put.Placed → is_dots name.now ≡ false →
+        ensures named { result ≡ Ok Put.Placed → is_dot_entry name.now ≡ false →
             IsNameable name.now }
-        ensures keeps { is_dots name.now ≡ false → IsNameable name.now →
-            OnOk result ((names : List (List ℕ)) → KeepsFirst names self.old →
-            KeepsFirst (names ++ name.now ∷ []) self.new) }
+        ensures keeps { is_dot_entry name.now ≡ false → IsNameable name.now →
+            OnOk result ((names : List (List ℕ)) → KeepsFirstNames names self.old →
+            KeepsFirstNames (names ++ name.now ∷ []) self.new) }
         ensures room { OnOk result (HoldsWithin self.old → HoldsWithin self.new) }
         ensures after { self.new.after ≡ self.old.after }
     {
-        if is_dots(name) {
+        if is_dot_entry(name) {
             return Ok(Put::Placed);
         }
         if !is_nameable(name) {
@@ -124,8 +124,8 @@ impl Batch {
     /// # Errors
     /// Where memory is refused.
     fn hold(&mut self, name: &[u8]) -> Result<(), AllocError>
-        ensures keeps { OnOk result ((names : List (List ℕ)) → KeepsFirst names self.old →
-            KeepsFirst (names ++ name.now ∷ []) self.new) }
+        ensures keeps { OnOk result ((names : List (List ℕ)) → KeepsFirstNames names self.old →
+            KeepsFirstNames (names ++ name.now ∷ []) self.new) }
         ensures room { OnOk result (HoldsWithin self.old → HoldsWithin self.new) }
         ensures after { self.new.after ≡ self.old.after }
     {
@@ -141,8 +141,8 @@ impl Batch {
     /// # Errors
     /// Where memory is refused.
     fn make_room(&mut self) -> Result<(), AllocError>
-        ensures keeps { OnOk result ((names : List (List ℕ)) → KeepsFirst names self.old →
-            KeepsFirst names self.new) }
+        ensures keeps { OnOk result ((names : List (List ℕ)) → KeepsFirstNames names self.old →
+            KeepsFirstNames names self.new) }
         ensures enough { OnOk result (HoldsWithin self.old → self.new.more ≡ true →
             IsEnough self.new.names) }
         ensures room { OnOk result (LeavesRoom self.new.held) }
@@ -168,8 +168,8 @@ impl Batch {
     /// Where memory is refused.
     pub fn end(&mut self) -> Result<(), AllocError>
         ensures names { OnOk result (self.new.held ≡ self.new.names) }
-        ensures keeps { OnOk result ((names : List (List ℕ)) → KeepsFirst names self.old →
-            KeepsFirst names self.new) }
+        ensures keeps { OnOk result ((names : List (List ℕ)) → KeepsFirstNames names self.old →
+            KeepsFirstNames names self.new) }
         ensures within { OnOk result (IsWithinKept self.new.held) }
         ensures enough { OnOk result (HoldsWithin self.old → self.new.more ≡ true →
             IsEnough self.new.names) }
@@ -184,7 +184,7 @@ impl Batch {
     }
 
     /// The names that are kept, as they lie: in order once the pass has ended.
-    pub fn names(&self) -> &FolderNames
+    pub fn names(&self) -> &DirNames
         ensures { result.now ≡ self.now.held }
     {
         &self.kept
@@ -192,8 +192,8 @@ impl Batch {
 }
 
 /// Whether a name is that of a folder within itself, or of the one above it.
-fn is_dots(name: &[u8]) -> bool
-    ensures { result ≡ is_dots name.now }
+fn is_dot_entry(name: &[u8]) -> bool
+    ensures { result ≡ is_dot_entry name.now }
 {
     name == b".".as_slice() || name == b"..".as_slice()
 }
@@ -212,9 +212,9 @@ fn is_nameable(name: &[u8]) -> bool
 /// # Errors
 /// Where memory is refused.
 fn settle(
-    kept: &mut FolderNames,
-    spare: &mut FolderNames,
-    limit: &mut FolderName,
+    kept: &mut DirNames,
+    spare: &mut DirNames,
+    limit: &mut DirEntryName,
     more: &mut bool,
 ) -> Result<(), AllocError>
     ensures front { OnOk result ((all : List (List ℕ)) →
@@ -239,7 +239,7 @@ fn settle(
 ///
 /// # Errors
 /// Where memory is refused.
-fn put_each_once(from: &FolderNames, to: &mut FolderNames) -> Result<(), AllocError>
+fn put_each_once(from: &DirNames, to: &mut DirNames) -> Result<(), AllocError>
     requires sorted { IsSorted order from.now }
     requires empty { to.old ≡ [] }
     ensures { OnOk result (to.new ≡ in_order from.now) }
@@ -260,7 +260,7 @@ fn put_each_once(from: &FolderNames, to: &mut FolderNames) -> Result<(), AllocEr
 ///
 /// # Errors
 /// Where memory is refused.
-fn put_first(from: &FolderNames, to: &mut FolderNames) -> Result<bool, AllocError>
+fn put_first(from: &DirNames, to: &mut DirNames) -> Result<bool, AllocError>
     requires empty { to.old ≡ [] }
     ensures whole { result ≡ Ok true → to.new ≡ from.now }
     ensures front { result ≡ Ok false → (to.new ≡ take (length to.new) from.now)
@@ -281,11 +281,11 @@ fn put_first(from: &FolderNames, to: &mut FolderNames) -> Result<bool, AllocErro
 }
 
 /// The last of some names; where there are none the empty one.
-fn last_of(names: &FolderNames) -> FolderName
+fn last_of(names: &DirNames) -> DirEntryName
     ensures { (most : ℕ) → length names.now ≡ suc most →
         result.items ≡ slice_index_or names.now most [] }
 {
-    let mut last = FolderName::new();
+    let mut last = DirEntryName::new();
     if let Some(name) = names.get(names.len().saturating_sub(1)) {
         let _ = last.try_extend_from_slice(name);
     }
@@ -293,10 +293,10 @@ fn last_of(names: &FolderNames) -> FolderName
 }
 
 /// The same name once more.
-fn copied(name: &FolderName) -> FolderName
+fn copied(name: &DirEntryName) -> DirEntryName
     ensures { result.items ≡ name.now.items }
 {
-    let mut copy = FolderName::new();
+    let mut copy = DirEntryName::new();
     let _ = copy.try_extend_from_slice(name);
     copy
 }

@@ -1,12 +1,12 @@
 //! The names in a folder, read in passes.
 ghost use Rattle.std.specs.Prelude.{◌≡◌, IfOk, List, ℕ, []};
 ghost use Rattle.elf_folder.specs.Gathered.{GathersNames, PutsNames, unnamed_count};
-ghost use Rattle.elf_folder.specs.Kept.{KeepsFirst};
+ghost use Rattle.elf_folder.specs.Kept.{KeepsFirstNames};
 
-use crate::batch::{Batch, Put};
+use crate::batch::{NameBatch, Put};
 use crate::entries::ends_at;
 use crate::opening::unopened;
-use elf_model::FileState;
+use elf_model::FileStatus;
 use std::alloc::AllocError;
 use std::io::{ErrorKind, Read};
 use std::rt::Files;
@@ -21,9 +21,9 @@ pub fn gather<R: Files>(
     rt: &R,
     path: &str,
     room: &mut [u8],
-    batch: &mut Batch,
-) -> Result<u64, FileState>
-    requires { KeepsFirst [] batch.old }
+    batch: &mut NameBatch,
+) -> Result<u64, FileStatus>
+    requires { KeepsFirstNames [] batch.old }
     ensures gathers { IfOk result (λ unnamed. GathersNames unnamed batch.old batch.new) }
 {
     match rt.open_dir(path) {
@@ -39,9 +39,9 @@ pub fn gather<R: Files>(
 fn gather_from<D: Read>(
     folder: &mut D,
     room: &mut [u8],
-    batch: &mut Batch,
-) -> Result<u64, FileState>
-    requires { KeepsFirst [] batch.old }
+    batch: &mut NameBatch,
+) -> Result<u64, FileStatus>
+    requires { KeepsFirstNames [] batch.old }
     ensures gathers { IfOk result (λ unnamed. GathersNames unnamed batch.old batch.new) }
 {
     let mut unnamed: u64 = 0;
@@ -54,26 +54,26 @@ fn gather_from<D: Read>(
         };
         match put_all(&room[..count], batch) {
             Ok(more) => unnamed = unnamed.saturating_add(more),
-            Err(AllocError) => return Err(FileState::Memory),
+            Err(AllocError) => return Err(FileStatus::Memory),
         }
     }
-    Err(FileState::Unread)
+    Err(FileStatus::Unread)
 }
 
 /// Ends a pass, of which so many names can't be named.
 ///
 /// # Errors
 /// The state of a folder for whose names there is no memory.
-fn ended(batch: &mut Batch, unnamed: u64) -> Result<u64, FileState>
+fn ended(batch: &mut NameBatch, unnamed: u64) -> Result<u64, FileStatus>
     ensures count { IfOk result (λ count. count ≡ unnamed) }
     ensures order { IfOk result (λ count. batch.new.held ≡ batch.new.names) }
-    ensures keeps { IfOk result (λ count. (names : List (List ℕ)) → KeepsFirst names batch.old
-        → KeepsFirst names batch.new) }
+    ensures keeps { IfOk result (λ count. (names : List (List ℕ)) → KeepsFirstNames names batch.old
+        → KeepsFirstNames names batch.new) }
     ensures after { batch.new.after ≡ batch.old.after }
 {
     match batch.end() {
         Ok(()) => Ok(unnamed),
-        Err(AllocError) => Err(FileState::Memory),
+        Err(AllocError) => Err(FileStatus::Memory),
     }
 }
 
@@ -81,7 +81,7 @@ fn ended(batch: &mut Batch, unnamed: u64) -> Result<u64, FileState>
 ///
 /// # Errors
 /// Where memory is refused.
-fn put_all(names: &[u8], batch: &mut Batch) -> Result<u64, AllocError>
+fn put_all(names: &[u8], batch: &mut NameBatch) -> Result<u64, AllocError>
     ensures puts { IfOk result (λ unnamed. PutsNames names.now unnamed batch.old batch.new) }
     ensures after { batch.new.after ≡ batch.old.after }
 {

@@ -11,11 +11,11 @@ mod opening;
 mod path;
 mod stack;
 
-pub use batch::{Batch, FolderName, Put};
+pub use batch::{DirEntryName, NameBatch, Put};
 pub use entries::{ends_at, entry_end};
 pub use folders::gather;
 pub use laws::{all_names, entry_is_found, last_is_found, order_ascends, pass_keeps};
-pub use names::{FOLDER_NAME_BYTES, FolderNames, KEPT_BYTES, KEPT_NAMES};
+pub use names::{DirNames, FOLDER_NAME_BYTES, KEPT_BYTES, KEPT_NAMES};
 pub use opening::unopened;
 pub use path::{PATH_BYTES, PathText, join};
-pub use stack::{STACK_BYTES, Stack, count_within};
+pub use stack::{STACK_BYTES, Stack, count_fitting};

@@ -3,7 +3,7 @@ ghost use Rattle.std.specs.Prelude.{◌≡◌, ◌+◌, ◌≤◌, ◌<◌, ◌+
 ghost use Rattle.std.specs.List.Sorted.{IsPermutation, IsSorted};
 ghost use Rattle.elf_model.specs.Bytes.{slice};
 ghost use Rattle.elf_folder.specs.Order.{order};
-ghost use Rattle.elf_folder.specs.Held.{IsEnough, IsFew, LeavesRoom, bytes_held, repeats};
+ghost use Rattle.elf_folder.specs.Held.{IsEnough, IsSmallFolder, LeavesRoom, bytes_held, repeats};
 
 use std::alloc::{AllocError, Global};
 use std::marker::Model;
@@ -25,19 +25,19 @@ pub const KEPT_BYTES: usize = 589_824;
 
 /// Names one behind the other.
 #[derive(Drop)]
-pub struct FolderNames {
+pub struct DirNames {
     bytes: Vec<u8>,
-    places: Vec<Place>,
+    places: Vec<NameSpan>,
 }
 
 /// Where a name lies among the bytes.
 #[derive(Clone, Copy)]
-struct Place {
+struct NameSpan {
     start: u32,
     len: u8,
 }
 
-impl Model for FolderNames {
+impl Model for DirNames {
     ghost use Rattle.std.specs.Prelude.{◌≡◌, ◌≤◌, ◌+◌, ℕ, List, map, All, length, sum_by};
     ghost use Rattle.elf_model.specs.Bytes.{slice};
 
@@ -49,17 +49,17 @@ impl Model for FolderNames {
         × (sum_by (λ p. p.len) n.places.items ≡ length n.bytes.items) };
 }
 
-impl FolderNames {
+impl DirNames {
     /// No name. The memory is taken from `alloc` here.
     ///
     /// # Errors
     /// Where memory is refused.
-    pub(crate) fn new(alloc: Global) -> Result<FolderNames, AllocError>
+    pub(crate) fn new(alloc: Global) -> Result<DirNames, AllocError>
         ensures { IfOk result (λ names. names ≡ []) }
     {
         let bytes = Vec::with_capacity(alloc, MOST_BYTES)?;
         let places = Vec::with_capacity(alloc, MOST_NAMES)?;
-        Ok(FolderNames { bytes, places })
+        Ok(DirNames { bytes, places })
     }
 
     /// Forgets all names.
@@ -107,7 +107,7 @@ impl FolderNames {
     pub(crate) fn is_enough(&self) -> bool
         ensures none { self.now ≡ [] → result ≡ false }
         ensures enough { result ≡ true → IsEnough self.now }
-        ensures few { result ≡ false → 0 < length self.now → IsFew self.now }
+        ensures few { result ≡ false → 0 < length self.now → IsSmallFolder self.now }
     {
         self.len() > 0 && (self.len() >= KEPT_NAMES || self.size() >= KEPT_BYTES)
     }
@@ -125,7 +125,7 @@ impl FolderNames {
             return Err(AllocError);
         };
         self.bytes.extend_from_slice(name)?;
-        if self.places.push(Place { start, len }).is_err() {
+        if self.places.push(NameSpan { start, len }).is_err() {
             self.bytes.truncate(start as usize);
             return Err(AllocError);
         }
@@ -157,7 +157,7 @@ impl FolderNames {
 }
 
 /// The name at a place among bytes.
-fn name_at(bytes: &[u8], place: Place) -> &[u8]
+fn name_at(bytes: &[u8], place: NameSpan) -> &[u8]
     ensures piece { result.now ≡ slice bytes.now place.start place.len }
     ensures short { length result.now ≤ 255 }
 {

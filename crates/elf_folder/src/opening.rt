@@ -1,18 +1,18 @@
 //! What can't be opened.
 ghost use Rattle.std.specs.Prelude.{◌≡◌};
-ghost use Rattle.elf_model.specs.declared.states.FileState.TheVariants.{Memory, Unread};
+ghost use Rattle.elf_model.specs.declared.states.FileStatus.TheVariants.{Memory, Unread};
 ghost use Rattle.std.specs.IoError.{error_kind};
 
-use elf_model::FileState;
+use elf_model::FileStatus;
 use std::io::{Error, ErrorKind};
 
 /// The state of a path that can't be looked at or opened: want of memory is told as that.
-pub fn unopened(error: &Error) -> FileState
+pub fn unopened(error: &Error) -> FileStatus
     ensures memory { error_kind error.now ≡ ErrorKind.OutOfMemory → result ≡ Memory }
     ensures unread { (error_kind error.now ≡ ErrorKind.OutOfMemory → ⊥) → result ≡ Unread }
 {
     if error.kind() == ErrorKind::OutOfMemory {
-        return FileState::Memory;
+        return FileStatus::Memory;
     }
-    FileState::Unread
+    FileStatus::Unread
 }

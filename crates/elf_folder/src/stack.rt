@@ -2,8 +2,8 @@
 ghost use Rattle.std.specs.Prelude.{◌≡◌, ◌≤◌, ◌<◌, All, List, ℕ, IfOk, IsSomeAnd, OnOk, [], take, length};
 ghost use Rattle.elf_folder.specs.Stacked.{pushed, stacked};
 
-use crate::batch::FolderName;
-use crate::names::FolderNames;
+use crate::batch::DirEntryName;
+use crate::names::DirNames;
 use std::alloc::{AllocError, Global};
 use std::marker::Model;
 
@@ -83,7 +83,7 @@ impl Stack {
     ///
     /// # Errors
     /// Where memory is refused; the names before stay.
-    pub fn push_first(&mut self, names: &FolderNames, count: usize) -> Result<(), AllocError>
+    pub fn push_first(&mut self, names: &DirNames, count: usize) -> Result<(), AllocError>
         requires { count ≤ length names.now }
         ensures stacked { OnOk result (self.new ≡ stacked (take count names.now) self.old) }
         ensures short { OnOk result (All (λ name. length name ≤ 255) (take count names.now)) }
@@ -101,7 +101,7 @@ impl Stack {
     }
 
     /// Takes the last name.
-    pub fn pop(&mut self) -> Option<FolderName>
+    pub fn pop(&mut self) -> Option<DirEntryName>
         ensures { (below name : List ℕ) → self.old ≡ pushed below name → length name ≤ 255 →
             IsSomeAnd result (λ last. last.items ≡ name) × (self.new ≡ below) }
     {
@@ -112,7 +112,7 @@ impl Stack {
         let Some(start) = last.checked_sub(len) else {
             return None;
         };
-        let mut name = FolderName::new();
+        let mut name = DirEntryName::new();
         let _ = name.try_extend_from_slice(&self.bytes[start..last]);
         self.bytes.truncate(start);
         Some(name)
@@ -120,7 +120,7 @@ impl Stack {
 }
 
 /// How many of the first of some names there is room for in so many bytes, one at least.
-pub fn count_within(names: &FolderNames, room: usize) -> usize
+pub fn count_fitting(names: &DirNames, room: usize) -> usize
     ensures within { result ≤ length names.now }
     ensures some { 0 < length names.now → 0 < result }
 {

@@ -1,12 +1,12 @@
 -- Worked examples of the binding of names over two files, and of what a symbol asks others for.
 use Rattle.std.specs.Prelude.{ℕ, ◌≡◌, ◌+◌, ◌*◌, List, [], ◌∷◌, codes, Option, None, Some, Result, Ok, Err}
-use Rattle.elf_model.specs.Bindings.{Binding, BoundTo, BoundToNone, StoppedIn, bound_in, definer_asks, definer_looked, sought_at, symbols_hashed}
+use Rattle.elf_model.specs.Bindings.{Binding, BoundTo, BoundToNone, StoppedIn, bound_in, definition_cost, definition_lookup, reference_at, symbols_hashed}
 use Rattle.elf_model.specs.Bytes.{little}
 use Rattle.elf_model.specs.Fixtures.{with_bytes}
 use Rattle.elf_model.specs.FixturesHash.{words}
 use Rattle.elf_model.specs.FixturesVersions.{hostile_library, versioned_without_sections}
 use Rattle.elf_model.specs.Loader.{Asked, NoVersion, Version, Wanted}
-use Rattle.elf_model.specs.LoaderScope.{scope_of}
+use Rattle.elf_model.specs.LoaderScope.{lookup_tables_of}
 use Rattle.elf_model.specs.Style.{without_sections}
 use Rattle.elf_model.specs.declared.causes.Cause.TheVariants.{HashShape, NameOutside, VersionCut, VersionIndex}
 use Rattle.elf_model.specs.declared.causes.Refusal.{Refusal}
@@ -60,7 +60,7 @@ RefusalsStop =
 abbrev asks_for : List ℕ → Asked → List ℕ → ℕ
 asks_for name asked file =
     let wanted : Wanted = record { name = name; asked = asked } in
-    definer_asks wanted (definer_looked file 8 wanted)
+    definition_cost wanted (definition_lookup file 8 wanted)
 
 abbrev pub LookupsAsk : Type 0
 LookupsAsk =
@@ -70,7 +70,7 @@ LookupsAsk =
 
 -- what the symbol of an index asks others for, and how many symbols there are
 abbrev SeeksAt : List ℕ → ℕ → Result (Option Wanted) Refusal → Type 0
-SeeksAt file index sought = elim (scope_of file 8) [ Ok scope ↦ sought_at file scope.symbols index ≡ sought | Err refusal ↦ ⊥ ]
+SeeksAt file index sought = elim (lookup_tables_of file 8) [ Ok scope ↦ reference_at file scope.symbols index ≡ sought | Err refusal ↦ ⊥ ]
 
 abbrev puts : Option Wanted
 puts = Some (record { name = codes "puts"; asked = Version (codes "GLIBC_2.2.5") })
@@ -116,7 +116,7 @@ SymbolsAreRefused =
     × SeeksAt hostile 1 (Err (record { at = 0x1e8; cause = VersionCut }))
 
 abbrev CountIs : List ℕ → Result ℕ Refusal → Type 0
-CountIs file count = elim (scope_of file 8) [ Ok scope ↦ symbols_hashed file scope ≡ count | Err refusal ↦ ⊥ ]
+CountIs file count = elim (lookup_tables_of file 8) [ Ok scope ↦ symbols_hashed file scope ≡ count | Err refusal ↦ ⊥ ]
 
 abbrev pub SymbolsAreCounted : Type 0
 SymbolsAreCounted = CountIs library (Ok 6)

@@ -4,7 +4,7 @@ use Rattle.elf_model.specs.Bytes.{little}
 use Rattle.elf_model.specs.Fixtures.{with_bytes}
 use Rattle.elf_model.specs.FixturesTables.{one_load, tagged}
 use Rattle.elf_model.specs.FixturesVersions.{versioned_library, versioned_without_sections}
-use Rattle.elf_model.specs.Links.{LinkState, links_ceiling, links_of, no_links}
+use Rattle.elf_model.specs.Links.{LinkState, links_ceiling, links_of, no_link_info}
 use Rattle.elf_model.specs.declared.causes.Cause.TheVariants.{LoadOverlap, NameOutside, NotElf, Unmapped}
 use Rattle.elf_model.specs.declared.causes.Refusal.{Refusal}
 
@@ -31,7 +31,7 @@ EachTagHasItsText =
     × LinksAre (with_bytes 0x240 (tagged 15 0x2a) versioned_without_sections) (needing_libc None (Some (codes "V1")) None 9 1)
     × LinksAre (with_bytes 0x240 (tagged 29 0x2a) versioned_without_sections) (needing_libc None None (Some (codes "V1")) 9 1)
     × LinksAre (with_bytes 0x2b0 (tagged 15 0x2d) versioned_without_sections) (needing_libc libf (Some (codes "V2")) None 2 0)
-    × LinksAre one_load (Ok (record { links = no_links; room = record { bytes = 20; texts = 3 } }))
+    × LinksAre one_load (Ok (record { links = no_link_info; room = record { bytes = 20; texts = 3 } }))
 
 -- refusals: of the file header; of a LOAD segment over another, before the entries; of what a lookup is made in, before their texts;
 -- of the first text

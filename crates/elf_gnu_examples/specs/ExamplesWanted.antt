@@ -5,7 +5,7 @@ use Rattle.elf_model.specs.FindApplyAnswer.{find_answer}
 use Rattle.elf_model.specs.Fixtures.{zeros, with_bytes}
 use Rattle.elf_model.specs.FixturesHash.{words}
 use Rattle.elf_model.specs.FixturesVersions.{versioned_library, versioned_without_sections}
-use Rattle.elf_model.specs.Loader.{NoVersion, Version, DefaultVersion, wanted_of, is_complete}
+use Rattle.elf_model.specs.Loader.{NoVersion, Version, DefaultVersion, parse_query, is_complete}
 use Rattle.elf_model.specs.LoaderAnswer.{loader_answer}
 use Rattle.elf_model.specs.LoaderFind.{loader_ceiling}
 use Rattle.elf_model.specs.declared.formats.Format.TheVariants.{Columns, Object}
@@ -14,22 +14,22 @@ use Rattle.elf_gnu_examples.specs.LoaderWords.{LoaderFinds, LoaderCosts, second_
 -- the text of a name alone, of a version behind one sign and behind two, and of versions that hold such signs
 abbrev pub TextsAreParted : Type 0
 TextsAreParted =
-    (wanted_of (codes "f") ≡ record { name = codes "f"; asked = NoVersion })
-    × (wanted_of (codes "f@V1") ≡ record { name = codes "f"; asked = Version (codes "V1") })
-    × (wanted_of (codes "f@@V1") ≡ record { name = codes "f"; asked = DefaultVersion (codes "V1") })
-    × (wanted_of (codes "f@V@1") ≡ record { name = codes "f"; asked = Version (codes "V@1") })
-    × (wanted_of (codes "f@@@1") ≡ record { name = codes "f"; asked = DefaultVersion (codes "@1") })
+    (parse_query (codes "f") ≡ record { name = codes "f"; asked = NoVersion })
+    × (parse_query (codes "f@V1") ≡ record { name = codes "f"; asked = Version (codes "V1") })
+    × (parse_query (codes "f@@V1") ≡ record { name = codes "f"; asked = DefaultVersion (codes "V1") })
+    × (parse_query (codes "f@V@1") ≡ record { name = codes "f"; asked = Version (codes "V@1") })
+    × (parse_query (codes "f@@@1") ≡ record { name = codes "f"; asked = DefaultVersion (codes "@1") })
 
 -- an empty name, and an empty version
 abbrev pub EmptyNamesAreNone : Type 0
 EmptyNamesAreNone =
-    (is_complete (wanted_of []) ≡ false)
-    × (is_complete (wanted_of (codes "@V1")) ≡ false)
-    × (is_complete (wanted_of (codes "f@")) ≡ false)
-    × (is_complete (wanted_of (codes "f@@")) ≡ false)
-    × (is_complete (wanted_of (codes "f")) ≡ true)
-    × (is_complete (wanted_of (codes "f@V")) ≡ true)
-    × (is_complete (wanted_of (codes "f@@V")) ≡ true)
+    (is_complete (parse_query []) ≡ false)
+    × (is_complete (parse_query (codes "@V1")) ≡ false)
+    × (is_complete (parse_query (codes "f@")) ≡ false)
+    × (is_complete (parse_query (codes "f@@")) ≡ false)
+    × (is_complete (parse_query (codes "f")) ≡ true)
+    × (is_complete (parse_query (codes "f@V")) ≡ true)
+    × (is_complete (parse_query (codes "f@@V")) ≡ true)
 
 -- the library with other strings, behind it: `f`, and so many letters that are the name of the second version
 unfoldable pub long_version : ℕ → List ℕ
@@ -64,9 +64,9 @@ LongNamesAsk =
 -- what no lookup asks for more than, by a file's length, the headers that are permitted, the name and the version
 abbrev pub LoaderCeilings : Type 0
 LoaderCeilings =
-    (loader_ceiling 1264 8 (wanted_of (codes "f")) ≡ 92 + 512 + 1264 + 316 * (30 + 64) + 158 * 28 + 320)
-    × (loader_ceiling 1264 8 (wanted_of (codes "f@V1")) ≡ 92 + 512 + 1264 + 316 * (30 + 64) + 158 * (28 + 64) + 320)
-    × (loader_ceiling 7 0 (wanted_of (replicate 64 97)) ≡ 92 + 7 + 158 + 320)
+    (loader_ceiling 1264 8 (parse_query (codes "f")) ≡ 92 + 512 + 1264 + 316 * (30 + 64) + 158 * 28 + 320)
+    × (loader_ceiling 1264 8 (parse_query (codes "f@V1")) ≡ 92 + 512 + 1264 + 316 * (30 + 64) + 158 * (28 + 64) + 320)
+    × (loader_ceiling 7 0 (parse_query (replicate 64 97)) ≡ 92 + 7 + 158 + 320)
 
 -- the lookup of a name alone finds no hash table of the gABI in the library, with section headers or without
 abbrev pub OtherLookupsFindNoTable : Type 0

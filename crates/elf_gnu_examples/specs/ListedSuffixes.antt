@@ -3,7 +3,7 @@ use Rattle.std.specs.Prelude.{◌≡◌, ℕ, ◌+◌, ◌*◌, List, [], ◌∷
 use Rattle.elf_model.specs.declared.formats.Format.{Format}
 use Rattle.elf_model.specs.declared.formats.Format.TheVariants.{Columns, Object}
 use Rattle.elf_model.specs.Bytes.{little}
-use Rattle.elf_model.specs.Choice.{RowChoice, EveryRow, RowsOf, wanted_text}
+use Rattle.elf_model.specs.Choice.{RowFilter, EveryRow, RowsOf, wanted_text}
 use Rattle.elf_model.specs.Cost.{listing_cost, style_ceiling}
 use Rattle.elf_model.specs.Fixtures.{with_bytes}
 use Rattle.elf_model.specs.FixturesVersions.{versioned_library}
@@ -14,7 +14,7 @@ use Rattle.elf_model.specs.Style.{Style}
 use Rattle.elf_model.specs.Suffixes.{suffixed_relocation_rows, suffixed_symbol_rows}
 
 -- how rows are shown: with versions, so many bytes of a name, as a line is written and rows are chosen
-unfoldable pub with_versions : ℕ → Format → RowChoice → Style
+unfoldable pub with_versions : ℕ → Format → RowFilter → Style
 with_versions cap format choice = record { cap = cap; gnu = true; by_segments = false; format = format; choice = choice; versions = true }
 
 -- the symbols of a library: all, and those that some texts ask for

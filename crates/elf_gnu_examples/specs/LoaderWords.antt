@@ -1,6 +1,6 @@
 -- What the worked examples of a loader's lookups are said by.
 use Rattle.std.specs.Prelude.{◌≡◌, ℕ, List, codes}
-use Rattle.elf_model.specs.Loader.{wanted_of}
+use Rattle.elf_model.specs.Loader.{parse_query}
 use Rattle.elf_model.specs.LoaderAnswer.{loader_answer}
 use Rattle.elf_model.specs.LoaderFind.{loader_cost}
 use Rattle.elf_model.specs.declared.formats.Format.TheVariants.{Columns}
@@ -15,7 +15,7 @@ Fails file text line = loader_answer Columns file 8 text ≡ record { text = lin
 
 -- it asks for so many bytes
 abbrev pub LoaderCosts : List ℕ → List ℕ → ℕ → Type 0
-LoaderCosts file text cost = loader_cost file 8 (wanted_of text) ≡ cost
+LoaderCosts file text cost = loader_cost file 8 (parse_query text) ≡ cost
 
 -- the lines of the two symbols `f`, of `g`
 abbrev pub first_f : List ℕ

@@ -5,18 +5,18 @@ use Rattle.std.proofs.lemmas.Bool.Decides.{nat_tests}
 use Rattle.elf_model.specs.Bytes.{field}
 use Rattle.elf_model.specs.Chains.{HashTable as Table}
 use Rattle.elf_model.specs.Find.{first_that}
-use Rattle.elf_model.specs.GnuHash.{chain_word, ends_chain, gnu_bucket_at, gnu_first, gnu_nbucket, is_chained}
-use Rattle.elf_model.specs.LoaderScope.{GnuTable, SysvTable, HashKind, Scope}
+use Rattle.elf_model.specs.GnuHash.{chain_word, is_chain_end, gnu_bucket_at, gnu_first, gnu_nbucket, is_chained}
+use Rattle.elf_model.specs.LoaderScope.{GnuTable, SysvTable, HashStyle, LookupTables}
 use Rattle.elf_model.specs.Hash.{sysv_nchain}
-use Rattle.elf_model.specs.Traits.{before_strings, gnu_symbols, hashed_symbol_count, highest_start, is_last_in, unfound}
-use Rattle.elf_source.specs.Source.{Counting}
-use Rattle.elf_headers.specs.Ledger.{Charges, IsRead}
+use Rattle.elf_model.specs.Traits.{before_strings, gnu_symbols, hashed_symbol_count, max_bucket, is_last_in, unfound}
+use Rattle.elf_source.specs.Source.{CountedState}
+use Rattle.elf_headers.specs.Ledger.{CallReads, IsRead}
 use Rattle.elf_headers.specs.declared.fault.Fault.{Fault}
-use Rattle.elf_headers.proofs.LedgerLaws.{Charges-more}
-use Rattle.elf_table.specs.Cursors.{Advances, EndsRows, GivesRow, Reading, row_at, unread_bytes}
+use Rattle.elf_headers.proofs.LedgerLaws.{CallReads-more}
+use Rattle.elf_table.specs.Cursors.{Advances, EndsRows, GivesRow, CursorState, row_at, unread_bytes}
 use Rattle.elf_table.specs.Tables.{Rows, size_of}
 use Rattle.elf_hash.specs.Counts.{IsGnu, IsSysv}
-use Rattle.elf_hash.specs.Extents.{SymbolsBegin, EndsChain, TellsExtent, extent_bytes, last_in}
+use Rattle.elf_hash.specs.Extents.{SymbolsBegin, EndsChain, ReturnsExtent, extent_bytes, last_in}
 use Rattle.elf_hash.specs.declared.gnu_table.GnuTable.{GnuTable as Gnu}
 use Rattle.elf_hash.specs.declared.sysv_table.SysvTable.{SysvTable as Sysv}
 use Rattle.elf_hash.proofs.GnuSteps.{chain_is}
@@ -33,11 +33,11 @@ bucket_stands file table t index is =
     omega (arith, start, filters)
 
 -- a step that answered a row gave it, and one that answered none ended
-pub row_given : (file : Option (List ℕ)) (old new : Reading) (b : Bool) → b ≡ true → Advances file old new (Ok b) → GivesRow file old new
+pub row_given : (file : Option (List ℕ)) (old new : CursorState) (b : Bool) → b ≡ true → Advances file old new (Ok b) → GivesRow file old new
 row_given file old new true t s = s
 row_given file old new false t s = cc
 
-pub row_ended : (file : Option (List ℕ)) (old new : Reading) (b : Bool) → b ≡ false → Advances file old new (Ok b) → EndsRows old new
+pub row_ended : (file : Option (List ℕ)) (old new : CursorState) (b : Bool) → b ≡ false → Advances file old new (Ok b) → EndsRows old new
 row_ended file old new false t s = s
 row_ended file old new true t s = cc
 
@@ -46,14 +46,14 @@ pub greater_is : (a b : ℕ) → ord_max nat_cmp a b ≡ max a b
 greater_is a b = grind (arith, nat_tests)
 
 -- no bucket is gone by; one more is
-pub highest_none : (file : List ℕ) (place : ℕ) → highest_start file place 0 ≡ 0
-unfolding highest_start
+pub highest_none : (file : List ℕ) (place : ℕ) → max_bucket file place 0 ≡ 0
+unfolding max_bucket
 highest_none file place = refl
 
 pub highest_next : (file : List ℕ) (place n word : ℕ) → word ≡ field file (gnu_bucket_at file place n) 4
-    → max (highest_start file place n) word ≡ highest_start file place (suc n)
-unfolding highest_start
-highest_next file place n word is = ap (max (highest_start file place n)) is
+    → max (max_bucket file place n) word ≡ max_bucket file place (suc n)
+unfolding max_bucket
+highest_next file place n word is = ap (max (max_bucket file place n)) is
 
 module _ (file : List ℕ) (table : Table) where
   abbrev test : ℕ → Bool
@@ -128,27 +128,27 @@ module _ (file : List ℕ) (table : Table) where
   pub not_chained : (index : ℕ) → is_chained file table index ≡ false → test index ≡ true
   not_chained index isnt = rw (isnt, is_last_in) refl
 
-  pub ends_there : (index : ℕ) → is_chained file table index ≡ true → ends_chain (chain_word file table.place index) ≡ true → test index ≡ true
+  pub ends_there : (index : ℕ) → is_chained file table index ≡ true → is_chain_end (chain_word file table.place index) ≡ true → test index ≡ true
   ends_there index is ends = rw (is, ends, is_last_in) refl
 
-  pub goes_on : (index : ℕ) → is_chained file table index ≡ true → ends_chain (chain_word file table.place index) ≡ false → test index ≡ false
+  pub goes_on : (index : ℕ) → is_chained file table index ≡ true → is_chain_end (chain_word file table.place index) ≡ false → test index ≡ false
   goes_on index is ends = rw (is, ends, is_last_in) refl
 
   -- those of the whole table, by the highest of the buckets' words
-  module _ (start before : ℕ) (is : start ≡ highest_start file table.place (gnu_nbucket file table.place)) where
+  module _ (start before : ℕ) (is : start ≡ max_bucket file table.place (gnu_nbucket file table.place)) where
     pub none_chained : start < gnu_first file table.place → gnu_symbols file table before ≡ unfound (gnu_first file table.place) before table.symbols
     unfolding gnu_symbols
     none_chained low =
-        let less : nat_lt (highest_start file table.place (gnu_nbucket file table.place)) (gnu_first file table.place) ≡ true = grind (arith, is) in
+        let less : nat_lt (max_bucket file table.place (gnu_nbucket file table.place)) (gnu_first file table.place) ≡ true = grind (arith, is) in
         rw (less, gnu_symbols) refl
 
     pub some_chained : gnu_first file table.place ≤ start → gnu_symbols file table before ≡ last_in file table start
     unfolding gnu_symbols
     some_chained high =
-        let less : nat_lt (highest_start file table.place (gnu_nbucket file table.place)) (gnu_first file table.place) ≡ false = grind (arith, is) in
+        let less : nat_lt (max_bucket file table.place (gnu_nbucket file table.place)) (gnu_first file table.place) ≡ false = grind (arith, is) in
         rw (less, gnu_symbols) (ap (last_in file table) (sym is))
 
-module _ (file : List ℕ) (scope : Scope) where
+module _ (file : List ℕ) (scope : LookupTables) where
   abbrev before : ℕ
   before = before_strings scope.table scope.symbols.place scope.symbols.strings_at
 
@@ -164,14 +164,14 @@ module _ (file : List ℕ) (scope : Scope) where
   gnu_bytes kind =
       let count = gnu_count kind in
       let is : extent_bytes file scope ≡ 4 * gnu_nbucket file scope.table.place + 4 * hashed_symbol_count file scope =
-      ap (λ (k : HashKind). elim k as (λ x. ℕ) [ GnuTable ↦ 4 * gnu_nbucket file scope.table.place + 4 * hashed_symbol_count file scope | SysvTable ↦ 0 ]) kind in
+      ap (λ (k : HashStyle). elim k as (λ x. ℕ) [ GnuTable ↦ 4 * gnu_nbucket file scope.table.place + 4 * hashed_symbol_count file scope | SysvTable ↦ 0 ]) kind in
       omega (arith, is, count)
 
   pub sysv_bytes : scope.kind ≡ SysvTable → extent_bytes file scope ≡ 0
   sysv_bytes kind = rw (kind, extent_bytes) refl
 
 -- what a cursor over buckets may ask for before the first
-pub unread_start : (c : Reading) (t : Gnu) → c.failed ≡ None → c.table ≡ buckets_of t → c.unread ≡ size_of c.table → unread_bytes c ≡ 4 * t.nbucket
+pub unread_start : (c : CursorState) (t : Gnu) → c.failed ≡ None → c.table ≡ buckets_of t → c.unread ≡ size_of c.table → unread_bytes c ≡ 4 * t.nbucket
 unread_start c t none is unread = rw (none, unread, is) (omega arith)
 
 -- the chain word of a symbol, as it is read
@@ -188,7 +188,7 @@ no_room : (table : Table) (symbols strings : ℕ) → table.symbols ≡ 0 → be
 unfolding before_strings
 no_room table symbols strings none = grind (arith, nat_tests, none)
 
-behind_is : (scope : Scope) (symbols strings : ℕ) → SymbolsBegin scope symbols strings
+behind_is : (scope : LookupTables) (symbols strings : ℕ) → SymbolsBegin scope symbols strings
     → before_strings scope.table symbols strings ≡ before_strings scope.table scope.symbols.place scope.symbols.strings_at
 behind_is scope symbols strings are = go scope.table.symbols refl
   where
@@ -199,24 +199,24 @@ behind_is scope symbols strings are = go scope.table.symbols refl
         first ∙ ap (λ (n : ℕ). before_strings scope.table scope.symbols.place n) (sym (are.strings_at (omega (arith, some))))
 
 -- what is told of a table of either kind
-pub gnu_told : (file : List ℕ) (scope : Scope) (t : Gnu) (symbols strings before : ℕ) {a b : Counting} {result : Result ℕ Fault}
+pub gnu_told : (file : List ℕ) (scope : LookupTables) (t : Gnu) (symbols strings before : ℕ) {a b : CountedState} {result : Result ℕ Fault}
     → scope.kind ≡ GnuTable → IsGnu file scope.table t → SymbolsBegin scope symbols strings → before ≡ before_strings scope.table symbols strings
-    → EndsChain (4 * t.nbucket) (gnu_symbols file scope.table before) a b result → TellsExtent file scope a b result
+    → EndsChain (4 * t.nbucket) (gnu_symbols file scope.table before) a b result → ReturnsExtent file scope a b result
 gnu_told file scope t symbols strings before {result = result} kind is are found ends =
     let same : gnu_symbols file scope.table before ≡ hashed_symbol_count file scope =
     ap (gnu_symbols file scope.table) (found ∙ behind_is scope symbols strings are) ∙ sym (gnu_count file scope kind) in
     let bytes = gnu_bytes file scope kind in
     let count = gnu_count file scope kind in
     record {
-      costs = Charges-more _ (omega (arith, bytes, is.buckets, same, count)) ends.costs;
+      costs = CallReads-more _ (omega (arith, bytes, is.buckets, same, count)) ends.costs;
       tells = read_of result _ _ same ends.tells;
     }
 
-pub sysv_told : (file : List ℕ) (scope : Scope) (t : Sysv) {a b : Counting} {count : ℕ} → scope.kind ≡ SysvTable → IsSysv file scope.table t
-    → Charges a b None 0 → count ≡ min t.nchain t.place.symbols → TellsExtent file scope a b (Ok count)
+pub sysv_told : (file : List ℕ) (scope : LookupTables) (t : Sysv) {a b : CountedState} {count : ℕ} → scope.kind ≡ SysvTable → IsSysv file scope.table t
+    → CallReads a b None 0 → count ≡ min t.nchain t.place.symbols → ReturnsExtent file scope a b (Ok count)
 sysv_told file scope t kind is costs told =
     let bytes = sysv_bytes file scope kind in
     record {
-      costs = Charges-more _ (omega (arith, bytes)) costs;
+      costs = CallReads-more _ (omega (arith, bytes)) costs;
       tells = told ∙ (ap (λ (n : ℕ). min n t.place.symbols) is.chains ∙ (ap (min _) is.place.symbols ∙ sym (sysv_count file scope kind)));
     }

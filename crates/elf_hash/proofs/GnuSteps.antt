@@ -2,9 +2,9 @@
 use Rattle.std.proofs.Common.{◌≡◌, ℕ, zero, suc, ◌+◌, ◌-◌, ◌*◌, ◌/◌, ◌%◌, ◌^◌, ◌<◌, ◌≤◌, ◌&&◌, inl, inr, not, nat_lt, if◌then◌else◌, Bool, true, false, List, Option, None, Some, Result, Ok, Err, refl, sym, ap, ◌∙◌, arith, add-one}
 use Rattle.std.proofs.lemmas.Bool.{cases_eq, cases_lt, ne_eqb}
 use Rattle.elf_model.specs.Bytes.{field}
-use Rattle.elf_model.specs.Chains.{HashTable as Table, WalkEnd, NotThere, Untried, Answers, Last, end_of_trial, Walked as Walk, nothing_tried}
+use Rattle.elf_model.specs.Chains.{HashTable as Table, WalkEnd, NotThere, Untried, Answers, Last, end_of_match, ChainResult as NoteScan, nothing_tried}
 use Rattle.elf_model.specs.Cost.{cost_where, sum_over}
-use Rattle.elf_model.specs.GnuHash.{IsGnuLookup, chain_word, ends_chain, end_of_chain, gnu_bucket_of, gnu_chain_at, gnu_end, gnu_looked_up, gnu_start, gnu_symbol, gnu_tried, gnu_walked_at, gnu_word_at, holds_none, is_chained, is_of_hash, is_set, may_hold}
+use Rattle.elf_model.specs.GnuHash.{IsGnuLookup, chain_word, is_chain_end, end_of_chain, gnu_bucket_of, gnu_chain_at, gnu_end, gnu_looked_up, gnu_start, gnu_symbol, gnu_tried, gnu_walked_at, gnu_word_at, holds_none, is_chained, hash_bits_match, is_set, filter_may_contain}
 use Rattle.elf_model.specs.HashLaws.{GoesOn}
 use Rattle.elf_model.specs.declared.causes.Cause.TheVariants.{HashIndex}
 use Rattle.elf_model.specs.declared.causes.Refusal.{Refusal}
@@ -15,8 +15,8 @@ use Rattle.elf_headers.specs.Faults.{IsOfRead}
 use Rattle.elf_headers.specs.declared.fault.Fault.{Fault}
 use Rattle.elf_headers.specs.declared.fault.Fault.TheVariants.{Refused}
 use Rattle.elf_hash.specs.Counts.{IsGnu}
-use Rattle.elf_hash.specs.declared.answer.TrialAnswer.{TrialAnswer}
-use Rattle.elf_hash.specs.Trials.{Tries, TriesWhere}
+use Rattle.elf_hash.specs.declared.answer.SymbolMatch.{SymbolMatch}
+use Rattle.elf_hash.specs.Trials.{TriesSymbol, TriesDefinedSymbol}
 use Rattle.elf_hash.specs.Walks.{HoldsHash, walk_bytes}
 use Rattle.elf_hash.specs.declared.gnu_table.GnuTable.{GnuTable}
 use Rattle.elf_hash.proofs.WalkLaws.{Meets, bytes_most, bytes_tried, meets_answer, meets_fault, meets_refusal, meets_untried}
@@ -78,10 +78,10 @@ module _ (file : List ℕ) (table : Table) (hash : ℕ) (says : ℕ → Result B
   abbrev word_of : ℕ → ℕ
   word_of y = chain_word file table.place y
 
-  abbrev walk : Walk
+  abbrev walk : NoteScan
   walk = gnu_looked_up file table hash says
 
-  tried_next : (i : ℕ) → tried_of (suc i) ≡ tried_of i + one_if (is_of_hash (word_of (symbols i)) hash)
+  tried_next : (i : ℕ) → tried_of (suc i) ≡ tried_of i + one_if (hash_bits_match (word_of (symbols i)) hash)
   unfolding gnu_tried
   tried_next i = sum_last _ (gnu_start file table.place hash) i
 
@@ -131,8 +131,8 @@ module _ (file : List ℕ) (table : Table) (hash : ℕ) (says : ℕ → Result B
   unfolding gnu_end
   end_not_there y isnt = rw (isnt, gnu_end) refl
 
-  end_by : (y : ℕ) (b : Bool) → is_chained file table y ≡ true → is_of_hash (word_of y) hash ≡ b
-      → ends y ≡ (elim b [ true ↦ end_of_trial (says y) (end_of_chain (word_of y)) | false ↦ end_of_chain (word_of y) ])
+  end_by : (y : ℕ) (b : Bool) → is_chained file table y ≡ true → hash_bits_match (word_of y) hash ≡ b
+      → ends y ≡ (elim b [ true ↦ end_of_match (says y) (end_of_chain (word_of y)) | false ↦ end_of_chain (word_of y) ])
   unfolding gnu_end
   end_by y b is of_hash = rw (is, gnu_end) (rw of_hash refl)
 
@@ -154,22 +154,22 @@ module _ (file : List ℕ) (table : Table) (hash : ℕ) (says : ℕ → Result B
   least_before i Last = let next = tried_next i in (omega arith, omega arith)
 
   not_there_isnt : (y : ℕ) → is_chained file table y ≡ true → ends y ≡ Some NotThere → ⊥
-  not_there_isnt y is e = by_word (is_of_hash (word_of y) hash) refl
+  not_there_isnt y is e = by_word (hash_bits_match (word_of y) hash) refl
     where
       by_end : (b : Bool) → (if b then Some Last else None) ≡ Some NotThere → ⊥
       by_end true f = cc
       by_end false f = cc
 
-      by_trial : (r : Result Bool Refusal) → end_of_trial r (end_of_chain (word_of y)) ≡ Some NotThere → ⊥
+      by_trial : (r : Result Bool Refusal) → end_of_match r (end_of_chain (word_of y)) ≡ Some NotThere → ⊥
       by_trial (Ok true) f = cc
-      by_trial (Ok false) f = by_end (ends_chain (word_of y)) f
+      by_trial (Ok false) f = by_end (is_chain_end (word_of y)) f
       by_trial (Err refusal) f = cc
 
-      by_word : (b : Bool) → is_of_hash (word_of y) hash ≡ b → ⊥
+      by_word : (b : Bool) → hash_bits_match (word_of y) hash ≡ b → ⊥
       by_word true t = by_trial (says y) (sym (end_by y true is t) ∙ e)
-      by_word false t = by_end (ends_chain (word_of y)) (sym (end_by y false is t) ∙ e)
+      by_word false t = by_end (is_chain_end (word_of y)) (sym (end_by y false is t) ∙ e)
 
-  least : (walked : Walk) → IsGnuLookup file table hash says walked → (read : ℕ) → holds_none file table.place hash ≡ false → GoesOn ends symbols read
+  least : (walked : NoteScan) → IsGnuLookup file table hash says walked → (read : ℕ) → holds_none file table.place hash ≡ false → GoesOn ends symbols read
       → is_chained file table (symbols read) ≡ true → (tried_of (suc read) ≤ walked.tried) × (suc read ≤ walked.read)
   least walked (inl a) read told goes is = let t = a.told in absurd (cc)
   least walked (inr a) read told goes is = elim (cases_lt a.number read) [
@@ -193,14 +193,14 @@ module _ (file : List ℕ) (table : Table) (hash : ℕ) (says : ℕ → Result B
     pub along : Along read tried index place
     pub is : is_chained file table index ≡ true
     pub word_is : word ≡ word_of index
-    pub of_hash : b ≡ is_of_hash word hash
+    pub of_hash : b ≡ hash_bits_match word hash
 
   module _ (read tried index word : ℕ) (b : Bool) (t : There read tried index word b) where
     tried_now : tried + one_if b ≡ tried_of (suc read)
     tried_now =
         let next = tried_next read in
-        let same : one_if b ≡ one_if (is_of_hash (word_of (symbols read)) hash)
-        = ap one_if (t.of_hash ∙ ap (λ (w : ℕ). is_of_hash w hash) (t.word_is ∙ ap word_of t.along.index_is)) in
+        let same : one_if b ≡ one_if (hash_bits_match (word_of (symbols read)) hash)
+        = ap one_if (t.of_hash ∙ ap (λ (w : ℕ). hash_bits_match w hash) (t.word_is ∙ ap word_of t.along.index_is)) in
         let tried_is = t.along.tried_is in
         omega (arith, next, same, tried_is)
 
@@ -210,12 +210,12 @@ module _ (file : List ℕ) (table : Table) (hash : ℕ) (says : ℕ → Result B
         let now = tried_now in
         (omega (arith, l.0, now), l.1)
 
-    end_there : ends index ≡ (elim b [ true ↦ end_of_trial (says index) (end_of_chain (word_of index)) | false ↦ end_of_chain (word_of index) ])
-    end_there = end_by index b t.is (ap (λ (w : ℕ). is_of_hash w hash) (sym t.word_is) ∙ sym t.of_hash)
+    end_there : ends index ≡ (elim b [ true ↦ end_of_match (says index) (end_of_chain (word_of index)) | false ↦ end_of_chain (word_of index) ])
+    end_there = end_by index b t.is (ap (λ (w : ℕ). hash_bits_match w hash) (sym t.word_is) ∙ sym t.of_hash)
 
 -- what a walk meets there
-module _ (file : List ℕ) (table : Table) (hash : ℕ) (says : ℕ → Result Bool Refusal) (stands : ℕ → TrialAnswer → Type 0) (cost : ℕ) where
-  abbrev looked : Walk
+module _ (file : List ℕ) (table : Table) (hash : ℕ) (says : ℕ → Result Bool Refusal) (stands : ℕ → SymbolMatch → Type 0) (cost : ℕ) where
+  abbrev looked : NoteScan
   looked = gnu_looked_up file table hash says
 
   pub meets_not_there : (read tried index place : ℕ) → Along file table hash says read tried index place → is_chained file table index ≡ false
@@ -228,7 +228,7 @@ module _ (file : List ℕ) (table : Table) (hash : ℕ) (says : ℕ → Result B
   pub meets_unread : (read tried index place : ℕ) → Along file table hash says read tried index place → is_chained file table index ≡ true
       → (fault : Fault) → IsOfRead fault → Meets stands 0 cost looked (walk_bytes 0 read tried cost + 4) (Err fault)
   meets_unread read tried index place along is fault of_read =
-      let t : There file table hash says read tried index (word_of file table hash says index) (is_of_hash (word_of file table hash says index) hash)
+      let t : There file table hash says read tried index (word_of file table hash says index) (hash_bits_match (word_of file table hash says index) hash)
       = record { place = place; along = along; is = is; word_is = refl; of_hash = refl } in
       let least = least_there file table hash says read tried index _ _ t in
       meets_fault stands 0 cost looked _ tried (suc read) fault of_read (omega (arith, least.0)) least.1 (omega arith)
@@ -238,11 +238,11 @@ module _ (file : List ℕ) (table : Table) (hash : ℕ) (says : ℕ → Result B
     gives end here = ends_here file table hash says read tried index t.place end t.along here
 
     -- a symbol that answers, or fails, was to be tried
-    wanted : (c : Bool) (result : Result (Option TrialAnswer) Fault) → (result ≡ Ok None → ⊥) → TriesWhere c stands says index result → (c ≡ true) × Tries stands says index result
+    wanted : (c : Bool) (result : Result (Option SymbolMatch) Fault) → (result ≡ Ok None → ⊥) → TriesDefinedSymbol c stands says index result → (c ≡ true) × TriesSymbol stands says index result
     wanted true result other tries = (refl, tries)
     wanted false result other tries = absurd (other tries)
 
-    pub meets_untried_here : (fault : Fault) → TriesWhere b stands says index (Err fault)
+    pub meets_untried_here : (fault : Fault) → TriesDefinedSymbol b stands says index (Err fault)
         → Meets stands 0 cost looked (walk_bytes 0 read tried cost + 4 + cost_where b cost) (Err fault)
     unfolding gnu_walked_at
     meets_untried_here fault tries =
@@ -254,7 +254,7 @@ module _ (file : List ℕ) (table : Table) (hash : ℕ) (says : ℕ → Result B
         (λ refusal e. rw (now) (gives (Untried refusal) (end ∙ rw (w.0, e) refl)))
         least.0 least.1 (let bytes = bytes_where 0 read tried cost b in omega (arith, bytes))
 
-    pub meets_found : (answer : TrialAnswer) (all : ℕ) → TriesWhere b stands says index (Ok (Some answer)) → all ≡ tried + one_if b
+    pub meets_found : (answer : SymbolMatch) (all : ℕ) → TriesDefinedSymbol b stands says index (Ok (Some answer)) → all ≡ tried + one_if b
         → Meets stands 0 cost looked (walk_bytes 0 read tried cost + 4 + cost_where b cost)
         (Ok (record { found = Some (record { index = index; answer = answer }); tried = all; read = read + 1 }))
     unfolding gnu_walked_at
@@ -269,39 +269,39 @@ module _ (file : List ℕ) (table : Table) (hash : ℕ) (says : ℕ → Result B
         (let bytes = bytes_where 0 read tried cost b in omega (arith, bytes)) w.1.1)
 
     -- a symbol that does not answer, or is not tried
-    end_passed : TriesWhere b stands says index (Ok None) → ends file table hash says index ≡ end_of_chain (word_of file table hash says index)
+    end_passed : TriesDefinedSymbol b stands says index (Ok None) → ends file table hash says index ≡ end_of_chain (word_of file table hash says index)
     end_passed tries = by_case b tries (end_there file table hash says read tried index word b t)
       where
-        by_case : (c : Bool) → TriesWhere c stands says index (Ok None)
+        by_case : (c : Bool) → TriesDefinedSymbol c stands says index (Ok None)
             → ends file table hash says index
-            ≡ (elim c [ true ↦ end_of_trial (says index) (end_of_chain (word_of file table hash says index)) | false ↦ end_of_chain (word_of file table hash says index) ])
+            ≡ (elim c [ true ↦ end_of_match (says index) (end_of_chain (word_of file table hash says index)) | false ↦ end_of_chain (word_of file table hash says index) ])
             → ends file table hash says index ≡ end_of_chain (word_of file table hash says index)
         by_case true tries e = e ∙ rw tries refl
         by_case false tries e = e
 
-    pub meets_last : (found : Option TrialAnswer) (all : ℕ) → TriesWhere b stands says index (Ok found) → ((answer : TrialAnswer) → found ≡ Some answer → ⊥)
-        → ends_chain word ≡ true → all ≡ tried + one_if b
+    pub meets_last : (found : Option SymbolMatch) (all : ℕ) → TriesDefinedSymbol b stands says index (Ok found) → ((answer : SymbolMatch) → found ≡ Some answer → ⊥)
+        → is_chain_end word ≡ true → all ≡ tried + one_if b
         → Meets stands 0 cost looked (walk_bytes 0 read tried cost + 4 + cost_where b cost)
         (Ok (record { found = None; tried = all; read = read + 1 }))
     unfolding gnu_walked_at
     meets_last (Some answer) all tries other last count = absurd (other answer refl)
     meets_last None all tries other last count =
         let now = tried_now file table hash says read tried index word b t in
-        let odd : ends_chain (word_of file table hash says index) ≡ true = rw (← t.word_is) last in
+        let odd : is_chain_end (word_of file table hash says index) ≡ true = rw (← t.word_is) last in
         rw (count, add-one)
         (meets_answer stands 0 cost looked _ (tried + one_if b) (suc read) None
         (rw (now) (gives Last (end_passed tries ∙ rw odd refl)))
         (let bytes = bytes_where 0 read tried cost b in omega (arith, bytes)) tt)
 
     -- past a symbol that does not answer and is not the last
-    pub along_next : (found : Option TrialAnswer) (all place : ℕ) → TriesWhere b stands says index (Ok found) → ((answer : TrialAnswer) → found ≡ Some answer → ⊥)
-        → ends_chain word ≡ false → all ≡ tried + one_if b → place ≡ gnu_chain_at file table.place index
+    pub along_next : (found : Option SymbolMatch) (all place : ℕ) → TriesDefinedSymbol b stands says index (Ok found) → ((answer : SymbolMatch) → found ≡ Some answer → ⊥)
+        → is_chain_end word ≡ false → all ≡ tried + one_if b → place ≡ gnu_chain_at file table.place index
         → Along file table hash says (read + 1) all (index + 1) place
     unfolding gnu_word_at
     along_next (Some answer) all place tries other last count here = absurd (other answer refl)
     along_next None all place tries other last count here =
         let now = tried_now file table hash says read tried index word b t in
-        let odd : ends_chain (word_of file table hash says index) ≡ false = rw (← t.word_is) last in
+        let odd : is_chain_end (word_of file table hash says index) ≡ false = rw (← t.word_is) last in
         let on : ends file table hash says index ≡ None = end_passed tries ∙ rw odd refl in
         let index_is = t.along.index_is in
         rw (add-one)
@@ -316,8 +316,8 @@ module _ (file : List ℕ) (table : Table) (hash : ℕ) (says : ℕ → Result B
 -- where the words of a table stand, and what its symbol indexes are
 pub filter_is : (file : List ℕ) (table : Table) (hash word : ℕ) (t : GnuTable) → IsGnu file table t
     → word ≡ field file (t.place.at + (16 + 8 * (hash / 64 % t.nbloom))) 8
-    → (is_set word (hash % 64) && is_set word (hash / 2 ^ t.shift % 64)) ≡ may_hold file table.place hash
-unfolding may_hold
+    → (is_set word (hash % 64) && is_set word (hash / 2 ^ t.shift % 64)) ≡ filter_may_contain file table.place hash
+unfolding filter_may_contain
 filter_is file table hash word t is read = rw (read, is.place.start, is.filters, is.shift) refl
 
 pub bucket_is : (file : List ℕ) (table : Table) (hash : ℕ) (t : GnuTable) → IsGnu file table t
@@ -336,14 +336,14 @@ pub chained_is : (file : List ℕ) (table : Table) (index : ℕ) (t : GnuTable) 
 chained_is file table index t is = rw (is.place.symbols, is.place.size, is.filters, is.buckets, is.first) refl
 
 -- a table tells that it holds no name of a hash, by its filter or by an empty bucket, or that it may
-pub told_none : (file : List ℕ) (place hash : ℕ) → may_hold file place hash ≡ false → holds_none file place hash ≡ true
-told_none file place hash isnt = rw isnt refl
+pub reported_none : (file : List ℕ) (place hash : ℕ) → filter_may_contain file place hash ≡ false → holds_none file place hash ≡ true
+reported_none file place hash isnt = rw isnt refl
 
-pub told_empty : (file : List ℕ) (place hash start : ℕ) → may_hold file place hash ≡ true → start ≡ gnu_start file place hash → start ≡ 0
+pub told_empty : (file : List ℕ) (place hash start : ℕ) → filter_may_contain file place hash ≡ true → start ≡ gnu_start file place hash → start ≡ 0
     → holds_none file place hash ≡ true
 told_empty file place hash start may is none = rw (may, sym is ∙ none) refl
 
-pub told_start : (file : List ℕ) (place hash start : ℕ) → may_hold file place hash ≡ true → start ≡ gnu_start file place hash → (start ≡ 0 → ⊥)
+pub told_start : (file : List ℕ) (place hash start : ℕ) → filter_may_contain file place hash ≡ true → start ≡ gnu_start file place hash → (start ≡ 0 → ⊥)
     → HoldsHash file place hash start
 told_start file place hash start may is some = (rw may (ne_eqb (gnu_start file place hash) 0 (λ e. some (is ∙ e))), is)
 

@@ -1,24 +1,24 @@
 -- The lookup of a name is the walk for a symbol that has it.
 use Rattle.std.proofs.Common.{◌≡◌, ℕ, ◌+◌, ◌*◌, List, length, Option, None, Some, Result, Ok, Err, refl, sym, ap, subst, ◌∙◌, arith}
-use Rattle.elf_model.specs.Chains.{Walked as Walk}
+use Rattle.elf_model.specs.Chains.{ChainResult as NoteScan}
 use Rattle.elf_model.specs.Hash.{Lookup as Looked, looked_up, symbol_at, sysv_hash}
-use Rattle.elf_model.specs.SysvWalk.{has_name, lookup_answer, lookup_of, section_table_of, sysv_walked}
+use Rattle.elf_model.specs.SysvWalk.{has_name, lookup_answer, parse_lookup, section_table_of, sysv_walked}
 use Rattle.elf_model.specs.Tables.{linked_at}
 use Rattle.elf_model.proofs.SysvWalkLaws.{sysv_walk_is_bounded, sysv_walk_is_lookup}
 use Rattle.elf_record.specs.Sym.{IsSym}
-use Rattle.elf_source.specs.Source.{Counting}
-use Rattle.elf_headers.specs.Ledger.{Charges, why_stopped}
+use Rattle.elf_source.specs.Source.{CountedState}
+use Rattle.elf_headers.specs.Ledger.{CallReads, fault_of_result}
 use Rattle.elf_headers.specs.declared.fault.Fault.{Fault}
 use Rattle.elf_headers.specs.declared.fault.Fault.TheVariants.{Refused, Source}
 use Rattle.elf_table.specs.Cursors.{row_at}
 use Rattle.elf_hash.specs.Lookups.{LooksBySysv, GivesLookup as Finds, lookup_in, step_bytes, symbol_bytes}
 use Rattle.elf_hash.specs.Tables.{IsHashSection}
 use Rattle.elf_hash.specs.Trials.{SaysHasName}
-use Rattle.elf_hash.specs.Walks.{GivesWalked, Walks, walk_bytes}
-use Rattle.elf_hash.specs.declared.answer.TrialAnswer.{TrialAnswer}
+use Rattle.elf_hash.specs.Walks.{GivesWalked, WalksChain, walk_bytes}
+use Rattle.elf_hash.specs.declared.answer.SymbolMatch.{SymbolMatch}
 use Rattle.elf_hash.specs.declared.hash_section.HashSection.{HashSection}
-use Rattle.elf_hash.specs.declared.walked.FoundInChain.{FoundInChain}
-use Rattle.elf_hash.specs.declared.walked.Walked.{Walked}
+use Rattle.elf_hash.specs.declared.walked.ChainMatch.{ChainMatch}
+use Rattle.elf_hash.specs.declared.walked.ChainResult.{ChainResult}
 use Rattle.elf_hash.proofs.NamedLaws.{row_is}
 
 -- what steps ask for, each a chain word, a symbol and a name
@@ -26,24 +26,24 @@ pub steps_ask : (steps length : ℕ) → walk_bytes 4 steps steps (symbol_bytes 
 steps_ask steps length = omega arith
 
 module _ (file : List ℕ) (at : ℕ) (wanted : List ℕ) (s : HashSection) (is : IsHashSection file at s) (entry : s.symbols.entry ≡ 24) where
-  abbrev pub stands : ℕ → TrialAnswer → Type 0
+  abbrev pub stands : ℕ → SymbolMatch → Type 0
   stands index answer = IsSym file (row_at s.symbols index) answer.symbol
 
-  abbrev pub walk : Walk
+  abbrev pub walk : NoteScan
   walk = sysv_walked file (section_table_of file at) (sysv_hash wanted) (has_name file (linked_at file at) wanted)
 
   abbrev pub named : SaysHasName file s.symbols s.names wanted (has_name file (linked_at file at) wanted)
   named = record { table = linked_at file at; start = is.symbols; entry = entry; count = is.count; strings = is.names; says_so = refl }
 
-  looked : looked_up file at wanted ≡ lookup_of file at walk
+  looked : looked_up file at wanted ≡ parse_lookup file at walk
   looked = sym (sysv_walk_is_lookup file at wanted)
 
-  finds_found : (found : Option FoundInChain) (tried read : ℕ) → GivesWalked stands walk (Ok (record { found = found; tried = tried; read = read }))
+  finds_found : (found : Option ChainMatch) (tried read : ℕ) → GivesWalked stands walk (Ok (record { found = found; tried = tried; read = read }))
       → Finds file (looked_up file at wanted) (Ok (lookup_in s.link (record { found = found; tried = tried; read = read })))
-  finds_found None tried read gives = looked ∙ ap (lookup_of file at) gives.0
+  finds_found None tried read gives = looked ∙ ap (parse_lookup file at) gives.0
   finds_found (Some found) tried read gives = (
     symbol_at file (linked_at file at) found.index,
-    rw (is.link) (looked ∙ ap (lookup_of file at) gives.0),
+    rw (is.link) (looked ∙ ap (parse_lookup file at) gives.0),
     subst (λ (p : ℕ). IsSym file p found.answer.symbol) (row_is file s.symbols s.names wanted _ named found.index) gives.1,
   )
 
@@ -51,17 +51,17 @@ module _ (file : List ℕ) (at : ℕ) (wanted : List ℕ) (s : HashSection) (is 
   fails (Refused refusal) gives = λ other. ap (λ (l : Looked). l.answer) looked ∙ ap (lookup_answer file at) (gives other)
   fails (Source fault offset) gives = tt
 
-  charges : {old new : Counting} (result : Result Walked Fault)
-      → Walks stands 4 (symbol_bytes (length wanted)) walk old new result
-      → Charges old new (why_stopped result) (4 + (looked_up file at wanted).compared * step_bytes (length wanted))
+  charges : {old new : CountedState} (result : Result ChainResult Fault)
+      → WalksChain stands 4 (symbol_bytes (length wanted)) walk old new result
+      → CallReads old new (fault_of_result result) (4 + (looked_up file at wanted).compared * step_bytes (length wanted))
   charges result walks =
       let bounded = (sysv_walk_is_bounded file (section_table_of file at) (sysv_hash wanted) (has_name file (linked_at file at) wanted)).0 in
       rw (looked, ← steps_ask walk.tried (length wanted)) (rw bounded at walks.costs)
 
-  pub looks_answered : {old new : Counting} (w : Walked) → Walks stands 4 (symbol_bytes (length wanted)) walk old new (Ok w)
+  pub looks_answered : {old new : CountedState} (w : ChainResult) → WalksChain stands 4 (symbol_bytes (length wanted)) walk old new (Ok w)
       → LooksBySysv file (looked_up file at wanted) old new (Ok (lookup_in s.link w)) 4 (length wanted)
   looks_answered w walks = record { costs = charges _ walks; finds = finds_found w.found w.tried w.read walks.gives }
 
-  pub looks_failed : {old new : Counting} (fault : Fault) → Walks stands 4 (symbol_bytes (length wanted)) walk old new (Err fault)
+  pub looks_failed : {old new : CountedState} (fault : Fault) → WalksChain stands 4 (symbol_bytes (length wanted)) walk old new (Err fault)
       → LooksBySysv file (looked_up file at wanted) old new (Err fault) 4 (length wanted)
   looks_failed fault walks = record { costs = charges _ walks; finds = fails fault walks.gives }

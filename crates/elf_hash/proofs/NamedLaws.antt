@@ -11,17 +11,17 @@ use Rattle.elf_headers.specs.declared.fault.Fault.{Fault}
 use Rattle.elf_headers.specs.declared.fault.Fault.TheVariants.{Refused, Source}
 use Rattle.elf_table.specs.Cursors.{row_at}
 use Rattle.elf_table.specs.NamesRead.{ComparesName}
-use Rattle.elf_table.specs.Tables.{Rows, Strings, strings_in}
-use Rattle.elf_hash.specs.declared.answer.TrialAnswer.{TrialAnswer}
-use Rattle.elf_hash.specs.Trials.{SaysHasName, Tries}
+use Rattle.elf_table.specs.Tables.{Rows, StringTableRange, strings_in}
+use Rattle.elf_hash.specs.declared.answer.SymbolMatch.{SymbolMatch}
+use Rattle.elf_hash.specs.Trials.{SaysHasName, TriesSymbol}
 
 -- the symbol, where its name is the wanted one
-abbrev pub picked : Sym → Result Bool Fault → Result (Option TrialAnswer) Fault
+abbrev pub picked : Sym → Result Bool Fault → Result (Option SymbolMatch) Fault
 picked symbol (Ok true) = Ok (Some (record { symbol = symbol; version = None }))
 picked symbol (Ok false) = Ok None
 picked symbol (Err fault) = Err fault
 
-module _ (file : List ℕ) (symbols : Rows) (names : Strings) (wanted : List ℕ) (says : ℕ → Result Bool Refusal) (is : SaysHasName file symbols names wanted says) (index : ℕ) where
+module _ (file : List ℕ) (symbols : Rows) (names : StringTableRange) (wanted : List ℕ) (says : ℕ → Result Bool Refusal) (is : SaysHasName file symbols names wanted says) (index : ℕ) where
   pub row_is : row_at symbols index ≡ symbol_at file is.table index
   row_is = rw (is.start, is.entry) (omega arith)
 
@@ -37,7 +37,7 @@ module _ (file : List ℕ) (symbols : Rows) (names : Strings) (wanted : List ℕ
   pub tries :
       (symbol : Sym) (off place : ℕ) (equal : Result Bool Fault) → index < symbols.count
       → IsSym file (row_at symbols index) symbol → off ≡ symbol.st_name → place ≡ row_at symbols index
-      → ComparesName place equal (same (strings_in file names) off wanted) → Tries (λ i answer. IsSym file (row_at symbols i) answer.symbol) says index (picked symbol equal)
+      → ComparesName place equal (same (strings_in file names) off wanted) → TriesSymbol (λ i answer. IsSym file (row_at symbols i) answer.symbol) says index (picked symbol equal)
   tries symbol off place (Ok true) low stands name here compared = (says_is symbol off low stands name ∙ rw compared refl, stands)
   tries symbol off place (Ok false) low stands name here compared = says_is symbol off low stands name ∙ rw compared refl
   tries symbol off place (Err (Refused refusal)) low stands name here refuses = λ other.

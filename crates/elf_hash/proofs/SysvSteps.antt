@@ -2,7 +2,7 @@
 use Rattle.std.proofs.Common.{◌≡◌, ℕ, zero, suc, ◌+◌, ◌*◌, ◌%◌, ◌<◌, ◌≤◌, inl, inr, Bool, true, false, List, Option, None, Some, Result, Ok, Err, refl, sym, ap, subst, ◌∙◌, arith, add-one}
 use Rattle.std.proofs.lemmas.Bool.{cases_eq, cases_lt}
 use Rattle.elf_model.specs.Bytes.{field}
-use Rattle.elf_model.specs.Chains.{HashTable as Table, WalkEnd, NotThere, Untried, Answers, Last, end_of_trial, Walked as Walk}
+use Rattle.elf_model.specs.Chains.{HashTable as Table, WalkEnd, NotThere, Untried, Answers, Last, end_of_match, ChainResult as NoteScan}
 use Rattle.elf_model.specs.Hash.{sysv_nchain, sysv_chain_at, walk_word, IsFirst}
 use Rattle.elf_model.specs.HashLaws.{GoesOn}
 use Rattle.elf_model.specs.SysvWalk.{EndsAtWord, IsSysvWalk, is_sysv_index, sysv_bucket_of, sysv_end, sysv_walked, sysv_walked_at, sysv_cycle, sysv_word, sysv_word_at}
@@ -15,8 +15,8 @@ use Rattle.elf_headers.specs.Faults.{IsOfRead}
 use Rattle.elf_headers.specs.declared.fault.Fault.{Fault}
 use Rattle.elf_headers.specs.declared.fault.Fault.TheVariants.{Refused}
 use Rattle.elf_hash.specs.Counts.{IsSysv}
-use Rattle.elf_hash.specs.declared.answer.TrialAnswer.{TrialAnswer}
-use Rattle.elf_hash.specs.Trials.{Tries}
+use Rattle.elf_hash.specs.declared.answer.SymbolMatch.{SymbolMatch}
+use Rattle.elf_hash.specs.Trials.{TriesSymbol}
 use Rattle.elf_hash.specs.Walks.{walk_bytes}
 use Rattle.elf_hash.specs.declared.sysv_table.SysvTable.{SysvTable}
 use Rattle.elf_hash.proofs.WalkLaws.{Meets, bytes_tried, meets_answer, meets_fault, meets_refusal, meets_untried}
@@ -28,7 +28,7 @@ module _ (file : List ℕ) (table : Table) (hash : ℕ) (says : ℕ → Result B
   abbrev words : ℕ → ℕ
   words i = sysv_word file table.place hash i
 
-  abbrev walk : Walk
+  abbrev walk : NoteScan
   walk = sysv_walked file table hash says
 
   -- a walk has come to a word at an offset behind so many steps
@@ -61,7 +61,7 @@ module _ (file : List ℕ) (table : Table) (hash : ℕ) (says : ℕ → Result B
   end_no_index zero some isnt = absurd (omega arith)
   end_no_index (suc y) some isnt = rw (isnt, sysv_end) refl
 
-  end_tried : (word : ℕ) → 0 < word → is_sysv_index file table word ≡ true → ends word ≡ end_of_trial (says word) None
+  end_tried : (word : ℕ) → 0 < word → is_sysv_index file table word ≡ true → ends word ≡ end_of_match (says word) None
   unfolding sysv_end
   end_tried zero some is = absurd (omega arith)
   end_tried (suc y) some is = rw (is, sysv_end) refl
@@ -75,7 +75,7 @@ module _ (file : List ℕ) (table : Table) (hash : ℕ) (says : ℕ → Result B
   least_at i steps (Untried refusal) few = (omega arith, omega arith)
   least_at i steps Answers few = (omega arith, omega arith)
 
-  least_tried : (i : ℕ) (end : WalkEnd) (says_here : Result Bool Refusal) → end_of_trial says_here None ≡ Some end
+  least_tried : (i : ℕ) (end : WalkEnd) (says_here : Result Bool Refusal) → end_of_match says_here None ≡ Some end
       → (suc i ≤ (sysv_walked_at file table.place hash i end).tried) × (suc i ≤ (sysv_walked_at file table.place hash i end).read)
   unfolding sysv_walked_at
   least_tried i Last (Ok true) e = absurd (cc)
@@ -93,14 +93,14 @@ module _ (file : List ℕ) (table : Table) (hash : ℕ) (says : ℕ → Result B
     | inr late ↦ late
   ]
 
-  least : (walked : Walk) → IsSysvWalk file table hash says walked → (steps : ℕ) → GoesOn ends words steps → steps ≤ sysv_nchain file table.place
+  least : (walked : NoteScan) → IsSysvWalk file table hash says walked → (steps : ℕ) → GoesOn ends words steps → steps ≤ sysv_nchain file table.place
       → (steps ≤ walked.tried) × (steps ≤ walked.read)
   least walked (inl a) steps goes few = rw (a.gives) (least_at a.number steps a.end (no_fewer steps a.number a.end goes a.first))
   least walked (inr b) steps goes few = rw (b.gives) (few, few)
 
   -- and one more at an index, whose symbol is tried
-  ends_more : (walked : Walk) (a : EndsAtWord file table hash says walked) (steps : ℕ) → GoesOn ends words steps
-      → ends (words steps) ≡ end_of_trial (says (words steps)) None → (suc steps ≤ walked.tried) × (suc steps ≤ walked.read)
+  ends_more : (walked : NoteScan) (a : EndsAtWord file table hash says walked) (steps : ℕ) → GoesOn ends words steps
+      → ends (words steps) ≡ end_of_match (says (words steps)) None → (suc steps ≤ walked.tried) × (suc steps ≤ walked.read)
   ends_more walked a steps goes tries =
       let late = no_fewer steps a.number a.end goes a.first in
       rw (a.gives)
@@ -111,15 +111,15 @@ module _ (file : List ℕ) (table : Table) (hash : ℕ) (says : ℕ → Result B
         | inr other ↦ least_at a.number (suc steps) a.end (omega arith)
       ])
 
-  least_more : (walked : Walk) → IsSysvWalk file table hash says walked → (steps : ℕ) → GoesOn ends words steps → suc steps ≤ sysv_nchain file table.place
-      → ends (words steps) ≡ end_of_trial (says (words steps)) None → (suc steps ≤ walked.tried) × (suc steps ≤ walked.read)
+  least_more : (walked : NoteScan) → IsSysvWalk file table hash says walked → (steps : ℕ) → GoesOn ends words steps → suc steps ≤ sysv_nchain file table.place
+      → ends (words steps) ≡ end_of_match (says (words steps)) None → (suc steps ≤ walked.tried) × (suc steps ≤ walked.read)
   least_more walked (inl a) steps goes few tries = ends_more walked a steps goes tries
   least_more walked (inr b) steps goes few tries = rw (b.gives) (few, few)
 
   -- a walk goes round that tries a symbol behind as many steps as there are chains
-  goes_round : (walked : Walk) → IsSysvWalk file table hash says walked → walked.tried ≤ sysv_nchain file table.place
+  goes_round : (walked : NoteScan) → IsSysvWalk file table hash says walked → walked.tried ≤ sysv_nchain file table.place
       → GoesOn ends words (sysv_nchain file table.place)
-      → ends (words (sysv_nchain file table.place)) ≡ end_of_trial (says (words (sysv_nchain file table.place))) None
+      → ends (words (sysv_nchain file table.place)) ≡ end_of_match (says (words (sysv_nchain file table.place))) None
       → walked ≡ sysv_cycle file table.place hash
   goes_round walked (inl a) most goes tries =
       let more = (ends_more walked a (sysv_nchain file table.place) goes tries).0 in absurd (omega arith)
@@ -129,7 +129,7 @@ module _ (file : List ℕ) (table : Table) (hash : ℕ) (says : ℕ → Result B
   pub record Tried (steps word : ℕ) : Type 0 where
     pub place : ℕ
     pub along : Along steps word place
-    pub tries : ends word ≡ end_of_trial (says word) None
+    pub tries : ends word ≡ end_of_match (says word) None
     pub few : suc steps ≤ sysv_nchain file table.place
 
   pub comes : (steps word place : ℕ) → Along steps word place → 0 < word → is_sysv_index file table word ≡ true → steps < sysv_nchain file table.place → Tried steps word
@@ -139,7 +139,7 @@ module _ (file : List ℕ) (table : Table) (hash : ℕ) (says : ℕ → Result B
   more steps word t =
       least_more walk (sysv_walk_answers file table hash says) steps t.along.goes t.few (rw (← t.along.word_is) t.tries)
 
-  module _ (stands : ℕ → TrialAnswer → Type 0) (cost : ℕ) where
+  module _ (stands : ℕ → SymbolMatch → Type 0) (cost : ℕ) where
     module _ (steps word place : ℕ) (along : Along steps word place) where
       pub meets_absent : word ≡ 0 → Meets stands 4 cost walk (walk_bytes 4 steps steps cost) (Ok (record { found = None; tried = steps; read = steps }))
       unfolding sysv_walked_at
@@ -163,17 +163,17 @@ module _ (file : List ℕ) (table : Table) (hash : ℕ) (says : ℕ → Result B
           rw (here, all) (meets_refusal stands 4 cost walk _ _ _ _ gives (omega arith))
 
     module _ (steps word : ℕ) (t : Tried steps word) where
-      pub meets_untried_here : (fault : Fault) (index : ℕ) → index ≡ word → Tries stands says index (Err fault)
+      pub meets_untried_here : (fault : Fault) (index : ℕ) → index ≡ word → TriesSymbol stands says index (Err fault)
           → Meets stands 4 cost walk (walk_bytes 4 steps steps cost + cost) (Err fault)
       unfolding sysv_walked_at
       meets_untried_here fault index same tries =
           let few = more steps word t in
           meets_untried stands 4 cost walk _ (suc steps) (suc steps) word says fault
-          (subst (λ (i : ℕ). Tries stands says i (Err fault)) same tries)
+          (subst (λ (i : ℕ). TriesSymbol stands says i (Err fault)) same tries)
           (λ refusal e. ends_here steps word t.place (Untried refusal) t.along (t.tries ∙ rw e refl))
           few.0 few.1 (omega (arith, bytes_tried 4 steps steps cost))
 
-      pub meets_found : (answer : TrialAnswer) (index : ℕ) → index ≡ word → Tries stands says index (Ok (Some answer))
+      pub meets_found : (answer : SymbolMatch) (index : ℕ) → index ≡ word → TriesSymbol stands says index (Ok (Some answer))
           → Meets stands 4 cost walk (walk_bytes 4 steps steps cost + cost)
           (Ok (record { found = Some (record { index = word; answer = answer }); tried = steps + 1; read = steps + 1 }))
       unfolding sysv_walked_at
@@ -189,7 +189,7 @@ module _ (file : List ℕ) (table : Table) (hash : ℕ) (says : ℕ → Result B
           meets_fault stands 4 cost walk _ (suc steps) (suc steps) fault read few.0 few.1 (omega (arith, bytes_tried 4 steps steps cost))
 
       -- past a symbol that does not answer
-      pub along_next : (found : Option TrialAnswer) (next place index : ℕ) → index ≡ word → Tries stands says index (Ok found) → ((answer : TrialAnswer) → found ≡ Some answer → ⊥)
+      pub along_next : (found : Option SymbolMatch) (next place index : ℕ) → index ≡ word → TriesSymbol stands says index (Ok found) → ((answer : SymbolMatch) → found ≡ Some answer → ⊥)
           → place ≡ sysv_chain_at file table.place word → next ≡ field file place 4 → Along (steps + 1) next place
       unfolding walk_word sysv_word_at
       along_next (Some answer) next place index same tries other stands read = absurd (other answer refl)

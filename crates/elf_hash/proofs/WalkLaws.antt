@@ -1,19 +1,19 @@
 -- How walks end, and what they ask for by the symbols that are tried and the chain words that are read.
 use Rattle.std.proofs.Common.{◌≡◌, ℕ, suc, ◌+◌, ◌≤◌, Bool, List, Option, Result, Ok, Err, IfSome, ap, ◌∙◌, arith, mul-le-mul_right, suc-mul}
 use Rattle.elf_model.specs.Bytes.{field, slice}
-use Rattle.elf_model.specs.Chains.{Walked as Walk, refused_walk}
+use Rattle.elf_model.specs.Chains.{ChainResult as NoteScan, refused_walk}
 use Rattle.elf_model.specs.declared.causes.Refusal.{Refusal}
 use Rattle.elf_model.proofs.Slices.{field-slice}
-use Rattle.elf_source.specs.Source.{Counting}
+use Rattle.elf_source.specs.Source.{CountedState}
 use Rattle.elf_headers.specs.Faults.{IsOfRead}
-use Rattle.elf_headers.specs.Ledger.{Charges, why_stopped}
+use Rattle.elf_headers.specs.Ledger.{CallReads, fault_of_result}
 use Rattle.elf_headers.specs.declared.fault.Fault.{Fault}
 use Rattle.elf_headers.specs.declared.fault.Fault.TheVariants.{Refused, Source}
-use Rattle.elf_hash.specs.Trials.{Tries}
-use Rattle.elf_hash.specs.Walks.{GivesWalked, Walks, index_of, walk_bytes}
-use Rattle.elf_hash.specs.declared.answer.TrialAnswer.{TrialAnswer}
-use Rattle.elf_hash.specs.declared.walked.FoundInChain.{FoundInChain}
-use Rattle.elf_hash.specs.declared.walked.Walked.{Walked}
+use Rattle.elf_hash.specs.Trials.{TriesSymbol}
+use Rattle.elf_hash.specs.Walks.{GivesWalked, WalksChain, index_of, walk_bytes}
+use Rattle.elf_hash.specs.declared.answer.SymbolMatch.{SymbolMatch}
+use Rattle.elf_hash.specs.declared.walked.ChainMatch.{ChainMatch}
+use Rattle.elf_hash.specs.declared.walked.ChainResult.{ChainResult}
 
 -- eight bytes that are read
 pub filter_read : (file : List ℕ) (at word : ℕ) (bytes : List ℕ) → word ≡ field bytes 0 8 → bytes ≡ slice file at 8 → word ≡ field file at 8
@@ -34,26 +34,26 @@ pub bytes_step : (few steps most cost : ℕ) → suc steps ≤ most → walk_byt
 bytes_step few steps most cost one =
     omega (arith, bytes_tried few steps steps cost, bytes_most few (suc steps) (suc steps) most most cost one one)
 
-module _ (stands : ℕ → TrialAnswer → Type 0) (few cost : ℕ) (walk : Walk) where
+module _ (stands : ℕ → SymbolMatch → Type 0) (few cost : ℕ) (walk : NoteScan) where
   -- how a walk ends that has asked for so many bytes: within what it costs, and with what it gives
-  pub record Meets (spent : ℕ) (result : Result Walked Fault) : Type 0 where
+  pub record Meets (spent : ℕ) (result : Result ChainResult Fault) : Type 0 where
     pub within : spent ≤ walk_bytes few walk.read walk.tried cost
     pub gives : GivesWalked stands walk result
 
   -- and so it does what it does
-  pub walks : {old new : Counting} (spent : ℕ) (result : Result Walked Fault)
-      → ((most : ℕ) → spent ≤ most → Charges old new (why_stopped result) most) → Meets spent result
-      → Walks stands few cost walk old new result
+  pub walks : {old new : CountedState} (spent : ℕ) (result : Result ChainResult Fault)
+      → ((most : ℕ) → spent ≤ most → CallReads old new (fault_of_result result) most) → Meets spent result
+      → WalksChain stands few cost walk old new result
   walks spent result costs meets = record { costs = costs _ meets.within; gives = meets.gives }
 
-  pub meets_answer : (spent tried read : ℕ) (found : Option FoundInChain) → walk ≡ record { answer = Ok (index_of found); tried = tried; read = read }
+  pub meets_answer : (spent tried read : ℕ) (found : Option ChainMatch) → walk ≡ record { answer = Ok (index_of found); tried = tried; read = read }
       → spent ≤ walk_bytes few read tried cost → IfSome found (λ f. stands f.index f.answer)
       → Meets spent (Ok (record { found = found; tried = tried; read = read }))
   meets_answer spent tried read found is within symbol = record { within = rw is within; gives = (is, symbol) }
 
   pub meets_refusal : (spent tried read : ℕ) (refusal : Refusal) → walk ≡ refused_walk tried read refusal
       → spent ≤ walk_bytes few read tried cost → Meets spent (Err (Refused refusal))
-  meets_refusal spent tried read refusal is within = record { within = rw is within; gives = λ other. ap (λ (w : Walk). w.answer) is }
+  meets_refusal spent tried read refusal is within = record { within = rw is within; gives = λ other. ap (λ (w : NoteScan). w.answer) is }
 
   pub meets_fault : (spent tried read : ℕ) (fault : Fault) → IsOfRead fault → tried ≤ walk.tried → read ≤ walk.read
       → spent ≤ walk_bytes few read tried cost → Meets spent (Err fault)
@@ -62,12 +62,12 @@ module _ (stands : ℕ → TrialAnswer → Type 0) (few cost : ℕ) (walk : Walk
   meets_fault spent tried read (Refused refusal) of_read t r within =
       record { within = omega (arith, within, bytes_most few read tried walk.read walk.tried cost r t); gives = λ other. absurd (other of_read) }
 
-  pub meets_untried : (spent tried read index : ℕ) (says : ℕ → Result Bool Refusal) (fault : Fault) → Tries stands says index (Err fault)
+  pub meets_untried : (spent tried read index : ℕ) (says : ℕ → Result Bool Refusal) (fault : Fault) → TriesSymbol stands says index (Err fault)
       → ((refusal : Refusal) → says index ≡ Err refusal → walk ≡ refused_walk tried read refusal)
       → tried ≤ walk.tried → read ≤ walk.read → spent ≤ walk_bytes few read tried cost → Meets spent (Err fault)
   meets_untried spent tried read index says (Source fault at) tries ends t r within =
       record { within = omega (arith, within, bytes_most few read tried walk.read walk.tried cost r t); gives = tt }
   meets_untried spent tried read index says (Refused refusal) tries ends t r within = record {
     within = omega (arith, within, bytes_most few read tried walk.read walk.tried cost r t);
-    gives = λ other. ap (λ (w : Walk). w.answer) (ends refusal (tries other));
+    gives = λ other. ap (λ (w : NoteScan). w.answer) (ends refusal (tries other));
   }

@@ -1,6 +1,6 @@
 -- A hash table as the code has it, by its counts, and what it is of a file.
 use Rattle.std.specs.Prelude.{ℕ, ◌≡◌, ◌+◌, ◌*◌, ◌==◌, ◌||◌, nat_lt, not, count_ones, Bool, true, false, List, Result, Ok, Err}
-use Rattle.elf_model.specs.Budget.{IsBudget}
+use Rattle.elf_model.specs.Budget.{IsBudgetRefusal}
 use Rattle.elf_model.specs.Chains.{HashTable as Table}
 use Rattle.elf_model.specs.GnuHash.{gnu_nbucket, gnu_first, gnu_nbloom, gnu_shift, before_chains}
 use Rattle.elf_model.specs.Hash.{sysv_nbucket, sysv_nchain}
@@ -8,11 +8,11 @@ use Rattle.elf_model.specs.declared.causes.Cause.TheVariants.{HashShape}
 use Rattle.elf_headers.specs.declared.fault.Fault.{Fault}
 use Rattle.elf_headers.specs.declared.fault.Fault.TheVariants.{Refused, Source}
 use Rattle.elf_hash.specs.declared.gnu_table.GnuTable.{GnuTable}
-use Rattle.elf_hash.specs.declared.place.HashPlace.{HashPlace}
+use Rattle.elf_hash.specs.declared.place.HashTableLocation.{HashTableLocation}
 use Rattle.elf_hash.specs.declared.sysv_table.SysvTable.{SysvTable}
 
 -- it is the place of a table
-pub record IsTablePlace (table : Table) (p : HashPlace) : Type 0 where
+pub record IsTablePlace (table : Table) (p : HashTableLocation) : Type 0 where
   pub start : p.at ≡ table.place
   pub size : p.size ≡ table.size
   pub symbols : p.symbols ≡ table.symbols
@@ -47,12 +47,12 @@ sysv_misshapen file table =
 abbrev pub CountsFit : {X : Type 0} → (misshapen : Bool) (head : ℕ) (is : X → Type 0) → Result X Fault → Type 0
 CountsFit misshapen head is (Ok table) = (misshapen ≡ false) × is table
 CountsFit misshapen head is (Err (Refused refusal)) =
-    (IsBudget refusal → ⊥) → (misshapen ≡ true) × (refusal ≡ record { at = head; cause = HashShape })
+    (IsBudgetRefusal refusal → ⊥) → (misshapen ≡ true) × (refusal ≡ record { at = head; cause = HashShape })
 CountsFit misshapen head is (Err (Source fault at)) = Unit {0}
 
 -- the counts of the table at a place
-abbrev pub HasGnuCounts : List ℕ → Table → HashPlace → Result GnuTable Fault → Type 0
+abbrev pub HasGnuCounts : List ℕ → Table → HashTableLocation → Result GnuTable Fault → Type 0
 HasGnuCounts file table p result = IsTablePlace table p → CountsFit (gnu_misshapen file table) p.head (IsGnu file table) result
 
-abbrev pub HasSysvCounts : List ℕ → Table → HashPlace → Result SysvTable Fault → Type 0
+abbrev pub HasSysvCounts : List ℕ → Table → HashTableLocation → Result SysvTable Fault → Type 0
 HasSysvCounts file table p result = IsTablePlace table p → CountsFit (sysv_misshapen file table) p.head (IsSysv file table) result

@@ -3,10 +3,10 @@ use Rattle.std.specs.Prelude.{ℕ, suc, ◌≡◌, ◌+◌, ◌-◌, ◌*◌, �
 use Rattle.elf_model.specs.Chains.{HashTable}
 use Rattle.elf_model.specs.Find.{first_that}
 use Rattle.elf_model.specs.GnuHash.{gnu_nbucket}
-use Rattle.elf_model.specs.LoaderScope.{GnuTable, SysvTable, Scope}
+use Rattle.elf_model.specs.LoaderScope.{GnuTable, SysvTable, LookupTables}
 use Rattle.elf_model.specs.Traits.{hashed_symbol_count, is_last_in}
-use Rattle.elf_source.specs.Source.{Counting}
-use Rattle.elf_headers.specs.Ledger.{Charges, IsRead, why_stopped}
+use Rattle.elf_source.specs.Source.{CountedState}
+use Rattle.elf_headers.specs.Ledger.{CallReads, IsRead, fault_of_result}
 use Rattle.elf_headers.specs.declared.fault.Fault.{Fault}
 
 -- how many symbols there are up to the end of the chain that begins at a symbol index
@@ -17,23 +17,23 @@ last_in file table start = elim (first_that (is_last_in file table) start (table
 ]
 
 -- a number of symbols is found, for a few bytes and no more than a chain word for each
-pub record EndsChain (few count : ℕ) (old new : Counting) (result : Result ℕ Fault) : Type 0 where
-  pub costs : Charges old new (why_stopped result) (few + 4 * count)
+pub record EndsChain (few count : ℕ) (old new : CountedState) (result : Result ℕ Fault) : Type 0 where
+  pub costs : CallReads old new (fault_of_result result) (few + 4 * count)
   pub tells : IsRead result count
 
 -- the symbols of a lookup begin at an offset, and their strings at another; strings of no symbol are not looked at
-pub record SymbolsBegin (scope : Scope) (symbols strings : ℕ) : Type 0 where
+pub record SymbolsBegin (scope : LookupTables) (symbols strings : ℕ) : Type 0 where
   pub place : scope.symbols.place ≡ symbols
   pub strings_at : 0 < scope.table.symbols → scope.symbols.strings_at ≡ strings
 
 -- how many bytes are asked for, behind the counts
-abbrev pub extent_bytes : List ℕ → Scope → ℕ
+abbrev pub extent_bytes : List ℕ → LookupTables → ℕ
 extent_bytes file scope = elim scope.kind [
   | GnuTable ↦ 4 * gnu_nbucket file scope.table.place + 4 * hashed_symbol_count file scope
   | SysvTable ↦ 0
 ]
 
 -- HOW MANY SYMBOLS a hash table knows, in a known file
-pub record TellsExtent (file : List ℕ) (scope : Scope) (old new : Counting) (result : Result ℕ Fault) : Type 0 where
-  pub costs : Charges old new (why_stopped result) (extent_bytes file scope)
+pub record ReturnsExtent (file : List ℕ) (scope : LookupTables) (old new : CountedState) (result : Result ℕ Fault) : Type 0 where
+  pub costs : CallReads old new (fault_of_result result) (extent_bytes file scope)
   pub tells : IsRead result (hashed_symbol_count file scope)

@@ -1,19 +1,19 @@
 -- What a lookup answers, and what it asks for.
 use Rattle.std.specs.Prelude.{ℕ, ◌≡◌, ◌+◌, ◌*◌, ◌/◌, List, None, Some, Result, Ok, Err}
-use Rattle.elf_model.specs.Budget.{IsBudget}
+use Rattle.elf_model.specs.Budget.{IsBudgetRefusal}
 use Rattle.elf_model.specs.Find.{find_cost, first_hash, looked, looked_in}
 use Rattle.elf_model.specs.Hash.{Lookup as Looked, Found as IsFound, Absent as IsAbsent, Refused as IsRefused, refused_after}
 use Rattle.elf_model.specs.Names.{pad64}
 use Rattle.elf_model.specs.Records.{section_at}
 use Rattle.elf_model.specs.declared.causes.Cause.TheVariants.{NoHash}
 use Rattle.elf_record.specs.Sym.{IsSym}
-use Rattle.elf_source.specs.Source.{Counting}
+use Rattle.elf_source.specs.Source.{CountedState}
 use Rattle.elf_headers.specs.declared.fault.Fault.{Fault}
 use Rattle.elf_headers.specs.declared.fault.Fault.TheVariants.{Refused, Source}
-use Rattle.elf_headers.specs.Ledger.{Charges, why_stopped}
+use Rattle.elf_headers.specs.Ledger.{CallReads, fault_of_result}
 use Rattle.elf_hash.specs.declared.lookup.Lookup.{Lookup}
 use Rattle.elf_hash.specs.declared.lookup.Lookup.TheVariants.{Found, Absent}
-use Rattle.elf_hash.specs.declared.walked.Walked.{Walked}
+use Rattle.elf_hash.specs.declared.walked.ChainResult.{ChainResult}
 
 -- how many steps an answer has
 abbrev pub steps_of : Lookup → ℕ
@@ -29,8 +29,8 @@ abbrev pub step_bytes : ℕ → ℕ
 step_bytes length = 28 + pad64 (length + 1)
 
 -- what stands behind the section headers: the two counts, and a walk of so many steps
-abbrev pub behind_headers_bytes : ℕ → ℕ → ℕ
-behind_headers_bytes steps length = 12 + steps * step_bytes length
+abbrev pub after_headers_bytes : ℕ → ℕ → ℕ
+after_headers_bytes steps length = 12 + steps * step_bytes length
 
 -- WHAT A LOOKUP NEVER PASSES: the file header, a section header for each slot, the two counts, and a walk of as many steps
 -- as words fit into a file of this size
@@ -47,26 +47,26 @@ AnswersSysvLookup file looked (Absent steps) = looked ≡ record { answer = IsAb
 -- that is for want of budget
 abbrev pub GivesLookup : List ℕ → Looked → Result Lookup Fault → Type 0
 GivesLookup file looked (Ok lookup) = AnswersSysvLookup file looked lookup
-GivesLookup file looked (Err (Refused refusal)) = (IsBudget refusal → ⊥) → looked.answer ≡ IsRefused refusal
+GivesLookup file looked (Err (Refused refusal)) = (IsBudgetRefusal refusal → ⊥) → looked.answer ≡ IsRefused refusal
 GivesLookup file looked (Err (Source fault at)) = Unit {0}
 
 -- WHAT A LOOKUP DOES in a known file: it costs a few bytes and a step for each name that it compares, and finds what it gives
-pub record LooksBySysv (file : List ℕ) (looked : Looked) (old new : Counting) (result : Result Lookup Fault) (few length : ℕ) : Type 0 where
-  pub costs : Charges old new (why_stopped result) (few + looked.compared * step_bytes length)
+pub record LooksBySysv (file : List ℕ) (looked : Looked) (old new : CountedState) (result : Result Lookup Fault) (few length : ℕ) : Type 0 where
+  pub costs : CallReads old new (fault_of_result result) (few + looked.compared * step_bytes length)
   pub finds : GivesLookup file looked result
 
 -- what a lookup gives once the checks of the file pass, by the first HASH section
-abbrev pub looked_behind : List ℕ → List ℕ → Looked
-looked_behind file wanted = elim (first_hash file) [
+abbrev pub looked_after : List ℕ → List ℕ → Looked
+looked_after file wanted = elim (first_hash file) [
   | None ↦ refused_after 0 (record { at = 0x28; cause = NoHash })
   | Some section ↦ looked_in file (section_at file section) wanted
 ]
 
 -- WHAT A LOOKUP OF A NAME DOES in a known file: it costs no more than the definition's, and finds what that gives
-pub record FindsBySysv (file : List ℕ) (headers : ℕ) (wanted : List ℕ) (old new : Counting) (result : Result Lookup Fault) : Type 0 where
-  pub costs : Charges old new (why_stopped result) (find_cost file headers wanted)
+pub record FindsBySysv (file : List ℕ) (headers : ℕ) (wanted : List ℕ) (old new : CountedState) (result : Result Lookup Fault) : Type 0 where
+  pub costs : CallReads old new (fault_of_result result) (find_cost file headers wanted)
   pub finds : GivesLookup file (looked file headers wanted) result
 
 -- the answer to a walk's: the symbol that is found, in the section of an index, and how many symbols are tried
-abbrev pub lookup_in : (section : ℕ) → Walked → Lookup
+abbrev pub lookup_in : (section : ℕ) → ChainResult → Lookup
 lookup_in section w = elim w.found [ None ↦ Absent w.tried | Some found ↦ Found section found.index found.answer.symbol w.tried ]

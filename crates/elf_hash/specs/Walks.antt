@@ -1,42 +1,42 @@
 -- What a walk along a chain answers, and what it asks for.
 use Rattle.std.specs.Prelude.{ℕ, ◌≡◌, ◌+◌, ◌*◌, ◌<◌, ◌≤◌, true, false, List, Option, None, Some, Result, Ok, Err, IfSome}
-use Rattle.elf_model.specs.Budget.{IsBudget}
-use Rattle.elf_model.specs.Chains.{Walked as Walk}
+use Rattle.elf_model.specs.Budget.{IsBudgetRefusal}
+use Rattle.elf_model.specs.Chains.{ChainResult as NoteScan}
 use Rattle.elf_model.specs.GnuHash.{gnu_start, holds_none}
-use Rattle.elf_source.specs.Source.{Counting}
-use Rattle.elf_headers.specs.Ledger.{Charges, why_stopped}
+use Rattle.elf_source.specs.Source.{CountedState}
+use Rattle.elf_headers.specs.Ledger.{CallReads, fault_of_result}
 use Rattle.elf_headers.specs.Faults.{IsOfRead}
 use Rattle.elf_headers.specs.declared.fault.Fault.{Fault}
 use Rattle.elf_headers.specs.declared.fault.Fault.TheVariants.{Refused, Source}
-use Rattle.elf_hash.specs.declared.answer.TrialAnswer.{TrialAnswer}
-use Rattle.elf_hash.specs.declared.walked.FoundInChain.{FoundInChain}
-use Rattle.elf_hash.specs.declared.walked.Walked.{Walked}
+use Rattle.elf_hash.specs.declared.answer.SymbolMatch.{SymbolMatch}
+use Rattle.elf_hash.specs.declared.walked.ChainMatch.{ChainMatch}
+use Rattle.elf_hash.specs.declared.walked.ChainResult.{ChainResult}
 
 -- a few bytes, the chain words that are read, and the symbols that are tried, each for no more than a cost
 abbrev pub walk_bytes : (few read tried cost : ℕ) → ℕ
 walk_bytes few read tried cost = few + 4 * read + tried * cost
 
 -- the index of the symbol that answers
-abbrev pub index_of : Option FoundInChain → Option ℕ
+abbrev pub index_of : Option ChainMatch → Option ℕ
 index_of None = None
 index_of (Some found) = Some found.index
 
 -- what a walk gives: its answer, with what it took, and what stands for the symbol; or its refusal, unless that is for
 -- want of budget
-abbrev pub GivesWalked : (stands : ℕ → TrialAnswer → Type 0) → Walk → Result Walked Fault → Type 0
+abbrev pub GivesWalked : (stands : ℕ → SymbolMatch → Type 0) → NoteScan → Result ChainResult Fault → Type 0
 GivesWalked stands walk (Ok w) =
     (walk ≡ record { answer = Ok (index_of w.found); tried = w.tried; read = w.read })
     × IfSome w.found (λ found. stands found.index found.answer)
-GivesWalked stands walk (Err (Refused refusal)) = (IsBudget refusal → ⊥) → walk.answer ≡ Err refusal
+GivesWalked stands walk (Err (Refused refusal)) = (IsBudgetRefusal refusal → ⊥) → walk.answer ≡ Err refusal
 GivesWalked stands walk (Err (Source fault at)) = Unit {0}
 
 -- WHAT A WALK DOES in a known file: it costs what the definition's walk does, and gives what that gives
-pub record Walks (stands : ℕ → TrialAnswer → Type 0) (few cost : ℕ) (walk : Walk) (old new : Counting) (result : Result Walked Fault) : Type 0 where
-  pub costs : Charges old new (why_stopped result) (walk_bytes few walk.read walk.tried cost)
+pub record WalksChain (stands : ℕ → SymbolMatch → Type 0) (few cost : ℕ) (walk : NoteScan) (old new : CountedState) (result : Result ChainResult Fault) : Type 0 where
+  pub costs : CallReads old new (fault_of_result result) (walk_bytes few walk.read walk.tried cost)
   pub gives : GivesWalked stands walk result
 
 -- a walk tries no more symbols than a number, and the one that answers has an index below it
-abbrev pub IsShort : ℕ → Walked → Type 0
+abbrev pub IsShort : ℕ → ChainResult → Type 0
 IsShort n w = (w.tried ≤ n) × IfSome w.found (λ found. found.index < n)
 
 -- a table of the GNU system says that it holds a hash, and at which symbol its chain starts

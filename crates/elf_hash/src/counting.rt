@@ -1,12 +1,12 @@
 //! The counts of a hash table.
 ghost use Rattle.std.specs.Prelude.{◌≡◌, ◌+◌, ◌*◌, ◌<◌, ◌≤◌, ◌==◌, ◌||◌, nat_lt, not, count_ones};
 ghost use Rattle.std.specs.Prelude.{IfOk, MatchBool};
-ghost use Rattle.elf_headers.specs.Ledger.{Did, why_stopped};
+ghost use Rattle.elf_headers.specs.Ledger.{CallDid, fault_of_result};
 ghost use Rattle.elf_hash.specs.Counts.{HasGnuCounts, HasSysvCounts};
 ghost use Rattle.elf_model.specs.Chains.{HashTable as Place};
 
 use crate::gnu_table::GnuTable;
-use crate::place::HashPlace;
+use crate::place::HashTableLocation;
 use crate::reading::read_word;
 use crate::sysv_table::SysvTable;
 use elf_headers::{Fault, refused};
@@ -21,11 +21,11 @@ use elf_source::{Counted, Source};
 /// the buckets do not fit into the table. Else a fault of a read.
 pub(crate) fn gnu_counts<S: Source>(
     src: &mut Counted<S>,
-    place: &HashPlace,
+    place: &HashTableLocation,
 ) -> Result<GnuTable, Fault>
     requires room { 16 ≤ place.now.size }
     requires lies { place.now.at + place.now.size ≤ src.old.seen.size }
-    ensures did { Did src.old src.new (why_stopped result) 16
+    ensures did { CallDid src.old src.new (fault_of_result result) 16
         (λ file. (at : Place) → HasGnuCounts file at place.now result) }
     ensures same { IfOk result (λ table. table.place ≡ place.now) }
 {
@@ -65,10 +65,10 @@ fn has_no_gnu_shape(nbucket: u32, nbloom: u32, shift: u32, size: u64) -> bool
 /// counts tell of do not fit into the table. Else a fault of a read.
 pub(crate) fn sysv_counts<S: Source>(
     src: &mut Counted<S>,
-    place: &HashPlace,
+    place: &HashTableLocation,
 ) -> Result<SysvTable, Fault>
     requires lies { place.now.at + place.now.size ≤ src.old.seen.size }
-    ensures did { Did src.old src.new (why_stopped result) 8
+    ensures did { CallDid src.old src.new (fault_of_result result) 8
         (λ file. (at : Place) → HasSysvCounts file at place.now result) }
     ensures same { IfOk result (λ table. table.place ≡ place.now) }
 {

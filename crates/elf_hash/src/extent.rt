@@ -1,17 +1,17 @@
 //! How many symbols a hash table knows.
 ghost use Rattle.std.specs.Prelude.{◌≡◌, ℕ, ◌+◌, ◌-◌, ◌*◌, ◌<◌, ◌≤◌, List, length, IfOk};
-ghost use Rattle.elf_headers.specs.Ledger.{Did, IsRead, why_stopped};
+ghost use Rattle.elf_headers.specs.Ledger.{CallDid, IsRead, fault_of_result};
 ghost use Rattle.elf_hash.specs.Counts.{IsGnu, IsTablePlace};
-ghost use Rattle.elf_hash.specs.Extents.{SymbolsBegin, EndsChain, TellsExtent, last_in};
-ghost use Rattle.elf_hash.specs.Scopes.{IsTable, TableWithin, place_of_table};
+ghost use Rattle.elf_hash.specs.Extents.{SymbolsBegin, EndsChain, ReturnsExtent, last_in};
+ghost use Rattle.elf_hash.specs.Scopes.{IsTable, HashTableInBounds, place_of_table};
 ghost use Rattle.elf_model.specs.Bytes.{field, slice};
 ghost use Rattle.elf_model.specs.Chains.{HashTable as Place};
-ghost use Rattle.elf_model.specs.LoaderScope.{Scope};
-ghost use Rattle.elf_model.specs.Traits.{before_strings, gnu_symbols, highest_start, unfound};
+ghost use Rattle.elf_model.specs.LoaderScope.{LookupTables};
+ghost use Rattle.elf_model.specs.Traits.{before_strings, gnu_symbols, max_bucket, unfound};
 
 use crate::gnu_table::GnuTable;
-use crate::gnu_walk::ends_chain;
-use crate::place::HashPlace;
+use crate::gnu_walk::is_chain_end;
+use crate::place::HashTableLocation;
 use crate::reading::read_word;
 use crate::table::HashTable;
 use elf_headers::Fault;
@@ -36,10 +36,10 @@ pub fn symbol_extent<S: Source>(
     symbols: u64,
     strings: u64,
 ) -> Result<u64, Fault>
-    requires within { TableWithin src.old.seen.size table.now }
-    ensures did { Did src.old src.new (why_stopped result) (place_of_table table.now).size
-        (λ file. (scope : Scope) → IsTable file scope table.now →
-        SymbolsBegin scope symbols strings → TellsExtent file scope src.old src.new result) }
+    requires within { HashTableInBounds src.old.seen.size table.now }
+    ensures did { CallDid src.old src.new (fault_of_result result) (place_of_table table.now).size
+        (λ file. (scope : LookupTables) → IsTable file scope table.now →
+        SymbolsBegin scope symbols strings → ReturnsExtent file scope src.old src.new result) }
     ensures few { IfOk result (λ count. count ≤ (place_of_table table.now).symbols) }
 {
     match table {
@@ -54,7 +54,7 @@ pub fn symbol_extent<S: Source>(
 /// How many symbols have room before their strings; none where the hash table stands between, or there
 /// is no room for so many.
 #[tactic(auto, unfolding(elf_model::specs::Traits::before_strings))]
-fn before_strings(table: &HashPlace, symbols: u64, strings: u64) -> u64
+fn before_strings(table: &HashTableLocation, symbols: u64, strings: u64) -> u64
     ensures value { (at : Place) → IsTablePlace at table.now →
         result ≡ before_strings at symbols strings }
     ensures few { result ≤ table.now.symbols }
@@ -90,12 +90,12 @@ fn unfound(first: u32, before: u64, room: u64) -> u64
 fn gnu_extent<S: Source>(src: &mut Counted<S>, table: &GnuTable, before: u64) -> Result<u64, Fault>
     requires within { table.now.place.at + table.now.place.size ≤ src.old.seen.size }
     requires few { before ≤ table.now.place.symbols }
-    ensures did { Did src.old src.new (why_stopped result) table.now.place.size
+    ensures did { CallDid src.old src.new (fault_of_result result) table.now.place.size
         (λ file. (at : Place) → IsGnu file at table.now →
         EndsChain (4 * table.now.nbucket) (gnu_symbols file at before) src.old src.new result) }
     ensures few { IfOk result (λ count. count ≤ table.now.place.symbols) }
 {
-    let start = highest_start(src, table)?;
+    let start = max_bucket(src, table)?;
     if start < table.first {
         return Ok(unfound(table.first, before, table.place.symbols));
     }
@@ -106,11 +106,11 @@ fn gnu_extent<S: Source>(src: &mut Counted<S>, table: &GnuTable, before: u64) ->
 ///
 /// # Errors
 /// A fault of a read.
-fn highest_start<S: Source>(src: &mut Counted<S>, table: &GnuTable) -> Result<u32, Fault>
+fn max_bucket<S: Source>(src: &mut Counted<S>, table: &GnuTable) -> Result<u32, Fault>
     requires within { table.now.place.at + table.now.place.size ≤ src.old.seen.size }
-    ensures did { Did src.old src.new (why_stopped result) (4 * table.now.nbucket)
+    ensures did { CallDid src.old src.new (fault_of_result result) (4 * table.now.nbucket)
         (λ file. (at : Place) → IsGnu file at table.now →
-        IsRead result (highest_start file at.place table.now.nbucket)) }
+        IsRead result (max_bucket file at.place table.now.nbucket)) }
 {
     let mut cursor = Cursor::new(table.buckets());
     let mut highest = 0;
@@ -138,7 +138,7 @@ fn word_in(row: &Row<'_>) -> u32
 fn chain_end<S: Source>(src: &mut Counted<S>, table: &GnuTable, start: u64) -> Result<u64, Fault>
     requires within { table.now.place.at + table.now.place.size ≤ src.old.seen.size }
     requires first { table.now.first ≤ start }
-    ensures did { Did src.old src.new (why_stopped result)
+    ensures did { CallDid src.old src.new (fault_of_result result)
         (table.now.place.size - 4 * table.now.nbucket)
         (λ file. (at : Place) → IsGnu file at table.now →
         EndsChain 0 (last_in file at start) src.old src.new result) }
@@ -151,7 +151,7 @@ fn chain_end<S: Source>(src: &mut Counted<S>, table: &GnuTable, start: u64) -> R
         }
         let word = read_word(src, table.chain_at(index))?;
         index += 1;
-        if ends_chain(word) {
+        if is_chain_end(word) {
             return Ok(index);
         }
     }

@@ -1,25 +1,25 @@
 //! The call that looks a name up.
 ghost use Rattle.std.specs.Prelude.{◌≡◌, ℕ, ◌+◌, ◌*◌, ◌/◌, ◌≤◌, length, IfOk};
-ghost use Rattle.elf_headers.specs.Ledger.{Did, why_stopped};
-ghost use Rattle.elf_hash.specs.Lookups.{FindsBySysv, LooksBySysv, behind_headers_bytes, find_bytes, lookup_in, looked_behind, step_bytes, steps_of};
+ghost use Rattle.elf_headers.specs.Ledger.{CallDid, fault_of_result};
+ghost use Rattle.elf_hash.specs.Lookups.{FindsBySysv, LooksBySysv, after_headers_bytes, find_bytes, lookup_in, looked_after, step_bytes, steps_of};
 ghost use Rattle.elf_hash.specs.Counts.{IsSysv};
 ghost use Rattle.elf_hash.specs.Tables.{IsPlaceOf, IsHashSection, Lies};
 ghost use Rattle.elf_hash.specs.Walks.{IsShort};
 ghost use Rattle.elf_model.specs.Hash.{looked_up};
 ghost use Rattle.elf_model.specs.SysvWalk.{section_table_of};
-ghost use Rattle.elf_headers.specs.Load.{Belongs};
+ghost use Rattle.elf_headers.specs.Load.{HoldsSectionHeaders};
 
 use crate::checks::{checked, first_hash};
 use crate::counting::sysv_counts;
 use crate::hash_section::HashSection;
 use crate::hashing::sysv_hash;
-use crate::kind::HashKind;
+use crate::kind::HashStyle;
 use crate::lookup::Lookup;
-use crate::named::NamedSymbols;
-use crate::place::HashPlace;
+use crate::named::NameMatcher;
+use crate::place::HashTableLocation;
 use crate::sysv_table::SysvTable;
 use crate::sysv_walk::sysv_walk;
-use crate::walked::Walked;
+use crate::walked::ChainResult;
 use elf_headers::{Fault, HeaderStore, header, load, refused};
 use elf_record::Cause;
 use elf_source::{Counted, Source};
@@ -47,7 +47,7 @@ pub fn find<S: Source>(
     wanted: &[u8],
 ) -> Result<Lookup, Fault>
     requires most { length wanted.now ≤ 4096 }
-    ensures did { Did src.old src.new (why_stopped result)
+    ensures did { CallDid src.old src.new (fault_of_result result)
         (find_bytes src.old.seen.size store.old.slots (length wanted.now))
         (λ file. FindsBySysv file store.old.slots wanted.now src.old src.new result) }
     ensures slots { store.new.slots ≡ store.old.slots }
@@ -62,10 +62,10 @@ pub fn find<S: Source>(
 fn find_in<S: Source>(src: &mut Counted<S>, file: &File<'_>, wanted: &[u8]) -> Result<Lookup, Fault>
     requires most { length wanted.now ≤ 4096 }
     requires size { file.now.loaded.size ≡ src.old.seen.size }
-    ensures did { Did src.old src.new (why_stopped result)
-        (behind_headers_bytes (src.old.seen.size / 4) (length wanted.now))
-        (λ bytes. Belongs bytes file.now.loaded file.now.store.now →
-        LooksBySysv bytes (looked_behind bytes wanted.now) src.old src.new result 12
+    ensures did { CallDid src.old src.new (fault_of_result result)
+        (after_headers_bytes (src.old.seen.size / 4) (length wanted.now))
+        (λ bytes. HoldsSectionHeaders bytes file.now.loaded file.now.store.now →
+        LooksBySysv bytes (looked_after bytes wanted.now) src.old src.new result 12
         (length wanted.now)) }
     ensures steps { IfOk result (λ lookup. steps_of lookup ≤ src.old.seen.size / 4) }
 {
@@ -78,11 +78,11 @@ fn find_in<S: Source>(src: &mut Counted<S>, file: &File<'_>, wanted: &[u8]) -> R
 }
 
 /// The place of the table in a section.
-fn place_of(section: &HashSection) -> HashPlace
+fn place_of(section: &HashSection) -> HashTableLocation
     ensures { IsPlaceOf section.now result }
 {
-    HashPlace {
-        kind: HashKind::Sysv,
+    HashTableLocation {
+        kind: HashStyle::Sysv,
         head: section.place,
         at: section.at,
         size: section.size,
@@ -103,7 +103,7 @@ fn look_up<S: Source>(
     requires most { length wanted.now ≤ 4096 }
     requires lies { Lies src.old.seen.size section.now }
     requires place { IsPlaceOf section.now table.now.place }
-    ensures did { Did src.old src.new (why_stopped result)
+    ensures did { CallDid src.old src.new (fault_of_result result)
         (4 + table.now.nchain * step_bytes (length wanted.now))
         (λ file. (at : ℕ) → IsHashSection file at section.now →
         IsSysv file (section_table_of file at) table.now →
@@ -111,7 +111,7 @@ fn look_up<S: Source>(
         (length wanted.now)) }
     ensures steps { IfOk result (λ lookup. steps_of lookup ≤ table.now.nchain) }
 {
-    let trial = NamedSymbols {
+    let trial = NameMatcher {
         symbols: section.symbols,
         names: section.names,
         wanted,
@@ -121,7 +121,7 @@ fn look_up<S: Source>(
 }
 
 /// What is answered by a walk in a table of so many chains.
-fn answer_of(link: u16, walked: &Walked, chains: u32) -> Lookup
+fn answer_of(link: u16, walked: &ChainResult, chains: u32) -> Lookup
     requires short { IsShort chains walked.now }
     ensures { result ≡ lookup_in link walked.now }
 {

@@ -1,7 +1,7 @@
 //! A hash table of the GNU system.
 ghost use Rattle.std.specs.Prelude.{◌≡◌, ◌+◌, ◌-◌, ◌*◌, ◌/◌, ◌%◌, ◌<◌, ◌≤◌, ◌&&◌, nat_lt, not, IsTrue};
 
-use crate::place::HashPlace;
+use crate::place::HashTableLocation;
 use elf_table::Table;
 
 /// A hash table of the GNU system whose filter and buckets lie within its bytes: four counts of four
@@ -10,7 +10,7 @@ use elf_table::Table;
 /// read once, and no other word.
 #[derive(Clone, Copy)]
 pub struct GnuTable {
-    pub(crate) place: HashPlace,
+    pub(crate) place: HashTableLocation,
     pub(crate) nbucket: u32,
     pub(crate) first: u32,
     pub(crate) nbloom: u32,

@@ -1,19 +1,19 @@
 //! The walk along a chain of a hash table of the GNU system.
 ghost use Rattle.std.specs.Prelude.{◌≡◌, ℕ, ◌+◌, ◌-◌, ◌*◌, ◌/◌, ◌%◌, ◌^◌, ◌<◌, ◌≤◌, ◌&&◌, Bool, List, Result};
-ghost use Rattle.elf_headers.specs.Ledger.{Did, why_stopped};
+ghost use Rattle.elf_headers.specs.Ledger.{CallDid, fault_of_result};
 ghost use Rattle.elf_hash.specs.Counts.{IsGnu};
-ghost use Rattle.elf_hash.specs.Trials.{TriesWhere};
-ghost use Rattle.elf_hash.specs.Walks.{HoldsHash, Starts, Walks, walk_bytes};
+ghost use Rattle.elf_hash.specs.Trials.{TriesDefinedSymbol};
+ghost use Rattle.elf_hash.specs.Walks.{HoldsHash, Starts, WalksChain, walk_bytes};
 ghost use Rattle.elf_model.specs.Chains.{HashTable as Place};
 ghost use Rattle.elf_model.specs.Cost.{cost_where};
-ghost use Rattle.elf_model.specs.GnuHash.{ends_chain, gnu_looked_up, is_of_hash, is_set};
+ghost use Rattle.elf_model.specs.GnuHash.{is_chain_end, gnu_looked_up, hash_bits_match, is_set};
 ghost use Rattle.elf_model.specs.declared.causes.Refusal.{Refusal};
 
-use crate::answer::TrialAnswer;
+use crate::answer::SymbolMatch;
 use crate::gnu_table::GnuTable;
 use crate::reading::{read_filter, read_word};
-use crate::trial::Trial;
-use crate::walked::{FoundInChain, Walked};
+use crate::trial::Matcher;
+use crate::walked::{ChainMatch, ChainResult};
 use elf_headers::{Fault, refused};
 use elf_record::Cause;
 use elf_source::{Counted, Source};
@@ -25,23 +25,23 @@ use elf_source::{Counted, Source};
 /// `HashIndex` at the word that leads to a symbol index which is below the first, not below the
 /// number of symbols, or has no chain word in the table. The trial's own where a symbol cannot be
 /// tried. Else a fault of a read.
-pub(crate) fn gnu_walk<S: Source, T: Trial>(
+pub(crate) fn gnu_walk<S: Source, T: Matcher>(
     src: &mut Counted<S>,
     table: &GnuTable,
     hash: u32,
     trial: &T,
-) -> Result<Walked, Fault>
+) -> Result<ChainResult, Fault>
     requires within { table.now.place.at + table.now.place.size ≤ src.old.seen.size }
     requires known { table.now.place.symbols ≤ T.symbols trial.now }
     requires lies { T.lies trial.now src.old.seen.size }
-    ensures did { Did src.old src.new (why_stopped result)
+    ensures did { CallDid src.old src.new (fault_of_result result)
         (walk_bytes 12 (table.now.place.size / 4) (table.now.place.size / 4) (T.cost trial.now))
         (λ file. (at : Place) (says : ℕ → Result Bool Refusal) → IsGnu file at table.now →
-        T.is_of trial.now file says → Walks (T.stands trial.now file) 12 (T.cost trial.now)
+        T.is_of trial.now file says → WalksChain (T.stands trial.now file) 12 (T.cost trial.now)
         (gnu_looked_up file at hash says) src.old src.new result) }
 {
     match start(src, table, hash)? {
-        None => Ok(Walked {
+        None => Ok(ChainResult {
             found: None,
             tried: 0,
             read: 0,
@@ -61,11 +61,11 @@ pub(crate) fn start<S: Source>(
     hash: u32,
 ) -> Result<Option<u32>, Fault>
     requires within { table.now.place.at + table.now.place.size ≤ src.old.seen.size }
-    ensures did { Did src.old src.new (why_stopped result) 12
+    ensures did { CallDid src.old src.new (fault_of_result result) 12
         (λ file. (at : Place) → IsGnu file at table.now → Starts file at.place hash result) }
 {
     let word = read_filter(src, table.filter_at(hash))?;
-    if !may_hold(table, word, hash) {
+    if !filter_may_contain(table, word, hash) {
         return Ok(None);
     }
     let start = read_word(src, table.bucket_at(hash))?;
@@ -73,7 +73,7 @@ pub(crate) fn start<S: Source>(
 }
 
 /// Whether the filter's word for a hash has both bits of the hash.
-fn may_hold(table: &GnuTable, word: u64, hash: u32) -> bool
+fn filter_may_contain(table: &GnuTable, word: u64, hash: u32) -> bool
     ensures { result ≡ (is_set word (hash % 64) && is_set word (hash / 2 ^ table.now.shift % 64)) }
 {
     is_set(word, hash % 64) && is_set(word, (hash >> table.shift) % 64)
@@ -91,21 +91,21 @@ fn is_set(word: u64, bit: u32) -> bool
 ///
 /// # Errors
 /// Those of [`gnu_walk`].
-fn along_chain<S: Source, T: Trial>(
+fn along_chain<S: Source, T: Matcher>(
     src: &mut Counted<S>,
     table: &GnuTable,
     hash: u32,
     start: u32,
     trial: &T,
-) -> Result<Walked, Fault>
+) -> Result<ChainResult, Fault>
     requires within { table.now.place.at + table.now.place.size ≤ src.old.seen.size }
     requires known { table.now.place.symbols ≤ T.symbols trial.now }
     requires lies { T.lies trial.now src.old.seen.size }
-    ensures did { Did src.old src.new (why_stopped result)
+    ensures did { CallDid src.old src.new (fault_of_result result)
         (walk_bytes 0 (table.now.place.size / 4) (table.now.place.size / 4) (T.cost trial.now))
         (λ file. (at : Place) (says : ℕ → Result Bool Refusal) → IsGnu file at table.now →
         T.is_of trial.now file says → HoldsHash file at.place hash start →
-        Walks (T.stands trial.now file) 0 (T.cost trial.now)
+        WalksChain (T.stands trial.now file) 0 (T.cost trial.now)
         (gnu_looked_up file at hash says) src.old src.new result) }
 {
     let mut at = table.bucket_at(hash);
@@ -115,16 +115,16 @@ fn along_chain<S: Source, T: Trial>(
     while table.has(index) {
         at = table.chain_at(index);
         let word = read_word(src, at)?;
-        let is_wanted = is_of_hash(word, hash);
+        let is_wanted = hash_bits_match(word, hash);
         read += 1;
         tried += one_where(is_wanted);
         if let Some(answer) = tried_where(src, trial, index, is_wanted)? {
-            let found = Some(FoundInChain { index, answer });
-            return Ok(Walked { found, tried, read });
+            let found = Some(ChainMatch { index, answer });
+            return Ok(ChainResult { found, tried, read });
         }
-        if ends_chain(word) {
+        if is_chain_end(word) {
             let found = None;
-            return Ok(Walked { found, tried, read });
+            return Ok(ChainResult { found, tried, read });
         }
         index += 1;
     }
@@ -132,15 +132,15 @@ fn along_chain<S: Source, T: Trial>(
 }
 
 /// Whether a chain word is of a hash: it has the hash's bits but for the lowest.
-fn is_of_hash(word: u32, hash: u32) -> bool
-    ensures { result ≡ is_of_hash word hash }
+fn hash_bits_match(word: u32, hash: u32) -> bool
+    ensures { result ≡ hash_bits_match word hash }
 {
     word / 2 == hash / 2
 }
 
 /// Whether a chain word says that its symbol is the last of the chain.
-pub(crate) fn ends_chain(word: u32) -> bool
-    ensures { result ≡ ends_chain word }
+pub(crate) fn is_chain_end(word: u32) -> bool
+    ensures { result ≡ is_chain_end word }
 {
     word % 2 == 1
 }
@@ -155,18 +155,18 @@ fn one_where(is_so: bool) -> u64
 /// The symbol of an index, where it is to be tried and answers.
 ///
 /// # Errors
-/// Those of [`Trial::tried`].
-fn tried_where<S: Source, T: Trial>(
+/// Those of [`Matcher::tried`].
+fn tried_where<S: Source, T: Matcher>(
     src: &mut Counted<S>,
     trial: &T,
     index: u64,
     is_wanted: bool,
-) -> Result<Option<TrialAnswer>, Fault>
+) -> Result<Option<SymbolMatch>, Fault>
     requires below { index < T.symbols trial.now }
     requires lies { T.lies trial.now src.old.seen.size }
-    ensures { Did src.old src.new (why_stopped result) (cost_where is_wanted (T.cost trial.now))
+    ensures { CallDid src.old src.new (fault_of_result result) (cost_where is_wanted (T.cost trial.now))
         (λ file. (says : ℕ → Result Bool Refusal) → T.is_of trial.now file says →
-        TriesWhere is_wanted (T.stands trial.now file) says index result) }
+        TriesDefinedSymbol is_wanted (T.stands trial.now file) says index result) }
 {
     if is_wanted {
         trial.tried(src, index)

@@ -4,10 +4,10 @@ ghost use Rattle.elf_hash.specs.Lookups.{symbol_bytes};
 ghost use Rattle.elf_hash.specs.Trials.{SaysHasName};
 ghost use Rattle.elf_record.specs.Sym.{IsSym};
 ghost use Rattle.elf_table.specs.Cursors.{row_at};
-ghost use Rattle.elf_table.specs.Tables.{SymbolsWithin};
+ghost use Rattle.elf_table.specs.Tables.{SymbolTableInBounds};
 
-use crate::answer::TrialAnswer;
-use crate::trial::Trial;
+use crate::answer::SymbolMatch;
+use crate::trial::Matcher;
 use elf_headers::Fault;
 use elf_source::{Counted, Source};
 use elf_table::{Names, Table};
@@ -15,7 +15,7 @@ use elf_table::{Names, Table};
 /// The symbols of a table that have a name, whatever their versions and places: one read of a symbol,
 /// and its name is compared.
 #[derive(Clone, Copy)]
-pub(crate) struct NamedSymbols<'a> {
+pub(crate) struct NameMatcher<'a> {
     /// The symbols, rows of 24 bytes.
     pub symbols: Table,
     /// The names of the symbols.
@@ -24,7 +24,7 @@ pub(crate) struct NamedSymbols<'a> {
     pub wanted: &'a [u8],
 }
 
-impl<'a> Trial for NamedSymbols<'a> {
+impl<'a> Matcher for NameMatcher<'a> {
     ghost symbols = { λ t. t.symbols.count };
 
     ghost cost = { λ t. symbol_bytes (length t.wanted.now) };
@@ -32,7 +32,7 @@ impl<'a> Trial for NamedSymbols<'a> {
     ghost stands = { λ t file index answer. IsSym file (row_at t.symbols index) answer.symbol };
 
     ghost lies = { λ t size.
-        SymbolsWithin size (t.symbols, t.names) × (length t.wanted.now ≤ 4096) };
+        SymbolTableInBounds size (t.symbols, t.names) × (length t.wanted.now ≤ 4096) };
 
     ghost is_of = { λ t file says. SaysHasName file t.symbols t.names t.wanted.now says };
 
@@ -40,14 +40,14 @@ impl<'a> Trial for NamedSymbols<'a> {
         &self,
         src: &mut Counted<S>,
         index: u64,
-    ) -> Result<Option<TrialAnswer>, Fault> {
+    ) -> Result<Option<SymbolMatch>, Fault> {
         let symbol = self.symbols.symbol(src, index)?;
         let place = self.symbols.place(index);
         let off = u64::from(symbol.st_name);
         let is_wanted = self.names.equals(src, off, place, self.wanted)?;
         let version = None;
         Ok(if is_wanted {
-            Some(TrialAnswer { symbol, version })
+            Some(SymbolMatch { symbol, version })
         } else {
             None
         })

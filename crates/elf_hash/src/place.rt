@@ -1,16 +1,16 @@
 //! The place of a hash table.
 ghost use Rattle.std.specs.Prelude.{◌+◌, ◌^◌, ◌<◌, ◌≤◌};
-ghost use Rattle.elf_hash.specs.Kinds.{hash_kind_of};
+ghost use Rattle.elf_hash.specs.Kinds.{hash_style_of};
 ghost use Rattle.elf_model.specs.LoaderScope.{least_size};
 
-use crate::kind::HashKind;
+use crate::kind::HashStyle;
 
 /// Where a hash table stands in a file, of which kind it is, and how many symbols it is of. It holds
 /// no bytes, and its words have had no check.
 #[derive(Clone, Copy)]
-pub struct HashPlace {
+pub struct HashTableLocation {
     /// The kind.
-    pub kind: HashKind,
+    pub kind: HashStyle,
     /// The file offset of the header or entry that locates the table, which a refusal of the whole
     /// table names.
     pub head: u64,
@@ -20,6 +20,6 @@ pub struct HashPlace {
     pub size: u64,
     /// The number of symbols in the symbol table.
     pub symbols: u64,
-    pub ghost room: { least_size (hash_kind_of kind) ≤ size },
+    pub ghost room: { least_size (hash_style_of kind) ≤ size },
     pub ghost ends: { at + size < 2 ^ 64 },
 }

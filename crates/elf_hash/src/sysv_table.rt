@@ -1,14 +1,14 @@
 //! A hash table of the gABI.
 ghost use Rattle.std.specs.Prelude.{◌≡◌, ◌+◌, ◌*◌, ◌%◌, ◌<◌, ◌≤◌};
 
-use crate::place::HashPlace;
+use crate::place::HashTableLocation;
 
 /// A hash table of the gABI (5, Hash Table) whose words lie within its bytes: two counts, a word for
 /// each bucket, a word for each chain, four bytes each. It holds the counts, as they were read once,
 /// and no other word.
 #[derive(Clone, Copy)]
 pub struct SysvTable {
-    pub(crate) place: HashPlace,
+    pub(crate) place: HashTableLocation,
     pub(crate) nbucket: u32,
     pub(crate) nchain: u32,
     pub(crate) ghost some: { 0 < nbucket },

@@ -1,17 +1,17 @@
 //! The walk along a chain of a hash table of the gABI.
 ghost use Rattle.std.specs.Prelude.{◌≡◌, ℕ, ◌+◌, ◌<◌, ◌≤◌, Bool, List, Result, IfOk, IsTrue};
-ghost use Rattle.elf_headers.specs.Ledger.{Did, why_stopped};
+ghost use Rattle.elf_headers.specs.Ledger.{CallDid, fault_of_result};
 ghost use Rattle.elf_hash.specs.Counts.{IsSysv};
-ghost use Rattle.elf_hash.specs.Walks.{IsShort, Walks, walk_bytes};
+ghost use Rattle.elf_hash.specs.Walks.{IsShort, WalksChain, walk_bytes};
 ghost use Rattle.elf_model.specs.Chains.{HashTable as Place};
 ghost use Rattle.elf_model.specs.SysvWalk.{is_sysv_index, sysv_walked};
 ghost use Rattle.elf_model.specs.declared.causes.Refusal.{Refusal};
 
-use crate::answer::TrialAnswer;
+use crate::answer::SymbolMatch;
 use crate::reading::read_word;
 use crate::sysv_table::SysvTable;
-use crate::trial::Trial;
-use crate::walked::{FoundInChain, Walked};
+use crate::trial::Matcher;
+use crate::walked::{ChainMatch, ChainResult};
 use elf_headers::{Fault, refused};
 use elf_record::Cause;
 use elf_source::{Counted, Source};
@@ -22,19 +22,19 @@ use elf_source::{Counted, Source};
 /// `HashIndex` at a word that is not below the number of chains and of symbols. `HashCycle` at the
 /// word of the bucket where as many steps as there are chains gave no answer: the chain goes round.
 /// The trial's own where a symbol cannot be tried. Else a fault of a read.
-pub(crate) fn sysv_walk<S: Source, T: Trial>(
+pub(crate) fn sysv_walk<S: Source, T: Matcher>(
     src: &mut Counted<S>,
     table: &SysvTable,
     hash: u32,
     trial: &T,
-) -> Result<Walked, Fault>
+) -> Result<ChainResult, Fault>
     requires within { table.now.place.at + table.now.place.size ≤ src.old.seen.size }
     requires known { table.now.place.symbols ≤ T.symbols trial.now }
     requires lies { T.lies trial.now src.old.seen.size }
-    ensures did { Did src.old src.new (why_stopped result)
+    ensures did { CallDid src.old src.new (fault_of_result result)
         (walk_bytes 4 table.now.nchain table.now.nchain (T.cost trial.now))
         (λ file. (at : Place) (says : ℕ → Result Bool Refusal) → IsSysv file at table.now →
-        T.is_of trial.now file says → Walks (T.stands trial.now file) 4 (T.cost trial.now)
+        T.is_of trial.now file says → WalksChain (T.stands trial.now file) 4 (T.cost trial.now)
         (sysv_walked file at hash says) src.old src.new result) }
     ensures short { IfOk result (IsShort table.now.nchain) }
 {
@@ -70,20 +70,20 @@ fn is_index(table: &SysvTable, word: u32) -> bool
 }
 
 /// A symbol of an index that answers.
-fn found_at(index: u32, answer: TrialAnswer) -> FoundInChain
+fn found_at(index: u32, answer: SymbolMatch) -> ChainMatch
     ensures { result ≡ record { index = index; answer = answer } }
 {
-    FoundInChain {
+    ChainMatch {
         index: u64::from(index),
         answer,
     }
 }
 
 /// What is answered after so many steps, each of which tries a symbol and counts for a chain word.
-fn stepped(found: Option<FoundInChain>, steps: u64) -> Walked
+fn stepped(found: Option<ChainMatch>, steps: u64) -> ChainResult
     ensures { result ≡ record { found = found; tried = steps; read = steps } }
 {
-    Walked {
+    ChainResult {
         found,
         tried: steps,
         read: steps,

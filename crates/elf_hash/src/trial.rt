@@ -1,16 +1,16 @@
 //! The trial of a symbol.
 ghost use Rattle.std.specs.Prelude.{ℕ, ◌<◌, Bool, List, Result};
 ghost use Rattle.elf_model.specs.declared.causes.Refusal.{Refusal};
-ghost use Rattle.elf_headers.specs.Ledger.{Did, why_stopped};
-ghost use Rattle.elf_hash.specs.Trials.{Tries};
-ghost use Rattle.elf_hash.specs.declared.answer.TrialAnswer.{TrialAnswer};
+ghost use Rattle.elf_headers.specs.Ledger.{CallDid, fault_of_result};
+ghost use Rattle.elf_hash.specs.Trials.{TriesSymbol};
+ghost use Rattle.elf_hash.specs.declared.answer.SymbolMatch.{SymbolMatch};
 
-use crate::answer::TrialAnswer;
+use crate::answer::SymbolMatch;
 use elf_headers::Fault;
 use elf_source::{Counted, Source};
 
 /// Tells of symbols whether they answer, as a walk along a chain asks of one after another.
-pub trait Trial {
+pub trait Matcher {
     /// How many symbols it knows: those of an index below may be tried.
     ghost symbols: { Self → ℕ };
 
@@ -18,7 +18,7 @@ pub trait Trial {
     ghost cost: { Self → ℕ };
 
     /// In a file this is what it answers of the symbol of an index.
-    ghost stands: { Self → List ℕ → ℕ → TrialAnswer → Type 0 };
+    ghost stands: { Self → List ℕ → ℕ → SymbolMatch → Type 0 };
 
     /// All that it reads lies within a source of so many bytes.
     ghost lies: { Self → ℕ → Type 0 };
@@ -35,10 +35,10 @@ pub trait Trial {
         &self,
         src: &mut Counted<S>,
         index: u64,
-    ) -> Result<Option<TrialAnswer>, Fault>
+    ) -> Result<Option<SymbolMatch>, Fault>
         requires below { index < symbols self.now }
         requires lies { lies self.now src.old.seen.size }
-        ensures did { Did src.old src.new (why_stopped result) (cost self.now)
+        ensures did { CallDid src.old src.new (fault_of_result result) (cost self.now)
             (λ file. (says : ℕ → Result Bool Refusal) → is_of self.now file says →
-            Tries (stands self.now file) says index result) };
+            TriesSymbol (stands self.now file) says index result) };
 }

@@ -1,20 +1,20 @@
 //! The counts of a hash table of either kind, and the walk in it.
 ghost use Rattle.std.specs.Prelude.{◌≡◌, ℕ, ◌+◌, ◌/◌, ◌≤◌, Bool, List, Result, IfOk};
-ghost use Rattle.elf_headers.specs.Ledger.{Did, why_stopped};
-ghost use Rattle.elf_hash.specs.Scopes.{HasCounts, IsPlaceIn, IsTable, TableWithin, TellsExcluded, counts_bytes, place_of_table, walked_in};
-ghost use Rattle.elf_hash.specs.Walks.{Walks, walk_bytes};
-ghost use Rattle.elf_model.specs.LoaderScope.{Scope};
+ghost use Rattle.elf_headers.specs.Ledger.{CallDid, fault_of_result};
+ghost use Rattle.elf_hash.specs.Scopes.{HasCounts, IsPlaceIn, IsTable, HashTableInBounds, ReturnsExcluded, counts_bytes, place_of_table, walked_in};
+ghost use Rattle.elf_hash.specs.Walks.{WalksChain, walk_bytes};
+ghost use Rattle.elf_model.specs.LoaderScope.{LookupTables};
 ghost use Rattle.elf_model.specs.declared.causes.Refusal.{Refusal};
 
 use crate::counting::{gnu_counts, sysv_counts};
 use crate::gnu_walk::{gnu_walk, start};
 use crate::hashing::{gnu_hash, sysv_hash};
-use crate::kind::HashKind;
-use crate::place::HashPlace;
+use crate::kind::HashStyle;
+use crate::place::HashTableLocation;
 use crate::sysv_walk::sysv_walk;
 use crate::table::HashTable;
-use crate::trial::Trial;
-use crate::walked::Walked;
+use crate::trial::Matcher;
+use crate::walked::ChainResult;
 use elf_headers::Fault;
 use elf_source::{Counted, Source};
 
@@ -26,15 +26,18 @@ use elf_source::{Counted, Source};
 /// chains, or in a table of the gABI all words that the counts tell of, do not fit into its size; in
 /// a table of the GNU system also where its filter's words are not as many as a power of two tells,
 /// or where its shift leaves no bits of a hash. Else a fault of a read.
-pub fn counts<S: Source>(src: &mut Counted<S>, place: &HashPlace) -> Result<HashTable, Fault>
+pub fn counts<S: Source>(
+    src: &mut Counted<S>,
+    place: &HashTableLocation,
+) -> Result<HashTable, Fault>
     requires { place.now.at + place.now.size ≤ src.old.seen.size }
-    ensures did { Did src.old src.new (why_stopped result) (counts_bytes place.now.kind)
-        (λ file. (scope : Scope) → IsPlaceIn scope place.now → HasCounts file scope result) }
+    ensures did { CallDid src.old src.new (fault_of_result result) (counts_bytes place.now.kind)
+        (λ file. (scope : LookupTables) → IsPlaceIn scope place.now → HasCounts file scope result) }
     ensures same { IfOk result (λ table. place_of_table table ≡ place.now) }
 {
     match place.kind {
-        HashKind::Gnu => Ok(HashTable::Gnu(gnu_counts(src, place)?)),
-        HashKind::Sysv => Ok(HashTable::Sysv(sysv_counts(src, place)?)),
+        HashStyle::Gnu => Ok(HashTable::Gnu(gnu_counts(src, place)?)),
+        HashStyle::Sysv => Ok(HashTable::Sysv(sysv_counts(src, place)?)),
     }
 }
 
@@ -51,20 +54,20 @@ pub fn counts<S: Source>(src: &mut Counted<S>, place: &HashPlace) -> Result<Hash
 /// `HashIndex` at the word that leads to an index which no symbol and no chain word has. In a table
 /// of the gABI `HashCycle` at the bucket's word, where as many steps as there are chains gave no
 /// answer. The trial's own where a symbol cannot be tried. Else a fault of a read.
-pub fn walk<S: Source, T: Trial>(
+pub fn walk<S: Source, T: Matcher>(
     src: &mut Counted<S>,
     table: &HashTable,
     name: &[u8],
     trial: &T,
-) -> Result<Walked, Fault>
-    requires within { TableWithin src.old.seen.size table.now }
+) -> Result<ChainResult, Fault>
+    requires within { HashTableInBounds src.old.seen.size table.now }
     requires known { (place_of_table table.now).symbols ≤ T.symbols trial.now }
     requires lies { T.lies trial.now src.old.seen.size }
-    ensures { Did src.old src.new (why_stopped result) (walk_bytes 12
+    ensures { CallDid src.old src.new (fault_of_result result) (walk_bytes 12
         ((place_of_table table.now).size / 4) ((place_of_table table.now).size / 4)
         (T.cost trial.now))
-        (λ file. (scope : Scope) (says : ℕ → Result Bool Refusal) → IsTable file scope table.now →
-        T.is_of trial.now file says → Walks (T.stands trial.now file) 12 (T.cost trial.now)
+        (λ file. (scope : LookupTables) (says : ℕ → Result Bool Refusal) → IsTable file scope table.now →
+        T.is_of trial.now file says → WalksChain (T.stands trial.now file) 12 (T.cost trial.now)
         (walked_in file scope name.now says) src.old src.new result) }
 {
     match table {
@@ -84,10 +87,10 @@ pub fn excludes<S: Source>(
     table: &HashTable,
     name: &[u8],
 ) -> Result<bool, Fault>
-    requires { TableWithin src.old.seen.size table.now }
-    ensures { Did src.old src.new (why_stopped result) 12
-        (λ file. (scope : Scope) → IsTable file scope table.now →
-        TellsExcluded file scope name.now result) }
+    requires { HashTableInBounds src.old.seen.size table.now }
+    ensures { CallDid src.old src.new (fault_of_result result) 12
+        (λ file. (scope : LookupTables) → IsTable file scope table.now →
+        ReturnsExcluded file scope name.now result) }
 {
     match table {
         HashTable::Gnu(table) => match start(src, table, gnu_hash(name))? {

@@ -1,7 +1,7 @@
 -- The caps of a listing.
 use Rattle.std.specs.Prelude.{ℕ, ◌≡◌, ◌≤◌, false, Option, None, Some}
 use Rattle.elf_model.specs.Style.{Style as Styled, standard}
-use Rattle.elf_headers.specs.declared.caps.Cap.{Cap}
+use Rattle.elf_headers.specs.declared.caps.NameLimit.{NameLimit}
 use Rattle.elf_headers.specs.declared.caps.Caps.{Caps}
 use Rattle.elf_headers.specs.declared.caps.Limits.{Limits}
 use Rattle.elf_headers.specs.declared.caps.Style.{Style}
@@ -20,7 +20,7 @@ abbrev pub AreNameBytes : ℕ → Type 0
 AreNameBytes bytes = (1 ≤ bytes) × (bytes ≤ 4096)
 
 -- a cap of so many bytes is given where they may be shown, and not else
-abbrev pub PermitsName : ℕ → Option Cap → Type 0
+abbrev pub PermitsName : ℕ → Option NameLimit → Type 0
 PermitsName bytes None = AreNameBytes bytes → ⊥
 PermitsName bytes (Some cap) = cap.bytes ≡ bytes
 

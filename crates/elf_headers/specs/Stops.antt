@@ -1,10 +1,10 @@
 -- Why a call that reads and writes stops.
 use Rattle.elf_headers.specs.declared.fault.Fault.{Fault}
 use Rattle.elf_headers.specs.declared.fault.Fault.TheVariants.{Refused as Refuses, Source as Unread}
-use Rattle.elf_headers.specs.declared.stop.Stop.{Stop}
-use Rattle.elf_headers.specs.declared.stop.Stop.TheVariants.{Refused, Source}
+use Rattle.elf_headers.specs.declared.stop.RunFault.{RunFault}
+use Rattle.elf_headers.specs.declared.stop.RunFault.TheVariants.{Refused, Source}
 
 -- what a fault of a read is to a call that writes too
-abbrev pub stop_of : Fault → Stop
+abbrev pub stop_of : Fault → RunFault
 stop_of (Refuses refusal) = Refused refusal
 stop_of (Unread fault at) = Source fault at

@@ -5,7 +5,7 @@ use Rattle.elf_model.specs.Records.{section_at, segment_at}
 
 -- how many slots a store has, how many section headers are loaded, and the bytes of each of those; the same of the program
 -- headers
-pub record Stored : Type 0 where
+pub record StoreState : Type 0 where
   pub slots : ℕ
   pub loaded : ℕ
   pub rows : List (List ℕ)
@@ -13,19 +13,19 @@ pub record Stored : Type 0 where
   pub segment_rows : List (List ℕ)
 
 -- a store with so many slots and no header
-abbrev pub empty : ℕ → Stored
+abbrev pub empty : ℕ → StoreState
 empty slots = record { slots = slots; loaded = 0; rows = []; segments = 0; segment_rows = [] }
 
 -- a store with as many slots and no header
-abbrev pub emptied : Stored → Stored
+abbrev pub emptied : StoreState → StoreState
 emptied store = empty store.slots
 
 -- the bytes of the section header of an index
-abbrev pub row : Stored → ℕ → List ℕ
+abbrev pub row : StoreState → ℕ → List ℕ
 row store i = slice_index_or store.rows i []
 
 -- the bytes of the program header of an index
-abbrev pub segment_bytes : Stored → ℕ → List ℕ
+abbrev pub segment_bytes : StoreState → ℕ → List ℕ
 segment_bytes store i = slice_index_or store.segment_rows i []
 
 -- the rows of one size from an offset on, so many of them
@@ -39,9 +39,9 @@ AreRowSlices file from entry count rows =
     (i : ℕ) → i < count → slice_index_or rows i [] ≡ slice file (from + entry * i) entry
 
 -- the loaded rows are the file's section headers
-abbrev pub HoldsSections : List ℕ → Stored → Type 0
+abbrev pub HoldsSections : List ℕ → StoreState → Type 0
 HoldsSections file store = (i : ℕ) → i < store.loaded → row store i ≡ slice file (section_at file i) 64
 
 -- the loaded rows are the file's program headers
-abbrev pub HoldsSegments : List ℕ → Stored → Type 0
+abbrev pub HoldsSegments : List ℕ → StoreState → Type 0
 HoldsSegments file store = (i : ℕ) → i < store.segments → segment_bytes store i ≡ slice file (segment_at file i) 56

@@ -2,7 +2,7 @@
 ghost use Rattle.std.specs.Prelude.{◌≤◌};
 
 use elf_model::Format;
-use elf_wanted::RowChoice;
+use elf_wanted::RowFilter;
 
 /// The most headers that may be permitted.
 const MOST_HEADERS: u16 = 65_279;
@@ -11,24 +11,24 @@ const MOST_NAME: u16 = 4_096;
 
 /// How many bytes of a name are shown, 1 to 4,096.
 #[derive(Clone, Copy)]
-pub struct Cap {
+pub struct NameLimit {
     /// The number of bytes.
     pub bytes: u16,
     pub ghost some: { 1 ≤ bytes },
     pub ghost most: { bytes ≤ 4096 },
 }
 
-impl Cap {
+impl NameLimit {
     ghost use Rattle.elf_headers.specs.Permitted.{PermitsName};
 
     /// The cap of 1 to 4,096 bytes of a name; None for other numbers.
-    pub fn new(bytes: u16) -> Option<Cap>
+    pub fn new(bytes: u16) -> Option<NameLimit>
         ensures { PermitsName bytes result }
     {
         if bytes == 0 || bytes > MOST_NAME {
             return None;
         }
-        Some(Cap { bytes })
+        Some(NameLimit { bytes })
     }
 }
 
@@ -39,7 +39,7 @@ impl Cap {
 #[derive(Clone, Copy)]
 pub struct Style<'n> {
     /// How many bytes of a name are shown.
-    pub cap: Cap,
+    pub cap: NameLimit,
     /// Whether numbers of the GNU system have names.
     pub gnu: bool,
     /// Whether tables are found by the program headers also where there are section headers.
@@ -47,7 +47,7 @@ pub struct Style<'n> {
     /// How a line is written.
     pub format: Format,
     /// Which rows that end in the name of a symbol or of a version are shown.
-    pub choice: RowChoice<'n>,
+    pub choice: RowFilter<'n>,
     /// Whether the version of a symbol stands behind its name.
     pub versions: bool,
 }
@@ -59,7 +59,7 @@ impl Style<'_> {
 
     /// So many bytes of a name, the names of the standards alone, tables found by the section headers
     /// where there are some, lines in columns, every row, and no versions behind names.
-    pub fn standard(cap: Cap) -> Style<'static>
+    pub fn standard(cap: NameLimit) -> Style<'static>
         ensures same { result.cap ≡ cap }
         ensures style { style_of result ≡ standard cap.bytes }
     {
@@ -68,7 +68,7 @@ impl Style<'_> {
             gnu: false,
             by_segments: false,
             format: Format::Columns,
-            choice: RowChoice::every_row(),
+            choice: RowFilter::every_row(),
             versions: false,
         }
     }
@@ -120,7 +120,7 @@ impl<'n> Caps<'n> {
         ensures { Permits headers name result }
     {
         let limits = Limits::new(headers, None)?;
-        let style = Style::standard(Cap::new(name)?);
+        let style = Style::standard(NameLimit::new(name)?);
         Some(Caps { limits, style })
     }
 

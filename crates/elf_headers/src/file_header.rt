@@ -2,8 +2,8 @@
 ghost use Rattle.std.specs.Prelude.{◌≡◌, ℕ, List, Some, Err, IfErr};
 ghost use Rattle.elf_model.specs.Checks.{first_refusal, length_checks};
 ghost use Rattle.elf_model.specs.declared.causes.Refusal.{Refusal as Refuses};
-ghost use Rattle.elf_source.specs.Source.{Reads};
-ghost use Rattle.elf_headers.specs.Faults.{Says, HeaderRead};
+ghost use Rattle.elf_source.specs.Source.{ReadsUpTo};
+ghost use Rattle.elf_headers.specs.Faults.{IsReadFault, HeaderRead};
 ghost use Rattle.elf_headers.specs.Load.{file_header_cost};
 
 use crate::fault::Fault;
@@ -23,8 +23,8 @@ pub(crate) const FILE_HEADER_BYTES: usize = 64;
 /// the read, or a refusal for want of budget, names offset 0.
 pub fn header<S: Source>(src: &mut Counted<S>) -> Result<Ehdr, Fault>
     // At most one read of 64 bytes, and none where the length refuses the file.
-    ensures reads { Reads src.old src.new (file_header_cost src.old.seen.size) }
-    ensures says { IfErr result (Says src.old src.new (file_header_cost src.old.seen.size)) }
+    ensures reads { ReadsUpTo src.old src.new (file_header_cost src.old.seen.size) }
+    ensures says { IfErr result (IsReadFault src.old src.new (file_header_cost src.old.seen.size)) }
     ensures unread { (refusal : Refuses) →
         first_refusal (length_checks src.old.seen.size) ≡ Some refusal →
         (result ≡ Err (Fault.Refused refusal)) × (src.new ≡ src.old) }

@@ -1,8 +1,8 @@
 //! Reads that name the offset where they fail.
 ghost use Rattle.std.specs.Prelude.{◌≡◌, ℕ, List, length, Some, IfErr, OnOk};
 ghost use Rattle.elf_model.specs.Bytes.{slice};
-ghost use Rattle.elf_source.specs.Source.{IsReadable, Reads};
-ghost use Rattle.elf_headers.specs.Faults.{FillsOnce, Says, IsAt};
+ghost use Rattle.elf_source.specs.Source.{IsReadable, ReadsUpTo};
+ghost use Rattle.elf_headers.specs.Faults.{FillsOnce, IsReadFault, IsAt};
 
 use crate::fault::Fault;
 use elf_record::{Cause, Refusal};
@@ -15,8 +15,8 @@ use elf_source::{AskFault, Counted, Source};
 /// A refusal for want of budget, or the source's fault; both name `at`. Then `out` holds any bytes.
 pub fn fill<S: Source>(src: &mut Counted<S>, at: u64, out: &mut [u8]) -> Result<(), Fault>
     requires { IsReadable src.old at (length out.old) }
-    ensures reads { Reads src.old src.new (length out.old) }
-    ensures says { IfErr result (Says src.old src.new (length out.old)) }
+    ensures reads { ReadsUpTo src.old src.new (length out.old) }
+    ensures says { IfErr result (IsReadFault src.old src.new (length out.old)) }
     ensures at { IfErr result (IsAt at) }
     ensures once { FillsOnce S.one_read src.old.source src.new.source at (length out.old) result }
     ensures read { (file : List ℕ) → src.old.seen.file ≡ Some file →

@@ -1,6 +1,6 @@
 //! The headers of an ELF64 file: the file header, the store of section headers or program headers,
 //! the checks of a load, and reads that name the offset where they fail. No call takes memory but
-//! `HeaderRoom::new`.
+//! `HeaderBuffer::new`.
 #![tactic(auto)]
 
 mod buffers;
@@ -17,13 +17,13 @@ mod stop;
 mod store;
 
 pub use buffers::HEADERS_BUFFER_BYTES;
-pub use caps::{Cap, Caps, Limits, Style};
+pub use caps::{Caps, Limits, NameLimit, Style};
 pub use fault::{Fault, refusal_at, refused};
 pub use file_header::{header, refused_length};
 pub use filling::fill;
 pub use loaded::Loaded;
-pub use loading::{load, refused_early};
+pub use loading::{check_before_load, load};
 pub use ranges::ends_outside;
-pub use room::HeaderRoom;
-pub use stop::Stop;
+pub use room::HeaderBuffer;
+pub use stop::RunFault;
 pub use store::HeaderStore;

@@ -1,6 +1,6 @@
 //! A file whose section headers were loaded.
 ghost use Rattle.std.specs.Prelude.{◌≡◌, ◌^◌, ◌<◌};
-ghost use Rattle.elf_headers.specs.Load.{Passes};
+ghost use Rattle.elf_headers.specs.Load.{PassesLoadChecks};
 
 use elf_record::Ehdr;
 use std::marker::Model;
@@ -14,13 +14,13 @@ pub struct Loaded {
 }
 
 impl Model for Loaded {
-    ghost use Rattle.elf_headers.specs.Load.{Opened, Passes};
+    ghost use Rattle.elf_headers.specs.Load.{LoadedFile, PassesLoadChecks};
 
-    ghost Value = { Opened };
+    ghost Value = { LoadedFile };
 
     ghost view = { λ l. record { size = l.size; header = l.header } };
 
-    ghost invariant = { λ l. Passes l.size 65279 l.header };
+    ghost invariant = { λ l. PassesLoadChecks l.size 65279 l.header };
 
     ghost inverse = { λ l. record { size = l.size; header = l.header } };
 }
@@ -28,7 +28,7 @@ impl Model for Loaded {
 impl Loaded {
     /// A file of `size` bytes with this file header, whose load checks passed.
     pub(crate) fn new(size: u64, header: &Ehdr) -> Loaded
-        requires { Passes size 65279 header.now }
+        requires { PassesLoadChecks size 65279 header.now }
         ensures { result ≡ record { size = size; header = header.now } }
     {
         Loaded {
@@ -47,7 +47,7 @@ impl Loaded {
     /// The file header, whose headers lie within the file.
     pub fn header(&self) -> Ehdr
         ensures value { result ≡ self.now.header }
-        ensures passes { Passes self.now.size 65279 self.now.header }
+        ensures passes { PassesLoadChecks self.now.size 65279 self.now.header }
     {
         self.header
     }

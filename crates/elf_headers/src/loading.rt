@@ -1,13 +1,13 @@
 //! The load of a file's section headers.
 ghost use Rattle.std.specs.Prelude.{◌≡◌, ℕ, ◌+◌, ◌*◌, ◌≤◌, List, length};
 ghost use Rattle.std.specs.Prelude.{None, Some, Err, IfErr, IfSome, MatchOption};
-ghost use Rattle.elf_model.specs.Budget.{IsBudget};
+ghost use Rattle.elf_model.specs.Budget.{IsBudgetRefusal};
 ghost use Rattle.elf_model.specs.Checks.{first_refusal, section_name_checks};
 ghost use Rattle.elf_model.specs.declared.causes.Refusal.{Refusal as Refuses};
 ghost use Rattle.elf_record.specs.Ehdr.{IsEhdr};
-ghost use Rattle.elf_source.specs.Source.{Reads};
-ghost use Rattle.elf_headers.specs.Faults.{Says};
-ghost use Rattle.elf_headers.specs.Load.{early_of, load_cost, Passes, Opens, LoadedAs};
+ghost use Rattle.elf_source.specs.Source.{ReadsUpTo};
+ghost use Rattle.elf_headers.specs.Faults.{IsReadFault};
+ghost use Rattle.elf_headers.specs.Load.{early_of, load_cost, PassesLoadChecks, LoadOutcome, LoadedAs};
 ghost use Rattle.elf_headers.specs.Store.{emptied, HoldsSections};
 
 use crate::fault::{Fault, refusal_at};
@@ -39,13 +39,13 @@ pub fn load<S: Source>(
     ensures segments { store.new.segments ≡ 0 }
     // At most the section headers are asked for, and nothing where the file header refuses the
     // file.
-    ensures reads { Reads src.old src.new (load_cost header.now src.old.seen.size store.old.slots) }
+    ensures reads { ReadsUpTo src.old src.new (load_cost header.now src.old.seen.size store.old.slots) }
     ensures says { IfErr result
-        (Says src.old src.new (load_cost header.now src.old.seen.size store.old.slots)) }
+        (IsReadFault src.old src.new (load_cost header.now src.old.seen.size store.old.slots)) }
     ensures early { (refusal : Refuses) →
         first_refusal (early_of header.now src.old.seen.size store.old.slots) ≡ Some refusal →
         (result ≡ Err (Fault.Refused refusal)) × (src.new ≡ src.old) }
-    ensures opens { Opens src.old.seen.size header.now store.new result }
+    ensures opens { LoadOutcome src.old.seen.size header.now store.new result }
     ensures held { (file : List ℕ) → src.old.seen.file ≡ Some file → IsEhdr file 0 header.now →
         LoadedAs file result store.new }
 {
@@ -57,7 +57,7 @@ pub fn load<S: Source>(
     if let Err(fault) = store.fill(src, header.e_shnum, header.e_shoff) {
         return Err(fault);
     }
-    if let Some(refusal) = refused_late(store, header, size) {
+    if let Some(refusal) = check_after_load(store, header, size) {
         return Err(Fault::Refused(refusal));
     }
     Ok(Loaded::new(size, header))
@@ -67,20 +67,20 @@ pub fn load<S: Source>(
 /// as the store has slots.
 fn refused_unread(store: &HeaderStore, header: &Ehdr, size: u64) -> Option<Refusal>
     ensures refusal { result ≡ first_refusal (early_of header.now size store.now.slots) }
-    ensures passes { MatchOption result (Passes size store.now.slots header.now) (λ _. Unit {0}) }
+    ensures passes { MatchOption result (PassesLoadChecks size store.now.slots header.now) (λ _. Unit {0}) }
     ensures permitted { store.now.slots ≤ 65279 }
 {
     let headers = store.slots();
-    refused_early(header, size, headers)
+    check_before_load(header, size, headers)
 }
 
 /// The first check that fails once the section headers are loaded, as [`refused_names`] answers it;
 /// with a refusal no section header stays loaded.
-fn refused_late(store: &mut HeaderStore, header: &Ehdr, size: u64) -> Option<Refusal>
-    requires passes { Passes size store.old.slots header.now }
+fn check_after_load(store: &mut HeaderStore, header: &Ehdr, size: u64) -> Option<Refusal>
+    requires passes { PassesLoadChecks size store.old.slots header.now }
     requires count { store.old.loaded ≡ header.now.e_shnum }
     ensures kept { MatchOption result (store.new ≡ store.old) (λ _. store.new ≡ emptied store.old) }
-    ensures checked { IfSome result (λ refusal. IsBudget refusal → ⊥) }
+    ensures checked { IfSome result (λ refusal. IsBudgetRefusal refusal → ⊥) }
     ensures held { (file : List ℕ) → length file ≡ size → IsEhdr file 0 header.now →
         HoldsSections file store.old → result ≡ first_refusal (section_name_checks file) }
 {
@@ -94,9 +94,9 @@ fn refused_late(store: &mut HeaderStore, header: &Ehdr, size: u64) -> Option<Ref
 /// The first check of the section of the section names that fails; none where there is no such
 /// section (gABI 4, String Table).
 fn refused_names(store: &HeaderStore, header: &Ehdr, size: u64) -> Option<Refusal>
-    requires passes { Passes size store.now.slots header.now }
+    requires passes { PassesLoadChecks size store.now.slots header.now }
     requires count { store.now.loaded ≡ header.now.e_shnum }
-    ensures checked { IfSome result (λ refusal. IsBudget refusal → ⊥) }
+    ensures checked { IfSome result (λ refusal. IsBudgetRefusal refusal → ⊥) }
     ensures held { (file : List ℕ) → length file ≡ size → IsEhdr file 0 header.now →
         HoldsSections file store.now → result ≡ first_refusal (section_name_checks file) }
 {
@@ -116,9 +116,9 @@ fn refused_names(store: &HeaderStore, header: &Ehdr, size: u64) -> Option<Refusa
 
 /// The first check before the section headers are read that fails, in a file of `size` bytes and
 /// with so many headers permitted (gABI 4, ELF Header).
-pub fn refused_early(header: &Ehdr, size: u64, headers: u16) -> Option<Refusal>
+pub fn check_before_load(header: &Ehdr, size: u64, headers: u16) -> Option<Refusal>
     ensures refusal { result ≡ first_refusal (early_of header.now size headers) }
-    ensures passes { MatchOption result (Passes size headers header.now) (λ _. Unit {0}) }
+    ensures passes { MatchOption result (PassesLoadChecks size headers header.now) (λ _. Unit {0}) }
 {
     let sections = SECTION_HEADER_BYTES * u64::from(header.e_shnum);
     let segments = PROGRAM_HEADER_BYTES * u64::from(header.e_phnum);

@@ -9,12 +9,12 @@ use std::marker::Model;
 /// Memory for the headers of one file, 64 bytes for each slot. It is taken once, when the room is
 /// made.
 #[derive(Drop)]
-pub struct HeaderRoom {
+pub struct HeaderBuffer {
     bytes: Vec<u8>,
     slots: u16,
 }
 
-impl Model for HeaderRoom {
+impl Model for HeaderBuffer {
     ghost use Rattle.std.specs.Prelude.{ℕ, ◌≡◌, ◌*◌, ◌≤◌, vec_len};
 
     ghost Value = { ℕ };
@@ -25,19 +25,19 @@ impl Model for HeaderRoom {
         (vec_len r.bytes ≡ 64 * r.slots) × (1 ≤ r.slots) × (r.slots ≤ 65279) };
 }
 
-impl HeaderRoom {
+impl HeaderBuffer {
     /// Room for `headers` slots, 1 to 65,279. Its 64 bytes for each slot are taken from `alloc` here,
     /// and no other call takes any.
     ///
     /// # Errors
     /// Where memory is refused.
-    pub fn new(alloc: Global, headers: u16) -> Result<HeaderRoom, AllocError>
+    pub fn new(alloc: Global, headers: u16) -> Result<HeaderBuffer, AllocError>
         requires some { 1 ≤ headers }
         requires permitted { headers ≤ 65279 }
         ensures { IfOk result (λ room. room ≡ headers) }
     {
         let bytes = vec![in alloc; 0u8; SLOT_BYTES * headers as usize]?;
-        Ok(HeaderRoom {
+        Ok(HeaderBuffer {
             bytes,
             slots: headers,
         })

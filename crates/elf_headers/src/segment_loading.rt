@@ -1,9 +1,9 @@
 //! The load of a file's program headers.
 ghost use Rattle.std.specs.Prelude.{◌≡◌, ℕ, ◌*◌, ◌≤◌, if◌then◌else◌, is_ok, List, Some, IfErr};
 ghost use Rattle.std.specs.Prelude.{OnOk};
-ghost use Rattle.elf_source.specs.Source.{Reads};
-ghost use Rattle.elf_headers.specs.Faults.{Says, IsOfRead};
-ghost use Rattle.elf_headers.specs.Load.{Belongs, SegmentsWithin, Views};
+ghost use Rattle.elf_source.specs.Source.{ReadsUpTo};
+ghost use Rattle.elf_headers.specs.Faults.{IsReadFault, IsOfRead};
+ghost use Rattle.elf_headers.specs.Load.{HoldsSectionHeaders, SegmentsInBounds, HoldsProgramHeaders};
 
 use crate::fault::Fault;
 use crate::loaded::Loaded;
@@ -26,16 +26,16 @@ impl Loaded {
     ) -> Result<(), Fault>
         requires unsectioned { self.now.header.e_shnum ≡ 0 }
         requires room { self.now.header.e_phnum ≤ store.old.slots }
-        requires within { SegmentsWithin src.old.seen.size self.now.header }
+        requires within { SegmentsInBounds src.old.seen.size self.now.header }
         ensures slots { store.new.slots ≡ store.old.slots }
         ensures loaded { store.new.loaded ≡ 0 }
         ensures segments { store.new.segments
             ≡ (if is_ok result then self.now.header.e_phnum else 0) }
-        ensures reads { Reads src.old src.new (56 * self.now.header.e_phnum) }
-        ensures says { IfErr result (Says src.old src.new (56 * self.now.header.e_phnum)) }
+        ensures reads { ReadsUpTo src.old src.new (56 * self.now.header.e_phnum) }
+        ensures says { IfErr result (IsReadFault src.old src.new (56 * self.now.header.e_phnum)) }
         ensures fault { IfErr result IsOfRead }
         ensures held { (file : List ℕ) → src.old.seen.file ≡ Some file →
-            Belongs file self.now store.old → OnOk result (Views file self.now store.new) }
+            HoldsSectionHeaders file self.now store.old → OnOk result (HoldsProgramHeaders file self.now store.new) }
     {
         let header = self.header();
         store.forget();

@@ -6,7 +6,7 @@ use thiserror::Error;
 
 /// Why a call that reads a file and writes what it finds stopped before its end.
 #[derive(Clone, Copy, Debug, PartialEq, Eq, Error)]
-pub enum Stop {
+pub enum RunFault {
     /// The file or what was asked of it is refused, or a limit has too few bytes left.
     #[error("refused")]
     Refused(Refusal),
@@ -23,27 +23,27 @@ pub enum Stop {
     Out(OutFault),
 }
 
-impl From<Fault> for Stop {
+impl From<Fault> for RunFault {
     ghost use Rattle.std.specs.Prelude.{◌≡◌};
     ghost use Rattle.elf_headers.specs.Stops.{stop_of};
 
     ghost from_gives = { λ fault stop. stop ≡ stop_of fault };
 
-    fn from(fault: Fault) -> Stop {
+    fn from(fault: Fault) -> RunFault {
         match fault {
-            Fault::Refused(refusal) => Stop::Refused(refusal),
-            Fault::Source { fault, at } => Stop::Source { fault, at },
+            Fault::Refused(refusal) => RunFault::Refused(refusal),
+            Fault::Source { fault, at } => RunFault::Source { fault, at },
         }
     }
 }
 
-impl From<OutFault> for Stop {
+impl From<OutFault> for RunFault {
     ghost use Rattle.std.specs.Prelude.{◌≡◌};
-    ghost use Rattle.elf_headers.specs.declared.stop.Stop.TheVariants.{Out};
+    ghost use Rattle.elf_headers.specs.declared.stop.RunFault.TheVariants.{Out};
 
     ghost from_gives = { λ fault stop. stop ≡ Out fault };
 
-    fn from(fault: OutFault) -> Stop {
-        Stop::Out(fault)
+    fn from(fault: OutFault) -> RunFault {
+        RunFault::Out(fault)
     }
 }

@@ -5,8 +5,8 @@ ghost use Rattle.elf_model.specs.Bytes.{slice};
 ghost use Rattle.elf_model.specs.Records.{section_at, segment_at};
 ghost use Rattle.elf_record.specs.Phdr.{IsPhdr};
 ghost use Rattle.elf_record.specs.Shdr.{IsShdr};
-ghost use Rattle.elf_source.specs.Source.{Reads};
-ghost use Rattle.elf_headers.specs.Faults.{Says, IsOfRead};
+ghost use Rattle.elf_source.specs.Source.{ReadsUpTo};
+ghost use Rattle.elf_headers.specs.Faults.{IsReadFault, IsOfRead};
 ghost use Rattle.elf_headers.specs.Store.{empty, emptied, row, segment_bytes};
 ghost use Rattle.elf_headers.specs.Store.{AreRowSlices, HoldsSections, HoldsSegments, rows_from};
 
@@ -33,9 +33,9 @@ pub struct HeaderStore<'a> {
 
 impl<'a> Model for HeaderStore<'a> {
     ghost use Rattle.std.specs.Prelude.{◌≡◌, ◌*◌, ◌≤◌, length};
-    ghost use Rattle.elf_headers.specs.Store.{Stored, rows_from};
+    ghost use Rattle.elf_headers.specs.Store.{StoreState, rows_from};
 
-    ghost Value = { Stored };
+    ghost Value = { StoreState };
 
     ghost view = { λ s. record {
       slots = s.slots;
@@ -156,8 +156,8 @@ impl<'a> HeaderStore<'a> {
         ensures slots { self.new.slots ≡ self.old.slots }
         ensures loaded { self.new.loaded ≡ (if is_ok result then count else 0) }
         ensures segments { self.new.segments ≡ 0 }
-        ensures reads { Reads src.old src.new (64 * count) }
-        ensures says { IfErr result (Says src.old src.new (64 * count)) }
+        ensures reads { ReadsUpTo src.old src.new (64 * count) }
+        ensures says { IfErr result (IsReadFault src.old src.new (64 * count)) }
         ensures fault { IfErr result IsOfRead }
         ensures rows { (file : List ℕ) → src.old.seen.file ≡ Some file →
             OnOk result (AreRowSlices file from 64 count self.new.rows) }
@@ -182,8 +182,8 @@ impl<'a> HeaderStore<'a> {
         ensures slots { self.new.slots ≡ self.old.slots }
         ensures loaded { self.new.loaded ≡ 0 }
         ensures segments { self.new.segments ≡ (if is_ok result then count else 0) }
-        ensures reads { Reads src.old src.new (56 * count) }
-        ensures says { IfErr result (Says src.old src.new (56 * count)) }
+        ensures reads { ReadsUpTo src.old src.new (56 * count) }
+        ensures says { IfErr result (IsReadFault src.old src.new (56 * count)) }
         ensures fault { IfErr result IsOfRead }
         ensures rows { (file : List ℕ) → src.old.seen.file ≡ Some file →
             OnOk result (AreRowSlices file from 56 count self.new.segment_rows) }
@@ -216,8 +216,8 @@ fn read_rows<S: Source>(
     requires room { size * count ≤ length bytes.old }
     requires within { from + size * count ≤ src.old.seen.size }
     requires fits { from + size * count < 2 ^ 64 }
-    ensures reads { Reads src.old src.new (size * count) }
-    ensures says { IfErr result (Says src.old src.new (size * count)) }
+    ensures reads { ReadsUpTo src.old src.new (size * count) }
+    ensures says { IfErr result (IsReadFault src.old src.new (size * count)) }
     ensures fault { IfErr result IsOfRead }
     ensures rows { (file : List ℕ) → src.old.seen.file ≡ Some file →
         OnOk result (AreRowSlices file from size count (rows_from bytes.new 0 size count)) }
@@ -235,8 +235,8 @@ fn read_front<S: Source>(
     requires room { size ≤ length bytes.old }
     requires within { from + size ≤ src.old.seen.size }
     requires fits { from + size < 2 ^ 64 }
-    ensures reads { Reads src.old src.new size }
-    ensures says { IfErr result (Says src.old src.new size) }
+    ensures reads { ReadsUpTo src.old src.new size }
+    ensures says { IfErr result (IsReadFault src.old src.new size) }
     ensures fault { IfErr result IsOfRead }
     ensures read { (file : List ℕ) → src.old.seen.file ≡ Some file →
         OnOk result (take size bytes.new ≡ slice file from size) }

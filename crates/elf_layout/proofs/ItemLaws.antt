@@ -11,7 +11,7 @@ use Rattle.std.proofs.Math.Nat.{pow-le-pow_right}
 use Rattle.std.proofs.lemmas.List.{get_or_default}
 use Rattle.std.proofs.lemmas.Str.Parse.{without_leading_plus_none}
 use Rattle.std.proofs.lemmas.Str.Pattern.{NoCharPasses-char, drop_at_char, starts_char}
-use Rattle.elf_layout.specs.Spelled.{EQUALS, IsAddress, IsItemOf, IsParted, Spells, item_address}
+use Rattle.elf_layout.specs.Spelled.{EQUALS, IsAddress, IsItemOf, IsSplitAtEquals, ParsesItem, item_address}
 use Rattle.elf_layout.specs.declared.layout.Item.{Item}
 use Rattle.elf_layout.specs.declared.layout.Item.TheVariants.{Section, Define, Entry, Table, Thread}
 
@@ -23,7 +23,7 @@ SplitsAtLast word r = MatchOption r (RFindsChar EQUALS word None) (λ x. (i : �
 lacks : (text : List ℕ) → NoCharPasses (λ d. d == EQUALS) text → All (λ byte. byte ≢ EQUALS) text
 lacks text none k d l e = NoCharPasses-char EQUALS text k none (omega arith) l (get_or_default text k 0 d l ∙ e)
 
-parted_last : (word : List ℕ) (x : Bor (List ℕ) × Bor (List ℕ)) → SplitsAtLast word (Some x) → IsParted word x.0.now x.1.now
+parted_last : (word : List ℕ) (x : Bor (List ℕ) × Bor (List ℕ)) → SplitsAtLast word (Some x) → IsSplitAtEquals word x.0.now x.1.now
 parted_last word x h = (
   sym (take-append-drop h.0 word) ∙ (λ k. sym h.3 k ++ (drop_at_char EQUALS word h.0 h.1 h.2.1 (omega arith) ∙ ap (λ l. EQUALS ∷ l) (sym h.4)) k),
   lacks x.1.now (subst (NoCharPasses (λ d. d == EQUALS)) (sym h.4) h.2.0),
@@ -33,7 +33,7 @@ at_seam : (front back : List ℕ) (b d : ℕ) → get_or (front ++ b ∷ back) (
 at_seam [] back b d = refl
 at_seam (c ∷ front) back b d = at_seam front back b d
 
-not_parted : (word key text : List ℕ) → NoCharPasses (λ d. d == EQUALS) word → IsParted word key text → ⊥
+not_parted : (word key text : List ℕ) → NoCharPasses (λ d. d == EQUALS) word → IsSplitAtEquals word key text → ⊥
 not_parted word key text none parted =
     NoCharPasses-char EQUALS word (length key) none (omega arith) (omega (arith, ap length parted.0, length-append key (EQUALS ∷ text)))
     (ap (λ w. get_or w (length key) 0) parted.0 ∙ at_seam key text EQUALS 0)
@@ -58,17 +58,17 @@ same_parts (x ∷ a) b (y ∷ key) text e p q =
     ((λ k. head_same x y (a ++ EQUALS ∷ b) (key ++ EQUALS ∷ text) e k ∷ rest.0 k), rest.1)
 
 -- a word is parted in one way
-parted_once : (word a b key text : List ℕ) → IsParted word a b → IsParted word key text → (a ≡ key) × (b ≡ text)
+parted_once : (word a b key text : List ℕ) → IsSplitAtEquals word a b → IsSplitAtEquals word key text → (a ≡ key) × (b ≡ text)
 parted_once word a b key text one other = same_parts a b key text (sym one.0 ∙ other.0) one.1 other.1
 
 true_is_not_false : true ≡ false → ⊥
 true_is_not_false e = cc
 
-pub parted_at : (word : List ℕ) (r : Option (Bor (List ℕ) × Bor (List ℕ))) → SplitsAtLast word r → IfSome r (λ x. IsParted word x.0.now x.1.now)
-parted_at word None h = tt
-parted_at word (Some x) h = parted_last word x h
+pub split_at_sign : (word : List ℕ) (r : Option (Bor (List ℕ) × Bor (List ℕ))) → SplitsAtLast word r → IfSome r (λ x. IsSplitAtEquals word x.0.now x.1.now)
+split_at_sign word None h = tt
+split_at_sign word (Some x) h = parted_last word x h
 
-pub parted_nowhere : (word : List ℕ) (r : Option (Bor (List ℕ) × Bor (List ℕ))) → SplitsAtLast word r → IsNone r → (key text : List ℕ) → IsParted word key text → ⊥
+pub parted_nowhere : (word : List ℕ) (r : Option (Bor (List ℕ) × Bor (List ℕ))) → SplitsAtLast word r → IsNone r → (key text : List ℕ) → IsSplitAtEquals word key text → ⊥
 parted_nowhere word None h none key text parted = not_parted word key text h parted
 parted_nowhere word (Some x) h none key text parted = absurd (true_is_not_false none)
 
@@ -93,7 +93,7 @@ pub no_plus : (digits : List ℕ) (r : Bool) → MatchBool r (HasPrefixMatch (Fi
 no_plus digits r h other plus = true_is_not_false (sym ((starts_char 43 digits r h (omega arith) (omega arith)).1 plus) ∙ other)
 
 -- what a word spells, where the word is parted so
-pub spelled_so : (word key text : List ℕ) → IsParted word key text → (item : Item) → Spells word item → IsItemOf key item × IsAddress text (item_address item)
+pub spelled_so : (word key text : List ℕ) → IsSplitAtEquals word key text → (item : Item) → ParsesItem word item → IsItemOf key item × IsAddress text (item_address item)
 spelled_so word key text parted item spells =
     let same = parted_once word spells.key spells.text key text spells.parted parted in
     (subst (λ k. IsItemOf k item) same.0 spells.is_of, subst (λ t. IsAddress t (item_address item)) same.1 spells.address)
@@ -142,7 +142,7 @@ one_address : (text : List ℕ) (a b : ℕ) → IsAddress text a → IsAddress t
 one_address text a b (d, e, n) (f, g, m) = n.2 ∙ ap (λ t. digits_value 16 (drop 2 t)) (sym e ∙ g) ∙ sym m.2
 
 -- a word spells one item
-pub one_item : (word : List ℕ) (x y : Item) → Spells word x → Spells word y → SameItem x y
+pub one_item : (word : List ℕ) (x y : Item) → ParsesItem word x → ParsesItem word y → SameItem x y
 one_item word x y one other =
     let so = spelled_so word one.key one.text one.parted y other in
     of_one_key one.key x y one.is_of so.0 (one_address one.text (item_address x) (item_address y) one.address so.1)

@@ -8,12 +8,12 @@ use Rattle.std.proofs.lemmas.Cmp.{alike_right, ranked}
 use Rattle.std.proofs.lemmas.List.{get_or-take}
 use Rattle.std.proofs.lemmas.List.Sorted.{searchable_from_sorted}
 use Rattle.elf_model.specs.Placing.{address_in}
-use Rattle.elf_layout.specs.Lent.{KeysRise, FindsKey, Follows, lent_index, placed}
+use Rattle.elf_layout.specs.Lent.{KeysAscend, FindsKey, Follows, borrowed_index, placed}
 use Rattle.elf_layout.specs.declared.lent.LentSection.{LentSection}
 use Rattle.elf_layout.proofs.LayoutSteps.{address_in-hit, address_in-miss}
 
 -- a search by an order, among items whose keys rise
-module _ {K X : Type 0} {order : K → K → Ordering} (total : IsTotalOrder order) (key : X → K) (items : List X) (rises : KeysRise order key items) where
+module _ {K X : Type 0} {order : K → K → Ordering} (total : IsTotalOrder order) (key : X → K) (items : List X) (rises : KeysAscend order key items) where
   sorted : IsSortedBy (λ a b. is_lt (order (key a) (key b))) items
   sorted k d low within =
       ap is_lt (total.antisymm (key (get_or items (k + 1) d)) (key (get_or items k d)) ∙ ap ordering_reverse (rises k (k + 1) d (omega arith) within))
@@ -39,29 +39,29 @@ module _ {K X : Type 0} {order : K → K → Ordering} (total : IsTotalOrder ord
     ])
   ]
 
-  pub all_rise : (n : ℕ) → Below n → length items ≤ n → KeysRise order key items
+  pub all_rise : (n : ℕ) → Below n → length items ≤ n → KeysAscend order key items
   all_rise n low past a b d less within = low a b d less (omega (arith, past, within))
 
   -- and one that does not rise
-  pub front_falls : (n : ℕ) → n < length items → KeysRise order key (take (n + 1) items) → Follows order key items n
+  pub front_falls : (n : ℕ) → n < length items → KeysAscend order key (take (n + 1) items) → Follows order key items n
   front_falls n within rises d some =
       let long = length-take (n + 1) items in
       let up = rises (n - 1) n d (omega (arith, some)) (omega (arith, long, within)) in
       subst (λ x. order (key x) (key (get_or items n d)) ≡ Less) (get_or-take (n + 1) items (n - 1) d (omega arith)) (subst (λ x. order (key (get_or (take (n + 1) items) (n - 1) d)) (key x) ≡ Less) (get_or-take (n + 1) items n d (omega arith)) up)
 
 -- sections
-found_first : (items : List LentSection) (section i : ℕ) (d : LentSection) → i < length items → lent_index (get_or items i d) ≡ section
-    → ((k : ℕ) → k < i → lent_index (get_or items k d) ≢ section) → address_in (placed items) section ≡ Some (get_or items i d).address
+found_first : (items : List LentSection) (section i : ℕ) (d : LentSection) → i < length items → borrowed_index (get_or items i d) ≡ section
+    → ((k : ℕ) → k < i → borrowed_index (get_or items k d) ≢ section) → address_in (placed items) section ≡ Some (get_or items i d).address
 found_first [] section i d within has none = absurd (omega (arith, within))
-found_first (x ∷ xs) section zero d within has none = address_in-hit (placed xs) (lent_index x, x.address) section has
+found_first (x ∷ xs) section zero d within has none = address_in-hit (placed xs) (borrowed_index x, x.address) section has
 found_first (x ∷ xs) section (suc i) d within has none =
-    address_in-miss (placed xs) (lent_index x, x.address) section (ne_eqb (lent_index x) section (none 0 (omega arith))) ∙ found_first xs section i d (omega (arith, within)) has (λ k below. none (suc k) (omega (arith, below)))
+    address_in-miss (placed xs) (borrowed_index x, x.address) section (ne_eqb (borrowed_index x) section (none 0 (omega arith))) ∙ found_first xs section i d (omega (arith, within)) has (λ k below. none (suc k) (omega (arith, below)))
 
-found_none : (items : List LentSection) (section : ℕ) (d : LentSection) → ((k : ℕ) → k < length items → lent_index (get_or items k d) ≢ section) → address_in (placed items) section ≡ None
+found_none : (items : List LentSection) (section : ℕ) (d : LentSection) → ((k : ℕ) → k < length items → borrowed_index (get_or items k d) ≢ section) → address_in (placed items) section ≡ None
 unfolding address_in
 found_none [] section d none = refl
 found_none (x ∷ xs) section d none =
-    address_in-miss (placed xs) (lent_index x, x.address) section (ne_eqb (lent_index x) section (none 0 (omega arith))) ∙ found_none xs section d (λ k below. none (suc k) (omega (arith, below)))
+    address_in-miss (placed xs) (borrowed_index x, x.address) section (ne_eqb (borrowed_index x) section (none 0 (omega arith))) ∙ found_none xs section d (λ k below. none (suc k) (omega (arith, below)))
 
 below_is_other : (x wanted : ℕ) → nat_cmp x wanted ≡ Less → x ≢ wanted
 below_is_other x wanted e same = let below : x < wanted = ranked x wanted Less (sym e) in omega (arith, below, same)
@@ -69,20 +69,20 @@ below_is_other x wanted e same = let below : x < wanted = ranked x wanted Less (
 above_is_other : (x wanted : ℕ) → nat_cmp x wanted ≡ Greater → x ≢ wanted
 above_is_other x wanted e same = let above : wanted < x = ranked x wanted Greater (sym e) in omega (arith, above, same)
 
-pub section_found : (items : List LentSection) (section i : ℕ) (item : LentSection) → FindsKey nat_cmp lent_index items section (Ok i) → item ≡ get_or items i item → address_in (placed items) section ≡ Some item.address
+pub section_found : (items : List LentSection) (section i : ℕ) (item : LentSection) → FindsKey nat_cmp borrowed_index items section (Ok i) → item ≡ get_or items i item → address_in (placed items) section ≡ Some item.address
 section_found items section i item found is =
-    found_first items section i item found.0 (ranked (lent_index (get_or items i item)) section Equal (sym (found.1 item))) (λ k below. below_is_other (lent_index (get_or items k item)) section (found.2 k item below))
+    found_first items section i item found.0 (ranked (borrowed_index (get_or items i item)) section Equal (sym (found.1 item))) (λ k below. below_is_other (borrowed_index (get_or items k item)) section (found.2 k item below))
     ∙ ap (λ (x : LentSection). Some x.address) (sym is)
 
 -- a section without an item
 abbrev pub nowhere : LentSection
 nowhere = record { index = 0; address = 0 }
 
-pub section_absent : (items : List LentSection) (section i : ℕ) → FindsKey nat_cmp lent_index items section (Err i) → address_in (placed items) section ≡ None
+pub section_absent : (items : List LentSection) (section i : ℕ) → FindsKey nat_cmp borrowed_index items section (Err i) → address_in (placed items) section ≡ None
 section_absent items section i found = found_none items section nowhere other
   where
-    other : (k : ℕ) → k < length items → lent_index (get_or items k nowhere) ≢ section
+    other : (k : ℕ) → k < length items → borrowed_index (get_or items k nowhere) ≢ section
     other k below = elim (cases_lt k i) [
-      | inl before ↦ below_is_other (lent_index (get_or items k nowhere)) section (found.1 k nowhere before)
-      | inr behind ↦ above_is_other (lent_index (get_or items k nowhere)) section (found.2 k nowhere behind below)
+      | inl before ↦ below_is_other (borrowed_index (get_or items k nowhere)) section (found.1 k nowhere before)
+      | inr behind ↦ above_is_other (borrowed_index (get_or items k nowhere)) section (found.2 k nowhere behind below)
     ]

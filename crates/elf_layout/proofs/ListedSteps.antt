@@ -14,10 +14,10 @@ use Rattle.std.proofs.lemmas.List.Splits.{length-slice_split}
 use Rattle.std.proofs.lemmas.List.Sums.{count_by-le-length}
 use Rattle.std.proofs.lemmas.List.Elements.{All-nil, All-push}
 use Rattle.elf_model.specs.Placing.{Layout}
-use Rattle.elf_layout.specs.Listed.{AreAlike, GiveItems, HasTwice, IsLastAlike, NeverFalls, SpellsAlike, with_item, with_items}
+use Rattle.elf_layout.specs.Listed.{AreAlike, GiveItems, HasTwice, IsLastAlike, KeysNeverDescend, ParsesSameItem, with_item, with_items}
 use Rattle.elf_layout.specs.Layouts.{HaveNames, IsName}
 use Rattle.elf_layout.specs.Lent.{Follows, MayFollow, lent_name, name_order, named}
-use Rattle.elf_layout.specs.Spelled.{Spells}
+use Rattle.elf_layout.specs.Spelled.{ParsesItem}
 use Rattle.elf_layout.specs.declared.lent.LentName.{LentName}
 use Rattle.elf_layout.specs.declared.layout.Item.{Item}
 use Rattle.elf_layout.specs.declared.layout.Item.TheVariants.{Section, Define, Entry, Table, Thread}
@@ -25,7 +25,7 @@ use Rattle.elf_layout.proofs.ItemLaws.{SameItem, one_item}
 use Rattle.elf_layout.proofs.LayoutSteps.{drop-at}
 use Rattle.elf_layout.proofs.NameSteps.{order_same}
 
-zip_push : (lines : List (List ℕ)) (items : List Item) (line : List ℕ) (item : Item) → AllZip Spells lines items → Spells line item → AllZip Spells (lines ++ line ∷ []) (items ++ item ∷ [])
+zip_push : (lines : List (List ℕ)) (items : List Item) (line : List ℕ) (item : Item) → AllZip ParsesItem lines items → ParsesItem line item → AllZip ParsesItem (lines ++ line ∷ []) (items ++ item ∷ [])
 zip_push [] [] line item zip spells = (spells, tt)
 zip_push [] (x ∷ items) line item zip spells = absurd zip
 zip_push (l ∷ lines) [] line item zip spells = absurd zip
@@ -40,7 +40,7 @@ pub gives_none : (old : Layout) → GiveItems [] old old
 gives_none old = record { items = []; spelled = tt; placed = refl }
 
 -- one line more gives one item more
-pub gives_more : (lines : List (List ℕ)) (line : List ℕ) (item : Item) (old new newer : Layout) → GiveItems lines old new → Spells line item → newer ≡ with_item new item
+pub gives_more : (lines : List (List ℕ)) (line : List ℕ) (item : Item) (old new newer : Layout) → GiveItems lines old new → ParsesItem line item → newer ≡ with_item new item
     → GiveItems (lines ++ line ∷ []) old newer
 gives_more lines line item old new newer gives spells is = record {
   items = gives.items ++ item ∷ [];
@@ -63,22 +63,22 @@ same_alike (Thread i a) (Thread j b) _ same alike = absurd alike
 same_alike _ _ _ same alike = absurd same
 
 -- a line spells one item, so it is alike or none is
-pub alike_told : (line : List ℕ) (found wanted : Item) (answer : Bool) → Spells line found → MatchBool answer (AreAlike found wanted) (AreAlike found wanted → ⊥)
-    → MatchBool answer (SpellsAlike wanted line) (SpellsAlike wanted line → ⊥)
+pub alike_told : (line : List ℕ) (found wanted : Item) (answer : Bool) → ParsesItem line found → MatchBool answer (AreAlike found wanted) (AreAlike found wanted → ⊥)
+    → MatchBool answer (ParsesSameItem wanted line) (ParsesSameItem wanted line → ⊥)
 alike_told line found wanted true spells alike = (found, spells, alike)
 alike_told line found wanted false spells other = λ said. other (same_alike found said.0 wanted (one_item line found said.0 spells said.1) said.2)
 
 -- the last line that is alike, one line later
 pub last_none : (wanted : Item) → IsLastAlike [] wanted 0
-last_none wanted = inl (refl, All-nil (λ line. SpellsAlike wanted line → ⊥))
+last_none wanted = inl (refl, All-nil (λ line. ParsesSameItem wanted line → ⊥))
 
-pub last_here : (lines : List (List ℕ)) (line : List ℕ) (wanted : Item) (number : ℕ) → SpellsAlike wanted line → number ≡ length lines + 1 → IsLastAlike (lines ++ line ∷ []) wanted number
-last_here lines line wanted number alike is = inr (lines, line, [], refl, alike, All-nil (λ line. SpellsAlike wanted line → ⊥), is)
+pub last_here : (lines : List (List ℕ)) (line : List ℕ) (wanted : Item) (number : ℕ) → ParsesSameItem wanted line → number ≡ length lines + 1 → IsLastAlike (lines ++ line ∷ []) wanted number
+last_here lines line wanted number alike is = inr (lines, line, [], refl, alike, All-nil (λ line. ParsesSameItem wanted line → ⊥), is)
 
-pub last_before : (lines : List (List ℕ)) (line : List ℕ) (wanted : Item) (number : ℕ) → (SpellsAlike wanted line → ⊥) → IsLastAlike lines wanted number → IsLastAlike (lines ++ line ∷ []) wanted number
-last_before lines line wanted number other (inl (is, none)) = inl (is, All-push (λ line. SpellsAlike wanted line → ⊥) lines line none other)
+pub last_before : (lines : List (List ℕ)) (line : List ℕ) (wanted : Item) (number : ℕ) → (ParsesSameItem wanted line → ⊥) → IsLastAlike lines wanted number → IsLastAlike (lines ++ line ∷ []) wanted number
+last_before lines line wanted number other (inl (is, none)) = inl (is, All-push (λ line. ParsesSameItem wanted line → ⊥) lines line none other)
 last_before lines line wanted number other (inr (front, here, rest, parted, alike, none, is)) =
-    inr (front, here, rest ++ line ∷ [], ap (λ l. l ++ line ∷ []) parted ∙ append_assoc front (here ∷ rest) (line ∷ []), alike, All-push (λ line. SpellsAlike wanted line → ⊥) rest line none other, is)
+    inr (front, here, rest ++ line ∷ [], ap (λ l. l ++ line ∷ []) parted ∙ append_assoc front (here ∷ rest) (line ∷ []), alike, All-push (λ line. ParsesSameItem wanted line → ⊥) rest line none other, is)
 
 -- how many lines a text may have
 parts_few : (parts : List (List ℕ)) → length (lines_of_parts parts) ≤ length parts
@@ -94,7 +94,7 @@ pub line_parted : (all front : List (List ℕ)) (n : ℕ) (line : List ℕ) → 
 line_parted all front n line is within here = sym (take-append-drop n all) ∙ ap₂ (λ a b. a ++ b) (sym is) (drop-at all n line line within here)
 
 -- sorted items of which one does not follow the one before it: both have its key
-module _ {K : Type 0} {order : K → K → Ordering} (total : IsTotalOrder order) (equal : (a b : K) → order a b ≡ Equal → a ≡ b) (items : List (K × ℕ)) (sorted : NeverFalls order items) where
+module _ {K : Type 0} {order : K → K → Ordering} (total : IsTotalOrder order) (equal : (a b : K) → order a b ≡ Equal → a ≡ b) (items : List (K × ℕ)) (sorted : KeysNeverDescend order items) where
   alike_at : (j i : ℕ) (d : K × ℕ) → j + 1 ≡ i → i < length items → (order (get_or items j d).0 (get_or items i d).0 ≡ Less → ⊥) → (get_or items j d).0 ≡ (get_or items i d).0
   alike_at j i d next within not = by_order (order (get_or items j d).0 (get_or items i d).0) refl
     where
@@ -141,7 +141,7 @@ module _ {X K : Type 0} (key : X → K) (address : X → ℕ) (items : List X) w
   long = length-map items pair
 
   -- one that does not follow the one before it
-  pub key_twice : {order : K → K → Ordering} (total : IsTotalOrder order) (equal : (a b : K) → order a b ≡ Equal → a ≡ b) (i : ℕ) (e : X) → i < length items → NeverFalls order pairs
+  pub key_twice : {order : K → K → Ordering} (total : IsTotalOrder order) (equal : (a b : K) → order a b ≡ Equal → a ≡ b) (i : ℕ) (e : X) → i < length items → KeysNeverDescend order pairs
       → (Follows order key items i → ⊥) → HasTwice pairs (key (get_or items i e))
   key_twice {order} total equal i e within sorted not =
       let inside : i < length pairs = omega (arith, within, long) in
@@ -150,7 +150,7 @@ module _ {X K : Type 0} (key : X → K) (address : X → ℕ) (items : List X) w
       subst (λ x. order x (key (get_or items i d)) ≡ Less) (ap (λ (x : K × ℕ). x.0) (pair_at (i - 1) d (pair d) before)) (subst (λ x. order (get_or pairs (i - 1) (pair d)).0 x ≡ Less) (ap (λ (x : K × ℕ). x.0) (pair_at i d (pair d) within)) (follows (pair d) some)))))
 
   -- sorted by their keys, and then by their addresses
-  pub keys_sorted : (order : K → K → Ordering) → IsSorted (λ (x y : X). ordering_then (order (key x) (key y)) (nat_cmp (address x) (address y))) items → NeverFalls order pairs
+  pub keys_sorted : (order : K → K → Ordering) → IsSorted (λ (x y : X). ordering_then (order (key x) (key y)) (nat_cmp (address x) (address y))) items → KeysNeverDescend order pairs
   keys_sorted order sorted i e within less =
       let inside : i + 1 < length items = omega (arith, within, long) in
       let before : i < length items = omega (arith, inside) in
@@ -159,7 +159,7 @@ module _ {X K : Type 0} (key : X → K) (address : X → ℕ) (items : List X) w
       (subst (λ x. order x (key (get_or items i d)) ≡ Less) (ap (λ (x : K × ℕ). x.0) (pair_at (i + 1) d e inside)) (subst (λ x. order (get_or pairs (i + 1) e).0 x ≡ Less) (ap (λ (x : K × ℕ). x.0) (pair_at i d e before)) less))
 
 -- names that are lent
-pub names_twice : (items : List LentName) (i : ℕ) (e : LentName) → i < length items → NeverFalls name_order (named items) → (MayFollow items i → ⊥) → IsName (lent_name (get_or items i e))
+pub names_twice : (items : List LentName) (i : ℕ) (e : LentName) → i < length items → KeysNeverDescend name_order (named items) → (MayFollow items i → ⊥) → IsName (lent_name (get_or items i e))
     → HasTwice (named items) (lent_name (get_or items i e))
 names_twice items i e within sorted not is_name =
     key_twice lent_name (λ item. item.address) items nat_list_cmp_total order_same i e within sorted (λ follows. not ((λ d. subst (λ x. IsName (lent_name x)) (get_or_default items i e d within) is_name), follows))

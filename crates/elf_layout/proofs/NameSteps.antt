@@ -13,7 +13,7 @@ use Rattle.elf_model.specs.Names.{begins, same}
 use Rattle.elf_model.specs.Placing.{address_named}
 use Rattle.elf_model.specs.declared.causes.Cause.{Cause}
 use Rattle.elf_model.specs.declared.causes.Cause.TheVariants.{NameUnended}
-use Rattle.elf_layout.specs.Lent.{MayFollow, lent_name, named, name_order, MayLend, FindsKey, BeginsWith, BeginsAt, IsAddressAt, search_end}
+use Rattle.elf_layout.specs.Lent.{MayFollow, lent_name, named, name_order, MayBorrow, FindsKey, BeginsWith, BeginsAt, IsAddressAt, search_end}
 use Rattle.elf_layout.specs.Layouts.{IsName}
 use Rattle.elf_layout.specs.declared.lent.LentName.{LentName}
 use Rattle.std.specs.Cmp.Lexicographic.{pointwise}
@@ -118,7 +118,7 @@ few_bytes (item ∷ items) names =
     let more = few_bytes items (λ k d below. names (suc k) d (omega (arith, below))) in omega (arith, first, more)
 
 -- the names of a front
-pub lends_front : (items : List LentName) (i : ℕ) → i < length items → MayLend (take (i + 1) items) → MayFollow items i
+pub lends_front : (items : List LentName) (i : ℕ) → i < length items → MayBorrow (take (i + 1) items) → MayFollow items i
 lends_front items i within lend =
     (λ d. subst (λ x. IsName (lent_name x)) (get_or-take (i + 1) items i d (omega arith)) (lend.names i d (omega (arith, within, length-take (i + 1) items))), front_falls nat_list_cmp_total lent_name items i within lend.rise)
 
@@ -238,7 +238,7 @@ module _ (strings : List ℕ) (index end most : ℕ) (front : List ℕ) (inside 
         compared_is name ∙ (ap₂ begins all_of (ap (λ l. l ++ 0 ∷ []) b.1) ∙ unended_begins key b.0)
 
     -- names in rising order
-    module _ (items : List LentName) (lend : MayLend items) (longest_is : most ≡ longest (named items)) where
+    module _ (items : List LentName) (lend : MayBorrow items) (longest_is : most ≡ longest (named items)) where
       no_nul : (k : ℕ) (d : LentName) → k < length items → NoNul (lent_name (get_or items k d))
       no_nul k d below = (lend.names k d below).2
 

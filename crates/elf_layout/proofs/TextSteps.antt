@@ -164,8 +164,8 @@ consumed (Some xs) (Some ys) rest bs is consumes = (ys, refl, some_same rest xs 
     some_same : (a b : List ℕ) → Some a ≡ Some b → a ≡ b
     some_same a b e = cc
 
-pub read_on : (bytes text rest piece more : List ℕ) → bytes ≡ text ++ rest → rest ≡ piece ++ more → bytes ≡ (text ++ piece) ++ more
-read_on bytes text rest piece more known parted = known ∙ (ap (λ l. text ++ l) parted ∙ sym (append_assoc text piece more))
+pub read_ahead_pending : (bytes text rest piece more : List ℕ) → bytes ≡ text ++ rest → rest ≡ piece ++ more → bytes ≡ (text ++ piece) ++ more
+read_ahead_pending bytes text rest piece more known parted = known ∙ (ap (λ l. text ++ l) parted ∙ sym (append_assoc text piece more))
 
 -- a file that is read to its end
 pub all_read : {E : Type 0} (bytes text rest : List ℕ) (old new : Option (List ℕ)) (r : Result ℕ E) (n : ℕ) (buf : List ℕ) → bytes ≡ text ++ rest → old ≡ Some rest → r ≡ Ok n → n ≡ 0
@@ -185,4 +185,4 @@ pub read_more : (bytes text rest : List ℕ) (old after : Option (List ℕ)) (n 
     → Consumes old after (take n buf) → (more : List ℕ) × (after ≡ Some more) × (bytes ≡ (text ++ take m buf) ++ more)
 read_more bytes text rest old after n m buf known is same reads =
     let more = consumed old after rest (take n buf) is reads in
-    (more.0, more.1, read_on bytes text rest (take m buf) more.0 known (more.2 ∙ ap (λ k. take k buf ++ more.0) (sym same)))
+    (more.0, more.1, read_ahead_pending bytes text rest (take m buf) more.0 known (more.2 ∙ ap (λ k. take k buf ++ more.0) (sym same)))

@@ -1,17 +1,17 @@
 -- Addresses, however they are kept, as a layout.
 use Rattle.std.specs.Prelude.{◌≡◌}
 use Rattle.elf_model.specs.Placing.{Layout, Compared, Searched}
-use Rattle.elf_model.specs.declared.relocation_types.Base.{Base}
+use Rattle.elf_model.specs.declared.relocation_types.RelocationBase.{RelocationBase}
 use Rattle.elf_layout.specs.Layouts.{names_for}
 use Rattle.elf_layout.specs.declared.addresses.Among.{Among}
 use Rattle.elf_layout.specs.declared.addresses.Among.TheVariants as among
-use Rattle.elf_layout.specs.declared.addresses.AddressesKept.{AddressesKept}
-use Rattle.elf_layout.specs.declared.addresses.AddressesKept.TheVariants.{Fixed, Lent}
-use Rattle.elf_layout.specs.declared.addresses.LentLayout.{LentLayout}
+use Rattle.elf_layout.specs.declared.addresses.AddressStorage.{AddressStorage}
+use Rattle.elf_layout.specs.declared.addresses.AddressStorage.TheVariants.{Fixed, Lent}
+use Rattle.elf_layout.specs.declared.addresses.BorrowedLayout.{BorrowedLayout}
 
 -- what a caller lends is searched
-abbrev pub lent_as : LentLayout → Layout
-lent_as lent = record {
+abbrev pub borrowed_as : BorrowedLayout → Layout
+borrowed_as lent = record {
   lookup = Searched;
   sections = lent.sections;
   definitions = lent.definitions;
@@ -21,11 +21,11 @@ lent_as lent = record {
 }
 
 -- what is kept
-abbrev pub kept_as : AddressesKept → Layout
+abbrev pub kept_as : AddressStorage → Layout
 kept_as (Fixed layout) = layout.now
-kept_as (Lent lent) = lent_as lent.now
+kept_as (Lent lent) = borrowed_as lent.now
 
 -- the names that are looked through for a base, and how a symbol's name is looked for among them
-abbrev pub IsAmong : Layout → Base → Among → Type 0
+abbrev pub IsAmong : Layout → RelocationBase → Among → Type 0
 IsAmong layout base (among.Compared items) = (layout.lookup ≡ Compared) × (items.now ≡ names_for layout base)
 IsAmong layout base (among.Searched names) = (layout.lookup ≡ Searched) × (names.now ≡ names_for layout base)

@@ -2,8 +2,8 @@
 use Rattle.std.specs.Prelude.{ℕ, ◌≡◌, ◌≢◌, ◌+◌, ◌≤◌, ◌<◌, List, [], ◌∷◌, ◌++◌, length, sum_by, All, Any, Result, Ok, Err}
 use Rattle.elf_model.specs.Names.{pad64}
 use Rattle.elf_model.specs.Placing.{Layout}
-use Rattle.elf_model.specs.declared.relocation_types.Base.{Base}
-use Rattle.elf_model.specs.declared.relocation_types.Base.TheVariants as base
+use Rattle.elf_model.specs.declared.relocation_types.RelocationBase.{RelocationBase}
+use Rattle.elf_model.specs.declared.relocation_types.RelocationBase.TheVariants as base
 use Rattle.elf_layout.specs.declared.layout.Item.{Item}
 use Rattle.elf_layout.specs.declared.layout.Item.TheVariants.{Section, Define, Entry, Table, Thread}
 use Rattle.elf_layout.specs.declared.layout.LayoutFault.{LayoutFault}
@@ -62,7 +62,7 @@ abbrev pub items_cost : List (List ℕ × ℕ) → ℕ
 items_cost items = sum_by (λ item. pad64 (length item.0 + 1)) items
 
 -- the names that are looked through for a base
-unfoldable pub names_for : Layout → Base → List (List ℕ × ℕ)
+unfoldable pub names_for : Layout → RelocationBase → List (List ℕ × ℕ)
 names_for layout base.Symbol = layout.definitions
 names_for layout base.Linkage = layout.linkage
 names_for layout base.Table = layout.table

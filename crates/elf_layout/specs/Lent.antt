@@ -9,31 +9,31 @@ use Rattle.elf_layout.specs.declared.lent.LentName.{LentName}
 use Rattle.elf_layout.specs.declared.lent.LentSection.{LentSection}
 
 -- the keys of some items rise, so that none comes twice
-abbrev pub KeysRise : {X K : Type 0} → (K → K → Ordering) → (X → K) → List X → Type 0
-KeysRise {X} order key items = (i j : ℕ) (d : X) → i < j → j < length items → order (key (slice_index_or items i d)) (key (slice_index_or items j d)) ≡ Less
+abbrev pub KeysAscend : {X K : Type 0} → (K → K → Ordering) → (X → K) → List X → Type 0
+KeysAscend {X} order key items = (i j : ℕ) (d : X) → i < j → j < length items → order (key (slice_index_or items i d)) (key (slice_index_or items j d)) ≡ Less
 
 -- the name of an item that is lent
 abbrev pub lent_name : LentName → List ℕ
 lent_name item = item.name.now
 
 -- the index of a section that is lent
-abbrev pub lent_index : LentSection → ℕ
-lent_index item = item.index
+abbrev pub borrowed_index : LentSection → ℕ
+borrowed_index item = item.index
 
 -- names and sections as a layout has them
 abbrev pub named : List LentName → List (List ℕ × ℕ)
 named items = map (λ item. (lent_name item, item.address)) items
 
 abbrev pub placed : List LentSection → List (ℕ × ℕ)
-placed items = map (λ item. (lent_index item, item.address)) items
+placed items = map (λ item. (borrowed_index item, item.address)) items
 
 -- the order of names, by their bytes as numbers, from the first on
 abbrev pub name_order : List ℕ → List ℕ → Ordering
 name_order = slice_cmp nat_cmp
 
 -- items may be lent: each has a name, and the names rise
-pub record MayLend (items : List LentName) : Type 0 where
-  pub rise : KeysRise name_order lent_name items
+pub record MayBorrow (items : List LentName) : Type 0 where
+  pub rise : KeysAscend name_order lent_name items
   pub names : All (λ item. IsName (lent_name item)) items
 
 -- the key at a place is above the one before it

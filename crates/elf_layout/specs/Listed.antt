@@ -7,14 +7,14 @@ use Rattle.std.specs.Str.Lines.{lines}
 use Rattle.std.specs.declared.cmp.Ordering.{Ordering}
 use Rattle.std.specs.declared.cmp.Ordering.TheVariants.{Less}
 use Rattle.elf_model.specs.Placing.{Layout, Searched}
-use Rattle.elf_layout.specs.Kept.{lent_as}
+use Rattle.elf_layout.specs.Kept.{borrowed_as}
 use Rattle.elf_layout.specs.Lent.{name_order}
-use Rattle.elf_layout.specs.Spelled.{Spells}
-use Rattle.elf_layout.specs.declared.addresses.LentLayout.{LentLayout}
+use Rattle.elf_layout.specs.Spelled.{ParsesItem}
+use Rattle.elf_layout.specs.declared.addresses.BorrowedLayout.{BorrowedLayout}
 use Rattle.elf_layout.specs.declared.layout.Item.{Item}
 use Rattle.elf_layout.specs.declared.layout.Item.TheVariants.{Section, Define, Entry, Table, Thread}
-use Rattle.elf_layout.specs.declared.items.ItemsFault.{ItemsFault}
-use Rattle.elf_layout.specs.declared.items.ItemsFault.TheVariants.{BadItem, Repeats, Memory}
+use Rattle.elf_layout.specs.declared.items.LayoutFileFault.{LayoutFileFault}
+use Rattle.elf_layout.specs.declared.items.LayoutFileFault.TheVariants.{BadItem, Repeats, Memory}
 use Rattle.elf_layout.specs.declared.texts.TextEnd.{TextEnd}
 use Rattle.elf_layout.specs.declared.texts.TextEnd.TheVariants.{Whole, Cut}
 
@@ -49,38 +49,38 @@ with_items old (item ∷ items) = with_items (with_item old item) items
 -- lines give items, one each
 pub record GiveItems (lines : List (List ℕ)) (old new : Layout) : Type 0 where
   pub items : List Item
-  pub spelled : AllZip Spells lines items
+  pub spelled : AllZip ParsesItem lines items
   pub placed : new ≡ with_items old items
 
 -- the line behind some spells no item: it is there and spells none, or the text was cut before it
 abbrev IsFaulty : List (List ℕ) → List (List ℕ) → TextEnd → Type 0
 IsFaulty all front end =
-    ((line : List ℕ) × (rest : List (List ℕ)) × (all ≡ front ++ line ∷ rest) × ((item : Item) → Spells line item → ⊥))
+    ((line : List ℕ) × (rest : List (List ℕ)) × (all ≡ front ++ line ∷ rest) × ((item : Item) → ParsesItem line item → ⊥))
     ⊎ ((all ≡ front) × (end ≡ Cut))
 
 -- why lines give no items behind others: the first that spells none decides, by its number
-abbrev pub IsRefused : List (List ℕ) → Layout → TextEnd → ItemsFault → Type 0
+abbrev pub IsRefused : List (List ℕ) → Layout → TextEnd → LayoutFileFault → Type 0
 IsRefused lines old end (BadItem line) =
     (front : List (List ℕ)) × (new : Layout) × GiveItems front old new × IsFaulty lines front end × (line ≡ length front + 1)
 IsRefused lines old end Memory = ⊤
 IsRefused lines old end _ = ⊥
 
 -- THE ITEMS of a layout, and behind them those of the lines of a text that ends with its file
-abbrev pub Gathers : Layout → List ℕ → TextEnd → Result Layout ItemsFault → Type 0
+abbrev pub Gathers : Layout → List ℕ → TextEnd → Result Layout LayoutFileFault → Type 0
 Gathers layout text end (Ok items) = GiveItems (lines text) (as_searched layout) items × (end ≡ Whole)
 Gathers layout text end (Err fault) = IsRefused (lines text) (as_searched layout) end fault
 
 -- no key of some items is below the key of the item before it
-abbrev pub NeverFalls : {K : Type 0} → (K → K → Ordering) → List (K × ℕ) → Type 0
-NeverFalls {K} order items = (i : ℕ) (d : K × ℕ) → i + 1 < length items → order (slice_index_or items (i + 1) d).0 (slice_index_or items i d).0 ≢ Less
+abbrev pub KeysNeverDescend : {K : Type 0} → (K → K → Ordering) → List (K × ℕ) → Type 0
+KeysNeverDescend {K} order items = (i : ℕ) (d : K × ℕ) → i + 1 < length items → order (slice_index_or items (i + 1) d).0 (slice_index_or items i d).0 ≢ Less
 
 -- items are sorted, sort by sort
 pub record AreSorted (items : Layout) : Type 0 where
-  pub sections : NeverFalls nat_cmp items.sections
-  pub definitions : NeverFalls name_order items.definitions
-  pub linkage : NeverFalls name_order items.linkage
-  pub table : NeverFalls name_order items.table
-  pub thread : NeverFalls name_order items.thread
+  pub sections : KeysNeverDescend nat_cmp items.sections
+  pub definitions : KeysNeverDescend name_order items.definitions
+  pub linkage : KeysNeverDescend name_order items.linkage
+  pub table : KeysNeverDescend name_order items.table
+  pub thread : KeysNeverDescend name_order items.thread
 
 -- they are the same items, of each sort in another order
 pub record AreReordered (old new : Layout) : Type 0 where
@@ -113,18 +113,18 @@ AreAlike (Thread name address) (Thread other place) = name.now ≡ other.now
 AreAlike _ _ = ⊥
 
 -- a line spells an item of this sort, and of this index or name
-abbrev pub SpellsAlike : Item → List ℕ → Type 0
-SpellsAlike wanted line = (item : Item) × Spells line item × AreAlike item wanted
+abbrev pub ParsesSameItem : Item → List ℕ → Type 0
+ParsesSameItem wanted line = (item : Item) × ParsesItem line item × AreAlike item wanted
 
 -- the number of the last line that does, or 0 where none does
 abbrev pub IsLastAlike : List (List ℕ) → Item → ℕ → Type 0
 IsLastAlike lines wanted number =
-    ((number ≡ 0) × All (λ line. SpellsAlike wanted line → ⊥) lines)
-    ⊎ ((front : List (List ℕ)) × (line : List ℕ) × (rest : List (List ℕ)) × (lines ≡ front ++ line ∷ rest) × SpellsAlike wanted line
-    × All (λ line. SpellsAlike wanted line → ⊥) rest × (number ≡ length front + 1))
+    ((number ≡ 0) × All (λ line. ParsesSameItem wanted line → ⊥) lines)
+    ⊎ ((front : List (List ℕ)) × (line : List ℕ) × (rest : List (List ℕ)) × (lines ≡ front ++ line ∷ rest) × ParsesSameItem wanted line
+    × All (λ line. ParsesSameItem wanted line → ⊥) rest × (number ≡ length front + 1))
 
 -- SORTED ITEMS as a layout; where two of a sort have one index or name, they are refused at the last line that has such an item
-abbrev pub Lends : List ℕ → Layout → Result LentLayout ItemsFault → Type 0
-Lends text items (Ok lent) = lent_as lent ≡ items
-Lends text items (Err (Repeats line)) = (item : Item) × IsRepeated items item × IsLastAlike (lines text) item line
-Lends text items (Err _) = ⊥
+abbrev pub LendsLayout : List ℕ → Layout → Result BorrowedLayout LayoutFileFault → Type 0
+LendsLayout text items (Ok lent) = borrowed_as lent ≡ items
+LendsLayout text items (Err (Repeats line)) = (item : Item) × IsRepeated items item × IsLastAlike (lines text) item line
+LendsLayout text items (Err _) = ⊥

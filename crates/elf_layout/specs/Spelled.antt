@@ -10,8 +10,8 @@ abbrev pub EQUALS : ℕ
 EQUALS = 61
 
 -- a word is two texts with an `=` between them, the last one in it
-abbrev pub IsParted : List ℕ → List ℕ → List ℕ → Type 0
-IsParted word key text = (word ≡ key ++ EQUALS ∷ text) × All (λ byte. byte ≢ EQUALS) text
+abbrev pub IsSplitAtEquals : List ℕ → List ℕ → List ℕ → Type 0
+IsSplitAtEquals word key text = (word ≡ key ++ EQUALS ∷ text) × All (λ byte. byte ≢ EQUALS) text
 
 -- digits of a radix, at least one and at most so many, and the number that they spell
 abbrev pub IsNumber : ℕ → ℕ → List ℕ → ℕ → Type 0
@@ -50,9 +50,9 @@ item_address (Table name address) = address
 item_address (Thread name address) = address
 
 -- THE ITEM that a word spells: what it is of, and its address
-pub record Spells (word : List ℕ) (item : Item) : Type 0 where
+pub record ParsesItem (word : List ℕ) (item : Item) : Type 0 where
   pub key : List ℕ
   pub text : List ℕ
-  pub parted : IsParted word key text
+  pub parted : IsSplitAtEquals word key text
   pub is_of : IsItemOf key item
   pub address : IsAddress text (item_address item)

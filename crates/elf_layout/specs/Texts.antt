@@ -1,7 +1,7 @@
 -- The text of a file of items, as far as its lines may go.
 use Rattle.std.specs.Prelude.{ℕ, ◌≡◌, ◌≢◌, ◌+◌, ◌-◌, ◌≤◌, ◌<◌, ◌++◌, ⊤, List, length, slice_index, take, Result, Ok, Err}
-use Rattle.elf_layout.specs.declared.items.ItemsFault.{ItemsFault}
-use Rattle.elf_layout.specs.declared.items.ItemsFault.TheVariants.{Read, TooLarge, Memory}
+use Rattle.elf_layout.specs.declared.items.LayoutFileFault.{LayoutFileFault}
+use Rattle.elf_layout.specs.declared.items.LayoutFileFault.TheVariants.{Read, TooLarge, Memory}
 use Rattle.elf_layout.specs.declared.texts.TextEnd.{TextEnd}
 use Rattle.elf_layout.specs.declared.texts.TextEnd.TheVariants.{Whole, Cut}
 
@@ -32,7 +32,7 @@ pub record IsCutBefore (text file : List ℕ) : Type 0 where
   pub one : IsOneLine file (length text) (length text + 301)
 
 -- THE TEXT of a file: all of it, if it has no line of more than 300 bytes and no more than 67,108,864 bytes
-abbrev pub IsTextOf : List ℕ → List ℕ → Result TextEnd ItemsFault → Type 0
+abbrev pub IsTextOf : List ℕ → List ℕ → Result TextEnd LayoutFileFault → Type 0
 IsTextOf file text (Ok Whole) = (text ≡ file) × HasShortLines file (length file)
 IsTextOf file text (Ok Cut) = IsCutBefore text file
 IsTextOf file text (Err TooLarge) = 67108864 < length file
@@ -48,7 +48,7 @@ pub record EndsLines (before piece : List ℕ) (end count : ℕ) : Type 0 where
   pub long : end < length piece → (count ≡ 300) × (slice_index piece end ≢ 10)
 
 -- a piece is put behind a text, up to a line of more than 300 bytes; and how many bytes the text's last line has
-abbrev pub PutsPiece : (old piece new : List ℕ) → ℕ → Result TextEnd ItemsFault → Type 0
+abbrev pub PutsPiece : (old piece new : List ℕ) → ℕ → Result TextEnd LayoutFileFault → Type 0
 PutsPiece old piece new count (Ok Whole) = (new ≡ old ++ piece) × IsWithinLine new (length new) count × HasShortLines new (length new)
 PutsPiece old piece new count (Ok Cut) = IsCutBefore new (old ++ piece)
 PutsPiece old piece new count (Err TooLarge) = 67108864 < length old + length piece

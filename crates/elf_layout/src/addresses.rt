@@ -2,19 +2,19 @@
 ghost use Rattle.std.specs.Prelude.{◌≡◌, ◌<◌, ◌^◌};
 ghost use Rattle.elf_model.specs.ApplyCost.{layout_names_cost};
 ghost use Rattle.elf_model.specs.Placing.{address_in, has_base};
-ghost use Rattle.elf_layout.specs.Kept.{IsAmong, kept_as, lent_as};
+ghost use Rattle.elf_layout.specs.Kept.{IsAmong, kept_as, borrowed_as};
 ghost use Rattle.elf_layout.specs.Layouts.{names_for};
 
 use crate::layout::Layout;
 use crate::lent::{SortedNames, SortedSections};
 use crate::named::NamedAddress;
-use elf_model::Base;
+use elf_model::RelocationBase;
 use std::marker::Model;
 
 /// A layout that a caller lends, of any size: sections by rising index, and of each sort the names in
 /// the rising order of their bytes.
 #[derive(Drop)]
-pub struct LentLayout<'a> {
+pub struct BorrowedLayout<'a> {
     /// The addresses of sections.
     pub sections: SortedSections<'a>,
     /// The definitions of undefined and common symbols.
@@ -27,36 +27,36 @@ pub struct LentLayout<'a> {
     pub thread: SortedNames<'a>,
 }
 
-impl<'a> LentLayout<'a> {
+impl<'a> BorrowedLayout<'a> {
     /// The names that are looked through for a base.
     #[tactic(auto, unfolding(crate::specs::Layouts::names_for))]
-    fn names(&self, base: Base) -> &SortedNames<'a>
-        ensures { result.now ≡ names_for (lent_as self.now) base }
+    fn names(&self, base: RelocationBase) -> &SortedNames<'a>
+        ensures { result.now ≡ names_for (borrowed_as self.now) base }
     {
         match base {
-            Base::Symbol => &self.definitions,
-            Base::Linkage => &self.linkage,
-            Base::Table => &self.table,
-            Base::Thread => &self.thread,
+            RelocationBase::Symbol => &self.definitions,
+            RelocationBase::Linkage => &self.linkage,
+            RelocationBase::Table => &self.table,
+            RelocationBase::Thread => &self.thread,
         }
     }
 
     /// Whether a base may have an address: one of an entry only where there is an item of its sort.
     #[tactic(auto, unfolding(elf_model::specs::Placing::has_base))]
-    fn has_base(&self, base: Base) -> bool
-        ensures { result ≡ has_base (lent_as self.now) base }
+    fn has_base(&self, base: RelocationBase) -> bool
+        ensures { result ≡ has_base (borrowed_as self.now) base }
     {
         match base {
-            Base::Symbol | Base::Linkage => true,
-            Base::Table => !self.table.is_empty(),
-            Base::Thread => !self.thread.is_empty(),
+            RelocationBase::Symbol | RelocationBase::Linkage => true,
+            RelocationBase::Table => !self.table.is_empty(),
+            RelocationBase::Thread => !self.thread.is_empty(),
         }
     }
 
     /// How many bytes one lookup among the names of each sort may ask for.
     #[tactic(auto, unfolding(elf_model::specs::ApplyCost::layout_names_cost))]
     fn names_cost(&self) -> u128
-        ensures value { result ≡ layout_names_cost (lent_as self.now) }
+        ensures value { result ≡ layout_names_cost (borrowed_as self.now) }
         ensures few { result < 2 ^ 75 }
     {
         let names = self.definitions.cost() + self.linkage.cost();
@@ -66,11 +66,11 @@ impl<'a> LentLayout<'a> {
 
 /// How addresses are kept.
 #[derive(Clone, Copy)]
-enum AddressesKept<'a> {
+enum AddressStorage<'a> {
     /// In a layout of fixed size.
     Fixed(&'a Layout),
     /// In what a caller lends.
-    Lent(&'a LentLayout<'a>),
+    Lent(&'a BorrowedLayout<'a>),
 }
 
 /// Names that are looked through for a base.
@@ -85,7 +85,7 @@ pub enum Among<'a> {
 /// The addresses that relocations are applied with, however they are kept.
 #[derive(Drop)]
 pub struct Addresses<'a> {
-    kept: AddressesKept<'a>,
+    kept: AddressStorage<'a>,
 }
 
 impl<'a> Model for Addresses<'a> {
@@ -103,16 +103,16 @@ impl<'a> Addresses<'a> {
         ensures { result ≡ layout.now }
     {
         Addresses {
-            kept: AddressesKept::Fixed(layout),
+            kept: AddressStorage::Fixed(layout),
         }
     }
 
     /// Those that a caller lends.
-    pub fn lent(layout: &'a LentLayout<'a>) -> Addresses<'a>
-        ensures { result ≡ lent_as layout.now }
+    pub fn lent(layout: &'a BorrowedLayout<'a>) -> Addresses<'a>
+        ensures { result ≡ borrowed_as layout.now }
     {
         Addresses {
-            kept: AddressesKept::Lent(layout),
+            kept: AddressStorage::Lent(layout),
         }
     }
 
@@ -121,29 +121,29 @@ impl<'a> Addresses<'a> {
         ensures { result ≡ address_in self.now.sections section }
     {
         match self.kept {
-            AddressesKept::Fixed(layout) => layout.section_address(section),
-            AddressesKept::Lent(layout) => layout.sections.address(section),
+            AddressStorage::Fixed(layout) => layout.section_address(section),
+            AddressStorage::Lent(layout) => layout.sections.address(section),
         }
     }
 
     /// The names that are looked through for a base.
-    pub fn names(&self, base: Base) -> Among<'_>
+    pub fn names(&self, base: RelocationBase) -> Among<'_>
         ensures { IsAmong self.now base result }
     {
         match self.kept {
-            AddressesKept::Fixed(layout) => Among::Compared(layout.names(base)),
-            AddressesKept::Lent(layout) => Among::Searched(layout.names(base)),
+            AddressStorage::Fixed(layout) => Among::Compared(layout.names(base)),
+            AddressStorage::Lent(layout) => Among::Searched(layout.names(base)),
         }
     }
 
     /// Whether a base may have an address: one of an entry only where there is an item of its sort.
     #[tactic(auto, unfolding(elf_model::specs::Placing::has_base))]
-    pub fn has_base(&self, base: Base) -> bool
+    pub fn has_base(&self, base: RelocationBase) -> bool
         ensures { result ≡ has_base self.now base }
     {
         match self.kept {
-            AddressesKept::Fixed(layout) => layout.has_base(base),
-            AddressesKept::Lent(layout) => layout.has_base(base),
+            AddressStorage::Fixed(layout) => layout.has_base(base),
+            AddressStorage::Lent(layout) => layout.has_base(base),
         }
     }
 
@@ -153,8 +153,8 @@ impl<'a> Addresses<'a> {
         ensures few { result < 2 ^ 75 }
     {
         match self.kept {
-            AddressesKept::Fixed(layout) => layout.names_cost(),
-            AddressesKept::Lent(layout) => layout.names_cost(),
+            AddressStorage::Fixed(layout) => layout.names_cost(),
+            AddressStorage::Lent(layout) => layout.names_cost(),
         }
     }
 }

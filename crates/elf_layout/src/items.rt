@@ -5,15 +5,15 @@ ghost use Rattle.std.specs.List.Sorted.{IsPermutation};
 ghost use Rattle.std.specs.Ordering.{nat_cmp};
 ghost use Rattle.std.specs.Str.Lines.{lines};
 ghost use Rattle.elf_model.specs.Placing.{Searched};
-ghost use Rattle.elf_layout.specs.Kept.{lent_as};
+ghost use Rattle.elf_layout.specs.Kept.{borrowed_as};
 ghost use Rattle.elf_layout.specs.Layouts.{HaveNames, IsName, OnName};
 ghost use Rattle.elf_layout.specs.Lent.{named, name_order, placed};
 ghost use Rattle.elf_layout.specs.Listed.{AreAlike, AreReordered, AreSorted, Gathers, GiveItems};
-ghost use Rattle.elf_layout.specs.Listed.{HasTwice, IsLastAlike, IsRefused, IsRepeated, Lends};
-ghost use Rattle.elf_layout.specs.Listed.{NeverFalls, SpellsAlike, with_item, with_layout};
+ghost use Rattle.elf_layout.specs.Listed.{HasTwice, IsLastAlike, IsRefused, IsRepeated, LendsLayout};
+ghost use Rattle.elf_layout.specs.Listed.{KeysNeverDescend, ParsesSameItem, with_item, with_layout};
 ghost use Rattle.elf_layout.specs.declared.texts.TextEnd.TheVariants.{Whole};
 
-use crate::addresses::LentLayout;
+use crate::addresses::BorrowedLayout;
 use crate::layout::{Item, Layout};
 use crate::lent::{LentName, LentSection, SortedNames, SortedSections};
 use crate::named::NamedAddress;
@@ -23,7 +23,7 @@ use std::alloc::{AllocError, Global};
 use std::marker::Model;
 
 /// Why a file gives no items.
-pub enum ItemsFault {
+pub enum LayoutFileFault {
     /// It can't be read, or is no text.
     Read,
     /// It has too many bytes.
@@ -80,12 +80,12 @@ impl<'a> Items<'a> {
         layout: &'a Layout,
         text: &'a str,
         end: TextEnd,
-    ) -> Result<Items<'a>, ItemsFault>
+    ) -> Result<Items<'a>, LayoutFileFault>
         ensures { Gathers layout.now text.now end result }
     {
         let mut items = Items::new(alloc);
         if items.push_layout(layout).is_err() {
-            return Err(ItemsFault::Memory);
+            return Err(LayoutFileFault::Memory);
         }
         items.push_lines(text, end)?;
         Ok(items)
@@ -138,7 +138,7 @@ impl<'a> Items<'a> {
 
     /// Puts the items of lines behind those that are there, one of each line. Behind a text that was cut
     /// stands a line that spells none.
-    fn push_lines(&mut self, text: &'a str, end: TextEnd) -> Result<(), ItemsFault>
+    fn push_lines(&mut self, text: &'a str, end: TextEnd) -> Result<(), LayoutFileFault>
         ensures given { IfOk result (λ _.
             GiveItems (lines text.now) self.old self.new × (end ≡ Whole)) }
         ensures refused { IfErr result (IsRefused (lines text.now) self.old end) }
@@ -147,15 +147,15 @@ impl<'a> Items<'a> {
         for line in text.lines() {
             number = number.saturating_add(1);
             let Some(item) = item(line) else {
-                return Err(ItemsFault::BadItem(number));
+                return Err(LayoutFileFault::BadItem(number));
             };
             if self.push(item).is_err() {
-                return Err(ItemsFault::Memory);
+                return Err(LayoutFileFault::Memory);
             }
         }
         match end {
             TextEnd::Whole => Ok(()),
-            TextEnd::Cut => Err(ItemsFault::BadItem(number.saturating_add(1))),
+            TextEnd::Cut => Err(LayoutFileFault::BadItem(number.saturating_add(1))),
         }
     }
 
@@ -176,20 +176,20 @@ impl<'a> Items<'a> {
     /// # Errors
     /// `Repeats` where two items of one sort have the same index or name, with the number of the last
     /// line that has such an item, counted from 1.
-    pub fn lend<'s>(&'s self, text: &str) -> Result<LentLayout<'s>, ItemsFault>
+    pub fn lend<'s>(&'s self, text: &str) -> Result<BorrowedLayout<'s>, LayoutFileFault>
         requires { AreSorted self.now }
-        ensures { Lends text.now self.now result }
+        ensures { LendsLayout text.now self.now result }
     {
         match self.lent() {
             Ok(layout) => Ok(layout),
-            Err(item) => Err(ItemsFault::Repeats(last_line(text, &item))),
+            Err(item) => Err(LayoutFileFault::Repeats(last_line(text, &item))),
         }
     }
 
     /// Sorted items as a layout, or one whose index or name two have.
-    fn lent<'s>(&'s self) -> Result<LentLayout<'s>, Item<'s>>
+    fn lent<'s>(&'s self) -> Result<BorrowedLayout<'s>, Item<'s>>
         requires { AreSorted self.now }
-        ensures lent { IfOk result (λ layout. lent_as layout ≡ self.now) }
+        ensures lent { IfOk result (λ layout. borrowed_as layout ≡ self.now) }
         ensures refused { IfErr result (IsRepeated self.now) }
     {
         let sections = match SortedSections::new(self.sections.as_slice()) {
@@ -215,7 +215,7 @@ impl<'a> Items<'a> {
             Ok(names) => names,
             Err(LentName { name, address }) => return Err(Item::Thread { name, address }),
         };
-        Ok(LentLayout {
+        Ok(BorrowedLayout {
             sections,
             definitions,
             linkage,
@@ -281,7 +281,7 @@ fn push_names<'a>(
 /// Sorts sections by rising index.
 fn sort_sections(items: &mut Vec<LentSection>)
     ensures same { IsPermutation (placed items.old.items) (placed items.new.items) }
-    ensures sorted { NeverFalls nat_cmp (placed items.new.items) }
+    ensures sorted { KeysNeverDescend nat_cmp (placed items.new.items) }
 {
     items.sort_unstable();
 }
@@ -289,7 +289,7 @@ fn sort_sections(items: &mut Vec<LentSection>)
 /// Sorts names in the rising order of their bytes.
 fn sort_names(items: &mut Vec<LentName<'_>>)
     ensures same { IsPermutation (named items.old.items) (named items.new.items) }
-    ensures sorted { NeverFalls name_order (named items.new.items) }
+    ensures sorted { KeysNeverDescend name_order (named items.new.items) }
     ensures names { HaveNames (named items.old.items) → HaveNames (named items.new.items) }
 {
     items.sort_unstable();
@@ -297,7 +297,7 @@ fn sort_names(items: &mut Vec<LentName<'_>>)
 
 /// Names in rising order, or one that two have.
 fn names<'a>(items: &'a [LentName<'a>]) -> Result<SortedNames<'a>, LentName<'a>>
-    requires sorted { NeverFalls name_order (named items.now) }
+    requires sorted { KeysNeverDescend name_order (named items.now) }
     requires named { HaveNames (named items.now) }
     ensures names { IfOk result (λ names. names ≡ named items.now) }
     ensures refused { IfErr result (λ item. HasTwice (named items.now) item.name.now) }
@@ -324,8 +324,8 @@ fn are_alike(one: &Item<'_>, other: &Item<'_>) -> bool
 
 /// Whether a line spells an item of this sort and this index or name.
 fn spells_alike(line: &str, wanted: &Item<'_>) -> bool
-    ensures { MatchBool result (SpellsAlike wanted.now line.now)
-        (SpellsAlike wanted.now line.now → ⊥) }
+    ensures { MatchBool result (ParsesSameItem wanted.now line.now)
+        (ParsesSameItem wanted.now line.now → ⊥) }
 {
     match item(line) {
         Some(found) => are_alike(&found, wanted),

@@ -7,7 +7,7 @@ ghost use Rattle.elf_layout.specs.Layouts.{Pushes, names_for};
 
 use crate::named::{NamedAddress, has_name, names_cost};
 use arrayvec::ArrayVec;
-use elf_model::Base;
+use elf_model::RelocationBase;
 use std::marker::Model;
 use thiserror::Error;
 
@@ -171,27 +171,27 @@ impl Layout {
 
     /// The names that are looked through for a base, in the order in which they were given.
     #[tactic(auto, unfolding(crate::specs::Layouts::names_for))]
-    pub(crate) fn names(&self, base: Base) -> &[NamedAddress]
+    pub(crate) fn names(&self, base: RelocationBase) -> &[NamedAddress]
         ensures names { result.now ≡ names_for self.now base }
         ensures compared { self.now.lookup ≡ Compared }
     {
         match base {
-            Base::Symbol => self.definitions.as_slice(),
-            Base::Linkage => self.entries.as_slice(),
-            Base::Table => self.table.as_slice(),
-            Base::Thread => self.thread.as_slice(),
+            RelocationBase::Symbol => self.definitions.as_slice(),
+            RelocationBase::Linkage => self.entries.as_slice(),
+            RelocationBase::Table => self.table.as_slice(),
+            RelocationBase::Thread => self.thread.as_slice(),
         }
     }
 
     /// Whether a base may have an address: one of an entry only where there is an item of its sort.
     #[tactic(auto, unfolding(elf_model::specs::Placing::has_base))]
-    pub fn has_base(&self, base: Base) -> bool
+    pub fn has_base(&self, base: RelocationBase) -> bool
         ensures { result ≡ has_base self.now base }
     {
         match base {
-            Base::Symbol | Base::Linkage => true,
-            Base::Table => !self.table.is_empty(),
-            Base::Thread => !self.thread.is_empty(),
+            RelocationBase::Symbol | RelocationBase::Linkage => true,
+            RelocationBase::Table => !self.table.is_empty(),
+            RelocationBase::Thread => !self.thread.is_empty(),
         }
     }
 
@@ -202,8 +202,11 @@ impl Layout {
         ensures value { result ≡ layout_names_cost self.now }
         ensures few { result < 2 ^ 75 }
     {
-        let names = names_cost(self.names(Base::Symbol)) + names_cost(self.names(Base::Linkage));
-        names + names_cost(self.names(Base::Table)) + names_cost(self.names(Base::Thread))
+        let names = names_cost(self.names(RelocationBase::Symbol))
+            + names_cost(self.names(RelocationBase::Linkage));
+        names
+            + names_cost(self.names(RelocationBase::Table))
+            + names_cost(self.names(RelocationBase::Thread))
     }
 
     /// Puts an item behind those of its sort. A name is copied; it has 1 to 255 bytes, none a NUL.

@@ -10,8 +10,8 @@ ghost use Rattle.elf_model.specs.Placing.{Searched, address_in, address_named};
 ghost use Rattle.elf_model.specs.declared.causes.Cause.TheVariants.{NameUnended};
 ghost use Rattle.elf_layout.specs.Layouts.{IsName};
 ghost use Rattle.elf_layout.specs.Lent.{BeginsWith, BeginsAt, FindsKey, Follows, IsAddressAt};
-ghost use Rattle.elf_layout.specs.Lent.{MayFollow, MayLend, KeysRise};
-ghost use Rattle.elf_layout.specs.Lent.{lent_index, lent_name, name_order, named, placed, search_end};
+ghost use Rattle.elf_layout.specs.Lent.{MayFollow, MayBorrow, KeysAscend};
+ghost use Rattle.elf_layout.specs.Lent.{borrowed_index, lent_name, name_order, named, placed, search_end};
 ghost use Rattle.elf_layout.specs.declared.lent.LentName.{LentName as IsLentName};
 
 use crate::named::ITEM_NAME_BYTES;
@@ -48,13 +48,13 @@ pub struct SortedSections<'a> {
 impl<'a> Model for SortedSections<'a> {
     ghost use Rattle.std.specs.Prelude.{List, ℕ};
     ghost use Rattle.std.specs.Ordering.{nat_cmp};
-    ghost use Rattle.elf_layout.specs.Lent.{KeysRise, lent_index, placed};
+    ghost use Rattle.elf_layout.specs.Lent.{KeysAscend, borrowed_index, placed};
 
     ghost Value = { List (ℕ × ℕ) };
 
     ghost view = { λ s. placed s.items.now };
 
-    ghost invariant = { λ s. KeysRise nat_cmp lent_index s.items.now };
+    ghost invariant = { λ s. KeysAscend nat_cmp borrowed_index s.items.now };
 }
 
 impl<'a> SortedSections<'a> {
@@ -64,10 +64,10 @@ impl<'a> SortedSections<'a> {
     /// The place of the first item whose index is not above the index of the item before it.
     pub fn new(items: &'a [LentSection]) -> Result<SortedSections<'a>, usize>
         ensures sorted { IfOk result (λ sections. sections ≡ placed items.now) }
-        ensures rise { IfOk result (λ _. KeysRise nat_cmp lent_index items.now) }
+        ensures rise { IfOk result (λ _. KeysAscend nat_cmp borrowed_index items.now) }
         ensures refused { IfErr result (λ i. (i < length items.now)
-            × (KeysRise nat_cmp lent_index (take (i + 1) items.now) → ⊥)) }
-        ensures falls { IfErr result (λ i. Follows nat_cmp lent_index items.now i → ⊥) }
+            × (KeysAscend nat_cmp borrowed_index (take (i + 1) items.now) → ⊥)) }
+        ensures falls { IfErr result (λ i. Follows nat_cmp borrowed_index items.now i → ⊥) }
     {
         let mut i = 0;
         while i < items.len() {
@@ -93,16 +93,16 @@ impl<'a> SortedSections<'a> {
 /// Whether the index at a place is above the one before it.
 fn section_follows(items: &[LentSection], i: usize) -> bool
     requires { i < length items.now }
-    ensures { MatchBool result (Follows nat_cmp lent_index items.now i)
-        (Follows nat_cmp lent_index items.now i → ⊥) }
+    ensures { MatchBool result (Follows nat_cmp borrowed_index items.now i)
+        (Follows nat_cmp borrowed_index items.now i → ⊥) }
 {
     i == 0 || items[i - 1].index < items[i].index
 }
 
 /// Where a section is among some, or would be.
 fn search_section(items: &[LentSection], section: u16) -> Result<usize, usize>
-    requires { KeysRise nat_cmp lent_index items.now }
-    ensures { FindsKey nat_cmp lent_index items.now section result }
+    requires { KeysAscend nat_cmp borrowed_index items.now }
+    ensures { FindsKey nat_cmp borrowed_index items.now section result }
 {
     items.binary_search_by_key(&section, |item| item.index)
 }
@@ -117,13 +117,13 @@ pub struct SortedNames<'a> {
 impl<'a> Model for SortedNames<'a> {
     ghost use Rattle.std.specs.Prelude.{◌≡◌, List, ℕ};
     ghost use Rattle.elf_model.specs.ApplyCost.{longest};
-    ghost use Rattle.elf_layout.specs.Lent.{MayLend, named};
+    ghost use Rattle.elf_layout.specs.Lent.{MayBorrow, named};
 
     ghost Value = { List (List ℕ × ℕ) };
 
     ghost view = { λ n. named n.items.now };
 
-    ghost invariant = { λ n. MayLend n.items.now × (n.most ≡ longest (named n.items.now)) };
+    ghost invariant = { λ n. MayBorrow n.items.now × (n.most ≡ longest (named n.items.now)) };
 }
 
 impl<'a> SortedNames<'a> {
@@ -134,9 +134,9 @@ impl<'a> SortedNames<'a> {
     /// item before it.
     pub fn new(items: &'a [LentName<'a>]) -> Result<SortedNames<'a>, usize>
         ensures sorted { IfOk result (λ names. names ≡ named items.now) }
-        ensures lent { IfOk result (λ _. MayLend items.now) }
+        ensures lent { IfOk result (λ _. MayBorrow items.now) }
         ensures refused { IfErr result (λ i. (i < length items.now)
-            × (MayLend (take (i + 1) items.now) → ⊥)) }
+            × (MayBorrow (take (i + 1) items.now) → ⊥)) }
         ensures falls { IfErr result (λ i. MayFollow items.now i → ⊥) }
     {
         let mut most = 0;
@@ -207,7 +207,7 @@ impl<'a> SortedNames<'a> {
 
 /// Where a name is among some, or would be.
 fn search_name(items: &[LentName<'_>], name: &[u8]) -> Result<usize, usize>
-    requires { KeysRise name_order lent_name items.now }
+    requires { KeysAscend name_order lent_name items.now }
     ensures { FindsKey name_order lent_name items.now name.now result }
 {
     items.binary_search_by_key(&name, |item| item.name)

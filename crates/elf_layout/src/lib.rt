@@ -11,8 +11,8 @@ mod named;
 mod spelled;
 mod texts;
 
-pub use addresses::{Addresses, Among, LentLayout};
-pub use items::{Items, ItemsFault};
+pub use addresses::{Addresses, Among, BorrowedLayout};
+pub use items::{Items, LayoutFileFault};
 pub use layout::{Item, Layout, LayoutFault};
 pub use lent::{LentName, LentSection, SortedNames, SortedSections};
 pub use named::{ITEM_NAME_BYTES, NamedAddress};

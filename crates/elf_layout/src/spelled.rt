@@ -3,7 +3,7 @@ ghost use Rattle.std.specs.Prelude.{◌≡◌, ◌≢◌, ◌≤◌, ◌^◌, �
 ghost use Rattle.std.specs.Str.Parse.{IsNumeral};
 ghost use Rattle.elf_layout.specs.Layouts.{IsName};
 ghost use Rattle.elf_layout.specs.Spelled.{IsAddress, IsEntry, IsIndex, IsItemOf, IsNumber};
-ghost use Rattle.elf_layout.specs.Spelled.{IsParted, Spells, item_address};
+ghost use Rattle.elf_layout.specs.Spelled.{IsSplitAtEquals, ParsesItem, item_address};
 ghost use Rattle.elf_layout.specs.declared.layout.Item.{Item};
 
 use crate::layout::Item;
@@ -19,8 +19,8 @@ const LAST_INDEX: u64 = 65_279;
 /// 65279; NAME 1 to 255 bytes without NUL; ADDR `0x` and 1 to 16 hexadecimal digits of either case.
 /// None for another word.
 pub fn item(word: &str) -> Option<Item<'_>>
-    ensures spelled { IfSome result (Spells word.now) }
-    ensures unspelled { IsNone result → (item : Item) → Spells word.now item → ⊥ }
+    ensures spelled { IfSome result (ParsesItem word.now) }
+    ensures unspelled { IsNone result → (item : Item) → ParsesItem word.now item → ⊥ }
 {
     let (key, text) = parted(word)?;
     let address = address_of(text)?;
@@ -29,8 +29,8 @@ pub fn item(word: &str) -> Option<Item<'_>>
 
 /// What stands before and behind the last `=`.
 fn parted(word: &str) -> Option<(&str, &str)>
-    ensures parts { IfSome result (λ parts. IsParted word.now parts.0.now parts.1.now) }
-    ensures none { IsNone result → (key text : List ℕ) → IsParted word.now key text → ⊥ }
+    ensures parts { IfSome result (λ parts. IsSplitAtEquals word.now parts.0.now parts.1.now) }
+    ensures none { IsNone result → (key text : List ℕ) → IsSplitAtEquals word.now key text → ⊥ }
 {
     word.rsplit_once('=')
 }

@@ -3,7 +3,7 @@ ghost use Rattle.std.specs.Prelude.{◌≡◌, ◌≤◌, ◌<◌, ◌+◌, ◌+
 ghost use Rattle.elf_layout.specs.Texts.{EndsLines, HasShortLines, IsTextOf, IsWithinLine};
 ghost use Rattle.elf_layout.specs.Texts.{PutsPiece};
 
-use crate::items::ItemsFault;
+use crate::items::LayoutFileFault;
 use std::io::{ErrorKind, Read};
 
 /// The most bytes of a line. An item has 280 at most.
@@ -31,7 +31,7 @@ pub fn read_text<I: Read>(
     file: &mut I,
     room: &mut [u8],
     text: &mut Vec<u8>,
-) -> Result<TextEnd, ItemsFault>
+) -> Result<TextEnd, LayoutFileFault>
     requires { (text.old.items ≡ []) × (0 < length room.old) }
     ensures text { (bytes : List ℕ) → I.remaining file.old ≡ Some bytes
         → IsTextOf bytes text.new.items result }
@@ -43,8 +43,10 @@ pub fn read_text<I: Read>(
             Ok(0) => return Ok(TextEnd::Whole),
             Ok(count) => count,
             Err(error) if error.kind() == ErrorKind::Interrupted => continue,
-            Err(error) if error.kind() == ErrorKind::OutOfMemory => return Err(ItemsFault::Memory),
-            Err(_) => return Err(ItemsFault::Read),
+            Err(error) if error.kind() == ErrorKind::OutOfMemory => return Err(
+                LayoutFileFault::Memory,
+            ),
+            Err(_) => return Err(LayoutFileFault::Read),
         };
         let piece = &room[..count.min(room.len())];
         match put_piece(piece, &mut line, text)? {
@@ -52,7 +54,7 @@ pub fn read_text<I: Read>(
             TextEnd::Cut => return Ok(TextEnd::Cut),
         }
     }
-    Err(ItemsFault::Read)
+    Err(LayoutFileFault::Read)
 }
 
 /// Puts a piece behind a text, up to a line that has too many bytes: of such a line nothing stays.
@@ -60,7 +62,7 @@ pub fn read_text<I: Read>(
 ///
 /// # Errors
 /// `TooLarge` where the text has too many bytes then, `Memory` where there is none for it.
-fn put_piece(piece: &[u8], line: &mut usize, text: &mut Vec<u8>) -> Result<TextEnd, ItemsFault>
+fn put_piece(piece: &[u8], line: &mut usize, text: &mut Vec<u8>) -> Result<TextEnd, LayoutFileFault>
     requires few { vec_len text.old ≤ 67108864 }
     requires within { IsWithinLine text.old.items (length text.old.items) line.old }
     requires short { HasShortLines text.old.items (length text.old.items) }
@@ -69,10 +71,10 @@ fn put_piece(piece: &[u8], line: &mut usize, text: &mut Vec<u8>) -> Result<TextE
 {
     let end = lines_end(piece, line);
     if end > TEXT_BYTES - text.len() {
-        return Err(ItemsFault::TooLarge);
+        return Err(LayoutFileFault::TooLarge);
     }
     if text.extend_from_slice(&piece[..end]).is_err() {
-        return Err(ItemsFault::Memory);
+        return Err(LayoutFileFault::Memory);
     }
     if end == piece.len() {
         return Ok(TextEnd::Whole);

@@ -2,7 +2,7 @@
 use Rattle.std.proofs.Common.{◌≡◌, ℕ, zero, suc, ◌<◌, ◌==◌, Bool, true, false, List, [], ◌∷◌, ◌++◌, length, slice_index_or, Option, None, Some, Result, Ok, Err, refl, sym, ap, ◌∙◌, arith, length-append, append_assoc}
 use Rattle.std.proofs.lemmas.Bool.Decides.{nat_tests}
 use Rattle.elf_model.specs.Checks.{first_refusal}
-use Rattle.elf_model.specs.Links.{LinkState, NeededName, TextRoom, first_text, is_link, link_text, linked_by, linked_with, room_behind}
+use Rattle.elf_model.specs.Links.{LinkState, NeededName, TextRoom, first_text, is_link, link_text, linked_by, linked_with, room_after}
 use Rattle.elf_model.specs.Mapped.{mapped_bytes, mapped_checks, mapped_place, strings_at}
 use Rattle.elf_model.specs.Names.{shown}
 use Rattle.elf_model.specs.Records.{d_tag, d_un}
@@ -11,11 +11,11 @@ use Rattle.elf_model.specs.declared.causes.Refusal.{Refusal}
 use Rattle.elf_headers.specs.declared.fault.Fault.{Fault}
 use Rattle.elf_headers.specs.declared.fault.Fault.TheVariants.{Refused, Source}
 use Rattle.elf_table.specs.Sections.{strings}
-use Rattle.elf_table.specs.Tables.{Strings}
+use Rattle.elf_table.specs.Tables.{StringTableRange}
 use Rattle.elf_table.specs.Views.{strings_mapped}
-use Rattle.elf_libraries.specs.Entries.{AreNeeds, IsNeed, IsHeldText, KeepsLinks, KeepsText, TellsLinks, TellsStrings, TellsText, first_index, text_by, with_index}
-use Rattle.elf_libraries.specs.Held.{HeldLinks}
-use Rattle.elf_libraries.specs.declared.links.FileLinks.{FileLinks}
+use Rattle.elf_libraries.specs.Entries.{AreNeeds, IsNeed, IsHeldText, KeepsLinks, KeepsText, ReturnsLinks, ReturnsStrings, ReturnsText, first_index, text_by, with_index}
+use Rattle.elf_libraries.specs.Held.{LinkInfoState}
+use Rattle.elf_libraries.specs.declared.links.LinkInfo.{LinkInfo}
 use Rattle.elf_libraries.specs.declared.links.Need.{Need}
 
 -- THE STRINGS that entries locate
@@ -37,10 +37,10 @@ module _ (file : List ℕ) (at : ℕ) where
     unfolding strings_at
     strings_fail refusal e = rw (e, strings_at) refl
 
-    pub strings_found : (result : Result Strings Fault) → result ≡ strings_mapped file address size at → TellsStrings file (strings_at file at (Some address) (Some size)) result
+    pub strings_found : (result : Result StringTableRange Fault) → result ≡ strings_mapped file address size at → ReturnsStrings file (strings_at file at (Some address) (Some size)) result
     strings_found result is = go (first_refusal (mapped_checks file address size at)) refl
       where
-        go : (first : Option Refusal) → first_refusal (mapped_checks file address size at) ≡ first → TellsStrings file (strings_at file at (Some address) (Some size)) result
+        go : (first : Option Refusal) → first_refusal (mapped_checks file address size at) ≡ first → ReturnsStrings file (strings_at file at (Some address) (Some size)) result
         go None e =
             let r : result ≡ Ok (strings (mapped_place file address size) size) = is ∙ rw (e, strings_mapped) refl in
             rw r (strings_pass e)
@@ -117,17 +117,17 @@ module _ (file : List ℕ) (address size : Option ℕ) (at : ℕ) where
       with_refused refusal e = rw (is, e, linked_with) refl
 
       with_told : (text : List ℕ) → link_text file address size state.room at ≡ Ok text
-          → linked_with file address size at state ≡ Ok (record { links = linked_by (d_tag file at) at text state.links; room = room_behind state.room text })
+          → linked_with file address size at state ≡ Ok (record { links = linked_by (d_tag file at) at text state.links; room = room_after state.room text })
       unfolding linked_with
       with_told text e = rw (is, e, linked_with) refl
 
       -- its strings are refused, or its text
-      pub names_stop : (before new : HeldLinks) (fault : Fault) → TellsStrings file (strings_at file at address size) (Err fault) → TellsLinks (linked_with file address size at state) before new (Err fault)
+      pub names_stop : (before new : LinkInfoState) (fault : Fault) → ReturnsStrings file (strings_at file at address size) (Err fault) → ReturnsLinks (linked_with file address size at state) before new (Err fault)
       names_stop before new (Refused refusal) e = λ other. with_refused refusal (text_nowhere state.room refusal e)
       names_stop before new (Source fault offset) e = absurd e
 
-      pub text_stops : (strings : List ℕ) (room : TextRoom) (before old new : HeldLinks) (fault : Fault) → strings_at file at address size ≡ Ok strings → room ≡ state.room
-          → (off : ℕ) → off ≡ d_un file at → TellsText (text_by room at (shown strings off 4096)) old new (Err fault) → TellsLinks (linked_with file address size at state) before new (Err fault)
+      pub text_stops : (strings : List ℕ) (room : TextRoom) (before old new : LinkInfoState) (fault : Fault) → strings_at file at address size ≡ Ok strings → room ≡ state.room
+          → (off : ℕ) → off ≡ d_un file at → ReturnsText (text_by room at (shown strings off 4096)) old new (Err fault) → ReturnsLinks (linked_with file address size at state) before new (Err fault)
       text_stops strings room before old new (Refused refusal) e same off stands tells = λ other.
           with_refused refusal
           (text_is state.room strings e ∙ ap (λ (n : ℕ). text_by state.room at (shown strings n 4096)) (sym stands) ∙ ap (λ (r : TextRoom). text_by r at (shown strings off 4096)) (sym same)
@@ -135,21 +135,21 @@ module _ (file : List ℕ) (address size : Option ℕ) (at : ℕ) where
       text_stops strings room before old new (Source fault offset) e same off stands tells = tt
 
       -- its text is kept
-      module _ (strings : List ℕ) (before old mid : HeldLinks) (index : ℕ) (links : FileLinks) (e : strings_at file at address size ≡ Ok strings)
+      module _ (strings : List ℕ) (before old mid : LinkInfoState) (index : ℕ) (links : LinkInfo) (e : strings_at file at address size ≡ Ok strings)
           (off : ℕ) (stands : off ≡ d_un file at) (k : KeepsText (text_by old.held.room at (shown strings off 4096)) old mid index) (l : KeepsLinks before old links state) where
-        told : linked_with file address size at state ≡ Ok (record { links = linked_by (d_tag file at) at k.text state.links; room = room_behind state.room k.text })
+        told : linked_with file address size at state ≡ Ok (record { links = linked_by (d_tag file at) at k.text state.links; room = room_after state.room k.text })
         told =
             with_told k.text
             (text_is state.room strings e ∙ ap (λ (n : ℕ). text_by state.room at (shown strings n 4096)) (sym stands) ∙ ap (λ (r : TextRoom). text_by r at (shown strings off 4096)) (sym l.room)
-            ∙ k.told_text)
+            ∙ k.reported_text)
 
         texts_more : old.held.texts ++ k.text ∷ [] ≡ before.held.texts ++ (l.more ++ k.text ∷ [])
         texts_more = ap (λ (t : List (List ℕ)). t ++ k.text ∷ []) l.texts ∙ append_assoc before.held.texts l.more (k.text ∷ [])
 
-        room_less : room_behind old.held.room k.text ≡ room_behind state.room k.text
-        room_less = ap (λ (r : TextRoom). room_behind r k.text) l.room
+        room_less : room_after old.held.room k.text ≡ room_after state.room k.text
+        room_less = ap (λ (r : TextRoom). room_after r k.text) l.room
 
-        pub text_told : (tag : ℕ) → tag ≡ d_tag file at → (tag == 1) ≡ false → TellsLinks (linked_with file address size at state) before mid (Ok (with_index links tag index))
+        pub text_told : (tag : ℕ) → tag ≡ d_tag file at → (tag == 1) ≡ false → ReturnsLinks (linked_with file address size at state) before mid (Ok (with_index links tag index))
         unfolding linked_by
         text_told tag same other = (
           _,
@@ -167,8 +167,8 @@ module _ (file : List ℕ) (address size : Option ℕ) (at : ℕ) where
           }),
         )
 
-        pub need_told : d_tag file at ≡ 1 → (new : HeldLinks) → new ≡ record { held = mid.held; needs = mid.needs ++ record { at = at; name = index } ∷ [] }
-            → TellsLinks (linked_with file address size at state) before new (Ok links)
+        pub need_told : d_tag file at ≡ 1 → (new : LinkInfoState) → new ≡ record { held = mid.held; needs = mid.needs ++ record { at = at; name = index } ∷ [] }
+            → ReturnsLinks (linked_with file address size at state) before new (Ok links)
         unfolding linked_by
         need_told tag new is =
             let name : NeededName = record { at = at; name = k.text } in

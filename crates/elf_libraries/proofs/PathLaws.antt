@@ -2,7 +2,7 @@
 use Rattle.std.proofs.Common.{◌≡◌, ℕ, ◌+◌, ◌<◌, ◌≤◌, true, false, Bool, nat_lt, List, [], ◌∷◌, ◌++◌, length, length-append, Option, None, Some, refl, ap, sym, ◌∙◌, append_assoc, arith}
 use Rattle.std.proofs.lemmas.Bool.Decides.{nat_tests}
 use Rattle.std.specs.List.{cons_option}
-use Rattle.elf_libraries.specs.Searching.{MOST_PATH_BYTES, behind_folder, root_before, entry_path, entry_paths, folder_of_entry, if_short, path_in}
+use Rattle.elf_libraries.specs.Searching.{MOST_PATH_BYTES, after_dir, root_before, entry_path, entry_paths, dir_of_entry, if_short, path_in}
 use Rattle.elf_libraries.specs.Steps.{IsMade, PutsText}
 
 some_same : {x y : List ℕ} → Some x ≡ Some y → x ≡ y
@@ -38,7 +38,7 @@ behind_none : (n : ℕ) → MOST_PATH_BYTES < 0 + n → MOST_PATH_BYTES < n
 behind_none n long = omega (arith, long)
 
 long_path : (folder name : List ℕ) → MOST_PATH_BYTES < length folder → MOST_PATH_BYTES < length (path_in folder name)
-long_path folder name long = rw (length-append folder (behind_folder folder ++ name)) (omega (arith, long))
+long_path folder name long = rw (length-append folder (after_dir folder ++ name)) (omega (arith, long))
 
 pub made_of : (new text : List ℕ) (r : Bool) → (r ≡ true → length new ≤ MOST_PATH_BYTES) → PutsText [] new (Some text) r → IsMade new (if_short text) r
 made_of new text true short (t, is, put) =
@@ -47,22 +47,22 @@ made_of new text true short (t, is, put) =
 made_of new text false short long = is_long text (behind_none (length text) (long text refl))
 
 -- by the folder that an entry names
-by_folder : (root name : List ℕ) (origin : Option (List ℕ)) (entry folder : List ℕ) → folder_of_entry origin entry ≡ Some folder
+by_folder : (root name : List ℕ) (origin : Option (List ℕ)) (entry folder : List ℕ) → dir_of_entry origin entry ≡ Some folder
     → entry_path root name origin entry ≡ if_short (path_in (root_before root entry ++ folder) name)
 unfolding entry_path
 by_folder root name origin entry folder is = rw (entry_path, is) refl
 
-no_folder : (root name : List ℕ) (origin : Option (List ℕ)) (entry : List ℕ) → folder_of_entry origin entry ≡ None → entry_path root name origin entry ≡ None
+no_folder : (root name : List ℕ) (origin : Option (List ℕ)) (entry : List ℕ) → dir_of_entry origin entry ≡ None → entry_path root name origin entry ≡ None
 unfolding entry_path
 no_folder root name origin entry is = rw (entry_path, is) refl
 
 module _ (root name : List ℕ) (origin : Option (List ℕ)) (entry : List ℕ) where
   -- a path that is too long
-  pub too_long : ((folder : List ℕ) → folder_of_entry origin entry ≡ Some folder → MOST_PATH_BYTES < length (root_before root entry) + length folder)
+  pub too_long : ((folder : List ℕ) → dir_of_entry origin entry ≡ Some folder → MOST_PATH_BYTES < length (root_before root entry) + length folder)
       → entry_path root name origin entry ≡ None
-  too_long long = go (folder_of_entry origin entry) refl
+  too_long long = go (dir_of_entry origin entry) refl
     where
-      go : (found : Option (List ℕ)) → folder_of_entry origin entry ≡ found → entry_path root name origin entry ≡ None
+      go : (found : Option (List ℕ)) → dir_of_entry origin entry ≡ found → entry_path root name origin entry ≡ None
       go None is = no_folder root name origin entry is
       go (Some folder) is =
           let l = long folder is in
@@ -70,11 +70,11 @@ module _ (root name : List ℕ) (origin : Option (List ℕ)) (entry : List ℕ) 
           by_folder root name origin entry folder is ∙ is_long _ (long_path (root_before root entry ++ folder) name (omega (arith, l, before)))
 
   pub entry_made : (mid put new : List ℕ) (r : Bool) → (r ≡ true → length new ≤ MOST_PATH_BYTES) → PutsText [] mid (Some (root_before root entry)) true
-      → PutsText mid put (folder_of_entry origin entry) true → PutsText put new (Some (behind_folder put ++ name)) r
+      → PutsText mid put (dir_of_entry origin entry) true → PutsText put new (Some (after_dir put ++ name)) r
       → IsMade new (entry_path root name origin entry) r
   entry_made mid put new r short (text, is, rooted) (folder, found, behind) last =
       let e : put ≡ root_before root entry ++ folder = behind ∙ ap (λ t. t ++ folder) (rooted ∙ sym (some_same is)) in
-      let whole : PutsText [] new (Some (path_in put name)) r = puts_both [] put new put (behind_folder put ++ name) r (put, refl, refl) last in
+      let whole : PutsText [] new (Some (path_in put name)) r = puts_both [] put new put (after_dir put ++ name) r (put, refl, refl) last in
       let made = made_of new (path_in put name) r short whole in
       at_made (by_folder root name origin entry folder found ∙ ap (λ t. if_short (path_in t name)) (sym e)) r made
     where
@@ -85,7 +85,7 @@ module _ (root name : List ℕ) (origin : Option (List ℕ)) (entry : List ℕ) 
   pub not_rooted : (new : List ℕ) → PutsText [] new (Some (root_before root entry)) false → IsMade new (entry_path root name origin entry) false
   not_rooted new long = too_long (λ folder is. let l = behind_none (length (root_before root entry)) (long (root_before root entry) refl) in omega (arith, l))
 
-  pub not_named : (mid new : List ℕ) → PutsText [] mid (Some (root_before root entry)) true → PutsText mid new (folder_of_entry origin entry) false
+  pub not_named : (mid new : List ℕ) → PutsText [] mid (Some (root_before root entry)) true → PutsText mid new (dir_of_entry origin entry) false
       → IsMade new (entry_path root name origin entry) false
   not_named mid new (text, is, rooted) long = too_long (λ folder found.
       let l = long folder found in

@@ -6,21 +6,21 @@ use Rattle.elf_libraries.specs.Searching.{DOLLAR, MOST_PATH_BYTES, Token, expand
 use Rattle.elf_libraries.specs.Steps.{PutsText}
 
 -- what was put so far, with what is left, comes to what is wanted
-abbrev pub Goes : (old now : List ℕ) (found rest : Option (List ℕ)) → Type 0
-Goes old now found rest = option_map (λ text. old ++ text) found ≡ option_map (λ text. now ++ text) rest
+abbrev pub IsWalkAlive : (old now : List ℕ) (found rest : Option (List ℕ)) → Type 0
+IsWalkAlive old now found rest = option_map (λ text. old ++ text) found ≡ option_map (λ text. now ++ text) rest
 
 append_nil : (xs : List ℕ) → xs ++ [] ≡ xs
 append_nil [] = refl
 append_nil (x ∷ xs) = ap (λ rest. x ∷ rest) (append_nil xs)
 
-pub goes_end : (old now : List ℕ) (found : Option (List ℕ)) → Goes old now found (Some []) → PutsText old now found true
+pub goes_end : (old now : List ℕ) (found : Option (List ℕ)) → IsWalkAlive old now found (Some []) → PutsText old now found true
 goes_end old now None goes = absurd (cc goes)
 goes_end old now (Some text) goes = (text, refl, sym (some_same goes ∙ append_nil now))
   where
     some_same : {x y : List ℕ} → Some x ≡ Some y → x ≡ y
     some_same e = cc e
 
-pub goes_short : (old now new : List ℕ) (found rest : Option (List ℕ)) → Goes old now found rest → ((left : List ℕ) → rest ≡ Some left → MOST_PATH_BYTES < length now + length left)
+pub goes_short : (old now new : List ℕ) (found rest : Option (List ℕ)) → IsWalkAlive old now found rest → ((left : List ℕ) → rest ≡ Some left → MOST_PATH_BYTES < length now + length left)
     → PutsText old new found false
 goes_short old now new None rest goes long text is = absurd (cc is)
 goes_short old now new (Some found) None goes long text is = absurd (cc goes)
@@ -86,8 +86,8 @@ pub at_none : (origin text : List ℕ) (at : ℕ) → at < length text → get_o
 at_none origin text at below sign is = at_sign origin text at below sign ∙ behind_none origin (drop (at + 1) text) is
 
 -- more is put
-pub goes_on : (old now more : List ℕ) (found rest left : Option (List ℕ)) → Goes old now found rest → rest ≡ option_map (λ text. more ++ text) left
-    → Goes old (now ++ more) found left
+pub goes_on : (old now more : List ℕ) (found rest left : Option (List ℕ)) → IsWalkAlive old now found rest → rest ≡ option_map (λ text. more ++ text) left
+    → IsWalkAlive old (now ++ more) found left
 goes_on old now more found rest None goes is = goes ∙ rw is refl
 goes_on old now more found rest (Some left) goes is = goes ∙ rw is (ap Some (sym (append_assoc now more left)))
 
@@ -99,13 +99,13 @@ longer more rest (Some left) is text some =
     rw (← e) (omega (arith, n))
 
 -- after more was put, and where there is no room for it
-pub goes_put : (old now new more : List ℕ) (found rest left : Option (List ℕ)) → Goes old now found rest → rest ≡ option_map (λ text. more ++ text) left
-    → PutsText now new (Some more) true → Goes old new found left
+pub goes_put : (old now new more : List ℕ) (found rest left : Option (List ℕ)) → IsWalkAlive old now found rest → rest ≡ option_map (λ text. more ++ text) left
+    → PutsText now new (Some more) true → IsWalkAlive old new found left
 goes_put old now new more found rest left goes is (text, same, put) =
     let e : new ≡ now ++ more = put ∙ ap (λ t. now ++ t) (cc same) in
     rw e (goes_on old now more found rest left goes is)
 
-pub short_put : (old now new end more : List ℕ) (found rest left : Option (List ℕ)) → Goes old now found rest → rest ≡ option_map (λ text. more ++ text) left
+pub short_put : (old now new end more : List ℕ) (found rest left : Option (List ℕ)) → IsWalkAlive old now found rest → rest ≡ option_map (λ text. more ++ text) left
     → PutsText now new (Some more) false → PutsText old end found false
 short_put old now new end more found rest left goes is long =
     goes_short old now end found rest goes (λ text some.
@@ -121,6 +121,6 @@ nothing : (origin : List ℕ) → expanded origin 0 [] ≡ Some []
 unfolding expanded
 nothing origin = refl
 
-pub goes_all : (origin old now text : List ℕ) (at : ℕ) (found : Option (List ℕ)) → length text ≤ at → Goes old now found (expanded origin 0 (drop at text)) → PutsText old now found true
+pub goes_all : (origin old now text : List ℕ) (at : ℕ) (found : Option (List ℕ)) → length text ≤ at → IsWalkAlive old now found (expanded origin 0 (drop at text)) → PutsText old now found true
 goes_all origin old now text at found all goes =
     goes_end old now found (goes ∙ ap (option_map (λ more. now ++ more)) (ap (expanded origin 0) (drop_of_length-le text all) ∙ nothing origin))

@@ -1,8 +1,8 @@
 -- How a file is linked whose program headers are loaded, stage by stage.
 use Rattle.std.specs.Prelude.{ℕ, ◌≡◌, ◌/◌, true, false, List, Option, None, Some, Result, Ok, Err}
-use Rattle.elf_model.specs.Budget.{IsBudget}
+use Rattle.elf_model.specs.Budget.{IsBudgetRefusal}
 use Rattle.elf_model.specs.Checks.{first_refusal}
-use Rattle.elf_model.specs.Links.{LinkState, TextRoom, linked_in, no_links}
+use Rattle.elf_model.specs.Links.{LinkState, TextRoom, linked_in, no_link_info}
 use Rattle.elf_model.specs.LoaderScope.{dynamic_segment_index}
 use Rattle.elf_model.specs.Records.{p_filesz, p_offset, segment_at}
 use Rattle.elf_model.specs.Tables.{segment_dynamic_checks}
@@ -17,15 +17,15 @@ lookup_passed (Refused refusal) = elim (has_none refusal.cause) [ true ↦ Ok tt
 lookup_passed (Source fault at) = Err (Source fault at)
 
 -- it is not refused, or it is, unless that is for want of budget
-abbrev pub TellsLookupRefusal : Option Refusal → Result (Unit {0}) Fault → Type 0
-TellsLookupRefusal told (Ok passed) = told ≡ None
-TellsLookupRefusal told (Err (Refused refusal)) = (IsBudget refusal → ⊥) → told ≡ Some refusal
-TellsLookupRefusal told (Err (Source fault at)) = Unit {0}
+abbrev pub ReturnsLookupRefusal : Option Refusal → Result (Unit {0}) Fault → Type 0
+ReturnsLookupRefusal told (Ok passed) = told ≡ None
+ReturnsLookupRefusal told (Err (Refused refusal)) = (IsBudgetRefusal refusal → ⊥) → told ≡ Some refusal
+ReturnsLookupRefusal told (Err (Source fault at)) = Unit {0}
 
 -- what the first segment of dynamic entries tells
 abbrev pub linked_in_segments : List ℕ → TextRoom → Result LinkState Refusal
 linked_in_segments file room = elim (dynamic_segment_index file) [
-  | None ↦ Ok (record { links = no_links; room = room })
+  | None ↦ Ok (record { links = no_link_info; room = room })
   | Some i ↦ elim (first_refusal (segment_dynamic_checks file (segment_at file i))) [
     | Some refusal ↦ Err refusal
     | None ↦ linked_in file (p_offset file (segment_at file i)) (p_filesz file (segment_at file i) / 16) room

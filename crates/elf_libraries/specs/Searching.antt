@@ -58,7 +58,7 @@ expanded origin zero (b ∷ text) = elim (b == DOLLAR) [
 ]
 
 -- FOLDERS. A text of folders, and the folder that stands for `$ORIGIN`: where there is none a `$` is a byte like others
-pub record Folders : Type 0 where
+pub record SearchPathText : Type 0 where
   pub text : List ℕ
   pub origin : Option (List ℕ)
 
@@ -76,9 +76,9 @@ entries_of [] = []
 entries_of (b ∷ text) = parted [] (b ∷ text)
 
 -- the folder that an entry names
-unfoldable pub folder_of_entry : Option (List ℕ) → List ℕ → Option (List ℕ)
-folder_of_entry None entry = Some entry
-folder_of_entry (Some origin) entry = expanded origin 0 entry
+unfoldable pub dir_of_entry : Option (List ℕ) → List ℕ → Option (List ℕ)
+dir_of_entry None entry = Some entry
+dir_of_entry (Some origin) entry = expanded origin 0 entry
 
 -- PATHS. What is written with a slash at its front stands below another root
 abbrev pub is_rooted : List ℕ → Bool
@@ -88,13 +88,13 @@ abbrev pub root_before : (root text : List ℕ) → List ℕ
 root_before root text = if is_rooted text then root else []
 
 -- what stands between a folder and a name in it: a slash, whatever the folder ends in; the empty folder is the current one
-unfoldable pub behind_folder : List ℕ → List ℕ
-behind_folder folder =
+unfoldable pub after_dir : List ℕ → List ℕ
+after_dir folder =
     if length folder == 0 then codes "./" else codes "/"
 
 -- the path of a name in a folder
 abbrev pub path_in : (folder name : List ℕ) → List ℕ
-path_in folder name = folder ++ (behind_folder folder ++ name)
+path_in folder name = folder ++ (after_dir folder ++ name)
 
 -- a path that can be opened
 abbrev pub if_short : List ℕ → Option (List ℕ)
@@ -102,7 +102,7 @@ if_short path = if nat_lt MOST_PATH_BYTES (length path) then None else Some path
 
 -- the path of a name in the folder that an entry names: none where a `$` begins no token, or where it is too long
 unfoldable pub entry_path : (root name : List ℕ) (origin : Option (List ℕ)) (entry : List ℕ) → Option (List ℕ)
-entry_path root name origin entry = elim (folder_of_entry origin entry) [
+entry_path root name origin entry = elim (dir_of_entry origin entry) [
   | None ↦ None
   | Some folder ↦ if_short (path_in (root_before root entry ++ folder) name)
 ]
@@ -113,62 +113,62 @@ entry_paths root name origin [] = []
 entry_paths root name origin (entry ∷ entries) = cons_option (entry_path root name origin entry) (entry_paths root name origin entries)
 
 -- the paths of a name in the folders of a text
-abbrev pub folder_paths : (root name : List ℕ) → Folders → List (List ℕ)
-folder_paths root name folders = entry_paths root name folders.origin (entries_of folders.text)
+abbrev pub dir_paths : (root name : List ℕ) → SearchPathText → List (List ℕ)
+dir_paths root name folders = entry_paths root name folders.origin (entries_of folders.text)
 
 -- THE ORDER. An object that needs others: its DT_RPATH and its DT_RUNPATH, if it has such, and the folder that it is in
-pub record Needer : Type 0 where
+pub record NeedingObject : Type 0 where
   pub rpath : Option (List ℕ)
   pub runpath : Option (List ℕ)
   pub folder : List ℕ
 
 -- what an object's own DT_RPATH names: nothing where it has DT_RUNPATH
-abbrev pub rpath_of : Needer → Option Folders
+abbrev pub rpath_of : NeedingObject → Option SearchPathText
 rpath_of needer = elim needer.runpath [
   | Some text ↦ None
   | None ↦ option_map (λ text. record { text = text; origin = Some needer.folder }) needer.rpath
 ]
 
 -- what its DT_RUNPATH names
-abbrev pub runpath_of : Needer → Option Folders
+abbrev pub runpath_of : NeedingObject → Option SearchPathText
 runpath_of needer = option_map (λ text. record { text = text; origin = Some needer.folder }) needer.runpath
 
 -- what DT_RPATH names of an object, of the one that first needed it, and so on
-unfoldable pub rpath_folders : List Needer → List Folders
-rpath_folders [] = []
-rpath_folders (needer ∷ above) = cons_option (rpath_of needer) (rpath_folders above)
+unfoldable pub rpath_dirs : List NeedingObject → List SearchPathText
+rpath_dirs [] = []
+rpath_dirs (needer ∷ above) = cons_option (rpath_of needer) (rpath_dirs above)
 
 -- what DT_RUNPATH of the first names
-unfoldable pub first_runpath : List Needer → Option Folders
+unfoldable pub first_runpath : List NeedingObject → Option SearchPathText
 first_runpath [] = None
 first_runpath (needer ∷ above) = runpath_of needer
 
 -- DT_RPATH counts only where the object that needs the library has no DT_RUNPATH
-abbrev pub unless_runpath : Option Folders → List Folders → List Folders
+abbrev pub unless_runpath : Option SearchPathText → List SearchPathText → List SearchPathText
 unless_runpath None folders = folders
 unless_runpath (Some runpath) folders = []
 
 -- folders that a command line tells
-abbrev pub given_folders : List ℕ → Folders
-given_folders text = record { text = text; origin = None }
+abbrev pub given_dirs : List ℕ → SearchPathText
+given_dirs text = record { text = text; origin = None }
 
 -- THE FOLDERS in which a library is looked for that an object needs, the first of these; behind it stands the object that first
 -- needed it, and so on. Its DT_RPATH and theirs, unless it has DT_RUNPATH; the path of libraries that is given; its DT_RUNPATH;
 -- the default folders
-abbrev pub searched_folders : (library default : List ℕ) → List Needer → List Folders
-searched_folders library default needers =
-    unless_runpath (first_runpath needers) (rpath_folders needers) ++ (given_folders library ∷ cons_option (first_runpath needers) (given_folders default ∷ []))
+abbrev pub search_dirs : (library default : List ℕ) → List NeedingObject → List SearchPathText
+search_dirs library default needers =
+    unless_runpath (first_runpath needers) (rpath_dirs needers) ++ (given_dirs library ∷ cons_option (first_runpath needers) (given_dirs default ∷ []))
 
 -- the paths of a name in all of them
-unfoldable pub searched_paths : (root name : List ℕ) → List Folders → List (List ℕ)
+unfoldable pub searched_paths : (root name : List ℕ) → List SearchPathText → List (List ℕ)
 searched_paths root name [] = []
-searched_paths root name (folders ∷ others) = folder_paths root name folders ++ searched_paths root name others
+searched_paths root name (folders ∷ others) = dir_paths root name folders ++ searched_paths root name others
 
 -- THE PATHS THAT ARE TRIED for a name: where there is a slash in it that path alone
-unfoldable pub paths_tried : (root library default : List ℕ) → List Needer → (name : List ℕ) → List (List ℕ)
+unfoldable pub paths_tried : (root library default : List ℕ) → List NeedingObject → (name : List ℕ) → List (List ℕ)
 paths_tried root library default needers name = elim (list_any (λ b. b == PATH_SLASH) name) [
   | true ↦ cons_option (if_short (root_before root name ++ name)) []
-  | false ↦ searched_paths root name (searched_folders library default needers)
+  | false ↦ searched_paths root name (search_dirs library default needers)
 ]
 
 -- THE FOLDER of a path: what stands before its last slash, `/` where nothing does, and the current folder where there is none
@@ -177,7 +177,7 @@ pub record LastSlash (path : List ℕ) (place : ℕ) : Type 0 where
   pub is_slash : slice_index path place ≡ PATH_SLASH
   pub none_behind : (k : ℕ) → place < k → k < length path → slice_index path k ≢ PATH_SLASH
 
-abbrev pub IsFolderOf : (path folder : List ℕ) → Type 0
-IsFolderOf path folder =
+abbrev pub IsDirOf : (path folder : List ℕ) → Type 0
+IsDirOf path folder =
     ((place : ℕ) × LastSlash path place × (folder ≡ (if place == 0 then codes "/" else take place path)))
     ⊎ (((k : ℕ) → k < length path → slice_index path k ≢ PATH_SLASH) × (folder ≡ codes "."))

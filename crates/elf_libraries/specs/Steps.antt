@@ -1,10 +1,10 @@
 -- What calls did to a path that is made.
 use Rattle.std.specs.Prelude.{ℕ, ◌≡◌, ◌+◌, ◌<◌, Bool, true, false, List, [], ◌++◌, length, map, Option, None, Some}
 use Rattle.std.specs.Borrow.{Bor}
-use Rattle.elf_libraries.specs.Searching.{Folders, MOST_PATH_BYTES, Needer, Token, parted}
-use Rattle.elf_libraries.specs.declared.folders.FolderList.{FolderList}
-use Rattle.elf_libraries.specs.declared.needers.Needer.{Needer as BorrowedNeeder}
-use Rattle.elf_libraries.specs.declared.tokens.FoundToken.{FoundToken}
+use Rattle.elf_libraries.specs.Searching.{SearchPathText, MOST_PATH_BYTES, NeedingObject, Token, parted}
+use Rattle.elf_libraries.specs.declared.folders.SearchPathList.{SearchPathList}
+use Rattle.elf_libraries.specs.declared.needers.NeedingObject.{NeedingObject as BorrowedNeeder}
+use Rattle.elf_libraries.specs.declared.tokens.StringToken.{StringToken}
 
 -- a text was put behind a path; or there is no such text, or no room for it
 abbrev pub PutsText : (old new : List ℕ) → Option (List ℕ) → Bool → Type 0
@@ -17,7 +17,7 @@ IsMade path wanted true = wanted ≡ Some path
 IsMade path wanted false = wanted ≡ None
 
 -- a token by bytes that are borrowed
-abbrev pub token_of : FoundToken → Token
+abbrev pub token_of : StringToken → Token
 token_of token = record { value = token.value.now; size = token.size }
 
 -- folders by texts that are borrowed
@@ -25,17 +25,17 @@ abbrev pub origin_of : Option (Bor (List ℕ)) → Option (List ℕ)
 origin_of None = None
 origin_of (Some origin) = Some origin.now
 
-abbrev pub folders_of : FolderList → Folders
-folders_of folders = record { text = folders.text.now; origin = origin_of folders.origin }
+abbrev pub dirs_of : SearchPathList → SearchPathText
+dirs_of folders = record { text = folders.text.now; origin = origin_of folders.origin }
 
-abbrev pub folders_in : List FolderList → List Folders
-folders_in lists = map folders_of lists
+abbrev pub dirs_in : List SearchPathList → List SearchPathText
+dirs_in lists = map dirs_of lists
 
 -- objects by texts that are borrowed
-abbrev pub needer_of : BorrowedNeeder → Needer
+abbrev pub needer_of : BorrowedNeeder → NeedingObject
 needer_of needer = record { rpath = origin_of needer.rpath; runpath = origin_of needer.runpath; folder = needer.folder.now }
 
-abbrev pub needers_of : List BorrowedNeeder → List Needer
+abbrev pub needers_of : List BorrowedNeeder → List NeedingObject
 needers_of needers = map needer_of needers
 
 -- the entries of what is left of a text; where none is left there is none

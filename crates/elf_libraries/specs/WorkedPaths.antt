@@ -1,9 +1,9 @@
 -- Worked examples of the paths that are tried for a library.
 use Rattle.std.specs.Prelude.{◌≡◌, List, [], ◌∷◌, codes, Option, None, Some, ℕ}
-use Rattle.elf_libraries.specs.Searching.{Needer, paths_tried}
+use Rattle.elf_libraries.specs.Searching.{NeedingObject, paths_tried}
 
 -- an object by what it tells of folders, and where it is
-abbrev needer : Option (List ℕ) → Option (List ℕ) → List ℕ → Needer
+abbrev needer : Option (List ℕ) → Option (List ℕ) → List ℕ → NeedingObject
 needer rpath runpath folder = record { rpath = rpath; runpath = runpath; folder = folder }
 
 -- a name with a slash in it is a path: that alone is tried, below another root where it begins with a slash
@@ -37,8 +37,8 @@ TokensStand =
 
 -- an empty entry is the current folder, and an empty text has none; a folder that ends in a slash has one more behind it; another
 -- root stands before what is written with a slash at its front, and not before the folder of an object
-abbrev pub FoldersAreJoined : Type 0
-FoldersAreJoined =
+abbrev pub DirsAreJoined : Type 0
+DirsAreJoined =
     (paths_tried [] [] (codes ":/d/:") (needer None None (codes "/a") ∷ []) (codes "z") ≡ codes "./z" ∷ codes "/d//z" ∷ codes "./z" ∷ [])
     × (paths_tried (codes "/r") [] (codes "/d:e") (needer None (Some (codes "$ORIGIN:/f")) (codes "/r/a") ∷ []) (codes "z")
     ≡ codes "/r/a/z" ∷ codes "/r/f/z" ∷ codes "/r/d/z" ∷ codes "e/z" ∷ [])

@@ -1,58 +1,58 @@
 //! The dynamic entries that tell how a file is linked.
 ghost use Rattle.std.specs.Prelude.{◌≡◌, ◌+◌, ◌*◌, ◌==◌, ℕ, List, None, Some, IfErr, IfOk, if◌then◌else◌};
 ghost use Rattle.elf_headers.specs.Faults.{IsOfCheck};
-ghost use Rattle.elf_headers.specs.Ledger.{Did, why_stopped};
-ghost use Rattle.elf_headers.specs.Load.{Views};
+ghost use Rattle.elf_headers.specs.Ledger.{CallDid, fault_of_result};
+ghost use Rattle.elf_headers.specs.Load.{HoldsProgramHeaders};
 ghost use Rattle.elf_model.specs.Dynamic.{dynamic_count};
-ghost use Rattle.elf_model.specs.Links.{is_link, linked_from, linked_with, no_links};
+ghost use Rattle.elf_model.specs.Links.{is_link, linked_from, linked_with, no_link_info};
 ghost use Rattle.elf_model.specs.Links.{LinkState};
 ghost use Rattle.elf_model.specs.Mapped.{strings_at};
 ghost use Rattle.elf_model.specs.Records.{d_tag};
 ghost use Rattle.elf_record.specs.Dyn.{IsDyn};
-ghost use Rattle.elf_table.specs.Tables.{RowsWithin, StringsWithin, size_of};
-ghost use Rattle.elf_libraries.specs.Entries.{KeepsLinks, TellsLinks, TellsStrings, with_index};
-ghost use Rattle.elf_libraries.specs.Held.{HeldLinks};
+ghost use Rattle.elf_table.specs.Tables.{TableInBounds, StringsInBounds, size_of};
+ghost use Rattle.elf_libraries.specs.Entries.{KeepsLinks, ReturnsLinks, ReturnsStrings, with_index};
+ghost use Rattle.elf_libraries.specs.Held.{LinkInfoState};
 
-use crate::links::{FileLinks, LinkStore, Need};
+use crate::links::{LinkInfo, LinkInfoStore, Need};
 use elf_headers::{Fault, refused};
-use elf_note::{DynStrings, dynamic_rows, entry_in};
+use elf_note::{DynamicStrings, dynamic_rows, entry_in};
 use elf_record::numbers::{DT_NEEDED, DT_RPATH, DT_RUNPATH, DT_SONAME};
 use elf_record::{Cause, Dyn};
 use elf_source::{Counted, Source};
-use elf_table::{Names, SegmentView, Table};
+use elf_table::{ExecutionView, Names, Table};
 
 /// Where the texts of dynamic entries are: at the address that the entries tell, where a segment loads them.
 #[derive(Clone, Copy)]
-pub(crate) struct EntryTexts<'v, 'f> {
+pub(crate) struct DynamicTexts<'v, 'f> {
     /// The file with its program headers.
-    pub view: &'v SegmentView<'f>,
+    pub view: &'v ExecutionView<'f>,
     /// The address and the size that the entries tell.
-    pub told: DynStrings,
+    pub told: DynamicStrings,
 }
 
 /// What the listed entries of a table tell of how a file is linked. Each of its bytes is asked for at most
 /// once.
 ///
 /// # Errors
-/// At an entry: `Unmapped` and `TableOutside` as [`SegmentView::mapped`] has them, a fault of its text, and
+/// At an entry: `Unmapped` and `TableOutside` as [`ExecutionView::mapped`] has them, a fault of its text, and
 /// `TooLong` where that has more than 4,096 bytes or finds no room. Else a fault of a read, or a refusal for
 /// want of budget.
-pub(crate) fn listed_links<S: Source>(
+pub(crate) fn list_link_info<S: Source>(
     src: &mut Counted<S>,
-    strings: &EntryTexts<'_, '_>,
+    strings: &DynamicTexts<'_, '_>,
     table: Table,
-    store: &mut LinkStore,
-) -> Result<FileLinks, Fault>
+    store: &mut LinkInfoStore,
+) -> Result<LinkInfo, Fault>
     requires rows { table.entry ≡ 16 }
-    requires within { RowsWithin src.old.seen.size table }
+    requires within { TableInBounds src.old.seen.size table }
     requires size { strings.now.view.now.loaded.size ≡ src.old.seen.size }
-    ensures { Did src.old src.new (why_stopped result) (size_of table + table.count * 4160)
-        (λ file. Views file strings.now.view.now.loaded strings.now.view.now.store.now →
-        TellsLinks (linked_from file strings.now.told.address strings.now.told.size table.at
-        (record { links = no_links; room = store.old.held.room })
+    ensures { CallDid src.old src.new (fault_of_result result) (size_of table + table.count * 4160)
+        (λ file. HoldsProgramHeaders file strings.now.view.now.loaded strings.now.view.now.store.now →
+        ReturnsLinks (linked_from file strings.now.told.address strings.now.told.size table.at
+        (record { links = no_link_info; room = store.old.held.room })
         (dynamic_count file table.at table.count)) store.old store.new result) }
 {
-    let mut links = no_links();
+    let mut links = no_link_info();
     let mut cursor = dynamic_rows(table);
     'entries: while cursor.advance(src)? {
         let row = cursor.row();
@@ -63,10 +63,10 @@ pub(crate) fn listed_links<S: Source>(
 }
 
 /// What no entry tells.
-pub(crate) fn no_links() -> FileLinks
+pub(crate) fn no_link_info() -> LinkInfo
     ensures { result ≡ record { soname = None; rpath = None; runpath = None } }
 {
-    FileLinks {
+    LinkInfo {
         soname: None,
         rpath: None,
         runpath: None,
@@ -76,21 +76,21 @@ pub(crate) fn no_links() -> FileLinks
 /// What entries tell, with one more, at a file offset.
 ///
 /// # Errors
-/// Those of [`listed_links`].
+/// Those of [`list_link_info`].
 fn with_entry<S: Source>(
     src: &mut Counted<S>,
-    strings: &EntryTexts<'_, '_>,
+    strings: &DynamicTexts<'_, '_>,
     at: u64,
     entry: &Dyn,
-    links: FileLinks,
-    store: &mut LinkStore,
-) -> Result<FileLinks, Fault>
+    links: LinkInfo,
+    store: &mut LinkInfoStore,
+) -> Result<LinkInfo, Fault>
     requires { strings.now.view.now.loaded.size ≡ src.old.seen.size }
-    ensures { Did src.old src.new (why_stopped result) 4160
-        (λ file. Views file strings.now.view.now.loaded strings.now.view.now.store.now →
-        IsDyn file at entry.now → (before : HeldLinks) (state : LinkState) →
+    ensures { CallDid src.old src.new (fault_of_result result) 4160
+        (λ file. HoldsProgramHeaders file strings.now.view.now.loaded strings.now.view.now.store.now →
+        IsDyn file at entry.now → (before : LinkInfoState) (state : LinkState) →
         KeepsLinks before store.old links state →
-        TellsLinks (linked_with file strings.now.told.address strings.now.told.size at state)
+        ReturnsLinks (linked_with file strings.now.told.address strings.now.told.size at state)
         before store.new result) }
 {
     let tag = tag_of(entry);
@@ -102,7 +102,7 @@ fn with_entry<S: Source>(
     if tag != DT_NEEDED {
         return Ok(with_text(links, tag, text));
     }
-    if store.keep_need(Need { at, name: text }) {
+    if store.push_needed(Need { at, name: text }) {
         return Ok(links);
     }
     refused(at, Cause::TooLong)
@@ -125,13 +125,13 @@ fn is_link(tag: u64) -> bool
 /// The string table that entries tell of, for the entry at a file offset.
 ///
 /// # Errors
-/// `Unmapped` and `TableOutside` as [`SegmentView::mapped`] has them; `Unmapped` at the entry where no
+/// `Unmapped` and `TableOutside` as [`ExecutionView::mapped`] has them; `Unmapped` at the entry where no
 /// address or no size is told.
-fn mapped_strings(strings: &EntryTexts<'_, '_>, at: u64) -> Result<Names, Fault>
-    ensures within { IfOk result (StringsWithin strings.now.view.now.loaded.size) }
+fn mapped_strings(strings: &DynamicTexts<'_, '_>, at: u64) -> Result<Names, Fault>
+    ensures within { IfOk result (StringsInBounds strings.now.view.now.loaded.size) }
     ensures refusal { IfErr result IsOfCheck }
     ensures tells { (file : List ℕ) →
-        Views file strings.now.view.now.loaded strings.now.view.now.store.now → TellsStrings file
+        HoldsProgramHeaders file strings.now.view.now.loaded strings.now.view.now.store.now → ReturnsStrings file
         (strings_at file at strings.now.told.address strings.now.told.size) result }
 {
     let Some(address) = strings.told.address else {
@@ -144,10 +144,10 @@ fn mapped_strings(strings: &EntryTexts<'_, '_>, at: u64) -> Result<Names, Fault>
 }
 
 /// The links with a text, unless an entry before told of one.
-fn with_text(links: FileLinks, tag: u64, text: u32) -> FileLinks
+fn with_text(links: LinkInfo, tag: u64, text: u32) -> LinkInfo
     ensures { result ≡ with_index links tag text }
 {
-    FileLinks {
+    LinkInfo {
         soname: links.soname.or(text_of(tag, DT_SONAME, text)),
         rpath: links.rpath.or(text_of(tag, DT_RPATH, text)),
         runpath: links.runpath.or(text_of(tag, DT_RUNPATH, text)),

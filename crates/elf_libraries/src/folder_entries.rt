@@ -7,7 +7,7 @@ use memchr::memchr;
 
 /// An entry, and what stands behind the colon that ends it, if one does.
 #[derive(Clone, Copy)]
-pub(crate) struct Entry<'a> {
+pub(crate) struct PathElement<'a> {
     /// The entry.
     pub text: &'a [u8],
     /// What stands behind it.
@@ -15,15 +15,15 @@ pub(crate) struct Entry<'a> {
 }
 
 /// The first entry of a text.
-pub(crate) fn first_entry(text: &[u8]) -> Entry<'_>
+pub(crate) fn first_entry(text: &[u8]) -> PathElement<'_>
     ensures parted { parted [] text.now ≡ result.text.now ∷ left_entries result.behind }
     ensures less { left_bytes result.behind < length text.now + 1 }
 {
     match memchr(b':', text) {
-        Some(end) => Entry {
+        Some(end) => PathElement {
             text: &text[..end],
             behind: Some(&text[end + 1..]),
         },
-        None => Entry { text, behind: None },
+        None => PathElement { text, behind: None },
     }
 }

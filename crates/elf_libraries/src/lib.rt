@@ -17,11 +17,11 @@ mod tries;
 pub mod worked_links;
 pub mod worked_paths;
 
-pub use folders::FolderList;
-pub use links::{FileLinks, LinkStore, Need};
-pub use needers::{FolderLists, Needer, gather_folders};
-pub use paths::{TriedPath, folder_of_path, named_path};
-pub use reading::{machine_of, read_links};
+pub use folders::SearchPathList;
+pub use links::{LinkInfo, LinkInfoStore, Need};
+pub use needers::{NeedingObject, SearchPaths, gather_dirs};
+pub use paths::{CandidatePath, dir_of_path, named_path};
+pub use reading::{machine_of, read_link_info};
 pub use search::LibrarySearch;
-pub use texts::Texts;
-pub use tries::PathTries;
+pub use texts::StringArena;
+pub use tries::CandidatePaths;

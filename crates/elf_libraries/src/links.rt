@@ -1,14 +1,14 @@
 //! What a file needs, and where that is kept.
 ghost use Rattle.std.specs.Prelude.{◌≡◌, ◌<◌, ◌++◌, ◌∷◌, [], ◌&&◌, ℕ, List, IfOk, IfSome, IsNone, is_some, nat_lt, length, slice_get, slice_index_or, if◌then◌else◌};
-ghost use Rattle.elf_headers.specs.Ledger.{Did, why_stopped};
+ghost use Rattle.elf_headers.specs.Ledger.{CallDid, fault_of_result};
 ghost use Rattle.elf_model.specs.Links.{LINK_TEXT_BYTES};
 ghost use Rattle.elf_model.specs.Names.{shown};
 ghost use Rattle.elf_libraries.specs.Held.{with_text};
-ghost use Rattle.elf_libraries.specs.Entries.{TellsText, text_by};
-ghost use Rattle.elf_table.specs.Tables.{StringsWithin, strings_in};
+ghost use Rattle.elf_libraries.specs.Entries.{ReturnsText, text_by};
+ghost use Rattle.elf_table.specs.Tables.{StringsInBounds, strings_in};
 
-use crate::texts::Texts;
-use elf_headers::{Cap, Fault, refused};
+use crate::texts::StringArena;
+use elf_headers::{Fault, NameLimit, refused};
 use elf_record::Cause;
 use elf_source::{Counted, Source};
 use elf_table::{NameBuf, NameEnd, Names};
@@ -16,7 +16,7 @@ use std::alloc::{AllocError, Global};
 use std::marker::Model;
 
 /// How many bytes of a text are read: a longer one is refused.
-const TEXT_CAP: Cap = Cap { bytes: 4096 };
+const TEXT_CAP: NameLimit = NameLimit { bytes: 4096 };
 
 /// A library that a file needs.
 #[derive(Clone, Copy)]
@@ -30,7 +30,7 @@ pub struct Need {
 /// What the dynamic entries of a file tell of how it is linked (gABI 5, Dynamic Section). A text is told by
 /// its index.
 #[derive(Clone, Copy)]
-pub struct FileLinks {
+pub struct LinkInfo {
     /// DT_SONAME: its name as a library.
     pub soname: Option<u32>,
     /// DT_RPATH: where libraries are looked for.
@@ -41,18 +41,18 @@ pub struct FileLinks {
 
 /// The texts of many files, and what they need, one behind the other, in memory that is taken once.
 #[derive(Drop)]
-pub struct LinkStore {
-    texts: Texts,
+pub struct LinkInfoStore {
+    texts: StringArena,
     needs: Vec<Need>,
     /// The text that is read.
     name: NameBuf,
 }
 
-impl Model for LinkStore {
+impl Model for LinkInfoStore {
     ghost use Rattle.std.specs.Prelude.{◌≤◌, ◌+◌, length, vec_capacity};
-    ghost use Rattle.elf_libraries.specs.Held.{HeldLinks};
+    ghost use Rattle.elf_libraries.specs.Held.{LinkInfoState};
 
-    ghost Value = { HeldLinks };
+    ghost Value = { LinkInfoState };
 
     ghost view = { λ n. record { held = n.texts; needs = n.needs.items } };
 
@@ -60,20 +60,20 @@ impl Model for LinkStore {
         × (length n.texts.texts + n.texts.room.texts ≤ vec_capacity n.needs) };
 }
 
-impl LinkStore {
+impl LinkInfoStore {
     /// Room for so many texts of so many bytes together, and as many needs. The memory is taken from
     /// `alloc` here: `bytes`, and 24 for each text.
     ///
     /// # Errors
     /// Where memory is refused.
-    pub fn new(alloc: Global, bytes: u32, texts: u32) -> Result<LinkStore, AllocError>
+    pub fn new(alloc: Global, bytes: u32, texts: u32) -> Result<LinkInfoStore, AllocError>
         ensures { IfOk result (λ store. store ≡ record {
           held = record { texts = []; room = record { bytes = bytes; texts = texts } };
           needs = [];
         }) }
     {
-        Ok(LinkStore {
-            texts: Texts::new(alloc, bytes, texts)?,
+        Ok(LinkInfoStore {
+            texts: StringArena::new(alloc, bytes, texts)?,
             needs: Vec::with_capacity(alloc, texts as usize)?,
             name: NameBuf::new(),
         })
@@ -116,8 +116,8 @@ impl LinkStore {
         off: u64,
         at: u64,
     ) -> Result<u32, Fault>
-        requires { StringsWithin src.old.seen.size names }
-        ensures did { Did src.old src.new (why_stopped result) 4160 (λ file. TellsText
+        requires { StringsInBounds src.old.seen.size names }
+        ensures did { CallDid src.old src.new (fault_of_result result) 4160 (λ file. ReturnsText
             (text_by self.old.held.room at (shown (strings_in file names) off LINK_TEXT_BYTES))
             self.old self.new result) }
     {
@@ -131,7 +131,7 @@ impl LinkStore {
     }
 
     /// Keeps a need, whose name is the text that was kept last. Answers whether there is room for it.
-    pub(crate) fn keep_need(&mut self, need: Need) -> bool
+    pub(crate) fn push_needed(&mut self, need: Need) -> bool
         ensures kept { result ≡ nat_lt (length self.old.needs) (length self.old.held.texts) }
         ensures need { self.new ≡ (if result then record {
           held = self.old.held;

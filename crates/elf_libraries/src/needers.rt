@@ -1,16 +1,16 @@
 //! The folders in which a library is looked for that an object needs.
 ghost use Rattle.std.specs.Prelude.{◌≡◌, ◌<◌, ◌≤◌, ◌+◌, ◌++◌, [], length, option_map};
 ghost use Rattle.std.specs.List.{cons_option};
-ghost use Rattle.elf_libraries.specs.Searching.{first_runpath, given_folders, rpath_folders, rpath_of, runpath_of, searched_folders};
-ghost use Rattle.elf_libraries.specs.Steps.{folders_in, folders_of, needer_of, needers_of};
+ghost use Rattle.elf_libraries.specs.Searching.{first_runpath, given_dirs, rpath_dirs, rpath_of, runpath_of, search_dirs};
+ghost use Rattle.elf_libraries.specs.Steps.{dirs_in, dirs_of, needer_of, needers_of};
 
-use crate::folders::FolderList;
+use crate::folders::SearchPathList;
 use arrayvec::ArrayVec;
 
 /// An object that needs others: its DT_RPATH and its DT_RUNPATH, if it has such, and the folder that it is
 /// in (gABI 5, Shared Object Dependencies).
 #[derive(Clone, Copy)]
-pub struct Needer<'a> {
+pub struct NeedingObject<'a> {
     /// Its DT_RPATH.
     pub rpath: Option<&'a [u8]>,
     /// Its DT_RUNPATH.
@@ -19,11 +19,11 @@ pub struct Needer<'a> {
     pub folder: &'a [u8],
 }
 
-impl<'a> Default for Needer<'a> {
+impl<'a> Default for NeedingObject<'a> {
     ghost is_default = { λ n. n.folder.now ≡ [] };
 
     fn default() -> Self {
-        Needer {
+        NeedingObject {
             rpath: None,
             runpath: None,
             folder: b"",
@@ -32,17 +32,17 @@ impl<'a> Default for Needer<'a> {
 }
 
 /// Texts of folders, in the order in which they are searched.
-pub type FolderLists<'a> = ArrayVec<FolderList<'a>, 515>;
+pub type SearchPaths<'a> = ArrayVec<SearchPathList<'a>, 515>;
 
 /// What an object's own DT_RPATH names: nothing where it has DT_RUNPATH.
-fn rpath_of<'a>(needer: &Needer<'a>) -> Option<FolderList<'a>>
-    ensures { option_map folders_of result ≡ rpath_of (needer_of needer.now) }
+fn rpath_of<'a>(needer: &NeedingObject<'a>) -> Option<SearchPathList<'a>>
+    ensures { option_map dirs_of result ≡ rpath_of (needer_of needer.now) }
 {
     if needer.runpath.is_some() {
         return None;
     }
     match needer.rpath {
-        Some(text) => Some(FolderList {
+        Some(text) => Some(SearchPathList {
             text,
             origin: Some(needer.folder),
         }),
@@ -51,11 +51,11 @@ fn rpath_of<'a>(needer: &Needer<'a>) -> Option<FolderList<'a>>
 }
 
 /// What an object's DT_RUNPATH names.
-fn runpath_of<'a>(needer: &Needer<'a>) -> Option<FolderList<'a>>
-    ensures { option_map folders_of result ≡ runpath_of (needer_of needer.now) }
+fn runpath_of<'a>(needer: &NeedingObject<'a>) -> Option<SearchPathList<'a>>
+    ensures { option_map dirs_of result ≡ runpath_of (needer_of needer.now) }
 {
     match needer.runpath {
-        Some(text) => Some(FolderList {
+        Some(text) => Some(SearchPathList {
             text,
             origin: Some(needer.folder),
         }),
@@ -64,16 +64,16 @@ fn runpath_of<'a>(needer: &Needer<'a>) -> Option<FolderList<'a>>
 }
 
 /// Folders that a command line tells.
-fn given_folders(text: &[u8]) -> FolderList<'_>
-    ensures { folders_of result ≡ given_folders text.now }
+fn given_dirs(text: &[u8]) -> SearchPathList<'_>
+    ensures { dirs_of result ≡ given_dirs text.now }
 {
-    FolderList { text, origin: None }
+    SearchPathList { text, origin: None }
 }
 
 /// What DT_RUNPATH of the first of some objects names.
 #[tactic(auto, unfolding(crate::specs::Searching::first_runpath))]
-fn first_runpath<'a>(needers: &[Needer<'a>]) -> Option<FolderList<'a>>
-    ensures { option_map folders_of result ≡ first_runpath (needers_of needers.now) }
+fn first_runpath<'a>(needers: &[NeedingObject<'a>]) -> Option<SearchPathList<'a>>
+    ensures { option_map dirs_of result ≡ first_runpath (needers_of needers.now) }
 {
     match needers.first() {
         Some(needer) => runpath_of(needer),
@@ -82,10 +82,10 @@ fn first_runpath<'a>(needers: &[Needer<'a>]) -> Option<FolderList<'a>>
 }
 
 /// Puts folders, if there are such, behind others.
-fn put_folders<'a>(lists: &mut FolderLists<'a>, folders: Option<FolderList<'a>>)
+fn put_dirs<'a>(lists: &mut SearchPaths<'a>, folders: Option<SearchPathList<'a>>)
     requires { length lists.old.items < 515 }
-    ensures folders { folders_in lists.new.items
-        ≡ folders_in lists.old.items ++ cons_option (option_map folders_of folders.entry) [] }
+    ensures folders { dirs_in lists.new.items
+        ≡ dirs_in lists.old.items ++ cons_option (option_map dirs_of folders.entry) [] }
     ensures len { length lists.new.items ≤ length lists.old.items + 1 }
 {
     if let Some(folders) = folders {
@@ -95,34 +95,34 @@ fn put_folders<'a>(lists: &mut FolderLists<'a>, folders: Option<FolderList<'a>>)
 
 /// Puts the texts of the folders in which a library is looked for that an object needs, the first of at most
 /// 512; behind it stands the object that first needed it, and so on.
-pub fn gather_folders<'a>(
-    needers: &[Needer<'a>],
+pub fn gather_dirs<'a>(
+    needers: &[NeedingObject<'a>],
     library: &'a [u8],
     default: &'a [u8],
-    lists: &mut FolderLists<'a>,
+    lists: &mut SearchPaths<'a>,
 )
     requires { length needers.now ≤ 512 }
-    ensures { folders_in lists.new.items
-        ≡ searched_folders library.now default.now (needers_of needers.now) }
+    ensures { dirs_in lists.new.items
+        ≡ search_dirs library.now default.now (needers_of needers.now) }
 {
     let runpath = first_runpath(needers);
     lists.clear();
     if runpath.is_none() {
         gather_rpaths(needers, lists);
     }
-    put_folders(lists, Some(given_folders(library)));
-    put_folders(lists, runpath);
-    put_folders(lists, Some(given_folders(default)));
+    put_dirs(lists, Some(given_dirs(library)));
+    put_dirs(lists, runpath);
+    put_dirs(lists, Some(given_dirs(default)));
 }
 
 /// Puts what DT_RPATH names of objects behind no folders.
-fn gather_rpaths<'a>(needers: &[Needer<'a>], lists: &mut FolderLists<'a>)
+fn gather_rpaths<'a>(needers: &[NeedingObject<'a>], lists: &mut SearchPaths<'a>)
     requires few { length needers.now ≤ 512 }
     requires none { lists.old.items ≡ [] }
-    ensures folders { folders_in lists.new.items ≡ rpath_folders (needers_of needers.now) }
+    ensures folders { dirs_in lists.new.items ≡ rpath_dirs (needers_of needers.now) }
     ensures few { length lists.new.items ≤ 512 }
 {
     for needer in needers {
-        put_folders(lists, rpath_of(needer));
+        put_dirs(lists, rpath_of(needer));
     }
 }

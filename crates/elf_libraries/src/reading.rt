@@ -1,23 +1,23 @@
 //! What one file needs.
 ghost use Rattle.std.specs.Prelude.{◌≡◌, ◌<◌, ◌^◌, ◌+◌, ◌*◌, ◌/◌, ℕ, List};
-ghost use Rattle.elf_headers.specs.Ledger.{Did, why_stopped};
-ghost use Rattle.elf_headers.specs.Load.{Views};
+ghost use Rattle.elf_headers.specs.Ledger.{CallDid, fault_of_result};
+ghost use Rattle.elf_headers.specs.Load.{HoldsProgramHeaders};
 ghost use Rattle.elf_model.specs.Links.{links_by_segments, links_ceiling, links_of};
 ghost use Rattle.elf_model.specs.Links.{loaded_links, lookup_refusal};
 ghost use Rattle.elf_model.specs.Records.{e_shnum};
-ghost use Rattle.elf_source.specs.Source.{Reads};
-ghost use Rattle.elf_libraries.specs.Entries.{TellsLinks};
-ghost use Rattle.elf_libraries.specs.Reading.{TellsLookupRefusal, linked_in_segments, lookup_passed};
+ghost use Rattle.elf_source.specs.Source.{ReadsUpTo};
+ghost use Rattle.elf_libraries.specs.Entries.{ReturnsLinks};
+ghost use Rattle.elf_libraries.specs.Reading.{ReturnsLookupRefusal, linked_in_segments, lookup_passed};
 
-use crate::entries::{EntryTexts, listed_links, no_links};
-use crate::links::{FileLinks, LinkStore};
+use crate::entries::{DynamicTexts, list_link_info, no_link_info};
+use crate::links::{LinkInfo, LinkInfoStore};
 use elf_headers::{Fault, HeaderStore, fill};
 use elf_lookup_tables::{find_in_segments, load_by_segments};
 use elf_note::dynamic_strings;
 use elf_record::numbers::PT_DYNAMIC;
 use elf_record::{Cause, Refusal, u16_at, word};
 use elf_source::{Counted, Source};
-use elf_table::SegmentView;
+use elf_table::ExecutionView;
 
 /// How many bytes of a file tell its class, its encoding and its machine (gABI 4, ELF Header).
 const FRONT_BYTES: usize = 20;
@@ -33,7 +33,7 @@ const LITTLE_ENDIAN: u8 = 1;
 /// # Errors
 /// A fault of a read, or a refusal for want of budget.
 pub fn machine_of<S: Source>(src: &mut Counted<S>) -> Result<Option<u16>, Fault>
-    ensures { Reads src.old src.new 20 }
+    ensures { ReadsUpTo src.old src.new 20 }
 {
     if src.length() < FRONT_BYTES as u64 {
         return Ok(None);
@@ -60,59 +60,59 @@ pub fn machine_of<S: Source>(src: &mut Counted<S>) -> Result<Option<u16>, Fault>
 /// of the first segment of dynamic entries; of each entry with a text, at the entry: its string table, its
 /// text, and `TooLong` where that has more than 4,096 bytes or finds no room. Else a fault of a read, or a
 /// refusal for want of budget.
-pub fn read_links<S: Source>(
+pub fn read_link_info<S: Source>(
     src: &mut Counted<S>,
     store: &mut HeaderStore,
-    links: &mut LinkStore,
-) -> Result<FileLinks, Fault>
-    ensures did { Did src.old src.new (why_stopped result)
+    links: &mut LinkInfoStore,
+) -> Result<LinkInfo, Fault>
+    ensures did { CallDid src.old src.new (fault_of_result result)
         (links_ceiling src.old.seen.size store.old.slots)
-        (λ file. TellsLinks (links_of file store.old.slots links.old.held.room)
+        (λ file. ReturnsLinks (links_of file store.old.slots links.old.held.room)
         links.old links.new result) }
     ensures slots { store.new.slots ≡ store.old.slots }
 {
     let hides = src.hides();
-    src.hide_sections(true);
+    src.mask_section_headers(true);
     let found = shown_links(src, store, links);
-    src.hide_sections(hides);
+    src.mask_section_headers(hides);
     found
 }
 
 /// The same of the file that the source shows, whose header locates no section headers.
 ///
 /// # Errors
-/// Those of [`read_links`].
+/// Those of [`read_link_info`].
 fn shown_links<S: Source>(
     src: &mut Counted<S>,
     store: &mut HeaderStore,
-    links: &mut LinkStore,
-) -> Result<FileLinks, Fault>
-    ensures did { Did src.old src.new (why_stopped result)
+    links: &mut LinkInfoStore,
+) -> Result<LinkInfo, Fault>
+    ensures did { CallDid src.old src.new (fault_of_result result)
         (links_ceiling src.old.seen.size store.old.slots)
         (λ file. e_shnum file ≡ 0 →
-        TellsLinks (links_by_segments file store.old.slots links.old.held.room)
+        ReturnsLinks (links_by_segments file store.old.slots links.old.held.room)
         links.old links.new result) }
     ensures slots { store.new.slots ≡ store.old.slots }
 {
     let loaded = load_by_segments(src, store)?;
-    view_links(src, &SegmentView { loaded, store }, links)
+    link_info_by_segments(src, &ExecutionView { loaded, store }, links)
 }
 
 /// The same of a file whose program headers are loaded.
 ///
 /// # Errors
-/// Those of [`read_links`] behind the load.
-fn view_links<S: Source>(
+/// Those of [`read_link_info`] behind the load.
+fn link_info_by_segments<S: Source>(
     src: &mut Counted<S>,
-    view: &SegmentView<'_>,
-    links: &mut LinkStore,
-) -> Result<FileLinks, Fault>
+    view: &ExecutionView<'_>,
+    links: &mut LinkInfoStore,
+) -> Result<LinkInfo, Fault>
     requires size { view.now.loaded.size ≡ src.old.seen.size }
     requires small { view.now.loaded.size < 2 ^ 63 }
-    ensures { Did src.old src.new (why_stopped result)
+    ensures { CallDid src.old src.new (fault_of_result result)
         (3 * src.old.seen.size + src.old.seen.size / 16 * 4160)
-        (λ file. Views file view.now.loaded view.now.store.now →
-        TellsLinks (loaded_links file links.old.held.room) links.old links.new result) }
+        (λ file. HoldsProgramHeaders file view.now.loaded view.now.store.now →
+        ReturnsLinks (loaded_links file links.old.held.room) links.old links.new result) }
 {
     check_lookup(src, view)?;
     entry_links(src, view, links)
@@ -121,37 +121,37 @@ fn view_links<S: Source>(
 /// What the first segment of dynamic entries tells; nothing where there is none.
 ///
 /// # Errors
-/// Those of [`SegmentView::dynamic`], and those of the entries.
+/// Those of [`ExecutionView::dynamic`], and those of the entries.
 fn entry_links<S: Source>(
     src: &mut Counted<S>,
-    view: &SegmentView<'_>,
-    links: &mut LinkStore,
-) -> Result<FileLinks, Fault>
+    view: &ExecutionView<'_>,
+    links: &mut LinkInfoStore,
+) -> Result<LinkInfo, Fault>
     requires { view.now.loaded.size ≡ src.old.seen.size }
-    ensures { Did src.old src.new (why_stopped result)
+    ensures { CallDid src.old src.new (fault_of_result result)
         (2 * src.old.seen.size + src.old.seen.size / 16 * 4160)
-        (λ file. Views file view.now.loaded view.now.store.now →
-        TellsLinks (linked_in_segments file links.old.held.room) links.old links.new result) }
+        (λ file. HoldsProgramHeaders file view.now.loaded view.now.store.now →
+        ReturnsLinks (linked_in_segments file links.old.held.room) links.old links.new result) }
 {
     let Some(segment) = view.first_segment(PT_DYNAMIC) else {
-        return Ok(no_links());
+        return Ok(no_link_info());
     };
     let table = view.dynamic(segment)?;
     let told = dynamic_strings(table, src)?;
-    let strings = EntryTexts { view, told };
-    listed_links(src, &strings, table, links)
+    let strings = DynamicTexts { view, told };
+    list_link_info(src, &strings, table, links)
 }
 
 /// Checks what a lookup is made in; a file without a hash table has none.
 ///
 /// # Errors
 /// Those of [`find_in_segments`] but `NoHash`.
-fn check_lookup<S: Source>(src: &mut Counted<S>, view: &SegmentView<'_>) -> Result<(), Fault>
+fn check_lookup<S: Source>(src: &mut Counted<S>, view: &ExecutionView<'_>) -> Result<(), Fault>
     requires size { view.now.loaded.size ≡ src.old.seen.size }
     requires small { view.now.loaded.size < 2 ^ 63 }
-    ensures { Did src.old src.new (why_stopped result) src.old.seen.size
-        (λ file. Views file view.now.loaded view.now.store.now →
-        TellsLookupRefusal (lookup_refusal file) result) }
+    ensures { CallDid src.old src.new (fault_of_result result) src.old.seen.size
+        (λ file. HoldsProgramHeaders file view.now.loaded view.now.store.now →
+        ReturnsLookupRefusal (lookup_refusal file) result) }
 {
     match find_in_segments(src, view) {
         Ok(_) => Ok(()),

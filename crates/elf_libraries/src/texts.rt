@@ -9,9 +9,9 @@ use std::marker::Model;
 
 /// Texts one behind the other, each known by its index.
 #[derive(Drop)]
-pub struct Texts {
+pub struct StringArena {
     bytes: Vec<u8>,
-    places: Vec<Place>,
+    places: Vec<TextSpan>,
     /// How many bytes and how many texts there is room for.
     most_bytes: usize,
     most_texts: usize,
@@ -19,12 +19,12 @@ pub struct Texts {
 
 /// Where a text lies among the bytes.
 #[derive(Clone, Copy)]
-struct Place {
+struct TextSpan {
     start: u32,
     len: u16,
 }
 
-impl Model for Texts {
+impl Model for StringArena {
     ghost use Rattle.std.specs.Prelude.{◌≡◌, ◌≤◌, ◌<◌, ◌+◌, ◌-◌, ◌^◌, ℕ, List, map, All, length, vec_capacity};
     ghost use Rattle.elf_model.specs.Bytes.{slice};
     ghost use Rattle.elf_libraries.specs.Held.{HeldTexts};
@@ -45,13 +45,13 @@ impl Model for Texts {
         × (n.most_bytes < 2 ^ 32) × (n.most_texts < 2 ^ 32) };
 }
 
-impl Texts {
+impl StringArena {
     /// No text, with room for so many texts of so many bytes together, each below 2^32. The memory is taken
     /// from `alloc` here: `bytes` and 8 for each text.
     ///
     /// # Errors
     /// Where memory is refused.
-    pub fn new(alloc: Global, bytes: u32, texts: u32) -> Result<Texts, AllocError>
+    pub fn new(alloc: Global, bytes: u32, texts: u32) -> Result<StringArena, AllocError>
         ensures { IfOk result (λ held. held ≡ record {
           texts = [];
           room = record { bytes = bytes; texts = texts };
@@ -59,7 +59,7 @@ impl Texts {
     {
         let bytes = bytes as usize;
         let texts = texts as usize;
-        Ok(Texts {
+        Ok(StringArena {
             bytes: Vec::with_capacity(alloc, bytes)?,
             places: Vec::with_capacity(alloc, texts)?,
             most_bytes: bytes,
@@ -102,13 +102,13 @@ impl Texts {
         let start = self.bytes.len() as u32;
         let index = self.places.len() as u32;
         self.bytes.extend_from_slice(text).unwrap();
-        self.places.push(Place { start, len }).unwrap();
+        self.places.push(TextSpan { start, len }).unwrap();
         Some(index)
     }
 }
 
 /// The text at a place among bytes.
-fn text_at(bytes: &[u8], place: Place) -> &[u8]
+fn text_at(bytes: &[u8], place: TextSpan) -> &[u8]
     ensures { result.now ≡ slice bytes.now place.start place.len }
 {
     let start = place.start as usize;

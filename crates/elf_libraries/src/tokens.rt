@@ -5,7 +5,7 @@ ghost use Rattle.elf_libraries.specs.Steps.{token_of};
 
 /// A token: what stands for it, and how many bytes it has behind its `$`.
 #[derive(Clone, Copy)]
-pub(crate) struct FoundToken<'a> {
+pub(crate) struct StringToken<'a> {
     /// What stands for it.
     pub value: &'a [u8],
     /// How many bytes it has.
@@ -14,21 +14,21 @@ pub(crate) struct FoundToken<'a> {
 
 /// The token that bytes behind a `$` begin with, if they do.
 #[tactic(auto, unfolding(crate::specs::Searching::token_in))]
-pub(crate) fn token_in<'a>(origin: &'a [u8], bytes: &[u8]) -> Option<FoundToken<'a>>
+pub(crate) fn token_in<'a>(origin: &'a [u8], bytes: &[u8]) -> Option<StringToken<'a>>
     ensures token { option_map token_of result ≡ token_in origin.now bytes.now }
     ensures within { IfSome result (λ token. token.size ≤ length bytes.now) }
 {
     if let Some(size) = token_size(bytes, b"ORIGIN", b"{ORIGIN}") {
         let value = origin;
-        return Some(FoundToken { value, size });
+        return Some(StringToken { value, size });
     }
     if let Some(size) = token_size(bytes, b"LIB", b"{LIB}") {
         let value = b"lib/x86_64-linux-gnu";
-        return Some(FoundToken { value, size });
+        return Some(StringToken { value, size });
     }
     if let Some(size) = token_size(bytes, b"PLATFORM", b"{PLATFORM}") {
         let value = b"x86_64";
-        return Some(FoundToken { value, size });
+        return Some(StringToken { value, size });
     }
     None
 }

@@ -1,5 +1,5 @@
 //! Worked examples of the paths that are tried for a library, each computed by the prover.
-ghost use Rattle.elf_libraries.specs.WorkedPaths.{FoldersAreJoined, NamesArePaths, RpathsGoUp, RunpathsAreOwn, TokensStand};
+ghost use Rattle.elf_libraries.specs.WorkedPaths.{DirsAreJoined, NamesArePaths, RpathsGoUp, RunpathsAreOwn, TokensStand};
 
 /// A name with a slash in it is a path.
 #[tactic(auto, unfolding(crate::proofs::OnSearch::on_search))]
@@ -27,6 +27,6 @@ pub fn tokens_stand()
 
 /// Folders and names, with another root too.
 #[tactic(auto, unfolding(crate::proofs::OnSearch::on_search))]
-pub fn folders_are_joined()
-    ensures { FoldersAreJoined }
+pub fn dirs_are_joined()
+    ensures { DirsAreJoined }
 {}

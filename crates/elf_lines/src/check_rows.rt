@@ -1,23 +1,23 @@
 //! The lines of files among many.
 ghost use Rattle.std.specs.Prelude.{◌≡◌, ◌++◌, ◌≤◌, length};
 ghost use Rattle.arrayvec.specs.ArrayVec.{array_vec_len};
-ghost use Rattle.elf_model.specs.Checking.{check_front, check_line, fault_fields, state_word};
+ghost use Rattle.elf_model.specs.Checking.{check_front, check_line, fault_fields, file_status_name};
 ghost use Rattle.elf_model.specs.Checking.{unnamed_line};
 ghost use Rattle.elf_model.specs.Fields.{with_fields};
-ghost use Rattle.elf_source.specs.Output.{Puts};
+ghost use Rattle.elf_source.specs.Output.{OutPuts};
 ghost use Rattle.elf_fields.specs.Fronts.{front_of};
 
 use crate::rows::cause_word;
 use elf_fields::{
-    Columns, Line, LineFront, Object, Render, begin, begin_named, put, put_closing, put_decimal,
-    put_hexadecimal, put_text, show_named,
+    Columns, LineBuf, LinePrefix, Object, Render, begin, begin_named, put, put_closing,
+    put_decimal, put_hexadecimal, put_text, show_named,
 };
-use elf_model::{FileState, Format};
+use elf_model::{FileStatus, Format};
 use elf_source::{Out, OutFault, Sink};
 
 /// The `C` line of a file up to its path: its state, and where it is at fault and why.
 #[tactic(auto, unfolding(elf_model::specs::Checking::check_front))]
-fn check_row<R: Render>(front: &mut LineFront, state: FileState)
+fn check_row<R: Render>(front: &mut LinePrefix, state: FileStatus)
     ensures front { front_of front.new ≡ check_front R.FORMAT state }
     ensures key { length front.new.key.now ≤ 16 }
 {
@@ -26,7 +26,7 @@ fn check_row<R: Render>(front: &mut LineFront, state: FileState)
         &mut front.line,
         b"state",
         12,
-        state_word(state).as_bytes(),
+        file_status_name(state).as_bytes(),
         b' ',
     );
     put_fault::<R>(&mut front.line, state);
@@ -35,11 +35,11 @@ fn check_row<R: Render>(front: &mut LineFront, state: FileState)
 /// Puts where a file is at fault and why; in columns a hyphen for a file that is not at fault. The line has
 /// at most 150 bytes before.
 #[tactic(auto, unfolding(elf_model::specs::Fields::with_field))]
-pub fn put_fault<R: Render>(line: &mut Line, state: FileState)
+pub fn put_fault<R: Render>(line: &mut LineBuf, state: FileStatus)
     requires { array_vec_len line.old ≤ 150 }
     ensures items { line.new.items ≡ with_fields R.FORMAT line.old.items (fault_fields state) }
 {
-    if let FileState::Refused(refusal) = state {
+    if let FileStatus::Refused(refusal) = state {
         put_hexadecimal::<R>(line, b"place", 16, refusal.at, b' ');
         put_text::<R>(
             line,
@@ -57,17 +57,17 @@ pub fn put_fault<R: Render>(line: &mut Line, state: FileState)
 }
 
 /// The word of a state in a check's line.
-#[tactic(auto, unfolding(elf_model::specs::Checking::state_word))]
-fn state_word(state: FileState) -> &'static str
-    ensures word { result.now ≡ state_word state }
+#[tactic(auto, unfolding(elf_model::specs::Checking::file_status_name))]
+fn file_status_name(state: FileStatus) -> &'static str
+    ensures word { result.now ≡ file_status_name state }
     ensures short { length result.now ≤ 12 }
 {
     match state {
-        FileState::Ok => "ok",
-        FileState::Refused(_) => "refused",
-        FileState::NoElf => "no-elf",
-        FileState::Unread => "unread",
-        FileState::Memory => "memory",
+        FileStatus::Ok => "ok",
+        FileStatus::Refused(_) => "refused",
+        FileStatus::NoElf => "no-elf",
+        FileStatus::Unread => "unread",
+        FileStatus::Memory => "memory",
     }
 }
 
@@ -77,14 +77,14 @@ fn state_word(state: FileState) -> &'static str
 /// # Errors
 /// A fault of the output, with a front of the line written.
 pub fn show_check<W: Sink>(
-    state: FileState,
+    state: FileStatus,
     path: &[u8],
     format: Format,
     out: &mut Out<W>,
 ) -> Result<(), OutFault>
-    ensures puts { Puts out.old out.new result (check_line format state path.now) }
+    ensures puts { OutPuts out.old out.new result (check_line format state path.now) }
 {
-    let mut front = LineFront::new();
+    let mut front = LinePrefix::new();
     match format {
         Format::Columns => check_row::<Columns>(&mut front, state),
         Format::Object => check_row::<Object>(&mut front, state),
@@ -97,7 +97,7 @@ pub fn show_check<W: Sink>(
 /// # Errors
 /// A fault of the output, with a front of the line written.
 pub fn show_unnamed<W: Sink>(count: u64, format: Format, out: &mut Out<W>) -> Result<(), OutFault>
-    ensures puts { Puts out.old out.new result (unnamed_line format count) }
+    ensures puts { OutPuts out.old out.new result (unnamed_line format count) }
 {
     match format {
         Format::Columns => out.put(&unnamed_row::<Columns>(count)),
@@ -107,10 +107,10 @@ pub fn show_unnamed<W: Sink>(count: u64, format: Format, out: &mut Out<W>) -> Re
 
 /// The last line of a check.
 #[tactic(auto, unfolding(elf_model::specs::Checking::unnamed_line))]
-fn unnamed_row<R: Render>(count: u64) -> Line
+fn unnamed_row<R: Render>(count: u64) -> LineBuf
     ensures { result.items ≡ unnamed_line R.FORMAT count }
 {
-    let mut line = Line::new();
+    let mut line = LineBuf::new();
     begin::<R>(&mut line, b"C");
     put_text::<R>(&mut line, b"state", 12, b"unnamed", b' ');
     put_decimal::<R>(&mut line, b"count", 10, count, b'\n');

@@ -2,12 +2,12 @@
 ghost use Rattle.std.specs.Prelude.{◌≡◌, ◌≤◌, ℕ, List, length, IfSome, option_copied};
 ghost use Rattle.elf_model.specs.Text.{name_of};
 ghost use Rattle.elf_model.specs.NameTables.{dynamic_tags};
-ghost use Rattle.elf_model.specs.LineFronts.{dynamic_front};
+ghost use Rattle.elf_model.specs.LineFronts.{dynamic_prefix};
 ghost use Rattle.elf_record.specs.Dyn.{IsDyn};
 ghost use Rattle.elf_fields.specs.Fronts.{front_of};
 
-use crate::name_tables::name_of_either;
-use elf_fields::{LineFront, Render, begin_named, put_decimal, put_hexadecimal, put_name_or_hex};
+use crate::name_tables::name_in_either_table;
+use elf_fields::{LinePrefix, Render, begin_named, put_decimal, put_hexadecimal, put_name_or_hex};
 use elf_record::Dyn;
 use elf_record::gnu_numbers::{
     DT_AUDIT, DT_AUXILIARY, DT_CHECKSUM, DT_CONFIG, DT_DEPAUDIT, DT_FEATURE, DT_FILTER, DT_FLAGS_1,
@@ -27,10 +27,10 @@ use elf_record::numbers::{
 /// The `D` line of a dynamic entry up to the name, in place of what the front held: its index in its
 /// table, tag and value (gABI 5, Dynamic Section); `gnu` says whether tags of the GNU system have
 /// names.
-pub fn dynamic_front<R: Render>(front: &mut LineFront, index: u64, entry: &Dyn, gnu: bool)
+pub fn dynamic_prefix<R: Render>(front: &mut LinePrefix, index: u64, entry: &Dyn, gnu: bool)
     // A tag is read as a signed number, and shown as its bits.
     ensures front { (file : List ℕ) (at : ℕ) → IsDyn file at entry.now →
-        front_of front.new ≡ dynamic_front R.FORMAT gnu file at index }
+        front_of front.new ≡ dynamic_prefix R.FORMAT gnu file at index }
     ensures key { length front.new.key.now ≤ 16 }
 {
     let tag = entry.d_tag.cast_unsigned();
@@ -46,7 +46,7 @@ fn tag_name(tag: u64, gnu: bool) -> Option<&'static str>
     ensures name { option_copied result ≡ name_of (dynamic_tags gnu) tag }
     ensures short { IfSome result (λ name. length name.now ≤ 16) }
 {
-    name_of_either(&STANDARD_TAGS, gnu, &GNU_TAGS, tag)
+    name_in_either_table(&STANDARD_TAGS, gnu, &GNU_TAGS, tag)
 }
 
 /// The tags of the standard (gABI 5, Dynamic Section).

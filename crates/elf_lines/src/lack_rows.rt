@@ -2,15 +2,15 @@
 ghost use Rattle.std.specs.Prelude.{◌≡◌, ◌+◌, ◌≤◌, ◌++◌, true, codes, decimal, length};
 ghost use Rattle.arrayvec.specs.ArrayVec.{array_vec_len};
 ghost use Rattle.elf_model.specs.ExplainLine.{entry_text, help_text, item_text, items_text};
-ghost use Rattle.elf_model.specs.ExplainLine.{lack_line, place_text, type_front};
+ghost use Rattle.elf_model.specs.ExplainLine.{missing_line, place_text, type_prefix};
 ghost use Rattle.elf_model.specs.Lines.{escaped, name_text};
 ghost use Rattle.elf_model.specs.NameTables.{number_sign, relocation_types};
-ghost use Rattle.elf_source.specs.Output.{Puts};
+ghost use Rattle.elf_source.specs.Output.{OutPuts};
 ghost use Rattle.elf_fields.specs.Named.{shown_as};
 
 use crate::relocation_rows::relocation_type_name;
-use elf_fields::{Line, LineFront, line_of, number_sign, put, show_tailed};
-use elf_model::{Base, Format, LayoutAddress, Missing};
+use elf_fields::{LineBuf, LinePrefix, line_of, number_sign, put, show_tailed};
+use elf_model::{Format, LayoutAddress, Missing, RelocationBase};
 use elf_source::{Out, OutFault, Sink};
 use itoa::Buffer;
 
@@ -19,14 +19,14 @@ use itoa::Buffer;
 ///
 /// # Errors
 /// A fault of the output, with a front of the line written.
-pub fn show_lack<W: Sink>(
+pub fn show_missing<W: Sink>(
     missing: Missing,
     name: &[u8],
     is_cut: bool,
     out: &mut Out<W>,
 ) -> Result<(), OutFault>
-    ensures puts { Puts out.old out.new result
-        (lack_line (record { missing = missing; name = shown_as is_cut name.now })) }
+    ensures puts { OutPuts out.old out.new result
+        (missing_line (record { missing = missing; name = shown_as is_cut name.now })) }
 {
     show_entry(missing.kind, name, is_cut, out)?;
     show_help(missing.wanted, name, is_cut, out)
@@ -42,9 +42,9 @@ fn show_entry<W: Sink>(
     is_cut: bool,
     out: &mut Out<W>,
 ) -> Result<(), OutFault>
-    ensures puts { Puts out.old out.new result (entry_text kind (shown_as is_cut name.now)) }
+    ensures puts { OutPuts out.old out.new result (entry_text kind (shown_as is_cut name.now)) }
 {
-    let mut line = type_front(kind);
+    let mut line = type_prefix(kind);
     if name.is_empty() && !is_cut {
         put(&mut line, b": ");
         return out.put(&line);
@@ -54,9 +54,9 @@ fn show_entry<W: Sink>(
 }
 
 /// The type of an entry: its name as in a listing with the names of the GNU system, or its number.
-#[tactic(auto, unfolding(elf_model::specs::ExplainLine::type_front, elf_model::specs::NameTables::relocation_type_text))]
-fn type_front(kind: u32) -> Line
-    ensures text { result.items ≡ type_front kind }
+#[tactic(auto, unfolding(elf_model::specs::ExplainLine::type_prefix, elf_model::specs::NameTables::relocation_type_text))]
+fn type_prefix(kind: u32) -> LineBuf
+    ensures text { result.items ≡ type_prefix kind }
     ensures short { array_vec_len result ≤ 32 }
 {
     let mut line = line_of(b"elfsee: ");
@@ -78,7 +78,7 @@ fn show_help<W: Sink>(
     is_cut: bool,
     out: &mut Out<W>,
 ) -> Result<(), OutFault>
-    ensures puts { Puts out.old out.new result (help_text wanted (shown_as is_cut name.now)) }
+    ensures puts { OutPuts out.old out.new result (help_text wanted (shown_as is_cut name.now)) }
 {
     match wanted {
         LayoutAddress::Place(section) => out.put(&place_row(section)),
@@ -102,14 +102,14 @@ fn show_help<W: Sink>(
 /// # Errors
 /// A fault of the output, with a front of the text written.
 fn show_no_item<W: Sink>(out: &mut Out<W>) -> Result<(), OutFault>
-    ensures puts { Puts out.old out.new result (codes "no item can name it\n") }
+    ensures puts { OutPuts out.old out.new result (codes "no item can name it\n") }
 {
     out.put(b"no item can name it\n")
 }
 
 /// The item of a section.
 #[tactic(auto, unfolding(elf_model::specs::ExplainLine::place_text))]
-fn place_row(section: u16) -> Line
+fn place_row(section: u16) -> LineBuf
     ensures { result.items ≡ place_text section }
 {
     let mut line = line_of(b"at:");
@@ -125,17 +125,17 @@ fn place_row(section: u16) -> Line
 /// # Errors
 /// A fault of the output, with a front of the text written.
 #[tactic(auto, unfolding(elf_model::specs::ExplainLine::items_text))]
-fn show_items<W: Sink>(base: Base, name: &[u8], out: &mut Out<W>) -> Result<(), OutFault>
-    ensures puts { Puts out.old out.new result (items_text base (escaped name.now)) }
+fn show_items<W: Sink>(base: RelocationBase, name: &[u8], out: &mut Out<W>) -> Result<(), OutFault>
+    ensures puts { OutPuts out.old out.new result (items_text base (escaped name.now)) }
 {
     match base {
-        Base::Symbol => show_item(b"def:", name, b"=ADDR would help\n", out),
-        Base::Linkage => {
+        RelocationBase::Symbol => show_item(b"def:", name, b"=ADDR would help\n", out),
+        RelocationBase::Linkage => {
             show_item(b"plt:", name, b"=ADDR or ", out)?;
             show_item(b"def:", name, b"=ADDR would help\n", out)
         }
-        Base::Table => show_item(b"got:", name, b"=ADDR would help\n", out),
-        Base::Thread => show_item(b"tpgot:", name, b"=ADDR would help\n", out),
+        RelocationBase::Table => show_item(b"got:", name, b"=ADDR would help\n", out),
+        RelocationBase::Thread => show_item(b"tpgot:", name, b"=ADDR would help\n", out),
     }
 }
 
@@ -151,7 +151,7 @@ fn show_item<W: Sink>(
 ) -> Result<(), OutFault>
     requires word { length word.now ≤ 256 }
     requires tail { length tail.now ≤ 256 }
-    ensures puts { Puts out.old out.new result (item_text word.now (escaped name.now) tail.now) }
+    ensures puts { OutPuts out.old out.new result (item_text word.now (escaped name.now) tail.now) }
 {
     show_around(line_of(word), name, false, tail, out)
 }
@@ -163,7 +163,7 @@ fn show_item<W: Sink>(
 /// A fault of the output, with a front of the text written.
 #[tactic(auto, unfolding(elf_fields::specs::Named::line_tailed))]
 fn show_around<W: Sink>(
-    line: Line,
+    line: LineBuf,
     name: &[u8],
     is_cut: bool,
     tail: &[u8],
@@ -171,9 +171,9 @@ fn show_around<W: Sink>(
 ) -> Result<(), OutFault>
     requires { length tail.now ≤ 256 }
     ensures puts { let shown = name_text (shown_as is_cut name.now) in
-        Puts out.old out.new result (line.items ++ (shown ++ tail.now)) }
+        OutPuts out.old out.new result (line.items ++ (shown ++ tail.now)) }
 {
-    let mut front = LineFront {
+    let mut front = LinePrefix {
         line,
         format: Format::Columns,
         key: b"",

@@ -1,19 +1,19 @@
 //! The line that ends a lookup.
 ghost use Rattle.std.specs.Prelude.{◌≡◌};
 ghost use Rattle.elf_model.specs.Lines.{steps_line};
-ghost use Rattle.elf_source.specs.Output.{Puts};
+ghost use Rattle.elf_source.specs.Output.{OutPuts};
 
-use elf_fields::{Columns, Line, Object, Render, begin, put_closing, put_decimal, put_text};
+use elf_fields::{Columns, LineBuf, Object, Render, begin, put_closing, put_decimal, put_text};
 use elf_model::Format;
 use elf_source::{Out, OutFault, Sink};
 
 /// The `F` line, which ends a lookup: whether the name was found, and how many symbols were compared.
 #[tactic(auto, unfolding(elf_model::specs::Lines::steps_line))]
-fn steps_row<R: Render>(found: bool, steps: u64) -> Line
+fn steps_row<R: Render>(found: bool, steps: u64) -> LineBuf
     ensures { result.items ≡ steps_line R.FORMAT found steps }
 {
     let word = if found { "found" } else { "absent" };
-    let mut line = Line::new();
+    let mut line = LineBuf::new();
     begin::<R>(&mut line, b"F");
     put_text::<R>(&mut line, b"answer", 6, word.as_bytes(), b' ');
     put_decimal::<R>(&mut line, b"steps", 10, steps, b'\n');
@@ -32,7 +32,7 @@ pub fn show_steps<W: Sink>(
     format: Format,
     out: &mut Out<W>,
 ) -> Result<(), OutFault>
-    ensures puts { Puts out.old out.new result (steps_line format found steps) }
+    ensures puts { OutPuts out.old out.new result (steps_line format found steps) }
 {
     match format {
         Format::Columns => out.put(&steps_row::<Columns>(found, steps)),

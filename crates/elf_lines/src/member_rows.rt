@@ -1,15 +1,15 @@
 //! The lines of an archive's members.
 ghost use Rattle.std.specs.Prelude.{◌≡◌, ◌≤◌, length};
 ghost use Rattle.elf_fields.specs.Fronts.{front_of};
-ghost use Rattle.elf_model.specs.Archive.{member_front};
+ghost use Rattle.elf_model.specs.Archive.{member_prefix};
 
-use elf_fields::{LineFront, Render, begin_named, put_decimal, put_hexadecimal};
+use elf_fields::{LinePrefix, Render, begin_named, put_decimal, put_hexadecimal};
 
 /// The `A` line of an archive's member up to the name, in place of what the front held: its index,
 /// the file offset and the size in bytes of its data.
-#[tactic(auto, unfolding(elf_model::specs::Archive::member_front))]
-pub fn member_front<R: Render>(front: &mut LineFront, index: u64, at: u64, size: u64)
-    ensures front { front_of front.new ≡ member_front R.FORMAT index at size }
+#[tactic(auto, unfolding(elf_model::specs::Archive::member_prefix))]
+pub fn member_prefix<R: Render>(front: &mut LinePrefix, index: u64, at: u64, size: u64)
+    ensures front { front_of front.new ≡ member_prefix R.FORMAT index at size }
     ensures key { length front.new.key.now ≤ 16 }
 {
     begin_named::<R>(front, b"A", b"name");

@@ -21,7 +21,7 @@ pub fn name_of(mut table: &[(u64, &'static str)], number: u64) -> Option<&'stati
 /// The name of a number in the first of two tables, else in the second, which counts under a
 /// condition.
 #[tactic(auto, using(crate::proofs::Names::name_of_both), unfolding(crate::specs::Rows::name_of))]
-pub(crate) fn name_of_either(
+pub(crate) fn name_in_either_table(
     names: &[(u64, &'static str)],
     condition: bool,
     more: &[(u64, &'static str)],

@@ -4,23 +4,23 @@ use elf_record::numbers::EM_X86_64;
 /// How numbers are named in the lines of a file: by the names of the standards alone, or by those of
 /// the GNU system too; and on which machine, since some names are of x86-64 alone.
 #[derive(Clone, Copy)]
-pub struct NumberNaming {
+pub struct ConstantNames {
     /// Whether numbers of the GNU system have names.
     pub gnu: bool,
     /// The machine of the file (gABI 4, ELF Header).
     pub machine: u16,
 }
 
-impl NumberNaming {
+impl ConstantNames {
     ghost use Rattle.std.specs.Prelude.{◌≡◌, ◌==◌, ◌&&◌, false};
     ghost use Rattle.elf_model.specs.Numbers.{EM_X86_64};
 
     /// The names of the standards alone.
-    pub fn standard(machine: u16) -> NumberNaming
+    pub fn standard(machine: u16) -> ConstantNames
         ensures gnu { result.gnu ≡ false }
         ensures machine { result.machine ≡ machine }
     {
-        NumberNaming {
+        ConstantNames {
             gnu: false,
             machine,
         }

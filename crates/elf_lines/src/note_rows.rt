@@ -1,16 +1,16 @@
 //! The lines of notes.
-ghost use Rattle.elf_source.specs.Growth.{Grows};
+ghost use Rattle.elf_source.specs.Growth.{OutGrows};
 ghost use Rattle.std.specs.Prelude.{◌≡◌, ◌≤◌, ℕ, List, length, IfErr};
 ghost use Rattle.arrayvec.specs.ArrayVec.{array_vec_len};
-ghost use Rattle.elf_model.specs.LineFronts.{note_front};
+ghost use Rattle.elf_model.specs.LineFronts.{note_prefix};
 ghost use Rattle.elf_model.specs.Lines.{note_line};
-ghost use Rattle.elf_source.specs.Output.{OutFails, Puts};
+ghost use Rattle.elf_source.specs.Output.{IsOutFault, OutPuts};
 ghost use Rattle.elf_fields.specs.Fronts.{front_of};
 ghost use Rattle.elf_lines.specs.Notes.{IsDescriptor, note_end};
 ghost use Rattle.elf_fields.specs.Named.{shown_as};
 
 use elf_fields::{
-    Line, LineFront, Object, Render, begin_named, put, put_closing, put_half, put_hexadecimal,
+    LineBuf, LinePrefix, Object, Render, begin_named, put, put_closing, put_half, put_hexadecimal,
     put_text, put_where, show_tailed,
 };
 use elf_model::Format;
@@ -24,10 +24,10 @@ const SHOWN_DESCRIPTOR: u32 = 32;
 /// The `N` line of a note up to the name, in place of what the front held: the index of its section
 /// or program header, type, and the sizes of its name and its descriptor in bytes (gABI 5, Note
 /// Section).
-#[tactic(auto, unfolding(elf_model::specs::LineFronts::note_front))]
-pub fn note_front<R: Render>(front: &mut LineFront, index: u16, head: &NoteHead)
+#[tactic(auto, unfolding(elf_model::specs::LineFronts::note_prefix))]
+pub fn note_prefix<R: Render>(front: &mut LinePrefix, index: u16, head: &NoteHead)
     ensures front { front_of front.new
-        ≡ note_front R.FORMAT index head.now.kind head.now.namesz head.now.descsz }
+        ≡ note_prefix R.FORMAT index head.now.kind head.now.namesz head.now.descsz }
     ensures key { length front.new.key.now ≤ 16 }
 {
     begin_named::<R>(front, b"N", b"name");
@@ -45,7 +45,7 @@ pub fn note_front<R: Render>(front: &mut LineFront, index: u16, head: &NoteHead)
 /// # Errors
 /// A fault of the output, with a front of the line written.
 pub fn show_note<W: Sink>(
-    front: &mut LineFront,
+    front: &mut LinePrefix,
     name: &[u8],
     is_cut: bool,
     first_bytes: &[u8],
@@ -54,10 +54,10 @@ pub fn show_note<W: Sink>(
 ) -> Result<(), OutFault>
     requires few { length first_bytes.now ≤ 32 }
     requires key { length front.old.key.now ≤ 16 }
-    ensures grows { Grows out.old out.new }
-    ensures fails { IfErr result (OutFails out.new) }
+    ensures grows { OutGrows out.old out.new }
+    ensures fails { IfErr result (IsOutFault out.new) }
     ensures puts { (descriptor : List ℕ) → IsDescriptor first_bytes.now descsz descriptor →
-        Puts out.old out.new result
+        OutPuts out.old out.new result
         (note_line (front_of front.old) (shown_as is_cut name.now) descriptor) }
 {
     let mut digits = [0; 64];
@@ -70,12 +70,12 @@ pub fn show_note<W: Sink>(
 /// What stands behind a note's name: the digits of the first bytes of its descriptor, in columns
 /// the mark where it has more than these, and the line's end.
 #[tactic(auto, unfolding(crate::specs::Notes::note_end))]
-fn note_end(format: Format, digits: &[u8], has_more: bool) -> Line
+fn note_end(format: Format, digits: &[u8], has_more: bool) -> LineBuf
     requires { length digits.now ≤ 64 }
     ensures items { result.items ≡ note_end format digits.now has_more }
     ensures short { array_vec_len result ≤ 256 }
 {
-    let mut line = Line::new();
+    let mut line = LineBuf::new();
     match format {
         Format::Columns => {
             put(&mut line, b" ");

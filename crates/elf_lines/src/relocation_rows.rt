@@ -2,14 +2,14 @@
 ghost use Rattle.std.specs.Prelude.{◌≡◌, ◌≤◌, ℕ, List, length, IfSome, option_copied};
 ghost use Rattle.elf_model.specs.Text.{name_of};
 ghost use Rattle.elf_model.specs.NameTables.{relocation_names, relocation_types};
-ghost use Rattle.elf_model.specs.LineFronts.{relocation_front};
+ghost use Rattle.elf_model.specs.LineFronts.{relocation_prefix};
 ghost use Rattle.elf_record.specs.Rela.{IsRela};
 ghost use Rattle.elf_fields.specs.Fronts.{front_of};
 
-use crate::name_tables::name_of_either;
-use crate::naming::NumberNaming;
+use crate::name_tables::name_in_either_table;
+use crate::naming::ConstantNames;
 use elf_fields::{
-    LineFront, Render, begin_named, put_half, put_hexadecimal, put_name_or_sign, put_signed,
+    LinePrefix, Render, begin_named, put_half, put_hexadecimal, put_name_or_sign, put_signed,
 };
 use elf_record::Rela;
 use elf_record::gnu_numbers::{
@@ -29,15 +29,15 @@ use elf_record::numbers::{
 
 /// The `R` line of a relocation entry up to the name, in place of what the front held: the index of
 /// its section, offset, type on this machine, symbol and addend (gABI 4, Relocation).
-#[tactic(auto, unfolding(elf_model::specs::LineFronts::relocation_front))]
-pub fn relocation_front<R: Render>(
-    front: &mut LineFront,
+#[tactic(auto, unfolding(elf_model::specs::LineFronts::relocation_prefix))]
+pub fn relocation_prefix<R: Render>(
+    front: &mut LinePrefix,
     section: u16,
     entry: &Rela,
-    naming: NumberNaming,
+    naming: ConstantNames,
 )
     ensures front { (file : List ℕ) (at : ℕ) → IsRela file at entry.now → front_of front.new
-        ≡ relocation_front R.FORMAT naming.gnu naming.machine file at section }
+        ≡ relocation_prefix R.FORMAT naming.gnu naming.machine file at section }
     ensures key { length front.new.key.now ≤ 16 }
 {
     let kind = entry.kind();
@@ -52,7 +52,7 @@ pub fn relocation_front<R: Render>(
 
 /// The name of a relocation type on the machine. Names are known for x86-64 alone.
 #[tactic(auto, unfolding(elf_model::specs::Text::name_of))]
-fn name_on_machine(kind: u32, naming: NumberNaming) -> Option<&'static str>
+fn name_on_machine(kind: u32, naming: ConstantNames) -> Option<&'static str>
     ensures name { option_copied result
         ≡ name_of (relocation_names naming.gnu naming.machine) kind }
     ensures short { IfSome result (λ name. length name.now ≤ 10) }
@@ -68,7 +68,7 @@ pub(crate) fn relocation_type_name(kind: u32, gnu: bool) -> Option<&'static str>
     ensures name { option_copied result ≡ name_of (relocation_types gnu) kind }
     ensures short { IfSome result (λ name. length name.now ≤ 10) }
 {
-    name_of_either(
+    name_in_either_table(
         &STANDARD_RELOCATION_TYPES,
         gnu,
         &FURTHER_RELOCATION_TYPES,

@@ -5,12 +5,12 @@ ghost use Rattle.elf_model.specs.Causes.{cause_word};
 ghost use Rattle.elf_model.specs.Lines.{header_line, refusal_line};
 ghost use Rattle.elf_model.specs.NameTables.{file_types};
 ghost use Rattle.elf_record.specs.Ehdr.{IsEhdr};
-ghost use Rattle.elf_source.specs.Output.{Puts};
+ghost use Rattle.elf_source.specs.Output.{OutPuts};
 
 use crate::name_tables::name_of;
 use elf_fields::{
-    Columns, Line, Object, Render, begin, put_closing, put_half, put_hexadecimal, put_name_or_hex,
-    put_text,
+    Columns, LineBuf, Object, Render, begin, put_closing, put_half, put_hexadecimal,
+    put_name_or_hex, put_text,
 };
 use elf_model::Format;
 use elf_record::numbers::{ET_CORE, ET_DYN, ET_EXEC, ET_NONE, ET_REL};
@@ -21,12 +21,12 @@ use elf_source::{Out, OutFault, Sink};
 /// section headers, flags, their numbers, and the section of the section names (gABI 4, ELF
 /// Header).
 #[tactic(auto, unfolding(elf_model::specs::Lines::header_line))]
-pub fn header_row<R: Render>(header: &Ehdr) -> Line
+pub fn header_row<R: Render>(header: &Ehdr) -> LineBuf
     ensures { (file : List ℕ) → IsEhdr file 0 header.now →
         result.items ≡ header_line R.FORMAT file }
 {
     let kind = u64::from(header.e_type);
-    let mut line = Line::new();
+    let mut line = LineBuf::new();
     begin::<R>(&mut line, b"H");
     put_name_or_hex::<R>(&mut line, b"type", 4, 4, file_type_name(kind), kind);
     put_half::<R>(&mut line, b"machine", header.e_machine, b' ');
@@ -43,10 +43,10 @@ pub fn header_row<R: Render>(header: &Ehdr) -> Line
 
 /// The `!` line of a refusal: the file offset that it points to, and its cause.
 #[tactic(auto, unfolding(elf_model::specs::Lines::refusal_line))]
-fn refusal_row<R: Render>(refusal: Refusal) -> Line
+fn refusal_row<R: Render>(refusal: Refusal) -> LineBuf
     ensures { result.items ≡ refusal_line R.FORMAT refusal }
 {
-    let mut line = Line::new();
+    let mut line = LineBuf::new();
     begin::<R>(&mut line, b"!");
     put_hexadecimal::<R>(&mut line, b"place", 16, refusal.at, b' ');
     put_text::<R>(
@@ -70,7 +70,7 @@ pub fn show_refusal<W: Sink>(
     format: Format,
     out: &mut Out<W>,
 ) -> Result<(), OutFault>
-    ensures puts { Puts out.old out.new result (refusal_line format refusal) }
+    ensures puts { OutPuts out.old out.new result (refusal_line format refusal) }
 {
     match format {
         Format::Columns => out.put(&refusal_row::<Columns>(refusal)),

@@ -2,17 +2,17 @@
 ghost use Rattle.std.specs.Prelude.{◌≡◌, ◌+◌, ◌≤◌, ◌++◌, ℕ, List, length, IfSome, option_copied};
 ghost use Rattle.arrayvec.specs.ArrayVec.{array_vec_len};
 ghost use Rattle.elf_model.specs.Text.{name_of};
-ghost use Rattle.elf_model.specs.NameTables.{flags_with_letters, in_twelve, letters_of, names_where};
+ghost use Rattle.elf_model.specs.NameTables.{flags_with_letters, flags_column, letters_of, names_where};
 ghost use Rattle.elf_lines.specs.Tables.{letters};
 ghost use Rattle.elf_model.specs.NameTables.{section_flags, section_flags_text, section_types};
-ghost use Rattle.elf_model.specs.LineFronts.{section_front};
+ghost use Rattle.elf_model.specs.LineFronts.{section_prefix};
 ghost use Rattle.elf_record.specs.Shdr.{IsShdr};
 ghost use Rattle.elf_fields.specs.Fronts.{front_of};
 
-use crate::name_tables::name_of_either;
-use crate::naming::NumberNaming;
+use crate::name_tables::name_in_either_table;
+use crate::naming::ConstantNames;
 use elf_fields::{
-    Line, LineFront, Render, begin_named, put_half, put_hexadecimal, put_name_or_hex, put_text,
+    LineBuf, LinePrefix, Render, begin_named, put_half, put_hexadecimal, put_name_or_hex, put_text,
     put_where,
 };
 use elf_record::gnu_numbers::{
@@ -28,15 +28,15 @@ use elf_record::{SectionFlags, Shdr};
 
 /// The `S` line of a section header up to the name, in place of what the front held: its index,
 /// type, flags, address, file offset, size, link and info (gABI 4, Section Header).
-#[tactic(auto, unfolding(elf_model::specs::LineFronts::section_front))]
-pub fn section_front<R: Render>(
-    front: &mut LineFront,
+#[tactic(auto, unfolding(elf_model::specs::LineFronts::section_prefix))]
+pub fn section_prefix<R: Render>(
+    front: &mut LinePrefix,
     index: u16,
     header: &Shdr,
-    naming: NumberNaming,
+    naming: ConstantNames,
 )
     ensures front { (file : List ℕ) (at : ℕ) → IsShdr file at header.now → front_of front.new
-        ≡ section_front R.FORMAT naming.gnu naming.machine file at index }
+        ≡ section_prefix R.FORMAT naming.gnu naming.machine file at index }
     ensures key { length front.new.key.now ≤ 16 }
 {
     let kind = u64::from(header.sh_type);
@@ -61,24 +61,24 @@ const STANDARD_FLAGS: u64 = 0xff7;
 
 /// The letters of a section's flags, and a question mark where any other bit is set (gABI 4,
 /// Section Attribute Flags); of more than twelve the first eleven, and a question mark.
-fn section_letters(bits: u64, naming: NumberNaming) -> Line
+fn section_letters(bits: u64, naming: ConstantNames) -> LineBuf
     ensures text { result.items ≡ section_flags_text naming.gnu naming.machine bits }
     ensures short { array_vec_len result ≤ 12 }
 {
-    let mut line = Line::new();
+    let mut line = LineBuf::new();
     put_letters(&mut line, true, &STANDARD_LETTERS, bits);
     put_letters(&mut line, naming.gnu, &GNU_LETTERS, bits);
     put_letters(&mut line, naming.is_gnu_on_x86_64(), &X86_64_LETTERS, bits);
     put_letters(&mut line, naming.gnu, &PROCESSOR_LETTERS, bits);
     let known = flags_with_letters(naming);
     put_where(&mut line, bits & known != bits, b"?");
-    in_twelve(line)
+    flags_column(line)
 }
 
-#[tactic(auto, unfolding(crate::specs::Rows::in_twelve))]
+#[tactic(auto, unfolding(crate::specs::Rows::flags_column))]
 /// A text of letters, or the first eleven letters of a longer one, and a question mark.
-fn in_twelve(letters: Line) -> Line
-    ensures text { result.items ≡ in_twelve letters.items }
+fn flags_column(letters: LineBuf) -> LineBuf
+    ensures text { result.items ≡ flags_column letters.items }
     ensures short { array_vec_len result ≤ 12 }
 {
     let mut line = letters;
@@ -91,7 +91,7 @@ fn in_twelve(letters: Line) -> Line
 
 /// Puts the letters of the flags of a table that are set, where a condition holds.
 #[tactic(auto, unfolding(crate::specs::Rows::letters_of))]
-fn put_letters(line: &mut Line, condition: bool, mut table: &[(u64, u8)], bits: u64)
+fn put_letters(line: &mut LineBuf, condition: bool, mut table: &[(u64, u8)], bits: u64)
     requires { array_vec_len line.old + length table.now ≤ 256 }
     ensures items { line.new.items
         ≡ line.old.items ++ letters_of (names_where condition (letters table.entry.now)) bits }
@@ -132,7 +132,7 @@ const PROCESSOR_LETTERS: [(u64, u8); 1] = [(SHF_EXCLUDE, b'E')];
 
 /// All flags that have letters.
 #[tactic(auto, unfolding(crate::specs::Rows::section_flags, crate::specs::Rows::standard_section_flags, crate::specs::Rows::further_section_flags, crate::specs::Rows::gnu_section_flags, crate::specs::Rows::x86_64_section_flags, crate::specs::Rows::processor_section_flags))]
-fn flags_with_letters(naming: NumberNaming) -> u64
+fn flags_with_letters(naming: ConstantNames) -> u64
     ensures { result ≡ flags_with_letters (section_flags naming.gnu naming.machine) }
 {
     if !naming.gnu {
@@ -146,12 +146,12 @@ fn flags_with_letters(naming: NumberNaming) -> u64
 }
 
 /// The name of a section type.
-fn section_type_name(kind: u64, naming: NumberNaming) -> Option<&'static str>
+fn section_type_name(kind: u64, naming: ConstantNames) -> Option<&'static str>
     ensures name { option_copied result ≡ name_of (section_types naming.gnu naming.machine) kind }
     ensures short { IfSome result (λ name. length name.now ≤ 13) }
 {
-    let unwind = name_of_either(&[], naming.is_gnu_on_x86_64(), &X86_64_SECTION_TYPES, kind);
-    name_of_either(
+    let unwind = name_in_either_table(&[], naming.is_gnu_on_x86_64(), &X86_64_SECTION_TYPES, kind);
+    name_in_either_table(
         &STANDARD_SECTION_TYPES,
         naming.gnu,
         &GNU_SECTION_TYPES,

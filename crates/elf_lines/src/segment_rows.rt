@@ -7,10 +7,10 @@ ghost use Rattle.elf_model.specs.NameTables.{segment_flags_text, segment_types};
 ghost use Rattle.elf_model.specs.Lines.{segment_line};
 ghost use Rattle.elf_record.specs.Phdr.{IsPhdr};
 
-use crate::name_tables::name_of_either;
+use crate::name_tables::name_in_either_table;
 use bitflags::Flags;
 use elf_fields::{
-    Line, Render, begin, put_closing, put_half, put_hexadecimal, put_name_or_hex, put_text,
+    LineBuf, Render, begin, put_closing, put_half, put_hexadecimal, put_name_or_hex, put_text,
 };
 use elf_record::gnu_numbers::{
     PT_GNU_EH_FRAME, PT_GNU_PROPERTY, PT_GNU_RELRO, PT_GNU_SFRAME, PT_GNU_STACK,
@@ -24,14 +24,14 @@ use elf_record::{Phdr, SegmentFlags};
 /// address, size in the file and in memory, and alignment (gABI 5, Program Header); `gnu` says
 /// whether types of the GNU system have names.
 #[tactic(auto, unfolding(elf_model::specs::Lines::segment_line))]
-pub fn segment_row<R: Render>(index: u16, header: &Phdr, gnu: bool) -> Line
+pub fn segment_row<R: Render>(index: u16, header: &Phdr, gnu: bool) -> LineBuf
     ensures { (file : List ℕ) (at : ℕ) → IsPhdr file at header.now →
         result.items ≡ segment_line R.FORMAT gnu file at index }
 {
     let kind = u64::from(header.p_type);
-    let mut letters = Line::new();
+    let mut letters = LineBuf::new();
     put_permissions(&mut letters, SegmentFlags(header.p_flags));
-    let mut line = Line::new();
+    let mut line = LineBuf::new();
     begin::<R>(&mut line, b"P");
     put_half::<R>(&mut line, b"index", index, b' ');
     put_name_or_hex::<R>(&mut line, b"type", 8, 8, segment_type_name(kind, gnu), kind);
@@ -48,7 +48,7 @@ pub fn segment_row<R: Render>(index: u16, header: &Phdr, gnu: bool) -> Line
 
 /// Puts a segment's permissions: the letters of read, write and execute, or a dash for each that is
 /// not given. Other bits are not shown (gABI 5, Segment Flag Bits).
-fn put_permissions(line: &mut Line, flags: SegmentFlags)
+fn put_permissions(line: &mut LineBuf, flags: SegmentFlags)
     requires { array_vec_len line.old + 3 ≤ 256 }
     ensures items { line.new.items ≡ line.old.items ++ segment_flags_text flags.0 }
     ensures len { array_vec_len line.new ≡ array_vec_len line.old + 3 }
@@ -59,7 +59,7 @@ fn put_permissions(line: &mut Line, flags: SegmentFlags)
 }
 
 /// Puts a flag's letter, or a dash where it is not set.
-fn put_letter(line: &mut Line, is_set: bool, letter: u8)
+fn put_letter(line: &mut LineBuf, is_set: bool, letter: u8)
     requires { array_vec_len line.old + 1 ≤ 256 }
     ensures items { line.new.items ≡ line.old.items ++ (if is_set then letter ∷ [] else codes "-") }
     ensures len { array_vec_len line.new ≡ array_vec_len line.old + 1 }
@@ -72,7 +72,7 @@ fn segment_type_name(kind: u64, gnu: bool) -> Option<&'static str>
     ensures name { option_copied result ≡ name_of (segment_types gnu) kind }
     ensures short { IfSome result (λ name. length name.now ≤ 8) }
 {
-    name_of_either(&STANDARD_SEGMENT_TYPES, gnu, &GNU_SEGMENT_TYPES, kind)
+    name_in_either_table(&STANDARD_SEGMENT_TYPES, gnu, &GNU_SEGMENT_TYPES, kind)
 }
 
 /// The segment types of the standard (gABI 5, Segment Types).

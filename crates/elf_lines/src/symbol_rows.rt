@@ -1,20 +1,20 @@
 //! The lines of symbols.
-ghost use Rattle.elf_source.specs.Growth.{Grows};
+ghost use Rattle.elf_source.specs.Growth.{OutGrows};
 ghost use Rattle.std.specs.Prelude.{◌≡◌, ◌≤◌, ℕ, List, length, IfErr, IfSome, option_copied, false};
 ghost use Rattle.elf_model.specs.Text.{name_of};
 ghost use Rattle.elf_model.specs.NameTables.{symbol_types, bindings, visibilities, places};
 ghost use Rattle.elf_model.specs.Records.{e_machine};
-ghost use Rattle.elf_model.specs.LineFronts.{symbol_front};
+ghost use Rattle.elf_model.specs.LineFronts.{symbol_prefix};
 ghost use Rattle.elf_model.specs.Lines.{named_line};
-ghost use Rattle.elf_model.specs.Names.Shown.{Whole};
+ghost use Rattle.elf_model.specs.Names.DisplayedName.{Whole};
 ghost use Rattle.elf_record.specs.Sym.{IsSym};
 ghost use Rattle.elf_fields.specs.Fronts.{front_of};
-ghost use Rattle.elf_source.specs.Output.{OutFails, Puts};
+ghost use Rattle.elf_source.specs.Output.{IsOutFault, OutPuts};
 
-use crate::name_tables::{name_of, name_of_either};
-use crate::naming::NumberNaming;
+use crate::name_tables::{name_in_either_table, name_of};
+use crate::naming::ConstantNames;
 use elf_fields::{
-    Columns, LineFront, Object, Render, begin_named, put_decimal, put_half, put_hexadecimal,
+    Columns, LinePrefix, Object, Render, begin_named, put_decimal, put_half, put_hexadecimal,
     put_name_or_decimal, show_named,
 };
 use elf_model::Format;
@@ -29,16 +29,16 @@ use elf_source::{Out, OutFault, Sink};
 
 /// The `Y` line of a symbol up to the name, in place of what the front held: the index of its
 /// section, its own index, value, size, type, binding, visibility and place (gABI 4, Symbol Table).
-#[tactic(auto, unfolding(elf_model::specs::LineFronts::symbol_front))]
-pub fn symbol_front<R: Render>(
-    front: &mut LineFront,
+#[tactic(auto, unfolding(elf_model::specs::LineFronts::symbol_prefix))]
+pub fn symbol_prefix<R: Render>(
+    front: &mut LinePrefix,
     section: u16,
     index: u64,
     symbol: &Sym,
-    naming: NumberNaming,
+    naming: ConstantNames,
 )
     ensures front { (file : List ℕ) (at : ℕ) → IsSym file at symbol.now → front_of front.new
-        ≡ symbol_front R.FORMAT naming.gnu naming.machine file at section index }
+        ≡ symbol_prefix R.FORMAT naming.gnu naming.machine file at section index }
     ensures key { length front.new.key.now ≤ 16 }
 {
     let kind = u64::from(symbol.kind());
@@ -72,19 +72,19 @@ pub fn symbol_front<R: Render>(
 /// The same in a format that is known only where the program runs.
 pub fn symbol_front_in(
     format: Format,
-    front: &mut LineFront,
+    front: &mut LinePrefix,
     section: u16,
     index: u64,
     symbol: &Sym,
-    naming: NumberNaming,
+    naming: ConstantNames,
 )
     ensures front { (file : List ℕ) (at : ℕ) → IsSym file at symbol.now → front_of front.new
-        ≡ symbol_front format naming.gnu naming.machine file at section index }
+        ≡ symbol_prefix format naming.gnu naming.machine file at section index }
     ensures key { length front.new.key.now ≤ 16 }
 {
     match format {
-        Format::Columns => symbol_front::<Columns>(front, section, index, symbol, naming),
-        Format::Object => symbol_front::<Object>(front, section, index, symbol, naming),
+        Format::Columns => symbol_prefix::<Columns>(front, section, index, symbol, naming),
+        Format::Object => symbol_prefix::<Object>(front, section, index, symbol, naming),
     }
 }
 
@@ -101,19 +101,19 @@ pub fn show_symbol<W: Sink>(
     out: &mut Out<W>,
 ) -> Result<(), OutFault>
     ensures puts { (file : List ℕ) (at : ℕ) → IsSym file at symbol.now →
-        let front = symbol_front format false (e_machine file) file at section index in
-        Puts out.old out.new result (named_line front (Whole name.now)) }
-    ensures fails { IfErr result (OutFails out.new) }
-    ensures grows { Grows out.old out.new }
+        let front = symbol_prefix format false (e_machine file) file at section index in
+        OutPuts out.old out.new result (named_line front (Whole name.now)) }
+    ensures fails { IfErr result (IsOutFault out.new) }
+    ensures grows { OutGrows out.old out.new }
 {
-    let mut front = LineFront::new();
+    let mut front = LinePrefix::new();
     symbol_front_in(
         format,
         &mut front,
         section,
         index,
         symbol,
-        NumberNaming::standard(0),
+        ConstantNames::standard(0),
     );
     show_named(&mut front, name, false, out)
 }
@@ -123,7 +123,7 @@ fn symbol_type_name(kind: u64, gnu: bool) -> Option<&'static str>
     ensures name { option_copied result ≡ name_of (symbol_types gnu) kind }
     ensures short { IfSome result (λ name. length name.now ≤ 7) }
 {
-    name_of_either(&STANDARD_SYMBOL_TYPES, gnu, &GNU_SYMBOL_TYPES, kind)
+    name_in_either_table(&STANDARD_SYMBOL_TYPES, gnu, &GNU_SYMBOL_TYPES, kind)
 }
 
 /// The symbol types of the standard (gABI 4, Symbol Types).
@@ -145,7 +145,7 @@ fn binding_name(binding: u64, gnu: bool) -> Option<&'static str>
     ensures name { option_copied result ≡ name_of (bindings gnu) binding }
     ensures short { IfSome result (λ name. length name.now ≤ 6) }
 {
-    name_of_either(&STANDARD_BINDINGS, gnu, &GNU_BINDINGS, binding)
+    name_in_either_table(&STANDARD_BINDINGS, gnu, &GNU_BINDINGS, binding)
 }
 
 /// The symbol bindings of the standard (gABI 4, Symbol Binding).
@@ -175,12 +175,12 @@ const VISIBILITIES: [(u64, &str); 4] = [
 ];
 
 /// The name of a special section index that a symbol may have.
-fn place_name(index: u64, naming: NumberNaming) -> Option<&'static str>
+fn place_name(index: u64, naming: ConstantNames) -> Option<&'static str>
     ensures name { option_copied result ≡ name_of (places naming.gnu naming.machine) index }
     ensures short { IfSome result (λ name. length name.now ≤ 5) }
 {
     let further = naming.is_gnu_on_x86_64();
-    name_of_either(&STANDARD_PLACES, further, &X86_64_PLACES, index)
+    name_in_either_table(&STANDARD_PLACES, further, &X86_64_PLACES, index)
 }
 
 /// The special section indexes of the standard (gABI 4, Special Section Indexes).

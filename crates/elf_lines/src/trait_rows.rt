@@ -1,17 +1,17 @@
 //! The lines of files' traits.
 ghost use Rattle.std.specs.Prelude.{◌≡◌, ◌+◌, ◌≤◌, length};
 ghost use Rattle.arrayvec.specs.ArrayVec.{array_vec_len};
-ghost use Rattle.elf_model.specs.TraitWords.{canary_word, cet_word, column_name, column_word, fortify_word, kind_word, lacking_line};
+ghost use Rattle.elf_model.specs.TraitWords.{canary_word, cet_word, column_name, column_word, fortify_word, file_kind_name, lacking_line};
 ghost use Rattle.elf_model.specs.TraitWords.{pages_word, path_word, relro_word, stack_word, text_word, trait_front, trait_line};
 ghost use Rattle.elf_model.specs.Fields.{with_field};
-ghost use Rattle.elf_model.specs.Fields.Field.{Word};
+ghost use Rattle.elf_model.specs.Fields.Field.{ArgSpec};
 ghost use Rattle.elf_model.specs.Text.{space};
 ghost use Rattle.elf_fields.specs.Fronts.{front_of};
 ghost use Rattle.elf_fields.specs.Rooms.{text_room};
-ghost use Rattle.elf_source.specs.Output.{Puts};
+ghost use Rattle.elf_source.specs.Output.{OutPuts};
 
 use elf_fields::{
-    Columns, Line, LineFront, Object, Render, begin, begin_named, line_of, put, put_closing,
+    Columns, LineBuf, LinePrefix, Object, Render, begin, begin_named, line_of, put, put_closing,
     put_text, show_named,
 };
 use elf_model::{Format, ProgramKind, Relro, SearchPath, SegmentTraits, TraitColumn, Traits};
@@ -27,9 +27,9 @@ pub fn show_traits<W: Sink>(
     format: Format,
     out: &mut Out<W>,
 ) -> Result<(), OutFault>
-    ensures puts { Puts out.old out.new result (trait_line format traits path.now) }
+    ensures puts { OutPuts out.old out.new result (trait_line format traits path.now) }
 {
-    let mut front = LineFront::new();
+    let mut front = LinePrefix::new();
     match format {
         Format::Columns => traits_row::<Columns>(&mut front, traits),
         Format::Object => traits_row::<Object>(&mut front, traits),
@@ -41,13 +41,13 @@ pub fn show_traits<W: Sink>(
 ///
 /// # Errors
 /// A fault of the output, with a front of the line written.
-pub fn show_lacking<W: Sink>(
+pub fn show_missing_trait<W: Sink>(
     traits: Traits,
     column: TraitColumn,
     format: Format,
     out: &mut Out<W>,
 ) -> Result<(), OutFault>
-    ensures puts { Puts out.old out.new result (lacking_line format traits column) }
+    ensures puts { OutPuts out.old out.new result (lacking_line format traits column) }
 {
     match format {
         Format::Columns => out.put(&lacking_row::<Columns>(traits, column)),
@@ -57,13 +57,13 @@ pub fn show_lacking<W: Sink>(
 
 /// The `T` line of a file up to its path.
 #[tactic(auto, unfolding(elf_model::specs::TraitWords::trait_front))]
-fn traits_row<R: Render>(front: &mut LineFront, traits: Traits)
+fn traits_row<R: Render>(front: &mut LinePrefix, traits: Traits)
     ensures front { front_of front.new ≡ trait_front R.FORMAT traits }
     ensures key { length front.new.key.now ≤ 16 }
 {
     begin_named::<R>(front, b"T", b"path");
     let line = &mut front.line;
-    put_trait::<R>(line, b"kind", 6, kind_word(traits.kind));
+    put_trait::<R>(line, b"kind", 6, file_kind_name(traits.kind));
     put_trait::<R>(line, b"relro", 7, relro_word(traits.segments));
     put_trait::<R>(line, b"stack", 5, stack_word(traits.segments));
     put_trait::<R>(line, b"pages", 5, pages_word(traits.segments));
@@ -75,11 +75,11 @@ fn traits_row<R: Render>(front: &mut LineFront, traits: Traits)
 }
 
 /// Puts the word of a trait at the left of a column of this width, and a space.
-fn put_trait<R: Render>(line: &mut Line, key: &[u8], width: usize, word: &'static str)
+fn put_trait<R: Render>(line: &mut LineBuf, key: &[u8], width: usize, word: &'static str)
     requires room { array_vec_len line.old + text_room (length key.now) width ≤ 256 }
     requires short { length word.now ≤ width }
     ensures items { line.new.items
-        ≡ with_field R.FORMAT line.old.items (Word key.now width word.now) space }
+        ≡ with_field R.FORMAT line.old.items (ArgSpec key.now width word.now) space }
     ensures len { array_vec_len line.new ≤ array_vec_len line.old
         + text_room (length key.now) width }
 {
@@ -88,13 +88,13 @@ fn put_trait<R: Render>(line: &mut Line, key: &[u8], width: usize, word: &'stati
 
 /// The line of what a file lacks.
 #[tactic(auto, unfolding(elf_model::specs::TraitWords::lacking_line))]
-fn lacking_row<R: Render>(traits: Traits, column: TraitColumn) -> Line
+fn lacking_row<R: Render>(traits: Traits, column: TraitColumn) -> LineBuf
     ensures { result.items ≡ lacking_line R.FORMAT traits column }
 {
     let mut text = line_of(column_name(column).as_bytes());
     put(&mut text, b"=");
     put(&mut text, column_word(traits, column).as_bytes());
-    let mut line = Line::new();
+    let mut line = LineBuf::new();
     begin::<R>(&mut line, b"!");
     put_text::<R>(&mut line, b"trait", 0, &text, b'\n');
     put_closing::<R>(&mut line);
@@ -108,7 +108,7 @@ pub fn column_word(traits: Traits, column: TraitColumn) -> &'static str
     ensures short { length result.now ≤ 9 }
 {
     match column {
-        TraitColumn::Kind => kind_word(traits.kind),
+        TraitColumn::Kind => file_kind_name(traits.kind),
         TraitColumn::Relro => relro_word(traits.segments),
         TraitColumn::Stack => stack_word(traits.segments),
         TraitColumn::Pages => pages_word(traits.segments),
@@ -139,9 +139,9 @@ pub(crate) fn column_name(column: TraitColumn) -> &'static str
     }
 }
 
-#[tactic(auto, unfolding(elf_model::specs::TraitWords::kind_word))]
-fn kind_word(kind: ProgramKind) -> &'static str
-    ensures word { result.now ≡ kind_word kind }
+#[tactic(auto, unfolding(elf_model::specs::TraitWords::file_kind_name))]
+fn file_kind_name(kind: ProgramKind) -> &'static str
+    ensures word { result.now ≡ file_kind_name kind }
     ensures short { length result.now ≤ 6 }
 {
     match kind {

@@ -1,10 +1,10 @@
 //! The lines of symbol versions.
 ghost use Rattle.std.specs.Prelude.{◌≡◌, ◌≤◌, if◌then◌else◌, codes, length};
 ghost use Rattle.elf_fields.specs.Fronts.{front_of};
-ghost use Rattle.elf_model.specs.VersionRows.{kind_text, version_front, symbol_version_front};
+ghost use Rattle.elf_model.specs.VersionRows.{kind_text, version_prefix, symbol_version_prefix};
 
 use elf_fields::{
-    Columns, LineFront, Object, Render, begin_named, put_decimal, put_half, put_hexadecimal,
+    Columns, LinePrefix, Object, Render, begin_named, put_decimal, put_half, put_hexadecimal,
     put_text,
 };
 use elf_model::Format;
@@ -13,16 +13,16 @@ use elf_record::{VersionKind, version_number};
 /// The `V` line of a record of definitions or needs up to its name, in place of what the front held:
 /// the index of its section, its kind, number, flags and hash (Linux Standard Base Core, Symbol
 /// Versioning).
-#[tactic(auto, unfolding(elf_model::specs::VersionRows::version_front))]
-pub fn version_front<R: Render>(
-    front: &mut LineFront,
+#[tactic(auto, unfolding(elf_model::specs::VersionRows::version_prefix))]
+pub fn version_prefix<R: Render>(
+    front: &mut LinePrefix,
     section: u16,
     kind: VersionKind,
     number: u16,
     flags: u16,
     hash: u32,
 )
-    ensures front { front_of front.new ≡ version_front R.FORMAT kind section number flags hash }
+    ensures front { front_of front.new ≡ version_prefix R.FORMAT kind section number flags hash }
     ensures key { length front.new.key.now ≤ 16 }
 {
     begin_named::<R>(front, b"V", b"name");
@@ -37,9 +37,9 @@ pub fn version_front<R: Render>(
 /// The `X` line of a symbol's version up to its name, in place of what the front held: the index of
 /// the section of version numbers, the symbol's index, and the number with the mark of a hidden
 /// version, of the symbol's `word` (Linux Standard Base Core, Symbol Versioning).
-#[tactic(auto, unfolding(elf_model::specs::VersionRows::symbol_version_front))]
-pub fn symbol_version_front<R: Render>(front: &mut LineFront, section: u16, index: u64, word: u16)
-    ensures front { front_of front.new ≡ symbol_version_front R.FORMAT section index word }
+#[tactic(auto, unfolding(elf_model::specs::VersionRows::symbol_version_prefix))]
+pub fn symbol_version_prefix<R: Render>(front: &mut LinePrefix, section: u16, index: u64, word: u16)
+    ensures front { front_of front.new ≡ symbol_version_prefix R.FORMAT section index word }
     ensures key { length front.new.key.now ≤ 16 }
 {
     let number = version_number(word);
@@ -54,17 +54,17 @@ pub fn symbol_version_front<R: Render>(front: &mut LineFront, section: u16, inde
 /// The same in a format that is known only where the program runs.
 pub fn symbol_version_front_in(
     format: Format,
-    front: &mut LineFront,
+    front: &mut LinePrefix,
     section: u16,
     index: u64,
     word: u16,
 )
-    ensures front { front_of front.new ≡ symbol_version_front format section index word }
+    ensures front { front_of front.new ≡ symbol_version_prefix format section index word }
     ensures key { length front.new.key.now ≤ 16 }
 {
     match format {
-        Format::Columns => symbol_version_front::<Columns>(front, section, index, word),
-        Format::Object => symbol_version_front::<Object>(front, section, index, word),
+        Format::Columns => symbol_version_prefix::<Columns>(front, section, index, word),
+        Format::Object => symbol_version_prefix::<Object>(front, section, index, word),
     }
 }
 

@@ -6,29 +6,29 @@ use Rattle.elf_model.specs.Checks.{first_refusal, length_checks}
 use Rattle.elf_model.specs.Cost.{style_ceiling}
 use Rattle.elf_model.specs.Listing.{has_tables, known_parts}
 use Rattle.elf_model.specs.declared.causes.Refusal.{Refusal}
-use Rattle.elf_source.specs.Source.{Seen, Counting, Reads, SetsLimit, OverLimit, counted}
+use Rattle.elf_source.specs.Source.{SourceState, CountedState, ReadsUpTo, SetsLimit, ExceedsBudget, counted}
 use Rattle.elf_source.proofs.LimitLaws.{late_budget, within_budget}
-use Rattle.elf_headers.specs.Faults.{RefusalSays}
+use Rattle.elf_headers.specs.Faults.{IsReadRefusal}
 use Rattle.elf_headers.specs.Permitted.{style_of}
 use Rattle.elf_headers.specs.declared.caps.Caps.{Caps}
-use Rattle.elf_headers.specs.declared.stop.Stop.{Stop}
-use Rattle.elf_headers.specs.declared.stop.Stop.TheVariants.{Refused, Source, Out}
-use Rattle.elf_source.specs.Output.{Written}
-use Rattle.elf_listing.specs.Reports.{AsksWithin, FaultSays, TellsStop}
+use Rattle.elf_headers.specs.declared.stop.RunFault.{RunFault}
+use Rattle.elf_headers.specs.declared.stop.RunFault.TheVariants.{Refused, Source, Out}
+use Rattle.elf_source.specs.Output.{OutState}
+use Rattle.elf_listing.specs.Reports.{AsksWithin, FaultSays, ReturnsStop}
 use Rattle.elf_listing.specs.Shows.{StopSays}
 
-pub asks_within : {X : Type 0} (caps : Caps) (parts : ℕ) (s0 s1 s2 s3 : Counting) (n : ℕ) (result : Result X Stop) → s0.asked ≤ 2 ^ 127 → SetsLimit s0 s1 caps.limits.budget
-    → Reads s1 s2 (style_ceiling s1.seen.size caps.limits.headers (style_of caps.style)) → SetsLimit s2 s3 None
+pub asks_within : {X : Type 0} (caps : Caps) (parts : ℕ) (s0 s1 s2 s3 : CountedState) (n : ℕ) (result : Result X RunFault) → s0.asked ≤ 2 ^ 127 → SetsLimit s0 s1 caps.limits.budget
+    → ReadsUpTo s1 s2 (style_ceiling s1.seen.size caps.limits.headers (style_of caps.style)) → SetsLimit s2 s3 None
     → ((refusal : Refusal) → first_refusal (length_checks s1.seen.size) ≡ Some refusal → s2 ≡ s1) → (has_tables (known_parts (style_of caps.style) parts) ≡ false → s2.asked ≤ s1.asked + 64)
-    → ((refusal : Refusal) → result ≡ Err (Refused refusal) → RefusalSays s1 s2 n refusal) → AsksWithin caps parts s0 s3 result
+    → ((refusal : Refusal) → result ≡ Err (Refused refusal) → IsReadRefusal s1 s2 n refusal) → AsksWithin caps parts s0 s3 result
 asks_within caps parts s0 s1 s2 s3 n result small set reads unset unread alone late =
-    let same = ap (λ (seen : Seen). style_ceiling seen.size caps.limits.headers (style_of caps.style)) set.seen in
+    let same = ap (λ (seen : SourceState). style_ceiling seen.size caps.limits.headers (style_of caps.style)) set.seen in
     let within : IfSome caps.limits.budget (λ bytes. s2.asked ≤ s0.asked + bytes) = within_budget caps.limits.budget s0 s1 s2 set reads.same_limit in
     record {
       ceiling = omega (arith, reads.at_most, set.asked, unset.asked, same);
       unread = λ refusal first.
-          let is = unread refusal (ap (λ (seen : Seen). first_refusal (length_checks seen.size)) set.seen ∙ first) in
-          (unset.seen ∙ (ap (λ (s : Counting). s.seen) is ∙ set.seen), unset.asked ∙ (ap (λ (s : Counting). s.asked) is ∙ set.asked));
+          let is = unread refusal (ap (λ (seen : SourceState). first_refusal (length_checks seen.size)) set.seen ∙ first) in
+          (unset.seen ∙ (ap (λ (s : CountedState). s.seen) is ∙ set.seen), unset.asked ∙ (ap (λ (s : CountedState). s.asked) is ∙ set.asked));
       alone = λ none. omega (arith, alone none, set.asked, unset.asked);
       budget = rw unset.asked within;
       late = λ refusal is budget.
@@ -38,18 +38,18 @@ asks_within caps parts s0 s1 s2 s3 n result small set reads unset unread alone l
     }
 
 -- a refusal that was told is the one that stopped the call
-pub told_late : (format : Format) (s1 s2 : Counting) (a b out : Written) (n : ℕ) (stop told : Stop) → TellsStop format a b stop told → StopSays s1 s2 out n stop
-    → (refusal : Refusal) → told ≡ Refused refusal → RefusalSays s1 s2 n refusal
-told_late format s1 s2 a b out n (Refused first) (Refused same) tells says refusal is =
-    let all : first ≡ refusal = cc in subst (λ (r : Refusal). RefusalSays s1 s2 n r) all says
-told_late format s1 s2 a b out n (Refused first) (Source cause at) tells says refusal is = absurd tells
-told_late format s1 s2 a b out n (Refused first) (Out cause) tells says refusal is = cc
-told_late format s1 s2 a b out n (Source cause at) told tells says refusal is = let other = tells.1 in cc
-told_late format s1 s2 a b out n (Out cause) told tells says refusal is = let other = tells.1 in cc
+pub reported_late : (format : Format) (s1 s2 : CountedState) (a b out : OutState) (n : ℕ) (stop told : RunFault) → ReturnsStop format a b stop told → StopSays s1 s2 out n stop
+    → (refusal : Refusal) → told ≡ Refused refusal → IsReadRefusal s1 s2 n refusal
+reported_late format s1 s2 a b out n (Refused first) (Refused same) tells says refusal is =
+    let all : first ≡ refusal = cc in subst (λ (r : Refusal). IsReadRefusal s1 s2 n r) all says
+reported_late format s1 s2 a b out n (Refused first) (Source cause at) tells says refusal is = absurd tells
+reported_late format s1 s2 a b out n (Refused first) (Out cause) tells says refusal is = cc
+reported_late format s1 s2 a b out n (Source cause at) told tells says refusal is = let other = tells.1 in cc
+reported_late format s1 s2 a b out n (Out cause) told tells says refusal is = let other = tells.1 in cc
 
 -- what was told of a stop says of the source and the output what the stop did
-pub told_says : (format : Format) (s0 s1 s2 s3 : Counting) (a b : Written) (n : ℕ) (budget : Option ℕ) (stop told : Stop) → SetsLimit s0 s1 budget → SetsLimit s2 s3 None
-    → TellsStop format a b stop told → StopSays s1 s2 a n stop → FaultSays s0 s3 b told
+pub told_says : (format : Format) (s0 s1 s2 s3 : CountedState) (a b : OutState) (n : ℕ) (budget : Option ℕ) (stop told : RunFault) → SetsLimit s0 s1 budget → SetsLimit s2 s3 None
+    → ReturnsStop format a b stop told → StopSays s1 s2 a n stop → FaultSays s0 s3 b told
 told_says format s0 s1 s2 s3 a b n budget (Refused first) (Refused same) set unset tells says = tt
 told_says format s0 s1 s2 s3 a b n budget (Refused first) (Source cause at) set unset tells says = absurd tells
 told_says format s0 s1 s2 s3 a b n budget (Refused first) (Out cause) set unset tells says = tells.0

@@ -1,7 +1,7 @@
 -- The items of a whole listing: the file header's, and what stands behind it.
 use Rattle.std.proofs.lemmas.Bool.{cases_Bool, eqb-true, or_left, or_right}
 use Rattle.std.proofs.Common.{◌≡◌, ℕ, ◌==◌, ◌||◌, inl, inr, Bool, true, List, [], ◌∷◌, ◌++◌, None, Err, false, sym, ap, ◌∙◌, refl, append-nil, append_assoc}
-use Rattle.elf_model.specs.Budget.{IsBudget}
+use Rattle.elf_model.specs.Budget.{IsBudgetRefusal}
 use Rattle.elf_model.specs.Checks.{first_refusal, header_checks, load_checks}
 use Rattle.elf_model.specs.Lines.{header_line}
 use Rattle.elf_model.specs.Listing.{ListingItem, Line, Fault, fault_of, has, has_tables, known_parts, where_asked, each, HEADER, SEGMENTS, NOTES, DYNAMIC, VERSIONS}
@@ -9,7 +9,7 @@ use Rattle.elf_model.specs.Records.{e_shnum, e_phnum}
 use Rattle.elf_model.specs.Style.{Style, viewed as view_of}
 use Rattle.elf_model.specs.Report.{listing, load_items, loaded_items, table_items, kinds_rows, view_checks}
 use Rattle.elf_model.specs.HeaderTables.{file_sections, file_segments}
-use Rattle.elf_model.specs.TableKinds.{TableHeaders, symbols, relocations, suffixed_symbols, suffixed_relocations, section_notes, section_dynamic, segment_notes, segment_dynamic, section_kinds, segment_kinds, table_headers}
+use Rattle.elf_model.specs.TableKinds.{TableHeaders, symbols, relocations, suffixed_symbols, relocations_with_versions, section_notes, section_dynamic, segment_notes, segment_dynamic, section_kinds, segment_kinds, table_headers}
 use Rattle.elf_model.specs.VersionLaws.{records_rows}
 use Rattle.elf_model.specs.VersionRows.{version_definitions, version_needs, symbol_versions}
 use Rattle.elf_model.proofs.VersionNameLaws.{back-none, front-none, records-none}
@@ -18,9 +18,9 @@ use Rattle.elf_model.specs.Rows.{segment_row}
 use Rattle.elf_model.specs.declared.causes.Refusal.{Refusal}
 use Rattle.elf_model.specs.declared.formats.Format.{Format}
 use Rattle.elf_model.proofs.ListingLemmas.{guarded-passes, guarded-fault, load_some}
-use Rattle.elf_headers.specs.Load.{Opened, Belongs, LoadedAs}
+use Rattle.elf_headers.specs.Load.{LoadedFile, HoldsSectionHeaders, LoadedAs}
 use Rattle.elf_headers.specs.Faults.{HeaderRead}
-use Rattle.elf_headers.specs.Store.{Stored}
+use Rattle.elf_headers.specs.Store.{StoreState}
 use Rattle.elf_headers.specs.declared.fault.Fault.{Fault as TableFault}
 use Rattle.elf_headers.specs.declared.fault.Fault.TheVariants.{Refused}
 use Rattle.elf_listing.specs.Parts.{listed_by, part_items, relocations_part, symbols_part}
@@ -38,15 +38,15 @@ items_are file headers style parts passed = guarded-passes (header_checks file) 
 
 -- a refusal of the file header is all that is listed
 pub header_alone : (file : List ℕ) (headers : ℕ) (style : Style) (parts : ℕ) (fault : TableFault) → HeaderRead file (Err fault) → (refusal : Refusal) → fault ≡ Refused refusal
-    → (IsBudget refusal → ⊥) → listing file headers style parts ≡ Fault refusal ∷ []
+    → (IsBudgetRefusal refusal → ⊥) → listing file headers style parts ≡ Fault refusal ∷ []
 unfolding listing
 header_alone file headers style parts fault read refusal is other =
     let first = rw is at read in
     guarded-fault (header_checks file) (header_part style.format file parts ++ load_items (view_of style file) headers style (known_parts style parts)) refusal (first other)
 
 -- a refusal of the load is all that is listed behind the file header
-pub load_alone : (file : List ℕ) (headers : ℕ) (style : Style) (parts : ℕ) (fault : TableFault) (store : Stored) → LoadedAs file (Err fault) store → store.slots ≡ headers → has_tables parts ≡ true
-    → (refusal : Refusal) → fault ≡ Refused refusal → (IsBudget refusal → ⊥) → load_items file headers style parts ≡ Fault refusal ∷ []
+pub load_alone : (file : List ℕ) (headers : ℕ) (style : Style) (parts : ℕ) (fault : TableFault) (store : StoreState) → LoadedAs file (Err fault) store → store.slots ≡ headers → has_tables parts ≡ true
+    → (refusal : Refusal) → fault ≡ Refused refusal → (IsBudgetRefusal refusal → ⊥) → load_items file headers style parts ≡ Fault refusal ∷ []
 load_alone file headers style parts fault store read same tables refusal is other =
     let first = rw is at read in
     load_some file headers style parts tables
@@ -62,7 +62,7 @@ load_behind file headers slots style parts passed same tables =
 -- a refusal of the program headers is all of that
 pub view_alone : (file : List ℕ) (headers slots : ℕ) (style : Style) (parts : ℕ) → first_refusal (load_checks file slots) ≡ None → slots ≡ headers → has_tables parts ≡ true
     → (fault : TableFault) → ChecksView (view_checks file style parts) (Err fault)
-    → (refusal : Refusal) → fault ≡ Refused refusal → (IsBudget refusal → ⊥) → load_items file headers style parts ≡ Fault refusal ∷ []
+    → (refusal : Refusal) → fault ≡ Refused refusal → (IsBudgetRefusal refusal → ⊥) → load_items file headers style parts ≡ Fault refusal ∷ []
 unfolding loaded_items
 view_alone file headers slots style parts passed same tables fault checked refusal is other =
     let first = rw is at checked in
@@ -104,7 +104,7 @@ kinds_of_sections : (versions : Bool) (file : List ℕ) (style : Style) (parts :
     ++ (of_headers file style parts SectionNotes (e_shnum file) ++ (of_headers file style parts SectionDynamic (e_shnum file)
     ++ (of_headers file style parts Definitions (e_shnum file) ++ (of_headers file style parts Needs (e_shnum file)
     ++ (of_headers file style parts SymbolVersions (e_shnum file) ++ []))))))
-unfolding kinds_rows symbols relocations suffixed_symbols suffixed_relocations section_notes section_dynamic version_definitions version_needs symbol_versions
+unfolding kinds_rows symbols relocations suffixed_symbols relocations_with_versions section_notes section_dynamic version_definitions version_needs symbol_versions
 kinds_of_sections true file style parts = refl
 kinds_of_sections false file style parts = refl
 
@@ -121,14 +121,14 @@ segments_alone : (n d : List ListingItem) → n ++ (d ++ []) ≡ (((([] ++ []) +
 segments_alone n d = simp (append_assoc, append-nil)
 
 -- where a part wants the program headers of a file without sections, they are loaded
-viewed_where : (parts : ℕ) (loaded : Opened) → (loaded.header.e_shnum == 0) ≡ true → (has parts SEGMENTS || (has parts NOTES || has parts DYNAMIC)) ≡ true
+viewed_where : (parts : ℕ) (loaded : LoadedFile) → (loaded.header.e_shnum == 0) ≡ true → (has parts SEGMENTS || (has parts NOTES || has parts DYNAMIC)) ≡ true
     → viewed_headers parts loaded ≡ loaded.header.e_phnum
 viewed_where parts loaded none asked = rw (none, asked) refl
 
-pub viewed_none : (parts : ℕ) (loaded : Opened) → (loaded.header.e_shnum == 0) ≡ false → viewed_headers parts loaded ≡ 0
+pub viewed_none : (parts : ℕ) (loaded : LoadedFile) → (loaded.header.e_shnum == 0) ≡ false → viewed_headers parts loaded ≡ 0
 viewed_none parts loaded some = rw some refl
 
-pub viewed_segments : (parts : ℕ) (loaded : Opened) → (loaded.header.e_shnum == 0) ≡ true → has parts SEGMENTS ≡ true → viewed_headers parts loaded ≡ loaded.header.e_phnum
+pub viewed_segments : (parts : ℕ) (loaded : LoadedFile) → (loaded.header.e_shnum == 0) ≡ true → has parts SEGMENTS ≡ true → viewed_headers parts loaded ≡ loaded.header.e_phnum
 viewed_segments parts loaded none asked = rw (none, asked) refl
 
 -- the parts of all kinds of tables, by so many section headers and program headers
@@ -141,7 +141,7 @@ of_kinds file style parts sections segments =
     ++ of_headers file style parts SymbolVersions sections
 
 -- the tables of all kinds are those of the headers in the store
-kinds_are : (file : List ℕ) (style : Style) (parts : ℕ) (loaded : Opened) (store : Stored) → Belongs file loaded store → store.segments ≡ viewed_headers parts loaded
+kinds_are : (file : List ℕ) (style : Style) (parts : ℕ) (loaded : LoadedFile) (store : StoreState) → HoldsSectionHeaders file loaded store → store.segments ≡ viewed_headers parts loaded
     → kinds_rows (table_headers style.versions file).kinds (table_headers style.versions file).headers file style parts ≡ of_kinds file style parts store.loaded store.segments
 unfolding segment_notes segment_dynamic
 kinds_are file style parts loaded store belongs view =
@@ -172,16 +172,16 @@ behind : (a b c d e f : List ListingItem) → a ++ ((((b ++ c) ++ d) ++ e) ++ f)
 behind a b c d e f = simp append_assoc
 
 -- how many headers the symbols and the relocation entries go over
-symbols_counted : (versions : Bool) (store : Stored) → (listed_by (symbols_part versions)).count store ≡ store.loaded
+symbols_counted : (versions : Bool) (store : StoreState) → (listed_by (symbols_part versions)).count store ≡ store.loaded
 symbols_counted true store = refl
 symbols_counted false store = refl
 
-relocations_counted : (versions : Bool) (store : Stored) → (listed_by (relocations_part versions)).count store ≡ store.loaded
+relocations_counted : (versions : Bool) (store : StoreState) → (listed_by (relocations_part versions)).count store ≡ store.loaded
 relocations_counted true store = refl
 relocations_counted false store = refl
 
 -- the tables of the headers in the store, so many of which have symbols, and relocation entries
-abbrev pub by_counts : List ℕ → Style → ℕ → Stored → (symbols entries : ℕ) → List ListingItem
+abbrev pub by_counts : List ℕ → Style → ℕ → StoreState → (symbols entries : ℕ) → List ListingItem
 by_counts file style parts store n m =
     (((((of_headers file style parts Headers store.loaded ++ segment_part file style parts)
     ++ (of_headers file style parts (symbols_part style.versions) n ++ of_headers file style parts (relocations_part style.versions) m))
@@ -190,7 +190,7 @@ by_counts file style parts store n m =
     ++ (of_headers file style parts Definitions store.loaded ++ of_headers file style parts Needs store.loaded))
     ++ of_headers file style parts SymbolVersions store.loaded
 
-tables_loaded : (file : List ℕ) (style : Style) (parts : ℕ) (loaded : Opened) (store : Stored) → Belongs file loaded store → store.segments ≡ viewed_headers parts loaded
+tables_loaded : (file : List ℕ) (style : Style) (parts : ℕ) (loaded : LoadedFile) (store : StoreState) → HoldsSectionHeaders file loaded store → store.segments ≡ viewed_headers parts loaded
     → table_items file style parts ≡ by_counts file style parts store store.loaded store.loaded
 unfolding table_items
 tables_loaded file style parts loaded store belongs view =
@@ -200,7 +200,7 @@ tables_loaded file style parts loaded store belongs view =
     ∙ (ap (λ rest. first ++ rest) (kinds_are file style parts loaded store belongs view) ∙ behind first _ _ _ _ _)
 
 -- the tables of a loaded file, by the headers in the store
-pub tables_are : (file : List ℕ) (style : Style) (parts : ℕ) (loaded : Opened) (store : Stored) → Belongs file loaded store → store.segments ≡ viewed_headers parts loaded
+pub tables_are : (file : List ℕ) (style : Style) (parts : ℕ) (loaded : LoadedFile) (store : StoreState) → HoldsSectionHeaders file loaded store → store.segments ≡ viewed_headers parts loaded
     → table_items file style parts
     ≡ by_counts file style parts store ((listed_by (symbols_part style.versions)).count store) ((listed_by (relocations_part style.versions)).count store)
 tables_are file style parts loaded store belongs view =
@@ -211,7 +211,7 @@ tables_are file style parts loaded store belongs view =
     ∙ ap (by_counts file style parts store ((listed_by (symbols_part style.versions)).count store)) (sym m))
 
 -- where the rows of definitions and needs are asked for and have no fault, they have none at all
-pub versions_none : (file : List ℕ) (style : Style) (parts : ℕ) (loaded : Opened) (store : Stored) → Belongs file loaded store
+pub versions_none : (file : List ℕ) (style : Style) (parts : ℕ) (loaded : LoadedFile) (store : StoreState) → HoldsSectionHeaders file loaded store
     → has parts VERSIONS ≡ true
     → fault_of (of_headers file style parts Definitions store.loaded ++ of_headers file style parts Needs store.loaded) ≡ None
     → fault_of (records_rows file style) ≡ None

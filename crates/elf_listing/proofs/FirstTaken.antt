@@ -5,20 +5,20 @@ use Rattle.elf_model.specs.Records.{sh_offset, sh_size, section_at}
 use Rattle.elf_model.specs.Suffixes.{or_refusal, walk_refusal}
 use Rattle.elf_model.specs.Tables.{all_checks, strings_of}
 use Rattle.elf_model.specs.VersionRows.{first_of_type, first_strings, first_versions, section_versions, version_table}
-use Rattle.elf_model.specs.Versions.{Met, met_from, versions_in}
+use Rattle.elf_model.specs.Versions.{VisitedRecord, visited_from, versions_in}
 use Rattle.elf_model.specs.declared.causes.Refusal.{Refusal}
 use Rattle.elf_model.specs.declared.versions.VersionKind.{VersionKind}
 use Rattle.elf_model.specs.declared.versions.VersionKind.TheVariants.{Definition, File}
-use Rattle.elf_headers.specs.Faults.{IsOfCheck, IsOfRead, Says}
+use Rattle.elf_headers.specs.Faults.{IsOfCheck, IsOfRead, IsReadFault}
 use Rattle.elf_headers.specs.declared.fault.Fault.{Fault}
 use Rattle.elf_headers.specs.declared.fault.Fault.TheVariants.{Refused, Source}
-use Rattle.elf_source.specs.Source.{Counting}
+use Rattle.elf_source.specs.Source.{CountedState}
 use Rattle.elf_table.specs.Relocations.{RefusedBy}
 use Rattle.elf_table.specs.Sections.{rows}
-use Rattle.elf_table.specs.Tables.{Rows, Strings, strings_in}
+use Rattle.elf_table.specs.Tables.{Rows, StringTableRange, strings_in}
 use Rattle.elf_versions.specs.NumberNames.{NamesNumbers, ReadsNumberNames}
-use Rattle.elf_versions.specs.Reading.{StartsVersions, Walking, versions_left}
-use Rattle.elf_versions.specs.declared.number_names.NameAt.{NameAt}
+use Rattle.elf_versions.specs.Reading.{StartsVersions, VersionCursorState, versions_left}
+use Rattle.elf_versions.specs.declared.number_names.VersionNameRef.{VersionNameRef}
 use Rattle.elf_listing.specs.SymbolVersions.{AreRecordsWhole, NumberedOr, NumbersTaken, TakenIn, TakenOr}
 use Rattle.elf_listing.specs.Versions.{kind_type}
 use Rattle.elf_listing.proofs.VersionSections.{left_all}
@@ -56,17 +56,17 @@ walk-whole kind type file whole = by_found (first_of_type file type) refl
     by_found (Some i) first = let both = whole i first in walk-some kind type file i first ∙ or-none _ _ None both.0 both.1
 
 -- where there is no record, nothing is taken in
-pub taken-none : (file : List ℕ) (kind : VersionKind) (records : List Met) (names : List NameAt) (places : List ℕ) (strings : Strings)
+pub taken-none : (file : List ℕ) (kind : VersionKind) (records : List VisitedRecord) (names : List VersionNameRef) (places : List ℕ) (strings : StringTableRange)
     → (first_versions kind (kind_type kind) file ≡ []) × AreRecordsWhole file kind → NamesNumbers file records names places
     → TakenIn file kind records (NumbersTaken names places) strings
 taken-none file kind records names places strings none is = record {
   whole = none.1;
-  names = subst (λ (all : List Met). NamesNumbers file all names places) (sym (ap (λ (x : List Met). records ++ x) none.0 ∙ append-nil records)) is;
+  names = subst (λ (all : List VisitedRecord). NamesNumbers file all names places) (sym (ap (λ (x : List VisitedRecord). records ++ x) none.0 ∙ append-nil records)) is;
   named = λ some. absurd (some none.0);
 }
 
 -- what a found section gives
-abbrev records_of : VersionKind → List ℕ → Option ℕ → List Met
+abbrev records_of : VersionKind → List ℕ → Option ℕ → List VisitedRecord
 records_of kind file found = elim found [ None ↦ [] | Some i ↦ (section_versions kind file (section_at file i)).met ]
 
 abbrev strings_found : List ℕ → Option ℕ → List ℕ
@@ -78,7 +78,7 @@ no-section file kind none = (ap (records_of kind file) none, walk-none kind (kin
 
 pub empty-section : (file : List ℕ) (kind : VersionKind) (i : ℕ) → first_of_type file (kind_type kind) ≡ Some i → sh_size file (section_at file i) ≡ 0
     → (first_versions kind (kind_type kind) file ≡ []) × AreRecordsWhole file kind
-unfolding versions_in met_from
+unfolding versions_in visited_from
 empty-section file kind i first none =
     let at = section_at file i in
     let checks : first_refusal (all_checks version_table file at) ≡ None = rw none refl in
@@ -88,7 +88,7 @@ empty-section file kind i first none =
     )
 
 -- all of its records are
-pub taken-all : (file : List ℕ) (kind : VersionKind) (i : ℕ) (records : List Met) (after : List NameAt) (places : List ℕ) (table : Rows) (c : Walking) (strings : Strings)
+pub taken-all : (file : List ℕ) (kind : VersionKind) (i : ℕ) (records : List VisitedRecord) (after : List VersionNameRef) (places : List ℕ) (table : Rows) (c : VersionCursorState) (strings : StringTableRange)
     → first_of_type file (kind_type kind) ≡ Some i → first_refusal (all_checks version_table file (section_at file i)) ≡ None
     → table ≡ rows (sh_offset file (section_at file i)) (sh_size file (section_at file i)) 1
     → StartsVersions kind (section_at file i) table c → ((versions_left file c).cut ≡ None) × NamesNumbers file (records ++ (versions_left file c).met) after places
@@ -101,12 +101,12 @@ taken-all file kind i records after places table c strings first passes same sta
     let cut = rw left at read.0 in
     record {
       whole = walk-some kind (kind_type kind) file i first ∙ or-none _ _ None passes cut;
-      names = subst (λ (rs : List Met). NamesNumbers file (records ++ rs) after places) (sym (ap (records_of kind file) first)) all;
+      names = subst (λ (rs : List VisitedRecord). NamesNumbers file (records ++ rs) after places) (sym (ap (records_of kind file) first)) all;
       named = λ some. sym is ∙ sym (ap (strings_found file) first);
     }
 
 -- a walk that is cut
-pub taken-cut : (file : List ℕ) (kind : VersionKind) (i : ℕ) (records : List Met) (after : List NameAt) (places : List ℕ) (table : Rows) (c : Walking) (fault : Fault)
+pub taken-cut : (file : List ℕ) (kind : VersionKind) (i : ℕ) (records : List VisitedRecord) (after : List VersionNameRef) (places : List ℕ) (table : Rows) (c : VersionCursorState) (fault : Fault)
     → first_of_type file (kind_type kind) ≡ Some i → first_refusal (all_checks version_table file (section_at file i)) ≡ None
     → table ≡ rows (sh_offset file (section_at file i)) (sh_size file (section_at file i)) 1
     → StartsVersions kind (section_at file i) table c → ReadsNumberNames file records (versions_left file c) after places (Err fault)
@@ -120,30 +120,30 @@ taken-cut file kind i records after places table c (Refused refusal) first passe
 taken-cut file kind i records after places table c (Source fault offset) first passes same starts reads = tt
 
 -- checks that refuse
-pub taken-refused : (file : List ℕ) (kind : VersionKind) (i : ℕ) (records : List Met) (after : List ℕ → List Met → Type 0) (fault : Fault)
+pub taken-refused : (file : List ℕ) (kind : VersionKind) (i : ℕ) (records : List VisitedRecord) (after : List ℕ → List VisitedRecord → Type 0) (fault : Fault)
     → first_of_type file (kind_type kind) ≡ Some i → RefusedBy (all_checks version_table file (section_at file i)) fault
     → TakenOr file kind records after (Err fault)
 taken-refused file kind i records after (Refused refusal) first by = λ other. walk-some kind (kind_type kind) file i first ∙ or-some _ _ refusal by
 taken-refused file kind i records after (Source fault offset) first by = absurd by
 
-pub of-read : (file : List ℕ) (kind : VersionKind) (records : List Met) (after : List ℕ → List Met → Type 0) (fault : Fault) → IsOfRead fault
+pub of-read : (file : List ℕ) (kind : VersionKind) (records : List VisitedRecord) (after : List ℕ → List VisitedRecord → Type 0) (fault : Fault) → IsOfRead fault
     → TakenOr file kind records after (Err fault)
 of-read file kind records after (Refused refusal) is = λ other. absurd (other is)
 of-read file kind records after (Source fault offset) is = tt
 
 -- the definitions are refused, or the needs behind definitions that are not
-pub numbered-cut : (file : List ℕ) (records : List Met) (after : List ℕ → List Met → Type 0) (places : List ℕ) (fault : Fault)
+pub numbered-cut : (file : List ℕ) (records : List VisitedRecord) (after : List ℕ → List VisitedRecord → Type 0) (places : List ℕ) (fault : Fault)
     → TakenOr file Definition records after (Err fault) → NumberedOr file places (Err fault)
 numbered-cut file records after places (Refused refusal) taken = λ other. or-some _ _ refusal (taken other)
 numbered-cut file records after places (Source fault offset) taken = tt
 
-pub numbered-later : (file : List ℕ) (records : List Met) (after : List ℕ → List Met → Type 0) (places : List ℕ) (fault : Fault)
+pub numbered-later : (file : List ℕ) (records : List VisitedRecord) (after : List ℕ → List VisitedRecord → Type 0) (places : List ℕ) (fault : Fault)
     → AreRecordsWhole file Definition → TakenOr file File records after (Err fault) → NumberedOr file places (Err fault)
 numbered-later file records after places (Refused refusal) whole taken = λ other. or-none _ _ (Some refusal) whole (taken other)
 numbered-later file records after places (Source fault offset) whole taken = tt
 
 -- a refusal of a check says nothing of the source
-pub check-says : (a b : Counting) (n : ℕ) (fault : Fault) → IsOfCheck fault → Says a b n fault
+pub check-says : (a b : CountedState) (n : ℕ) (fault : Fault) → IsOfCheck fault → IsReadFault a b n fault
 check-says a b n (Refused refusal) check = λ budget. absurd (check budget)
 check-says a b n (Source fault offset) check = absurd check
 

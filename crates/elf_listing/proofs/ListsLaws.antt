@@ -3,17 +3,17 @@ use Rattle.std.proofs.Common.{ℕ, ◌≤◌, Result, Ok, Err, refl, ◌∙◌, 
 use Rattle.elf_source.specs.declared.source.Source.{Ghosts as Sources}
 use Rattle.elf_source.specs.declared.sink.Sink.{Ghosts as Sinks}
 use Rattle.elf_source.proofs.GrowthLaws.{grows_not}
-use Rattle.elf_names.proofs.SpendsLaws.{Spends-none, Spends-to}
+use Rattle.elf_names.proofs.SpendsLaws.{SpendsAtMost-none, SpendsAtMost-to}
 use Rattle.elf_headers.specs.Faults.{IsOfCheck}
 use Rattle.elf_headers.specs.declared.fault.Fault.{Fault}
 use Rattle.elf_headers.specs.declared.fault.Fault.TheVariants.{Refused, Source}
 use Rattle.elf_table.specs.declared.names.NameEnd.{NameEnd}
 use Rattle.elf_table.specs.declared.names.NameEnd.TheVariants.{Whole}
-use Rattle.elf_listing.specs.Shows.{SameFile, Fetches, Lists}
+use Rattle.elf_listing.specs.Shows.{SameFile, ListingReads, Lists}
 use Rattle.elf_headers.specs.Stops.{stop_of}
 use Rattle.elf_listing.specs.declared.listing.Listing.{Listing}
-use Rattle.elf_headers.specs.declared.stop.Stop.{Stop}
-use Rattle.elf_listing.proofs.ShowLaws.{Spent-failed, Spent-then, Spent-within}
+use Rattle.elf_headers.specs.declared.stop.RunFault.{RunFault}
+use Rattle.elf_listing.proofs.ShowLaws.{SpentCredit-failed, SpentCredit-then, SpentCredit-within}
 
 -- it is of the same file as before
 SameFile-not : {S W : Type 0} {s : Sources S} {w : Sinks W} (a : Listing S W s w) → SameFile a a
@@ -32,7 +32,7 @@ pub Lists-nothing : {S W X : Type 0} {s : Sources S} {w : Sinks W} (a : Listing 
 Lists-nothing a x n shown is = record {
   grows = grows_not _;
   keeps = SameFile-not a;
-  spent = (Spends-none _ _ _ _ (omega arith), tt);
+  spent = (SpendsAtMost-none _ _ _ _ (omega arith), tt);
   shows = is;
 }
 
@@ -42,47 +42,47 @@ pub Lists-refused : {S W : Type 0} {s : Sources S} {w : Sinks W} (a : Listing S 
 Lists-refused a (Refused refusal) n shown check is = record {
   grows = grows_not _;
   keeps = SameFile-not a;
-  spent = (Spends-none _ _ _ _ (omega arith), λ budget. absurd (check budget));
+  spent = (SpendsAtMost-none _ _ _ _ (omega arith), λ budget. absurd (check budget));
   shows = is;
 }
 Lists-refused a (Source fault at) n shown check is = absurd check
 
 -- what a name is read for was not
 pub Lists-unread : {S W : Type 0} {s : Sources S} {w : Sinks W} (a b : Listing S W s w) (fault : Fault) (n k : ℕ) (shown : Type 0)
-    → n ≤ k → Fetches {X = NameEnd} a b (Err fault) n → shown → Lists {X = Unit {0}} a b (Err (stop_of fault)) k shown
+    → n ≤ k → ListingReads {X = NameEnd} a b (Err fault) n → shown → Lists {X = Unit {0}} a b (Err (stop_of fault)) k shown
 Lists-unread a b fault n k shown within p is = record {
   grows = rw p.1 (grows_not _);
   keeps = p.0;
-  spent = Spent-failed _ _ _ _ _ _ _ _ within p.2 p.3;
+  spent = SpentCredit-failed _ _ _ _ _ _ _ _ within p.2 p.3;
   shows = is;
 }
 
 -- a name was read, and its row is not shown
 pub Lists-hidden : {S W X : Type 0} {s : Sources S} {w : Sinks W} (a b : Listing S W s w) (x : X) (n k : ℕ) (shown : Type 0)
-    → n ≤ k → Fetches a b (Ok Whole) n → shown → Lists a b (Ok x) k shown
+    → n ≤ k → ListingReads a b (Ok Whole) n → shown → Lists a b (Ok x) k shown
 Lists-hidden a b x n k shown within p is = record {
   grows = rw p.1 (grows_not _);
   keeps = p.0;
-  spent = (Spends-to p.2 (let q = p.2 in omega (arith, within, q.account)), tt);
+  spent = (SpendsAtMost-to p.2 (let q = p.2 in omega (arith, within, q.account)), tt);
   shows = is;
 }
 
 -- a name was read, and then its line was written
-pub Lists-named : {S W X : Type 0} {s : Sources S} {w : Sinks W} (a b c : Listing S W s w) (result : Result X Stop) (n k : ℕ) (read shown : Type 0)
-    → n ≤ k → Fetches a b (Ok Whole) n → Lists b c result 0 read → shown → Lists a c result k shown
+pub Lists-named : {S W X : Type 0} {s : Sources S} {w : Sinks W} (a b c : Listing S W s w) (result : Result X RunFault) (n k : ℕ) (read shown : Type 0)
+    → n ≤ k → ListingReads a b (Ok Whole) n → Lists b c result 0 read → shown → Lists a c result k shown
 Lists-named a b c result n k read shown within p q is = record {
   grows = rw (← p.1) q.grows;
   keeps = SameFile-then p.0 q.keeps;
-  spent = Spent-then _ _ _ _ _ _ _ _ _ _ _ (omega (arith, within)) p.2 q.spent;
+  spent = SpentCredit-then _ _ _ _ _ _ _ _ _ _ _ (omega (arith, within)) p.2 q.spent;
   shows = is;
 }
 
 -- what was asked for is within more
-pub Lists-within : {S W X : Type 0} {s : Sources S} {w : Sinks W} (a b : Listing S W s w) (result : Result X Stop) (n k : ℕ) (read shown : Type 0)
+pub Lists-within : {S W X : Type 0} {s : Sources S} {w : Sinks W} (a b : Listing S W s w) (result : Result X RunFault) (n k : ℕ) (read shown : Type 0)
     → n ≤ k → Lists a b result n read → shown → Lists a b result k shown
 Lists-within a b result n k read shown within p is = record {
   grows = p.grows;
   keeps = p.keeps;
-  spent = Spent-within _ _ _ _ _ _ _ _ within p.spent;
+  spent = SpentCredit-within _ _ _ _ _ _ _ _ within p.spent;
   shows = is;
 }

@@ -2,12 +2,12 @@
 use Rattle.std.proofs.Common.{◌≡◌, ℕ, ◌+◌, ◌*◌, ◌<◌, ◌≤◌, Bool, true, false, List, Option, None, Some, Ok, Err, refl, sym, ap, ◌∙◌, arith}
 use Rattle.elf_model.specs.Bytes.{slice}
 use Rattle.elf_model.specs.Listing.{ListingItem, each}
-use Rattle.elf_source.specs.Output.{Written}
-use Rattle.elf_source.specs.Source.{Counting, Reads}
-use Rattle.elf_names.specs.Ahead.{SpendsCredit}
-use Rattle.elf_names.proofs.SpendsLaws.{Spends-reads, Spends-then, Spends-to}
-use Rattle.elf_headers.specs.Faults.{IsAt, Says}
-use Rattle.elf_table.specs.Cursors.{Reading, GivesRow, HoldsRows, unread_bytes, next_row, ShowsRow}
+use Rattle.elf_source.specs.Output.{OutState}
+use Rattle.elf_source.specs.Source.{CountedState, ReadsUpTo}
+use Rattle.elf_names.specs.Ahead.{ReadsOnCredit}
+use Rattle.elf_names.proofs.SpendsLaws.{SpendsAtMost-reads, SpendsAtMost-then, SpendsAtMost-to}
+use Rattle.elf_headers.specs.Faults.{IsAt, IsReadFault}
+use Rattle.elf_table.specs.Cursors.{CursorState, GivesRow, HoldsRows, unread_bytes, next_row, ShowsRow}
 use Rattle.elf_table.specs.Tables.{Rows, size_of}
 use Rattle.elf_headers.specs.declared.fault.Fault.{Fault}
 use Rattle.elf_table.specs.declared.row.Row.{Row}
@@ -16,46 +16,46 @@ use Rattle.elf_headers.specs.declared.caps.Style.{Style as Shape}
 use Rattle.elf_listing.specs.Kinds.{row_size, row_items, own_cost, rows_cost, IsRowOf, KindOf}
 use Rattle.elf_listing.specs.RowCursors.{AdvancesRows, EndsListed, GivesListed, reading, rows_to_give, rows_listed}
 use Rattle.elf_listing.specs.declared.row_cursor.RowCursor.{RowCursor}
-use Rattle.elf_listing.specs.Shows.{Spent, Stopped, WroteItems}
+use Rattle.elf_listing.specs.Shows.{SpentCredit, WroteUntilStop, WroteItems}
 use Rattle.elf_headers.specs.Stops.{stop_of}
-use Rattle.elf_listing.specs.declared.rows.ListedAs.{ListedAs}
-use Rattle.elf_headers.specs.declared.stop.Stop.{Stop}
+use Rattle.elf_listing.specs.declared.rows.RowLayout.{RowLayout}
+use Rattle.elf_headers.specs.declared.stop.RunFault.{RunFault}
 use Rattle.elf_listing.proofs.EachLaws.{each-none, each-more, each-front}
-use Rattle.elf_listing.proofs.ShowLaws.{Spent-fault, StopSays-then, Whole-none, Whole-then, Stopped-then, Stopped-more, Stopped-unread}
+use Rattle.elf_listing.proofs.ShowLaws.{SpentCredit-fault, StopSays-then, Whole-none, Whole-then, WroteUntilStop-then, WroteUntilStop-more, WroteUntilStop-unread}
 
 -- no row was shown yet
-pub rows_none : (row : ℕ → List ListingItem) (i : ℕ) (a : Written) → i ≡ 0 → WroteItems a a (each row 0 i)
+pub rows_none : (row : ℕ → List ListingItem) (i : ℕ) (a : OutState) → i ≡ 0 → WroteItems a a (each row 0 i)
 rows_none row i a first = rw (first, each-none row) (Whole-none a)
 
 -- a row more was shown
-pub rows_more : (row : ℕ → List ListingItem) (i next : ℕ) {a b c : Written} → next ≡ i + 1 → WroteItems a b (each row 0 i) → WroteItems b c (row i) → WroteItems a c (each row 0 next)
+pub rows_more : (row : ℕ → List ListingItem) (i next : ℕ) {a b c : OutState} → next ≡ i + 1 → WroteItems a b (each row 0 i) → WroteItems b c (row i) → WroteItems a c (each row 0 next)
 rows_more row i next step before this = rw (step, each-more row i) (Whole-then before this)
 
 -- a read failed before the next row
-pub rows_unread : (row : ℕ → List ListingItem) (i count : ℕ) (a b : Written) (fault : Fault) (at : ℕ) → i ≤ count → IsAt at fault → WroteItems a b (each row 0 i) → Stopped a b (stop_of fault) (each row 0 count)
+pub rows_unread : (row : ℕ → List ListingItem) (i count : ℕ) (a b : OutState) (fault : Fault) (at : ℕ) → i ≤ count → IsAt at fault → WroteItems a b (each row 0 i) → WroteUntilStop a b (stop_of fault) (each row 0 count)
 rows_unread row i count a b fault at within is before =
-    let more = each-front row i count within in rw more.1 (Stopped-unread a b fault at (each row 0 i) more.0 is before)
+    let more = each-front row i count within in rw more.1 (WroteUntilStop-unread a b fault at (each row 0 i) more.0 is before)
 
 -- a row stopped
-pub rows_stopped : (row : ℕ → List ListingItem) (i count : ℕ) (a b c : Written) (stop : Stop) → i < count → WroteItems a b (each row 0 i) → Stopped b c stop (row i) → Stopped a c stop (each row 0 count)
+pub rows_stopped : (row : ℕ → List ListingItem) (i count : ℕ) (a b c : OutState) (stop : RunFault) → i < count → WroteItems a b (each row 0 i) → WroteUntilStop b c stop (row i) → WroteUntilStop a c stop (each row 0 count)
 rows_stopped row i count a b c stop below before this =
     let more = each-front row (i + 1) count (omega arith) in
-    let shown = rw (← each-more row i) at (Stopped-then a b c stop (each row 0 i) (row i) before this) in
-    rw more.1 (Stopped-more a c stop (each row 0 (i + 1)) more.0 shown)
+    let shown = rw (← each-more row i) at (WroteUntilStop-then a b c stop (each row 0 i) (row i) before this) in
+    rw more.1 (WroteUntilStop-more a c stop (each row 0 (i + 1)) more.0 shown)
 
 -- what a new cursor may ask for is its table
-pub account_begins : (c : Reading) (table : Rows) (kind : ListedAs) (cap : ℕ) → table.entry ≡ row_size kind → c.failed ≡ None → c.unread ≡ size_of table → c.left ≡ table.count
+pub account_begins : (c : CursorState) (table : Rows) (kind : RowLayout) (cap : ℕ) → table.entry ≡ row_size kind → c.failed ≡ None → c.unread ≡ size_of table → c.left ≡ table.count
     → unread_bytes c + c.left * own_cost kind cap ≡ rows_cost kind table cap
 account_begins c table kind cap entry none unread left = rw (none, unread, left, entry) (omega arith)
 
 -- the account of a loop: what was asked for, what is unread, and what the rows that are left ask for stay within a bound
-pub account_step : (old new : Reading) (before after later own bound : ℕ) → new.left + 1 ≡ old.left → after + unread_bytes new ≤ before + unread_bytes old
+pub account_step : (old new : CursorState) (before after later own bound : ℕ) → new.left + 1 ≡ old.left → after + unread_bytes new ≤ before + unread_bytes old
     → later ≤ after + own → before + (unread_bytes old + old.left * own) ≤ bound → later + (unread_bytes new + new.left * own) ≤ bound
 account_step old new before after later own bound less step more within =
     let product = ap (λ (n : ℕ). n * own) less in omega arith
 
 -- what a row may ask for is left in the bound
-pub account_row : (old new : Reading) (before after own bound : ℕ) → new.left + 1 ≡ old.left → after + unread_bytes new ≤ before + unread_bytes old
+pub account_row : (old new : CursorState) (before after own bound : ℕ) → new.left + 1 ≡ old.left → after + unread_bytes new ≤ before + unread_bytes old
     → before + (unread_bytes old + old.left * own) ≤ bound → after + own ≤ bound
 account_row old new before after own bound less step within =
     let product = ap (λ (n : ℕ). n * own) less in omega arith
@@ -65,45 +65,45 @@ pub with_credit : (u0 u1 before after credit : ℕ) → after + u1 ≤ before + 
 with_credit u0 u1 before after credit step = omega arith
 
 -- a row stopped, and what it might ask for was left in the bound
-pub spent_stopped : (a b c : Counting) (out : Written) (x y z : ℕ) (stop : Stop) (n m k : ℕ) → b.asked + y + m ≤ a.asked + (x + k)
-    → SpendsCredit a b x y n → Spent {X = Unit {0}} b c out y z (Err stop) m → Spent {X = Unit {0}} a c out x z (Err stop) k
+pub spent_stopped : (a b c : CountedState) (out : OutState) (x y z : ℕ) (stop : RunFault) (n m k : ℕ) → b.asked + y + m ≤ a.asked + (x + k)
+    → ReadsOnCredit a b x y n → SpentCredit {X = Unit {0}} b c out y z (Err stop) m → SpentCredit {X = Unit {0}} a c out x z (Err stop) k
 spent_stopped a b c out x y z stop n m k within p q =
-    (Spends-to (Spends-then p q.0) (omega (arith, q.0.account)), StopSays-then a b c out stop (x + n) (y + m) (x + k) (omega arith) p.reads q.1)
+    (SpendsAtMost-to (SpendsAtMost-then p q.0) (omega (arith, q.0.account)), StopSays-then a b c out stop (x + n) (y + m) (x + k) (omega arith) p.reads q.1)
 
 -- a read failed before the next row, and what it might ask for was left in the bound
-pub spent_unread : (a b c : Counting) (out : Written) (x y : ℕ) (fault : Fault) (n m k : ℕ) → b.asked + y + m ≤ a.asked + (x + k)
-    → SpendsCredit a b x y n → Reads b c m → Says b c m fault → Spent {X = Unit {0}} a c out x y (Err (stop_of fault)) k
+pub spent_unread : (a b c : CountedState) (out : OutState) (x y : ℕ) (fault : Fault) (n m k : ℕ) → b.asked + y + m ≤ a.asked + (x + k)
+    → ReadsOnCredit a b x y n → ReadsUpTo b c m → IsReadFault b c m fault → SpentCredit {X = Unit {0}} a c out x y (Err (stop_of fault)) k
 spent_unread a b c out x y fault n m k within p reads says =
-    spent_stopped a b c out x y y (stop_of fault) n m k within p (Spent-fault b c out y fault m m (omega arith) reads says)
+    spent_stopped a b c out x y y (stop_of fault) n m k within p (SpentCredit-fault b c out y fault m m (omega arith) reads says)
 
 -- what is bounded with what is left is bounded
 pub at_most : (n m k : ℕ) → n + m ≤ k → n ≤ k
 at_most n m k within = omega arith
 
 -- a step read, and then its row stopped, which might ask for so much
-pub step_stopped : (a b d c : Counting) (out : Written) (x y z : ℕ) (stop : Stop) (n u m own k : ℕ) → m ≡ own → d.asked + y + own ≤ a.asked + (x + k)
-    → SpendsCredit a b x y n → Reads b d u → Spent {X = Unit {0}} d c out y z (Err stop) m → Spent {X = Unit {0}} a c out x z (Err stop) k
+pub step_stopped : (a b d c : CountedState) (out : OutState) (x y z : ℕ) (stop : RunFault) (n u m own k : ℕ) → m ≡ own → d.asked + y + own ≤ a.asked + (x + k)
+    → ReadsOnCredit a b x y n → ReadsUpTo b d u → SpentCredit {X = Unit {0}} d c out y z (Err stop) m → SpentCredit {X = Unit {0}} a c out x z (Err stop) k
 step_stopped a b d c out x y z stop n u m own k same within p reads q =
-    spent_stopped a d c out x y z stop (n + u) m k (omega (arith, same)) (Spends-then p (Spends-reads y reads)) q
+    spent_stopped a d c out x y z stop (n + u) m k (omega (arith, same)) (SpendsAtMost-then p (SpendsAtMost-reads y reads)) q
 
 -- a step read, and then its row
-pub step_more : {a b d c : Counting} {x y z n u m k : ℕ} → SpendsCredit a b x y n → Reads b d u → SpendsCredit d c y z m → c.asked + z ≤ a.asked + (x + k) → SpendsCredit a c x z k
-step_more {y = y} p reads q within = Spends-to (Spends-then p (Spends-then (Spends-reads y reads) q)) within
+pub step_more : {a b d c : CountedState} {x y z n u m k : ℕ} → ReadsOnCredit a b x y n → ReadsUpTo b d u → ReadsOnCredit d c y z m → c.asked + z ≤ a.asked + (x + k) → ReadsOnCredit a c x z k
+step_more {y = y} p reads q within = SpendsAtMost-to (SpendsAtMost-then p (SpendsAtMost-then (SpendsAtMost-reads y reads) q)) within
 
 -- a step read, and gave no row
-pub step_last : {a b d : Counting} {x y n u k : ℕ} → SpendsCredit a b x y n → Reads b d u → d.asked + y ≤ a.asked + (x + k) → SpendsCredit a d x y k
-step_last {y = y} p reads within = Spends-to (Spends-then p (Spends-reads y reads)) within
+pub step_last : {a b d : CountedState} {x y n u k : ℕ} → ReadsOnCredit a b x y n → ReadsUpTo b d u → d.asked + y ≤ a.asked + (x + k) → ReadsOnCredit a d x y k
+step_last {y = y} p reads within = SpendsAtMost-to (SpendsAtMost-then p (SpendsAtMost-reads y reads)) within
 
 -- the account of a loop whose rows ask for nothing: what was asked for, and what is unread
 pub account_kept : (u0 u1 before after credit later bound : ℕ) → after + u1 ≤ before + u0 → later ≤ after + (credit + 0) → before + credit + u0 ≤ bound → later + u1 ≤ bound
 account_kept u0 u1 before after credit later bound step more within = omega arith
 
 -- the index of the row that a step gave
-pub given_index : {holds : Option (List ℕ)} {old new : Reading} {row : Row} → GivesRow holds old new → ShowsRow new row → row.index ≡ old.index
+pub given_index : {holds : Option (List ℕ)} {old new : CursorState} {row : Row} → GivesRow holds old new → ShowsRow new row → row.index ≡ old.index
 given_index gives lends = omega (arith, lends.its_index, gives.next_index)
 
 -- the row that a step gave
-pub given_row : {holds : Option (List ℕ)} {old new : Reading} {row : Row} (file : List ℕ) (kind : ListedAs) (table : Rows)
+pub given_row : {holds : Option (List ℕ)} {old new : CursorState} {row : Row} (file : List ℕ) (kind : RowLayout) (table : Rows)
     → GivesRow holds old new → ShowsRow new row → holds ≡ Some file → HoldsRows file old → old.table ≡ table → table.entry ≡ row_size kind
     → IsRowOf file table.at kind row
 given_row {old = old} {new = new} {row = row} file kind table gives lends held agrees same entry =
@@ -126,7 +126,7 @@ pub step_ends : (holds : Option (List ℕ)) {old new : RowCursor} (answer : Bool
 step_ends holds answer is steps = rw is at steps
 
 -- a step gave the next row of a table of a file, and those before it were shown
-pub record Turn (file : List ℕ) (style : Shape) (kind : ListedAs) (table : Rows) (old new : RowCursor) (row : Row) (a b : Written) : Type 0 where
+pub record Turn (file : List ℕ) (style : Shape) (kind : RowLayout) (table : Rows) (old new : RowCursor) (row : Row) (a b : OutState) : Type 0 where
   pub of_kind : KindOf file table.at kind
   pub is_row : IsRowOf file table.at kind row
   pub index : row.index ≡ (reading old).index
@@ -134,7 +134,7 @@ pub record Turn (file : List ℕ) (style : Shape) (kind : ListedAs) (table : Row
   pub below : (reading old).index < rows_listed kind file table
   pub before : WroteItems a b (each (row_items kind file (style_of style) table.at) 0 (reading old).index)
 
-pub turn : {holds : Option (List ℕ)} (file : List ℕ) (style : Shape) (kind : ListedAs) (table : Rows) (old new : RowCursor) (row : Row) (a b : Written)
+pub turn : {holds : Option (List ℕ)} (file : List ℕ) (style : Shape) (kind : RowLayout) (table : Rows) (old new : RowCursor) (row : Row) (a b : OutState)
     → GivesListed holds old new → ShowsRow (reading new) row → holds ≡ Some file → HoldsRows file (reading old) → (reading old).table ≡ table → table.entry ≡ row_size kind
     → (reading old).index + (reading old).left ≡ table.count → (reading old).index + rows_to_give file old ≡ rows_listed kind file table → (0 < table.count → KindOf file table.at kind)
     → WroteItems a b (each (row_items kind file (style_of style) table.at) 0 (reading old).index) → Turn file style kind table old new row a b
@@ -151,16 +151,16 @@ turn file style kind table old new row a b step lends held agrees same entry cou
     }
 
 -- its row was shown
-pub turn_more : (file : List ℕ) (style now : Shape) (kind : ListedAs) (table : Rows) (old new : RowCursor) (row : Row) (a b c : Written) → now ≡ style → Turn file style kind table old new row a b
+pub turn_more : (file : List ℕ) (style now : Shape) (kind : RowLayout) (table : Rows) (old new : RowCursor) (row : Row) (a b c : OutState) → now ≡ style → Turn file style kind table old new row a b
     → (KindOf file table.at kind → IsRowOf file table.at kind row → WroteItems b c (row_items kind file (style_of now) table.at row.index))
     → WroteItems a c (each (row_items kind file (style_of style) table.at) 0 (reading new).index)
 turn_more file style now kind table old new row a b c same this shown =
     rows_more (row_items kind file (style_of style) table.at) (reading old).index _ this.next this.before (rw (this.index, same) at (shown this.of_kind this.is_row))
 
 -- or stopped
-pub turn_stopped : (file : List ℕ) (style now : Shape) (kind : ListedAs) (table : Rows) (old new : RowCursor) (row : Row) (a b c : Written) (stop : Stop) → now ≡ style
+pub turn_stopped : (file : List ℕ) (style now : Shape) (kind : RowLayout) (table : Rows) (old new : RowCursor) (row : Row) (a b c : OutState) (stop : RunFault) → now ≡ style
     → Turn file style kind table old new row a b
-    → (KindOf file table.at kind → IsRowOf file table.at kind row → Stopped b c stop (row_items kind file (style_of now) table.at row.index))
-    → Stopped a c stop (each (row_items kind file (style_of style) table.at) 0 (rows_listed kind file table))
+    → (KindOf file table.at kind → IsRowOf file table.at kind row → WroteUntilStop b c stop (row_items kind file (style_of now) table.at row.index))
+    → WroteUntilStop a c stop (each (row_items kind file (style_of style) table.at) 0 (rows_listed kind file table))
 turn_stopped file style now kind table old new row a b c stop same this shown =
     rows_stopped (row_items kind file (style_of style) table.at) (reading old).index _ a b c stop this.below this.before (rw (this.index, same) at (shown this.of_kind this.is_row))

@@ -1,32 +1,32 @@
 -- The notes of a table, by what is left of them.
 use Rattle.std.proofs.Common.{◌≡◌, ℕ, ◌+◌, zero, suc, Bool, true, Option, None, Some, Ok, List, [], ◌∷◌, ◌++◌, inl, inr, length, drop, refl, sym, ap, ◌∙◌, arith, append_assoc, append-nil, add-zero, zero-add}
 use Rattle.elf_model.specs.Bytes.{slice}
-use Rattle.elf_model.specs.LineFronts.{note_front}
+use Rattle.elf_model.specs.LineFronts.{note_prefix}
 use Rattle.elf_model.specs.Lines.{note_line}
 use Rattle.elf_model.specs.Listing.{ListingItem, Line, Fault as FaultItem}
-use Rattle.elf_model.specs.Names.{Shown}
-use Rattle.elf_model.specs.Notes.{Note, Walk, NextNote, Ends as EndsHere, Broken, OneNote, next_note, walk_from, walked, with_note, note_shown}
+use Rattle.elf_model.specs.Names.{DisplayedName}
+use Rattle.elf_model.specs.Notes.{Note, NoteScan, NextNote, Ends as EndsHere, Broken, OneNote, next_note, walk_from, walked, with_note, note_shown}
 use Rattle.elf_model.specs.Rows.{note_row, notes_rows, walk_rows}
 use Rattle.elf_model.specs.Style.{Style}
 use Rattle.elf_model.specs.declared.causes.Cause.TheVariants.{NoteCut}
 use Rattle.elf_model.proofs.NoteLaws.{walked-is}
 use Rattle.elf_record.specs.declared.note_head.NoteHead.{NoteHead}
 use Rattle.elf_fields.specs.Named.{shown_as}
-use Rattle.elf_note.specs.NoteCursors.{AdvancesNote, NoteReading, IsNoteFound, NameIs, ShowsNote, StopsNote, notes_from, notes_left, no_notes, cut_at, note_cut}
+use Rattle.elf_note.specs.NoteCursors.{AdvancesNote, NoteCursorState, IsNoteFound, NameIs, ShowsNote, StopsNote, notes_from, notes_left, no_notes, cut_at, note_cut}
 use Rattle.elf_note.specs.declared.row.NoteRow.{NoteRow}
-use Rattle.elf_source.specs.Output.{Written}
+use Rattle.elf_source.specs.Output.{OutState}
 use Rattle.elf_headers.specs.Faults.{IsOfRead}
-use Rattle.elf_table.specs.Windows.{Ahead, HoldsBytes, StillHolds}
+use Rattle.elf_table.specs.Windows.{WindowState, HoldsBytes, StillHolds}
 use Rattle.elf_headers.specs.declared.caps.Style.{Style as Shape}
 use Rattle.elf_headers.specs.declared.fault.Fault.{Fault}
 use Rattle.elf_headers.specs.declared.fault.Fault.TheVariants.{Refused, Source as Unread}
 use Rattle.elf_table.specs.declared.names.NameEnd.{NameEnd}
 use Rattle.elf_table.specs.declared.names.NameEnd.TheVariants.{Whole as NameWhole, Cut as NameCut}
 use Rattle.elf_listing.specs.Notes.{IsNoteRow, WrittenBefore, note_items}
-use Rattle.elf_listing.specs.Shows.{WroteItems, Front, Stopped, cut_of}
+use Rattle.elf_listing.specs.Shows.{WroteItems, WrotePrefix, WroteUntilStop, cut_of}
 use Rattle.elf_headers.specs.Stops.{stop_of}
-use Rattle.elf_headers.specs.declared.stop.Stop.{Stop}
-use Rattle.elf_listing.proofs.ShowLaws.{Whole-none, Whole-then, Stopped-then, Stopped-more}
+use Rattle.elf_headers.specs.declared.stop.RunFault.{RunFault}
+use Rattle.elf_listing.proofs.ShowLaws.{Whole-none, Whole-then, WroteUntilStop-then, WroteUntilStop-more}
 
 -- what is left where no note is, and where no note stands
 none_left : (style : Style) (index : ℕ) → note_items style index no_notes ≡ []
@@ -38,16 +38,16 @@ unfolding walk_rows notes_rows
 cut_left style index at = ap (λ (x : ℕ). FaultItem (record { at = x; cause = NoteCut }) ∷ []) (zero-add at)
 
 -- a note, and what is left behind it
-pub note_left : (style : Style) (index : ℕ) (note : Note) (left : Walk) → note_items style index (with_note note left) ≡ (note_row style index note ∷ []) ++ note_items style index left
+pub note_left : (style : Style) (index : ℕ) (note : Note) (left : NoteScan) → note_items style index (with_note note left) ≡ (note_row style index note ∷ []) ++ note_items style index left
 unfolding walk_rows notes_rows
 note_left style index note left = refl
 
 -- nothing was written yet
-pub before_all : (a : Written) (all left : List ListingItem) → all ≡ left → WrittenBefore a a all left
+pub before_all : (a : OutState) (all left : List ListingItem) → all ≡ left → WrittenBefore a a all left
 before_all a all left same = record { done = []; split = same; whole = Whole-none a }
 
 -- some items more were written
-pub before_more : {a b c : Written} (all left next later : List ListingItem) → left ≡ next ++ later → WrittenBefore a b all left → WroteItems b c next → WrittenBefore a c all later
+pub before_more : {a b c : OutState} (all left next later : List ListingItem) → left ≡ next ++ later → WrittenBefore a b all left → WroteItems b c next → WrittenBefore a c all later
 before_more all left next later is before more = record {
   done = before.done ++ next;
   split = before.split ∙ ap (λ (x : List ListingItem). before.done ++ x) is ∙ sym (append_assoc before.done next later);
@@ -55,37 +55,37 @@ before_more all left next later is before more = record {
 }
 
 -- what is written next stopped
-pub before_stopped : (a b c : Written) (stop : Stop) (all left next later : List ListingItem) → left ≡ next ++ later → WrittenBefore a b all left → Stopped b c stop next → Stopped a c stop all
+pub before_stopped : (a b c : OutState) (stop : RunFault) (all left next later : List ListingItem) → left ≡ next ++ later → WrittenBefore a b all left → WroteUntilStop b c stop next → WroteUntilStop a c stop all
 before_stopped a b c stop all left next later is before more =
     rw (before.split ∙ ap (λ (x : List ListingItem). before.done ++ x) is ∙ sym (append_assoc before.done next later))
-    (Stopped-more a c stop (before.done ++ next) later (Stopped-then a b c stop before.done next before.whole more))
+    (WroteUntilStop-more a c stop (before.done ++ next) later (WroteUntilStop-then a b c stop before.done next before.whole more))
 
-front_of : {a b : Written} (all left : List ListingItem) → WrittenBefore a b all left → Front a b all
+front_of : {a b : OutState} (all left : List ListingItem) → WrittenBefore a b all left → WrotePrefix a b all
 front_of all left before = record { front = before.done; rest = left; split = before.split; takes = before.whole.takes; no_fault = before.whole.no_fault }
 
-unread_next : (a b : Written) (fault : Fault) (all left : List ListingItem) → IsOfRead fault → WrittenBefore a b all left → Stopped a b (stop_of fault) all
+unread_next : (a b : OutState) (fault : Fault) (all left : List ListingItem) → IsOfRead fault → WrittenBefore a b all left → WroteUntilStop a b (stop_of fault) all
 unfolding front_of
 unread_next a b (Refused refusal) all left is before = record { front = front_of all left before; next = λ other. absurd (other is) }
 unread_next a b (Unread fault at) all left is before = front_of all left before
 
-cut_next : (a b : Written) (at : ℕ) (all left : List ListingItem) → left ≡ FaultItem (record { at = at; cause = NoteCut }) ∷ [] → WrittenBefore a b all left → Stopped a b (stop_of (note_cut at)) all
+cut_next : (a b : OutState) (at : ℕ) (all left : List ListingItem) → left ≡ FaultItem (record { at = at; cause = NoteCut }) ∷ [] → WrittenBefore a b all left → WroteUntilStop a b (stop_of (note_cut at)) all
 unfolding front_of
 cut_next a b at all left is before = record { front = front_of all left before; next = λ other. record { behind = []; is_next = is } }
 
 -- a step over the next note failed: at a read, or where no note stands
-pub before_fault : (a b : Written) (fault : Fault) (style : Style) (index at : ℕ) (all : List ListingItem) (left : Walk) → StopsNote at fault → (fault ≡ note_cut at → left ≡ cut_at at)
-    → WrittenBefore a b all (note_items style index left) → Stopped a b (stop_of fault) all
+pub before_fault : (a b : OutState) (fault : Fault) (style : Style) (index at : ℕ) (all : List ListingItem) (left : NoteScan) → StopsNote at fault → (fault ≡ note_cut at → left ≡ cut_at at)
+    → WrittenBefore a b all (note_items style index left) → WroteUntilStop a b (stop_of fault) all
 before_fault a b fault style index at all left (inl read) cut before = unread_next a b fault all (note_items style index left) read before
 before_fault a b fault style index at all left (inr is) cut before =
     rw is (cut_next a b at all (note_items style index left) (ap (note_items style index) (cut is) ∙ cut_left style index at) before)
 
 -- behind the last note
-pub before_none : {a b : Written} (style : Style) (index : ℕ) (all : List ListingItem) (left : Walk) → left ≡ no_notes → WrittenBefore a b all (note_items style index left) → WroteItems a b all
+pub before_none : {a b : OutState} (style : Style) (index : ℕ) (all : List ListingItem) (left : NoteScan) → left ≡ no_notes → WrittenBefore a b all (note_items style index left) → WroteItems a b all
 before_none style index all left none before =
     rw (before.split ∙ ap (λ (x : List ListingItem). before.done ++ x) (ap (note_items style index) none ∙ none_left style index) ∙ append-nil before.done) before.whole
 
 -- a note as a row of a cursor shows it
-pub note_of : (file : List ℕ) (align cap at : ℕ) (note : Note) (c : NoteReading) (row : NoteRow) (name : List ℕ) → ShowsNote c row → IsNoteFound file align cap at note c.found name c.descriptor → IsNoteRow cap note row name
+pub note_of : (file : List ℕ) (align cap at : ℕ) (note : Note) (c : NoteCursorState) (row : NoteRow) (name : List ℕ) → ShowsNote c row → IsNoteFound file align cap at note c.found name c.descriptor → IsNoteRow cap note row name
 note_of file align cap at note c row name lends found = record {
   named = rw lends.its_end found.shown_name;
   kind = ap (λ (x : NoteHead). x.kind) lends.its_head ∙ found.kind;
@@ -95,13 +95,13 @@ note_of file align cap at note c row name lends found = record {
 }
 
 -- a step of a cursor that gave a note: in a known file the note that was next
-pub record NoteGiven (file : Option (List ℕ)) (align cap : ℕ) (old new : NoteReading) (name : List ℕ) (row : NoteRow) : Type 0 where
+pub record NoteGiven (file : Option (List ℕ)) (align cap : ℕ) (old new : NoteCursorState) (name : List ℕ) (row : NoteRow) : Type 0 where
   pub going : new.failed ≡ None
   pub agrees : StillHolds file old.ahead new.ahead
   pub gives : (bytes : List ℕ) → file ≡ Some bytes → HoldsBytes bytes old.ahead
       → (note : Note) × (notes_left align bytes old.ahead ≡ with_note note (notes_left align bytes new.ahead)) × IsNoteRow cap note row name
 
-pub note_given : (file : Option (List ℕ)) (align : ℕ) (style now : Shape) (old new : NoteReading) (name : List ℕ) (row : NoteRow) (answer : Bool) → answer ≡ true → old.align ≡ align
+pub note_given : (file : Option (List ℕ)) (align : ℕ) (style now : Shape) (old new : NoteCursorState) (name : List ℕ) (row : NoteRow) (answer : Bool) → answer ≡ true → old.align ≡ align
     → now ≡ style → AdvancesNote file now.cap.bytes old new name (Ok answer) → ShowsNote new row → NoteGiven file align style.cap.bytes old new name row
 note_given file align style now old new name row answer is same shape steps lends =
     let step = rw is at steps in
@@ -114,31 +114,31 @@ note_given file align style now old new name row answer is same shape steps lend
     }
 
 -- the note that was next was shown, and then what is left behind it
-pub note_more : (a b c : Written) (style : Style) (index : ℕ) (all : List ListingItem) (old new : Walk) (row : NoteRow) (name : List ℕ) → (note : Note) × (old ≡ with_note note new) × IsNoteRow style.cap note row name
+pub note_more : (a b c : OutState) (style : Style) (index : ℕ) (all : List ListingItem) (old new : NoteScan) (row : NoteRow) (name : List ℕ) → (note : Note) × (old ≡ with_note note new) × IsNoteRow style.cap note row name
     → WrittenBefore a b all (note_items style index old) → ((note : Note) → IsNoteRow style.cap note row name → WroteItems b c (note_row style index note ∷ []))
     → WrittenBefore a c all (note_items style index new)
 note_more a b c style index all old new row name gives before shown =
     before_more _ _ _ _ (ap (note_items style index) gives.1 ∙ note_left style index gives.0 new) before (shown gives.0 gives.2)
 
 -- or its row stopped
-pub note_stopped : (a b c : Written) (stop : Stop) (style : Style) (index : ℕ) (all : List ListingItem) (old new : Walk) (row : NoteRow) (name : List ℕ) → (note : Note) × (old ≡ with_note note new) × IsNoteRow style.cap note row name
-    → WrittenBefore a b all (note_items style index old) → ((note : Note) → IsNoteRow style.cap note row name → Stopped b c stop (note_row style index note ∷ [])) → Stopped a c stop all
+pub note_stopped : (a b c : OutState) (stop : RunFault) (style : Style) (index : ℕ) (all : List ListingItem) (old new : NoteScan) (row : NoteRow) (name : List ℕ) → (note : Note) × (old ≡ with_note note new) × IsNoteRow style.cap note row name
+    → WrittenBefore a b all (note_items style index old) → ((note : Note) → IsNoteRow style.cap note row name → WroteUntilStop b c stop (note_row style index note ∷ [])) → WroteUntilStop a c stop all
 note_stopped a b c stop style index all old new row name gives before shown =
     before_stopped _ _ _ _ _ _ _ _ (ap (note_items style index) gives.1 ∙ note_left style index gives.0 new) before (shown gives.0 gives.2)
 
 -- a note's name as it is shown
-pub named_as : (end : NameEnd) (name : List ℕ) (shown : Shown) → NameIs end name shown → shown ≡ shown_as (cut_of end) name
+pub named_as : (end : NameEnd) (name : List ℕ) (shown : DisplayedName) → NameIs end name shown → shown ≡ shown_as (cut_of end) name
 named_as NameWhole name shown is = is
 named_as NameCut name shown is = is
 
 -- the line of a note, by what it shows
-pub note_is : (style : Style) (index kind namesz descsz : ℕ) (shown : Shown) (note : Note) → kind ≡ note.kind → namesz ≡ length note.name → descsz ≡ length note.descriptor
-    → note_shown style.cap note ≡ shown → note_row style index note ≡ Line (note_line (note_front style.format index kind namesz descsz) shown note.descriptor)
+pub note_is : (style : Style) (index kind namesz descsz : ℕ) (shown : DisplayedName) (note : Note) → kind ≡ note.kind → namesz ≡ length note.name → descsz ≡ length note.descriptor
+    → note_shown style.cap note ≡ shown → note_row style index note ≡ Line (note_line (note_prefix style.format index kind namesz descsz) shown note.descriptor)
 unfolding note_row
 note_is style index kind namesz descsz shown note k n d s = rw (k, n, d, s) refl
 
 -- all notes of a table are left at first
-pub all_left : (a : ℕ) (file : List ℕ) (w : Ahead) (at count page : ℕ) → w ≡ record { at = at; held = []; unread = count; page = page }
+pub all_left : (a : ℕ) (file : List ℕ) (w : WindowState) (at count page : ℕ) → w ≡ record { at = at; held = []; unread = count; page = page }
     → notes_left a file w ≡ notes_from a at (slice file at count)
 all_left a file w at count page is = rw is (ap (λ (n : ℕ). notes_from a at (slice file at n)) (zero-add count))
 

@@ -1,24 +1,24 @@
 -- The rows of symbols' versions, by where the names of their numbers are told to be.
 use Rattle.std.proofs.Common.{◌≡◌, ℕ, ◌+◌, ◌*◌, List, [], ◌∷◌, refl, sym, ap, ◌∙◌, arith}
 use Rattle.elf_model.specs.Bytes.{field, slice}
-use Rattle.elf_model.specs.Fields.{LineFront}
+use Rattle.elf_model.specs.Fields.{LinePrefix}
 use Rattle.elf_model.specs.Listing.{ListingItem}
 use Rattle.elf_model.specs.Records.{versym}
 use Rattle.elf_model.specs.Rows.{chosen_row}
 use Rattle.elf_model.specs.Style.{Style}
-use Rattle.elf_model.specs.VersionRows.{symbol_version_front}
+use Rattle.elf_model.specs.VersionRows.{symbol_version_prefix}
 use Rattle.elf_model.specs.Versions.{number_in}
 use Rattle.elf_model.proofs.Slices.{field-slice}
-use Rattle.elf_listing.specs.Numbered.{told_row, version_told}
-use Rattle.elf_listing.specs.declared.numbered.Numbered.{Numbered}
+use Rattle.elf_listing.specs.Numbered.{reported_row, version_told}
+use Rattle.elf_listing.specs.declared.numbered.VersionStrings.{VersionStrings}
 
 -- the word of an entry
 pub word_is : (file bytes : List ℕ) (at word : ℕ) → bytes ≡ slice file at 2 → word ≡ field bytes 0 2 → word ≡ versym file at
 word_is file bytes at word is read = read ∙ ap (λ (b : List ℕ). field b 0 2) is ∙ field-slice file at 2 0 2 (omega arith) ∙ ap (λ (n : ℕ). field file n 2) (omega arith)
 
 -- the row of an entry
-pub told_is : (file : List ℕ) (style : Style) (numbered : Numbered) (section at index word : ℕ) (front : LineFront) → word ≡ versym file at
-    → front ≡ symbol_version_front style.format section index word
-    → told_row file style numbered section at index ≡ chosen_row style.choice front at (version_told numbered file style.cap (number_in word))
-unfolding told_row
-told_is file style numbered section at index word front is same = rw (same, is) refl
+pub reported_is : (file : List ℕ) (style : Style) (numbered : VersionStrings) (section at index word : ℕ) (front : LinePrefix) → word ≡ versym file at
+    → front ≡ symbol_version_prefix style.format section index word
+    → reported_row file style numbered section at index ≡ chosen_row style.choice front at (version_told numbered file style.cap (number_in word))
+unfolding reported_row
+reported_is file style numbered section at index word front is same = rw (same, is) refl

@@ -13,16 +13,16 @@ use Rattle.elf_headers.specs.declared.caps.Style.{Style}
 use Rattle.elf_table.specs.declared.file.File.{File}
 use Rattle.elf_listing.specs.HeadersListed.{ListsPair, asked_items}
 use Rattle.elf_listing.specs.Parts.{AwaitsAsked, asked_cost, relocations_part, symbols_part}
-use Rattle.elf_listing.specs.Shows.{Lists, Shows}
+use Rattle.elf_listing.specs.Shows.{Lists, ListingWrote}
 use Rattle.elf_listing.specs.declared.listing.Listing.{Listing}
 use Rattle.elf_listing.specs.declared.parts.Part.{Part}
 use Rattle.elf_listing.specs.declared.parts.Part.TheVariants.{Definitions, Needs, SymbolVersions}
-use Rattle.elf_headers.specs.declared.stop.Stop.{Stop}
+use Rattle.elf_headers.specs.declared.stop.RunFault.{RunFault}
 use Rattle.elf_listing.proofs.FileShown.{versions_none}
 use Rattle.elf_listing.proofs.EachLaws.{each-more}
 use Rattle.elf_listing.proofs.ListsLaws.{Lists-within, SameFile-then}
-use Rattle.elf_listing.proofs.RowLaws.{Writes-as}
-use Rattle.elf_listing.proofs.ShowLaws.{Spent-then, Stopped-more, Writes-then}
+use Rattle.elf_listing.proofs.RowLaws.{WroteSome-as}
+use Rattle.elf_listing.proofs.ShowLaws.{SpentCredit-then, WroteUntilStop-more, WroteSome-then}
 
 -- what a part asks for, and its items, where the parts have it
 abbrev pub cost_asked : ℕ → Part → File → Style → ℕ
@@ -33,48 +33,48 @@ items_asked parts part f style file = asked_items parts part f.store.now (style_
 
 module _ {S W X : Type 0} {s : Sources S} {w : Sinks W} where
   -- the same items
-  pub Parts-as : {a b : Listing S W s w} {result : Result X Stop} {n : ℕ} {xs ys : List ℕ → List ListingItem}
-      → ((file : List ℕ) → a.src.now.seen.file ≡ Some file → ys file ≡ xs file) → Lists a b result n (Shows a b result xs) → Lists a b result n (Shows a b result ys)
-  Parts-as same p = Lists-within _ _ _ _ _ _ _ (omega arith) p (λ file held. Writes-as _ _ _ (same file held) (p.shows file held))
+  pub Parts-as : {a b : Listing S W s w} {result : Result X RunFault} {n : ℕ} {xs ys : List ℕ → List ListingItem}
+      → ((file : List ℕ) → a.src.now.seen.file ≡ Some file → ys file ≡ xs file) → Lists a b result n (ListingWrote a b result xs) → Lists a b result n (ListingWrote a b result ys)
+  Parts-as same p = Lists-within _ _ _ _ _ _ _ (omega arith) p (λ file held. WroteSome-as _ _ _ (same file held) (p.shows file held))
 
   -- a part was shown, and then another, whose cost and items the file and the style tell
-  pub Parts-then : {a b c : Listing S W s w} {x : X} {result : Result X Stop} {n : ℕ} (xs : List ℕ → List ListingItem) (m : File → Style → ℕ) (ys : File → Style → List ℕ → List ListingItem)
-      → Lists a b (Ok x) n (Shows a b (Ok x) xs) → Lists b c result (m b.file b.style) (Shows b c result (ys b.file b.style))
-      → Lists a c result (n + m a.file a.style) (Shows a c result (λ file. xs file ++ ys a.file a.style file))
+  pub Parts-then : {a b c : Listing S W s w} {x : X} {result : Result X RunFault} {n : ℕ} (xs : List ℕ → List ListingItem) (m : File → Style → ℕ) (ys : File → Style → List ℕ → List ListingItem)
+      → Lists a b (Ok x) n (ListingWrote a b (Ok x) xs) → Lists b c result (m b.file b.style) (ListingWrote b c result (ys b.file b.style))
+      → Lists a c result (n + m a.file a.style) (ListingWrote a c result (λ file. xs file ++ ys a.file a.style file))
   Parts-then xs m ys p q = record {
     grows = grows_then p.grows q.grows;
     keeps = SameFile-then p.keeps q.keeps;
-    spent = rw (← p.keeps.same_file, ← p.keeps.same_style) (Spent-then _ _ _ _ _ _ _ _ _ _ _ (omega arith) p.spent.0 q.spent);
+    spent = rw (← p.keeps.same_file, ← p.keeps.same_style) (SpentCredit-then _ _ _ _ _ _ _ _ _ _ _ (omega arith) p.spent.0 q.spent);
     shows = λ file held.
         let shown = rw (p.keeps.same_file, p.keeps.same_style) at (q.shows file (p.spent.0.reads.keeps.same_file ∙ held)) in
-        Writes-then _ _ _ _ _ _ (p.shows file held) shown;
+        WroteSome-then _ _ _ _ _ _ (p.shows file held) shown;
   }
 
   -- a part stopped, and nothing behind it was shown
-  pub Parts-more : {a b : Listing S W s w} {stop : Stop} {n : ℕ} (m : ℕ) (xs ys : List ℕ → List ListingItem)
-      → Lists {X = X} a b (Err stop) n (Shows {X = X} a b (Err stop) xs) → Lists {X = X} a b (Err stop) (n + m) (Shows {X = X} a b (Err stop) (λ file. xs file ++ ys file))
-  Parts-more m xs ys p = Lists-within _ _ _ _ _ _ _ (omega arith) p (λ file held. Stopped-more _ _ _ _ _ (p.shows file held))
+  pub Parts-more : {a b : Listing S W s w} {stop : RunFault} {n : ℕ} (m : ℕ) (xs ys : List ℕ → List ListingItem)
+      → Lists {X = X} a b (Err stop) n (ListingWrote {X = X} a b (Err stop) xs) → Lists {X = X} a b (Err stop) (n + m) (ListingWrote {X = X} a b (Err stop) (λ file. xs file ++ ys file))
+  Parts-more m xs ys p = Lists-within _ _ _ _ _ _ _ (omega arith) p (λ file held. WroteUntilStop-more _ _ _ _ _ (p.shows file held))
 
   -- some headers were shown, and then the next
-  pub headers_then : {a b c : Listing S W s w} {x : X} {result : Result X Stop} (amount : File → Style → ℕ → ℕ) (row : Style → List ℕ → ℕ → List ListingItem) (i : ℕ)
-      → Lists a b (Ok x) (sum_over (amount a.file a.style) 0 i) (Shows a b (Ok x) (λ file. each (row a.style file) 0 i))
-      → Lists b c result (amount b.file b.style i) (Shows b c result (λ file. row b.style file i))
-      → Lists a c result (sum_over (amount a.file a.style) 0 (i + 1)) (Shows a c result (λ file. each (row a.style file) 0 (i + 1)))
+  pub headers_then : {a b c : Listing S W s w} {x : X} {result : Result X RunFault} (amount : File → Style → ℕ → ℕ) (row : Style → List ℕ → ℕ → List ListingItem) (i : ℕ)
+      → Lists a b (Ok x) (sum_over (amount a.file a.style) 0 i) (ListingWrote a b (Ok x) (λ file. each (row a.style file) 0 i))
+      → Lists b c result (amount b.file b.style i) (ListingWrote b c result (λ file. row b.style file i))
+      → Lists a c result (sum_over (amount a.file a.style) 0 (i + 1)) (ListingWrote a c result (λ file. each (row a.style file) 0 (i + 1)))
   headers_then {a = a} amount row i p q =
       let cost = amount a.file a.style in
       rw (last_cost cost 0 i ∙ ap (λ n. sum_over cost 0 i + cost n) (zero-add i))
       (Parts-as (λ file held. each-more (row a.style file) i) (Parts-then _ (λ f style. amount f style i) (λ f style file. row style file i) p q))
 
   -- the last of them stopped, and none behind it was shown
-  pub headers_stopped : {a b : Listing S W s w} {stop : Stop} (amount : ℕ → ℕ) (row : List ℕ → ℕ → List ListingItem) (i count : ℕ) → i < count
-      → Lists {X = X} a b (Err stop) (sum_over amount 0 (i + 1)) (Shows {X = X} a b (Err stop) (λ file. each (row file) 0 (i + 1)))
-      → Lists {X = X} a b (Err stop) (sum_over amount 0 count) (Shows {X = X} a b (Err stop) (λ file. each (row file) 0 count))
+  pub headers_stopped : {a b : Listing S W s w} {stop : RunFault} (amount : ℕ → ℕ) (row : List ℕ → ℕ → List ListingItem) (i count : ℕ) → i < count
+      → Lists {X = X} a b (Err stop) (sum_over amount 0 (i + 1)) (ListingWrote {X = X} a b (Err stop) (λ file. each (row file) 0 (i + 1)))
+      → Lists {X = X} a b (Err stop) (sum_over amount 0 count) (ListingWrote {X = X} a b (Err stop) (λ file. each (row file) 0 count))
   headers_stopped amount row i count below p =
       let all : count ≡ i + 1 + (count - (i + 1)) = omega arith in
       rw (all, sums_split amount 0 (i + 1) (count - (i + 1))) (Parts-as (λ file held. rows_split (row file) 0 (i + 1) (count - (i + 1))) (Parts-more _ _ _ p))
 
   -- two parts that the style chooses
-  pub Pair-as : {a b : Listing S W s w} {result : Result X Stop} (parts : ℕ) (versions : Bool) → a.style.versions ≡ versions
+  pub Pair-as : {a b : Listing S W s w} {result : Result X RunFault} (parts : ℕ) (versions : Bool) → a.style.versions ≡ versions
       → ListsPair parts (symbols_part versions) (relocations_part versions) a b result
       → ListsPair parts (symbols_part a.style.versions) (relocations_part a.style.versions) a b result
   Pair-as {a = a} {b = b} {result = result} parts versions is pair =
@@ -82,7 +82,7 @@ module _ {S W X : Type 0} {s : Sources S} {w : Sinks W} where
 
   -- the rows of definitions and needs were shown, and then the versions of symbols may be
   pub versions_await : {a b : Listing S W s w} {x : X} {n : ℕ} (parts : ℕ)
-      → Lists a b (Ok x) n (Shows a b (Ok x) (λ file. items_asked parts Definitions a.file a.style file ++ items_asked parts Needs a.file a.style file))
+      → Lists a b (Ok x) n (ListingWrote a b (Ok x) (λ file. items_asked parts Definitions a.file a.style file ++ items_asked parts Needs a.file a.style file))
       → AwaitsAsked parts SymbolVersions b.src.now.seen.file (style_of b.style)
   unfolding symbol_versions
   versions_await {a = a} parts p = λ asked file held.

@@ -1,7 +1,7 @@
 -- The report of a listing, and of one that a budget cuts short.
 use Rattle.elf_headers.specs.Permitted.{style_of}
 use Rattle.std.proofs.Common.{◌≡◌, ℕ, ◌+◌, ◌^◌, ◌<◌, ◌≤◌, List, ◌∷◌, ◌++◌, length, None, Some, Ok, Err, Option, option_map, refl, sym, ap, ◌∙◌, inl, inr, ◌⊎◌, append-nil, arith}
-use Rattle.elf_model.specs.Budget.{IsBudget, IsBudgeted, IsReport}
+use Rattle.elf_model.specs.Budget.{IsBudgetRefusal, IsBudgeted, IsReport}
 use Rattle.elf_model.specs.Cost.{listing_cost}
 use Rattle.elf_model.specs.Lines.{refusal_line}
 use Rattle.elf_model.specs.Listing.{ListingItem, Fault as FaultItem, lines_of, fault_of, report_of, end_text}
@@ -9,18 +9,18 @@ use Rattle.elf_model.specs.Report.{listing}
 use Rattle.elf_model.specs.Style.{Style}
 use Rattle.elf_model.specs.declared.causes.Cause.TheVariants.{Budget}
 use Rattle.elf_model.specs.declared.causes.Refusal.{Refusal}
-use Rattle.elf_model.proofs.BudgetLaws.{is_budget}
+use Rattle.elf_model.proofs.BudgetLaws.{is_budget_fault}
 use Rattle.elf_model.proofs.ListingLemmas.{listings_append}
-use Rattle.elf_source.specs.Source.{Counting, SetsLimit, counted}
-use Rattle.elf_source.specs.Output.{Written, Takes, TakesFront}
+use Rattle.elf_source.specs.Source.{CountedState, SetsLimit, counted}
+use Rattle.elf_source.specs.Output.{OutState, SinkTakes, SinkTakesPrefix}
 use Rattle.elf_source.proofs.LimitLaws.{budget_below}
-use Rattle.elf_source.proofs.PutsLaws.{Takes-then, TakesFront-then, TakesFront-more, TakesFront-all}
-use Rattle.elf_headers.specs.Faults.{RefusalSays}
+use Rattle.elf_source.proofs.PutsLaws.{SinkTakes-then, SinkTakesPrefix-then, SinkTakesPrefix-more, SinkTakesPrefix-all}
+use Rattle.elf_headers.specs.Faults.{IsReadRefusal}
 use Rattle.elf_headers.specs.declared.caps.Caps.{Caps}
-use Rattle.elf_headers.specs.declared.stop.Stop.{Stop}
-use Rattle.elf_headers.specs.declared.stop.Stop.TheVariants.{Refused, Source, Out}
-use Rattle.elf_listing.specs.Reports.{Reports, Wrote, WroteRefusal, TellsStop}
-use Rattle.elf_listing.specs.Shows.{WroteItems, Front, IsNext, EndsRefused, Stopped, StopSays}
+use Rattle.elf_headers.specs.declared.stop.RunFault.{RunFault}
+use Rattle.elf_headers.specs.declared.stop.RunFault.TheVariants.{Refused, Source, Out}
+use Rattle.elf_listing.specs.Reports.{WroteReport, WroteText, WroteRefusal, ReturnsStop}
+use Rattle.elf_listing.specs.Shows.{WroteItems, WrotePrefix, IsNext, WroteUntilRefusal, WroteUntilStop, StopSays}
 use Rattle.elf_listing.proofs.EachLaws.{lines_front}
 
 -- a report is what is listed, within every budget
@@ -30,7 +30,7 @@ report_listed None file headers style parts text fault is = is
 report_listed (Some budget) file headers style parts text fault is = inl is
 
 -- a listing without a fault is its report
-pub whole_report : {a b : Written} (file : List ℕ) (caps : Caps) (parts : ℕ) → WroteItems a b (listing file caps.limits.headers (style_of caps.style) parts) → Reports {X = Unit {0}} file caps parts a b (Ok tt)
+pub whole_report : {a b : OutState} (file : List ℕ) (caps : Caps) (parts : ℕ) → WroteItems a b (listing file caps.limits.headers (style_of caps.style) parts) → WroteReport {X = Unit {0}} file caps parts a b (Ok tt)
 whole_report file caps parts whole =
     let all : List ListingItem = listing file caps.limits.headers (style_of caps.style) parts in
     let text : lines_of all ≡ report_of caps.style.format all = sym (ap (λ end. lines_of all ++ end_text caps.style.format end) whole.no_fault ∙ append-nil (lines_of all)) in
@@ -42,37 +42,37 @@ whole_report file caps parts whole =
     }
 
 -- a fault that is no refusal
-abbrev IsFault : Stop → Type 0
+abbrev IsFault : RunFault → Type 0
 IsFault (Refused refusal) = ⊥
 IsFault (Source cause at) = Unit {0}
 IsFault (Out cause) = Unit {0}
 
-wrote_front : {a b : Written} (stop : Stop) (text : List ℕ) (fault : Option Refusal) → IsFault stop → TakesFront a b text → Wrote {X = Unit {0}} a b (Err stop) text fault
+wrote_front : {a b : OutState} (stop : RunFault) (text : List ℕ) (fault : Option Refusal) → IsFault stop → SinkTakesPrefix a b text → WroteText {X = Unit {0}} a b (Err stop) text fault
 wrote_front (Refused refusal) text fault is front = absurd is
 wrote_front (Source cause at) text fault is front = front
 wrote_front (Out cause) text fault is front = front
 
 -- a front of a listing is a front of its report
-front_report : {a b : Written} (file : List ℕ) (caps : Caps) (parts : ℕ) (stop : Stop) → IsFault stop → TakesFront a b (lines_of (listing file caps.limits.headers (style_of caps.style) parts))
-    → Reports {X = Unit {0}} file caps parts a b (Err stop)
+front_report : {a b : OutState} (file : List ℕ) (caps : Caps) (parts : ℕ) (stop : RunFault) → IsFault stop → SinkTakesPrefix a b (lines_of (listing file caps.limits.headers (style_of caps.style) parts))
+    → WroteReport {X = Unit {0}} file caps parts a b (Err stop)
 front_report file caps parts stop is front =
     let all : List ListingItem = listing file caps.limits.headers (style_of caps.style) parts in
     record {
       text = report_of caps.style.format all;
       fault = fault_of all;
       listed = report_listed caps.limits.budget file caps.limits.headers (style_of caps.style) parts (report_of caps.style.format all) (fault_of all) (record { text_is = refl; fault_is = refl });
-      wrote = wrote_front stop (report_of caps.style.format all) (fault_of all) is (TakesFront-more (lines_of all) (end_text caps.style.format (fault_of all)) front);
+      wrote = wrote_front stop (report_of caps.style.format all) (fault_of all) is (SinkTakesPrefix-more (lines_of all) (end_text caps.style.format (fault_of all)) front);
     }
 
 -- whole lines of a listing are a front of its lines
-front_lines : {a b : Written} (all : List ListingItem) → Front a b all → TakesFront a b (lines_of all)
+front_lines : {a b : OutState} (all : List ListingItem) → WrotePrefix a b all → SinkTakesPrefix a b (lines_of all)
 front_lines all front =
     let more = lines_front front.front front.rest in
     let split = ap lines_of front.split ∙ more.1 in
-    rw split (TakesFront-all (lines_of front.front) more.0 front.takes)
+    rw split (SinkTakesPrefix-all (lines_of front.front) more.0 front.takes)
 
 -- a listing that ended in a refusal, and what was put of its line
-ended : {a b : Written} (refusal : Refusal) (all : List ListingItem) (ends : EndsRefused a b refusal all) → IsNext refusal ends.front.rest
+ended : {a b : OutState} (refusal : Refusal) (all : List ListingItem) (ends : WroteUntilRefusal a b refusal all) → IsNext refusal ends.front.rest
     → (lines_of all ≡ lines_of ends.front.front) × (fault_of all ≡ Some refusal)
 ended refusal all ends next =
     let front = ends.front.front in
@@ -81,13 +81,13 @@ ended refusal all ends next =
     (ap lines_of whole ∙ both.0 ∙ append-nil (lines_of front), ap fault_of whole ∙ both.1)
 
 -- the text of a listing that ended in a refusal
-ended_listed : {a b : Written} (file : List ℕ) (caps : Caps) (parts : ℕ) (refusal : Refusal) (before limited after : Counting) → before.asked ≤ 2 ^ 127
-    → SetsLimit before limited caps.limits.budget → before.seen.size ≡ length file → RefusalSays limited after (listing_cost file caps.limits.headers (style_of caps.style) parts) refusal
-    → (ends : EndsRefused a b refusal (listing file caps.limits.headers (style_of caps.style) parts))
+ended_listed : {a b : OutState} (file : List ℕ) (caps : Caps) (parts : ℕ) (refusal : Refusal) (before limited after : CountedState) → before.asked ≤ 2 ^ 127
+    → SetsLimit before limited caps.limits.budget → before.seen.size ≡ length file → IsReadRefusal limited after (listing_cost file caps.limits.headers (style_of caps.style) parts) refusal
+    → (ends : WroteUntilRefusal a b refusal (listing file caps.limits.headers (style_of caps.style) parts))
     → IsBudgeted caps.limits.budget file caps.limits.headers (style_of caps.style) parts (lines_of ends.front.front ++ refusal_line caps.style.format refusal) (Some refusal)
-ended_listed file caps parts refusal before limited after small limits sized says ends = by_cause (is_budget refusal.cause)
+ended_listed file caps parts refusal before limited after small limits sized says ends = by_cause (is_budget_fault refusal.cause)
   where
-    cut : (budget : Option ℕ) → caps.limits.budget ≡ budget → IsBudget refusal → IsBudgeted budget file caps.limits.headers (style_of caps.style) parts (lines_of ends.front.front ++ refusal_line caps.style.format refusal) (Some refusal)
+    cut : (budget : Option ℕ) → caps.limits.budget ≡ budget → IsBudgetRefusal refusal → IsBudgeted budget file caps.limits.headers (style_of caps.style) parts (lines_of ends.front.front ++ refusal_line caps.style.format refusal) (Some refusal)
     cut None none for_budget =
         let over = (says for_budget).1 in
         let most = limits.most ∙ ap (option_map (counted before.asked)) none in
@@ -126,9 +126,9 @@ ended_listed file caps parts refusal before limited after small limits sized say
         (record { text_is = sym (ap (λ lines. lines ++ end_text caps.style.format (fault_of all)) is.0 ∙ ap (λ end. lines_of ends.front.front ++ end_text caps.style.format end) is.1); fault_is = sym is.1 })
 
 -- a listing that ended in a refusal, whose line was told
-ended_report : {a b c : Written} (file : List ℕ) (caps : Caps) (parts : ℕ) (refusal : Refusal) (told : Stop) (before limited after : Counting) → before.asked ≤ 2 ^ 127
-    → SetsLimit before limited caps.limits.budget → before.seen.size ≡ length file → RefusalSays limited after (listing_cost file caps.limits.headers (style_of caps.style) parts) refusal
-    → EndsRefused a b refusal (listing file caps.limits.headers (style_of caps.style) parts) → WroteRefusal caps.style.format b c refusal told → Reports {X = Unit {0}} file caps parts a c (Err told)
+ended_report : {a b c : OutState} (file : List ℕ) (caps : Caps) (parts : ℕ) (refusal : Refusal) (told : RunFault) (before limited after : CountedState) → before.asked ≤ 2 ^ 127
+    → SetsLimit before limited caps.limits.budget → before.seen.size ≡ length file → IsReadRefusal limited after (listing_cost file caps.limits.headers (style_of caps.style) parts) refusal
+    → WroteUntilRefusal a b refusal (listing file caps.limits.headers (style_of caps.style) parts) → WroteRefusal caps.style.format b c refusal told → WroteReport {X = Unit {0}} file caps parts a c (Err told)
 ended_report {a} {b} {c} file caps parts refusal told before limited after small limits sized says ends line = record {
   text = lines_of ends.front.front ++ refusal_line caps.style.format refusal;
   fault = Some refusal;
@@ -136,15 +136,15 @@ ended_report {a} {b} {c} file caps parts refusal told before limited after small
   wrote = wrote told line;
 }
   where
-    wrote : (told : Stop) → WroteRefusal caps.style.format b c refusal told → Wrote {X = Unit {0}} a c (Err told) (lines_of ends.front.front ++ refusal_line caps.style.format refusal) (Some refusal)
-    wrote (Refused same) line = (Takes-then (lines_of ends.front.front) (refusal_line caps.style.format refusal) ends.front.takes line.1, ap Some line.0)
+    wrote : (told : RunFault) → WroteRefusal caps.style.format b c refusal told → WroteText {X = Unit {0}} a c (Err told) (lines_of ends.front.front ++ refusal_line caps.style.format refusal) (Some refusal)
+    wrote (Refused same) line = (SinkTakes-then (lines_of ends.front.front) (refusal_line caps.style.format refusal) ends.front.takes line.1, ap Some line.0)
     wrote (Source cause at) line = absurd line
-    wrote (Out cause) line = TakesFront-then (lines_of ends.front.front) (refusal_line caps.style.format refusal) ends.front.takes line.1
+    wrote (Out cause) line = SinkTakesPrefix-then (lines_of ends.front.front) (refusal_line caps.style.format refusal) ends.front.takes line.1
 
 -- a listing that stopped, and what was told of that
-pub stopped_report : {a c : Written} (b : Written) (file : List ℕ) (caps : Caps) (parts : ℕ) (stop told : Stop) (before limited after : Counting) (out : Written) → before.asked ≤ 2 ^ 127
+pub stopped_report : {a c : OutState} (b : OutState) (file : List ℕ) (caps : Caps) (parts : ℕ) (stop told : RunFault) (before limited after : CountedState) (out : OutState) → before.asked ≤ 2 ^ 127
     → SetsLimit before limited caps.limits.budget → before.seen.size ≡ length file → StopSays limited after out (listing_cost file caps.limits.headers (style_of caps.style) parts) stop
-    → Stopped a b stop (listing file caps.limits.headers (style_of caps.style) parts) → TellsStop caps.style.format b c stop told → Reports {X = Unit {0}} file caps parts a c (Err told)
+    → WroteUntilStop a b stop (listing file caps.limits.headers (style_of caps.style) parts) → ReturnsStop caps.style.format b c stop told → WroteReport {X = Unit {0}} file caps parts a c (Err told)
 stopped_report b file caps parts (Refused refusal) told before limited after out small limits sized says ends tells =
     ended_report file caps parts refusal told before limited after small limits sized says ends tells
 stopped_report b file caps parts (Source cause at) told before limited after out small limits sized says ends tells =

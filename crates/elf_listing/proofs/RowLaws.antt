@@ -1,21 +1,21 @@
 -- The items of one row, by the line that was put.
 use Rattle.elf_model.specs.Style.{Style}
 use Rattle.std.proofs.Common.{◌≡◌, ℕ, ◌+◌, ◌*◌, List, [], ◌∷◌, Bool, true, false, Result, Ok, Err, refl, sym, ap, ◌∙◌, subst, arith, append-nil}
-use Rattle.elf_model.specs.Budget.{IsBudget}
-use Rattle.elf_model.specs.Choice.{RowChoice, NoSuffix, Suffix, chooses}
+use Rattle.elf_model.specs.Budget.{IsBudgetRefusal}
+use Rattle.elf_model.specs.Choice.{RowFilter, NoSuffix, Suffix, chooses}
 use Rattle.elf_model.specs.Records.{e_phoff, segment_at, section_at, sh_offset, st_name, e_machine, r_sym}
-use Rattle.elf_model.specs.Names.{Shown, shown}
+use Rattle.elf_model.specs.Names.{DisplayedName, shown}
 use Rattle.elf_model.specs.Tables.{strings_of, entry_at}
-use Rattle.elf_model.specs.LineFronts.{symbol_front, relocation_front}
+use Rattle.elf_model.specs.LineFronts.{symbol_prefix, relocation_prefix}
 use Rattle.elf_model.specs.Lines.{segment_line, named_line}
 use Rattle.elf_model.specs.Listing.{ListingItem, Line, Fault as FaultItem, lines_of}
-use Rattle.elf_model.specs.Fields.{LineFront}
+use Rattle.elf_model.specs.Fields.{LinePrefix}
 use Rattle.elf_model.specs.Rows.{segment_row, symbol_row, chosen_row, named_row, symbol_named, relocation_row}
 use Rattle.elf_model.specs.declared.causes.Refusal.{Refusal}
 use Rattle.elf_model.specs.declared.causes.Cause.{Cause}
 use Rattle.elf_fields.specs.Named.{shown_as}
-use Rattle.elf_source.specs.Output.{Written, Takes, TakesFront}
-use Rattle.elf_source.proofs.PutsLaws.{Takes-nothing}
+use Rattle.elf_source.specs.Output.{OutState, SinkTakes, SinkTakesPrefix}
+use Rattle.elf_source.proofs.PutsLaws.{SinkTakes-nothing}
 use Rattle.elf_headers.specs.Faults.{IsOfRead}
 use Rattle.elf_table.specs.NamesRead.{NameRead, shown_by}
 use Rattle.elf_headers.specs.declared.caps.Style.{Style as Shape}
@@ -24,73 +24,73 @@ use Rattle.elf_headers.specs.declared.fault.Fault.{Fault}
 use Rattle.elf_headers.specs.declared.fault.Fault.TheVariants.{Refused, Source}
 use Rattle.elf_table.specs.declared.names.NameEnd.{NameEnd}
 use Rattle.elf_table.specs.declared.names.NameEnd.TheVariants.{Whole as NameWhole, Cut as NameCut}
-use Rattle.elf_listing.specs.Shows.{WroteItems, Front, EndsRefused, Stopped, Writes, cut_of}
+use Rattle.elf_listing.specs.Shows.{WroteItems, WrotePrefix, WroteUntilRefusal, WroteUntilStop, WroteSome, cut_of}
 use Rattle.elf_headers.specs.Stops.{stop_of}
-use Rattle.elf_headers.specs.declared.stop.Stop.{Stop}
+use Rattle.elf_headers.specs.declared.stop.RunFault.{RunFault}
 
 -- the same items
-pub Writes-as : {X : Type 0} (a b : Written) (result : Result X Stop) {xs ys : List ListingItem} → xs ≡ ys → Writes a b result ys → Writes a b result xs
-Writes-as a b result same written = subst (λ (items : List ListingItem). Writes a b result items) (sym same) written
+pub WroteSome-as : {X : Type 0} (a b : OutState) (result : Result X RunFault) {xs ys : List ListingItem} → xs ≡ ys → WroteSome a b result ys → WroteSome a b result xs
+WroteSome-as a b result same written = subst (λ (items : List ListingItem). WroteSome a b result items) (sym same) written
 
 -- a line was put
-pub Whole-line : {a b : Written} (line : List ℕ) → Takes a b line → WroteItems a b (Line line ∷ [])
+pub Whole-line : {a b : OutState} (line : List ℕ) → SinkTakes a b line → WroteItems a b (Line line ∷ [])
 Whole-line line p = record { takes = rw append-nil p; no_fault = refl }
 
-pub Stopped-line : {a b : Written} (line : List ℕ) → TakesFront a b line → TakesFront a b (lines_of (Line line ∷ []))
-Stopped-line line p = rw append-nil p
+pub WroteUntilStop-line : {a b : OutState} (line : List ℕ) → SinkTakesPrefix a b line → SinkTakesPrefix a b (lines_of (Line line ∷ []))
+WroteUntilStop-line line p = rw append-nil p
 
 -- nothing was written of some items
-pub Front-none : (a : Written) (all : List ListingItem) → Front a a all
-Front-none a all = record { front = []; rest = all; split = refl; takes = Takes-nothing a; no_fault = refl }
+pub WrotePrefix-none : (a : OutState) (all : List ListingItem) → WrotePrefix a a all
+WrotePrefix-none a all = record { front = []; rest = all; split = refl; takes = SinkTakes-nothing a; no_fault = refl }
 
 -- a refusal stands in the place of all items
-pub Ends-first : (a : Written) (refusal : Refusal) (all : List ListingItem) → ((IsBudget refusal → ⊥) → all ≡ FaultItem refusal ∷ []) → EndsRefused a a refusal all
-unfolding Front-none
-Ends-first a refusal all is = record { front = Front-none a all; next = λ other. record { behind = []; is_next = is other } }
+pub Ends-first : (a : OutState) (refusal : Refusal) (all : List ListingItem) → ((IsBudgetRefusal refusal → ⊥) → all ≡ FaultItem refusal ∷ []) → WroteUntilRefusal a a refusal all
+unfolding WrotePrefix-none
+Ends-first a refusal all is = record { front = WrotePrefix-none a all; next = λ other. record { behind = []; is_next = is other } }
 
 -- a fault of a read before anything was written
-pub Stopped-first : (a : Written) (fault : Fault) (all : List ListingItem) → ((refusal : Refusal) → fault ≡ Refused refusal → (IsBudget refusal → ⊥) → all ≡ FaultItem refusal ∷ []) → Stopped a a (stop_of fault) all
-Stopped-first a (Refused refusal) all is = Ends-first a refusal all (is refusal refl)
-Stopped-first a (Source fault at) all is = Front-none a all
+pub WroteUntilStop-first : (a : OutState) (fault : Fault) (all : List ListingItem) → ((refusal : Refusal) → fault ≡ Refused refusal → (IsBudgetRefusal refusal → ⊥) → all ≡ FaultItem refusal ∷ []) → WroteUntilStop a a (stop_of fault) all
+WroteUntilStop-first a (Refused refusal) all is = Ends-first a refusal all (is refusal refl)
+WroteUntilStop-first a (Source fault at) all is = WrotePrefix-none a all
 
 -- a fault of a read before anything was written, and nothing is known of the file
-pub Stopped-unread-first : (a : Written) (fault : Fault) (all : List ListingItem) → IsOfRead fault → Stopped a a (stop_of fault) all
-Stopped-unread-first a (Refused refusal) all read = Ends-first a refusal all (λ other. absurd (other read))
-Stopped-unread-first a (Source fault at) all read = Front-none a all
+pub WroteUntilStop-unread-first : (a : OutState) (fault : Fault) (all : List ListingItem) → IsOfRead fault → WroteUntilStop a a (stop_of fault) all
+WroteUntilStop-unread-first a (Refused refusal) all read = Ends-first a refusal all (λ other. absurd (other read))
+WroteUntilStop-unread-first a (Source fault at) all read = WrotePrefix-none a all
 
 -- the row of a name is its line where it is shown, else nothing
-pub chosen-shown : (choice : RowChoice) (front : LineFront) (at : ℕ) (end : NameEnd) (name : List ℕ) (answer : Result Shown Cause) → NameRead at (Ok end) name answer
+pub chosen-shown : (choice : RowFilter) (front : LinePrefix) (at : ℕ) (end : NameEnd) (name : List ℕ) (answer : Result DisplayedName Cause) → NameRead at (Ok end) name answer
     → chooses choice (shown_by end name) NoSuffix ≡ true → chosen_row choice front at answer ≡ named_row front at answer
 chosen-shown choice front at NameWhole name answer read is = rw read (rw is refl)
 chosen-shown choice front at NameCut name answer read is = rw read (rw is refl)
 
-pub chosen-hidden : (choice : RowChoice) (front : LineFront) (at : ℕ) (end : NameEnd) (name : List ℕ) (answer : Result Shown Cause) → NameRead at (Ok end) name answer
+pub chosen-hidden : (choice : RowFilter) (front : LinePrefix) (at : ℕ) (end : NameEnd) (name : List ℕ) (answer : Result DisplayedName Cause) → NameRead at (Ok end) name answer
     → chooses choice (shown_by end name) NoSuffix ≡ false → chosen_row choice front at answer ≡ []
 chosen-hidden choice front at NameWhole name answer read is = rw read (rw is refl)
 chosen-hidden choice front at NameCut name answer read is = rw read (rw is refl)
 
 -- what was answered of a name, in a style that is the same
-pub chosen-as : (style now : Shape) (name : Shown) (behind : Suffix) (answer b : Bool) → now ≡ style → answer ≡ chooses (choice_of now.choice) name behind → answer ≡ b
+pub chosen-as : (style now : Shape) (name : DisplayedName) (behind : Suffix) (answer b : Bool) → now ≡ style → answer ≡ chooses (choice_of now.choice) name behind → answer ≡ b
     → chooses (choice_of style.choice) name behind ≡ b
 chosen-as style now name behind answer b same is shows = rw (← same) (sym is ∙ shows)
 
 -- a name that could not be read for a row
-pub Stopped-chosen : (a : Written) (choice : RowChoice) (front : LineFront) (at : ℕ) (fault : Fault) (name : List ℕ) (answer : Result Shown Cause) → NameRead at (Err fault) name answer
-    → Stopped a a (stop_of fault) (chosen_row choice front at answer)
-Stopped-chosen a choice front at (Refused refusal) name answer read =
+pub WroteUntilStop-chosen : (a : OutState) (choice : RowFilter) (front : LinePrefix) (at : ℕ) (fault : Fault) (name : List ℕ) (answer : Result DisplayedName Cause) → NameRead at (Err fault) name answer
+    → WroteUntilStop a a (stop_of fault) (chosen_row choice front at answer)
+WroteUntilStop-chosen a choice front at (Refused refusal) name answer read =
     Ends-first a refusal (chosen_row choice front at answer) (λ other.
     let is = read other in
     ap (chosen_row choice front at) is.1 ∙ ap (λ (place : ℕ). FaultItem (record { at = place; cause = refusal.cause }) ∷ []) (sym is.0))
-Stopped-chosen a choice front at (Source fault offset) name answer read = Front-none a (chosen_row choice front at answer)
+WroteUntilStop-chosen a choice front at (Source fault offset) name answer read = WrotePrefix-none a (chosen_row choice front at answer)
 
 -- a name that could not be read
-pub Stopped-name : (a : Written) (front : LineFront) (at : ℕ) (fault : Fault) (name : List ℕ) (answer : Result Shown Cause) → NameRead at (Err fault) name answer
-    → Stopped a a (stop_of fault) (named_row front at answer)
-Stopped-name a front at (Refused refusal) name answer read =
+pub WroteUntilStop-name : (a : OutState) (front : LinePrefix) (at : ℕ) (fault : Fault) (name : List ℕ) (answer : Result DisplayedName Cause) → NameRead at (Err fault) name answer
+    → WroteUntilStop a a (stop_of fault) (named_row front at answer)
+WroteUntilStop-name a front at (Refused refusal) name answer read =
     Ends-first a refusal (named_row front at answer) (λ other.
     let is = read other in
     ap (named_row front at) is.1 ∙ ap (λ (place : ℕ). FaultItem (record { at = place; cause = refusal.cause }) ∷ []) (sym is.0))
-Stopped-name a front at (Source fault offset) name answer read = Front-none a (named_row front at answer)
+WroteUntilStop-name a front at (Source fault offset) name answer read = WrotePrefix-none a (named_row front at answer)
 
 -- a program header's line at its place
 pub segment_is : (file line : List ℕ) (style : Style) (at index : ℕ) → line ≡ segment_line style.format style.gnu file at index → at ≡ e_phoff file + index * 56
@@ -101,24 +101,24 @@ segment_is file line style at index same here =
     sym (ap (λ text. Line text ∷ []) same ∙ ap (λ p. Line (segment_line style.format style.gnu file p index) ∷ []) place)
 
 -- a symbol's row at its place
-pub symbol_is : (file : List ℕ) (style : Style) (section index at : ℕ) (front : LineFront) (table : List ℕ) (off : ℕ) → front ≡ symbol_front style.format style.gnu (e_machine file) file at section index
+pub symbol_is : (file : List ℕ) (style : Style) (section index at : ℕ) (front : LinePrefix) (table : List ℕ) (off : ℕ) → front ≡ symbol_prefix style.format style.gnu (e_machine file) file at section index
     → table ≡ strings_of file (section_at file section) → off ≡ st_name file at → at ≡ sh_offset file (section_at file section) + index * 24
     → symbol_row file style section (section_at file section) index ≡ chosen_row style.choice front at (shown table off style.cap)
 unfolding symbol_row
 symbol_is file style section index at front table off same_front same_table same_name here =
     let place : at ≡ entry_at file (section_at file section) 24 index = omega arith in
     sym (ap (λ text. chosen_row style.choice text at (shown table off style.cap)) same_front
-    ∙ (ap (λ names. chosen_row style.choice (symbol_front style.format style.gnu (e_machine file) file at section index) at (shown names off style.cap)) same_table
-    ∙ (ap (λ name. chosen_row style.choice (symbol_front style.format style.gnu (e_machine file) file at section index) at (shown (strings_of file (section_at file section)) name style.cap)) same_name
-    ∙ ap (λ p. chosen_row style.choice (symbol_front style.format style.gnu (e_machine file) file p section index) p (shown (strings_of file (section_at file section)) (st_name file p) style.cap)) place)))
+    ∙ (ap (λ names. chosen_row style.choice (symbol_prefix style.format style.gnu (e_machine file) file at section index) at (shown names off style.cap)) same_table
+    ∙ (ap (λ name. chosen_row style.choice (symbol_prefix style.format style.gnu (e_machine file) file at section index) at (shown (strings_of file (section_at file section)) name style.cap)) same_name
+    ∙ ap (λ p. chosen_row style.choice (symbol_prefix style.format style.gnu (e_machine file) file p section index) p (shown (strings_of file (section_at file section)) (st_name file p) style.cap)) place)))
 
 -- a relocation entry's row at its place
-pub relocation_is : (file : List ℕ) (front : LineFront) (style : Style) (section at entry symbol index : ℕ) → entry ≡ sh_offset file at + index * 24
-    → front ≡ relocation_front style.format style.gnu (e_machine file) file entry section → symbol ≡ r_sym file entry
+pub relocation_is : (file : List ℕ) (front : LinePrefix) (style : Style) (section at entry symbol index : ℕ) → entry ≡ sh_offset file at + index * 24
+    → front ≡ relocation_prefix style.format style.gnu (e_machine file) file entry section → symbol ≡ r_sym file entry
     → relocation_row file style section at index ≡ chosen_row style.choice front (symbol_named file style.cap at entry symbol).0 (symbol_named file style.cap at entry symbol).1
 unfolding relocation_row
 relocation_is file front style section at entry symbol index here same names =
     let place : entry ≡ entry_at file at 24 index = omega arith in
-    let row : LineFront → ℕ → ℕ → List ListingItem = λ text e k. chosen_row style.choice text (symbol_named file style.cap at e k).0 (symbol_named file style.cap at e k).1 in
-    sym (ap (λ text. row text entry symbol) same ∙ (ap (λ k. row (relocation_front style.format style.gnu (e_machine file) file entry section) entry k) names
-    ∙ ap (λ e. row (relocation_front style.format style.gnu (e_machine file) file e section) e (r_sym file e)) place))
+    let row : LinePrefix → ℕ → ℕ → List ListingItem = λ text e k. chosen_row style.choice text (symbol_named file style.cap at e k).0 (symbol_named file style.cap at e k).1 in
+    sym (ap (λ text. row text entry symbol) same ∙ (ap (λ k. row (relocation_prefix style.format style.gnu (e_machine file) file entry section) entry k) names
+    ∙ ap (λ e. row (relocation_prefix style.format style.gnu (e_machine file) file e section) e (r_sym file e)) place))

@@ -4,13 +4,13 @@ use Rattle.std.proofs.Common.{◌≡◌, ℕ, ◌+◌, ◌-◌, ◌*◌, ◌/◌
 use Rattle.std.proofs.lemmas.Bool.{cases_Bool, eqb-true}
 use Rattle.std.specs.Prelude.{is_none}
 use Rattle.elf_model.specs.Checks.{Check, first_refusal, pass, refuse, is_outside, header_checks, early_checks, section_name_checks, range_checks_of, table_checks_of, whole_checks_of}
-use Rattle.elf_model.specs.Cost.{sum_over, cost_where, table_cost, kinds_cost, is_loadable, sections_cost, segments_cost, tables_cost, behind_header, listing_cost, ceiling, style_ceiling, suffixes_most}
+use Rattle.elf_model.specs.Cost.{sum_over, cost_where, table_cost, kinds_cost, is_loadable, sections_cost, segments_cost, tables_cost, after_header, listing_cost, ceiling, style_ceiling, suffixes_most}
 use Rattle.elf_model.specs.Listing.{has, has_tables, known_parts, SECTIONS, SEGMENTS, NOTES, DYNAMIC}
 use Rattle.elf_model.specs.CostLaws.{kind_by_kind}
 use Rattle.elf_model.specs.Names.{name_bytes}
 use Rattle.elf_model.specs.HeaderTables.{HeaderTable, TableKind, file_segments, held_headers}
 use Rattle.elf_model.specs.VersionRows.{version_definitions, version_needs, symbol_versions}
-use Rattle.elf_model.specs.TableKinds.{symbols, relocations, suffixed_symbols, suffixed_relocations, section_notes, section_dynamic, segment_notes, segment_dynamic, section_kinds, segment_kinds}
+use Rattle.elf_model.specs.TableKinds.{symbols, relocations, suffixed_symbols, relocations_with_versions, section_notes, section_dynamic, segment_notes, segment_dynamic, section_kinds, segment_kinds}
 use Rattle.elf_model.specs.Numbers.{PT_DYNAMIC}
 use Rattle.elf_model.specs.Records.{e_shnum, e_phnum, sh_offset, sh_size, p_type, p_offset, p_filesz, section_at, segment_at}
 use Rattle.elf_model.specs.declared.causes.Cause.TheVariants.{SizeNotWhole, TableOutside}
@@ -20,15 +20,15 @@ use Rattle.elf_model.proofs.SumLemmas.{cost_where-le, cost_where-within, sum_ove
 use Rattle.elf_model.proofs.StoreLemmas.{rows_cost, segments_cost_rows, by_kind, any_rows, any_segments, sections_counted, places_decide_nothing}
 use Rattle.elf_record.specs.Ehdr.{IsEhdr}
 use Rattle.elf_record.specs.declared.ehdr.Ehdr.{Ehdr}
-use Rattle.elf_headers.specs.Load.{Opened, Belongs, IsOpened, early_of, load_cost}
+use Rattle.elf_headers.specs.Load.{LoadedFile, HoldsSectionHeaders, IsOpened, early_of, load_cost}
 use Rattle.elf_table.specs.Sections.{byte_rows, rows, table_of, checked}
 use Rattle.elf_table.proofs.RelocationLaws.{passed_first}
-use Rattle.elf_headers.specs.Store.{Stored, HoldsSegments, row, segment_bytes}
-use Rattle.elf_table.specs.Tables.{Rows, Strings}
+use Rattle.elf_headers.specs.Store.{StoreState, HoldsSegments, row, segment_bytes}
+use Rattle.elf_table.specs.Tables.{Rows, StringTableRange}
 use Rattle.elf_table.specs.Views.{dynamic_of}
 use Rattle.elf_headers.specs.declared.fault.Fault.{Fault}
 use Rattle.elf_listing.specs.Parts.{asked_cost, name_cost, segments_listed, store_sections, store_segments, tables_listed}
-use Rattle.elf_listing.specs.Viewed.{needs_view, viewed_headers, view_cost}
+use Rattle.elf_listing.specs.Viewed.{needs_segment_view, viewed_headers, view_cost}
 use Rattle.elf_listing.specs.declared.parts.Part.TheVariants.{Headers, SectionNotes, SegmentNotes, SectionDynamic, SegmentDynamic}
 use Rattle.elf_listing.proofs.FileShown.{viewed_none}
 use Rattle.elf_headers.proofs.LoadLaws.{early_is}
@@ -38,12 +38,12 @@ pub sum_of_equal : (amount count : ℕ) → sum_over (λ i. amount) 0 count ≤ 
 sum_of_equal amount count = sum_over-le (λ i. amount) amount 0 count (λ i. omega arith)
 
 -- a section's name, which costs nothing where no string table is told
-name_where : (names : Option Strings) (none : Bool) (cap : ℕ) → (none ≡ true → names ≡ None) → name_cost names cap ≤ cost_where (not none) (name_bytes cap)
+name_where : (names : Option StringTableRange) (none : Bool) (cap : ℕ) → (none ≡ true → names ≡ None) → name_cost names cap ≤ cost_where (not none) (name_bytes cap)
 name_where names true cap is = rw (is refl) (omega arith)
 name_where None false cap is = omega arith
 name_where (Some strings) false cap is = omega arith
 
-pub name_within : (names : Option Strings) (index cap : ℕ) → (index ≡ 0 → names ≡ None) → name_cost names cap ≤ cost_where (not (index == 0)) (name_bytes cap)
+pub name_within : (names : Option StringTableRange) (index cap : ℕ) → (index ≡ 0 → names ≡ None) → name_cost names cap ≤ cost_where (not (index == 0)) (name_bytes cap)
 name_within names index cap is = name_where names (index == 0) cap (λ e. is (eqb-true index 0 e))
 
 -- what a table asks for that was answered, behind checks or empty, is within what is counted by its header
@@ -63,7 +63,7 @@ within_kind kind headers i size cap n amount checks none some table has same zer
     by_cases false zero h = let p = passed_first (first_refusal checks) some table h in rw (same p.0, ap (λ (r : Rows). amount r.count) (sym p.1)) (omega arith)
 
 -- the entries of a section, each of which asks for so many bytes
-pub section_within : (kind : TableKind) (store : Stored) (i size place cap entry each : ℕ) (table : Rows) → kind.has_table (row store i) 0 ≡ true
+pub section_within : (kind : TableKind) (store : StoreState) (i size place cap entry each : ℕ) (table : Rows) → kind.has_table (row store i) 0 ≡ true
     → kind.checks.own (row store i) 0 size ≡ table_checks_of (row store i) 0 size 0 entry
     → sh_size (row store i) 0 / entry * each ≡ kind.asks (store_sections store) i size cap
     → Ok table ≡ table_of (row store i) 0 size place entry → table.count * each ≤ table_cost kind (store_sections store) i size cap
@@ -91,7 +91,7 @@ range_within kind headers i size offset n place cap amount table has own zero mo
     (λ none. ap pass own ∙ whole_by_cases false (is_outside size offset n) place (headers.at i) none) (λ _. zero) most (sym h)
 
 -- the dynamic entries of a segment
-pub segment_within : (store : Stored) (i size place cap : ℕ) (table : Rows) → (p_type (segment_bytes store i) 0 == PT_DYNAMIC) ≡ true
+pub segment_within : (store : StoreState) (i size place cap : ℕ) (table : Rows) → (p_type (segment_bytes store i) 0 == PT_DYNAMIC) ≡ true
     → Ok table ≡ dynamic_of (segment_bytes store i) 0 size place
     → table.count * (32 + name_bytes cap) ≤ table_cost segment_dynamic (store_segments store) i size cap
 unfolding segment_dynamic
@@ -110,18 +110,18 @@ segment_within store i size place cap table kind h =
     unless_by_cases false checks all = refl
 
 -- what the tables ask for that the headers in the store describe
-abbrev pub sections_sum : Bool → Opened → Stored → ℕ → ℕ → ℕ
+abbrev pub sections_sum : Bool → LoadedFile → StoreState → ℕ → ℕ → ℕ
 sections_sum versions loaded store most parts =
     sum_over (λ i. kinds_cost (section_kinds versions) (store_sections store) i loaded.size most parts) 0 store.loaded
 
-abbrev pub segments_sum : Opened → Stored → ℕ → ℕ → ℕ
+abbrev pub segments_sum : LoadedFile → StoreState → ℕ → ℕ → ℕ
 segments_sum loaded store most parts = sum_over (λ i. kinds_cost segment_kinds (store_segments store) i loaded.size most parts) 0 store.segments
 
 -- the names of so many sections, where the parts have them, and the program headers, once, where any part wants them
-abbrev pub names_asked : Opened → ℕ → ℕ → ℕ → ℕ
+abbrev pub names_asked : LoadedFile → ℕ → ℕ → ℕ → ℕ
 names_asked loaded count most parts = cost_where (has parts SECTIONS && not (loaded.header.e_shstrndx == 0)) (count * name_bytes most)
 
-abbrev pub segments_asked : Opened → ℕ → ℕ
+abbrev pub segments_asked : LoadedFile → ℕ → ℕ
 segments_asked loaded parts =
     cost_where (has parts SEGMENTS || (loaded.header.e_shnum == 0 && (has parts NOTES || has parts DYNAMIC))) (56 * loaded.header.e_phnum)
 
@@ -146,10 +146,10 @@ unfolding sum_over
 sum_of_none amount count none = rw none refl
 
 -- what is listed asks for the names, the program headers, and the tables of all kinds
-listed_parts : (versions : Bool) (loaded : Opened) (store : Stored) (most parts : ℕ)
+listed_parts : (versions : Bool) (loaded : LoadedFile) (store : StoreState) (most parts : ℕ)
     → view_cost parts loaded + tables_listed parts loaded store most versions
     ≤ names_asked loaded store.loaded most parts + segments_asked loaded parts + sections_sum versions loaded store most parts + segments_sum loaded store most parts
-unfolding kind_by_kind symbols relocations suffixed_symbols suffixed_relocations section_notes section_dynamic version_definitions version_needs symbol_versions segment_notes segment_dynamic
+unfolding kind_by_kind symbols relocations suffixed_symbols relocations_with_versions section_notes section_dynamic version_definitions version_needs symbol_versions segment_notes segment_dynamic
 listed_parts true loaded store most parts =
     let names = names_listed (has parts SECTIONS) (not (loaded.header.e_shstrndx == 0)) (name_bytes most) store.loaded in
     let once = segments_once (loaded.header.e_shnum == 0) (has parts SEGMENTS) (has parts NOTES) (has parts DYNAMIC) (56 * loaded.header.e_phnum) in
@@ -164,18 +164,18 @@ listed_parts false loaded store most parts =
     omega (arith, names, once, sections, segments)
 
 -- all program headers are in the store, or none
-viewed_is : (parts : ℕ) (loaded : Opened) → (viewed_headers parts loaded ≡ 0) ⊎ (viewed_headers parts loaded ≡ loaded.header.e_phnum)
-viewed_is parts loaded = by_cases (needs_view parts loaded)
+viewed_is : (parts : ℕ) (loaded : LoadedFile) → (viewed_headers parts loaded ≡ 0) ⊎ (viewed_headers parts loaded ≡ loaded.header.e_phnum)
+viewed_is parts loaded = by_cases (needs_segment_view parts loaded)
   where
     by_cases : (needs : Bool) → ((if needs then loaded.header.e_phnum else 0) ≡ 0) ⊎ ((if needs then loaded.header.e_phnum else 0) ≡ loaded.header.e_phnum)
     by_cases true = inr refl
     by_cases false = inl refl
 
-pub viewed_all : (parts : ℕ) (loaded : Opened) (store : Stored) → store.segments ≡ viewed_headers parts loaded → 0 < store.segments → store.segments ≡ loaded.header.e_phnum
+pub viewed_all : (parts : ℕ) (loaded : LoadedFile) (store : StoreState) → store.segments ≡ viewed_headers parts loaded → 0 < store.segments → store.segments ≡ loaded.header.e_phnum
 viewed_all parts loaded store view some = elim (viewed_is parts loaded) [ inl none ↦ absurd (omega arith) | inr all ↦ view ∙ all ]
 
 -- the tables of the headers in the store are those of the file
-module _ (file : List ℕ) (loaded : Opened) (store : Stored) (style : Style) (parts : ℕ) (belongs : Belongs file loaded store) (held : HoldsSegments file store)
+module _ (file : List ℕ) (loaded : LoadedFile) (store : StoreState) (style : Style) (parts : ℕ) (belongs : HoldsSectionHeaders file loaded store) (held : HoldsSegments file store)
     (view : store.segments ≡ viewed_headers parts loaded) where
   few_segments : segments_sum loaded store style.cap parts ≤ sum_over (λ i. kinds_cost segment_kinds (file_segments file) i (length file) style.cap parts) 0 (e_phnum file)
   few_segments = elim (viewed_is parts loaded) [
@@ -220,7 +220,7 @@ ceiling_below size headers style = by_cases style.versions
     by_cases false = omega arith
 
 -- the section headers with their names, and the program headers
-headers_within : (file : List ℕ) (loaded : Opened) (most parts : ℕ) → IsEhdr file 0 loaded.header
+headers_within : (file : List ℕ) (loaded : LoadedFile) (most parts : ℕ) → IsEhdr file 0 loaded.header
     → 64 * loaded.header.e_shnum + names_asked loaded loaded.header.e_shnum most parts + segments_asked loaded parts ≤ sections_cost file most parts + segments_cost file parts
 unfolding sections_cost segments_cost
 headers_within file loaded most parts is = rw (is.e_shnum, is.e_phnum, is.e_shstrndx) (omega arith)
@@ -232,7 +232,7 @@ loadable file headers passed early = ap is_none (first_refusal-none (header_chec
 
 -- a load asks for the section headers where the checks before them pass, and for nothing else
 pub load_within : (file : List ℕ) (header : Ehdr) (size slots : ℕ) (style : Style) (parts : ℕ) → IsEhdr file 0 header → size ≡ length file → first_refusal (header_checks file) ≡ None → has_tables parts ≡ true
-    → load_cost header size slots ≤ behind_header file slots style parts
+    → load_cost header size slots ≤ after_header file slots style parts
 load_within file header size slots style parts is same passed tables =
     cost_where-within (pass (early_of header size slots)) (64 * header.e_shnum) _ (λ early.
     let headers = headers_within file (record { size = size; header = header }) style.cap parts is in
@@ -242,13 +242,13 @@ pub load_below : (header : Ehdr) (size slots : ℕ) (style : Style) → 64 + loa
 load_below header size slots style = let few : load_cost header size slots ≤ 64 * slots = grind arith in omega (arith, few, slots_below size slots style)
 
 -- a file that was loaded is listed within its cost, and its headers alone are read within it
-module _ (file : List ℕ) (loaded : Opened) (store : Stored) (slots : ℕ) (style : Style) (parts : ℕ) (belongs : Belongs file loaded store)
+module _ (file : List ℕ) (loaded : LoadedFile) (store : StoreState) (slots : ℕ) (style : Style) (parts : ℕ) (belongs : HoldsSectionHeaders file loaded store)
     (same : store.slots ≡ slots) where
   loads : first_refusal (header_checks file) ≡ None → is_loadable file slots ≡ true
   loads passed = rw (← same) (loadable file store.slots passed (ap is_none (passes_front (early_checks file store.slots) (section_name_checks file) belongs.passes)))
 
   pub loaded_within : HoldsSegments file store → store.segments ≡ viewed_headers parts loaded → first_refusal (header_checks file) ≡ None → has_tables parts ≡ true
-      → 64 * loaded.header.e_shnum + (view_cost parts loaded + tables_listed parts loaded store style.cap style.versions) ≤ behind_header file slots style parts
+      → 64 * loaded.header.e_shnum + (view_cost parts loaded + tables_listed parts loaded store style.cap style.versions) ≤ after_header file slots style parts
   loaded_within held view passed tables =
       let within = tables_within file loaded store style parts belongs held view in
       let headers = headers_within file loaded style.cap parts belongs.header in
@@ -256,14 +256,14 @@ module _ (file : List ℕ) (loaded : Opened) (store : Stored) (slots : ℕ) (sty
       let names = ap (λ n. names_asked loaded n style.cap parts) belongs.count in
       rw (tables, loads passed) (omega (arith, within, headers, listed, names))
 
-  pub view_within : first_refusal (header_checks file) ≡ None → has_tables parts ≡ true → 64 * loaded.header.e_shnum + view_cost parts loaded ≤ behind_header file slots style parts
+  pub view_within : first_refusal (header_checks file) ≡ None → has_tables parts ≡ true → 64 * loaded.header.e_shnum + view_cost parts loaded ≤ after_header file slots style parts
   view_within passed tables =
       let once = segments_once (loaded.header.e_shnum == 0) (has parts SEGMENTS) (has parts NOTES) (has parts DYNAMIC) (56 * loaded.header.e_phnum) in
       let headers = headers_within file loaded style.cap parts belongs.header in
       rw (tables, loads passed) (omega (arith, once, headers))
 
 -- and within the ceiling, whatever the source is
-pub loaded_below : (loaded : Opened) (store : Stored) (size slots : ℕ) (style : Style) (parts : ℕ) → loaded.size ≡ size → store.slots ≡ slots → store.loaded ≡ loaded.header.e_shnum
+pub loaded_below : (loaded : LoadedFile) (store : StoreState) (size slots : ℕ) (style : Style) (parts : ℕ) → loaded.size ≡ size → store.slots ≡ slots → store.loaded ≡ loaded.header.e_shnum
     → loaded.header.e_shnum ≤ slots → loaded.header.e_phnum ≤ slots → store.segments ≡ viewed_headers parts loaded
     → 64 + (64 * loaded.header.e_shnum + (view_cost parts loaded + tables_listed parts loaded store style.cap style.versions)) ≤ style_ceiling size slots style
 loaded_below loaded store size slots style parts same slotted count few some view =
@@ -275,7 +275,7 @@ loaded_below loaded store size slots style parts same slotted count few some vie
           let zero : store.loaded ≡ 0 = count ∙ eqb-true loaded.header.e_shnum 0 none in
           let tables = sum_of_none (λ i. kinds_cost (section_kinds style.versions) (store_sections store) i loaded.size style.cap parts) store.loaded zero in
           let unnamed : store.loaded * name_bytes style.cap ≡ 0 = rw zero (omega arith) in
-          let within = cost_where-le (needs_view parts loaded) loaded.header.e_phnum in
+          let within = cost_where-le (needs_segment_view parts loaded) loaded.header.e_phnum in
           let more = sums_grow (λ i. kinds_cost segment_kinds (store_segments store) i loaded.size style.cap parts) 0 store.segments loaded.header.e_phnum (omega (arith, within, view)) in
           let all = any_segments (store_segments store) loaded.size slots style.cap parts loaded.header.e_phnum some in
           omega (arith, zero, count, tables, names, unnamed, listed, asked, more, all, ceiling_below loaded.size slots style)
@@ -285,10 +285,10 @@ loaded_below loaded store size slots style parts same slotted count few some vie
           omega (arith, zero, count, names, listed, asked, all)
     ])
 
-pub view_below : (loaded : Opened) (size slots : ℕ) (style : Style) (parts : ℕ) → loaded.header.e_shnum ≤ slots → loaded.header.e_phnum ≤ slots
+pub view_below : (loaded : LoadedFile) (size slots : ℕ) (style : Style) (parts : ℕ) → loaded.header.e_shnum ≤ slots → loaded.header.e_phnum ≤ slots
     → 64 + (64 * loaded.header.e_shnum + view_cost parts loaded) ≤ style_ceiling size slots style
 view_below loaded size slots style parts few some =
-    let store : Stored = record { slots = slots; loaded = loaded.header.e_shnum; rows = []; segments = viewed_headers parts loaded; segment_rows = [] } in
+    let store : StoreState = record { slots = slots; loaded = loaded.header.e_shnum; rows = []; segments = viewed_headers parts loaded; segment_rows = [] } in
     let below = loaded_below (record { size = size; header = loaded.header }) store size slots style parts refl refl refl few some refl in
     omega (arith, below)
 
@@ -304,11 +304,11 @@ pub rest_pays : {n k : ℕ} → 64 + n ≤ k → n ≤ k - 64
 rest_pays within = omega arith
 
 -- a load leaves no more headers than slots
-pub few_headers : (loaded : Opened) (header : Ehdr) (size : ℕ) (store : Stored) {slots : ℕ} → IsOpened loaded size header store → store.slots ≡ slots
+pub few_headers : (loaded : LoadedFile) (header : Ehdr) (size : ℕ) (store : StoreState) {slots : ℕ} → IsOpened loaded size header store → store.slots ≡ slots
     → (loaded.header.e_shnum ≤ slots) × (loaded.header.e_phnum ≤ slots)
 few_headers loaded header size store opened same = rw (opened.same_header, ← same) (opened.passes.few, opened.passes.few_segments)
 
 pub cost_is : (file : List ℕ) (headers : ℕ) (style : Style) (parts : ℕ)
-    → listing_cost file headers style parts ≡ 64 + behind_header (view_of style file) headers style (known_parts style parts)
+    → listing_cost file headers style parts ≡ 64 + after_header (view_of style file) headers style (known_parts style parts)
 unfolding listing_cost
 cost_is file headers style parts = refl

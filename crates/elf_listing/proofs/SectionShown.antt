@@ -1,11 +1,11 @@
 -- The items of one header, by what the store and the checks of a loaded file answer.
-use Rattle.elf_model.specs.Fields.{LineFront}
+use Rattle.elf_model.specs.Fields.{LinePrefix}
 use Rattle.elf_model.specs.Style.{Style}
 use Rattle.std.proofs.Common.{◌≡◌, ℕ, ◌+◌, ◌*◌, ◌/◌, ◌<◌, ◌==◌, ◌&&◌, not, Bool, true, false, inl, inr, if◌then◌else◌, List, [], ◌∷◌, ◌++◌, length, Option, None, Some, Result, Ok, Err, refl, sym, ap, ◌∙◌, subst, arith}
 use Rattle.std.proofs.lemmas.Bool.{cases_Bool, eqb-true}
 use Rattle.elf_model.specs.Bytes.{slice}
 use Rattle.elf_model.specs.Checks.{Check, first_refusal, table_checks, strings_checks, range_checks_of, unless_empty}
-use Rattle.elf_model.specs.LineFronts.{section_front}
+use Rattle.elf_model.specs.LineFronts.{section_prefix}
 use Rattle.elf_model.specs.Listing.{ListingItem, each, guarded}
 use Rattle.elf_model.specs.Names.{shown}
 use Rattle.elf_model.specs.Numbers.{DT_STRSZ}
@@ -21,23 +21,23 @@ use Rattle.elf_model.specs.Mapped.{mapped_strings, strings_at as strings_mapped}
 use Rattle.elf_model.specs.Tables.{all_checks, strings_of, entry_count, dynamic_table_checks, segment_dynamic_checks}
 use Rattle.elf_model.specs.declared.causes.Refusal.{Refusal}
 use Rattle.elf_note.specs.DynCursors.{AreStrings}
-use Rattle.elf_note.specs.declared.string_values.DynStrings.{DynStrings}
-use Rattle.elf_source.specs.Output.{Written}
+use Rattle.elf_note.specs.declared.string_values.DynamicStrings.{DynamicStrings}
+use Rattle.elf_source.specs.Output.{OutState}
 use Rattle.elf_table.specs.Relocations.{RefusedBy}
-use Rattle.elf_table.specs.Tables.{Rows, Strings}
+use Rattle.elf_table.specs.Tables.{Rows, StringTableRange}
 use Rattle.elf_table.specs.Sections.{byte_rows, table_at, string_table_at as strings_linked, names_at, rows, section_names, checked as checked_as}
 use Rattle.elf_table.proofs.RelocationLaws.{passed_first, table-fails, table-passes}
 use Rattle.elf_table.specs.Views.{dynamic_table_at as table_of_segment}
 use Rattle.elf_headers.specs.declared.fault.Fault.{Fault}
 use Rattle.elf_headers.specs.declared.fault.Fault.TheVariants.{Refused, Source}
 use Rattle.elf_listing.specs.Parts.{shown_in}
-use Rattle.elf_listing.specs.Shows.{Stopped, WroteItems}
+use Rattle.elf_listing.specs.Shows.{WroteUntilStop, WroteItems}
 use Rattle.elf_headers.specs.Stops.{stop_of}
-use Rattle.elf_listing.proofs.RowLaws.{Stopped-first}
+use Rattle.elf_listing.proofs.RowLaws.{WroteUntilStop-first}
 use Rattle.elf_listing.proofs.ShowLaws.{Whole-none}
 
 -- a header that describes no table of a kind
-pub no_table : (kind : TableKind) (file : List ℕ) (style : Style) (index at : ℕ) (a : Written) → kind.has_table file at ≡ false → WroteItems a a (table_rows kind file style index at)
+pub no_table : (kind : TableKind) (file : List ℕ) (style : Style) (index at : ℕ) (a : OutState) → kind.has_table file at ≡ false → WroteItems a a (table_rows kind file style index at)
 unfolding table_rows
 no_table kind file style index at a none = rw (none, table_rows) (Whole-none a)
 
@@ -50,9 +50,9 @@ module _ (kind : TableKind) (file : List ℕ) (style : Style) (index at : ℕ) (
   pub table_passes : first_refusal (all_checks kind.checks file at) ≡ None → table_rows kind file style index at ≡ kind.rows file style index at
   table_passes pass = rows_are ∙ guarded-passes (all_checks kind.checks file at) _ pass
 
-  pub table_fails : (a : Written) (fault : Fault) → RefusedBy (all_checks kind.checks file at) fault → Stopped a a (stop_of fault) (table_rows kind file style index at)
+  pub table_fails : (a : OutState) (fault : Fault) → RefusedBy (all_checks kind.checks file at) fault → WroteUntilStop a a (stop_of fault) (table_rows kind file style index at)
   table_fails a fault by =
-      Stopped-first a fault _ (λ refusal is other.
+      WroteUntilStop-first a fault _ (λ refusal is other.
       rows_are ∙ guarded-fault (all_checks kind.checks file at) _ refusal (subst (RefusedBy (all_checks kind.checks file at)) is by))
 
 -- a table that may be empty is refused as its checks are
@@ -61,7 +61,7 @@ pub empty_fails : {A : Type 0} (size : ℕ) (none some : A) (checks : List Check
 empty_fails size none some checks fault h = let p = table-fails (size == 0) none some checks fault h in rw p.0 p.1
 
 -- the name of a section, in the string table of the section names or without one
-name_by_cases : (file : List ℕ) (a b : Bool) (names : Strings) (off cap : ℕ) → a ≡ false
+name_by_cases : (file : List ℕ) (a b : Bool) (names : StringTableRange) (off cap : ℕ) → a ≡ false
     → shown_in file (elim (not a && not b) [ true ↦ Some names | false ↦ None ]) off cap ≡ (if b then no_name else shown (slice file names.at names.size) off cap)
 name_by_cases file false true names off cap h = refl
 name_by_cases file false false names off cap h = refl
@@ -71,13 +71,13 @@ some_sections : (n : ℕ) → 0 < n → (n == 0) ≡ false
 some_sections n h = grind (arith)
 
 -- the row of a section header, by its front and its name
-pub section_is : (file : List ℕ) (front : LineFront) (names : Option Strings) (off at index : ℕ) (style : Style) → names ≡ section_names file → 0 < e_shnum file → at ≡ section_at file index
-    → off ≡ sh_name file (section_at file index) → front ≡ section_front style.format style.gnu (e_machine file) file (section_at file index) index
+pub section_is : (file : List ℕ) (front : LinePrefix) (names : Option StringTableRange) (off at index : ℕ) (style : Style) → names ≡ section_names file → 0 < e_shnum file → at ≡ section_at file index
+    → off ≡ sh_name file (section_at file index) → front ≡ section_prefix style.format style.gnu (e_machine file) file (section_at file index) index
     → section_row file style index ≡ named_row front at (shown_in file names off style.cap)
 unfolding section_row section_name
 section_is file front names off at index style same some place is before =
     rw (before, place, is, same)
-    (ap (named_row (section_front style.format style.gnu (e_machine file) file (section_at file index) index) (section_at file index))
+    (ap (named_row (section_prefix style.format style.gnu (e_machine file) file (section_at file index) index) (section_at file index))
     (sym (name_by_cases file (e_shnum file == 0) (e_shstrndx file == 0) (names_at file (section_at file (e_shstrndx file))) _ style.cap (some_sections (e_shnum file) some))))
 
 -- a range that a header tells of is the file's, as a load knows the file's size and the header's place
@@ -106,7 +106,7 @@ abbrev pub entries_at : List ℕ → Style → ℕ → ℕ → (ℕ → Result (
 entries_at file style offset count strings = each (λ i. dynamic_row file style strings (dynamic_at offset i) i) 0 (dynamic_count file offset count)
 
 -- none of an empty section
-pub empty_dynamic : (file : List ℕ) (style : Style) (index : ℕ) (a : Written) (at : ℕ) → section_dynamic.has_table file at ≡ true → sh_size file at ≡ 0 → WroteItems a a (table_rows section_dynamic file style index at)
+pub empty_dynamic : (file : List ℕ) (style : Style) (index : ℕ) (a : OutState) (at : ℕ) → section_dynamic.has_table file at ≡ true → sh_size file at ≡ 0 → WroteItems a a (table_rows section_dynamic file style index at)
 unfolding section_dynamic each dynamic_count
 empty_dynamic file style index a at has empty = rw (table_passes section_dynamic file style index at has (rw empty refl)) (rw empty (Whole-none a))
 
@@ -133,7 +133,7 @@ module _ (file : List ℕ) (at : ℕ) where
         let names = names_at file (section_at file (sh_link file at)) in
         rw some (among (table_checks file at 16) (strings_checks file at) [] fault own.0 (table-fails false names names (strings_checks file at) fault h).1)
 
-    pub dynamic_passes : (names : Strings) → strings_linked file at ≡ Ok names
+    pub dynamic_passes : (names : StringTableRange) → strings_linked file at ≡ Ok names
         → (first_refusal (dynamic_table_checks file at) ≡ None)
         × ((style : Style) → entries_at file style (sh_offset file at) (entry_count file at 16) (λ entry. Ok (strings_of file at)) ≡ entries_at file style table.at table.count (λ entry. Ok (slice file names.at names.size)))
     dynamic_passes names h =
@@ -141,7 +141,7 @@ module _ (file : List ℕ) (at : ℕ) where
         (rw some (first_refusal-none (table_checks file at 16) (strings_checks file at) own.0 ∙ linked.0), λ style. rw (← own.1, ← linked.1) refl)
 
 -- the dynamic entries of a segment: their strings are where the entries tell
-strings_found : (file : List ℕ) (table : Rows) (found : DynStrings) → AreStrings file table found
+strings_found : (file : List ℕ) (table : Rows) (found : DynamicStrings) → AreStrings file table found
     → mapped_strings file table.at (dynamic_count file table.at table.count) ≡ (λ entry. strings_mapped file entry found.address found.size)
 unfolding mapped_strings
 strings_found file table found are =
@@ -151,7 +151,7 @@ strings_found file table found are =
 pub whole_fails : (file : List ℕ) (at : ℕ) (fault : Fault) → table_of_segment file at ≡ Err fault → RefusedBy (segment_dynamic_checks file at) fault
 whole_fails file at fault h = let all = rows (p_offset file at) (p_filesz file at / 16) 16 in (table-fails false all all (segment_dynamic_checks file at) fault h).1
 
-pub segment_passes : (file : List ℕ) (style : Style) (at : ℕ) (table : Rows) (found : DynStrings) → table_of_segment file at ≡ Ok table → AreStrings file table found
+pub segment_passes : (file : List ℕ) (style : Style) (at : ℕ) (table : Rows) (found : DynamicStrings) → table_of_segment file at ≡ Ok table → AreStrings file table found
     → (first_refusal (segment_dynamic_checks file at) ≡ None)
     × (entries_at file style (p_offset file at) (p_filesz file at / 16) (mapped_strings file (p_offset file at) (dynamic_count file (p_offset file at) (p_filesz file at / 16)))
     ≡ entries_at file style table.at table.count (λ entry. strings_mapped file entry found.address found.size))

@@ -5,13 +5,13 @@ use Rattle.elf_model.specs.Lines.{segment_line}
 use Rattle.elf_model.specs.Listing.{Line}
 use Rattle.elf_model.specs.Records.{segment_at}
 use Rattle.elf_model.specs.Rows.{segment_row}
-use Rattle.elf_headers.specs.Load.{Opened, Belongs, Views}
-use Rattle.elf_headers.specs.Store.{Stored}
+use Rattle.elf_headers.specs.Load.{LoadedFile, HoldsSectionHeaders, HoldsProgramHeaders}
+use Rattle.elf_headers.specs.Store.{StoreState}
 use Rattle.elf_listing.specs.Viewed.{IsViewed}
 
 -- a file whose program headers are loaded is viewed
-pub views : (file : List ℕ) (loaded : Opened) (store : Stored) (known : Option (List ℕ)) → Belongs file loaded store → IsViewed known loaded store → known ≡ Some file → 0 < store.segments
-    → Views file loaded store
+pub views : (file : List ℕ) (loaded : LoadedFile) (store : StoreState) (known : Option (List ℕ)) → HoldsSectionHeaders file loaded store → IsViewed known loaded store → known ≡ Some file → 0 < store.segments
+    → HoldsProgramHeaders file loaded store
 views file loaded store known belongs viewed held some = record { belongs = belongs; count = viewed.all some; rows = viewed.held file held }
 
 -- a program header's line

@@ -2,77 +2,77 @@
 use Rattle.elf_model.specs.Style.{Style}
 use Rattle.std.proofs.Common.{◌≡◌, ℕ, Bool, true, false, List, [], ◌∷◌, Option, None, Some, Result, Ok, Err, refl, sym, ap, ◌∙◌, subst}
 use Rattle.elf_model.specs.Checks.{first_refusal}
-use Rattle.elf_model.specs.Fields.{LineFront}
-use Rattle.elf_model.specs.LineFronts.{dynamic_front}
+use Rattle.elf_model.specs.Fields.{LinePrefix}
+use Rattle.elf_model.specs.LineFronts.{dynamic_prefix}
 use Rattle.elf_model.specs.Listing.{ListingItem, Fault as FaultItem}
 use Rattle.elf_model.specs.Mapped.{mapped_checks, mapped_place, strings_at}
-use Rattle.elf_model.specs.Names.{Shown, shown}
+use Rattle.elf_model.specs.Names.{DisplayedName, shown}
 use Rattle.elf_model.specs.Records.{d_tag, d_un}
 use Rattle.elf_model.specs.Rows.{dynamic_row, is_string_tag, named_row, no_name}
 use Rattle.elf_model.specs.declared.causes.Cause.{Cause}
 use Rattle.elf_model.specs.declared.causes.Cause.TheVariants.{Unmapped}
 use Rattle.elf_model.specs.declared.causes.Refusal.{Refusal}
-use Rattle.elf_source.specs.Output.{Written}
+use Rattle.elf_source.specs.Output.{OutState}
 use Rattle.elf_table.specs.NamesRead.{NameRead}
 use Rattle.elf_table.specs.Sections.{answered}
-use Rattle.elf_table.specs.Tables.{Strings, strings_in}
+use Rattle.elf_table.specs.Tables.{StringTableRange, strings_in}
 use Rattle.elf_table.specs.Views.{strings_mapped}
 use Rattle.elf_headers.specs.declared.fault.Fault.{Fault}
 use Rattle.elf_headers.specs.declared.fault.Fault.TheVariants.{Refused}
 use Rattle.elf_table.specs.declared.names.NameEnd.{NameEnd}
-use Rattle.elf_listing.specs.Shows.{Stopped}
+use Rattle.elf_listing.specs.Shows.{WroteUntilStop}
 use Rattle.elf_headers.specs.Stops.{stop_of}
 use Rattle.elf_listing.specs.Strings.{StringsFound, ToldRead, string_told_by, string_told}
-use Rattle.elf_listing.proofs.RowLaws.{Ends-first, Stopped-name}
+use Rattle.elf_listing.proofs.RowLaws.{Ends-first, WroteUntilStop-name}
 
 -- the row of an entry by its bytes before the name, and its string
-abbrev pub told_row : LineFront → ℕ → Result (Result Shown Cause) Refusal → List ListingItem
-told_row front at (Ok answer) = named_row front at answer
-told_row front at (Err refusal) = FaultItem refusal ∷ []
+abbrev pub reported_row : LinePrefix → ℕ → Result (Result DisplayedName Cause) Refusal → List ListingItem
+reported_row front at (Ok answer) = named_row front at answer
+reported_row front at (Err refusal) = FaultItem refusal ∷ []
 
-row_by_cases : (tells : Bool) (table : Result (List ℕ) Refusal) (front : LineFront) (at : ℕ) (name : List ℕ → Result Shown Cause)
+row_by_cases : (tells : Bool) (table : Result (List ℕ) Refusal) (front : LinePrefix) (at : ℕ) (name : List ℕ → Result DisplayedName Cause)
     → (elim tells as (λ _. List ListingItem) [
       | false ↦ named_row front at no_name
       | true ↦ elim table as (λ _. List ListingItem) [ Err refusal ↦ FaultItem refusal ∷ [] | Ok strings ↦ named_row front at (name strings) ]
     ])
-    ≡ told_row front at (string_told_by tells table name)
+    ≡ reported_row front at (string_told_by tells table name)
 row_by_cases false table front at name = refl
 row_by_cases true (Ok strings) front at name = refl
 row_by_cases true (Err refusal) front at name = refl
 
 pub row_told : (file : List ℕ) (style : Style) (strings : ℕ → Result (List ℕ) Refusal) (at index : ℕ)
-    → dynamic_row file style strings at index ≡ told_row (dynamic_front style.format style.gnu file at index) at (string_told strings file style.cap at)
+    → dynamic_row file style strings at index ≡ reported_row (dynamic_prefix style.format style.gnu file at index) at (string_told strings file style.cap at)
 unfolding dynamic_row
 row_told file style strings at index =
-    row_by_cases (is_string_tag (d_tag file at)) (strings at) (dynamic_front style.format style.gnu file at index) at (λ table. shown table (d_un file at) style.cap)
+    row_by_cases (is_string_tag (d_tag file at)) (strings at) (dynamic_prefix style.format style.gnu file at index) at (λ table. shown table (d_un file at) style.cap)
 
 -- the row of an entry at its place, by its front
-pub entry_is : (file : List ℕ) (front : LineFront) (style : Style) (at index place : ℕ) (strings : ℕ → Result (List ℕ) Refusal) → front ≡ dynamic_front style.format style.gnu file at index → at ≡ place
-    → dynamic_row file style strings place index ≡ told_row front at (string_told strings file style.cap at)
+pub entry_is : (file : List ℕ) (front : LinePrefix) (style : Style) (at index place : ℕ) (strings : ℕ → Result (List ℕ) Refusal) → front ≡ dynamic_prefix style.format style.gnu file at index → at ≡ place
+    → dynamic_row file style strings place index ≡ reported_row front at (string_told strings file style.cap at)
 entry_is file front style at index place strings same here =
-    ap (λ p. dynamic_row file style strings p index) (sym here) ∙ (row_told file style strings at index ∙ ap (λ text. told_row text at (string_told strings file style.cap at)) (sym same))
+    ap (λ p. dynamic_row file style strings p index) (sym here) ∙ (row_told file style strings at index ∙ ap (λ text. reported_row text at (string_told strings file style.cap at)) (sym same))
 
 -- a string that could not be read
-pub Stopped-told : (a : Written) (front : LineFront) (at : ℕ) (fault : Fault) (name : List ℕ) (told : Result (Result Shown Cause) Refusal) → ToldRead at (Err fault) name told
-    → Stopped a a (stop_of fault) (told_row front at told)
-Stopped-told a front at fault name (Ok answer) read = Stopped-name a front at fault name answer read
-Stopped-told a front at fault name (Err refusal) read =
+pub WroteUntilStop-told : (a : OutState) (front : LinePrefix) (at : ℕ) (fault : Fault) (name : List ℕ) (told : Result (Result DisplayedName Cause) Refusal) → ToldRead at (Err fault) name told
+    → WroteUntilStop a a (stop_of fault) (reported_row front at told)
+WroteUntilStop-told a front at fault name (Ok answer) read = WroteUntilStop-name a front at fault name answer read
+WroteUntilStop-told a front at fault name (Err refusal) read =
     let is : fault ≡ Refused refusal = cc in
-    let P : Fault → Type 0 = λ f. Stopped a a (stop_of f) (FaultItem refusal ∷ []) in
+    let P : Fault → Type 0 = λ f. WroteUntilStop a a (stop_of f) (FaultItem refusal ∷ []) in
     subst P (sym is) (Ends-first a refusal (FaultItem refusal ∷ []) (λ other. refl))
 
 -- a string that was read is the one that is told
-pub told_shown : (at : ℕ) (end : NameEnd) (name : List ℕ) (told : Result (Result Shown Cause) Refusal) → ToldRead at (Ok end) name told
-    → (answer : Result Shown Cause) × (told ≡ Ok answer) × NameRead at (Ok end) name answer
+pub told_shown : (at : ℕ) (end : NameEnd) (name : List ℕ) (told : Result (Result DisplayedName Cause) Refusal) → ToldRead at (Ok end) name told
+    → (answer : Result DisplayedName Cause) × (told ≡ Ok answer) × NameRead at (Ok end) name answer
 told_shown at end name (Ok answer) read = (answer, refl, read)
 told_shown at end name (Err refusal) read = cc
 
-abbrev name_at : List ℕ → ℕ → ℕ → List ℕ → Result Shown Cause
+abbrev name_at : List ℕ → ℕ → ℕ → List ℕ → Result DisplayedName Cause
 name_at file cap at table = shown table (d_un file at) cap
 
 -- an entry that tells of no string
-pub told_none : (strings : ℕ → Result (List ℕ) Refusal) (file : List ℕ) (most at : ℕ) → is_string_tag (d_tag file at) ≡ false → string_told strings file most at ≡ Ok no_name
-told_none strings file most at none = ap (λ tells. string_told_by tells (strings at) (name_at file most at)) none
+pub reported_none : (strings : ℕ → Result (List ℕ) Refusal) (file : List ℕ) (most at : ℕ) → is_string_tag (d_tag file at) ≡ false → string_told strings file most at ≡ Ok no_name
+reported_none strings file most at none = ap (λ tells. string_told_by tells (strings at) (name_at file most at)) none
 
 -- one whose string table is refused
 pub told_refused : (strings : ℕ → Result (List ℕ) Refusal) (file name : List ℕ) (most at : ℕ) (fault : Fault) (table : Result (List ℕ) Refusal) → strings at ≡ table
@@ -81,7 +81,7 @@ told_refused strings file name most at fault (Ok table) same tells found = absur
 told_refused strings file name most at fault (Err refusal) same tells found = rw (tells, same) (ap (λ (f : Fault). Err f) found)
 
 -- one whose string was read in its table
-pub told_read : (strings : ℕ → Result (List ℕ) Refusal) (file name : List ℕ) (most at off : ℕ) (names : Strings) (result : Result NameEnd Fault) (table : Result (List ℕ) Refusal) → strings at ≡ table
+pub told_read : (strings : ℕ → Result (List ℕ) Refusal) (file name : List ℕ) (most at off : ℕ) (names : StringTableRange) (result : Result NameEnd Fault) (table : Result (List ℕ) Refusal) → strings at ≡ table
     → is_string_tag (d_tag file at) ≡ true → StringsFound file (Ok names) table → off ≡ d_un file at → NameRead at result name (shown (strings_in file names) off most)
     → ToldRead at result name (string_told strings file most at)
 told_read strings file name most at off names result (Ok table) same tells found is read =
@@ -89,7 +89,7 @@ told_read strings file name most at off names result (Ok table) same tells found
 told_read strings file name most at off names result (Err refusal) same tells found is read = absurd found
 
 -- a string table that a segment loads is the one that is told
-found_by_cases : (file : List ℕ) (first : Option Refusal) (names : Strings)
+found_by_cases : (file : List ℕ) (first : Option Refusal) (names : StringTableRange)
     → StringsFound file (answered first names) (elim first as (λ _. Result (List ℕ) Refusal) [ None ↦ Ok (strings_in file names) | Some refusal ↦ Err refusal ])
 found_by_cases file None names = refl
 found_by_cases file (Some refusal) names = refl

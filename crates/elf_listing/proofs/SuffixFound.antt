@@ -4,7 +4,7 @@ use Rattle.elf_model.specs.Checks.{first_refusal}
 use Rattle.elf_model.specs.HeaderTables.{HeaderTable}
 use Rattle.elf_model.specs.Names.{name_bytes}
 use Rattle.elf_model.specs.Records.{section_at, sh_offset}
-use Rattle.elf_model.specs.Suffixes.{first_numbers, numbers_of, or_refusal, suffixes_refusal}
+use Rattle.elf_model.specs.Suffixes.{first_numbers, version_numbers_of, or_refusal, suffixes_refusal}
 use Rattle.elf_model.specs.Tables.{all_checks, entry_count}
 use Rattle.elf_model.specs.VersionCost.{walks_cost}
 use Rattle.elf_model.specs.VersionRows.{symbol_versions}
@@ -16,7 +16,7 @@ use Rattle.elf_table.specs.Versions.{AreVersioned}
 use Rattle.elf_table.specs.Tables.{Rows}
 use Rattle.elf_listing.specs.Suffixed.{AreSuffixes, SuffixesOr, suffix_bytes, walks_asked}
 use Rattle.elf_listing.specs.SymbolVersions.{AreNumbered, NumberedOr, walks_refusal}
-use Rattle.elf_listing.specs.declared.suffixes.Suffixes.{Suffixes}
+use Rattle.elf_listing.specs.declared.suffixes.VersionLookup.{VersionLookup}
 use Rattle.elf_listing.proofs.FirstTaken.{or-none}
 
 -- a table of no symbols, and one without version numbers
@@ -33,11 +33,11 @@ module _ (file : List ℕ) (table : ℕ) where
         | Some i ↦ or_refusal (first_refusal (all_checks symbol_versions.checks file (section_at file i))) (walks_refusal file)
       ]
 
-  refusal_is : suffixes_refusal file table ≡ refusal_by (entry_count file (section_at file table) 24 == 0) (numbers_of file table)
+  refusal_is : suffixes_refusal file table ≡ refusal_by (entry_count file (section_at file table) 24 == 0) (version_numbers_of file table)
   unfolding suffixes_refusal refusal_by
   refusal_is = refl
 
-  pub unnumbered : numbers_of file table ≡ None → SuffixesOr file table (Ok None)
+  pub unnumbered : version_numbers_of file table ≡ None → SuffixesOr file table (Ok None)
   unfolding refusal_by
   unnumbered none = (refusal_is ∙ (ap (refusal_by (entry_count file (section_at file table) 24 == 0)) none ∙ either (entry_count file (section_at file table) 24 == 0)), inr none)
     where
@@ -46,10 +46,10 @@ module _ (file : List ℕ) (table : ℕ) where
       either false = refl
 
   -- of a table with symbols: the checks of the numbers, then the walks
-  module _ (section : ℕ) (some : (entry_count file (section_at file table) 24 == 0) ≡ false) (found : numbers_of file table ≡ Some section) where
+  module _ (section : ℕ) (some : (entry_count file (section_at file table) 24 == 0) ≡ false) (found : version_numbers_of file table ≡ Some section) where
     refused : suffixes_refusal file table ≡ or_refusal (first_refusal (all_checks symbol_versions.checks file (section_at file section))) (walks_refusal file)
     unfolding refusal_by
-    refused = refusal_is ∙ (ap (λ (empty : Bool). refusal_by empty (numbers_of file table)) some ∙ ap (refusal_by false) found)
+    refused = refusal_is ∙ (ap (λ (empty : Bool). refusal_by empty (version_numbers_of file table)) some ∙ ap (refusal_by false) found)
 
     pub refused_numbers : (fault : Fault) → RefusedBy (all_checks symbol_versions.checks file (section_at file section)) fault → SuffixesOr file table (Err fault)
     refused_numbers (Refused refusal) by = λ other. refused ∙ ap (λ (first : Option Refusal). or_refusal first (walks_refusal file)) by
@@ -60,7 +60,7 @@ module _ (file : List ℕ) (table : ℕ) where
     refused_walks places (Refused refusal) passes by = λ other. refused ∙ or-none _ _ (Some refusal) passes (by other)
     refused_walks places (Source fault offset) passes by = tt
 
-    pub found_all : (suffixes : Suffixes) (count : ℕ) → AreVersioned file (section_at file section) suffixes.words count → suffixes.at ≡ section_at file section
+    pub found_all : (suffixes : VersionLookup) (count : ℕ) → AreVersioned file (section_at file section) suffixes.words count → suffixes.at ≡ section_at file section
         → (walks_refusal file ≡ None) × AreNumbered file suffixes.numbered suffixes.places → SuffixesOr file table (Ok (Some suffixes))
     found_all suffixes count versioned here numbered = (
       refused ∙ or-none _ _ None versioned.pass numbered.0,

@@ -2,14 +2,14 @@
 use Rattle.std.proofs.Common.{◌≡◌, ℕ, Bool, true, false, List, [], ◌∷◌, ◌++◌, Result, Ok, Err, refl, sym, ap, ◌∙◌, append_assoc, subst}
 use Rattle.std.specs.Prelude.{codes, if◌then◌else◌}
 use Rattle.elf_model.specs.Choice.{Suffixed}
-use Rattle.elf_model.specs.Fields.{LineFront, closing, member_key, quoted, string_text}
+use Rattle.elf_model.specs.Fields.{LinePrefix, closing, member_key, quoted, string_text}
 use Rattle.elf_model.specs.Lines.{cut_mark, escaped, name_member, name_text}
-use Rattle.elf_model.specs.Names.{Shown}
+use Rattle.elf_model.specs.Names.{DisplayedName}
 use Rattle.elf_model.specs.Suffixes.{line_suffixed, suffix_members, suffix_text, suffixed_line, version_member, version_sign}
 use Rattle.elf_model.specs.Text.{newline}
 use Rattle.elf_model.specs.declared.formats.Format.{Format}
 use Rattle.elf_model.specs.declared.formats.Format.TheVariants.{Columns, Object}
-use Rattle.elf_fields.specs.Named.{line_tailed, spelt_bytes, tailed_line}
+use Rattle.elf_fields.specs.Named.{line_tailed, escaped_bytes, tailed_line}
 use Rattle.elf_table.specs.NamesRead.{shown_by}
 use Rattle.elf_table.specs.declared.names.NameEnd.{NameEnd}
 use Rattle.elf_table.specs.declared.names.NameEnd.TheVariants.{Whole, Cut}
@@ -18,11 +18,11 @@ use Rattle.elf_model.specs.Listing.{lines_of}
 use Rattle.elf_model.specs.Suffixes.{suffixed_row}
 use Rattle.elf_model.specs.declared.causes.Cause.{Cause}
 use Rattle.elf_fields.specs.Named.{shown_as}
-use Rattle.elf_source.specs.Output.{Takes, TakesFront, Written}
+use Rattle.elf_source.specs.Output.{SinkTakes, SinkTakesPrefix, OutState}
 use Rattle.elf_table.specs.NamesRead.{NameRead}
 use Rattle.elf_listing.specs.Shows.{WroteItems, cut_of}
-use Rattle.elf_listing.proofs.RowLaws.{Stopped-line, Whole-line}
-use Rattle.elf_listing.specs.SuffixTexts.{before_version, behind_version}
+use Rattle.elf_listing.proofs.RowLaws.{WroteUntilStop-line, Whole-line}
+use Rattle.elf_listing.specs.SuffixTexts.{before_version, after_version}
 
 -- texts in pieces
 three_is : (name sign version end : List ℕ) → name ++ (sign ++ (version ++ end)) ≡ (name ++ (sign ++ version)) ++ end
@@ -43,10 +43,10 @@ sign_is false = refl
 abbrev default_member : Bool → List ℕ
 default_member default = if default then codes ",\"default\":true" else codes ",\"default\":false"
 
-object_is : (key text : List ℕ) (name : Shown) (end : NameEnd) (version : List ℕ) (default : Bool)
-    → text ++ (name_member key name ++ (codes ",\"version\":\"" ++ (string_text (escaped version) ++ behind_version Object (cut_of end) default)))
+object_is : (key text : List ℕ) (name : DisplayedName) (end : NameEnd) (version : List ℕ) (default : Bool)
+    → text ++ (name_member key name ++ (codes ",\"version\":\"" ++ (string_text (escaped version) ++ after_version Object (cut_of end) default)))
     ≡ text ++ ((name_member key name ++ suffix_members (Suffixed default (shown_by end version))) ++ closing Object)
-unfolding suffix_members version_member behind_version closing member_key quoted
+unfolding suffix_members version_member after_version closing member_key quoted
 object_is key text name Whole version true = ap (λ (rest : List ℕ). text ++ rest)
     (ap (λ (rest : List ℕ). name_member key name ++ (codes ",\"version\":\"" ++ rest)) (tail_is (string_text (escaped version)) (codes "\"") (default_member true) (codes "}\n"))
     ∙ three_is (name_member key name) (codes ",\"version\":\"") ((string_text (escaped version) ++ codes "\"") ++ default_member true) (codes "}\n"))
@@ -60,10 +60,10 @@ object_is key text name Cut version false = ap (λ (rest : List ℕ). text ++ re
     (ap (λ (rest : List ℕ). name_member key name ++ (codes ",\"version\":\"" ++ rest)) (longer_is (string_text (escaped version)) (codes "\"") (codes ",\"version_cut\":true") (default_member false) (codes "}\n"))
     ∙ three_is (name_member key name) (codes ",\"version\":\"") (((string_text (escaped version) ++ codes "\"") ++ codes ",\"version_cut\":true") ++ default_member false) (codes "}\n"))
 
-pub line_is : (format : Format) (key text : List ℕ) (name : Shown) (end : NameEnd) (version : List ℕ) (default : Bool)
-    → line_tailed format key text name (before_version format default ++ (spelt_bytes format version ++ behind_version format (cut_of end) default))
+pub line_is : (format : Format) (key text : List ℕ) (name : DisplayedName) (end : NameEnd) (version : List ℕ) (default : Bool)
+    → line_tailed format key text name (before_version format default ++ (escaped_bytes format version ++ after_version format (cut_of end) default))
     ≡ line_suffixed format key text name (Suffixed default (shown_by end version))
-unfolding line_tailed line_suffixed spelt_bytes suffix_text name_text before_version behind_version
+unfolding line_tailed line_suffixed escaped_bytes suffix_text name_text before_version after_version
 line_is Columns key text name Whole version default =
     ap (λ (rest : List ℕ). text ++ rest) (rw (sign_is default) (three_is (name_text name) (version_sign default) (escaped version) newline))
 line_is Columns key text name Cut version default =
@@ -74,20 +74,20 @@ line_is Columns key text name Cut version default =
 line_is Object key text name end version default = object_is key text name end version default
 
 -- the line of a row with its version
-pub Wrote-suffixed : (a b : Written) (front : LineFront) (at : ℕ) (end behind : NameEnd) (name version : List ℕ) (answer : Result Shown Cause) (default : Bool)
+pub WroteText-suffixed : (a b : OutState) (front : LinePrefix) (at : ℕ) (end behind : NameEnd) (name version : List ℕ) (answer : Result DisplayedName Cause) (default : Bool)
     → NameRead at (Ok end) name answer
-    → Takes a b (tailed_line front (shown_as (cut_of end) name) (before_version front.format default ++ (spelt_bytes front.format version ++ behind_version front.format (cut_of behind) default)))
+    → SinkTakes a b (tailed_line front (shown_as (cut_of end) name) (before_version front.format default ++ (escaped_bytes front.format version ++ after_version front.format (cut_of behind) default)))
     → WroteItems a b (suffixed_row EveryRow front at answer (Ok (Suffixed default (shown_by behind version))))
-Wrote-suffixed a b front at Whole behind name version answer default read takes =
-    rw read (Whole-line _ (subst (λ (line : List ℕ). Takes a b line) (line_is front.format front.key front.text (shown_as false name) behind version default) takes))
-Wrote-suffixed a b front at Cut behind name version answer default read takes =
-    rw read (Whole-line _ (subst (λ (line : List ℕ). Takes a b line) (line_is front.format front.key front.text (shown_as true name) behind version default) takes))
+WroteText-suffixed a b front at Whole behind name version answer default read takes =
+    rw read (Whole-line _ (subst (λ (line : List ℕ). SinkTakes a b line) (line_is front.format front.key front.text (shown_as false name) behind version default) takes))
+WroteText-suffixed a b front at Cut behind name version answer default read takes =
+    rw read (Whole-line _ (subst (λ (line : List ℕ). SinkTakes a b line) (line_is front.format front.key front.text (shown_as true name) behind version default) takes))
 
-pub Fronts-suffixed : (a b : Written) (front : LineFront) (at : ℕ) (end behind : NameEnd) (name version : List ℕ) (answer : Result Shown Cause) (default : Bool)
+pub Fronts-suffixed : (a b : OutState) (front : LinePrefix) (at : ℕ) (end behind : NameEnd) (name version : List ℕ) (answer : Result DisplayedName Cause) (default : Bool)
     → NameRead at (Ok end) name answer
-    → TakesFront a b (tailed_line front (shown_as (cut_of end) name) (before_version front.format default ++ (spelt_bytes front.format version ++ behind_version front.format (cut_of behind) default)))
-    → TakesFront a b (lines_of (suffixed_row EveryRow front at answer (Ok (Suffixed default (shown_by behind version)))))
+    → SinkTakesPrefix a b (tailed_line front (shown_as (cut_of end) name) (before_version front.format default ++ (escaped_bytes front.format version ++ after_version front.format (cut_of behind) default)))
+    → SinkTakesPrefix a b (lines_of (suffixed_row EveryRow front at answer (Ok (Suffixed default (shown_by behind version)))))
 Fronts-suffixed a b front at Whole behind name version answer default read takes =
-    rw read (Stopped-line _ (subst (λ (line : List ℕ). TakesFront a b line) (line_is front.format front.key front.text (shown_as false name) behind version default) takes))
+    rw read (WroteUntilStop-line _ (subst (λ (line : List ℕ). SinkTakesPrefix a b line) (line_is front.format front.key front.text (shown_as false name) behind version default) takes))
 Fronts-suffixed a b front at Cut behind name version answer default read takes =
-    rw read (Stopped-line _ (subst (λ (line : List ℕ). TakesFront a b line) (line_is front.format front.key front.text (shown_as true name) behind version default) takes))
+    rw read (WroteUntilStop-line _ (subst (λ (line : List ℕ). SinkTakesPrefix a b line) (line_is front.format front.key front.text (shown_as true name) behind version default) takes))

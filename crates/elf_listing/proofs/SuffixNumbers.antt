@@ -1,12 +1,12 @@
 -- The name of a version by its number, in the string table that holds it.
 use Rattle.std.proofs.Common.{◌≡◌, ℕ, ◌<◌, ◌==◌, nat_lt, Bool, true, false, List, [], ◌++◌, length, slice_index_or, Option, None, Some, Result, Ok, Err, refl, sym, ap, ◌∙◌, subst}
-use Rattle.elf_model.specs.Budget.{IsBudget}
+use Rattle.elf_model.specs.Budget.{IsBudgetRefusal}
 use Rattle.elf_model.specs.Choice.{Suffix, Suffixed}
-use Rattle.elf_model.specs.Names.{Shown, shown}
+use Rattle.elf_model.specs.Names.{DisplayedName, shown}
 use Rattle.elf_model.specs.Numbers.{SHT_GNU_VERDEF, SHT_GNU_VERNEED}
 use Rattle.elf_model.specs.Suffixes.{suffix_of}
 use Rattle.elf_model.specs.VersionRows.{first_strings, first_versions, version_named, version_strings}
-use Rattle.elf_model.specs.Versions.{Met, name_index, named_at, named_by, version_of}
+use Rattle.elf_model.specs.Versions.{VisitedRecord, name_index, named_at, named_by, version_of}
 use Rattle.elf_model.specs.declared.causes.Cause.{Cause}
 use Rattle.elf_model.specs.declared.causes.Refusal.{Refusal}
 use Rattle.elf_model.specs.declared.causes.Cause.TheVariants.{VersionIndex}
@@ -18,73 +18,73 @@ use Rattle.elf_table.specs.Tables.{strings_in}
 use Rattle.elf_table.specs.declared.names.NameEnd.{NameEnd}
 use Rattle.elf_table.specs.declared.names.NameEnd.TheVariants.{Whole, Cut}
 use Rattle.elf_versions.specs.NumberNames.{IsNameOfRecord, IsPlaceOfRecord, name_at}
-use Rattle.elf_versions.specs.declared.number_names.NameAt.{NameAt}
-use Rattle.elf_versions.specs.declared.number_names.NameAt.TheVariants.{Nowhere, Defined, Needed}
-use Rattle.elf_listing.specs.SuffixNames.{number_told}
+use Rattle.elf_versions.specs.declared.number_names.VersionNameRef.{VersionNameRef}
+use Rattle.elf_versions.specs.declared.number_names.VersionNameRef.TheVariants.{Nowhere, Defined, Needed}
+use Rattle.elf_listing.specs.SuffixNames.{number_reported}
 use Rattle.elf_listing.specs.Suffixed.{SuffixNamed}
 use Rattle.elf_listing.specs.SymbolVersions.{AreNumbered}
-use Rattle.elf_listing.specs.declared.numbered.Numbered.{Numbered}
+use Rattle.elf_listing.specs.declared.numbered.VersionStrings.{VersionStrings}
 use Rattle.elf_listing.proofs.VersionedShown.{some-definitions, some-needs, strings-defined, strings-needed}
 
 -- all records that name versions
-abbrev records : List ℕ → List Met
+abbrev records : List ℕ → List VisitedRecord
 records file = first_versions Definition SHT_GNU_VERDEF file ++ first_versions File SHT_GNU_VERNEED file
 
 -- the record that names a number of 2 or more
-named_is : (file : List ℕ) (number : ℕ) (found : Option Met) → nat_lt number 2 ≡ false → named_by file number (records file) ≡ found → version_named file number ≡ found
+named_is : (file : List ℕ) (number : ℕ) (found : Option VisitedRecord) → nat_lt number 2 ≡ false → named_by file number (records file) ≡ found → version_named file number ≡ found
 unfolding version_named version_of
 named_is file number found many is = rw many is
 
 -- what was read of a name is told of the version
-read_told : (file : List ℕ) (met : Met) (at : ℕ) (result : Result NameEnd Fault) (version : List ℕ) (answer : Result Shown Cause) → at ≡ named_at file met
+read_reported : (file : List ℕ) (met : VisitedRecord) (at : ℕ) (result : Result NameEnd Fault) (version : List ℕ) (answer : Result DisplayedName Cause) → at ≡ named_at file met
     → NameRead at result version answer → SuffixNamed result version (λ default. suffix_of default (named_at file met) answer)
-read_told file met at (Ok Whole) version answer here read = λ default. ap (suffix_of default (named_at file met)) read
-read_told file met at (Ok Cut) version answer here read = λ default. ap (suffix_of default (named_at file met)) read
-read_told file met at (Err (Refused refusal)) version answer here read = λ other default.
+read_reported file met at (Ok Whole) version answer here read = λ default. ap (suffix_of default (named_at file met)) read
+read_reported file met at (Ok Cut) version answer here read = λ default. ap (suffix_of default (named_at file met)) read
+read_reported file met at (Err (Refused refusal)) version answer here read = λ other default.
     let is = read other in
     ap (suffix_of default (named_at file met)) is.1
     ∙ ap (λ (place : ℕ). Err (record { at = place; cause = refusal.cause })) (sym here ∙ sym is.0)
-read_told file met at (Err (Source fault offset)) version answer here read = tt
+read_reported file met at (Err (Source fault offset)) version answer here read = tt
 
-module _ (file : List ℕ) (numbered : Numbered) (places : List ℕ) (are : AreNumbered file numbered places) (cap number word_at : ℕ) (many : nat_lt number 2 ≡ false) where
-  told_as : (found : Option Met) → named_by file number (records file) ≡ found → (default : Bool)
-      → number_told file cap number word_at default
+module _ (file : List ℕ) (numbered : VersionStrings) (places : List ℕ) (are : AreNumbered file numbered places) (cap number word_at : ℕ) (many : nat_lt number 2 ≡ false) where
+  reported_as : (found : Option VisitedRecord) → named_by file number (records file) ≡ found → (default : Bool)
+      → number_reported file cap number word_at default
       ≡ (elim found as (λ _. Result Suffix Refusal) [
         | None ↦ Err (record { at = word_at; cause = VersionIndex })
         | Some met ↦ suffix_of default (named_at file met) (shown (version_strings file met.kind) (name_index file met) cap)
       ])
-  told_as found is default =
-      ap (λ (named : Option Met). elim named as (λ _. Result Suffix Refusal) [
+  reported_as found is default =
+      ap (λ (named : Option VisitedRecord). elim named as (λ _. Result Suffix Refusal) [
         | None ↦ Err (record { at = word_at; cause = VersionIndex })
         | Some met ↦ suffix_of default (named_at file met) (shown (version_strings file met.kind) (name_index file met) cap)
       ]) (named_is file number found many is)
 
-  pub told_nowhere : name_at numbered.names number ≡ Nowhere → (default : Bool) → number_told file cap number word_at default ≡ Err (record { at = word_at; cause = VersionIndex })
+  pub told_nowhere : name_at numbered.names number ≡ Nowhere → (default : Bool) → number_reported file cap number word_at default ≡ Err (record { at = word_at; cause = VersionIndex })
   told_nowhere is default = by_found (named_by file number (records file)) refl
     where
-      by_found : (found : Option Met) → named_by file number (records file) ≡ found → number_told file cap number word_at default ≡ Err (record { at = word_at; cause = VersionIndex })
-      by_found None named = told_as None named default
+      by_found : (found : Option VisitedRecord) → named_by file number (records file) ≡ found → number_reported file cap number word_at default ≡ Err (record { at = word_at; cause = VersionIndex })
+      by_found None named = reported_as None named default
       by_found (Some met) named = absurd (rw (named, is) at (are.names.named number))
 
-  told_met : (met : Met) (at index : ℕ) (strings : List ℕ) (result : Result NameEnd Fault) (version : List ℕ) → named_by file number (records file) ≡ Some met
+  told_met : (met : VisitedRecord) (at index : ℕ) (strings : List ℕ) (result : Result NameEnd Fault) (version : List ℕ) → named_by file number (records file) ≡ Some met
       → at ≡ named_at file met → strings ≡ version_strings file met.kind → index ≡ name_index file met → NameRead at result version (shown strings index cap)
-      → SuffixNamed result version (number_told file cap number word_at)
+      → SuffixNamed result version (number_reported file cap number word_at)
   told_met met at index strings result version named here same is read =
       let answer = rw (same, is) at read in
-      go result (read_told file met at result version _ here answer)
+      go result (read_reported file met at result version _ here answer)
     where
       go : (result : Result NameEnd Fault) → SuffixNamed result version (λ default. suffix_of default (named_at file met) (shown (version_strings file met.kind) (name_index file met) cap))
-          → SuffixNamed result version (number_told file cap number word_at)
-      go (Ok end) told = λ default. told_as (Some met) named default ∙ told default
-      go (Err (Refused refusal)) told = λ other default. told_as (Some met) named default ∙ told other default
+          → SuffixNamed result version (number_reported file cap number word_at)
+      go (Ok end) told = λ default. reported_as (Some met) named default ∙ told default
+      go (Err (Refused refusal)) told = λ other default. reported_as (Some met) named default ∙ told other default
       go (Err (Source fault offset)) told = tt
 
   module _ (few : number < length places) (result : Result NameEnd Fault) (version : List ℕ) (index : ℕ) where
     pub told_defined : name_at numbered.names number ≡ Defined index
-        → NameRead (slice_index_or places number 0) result version (shown (strings_in file numbered.defined) index cap) → SuffixNamed result version (number_told file cap number word_at)
+        → NameRead (slice_index_or places number 0) result version (shown (strings_in file numbered.defined) index cap) → SuffixNamed result version (number_reported file cap number word_at)
     told_defined is read = by_found (named_by file number (records file)) refl
       where
-        by_found : (found : Option Met) → named_by file number (records file) ≡ found → SuffixNamed result version (number_told file cap number word_at)
+        by_found : (found : Option VisitedRecord) → named_by file number (records file) ≡ found → SuffixNamed result version (number_reported file cap number word_at)
         by_found None named = absurd (rw (named, is) at (are.names.named number))
         by_found (Some met) named =
             let fits = rw (named, is) at (are.names.named number) in
@@ -94,10 +94,10 @@ module _ (file : List ℕ) (numbered : Numbered) (places : List ℕ) (are : AreN
             told_met met _ index _ result version named here strings fits.1 read
 
     pub told_needed : name_at numbered.names number ≡ Needed index
-        → NameRead (slice_index_or places number 0) result version (shown (strings_in file numbered.needed) index cap) → SuffixNamed result version (number_told file cap number word_at)
+        → NameRead (slice_index_or places number 0) result version (shown (strings_in file numbered.needed) index cap) → SuffixNamed result version (number_reported file cap number word_at)
     told_needed is read = by_found (named_by file number (records file)) refl
       where
-        by_found : (found : Option Met) → named_by file number (records file) ≡ found → SuffixNamed result version (number_told file cap number word_at)
+        by_found : (found : Option VisitedRecord) → named_by file number (records file) ≡ found → SuffixNamed result version (number_reported file cap number word_at)
         by_found None named = absurd (rw (named, is) at (are.names.named number))
         by_found (Some met) named =
             let fits = rw (named, is) at (are.names.named number) in

@@ -1,25 +1,25 @@
 -- Rows that end in a name with its version, by what was read of both.
 use Rattle.std.proofs.Common.{◌≡◌, ℕ, ◌+◌, ◌*◌, ◌≤◌, ◌==◌, ◌&&◌, not, if◌then◌else◌, Bool, true, false, List, [], ◌∷◌, ◌++◌, Option, None, Some, Result, Ok, Err, IfErr, refl, sym, ap, ◌∙◌, subst, arith, map}
 use Rattle.std.specs.List.{list_any}
-use Rattle.elf_model.specs.Budget.{IsBudget}
-use Rattle.elf_model.specs.Choice.{RowChoice, EveryRow, NoSuffix, RowsOf, Suffix, Suffixed, chooses, is_named, wanted_text}
-use Rattle.elf_model.specs.Fields.{LineFront}
-use Rattle.elf_model.specs.LineFronts.{relocation_front, symbol_front}
+use Rattle.elf_model.specs.Budget.{IsBudgetRefusal}
+use Rattle.elf_model.specs.Choice.{RowFilter, EveryRow, NoSuffix, RowsOf, Suffix, Suffixed, chooses, is_named, wanted_text}
+use Rattle.elf_model.specs.Fields.{LinePrefix}
+use Rattle.elf_model.specs.LineFronts.{relocation_prefix, symbol_prefix}
 use Rattle.elf_model.specs.Listing.{ListingItem, Line, Fault as FaultItem}
-use Rattle.elf_model.specs.Names.{Shown, shown}
+use Rattle.elf_model.specs.Names.{DisplayedName, shown}
 use Rattle.elf_model.specs.Records.{e_machine, r_sym, section_at, sh_link, sh_offset, st_name}
 use Rattle.elf_model.specs.Rows.{named_row, symbol_named}
 use Rattle.elf_model.proofs.SuffixLaws.{unsuffixed_line}
 use Rattle.elf_model.specs.Style.{Style}
-use Rattle.elf_model.specs.Suffixes.{suffixed_relocation_row, suffixed_row, suffixed_symbol_row, symbol_suffix}
+use Rattle.elf_model.specs.Suffixes.{relocation_row_with_version, suffixed_row, symbol_row_with_version, symbol_suffix}
 use Rattle.elf_model.specs.Tables.{entry_at, linked_at, strings_of}
 use Rattle.elf_model.specs.declared.causes.Cause.{Cause}
 use Rattle.elf_model.specs.declared.causes.Refusal.{Refusal}
 use Rattle.elf_headers.specs.Stops.{stop_of}
 use Rattle.elf_headers.specs.declared.fault.Fault.{Fault}
 use Rattle.elf_headers.specs.declared.fault.Fault.TheVariants.{Refused, Source}
-use Rattle.elf_names.proofs.SpendsLaws.{Spends-then, Spends-to}
-use Rattle.elf_source.specs.Output.{Written}
+use Rattle.elf_names.proofs.SpendsLaws.{SpendsAtMost-then, SpendsAtMost-to}
+use Rattle.elf_source.specs.Output.{OutState}
 use Rattle.elf_source.specs.declared.source.Source.{Ghosts as Sources}
 use Rattle.elf_source.specs.declared.sink.Sink.{Ghosts as Sinks}
 use Rattle.elf_table.specs.NamesRead.{NameRead, shown_by}
@@ -27,61 +27,61 @@ use Rattle.elf_table.specs.declared.names.NameEnd.{NameEnd}
 use Rattle.elf_table.specs.declared.names.NameEnd.TheVariants.{Whole as NameWhole, Cut as NameCut}
 use Rattle.elf_wanted.specs.Chosen.{choice_of}
 use Rattle.elf_wanted.specs.Names.{texts_of}
-use Rattle.elf_wanted.specs.declared.choice.RowChoice.{RowChoice as Choice}
-use Rattle.elf_listing.specs.Shows.{Fetches, Stopped}
+use Rattle.elf_wanted.specs.declared.choice.RowFilter.{RowFilter as Choice}
+use Rattle.elf_listing.specs.Shows.{ListingReads, WroteUntilStop}
 use Rattle.elf_listing.specs.Suffixed.{SuffixRead, suffix_read}
 use Rattle.elf_listing.specs.declared.listing.Listing.{Listing}
-use Rattle.elf_listing.specs.declared.read_suffix.SuffixEnd.{SuffixEnd}
+use Rattle.elf_listing.specs.declared.read_suffix.VersionSuffixEnd.{VersionSuffixEnd}
 use Rattle.elf_listing.proofs.ListsLaws.{SameFile-then}
-use Rattle.elf_listing.proofs.RowLaws.{Ends-first, Front-none}
+use Rattle.elf_listing.proofs.RowLaws.{Ends-first, WrotePrefix-none}
 use Rattle.elf_listing.proofs.SymbolNamed.{says_behind}
 
 -- a call that reads behind another, in a bound on both
-pub Fetches-then : {S W X Y : Type 0} {s : Sources S} {w : Sinks W} (a b c : Listing S W s w) (y : Y) (result : Result X Fault) (n m k : ℕ)
-    → n + m ≤ k → Fetches a b (Ok y) n → Fetches b c result m → Fetches a c result k
-Fetches-then a b c y result n m k within p q =
+pub ListingReads-then : {S W X Y : Type 0} {s : Sources S} {w : Sinks W} (a b c : Listing S W s w) (y : Y) (result : Result X Fault) (n m k : ℕ)
+    → n + m ≤ k → ListingReads a b (Ok y) n → ListingReads b c result m → ListingReads a c result k
+ListingReads-then a b c y result n m k within p q =
     let first = p.2.account in
     let second = q.2.account in (
       SameFile-then p.0 q.0,
       q.1 ∙ p.1,
-      Spends-to (Spends-then p.2 q.2) (omega (arith, first, second, within)),
+      SpendsAtMost-to (SpendsAtMost-then p.2 q.2) (omega (arith, first, second, within)),
       says_behind _ _ _ result _ _ _ (omega (arith, first, within)) p.2.reads q.3,
     )
 
 -- a read, in a looser bound
-pub Fetches-more : {S W X Y : Type 0} {s : Sources S} {w : Sinks W} (a b : Listing S W s w) (y : Y) (x : X) (n k : ℕ) → n ≤ k → Fetches a b (Ok y) n → Fetches a b (Ok x) k
-Fetches-more a b y x n k within p = let first = p.2.account in (p.0, p.1, Spends-to p.2 (omega (arith, first, within)), tt)
+pub ListingReads-more : {S W X Y : Type 0} {s : Sources S} {w : Sinks W} (a b : Listing S W s w) (y : Y) (x : X) (n k : ℕ) → n ≤ k → ListingReads a b (Ok y) n → ListingReads a b (Ok x) k
+ListingReads-more a b y x n k within p = let first = p.2.account in (p.0, p.1, SpendsAtMost-to p.2 (omega (arith, first, within)), tt)
 
 -- the name could not be read
-pub Stopped-unnamed : (a : Written) (choice : RowChoice) (front : LineFront) (at : ℕ) (fault : Fault) (name : List ℕ) (answer : Result Shown Cause) (suffix : Result Suffix Refusal)
-    → NameRead at (Err fault) name answer → Stopped a a (stop_of fault) (suffixed_row choice front at answer suffix)
-Stopped-unnamed a choice front at (Refused refusal) name answer suffix read =
+pub WroteUntilStop-unnamed : (a : OutState) (choice : RowFilter) (front : LinePrefix) (at : ℕ) (fault : Fault) (name : List ℕ) (answer : Result DisplayedName Cause) (suffix : Result Suffix Refusal)
+    → NameRead at (Err fault) name answer → WroteUntilStop a a (stop_of fault) (suffixed_row choice front at answer suffix)
+WroteUntilStop-unnamed a choice front at (Refused refusal) name answer suffix read =
     Ends-first a refusal (suffixed_row choice front at answer suffix) (λ other.
     let is = read other in
-    ap (λ (n : Result Shown Cause). suffixed_row choice front at n suffix) is.1 ∙ ap (λ (place : ℕ). FaultItem (record { at = place; cause = refusal.cause }) ∷ []) (sym is.0))
-Stopped-unnamed a choice front at (Source fault offset) name answer suffix read = Front-none a (suffixed_row choice front at answer suffix)
+    ap (λ (n : Result DisplayedName Cause). suffixed_row choice front at n suffix) is.1 ∙ ap (λ (place : ℕ). FaultItem (record { at = place; cause = refusal.cause }) ∷ []) (sym is.0))
+WroteUntilStop-unnamed a choice front at (Source fault offset) name answer suffix read = WrotePrefix-none a (suffixed_row choice front at answer suffix)
 
 -- a name that was read
-read-shown : (at : ℕ) (end : NameEnd) (name : List ℕ) (answer : Result Shown Cause) → NameRead at (Ok end) name answer → answer ≡ Ok (shown_by end name)
+read-shown : (at : ℕ) (end : NameEnd) (name : List ℕ) (answer : Result DisplayedName Cause) → NameRead at (Ok end) name answer → answer ≡ Ok (shown_by end name)
 read-shown at NameWhole name answer read = read
 read-shown at NameCut name answer read = read
 
 -- the version behind it could not be
-pub Stopped-suffix : (a : Written) (choice : RowChoice) (front : LineFront) (at : ℕ) (end : NameEnd) (fault : Fault) (name version : List ℕ) (answer : Result Shown Cause) (suffix : Result Suffix Refusal)
-    → NameRead at (Ok end) name answer → SuffixRead (Err fault) version suffix → Stopped a a (stop_of fault) (suffixed_row choice front at answer suffix)
-Stopped-suffix a choice front at end (Refused refusal) name version answer suffix read behind =
+pub WroteUntilStop-suffix : (a : OutState) (choice : RowFilter) (front : LinePrefix) (at : ℕ) (end : NameEnd) (fault : Fault) (name version : List ℕ) (answer : Result DisplayedName Cause) (suffix : Result Suffix Refusal)
+    → NameRead at (Ok end) name answer → SuffixRead (Err fault) version suffix → WroteUntilStop a a (stop_of fault) (suffixed_row choice front at answer suffix)
+WroteUntilStop-suffix a choice front at end (Refused refusal) name version answer suffix read behind =
     Ends-first a refusal (suffixed_row choice front at answer suffix) (λ other.
     let is = behind other in
-    ap (λ (n : Result Shown Cause). suffixed_row choice front at n suffix) (read-shown at end name answer read)
+    ap (λ (n : Result DisplayedName Cause). suffixed_row choice front at n suffix) (read-shown at end name answer read)
     ∙ ap (λ (b : Result Suffix Refusal). suffixed_row choice front at (Ok (shown_by end name)) b) is)
-Stopped-suffix a choice front at end (Source fault offset) name version answer suffix read behind = Front-none a (suffixed_row choice front at answer suffix)
+WroteUntilStop-suffix a choice front at end (Source fault offset) name version answer suffix read behind = WrotePrefix-none a (suffixed_row choice front at answer suffix)
 
-read-behind : (suffix : Option SuffixEnd) (version : List ℕ) (answer : Result Suffix Refusal) → SuffixRead (Ok suffix) version answer → answer ≡ Ok (suffix_read suffix version)
+read-behind : (suffix : Option VersionSuffixEnd) (version : List ℕ) (answer : Result Suffix Refusal) → SuffixRead (Ok suffix) version answer → answer ≡ Ok (suffix_read suffix version)
 read-behind None version answer read = read
 read-behind (Some suffix) version answer read = read
 
 -- the row is its line where it is shown, else nothing
-pub suffixed-shown : (choice : RowChoice) (front : LineFront) (at : ℕ) (end : NameEnd) (name version : List ℕ) (answer : Result Shown Cause) (suffix : Option SuffixEnd) (behind : Result Suffix Refusal)
+pub suffixed-shown : (choice : RowFilter) (front : LinePrefix) (at : ℕ) (end : NameEnd) (name version : List ℕ) (answer : Result DisplayedName Cause) (suffix : Option VersionSuffixEnd) (behind : Result Suffix Refusal)
     → NameRead at (Ok end) name answer → SuffixRead (Ok suffix) version behind → chooses choice (shown_by end name) (suffix_read suffix version) ≡ true
     → suffixed_row choice front at answer behind ≡ suffixed_row EveryRow front at answer (Ok (suffix_read suffix version))
 suffixed-shown choice front at end name version answer suffix behind read next is =
@@ -89,7 +89,7 @@ suffixed-shown choice front at end name version answer suffix behind read next i
     let told = read-behind suffix version behind next in
     rw (named, told) (rw is refl)
 
-pub suffixed-hidden : (choice : RowChoice) (front : LineFront) (at : ℕ) (end : NameEnd) (name version : List ℕ) (answer : Result Shown Cause) (suffix : Option SuffixEnd) (behind : Result Suffix Refusal)
+pub suffixed-hidden : (choice : RowFilter) (front : LinePrefix) (at : ℕ) (end : NameEnd) (name version : List ℕ) (answer : Result DisplayedName Cause) (suffix : Option VersionSuffixEnd) (behind : Result Suffix Refusal)
     → NameRead at (Ok end) name answer → SuffixRead (Ok suffix) version behind → chooses choice (shown_by end name) (suffix_read suffix version) ≡ false
     → suffixed_row choice front at answer behind ≡ []
 suffixed-hidden choice front at end name version answer suffix behind read next is =
@@ -98,18 +98,18 @@ suffixed-hidden choice front at end name version answer suffix behind read next 
     rw (named, told) (rw is refl)
 
 -- a symbol's row at its place
-pub suffixed_symbol_is : (file : List ℕ) (style : Style) (section index at : ℕ) (front : LineFront) (table : List ℕ) (off : ℕ)
-    → front ≡ symbol_front style.format style.gnu (e_machine file) file at section index
+pub suffixed_symbol_is : (file : List ℕ) (style : Style) (section index at : ℕ) (front : LinePrefix) (table : List ℕ) (off : ℕ)
+    → front ≡ symbol_prefix style.format style.gnu (e_machine file) file at section index
     → table ≡ strings_of file (section_at file section) → off ≡ st_name file at → at ≡ sh_offset file (section_at file section) + index * 24
-    → suffixed_symbol_row file style section (section_at file section) index
+    → symbol_row_with_version file style section (section_at file section) index
     ≡ suffixed_row style.choice front at (shown table off style.cap) (symbol_suffix file style.cap section at index)
-unfolding suffixed_symbol_row
+unfolding symbol_row_with_version
 suffixed_symbol_is file style section index at front table off same_front same_table same_name here =
     let place : at ≡ entry_at file (section_at file section) 24 index = omega arith in
     rw (same_front, same_table, same_name, place) refl
 
 -- the row of a name with nothing behind it, where every row is shown
-pub every-row : (front : LineFront) (at : ℕ) (answer : Result Shown Cause) → suffixed_row EveryRow front at answer (Ok NoSuffix) ≡ named_row front at answer
+pub every-row : (front : LinePrefix) (at : ℕ) (answer : Result DisplayedName Cause) → suffixed_row EveryRow front at answer (Ok NoSuffix) ≡ named_row front at answer
 every-row front at (Ok name) = ap (λ (line : List ℕ). Line line ∷ []) (unsuffixed_line front name)
 every-row front at (Err cause) = refl
 
@@ -119,14 +119,14 @@ entry_suffix file cap at symbol =
     if symbol == 0 then Ok NoSuffix
     else symbol_suffix file cap (sh_link file at) (entry_at file (linked_at file at) 24 symbol) symbol
 
-pub suffixed_relocation_is : (file : List ℕ) (front : LineFront) (style : Style) (section at entry symbol index : ℕ) → entry ≡ sh_offset file at + index * 24
-    → front ≡ relocation_front style.format style.gnu (e_machine file) file entry section → symbol ≡ r_sym file entry
-    → suffixed_relocation_row file style section at index
+pub suffixed_relocation_is : (file : List ℕ) (front : LinePrefix) (style : Style) (section at entry symbol index : ℕ) → entry ≡ sh_offset file at + index * 24
+    → front ≡ relocation_prefix style.format style.gnu (e_machine file) file entry section → symbol ≡ r_sym file entry
+    → relocation_row_with_version file style section at index
     ≡ suffixed_row style.choice front (symbol_named file style.cap at entry symbol).0 (symbol_named file style.cap at entry symbol).1 (entry_suffix file style.cap at symbol)
-unfolding suffixed_relocation_row
+unfolding relocation_row_with_version
 suffixed_relocation_is file front style section at entry symbol index here same names =
     let place : entry ≡ entry_at file at 24 index = omega arith in
-    let row : LineFront → ℕ → ℕ → List ListingItem = λ text e k.
+    let row : LinePrefix → ℕ → ℕ → List ListingItem = λ text e k.
     suffixed_row style.choice text (symbol_named file style.cap at e k).0 (symbol_named file style.cap at e k).1 (entry_suffix file style.cap at k) in
-    sym (ap (λ text. row text entry symbol) same ∙ (ap (λ k. row (relocation_front style.format style.gnu (e_machine file) file entry section) entry k) names
-    ∙ ap (λ e. row (relocation_front style.format style.gnu (e_machine file) file e section) e (r_sym file e)) place))
+    sym (ap (λ text. row text entry symbol) same ∙ (ap (λ k. row (relocation_prefix style.format style.gnu (e_machine file) file entry section) entry k) names
+    ∙ ap (λ e. row (relocation_prefix style.format style.gnu (e_machine file) file e section) e (r_sym file e)) place))

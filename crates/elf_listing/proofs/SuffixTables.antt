@@ -1,19 +1,19 @@
 -- The rows of a table with versions behind the names of symbols: those of a plain table, the first refusal, or its own.
 use Rattle.std.proofs.Common.{◌≡◌, ℕ, ◌+◌, ◌*◌, ◌<◌, ◌≤◌, nat_lt, ◌==◌, ◌&&◌, not, if◌then◌else◌, Bool, true, false, List, [], ◌∷◌, Option, None, Some, Result, Ok, Err, ◌⊎◌, inl, inr, refl, sym, ap, ◌∙◌, arith}
 use Rattle.std.proofs.lemmas.Bool.{le-ltb, ne_eqb}
-use Rattle.elf_model.specs.Budget.{IsBudget}
+use Rattle.elf_model.specs.Budget.{IsBudgetRefusal}
 use Rattle.elf_model.specs.Checks.{first_refusal, is_symbol_table, refuse}
-use Rattle.elf_model.specs.Choice.{RowChoice, Suffix, NoSuffix}
-use Rattle.elf_model.specs.Fields.{LineFront}
-use Rattle.elf_model.specs.LineFronts.{relocation_front}
+use Rattle.elf_model.specs.Choice.{RowFilter, Suffix, NoSuffix}
+use Rattle.elf_model.specs.Fields.{LinePrefix}
+use Rattle.elf_model.specs.LineFronts.{relocation_prefix}
 use Rattle.elf_model.specs.Listing.{ListingItem, Fault as FaultItem, each}
-use Rattle.elf_model.specs.Names.{Shown}
+use Rattle.elf_model.specs.Names.{DisplayedName}
 use Rattle.elf_model.specs.Records.{e_machine, r_sym, section_at, sh_link, sh_type}
 use Rattle.elf_model.specs.Report.{table_rows}
 use Rattle.elf_model.specs.Rows.{chosen_row, relocation_row, symbol_named, symbol_row}
 use Rattle.elf_model.specs.Style.{Style}
-use Rattle.elf_model.specs.Suffixes.{behind_refusal, numbers_of, suffixed_relocation_row, suffixed_relocation_rows, suffixed_row, suffixed_symbol_row, suffixed_symbol_rows, suffixes_refusal, symbol_suffix}
-use Rattle.elf_model.specs.TableKinds.{relocations, suffixed_relocations, suffixed_symbols, symbols}
+use Rattle.elf_model.specs.Suffixes.{after_refusal, version_numbers_of, relocation_row_with_version, suffixed_relocation_rows, suffixed_row, symbol_row_with_version, suffixed_symbol_rows, suffixes_refusal, symbol_suffix}
+use Rattle.elf_model.specs.TableKinds.{relocations, relocations_with_versions, suffixed_symbols, symbols}
 use Rattle.elf_model.specs.Tables.{all_checks, entry_at, entry_count, has_symbols, linked_at, relocation_table_checks, symbol_checks_of, symbol_table}
 use Rattle.elf_model.specs.declared.causes.Cause.{Cause}
 use Rattle.elf_model.specs.declared.causes.Cause.TheVariants.{BadLink, SymbolIndex}
@@ -22,52 +22,52 @@ use Rattle.elf_model.proofs.SuffixLaws.{each_same, unsuffixed_row, unversioned_e
 use Rattle.elf_headers.specs.Stops.{stop_of}
 use Rattle.elf_headers.specs.declared.fault.Fault.{Fault}
 use Rattle.elf_headers.specs.declared.fault.Fault.TheVariants.{Refused, Source}
-use Rattle.elf_headers.specs.declared.stop.Stop.{Stop}
-use Rattle.elf_source.specs.Output.{Written}
+use Rattle.elf_headers.specs.declared.stop.RunFault.{RunFault}
+use Rattle.elf_source.specs.Output.{OutState}
 use Rattle.elf_source.specs.declared.source.Source.{Ghosts as Sources}
 use Rattle.elf_source.specs.declared.sink.Sink.{Ghosts as Sinks}
 use Rattle.elf_table.specs.Relocations.{AreRelocations, RefersTo}
-use Rattle.elf_table.specs.Tables.{Rows, Strings}
-use Rattle.elf_listing.specs.Shows.{Fetches, Lists, Stopped, WroteItems}
+use Rattle.elf_table.specs.Tables.{Rows, StringTableRange}
+use Rattle.elf_listing.specs.Shows.{ListingReads, Lists, WroteUntilStop, WroteItems}
 use Rattle.elf_listing.specs.Suffixed.{AreSuffixes, LinkedOr, SuffixesOr}
 use Rattle.elf_listing.specs.declared.listing.Listing.{Listing}
-use Rattle.elf_listing.specs.declared.suffixes.Suffixes.{Suffixes}
+use Rattle.elf_listing.specs.declared.suffixes.VersionLookup.{VersionLookup}
 use Rattle.elf_listing.proofs.ListsLaws.{SameFile-then}
-use Rattle.elf_listing.proofs.RowLaws.{Ends-first, Front-none}
+use Rattle.elf_listing.proofs.RowLaws.{Ends-first, WrotePrefix-none}
 use Rattle.elf_listing.proofs.SectionShown.{table_passes}
-use Rattle.elf_listing.proofs.ShowLaws.{Spent-then, Whole-none}
+use Rattle.elf_listing.proofs.ShowLaws.{SpentCredit-then, Whole-none}
 
 -- something was read, and then rows were shown
-pub Lists-behind : {S W X Y : Type 0} {s : Sources S} {w : Sinks W} (a b c : Listing S W s w) (y : Y) (result : Result X Stop) (n m k : ℕ) (read : Type 0) {shown : Type 0}
-    → n + m ≤ k → Fetches a b (Ok y) n → Lists b c result m read → shown → Lists a c result k shown
+pub Lists-behind : {S W X Y : Type 0} {s : Sources S} {w : Sinks W} (a b c : Listing S W s w) (y : Y) (result : Result X RunFault) (n m k : ℕ) (read : Type 0) {shown : Type 0}
+    → n + m ≤ k → ListingReads a b (Ok y) n → Lists b c result m read → shown → Lists a c result k shown
 Lists-behind a b c y result n m k read within p q is = record {
   grows = rw (← p.1) q.grows;
   keeps = SameFile-then p.0 q.keeps;
-  spent = Spent-then _ _ _ _ _ _ _ _ _ _ _ within p.2 q.spent;
+  spent = SpentCredit-then _ _ _ _ _ _ _ _ _ _ _ within p.2 q.spent;
   shows = is;
 }
 
 -- what refuses the versions stands in the place of the rows
-pub refused_rows : (a : Written) (file : List ℕ) (table : ℕ) (fault : Fault) (all rows : List ListingItem) → all ≡ behind_refusal (suffixes_refusal file table) rows
-    → SuffixesOr file table (Err fault) → Stopped a a (stop_of fault) all
+pub refused_rows : (a : OutState) (file : List ℕ) (table : ℕ) (fault : Fault) (all rows : List ListingItem) → all ≡ after_refusal (suffixes_refusal file table) rows
+    → SuffixesOr file table (Err fault) → WroteUntilStop a a (stop_of fault) all
 refused_rows a file table (Refused refusal) all rows is or =
-    Ends-first a refusal all (λ other. is ∙ ap (λ (first : Option Refusal). behind_refusal first rows) (or other))
-refused_rows a file table (Source fault offset) all rows is or = Front-none a all
+    Ends-first a refusal all (λ other. is ∙ ap (λ (first : Option Refusal). after_refusal first rows) (or other))
+refused_rows a file table (Source fault offset) all rows is or = WrotePrefix-none a all
 
 module _ (file : List ℕ) (style : Style) (section : ℕ) (kind : is_symbol_table file (section_at file section) ≡ true)
     (pass : first_refusal (all_checks symbol_table file (section_at file section)) ≡ None) where
   symbols_are : table_rows suffixed_symbols file style section (section_at file section)
-      ≡ behind_refusal (suffixes_refusal file section) (each (suffixed_symbol_row file style section (section_at file section)) 0 (entry_count file (section_at file section) 24))
+      ≡ after_refusal (suffixes_refusal file section) (each (symbol_row_with_version file style section (section_at file section)) 0 (entry_count file (section_at file section) 24))
   unfolding suffixed_symbols suffixed_symbol_rows
   symbols_are = table_passes suffixed_symbols file style section (section_at file section) kind pass
 
   -- the rows of a table whose versions are found
   pub symbols_shown : (count : ℕ) → count ≡ entry_count file (section_at file section) 24 → suffixes_refusal file section ≡ None
-      → table_rows suffixed_symbols file style section (section_at file section) ≡ each (suffixed_symbol_row file style section (section_at file section)) 0 count
+      → table_rows suffixed_symbols file style section (section_at file section) ≡ each (symbol_row_with_version file style section (section_at file section)) 0 count
   symbols_shown count counted none =
-      let rows : ℕ → List ListingItem = λ n. each (suffixed_symbol_row file style section (section_at file section)) 0 n in
+      let rows : ℕ → List ListingItem = λ n. each (symbol_row_with_version file style section (section_at file section)) 0 n in
       symbols_are
-      ∙ (ap (λ (first : Option Refusal). behind_refusal first (rows (entry_count file (section_at file section) 24))) none ∙ ap rows (sym counted))
+      ∙ (ap (λ (first : Option Refusal). after_refusal first (rows (entry_count file (section_at file section) 24))) none ∙ ap rows (sym counted))
 
   -- of one without versions
   pub symbols_plain : (count : ℕ) → count ≡ entry_count file (section_at file section) 24 → SuffixesOr file section (Ok None)
@@ -79,9 +79,9 @@ module _ (file : List ℕ) (style : Style) (section : ℕ) (kind : is_symbol_tab
       ∙ (unversioned_symbols file style section (section_at file section) unnumbered ∙ ap (each (symbol_row file style section (section_at file section)) 0) (sym counted))
 
 -- and of one whose versions are refused
-pub symbols_refused : (a : Written) (file : List ℕ) (style : Style) (section : ℕ) → is_symbol_table file (section_at file section) ≡ true
+pub symbols_refused : (a : OutState) (file : List ℕ) (style : Style) (section : ℕ) → is_symbol_table file (section_at file section) ≡ true
     → first_refusal (all_checks symbol_table file (section_at file section)) ≡ None → (fault : Fault) → SuffixesOr file section (Err fault)
-    → Stopped a a (stop_of fault) (table_rows suffixed_symbols file style section (section_at file section))
+    → WroteUntilStop a a (stop_of fault) (table_rows suffixed_symbols file style section (section_at file section))
 symbols_refused a file style section kind pass fault or = refused_rows a file section fault _ _ (symbols_are file style section kind pass) or
 
 -- an entry whose symbol is refused, of a section that refers to no symbols, or to none of them
@@ -93,11 +93,11 @@ either_fails false true false place some or = (record { at = place; cause = Symb
 either_fails false true true place some (inl unlinked) = absurd cc
 either_fails false true true place some (inr none) = absurd cc
 
-named_by : (zero : Bool) (first : Option Refusal) (refusal : Refusal) (none some : ℕ × Result Shown Cause) → zero ≡ false → first ≡ Some refusal
-    → (if zero then none else elim first as (λ _. ℕ × Result Shown Cause) [ Some r ↦ (r.at, Err r.cause) | None ↦ some ]) ≡ (refusal.at, Err refusal.cause)
+named_by : (zero : Bool) (first : Option Refusal) (refusal : Refusal) (none some : ℕ × Result DisplayedName Cause) → zero ≡ false → first ≡ Some refusal
+    → (if zero then none else elim first as (λ _. ℕ × Result DisplayedName Cause) [ Some r ↦ (r.at, Err r.cause) | None ↦ some ]) ≡ (refusal.at, Err refusal.cause)
 named_by true first refusal none some zero is = absurd cc
 named_by false first refusal none some zero is =
-    ap (λ (f : Option Refusal). elim f as (λ _. ℕ × Result Shown Cause) [ Some r ↦ (r.at, Err r.cause) | None ↦ some ]) is
+    ap (λ (f : Option Refusal). elim f as (λ _. ℕ × Result DisplayedName Cause) [ Some r ↦ (r.at, Err r.cause) | None ↦ some ]) is
 
 module _ (file : List ℕ) (at rela_at : ℕ) (unnamed : (has_symbols file at ≡ false) ⊎ (entry_count file (linked_at file at) 24 ≡ 0)) (symbol : ℕ) (some : (symbol == 0) ≡ false) where
   symbol_fails : (refusal : Refusal) × (first_refusal (symbol_checks_of file at rela_at symbol) ≡ Some refusal)
@@ -111,22 +111,22 @@ module _ (file : List ℕ) (at rela_at : ℕ) (unnamed : (has_symbols file at �
   named_fails limit = named_by (symbol == 0) (first_refusal (symbol_checks_of file at rela_at symbol)) symbol_fails.0 _ _ some symbol_fails.1
 
 -- a name that is refused stands before its version
-refused_name : (choice : RowChoice) (front : LineFront) (named : ℕ × Result Shown Cause) (at : ℕ) (cause : Cause) (suffix : Result Suffix Refusal) → named ≡ (at, Err cause)
+refused_name : (choice : RowFilter) (front : LinePrefix) (named : ℕ × Result DisplayedName Cause) (at : ℕ) (cause : Cause) (suffix : Result Suffix Refusal) → named ≡ (at, Err cause)
     → suffixed_row choice front named.0 named.1 suffix ≡ chosen_row choice front named.0 named.1
 refused_name choice front named at cause suffix is = rw is refl
 
 unnamed_entry : (file : List ℕ) (style : Style) (section at index : ℕ) → (has_symbols file at ≡ false) ⊎ (entry_count file (linked_at file at) 24 ≡ 0)
-    → suffixed_relocation_row file style section at index ≡ relocation_row file style section at index
-unfolding suffixed_relocation_row relocation_row
+    → relocation_row_with_version file style section at index ≡ relocation_row file style section at index
+unfolding relocation_row_with_version relocation_row
 unnamed_entry file style section at index unnamed = by_symbol (r_sym file (entry_at file at 24 index) == 0) refl
   where
     by_symbol : (first : Bool) → (r_sym file (entry_at file at 24 index) == 0) ≡ first
-        → suffixed_row style.choice (relocation_front style.format style.gnu (e_machine file) file (entry_at file at 24 index) section)
+        → suffixed_row style.choice (relocation_prefix style.format style.gnu (e_machine file) file (entry_at file at 24 index) section)
         (symbol_named file style.cap at (entry_at file at 24 index) (r_sym file (entry_at file at 24 index))).0
         (symbol_named file style.cap at (entry_at file at 24 index) (r_sym file (entry_at file at 24 index))).1
         (if first then Ok NoSuffix
         else symbol_suffix file style.cap (sh_link file at) (entry_at file (linked_at file at) 24 (r_sym file (entry_at file at 24 index))) (r_sym file (entry_at file at 24 index)))
-        ≡ chosen_row style.choice (relocation_front style.format style.gnu (e_machine file) file (entry_at file at 24 index) section)
+        ≡ chosen_row style.choice (relocation_prefix style.format style.gnu (e_machine file) file (entry_at file at 24 index) section)
         (symbol_named file style.cap at (entry_at file at 24 index) (r_sym file (entry_at file at 24 index))).0
         (symbol_named file style.cap at (entry_at file at 24 index) (r_sym file (entry_at file at 24 index))).1
     by_symbol true is = unsuffixed_row style.choice _ _ _
@@ -142,63 +142,63 @@ linked_none true false first none = none
 linked_none false empty first none = refl
 
 module _ (file : List ℕ) (style : Style) (section : ℕ) (kind : (sh_type file (section_at file section) == 4) ≡ true) (table : Rows) where
-  entries_are : (linked : Option (Rows × Strings)) → AreRelocations file (section_at file section) table linked
-      → table_rows suffixed_relocations file style section (section_at file section)
-      ≡ behind_refusal
+  entries_are : (linked : Option (Rows × StringTableRange)) → AreRelocations file (section_at file section) table linked
+      → table_rows relocations_with_versions file style section (section_at file section)
+      ≡ after_refusal
       (linked_refusal (has_symbols file (section_at file section)) (table.count == 0) (suffixes_refusal file (sh_link file (section_at file section))))
-      (each (suffixed_relocation_row file style section (section_at file section)) 0 table.count)
-  unfolding suffixed_relocations suffixed_relocation_rows
-  entries_are linked are = rw are.counted (table_passes suffixed_relocations file style section (section_at file section) kind are.pass)
+      (each (relocation_row_with_version file style section (section_at file section)) 0 table.count)
+  unfolding relocations_with_versions suffixed_relocation_rows
+  entries_are linked are = rw are.counted (table_passes relocations_with_versions file style section (section_at file section) kind are.pass)
 
   -- the rows of a table whose versions are found
-  pub entries_shown : (linked : Option (Rows × Strings)) → AreRelocations file (section_at file section) table linked → suffixes_refusal file (sh_link file (section_at file section)) ≡ None
-      → table_rows suffixed_relocations file style section (section_at file section) ≡ each (suffixed_relocation_row file style section (section_at file section)) 0 table.count
+  pub entries_shown : (linked : Option (Rows × StringTableRange)) → AreRelocations file (section_at file section) table linked → suffixes_refusal file (sh_link file (section_at file section)) ≡ None
+      → table_rows relocations_with_versions file style section (section_at file section) ≡ each (relocation_row_with_version file style section (section_at file section)) 0 table.count
   entries_shown linked are none =
       entries_are linked are
-      ∙ ap (λ (first : Option Refusal). behind_refusal first (each (suffixed_relocation_row file style section (section_at file section)) 0 table.count))
+      ∙ ap (λ (first : Option Refusal). after_refusal first (each (relocation_row_with_version file style section (section_at file section)) 0 table.count))
       (linked_none (has_symbols file (section_at file section)) (table.count == 0) (suffixes_refusal file (sh_link file (section_at file section))) none)
 
   -- of one whose symbols have none, or which refers to no symbols
-  found_plain : (linked : Option (Rows × Strings)) → AreRelocations file (section_at file section) table linked
+  found_plain : (linked : Option (Rows × StringTableRange)) → AreRelocations file (section_at file section) table linked
       → SuffixesOr file (sh_link file (section_at file section)) (Ok None)
-      → table_rows suffixed_relocations file style section (section_at file section) ≡ each (relocation_row file style section (section_at file section)) 0 table.count
-  unfolding suffixed_relocations relocations
+      → table_rows relocations_with_versions file style section (section_at file section) ≡ each (relocation_row file style section (section_at file section)) 0 table.count
+  unfolding relocations_with_versions relocations
   found_plain linked are (none, inl empty) = entries_shown linked are none ∙ each_same _ _ 0 table.count (λ i. unnamed_entry file style section (section_at file section) i (inr empty))
   found_plain linked are (none, inr unnumbered) =
-      table_passes suffixed_relocations file style section (section_at file section) kind are.pass
+      table_passes relocations_with_versions file style section (section_at file section) kind are.pass
       ∙ (unversioned_entries file style section (section_at file section) unnumbered ∙ ap (each (relocation_row file style section (section_at file section)) 0) (sym are.counted))
 
-  pub entries_plain : (linked : Option (Rows × Strings)) → 0 < table.count → AreRelocations file (section_at file section) table linked
+  pub entries_plain : (linked : Option (Rows × StringTableRange)) → 0 < table.count → AreRelocations file (section_at file section) table linked
       → LinkedOr file (sh_link file (section_at file section)) linked (Ok None)
-      → table_rows suffixed_relocations file style section (section_at file section) ≡ each (relocation_row file style section (section_at file section)) 0 table.count
+      → table_rows relocations_with_versions file style section (section_at file section) ≡ each (relocation_row file style section (section_at file section)) 0 table.count
   entries_plain None some are or =
       let at = section_at file section in
       let unlinked = are.refers some in
-      let rows : List ListingItem = each (suffixed_relocation_row file style section at) 0 table.count in
+      let rows : List ListingItem = each (relocation_row_with_version file style section at) 0 table.count in
       entries_are None are
-      ∙ (ap (λ (has : Bool). behind_refusal (linked_refusal has (table.count == 0) (suffixes_refusal file (sh_link file at))) rows) unlinked
+      ∙ (ap (λ (has : Bool). after_refusal (linked_refusal has (table.count == 0) (suffixes_refusal file (sh_link file at))) rows) unlinked
       ∙ each_same _ _ 0 table.count (λ i. unnamed_entry file style section at i (inl unlinked)))
   entries_plain (Some found) some are or = let linked = are.refers some in found_plain (Some found) are (or linked.1.counted)
 
   -- and of one whose versions are refused
-  pub entries_refused : (a : Written) (linked : Option (Rows × Strings)) → 0 < table.count → AreRelocations file (section_at file section) table linked
+  pub entries_refused : (a : OutState) (linked : Option (Rows × StringTableRange)) → 0 < table.count → AreRelocations file (section_at file section) table linked
       → (fault : Fault) → LinkedOr file (sh_link file (section_at file section)) linked (Err fault)
-      → Stopped a a (stop_of fault) (table_rows suffixed_relocations file style section (section_at file section))
+      → WroteUntilStop a a (stop_of fault) (table_rows relocations_with_versions file style section (section_at file section))
   entries_refused a None some are fault or = absurd cc
   entries_refused a (Some found) some are fault or =
       let at = section_at file section in
       let linked = are.refers some in
       let filled : (table.count == 0) ≡ false = ne_eqb table.count 0 (λ zero. omega (arith, zero, some)) in
-      let rows : List ListingItem = each (suffixed_relocation_row file style section at) 0 table.count in
+      let rows : List ListingItem = each (relocation_row_with_version file style section at) 0 table.count in
       refused_rows a file (sh_link file at) fault _ rows
       (entries_are (Some found) are
-      ∙ (ap (λ (has : Bool). behind_refusal (linked_refusal has (table.count == 0) (suffixes_refusal file (sh_link file at))) rows) linked.0
-      ∙ ap (λ (empty : Bool). behind_refusal (linked_refusal true empty (suffixes_refusal file (sh_link file at))) rows) filled))
+      ∙ (ap (λ (has : Bool). after_refusal (linked_refusal has (table.count == 0) (suffixes_refusal file (sh_link file at))) rows) linked.0
+      ∙ ap (λ (empty : Bool). after_refusal (linked_refusal true empty (suffixes_refusal file (sh_link file at))) rows) filled))
       (or linked.1.counted)
 
   -- no entries have no rows
-  pub no_entries : (a : Written) (linked : Option (Rows × Strings)) → table.count ≡ 0 → AreRelocations file (section_at file section) table linked
-      → WroteItems a a (table_rows suffixed_relocations file style section (section_at file section))
+  pub no_entries : (a : OutState) (linked : Option (Rows × StringTableRange)) → table.count ≡ 0 → AreRelocations file (section_at file section) table linked
+      → WroteItems a a (table_rows relocations_with_versions file style section (section_at file section))
   unfolding each
   no_entries a linked none are =
       let at = section_at file section in
@@ -211,7 +211,7 @@ module _ (file : List ℕ) (style : Style) (section : ℕ) (kind : (sh_type file
       by_link false first = refl
 
 -- what is found is of the symbols that are referred to
-pub linked_found : (file : List ℕ) (at : ℕ) (linked : Option (Rows × Strings)) {suffixes : Suffixes} → RefersTo file at linked → LinkedOr file (sh_link file at) linked (Ok (Some suffixes))
+pub linked_found : (file : List ℕ) (at : ℕ) (linked : Option (Rows × StringTableRange)) {suffixes : VersionLookup} → RefersTo file at linked → LinkedOr file (sh_link file at) linked (Ok (Some suffixes))
     → (suffixes_refusal file (sh_link file at) ≡ None) × AreSuffixes file (sh_link file at) suffixes
 linked_found file at None refers or = absurd cc
 linked_found file at (Some found) refers or = or refers.1.counted

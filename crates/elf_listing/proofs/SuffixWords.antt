@@ -12,12 +12,12 @@ use Rattle.elf_headers.specs.declared.fault.Fault.{Fault}
 use Rattle.elf_headers.specs.declared.fault.Fault.TheVariants.{Refused, Source}
 use Rattle.elf_table.specs.NamesRead.{shown_by}
 use Rattle.elf_table.specs.declared.names.NameEnd.{NameEnd}
-use Rattle.elf_listing.specs.SuffixNames.{number_told}
+use Rattle.elf_listing.specs.SuffixNames.{number_reported}
 use Rattle.elf_listing.specs.Suffixed.{AreSuffixes, SuffixNamed, SuffixRead}
-use Rattle.elf_listing.specs.declared.read_suffix.SuffixEnd.{SuffixEnd}
-use Rattle.elf_listing.specs.declared.suffixes.Suffixes.{Suffixes}
+use Rattle.elf_listing.specs.declared.read_suffix.VersionSuffixEnd.{VersionSuffixEnd}
+use Rattle.elf_listing.specs.declared.suffixes.VersionLookup.{VersionLookup}
 
-module _ (file : List ℕ) (table : ℕ) (suffixes : Suffixes) (are : AreSuffixes file table suffixes) (cap symbol_at index : ℕ) where
+module _ (file : List ℕ) (table : ℕ) (suffixes : VersionLookup) (are : AreSuffixes file table suffixes) (cap symbol_at index : ℕ) where
   suffix_is : symbol_suffix file cap table symbol_at index ≡ suffix_at file cap (section_at file are.section) symbol_at index
   unfolding symbol_suffix
   suffix_is =
@@ -47,11 +47,11 @@ module _ (file : List ℕ) (table : ℕ) (suffixes : Suffixes) (are : AreSuffixe
 
     -- a number that a record names, or none
     pub suffix_named : 2 ≤ number_in word
-        → symbol_suffix file cap table symbol_at index ≡ number_told file cap (number_in word) word_at (is_default file symbol_at word)
+        → symbol_suffix file cap table symbol_at index ≡ number_reported file cap (number_in word) word_at (is_default file symbol_at word)
     unfolding word_suffix
     suffix_named many =
         let high : nat_lt (number_in (versym file word_at)) 2 ≡ false = le-ltb _ 2 (rw is at many) in
-        word_is_at ∙ (rw high refl ∙ ap (λ (w : ℕ). number_told file cap (number_in w) word_at (is_default file symbol_at w)) (sym is))
+        word_is_at ∙ (rw high refl ∙ ap (λ (w : ℕ). number_reported file cap (number_in w) word_at (is_default file symbol_at w)) (sym is))
 
 -- what was read of its name is what was read of the version
 pub named_read : (end : NameEnd) (version : List ℕ) (answer : Result Suffix Refusal) (told : Bool → Result Suffix Refusal) (default : Bool) → answer ≡ told default

@@ -7,34 +7,34 @@ use Rattle.elf_model.specs.Records.{sh_link, sh_offset, sh_size, section_at}
 use Rattle.elf_model.specs.Report.{table_rows}
 use Rattle.elf_model.specs.Style.{Style}
 use Rattle.elf_model.specs.Tables.{all_checks, strings_of}
-use Rattle.elf_model.specs.VersionRows.{version_table, versions_rows, met_rows}
-use Rattle.elf_model.specs.Versions.{met_from, record_size, versions_in}
+use Rattle.elf_model.specs.VersionRows.{version_table, versions_rows, visited_rows}
+use Rattle.elf_model.specs.Versions.{visited_from, record_size, versions_in}
 use Rattle.elf_model.specs.declared.versions.VersionKind.{VersionKind}
 use Rattle.elf_model.specs.declared.versions.VersionKind.TheVariants.{Definition, File, Need}
 use Rattle.elf_model.proofs.CheckSteps.{first_refusal-none, first_refusal-some}
 use Rattle.elf_model.proofs.VersionSteps.{met-ended}
 use Rattle.elf_headers.specs.declared.fault.Fault.{Fault}
 use Rattle.elf_headers.specs.declared.fault.Fault.TheVariants.{Refused, Source}
-use Rattle.elf_headers.specs.declared.stop.Stop.{Stop}
-use Rattle.elf_names.proofs.SpendsLaws.{Spends-reads, Spends-then, Spends-to}
-use Rattle.elf_source.specs.Output.{Written}
-use Rattle.elf_source.specs.Source.{Counting, Reads}
+use Rattle.elf_headers.specs.declared.stop.RunFault.{RunFault}
+use Rattle.elf_names.proofs.SpendsLaws.{SpendsAtMost-reads, SpendsAtMost-then, SpendsAtMost-to}
+use Rattle.elf_source.specs.Output.{OutState}
+use Rattle.elf_source.specs.Source.{CountedState, ReadsUpTo}
 use Rattle.elf_table.specs.Relocations.{RefusedBy}
 use Rattle.elf_table.specs.Sections.{byte_rows, names_at, rows, string_table_at}
-use Rattle.elf_table.specs.Tables.{Rows, Strings, strings_in}
+use Rattle.elf_table.specs.Tables.{Rows, StringTableRange, strings_in}
 use Rattle.elf_table.proofs.RelocationLaws.{passed_first, table-fails}
-use Rattle.elf_versions.specs.Reading.{StartsVersions, Walking, versions_left}
-use Rattle.elf_listing.specs.Shows.{Spent, WroteItems}
+use Rattle.elf_versions.specs.Reading.{StartsVersions, VersionCursorState, versions_left}
+use Rattle.elf_listing.specs.Shows.{SpentCredit, WroteItems}
 use Rattle.elf_listing.specs.Versions.{records_kind, versions_items}
 use Rattle.elf_listing.proofs.SectionShown.{table_passes}
 use Rattle.elf_listing.proofs.ShowLaws.{StopSays-then, Whole-none}
 
 -- a call behind reads, in a bound on what is asked for by both
-pub Spent-account : {X : Type 0} (a b c : Counting) (out : Written) (x y : ℕ) (result : Result X Stop) (n m k : ℕ) → b.asked + m ≤ a.asked + k → Reads a b n
-    → Spent b c out x y result m → Spent a c out x y result k
-Spent-account a b c out x y (Ok v) n m k within p q = (Spends-to (Spends-then (Spends-reads x p) q.0) (omega (arith, within, q.0.account)), tt)
-Spent-account a b c out x y (Err stop) n m k within p q =
-    (Spends-to (Spends-then (Spends-reads x p) q.0) (omega (arith, within, q.0.account)), StopSays-then a b c out stop n (x + m) (x + k) (omega (arith, within)) p q.1)
+pub SpentCredit-account : {X : Type 0} (a b c : CountedState) (out : OutState) (x y : ℕ) (result : Result X RunFault) (n m k : ℕ) → b.asked + m ≤ a.asked + k → ReadsUpTo a b n
+    → SpentCredit b c out x y result m → SpentCredit a c out x y result k
+SpentCredit-account a b c out x y (Ok v) n m k within p q = (SpendsAtMost-to (SpendsAtMost-then (SpendsAtMost-reads x p) q.0) (omega (arith, within, q.0.account)), tt)
+SpentCredit-account a b c out x y (Err stop) n m k within p q =
+    (SpendsAtMost-to (SpendsAtMost-then (SpendsAtMost-reads x p) q.0) (omega (arith, within, q.0.account)), StopSays-then a b c out stop n (x + m) (x + k) (omega (arith, within)) p q.1)
 
 -- the checks of a section that is not empty: its range, then its string table's
 module _ (file : List ℕ) (at : ℕ) (some : (sh_size file at == 0) ≡ false) where
@@ -65,15 +65,15 @@ module _ (file : List ℕ) (at : ℕ) (some : (sh_size file at == 0) ≡ false) 
         behind (Refused refusal) by = first_refusal-none range (strings_checks file at) own.0 ∙ by
         behind (Source fault offset) by = by
 
-    pub found : (names : Strings) → string_table_at file at ≡ Ok names
+    pub found : (names : StringTableRange) → string_table_at file at ≡ Ok names
         → (first_refusal (all_checks version_table file at) ≡ None) × (strings_of file at ≡ strings_in file names) × (table ≡ rows (sh_offset file at) (sh_size file at) 1)
     unfolding range
     found names h =
         let linked = passed_first (first_refusal (strings_checks file at)) (names_at file (section_at file (sh_link file at))) names h in
-        (rw some (first_refusal-none range (strings_checks file at) own.0 ∙ linked.0), ap (λ (n : Strings). strings_in file n) linked.1, sym own.1)
+        (rw some (first_refusal-none range (strings_checks file at) own.0 ∙ linked.0), ap (λ (n : StringTableRange). strings_in file n) linked.1, sym own.1)
 
 -- what a new cursor gives are the records of the table
-pub left_all : (kind : VersionKind) (file : List ℕ) (head : ℕ) (table : Rows) (c : Walking) → StartsVersions kind head table c
+pub left_all : (kind : VersionKind) (file : List ℕ) (head : ℕ) (table : Rows) (c : VersionCursorState) → StartsVersions kind head table c
     → versions_left file c ≡ versions_in kind file head table.at table.count
 unfolding versions_in
 left_all kind file head table c starts =
@@ -83,7 +83,7 @@ left_all kind file head table c starts =
     rw (its_table, standing, left) refl
 
 -- the rows of a section whose checks pass
-pub section_is : (kind : VersionKind) (file : List ℕ) (style : Style) (section at : ℕ) (names : Strings) (table : Rows) (c : Walking)
+pub section_is : (kind : VersionKind) (file : List ℕ) (style : Style) (section at : ℕ) (names : StringTableRange) (table : Rows) (c : VersionCursorState)
     → ((records_kind kind).has_table file at) ≡ true → first_refusal (all_checks version_table file at) ≡ None → strings_of file at ≡ strings_in file names
     → table ≡ rows (sh_offset file at) (sh_size file at) 1 → StartsVersions kind at table c
     → table_rows (records_kind kind) file style section at ≡ versions_items file style section (strings_in file names) (versions_left file c)
@@ -94,9 +94,9 @@ section_is kind file style section at names table c has pass strings same starts
     table_passes (records_kind kind) file style section at has pass ∙ rw (strings, left) refl
 
 -- those of an empty one
-pub none_are : (kind : VersionKind) (file : List ℕ) (style : Style) (section : ℕ) (a : Written) (at : ℕ) → ((records_kind kind).has_table file at) ≡ true → sh_size file at ≡ 0
+pub none_are : (kind : VersionKind) (file : List ℕ) (style : Style) (section : ℕ) (a : OutState) (at : ℕ) → ((records_kind kind).has_table file at) ≡ true → sh_size file at ≡ 0
     → WroteItems a a (table_rows (records_kind kind) file style section at)
-unfolding versions_rows versions_in met_rows met_from
+unfolding versions_rows versions_in visited_rows visited_from
 none_are kind file style section a at has empty = rw (table_passes (records_kind kind) file style section at has (rw empty refl)) (rw empty (Whole-none a))
 
 -- what a section's records ask for: each itself, and its name

@@ -11,23 +11,23 @@ use Rattle.elf_model.specs.VersionCost.{has_symbol_table, is_inside, versioned_c
 use Rattle.elf_model.specs.VersionRows.{symbol_versions}
 use Rattle.elf_model.specs.declared.causes.Cause.TheVariants.{TableOutside}
 use Rattle.elf_model.proofs.StoreLemmas.{places_decide_nothing}
-use Rattle.elf_headers.specs.Faults.{Says}
-use Rattle.elf_headers.specs.Store.{Stored, row}
+use Rattle.elf_headers.specs.Faults.{IsReadFault}
+use Rattle.elf_headers.specs.Store.{StoreState, row}
 use Rattle.elf_headers.specs.declared.fault.Fault.{Fault}
 use Rattle.elf_headers.specs.declared.fault.Fault.TheVariants.{Refused, Source}
-use Rattle.elf_source.specs.Source.{Counting, Reads}
-use Rattle.elf_source.proofs.ReadsLaws.{Faults-then, OverLimit-then}
+use Rattle.elf_source.specs.Source.{CountedState, ReadsUpTo}
+use Rattle.elf_source.proofs.ReadsLaws.{IsSourceFault-then, ExceedsBudget-then}
 use Rattle.elf_table.specs.Sections.{byte_rows, checked, rows, table_of}
 use Rattle.elf_table.specs.Tables.{Rows}
 use Rattle.elf_table.proofs.RelocationLaws.{passed_first}
 use Rattle.elf_listing.specs.Parts.{store_sections}
 use Rattle.elf_listing.specs.Versions.{kind_type}
-use Rattle.elf_model.specs.Versions.{most_records, record_size}
+use Rattle.elf_model.specs.Versions.{max_records, record_size}
 use Rattle.elf_model.specs.declared.versions.VersionKind.{VersionKind}
 use Rattle.elf_versions.specs.Reading.{bytes_each}
 
 -- the rows of a section, with what finds the names, are what its header counts for
-pub versioned-within : (store : Stored) (i size place cap symbols : ℕ) (table : Rows) → (sh_type (row store i) 0 == SHT_GNU_VERSYM) ≡ true
+pub versioned-within : (store : StoreState) (i size place cap symbols : ℕ) (table : Rows) → (sh_type (row store i) 0 == SHT_GNU_VERSYM) ≡ true
     → table_of (row store i) 0 size place 2 ≡ Ok table → (sh_size (row store i) 0 == 0) ≡ false → has_symbol_table (store_sections store) i size ≡ true
     → table.count ≡ sh_size (row store i) 0 / 2 → symbols ≡ header_field (store_sections store) sh_size (sh_link (row store i) 0) / 24
     → walks_cost (store_sections store) size + min table.count symbols * (2 + name_bytes cap) ≤ table_cost symbol_versions (store_sections store) i size cap
@@ -58,13 +58,13 @@ range-inside size offset n place table some h = by_cases (is_outside size offset
     by_cases false h = (refl, cc)
 
 -- what a fault says behind reads, in a bound on what is asked for by both
-pub Says-account : (a b c : Counting) (fault : Fault) (n m k : ℕ) → b.asked + m ≤ a.asked + k → Reads a b n → Says b c m fault → Says a c k fault
-Says-account a b c (Refused refusal) n m k within p q = λ budget. let over = q budget in (rw (sym p.keeps.same_size) over.0, OverLimit-then n k within p over.1, over.2)
-Says-account a b c (Source fault at) n m k within p q = (Faults-then a.seen b.seen c.seen fault p.keeps q.0, q.1)
+pub IsReadFault-account : (a b c : CountedState) (fault : Fault) (n m k : ℕ) → b.asked + m ≤ a.asked + k → ReadsUpTo a b n → IsReadFault b c m fault → IsReadFault a c k fault
+IsReadFault-account a b c (Refused refusal) n m k within p q = λ budget. let over = q budget in (rw (sym p.keeps.same_size) over.0, ExceedsBudget-then n k within p over.1, over.2)
+IsReadFault-account a b c (Source fault at) n m k within p q = (IsSourceFault-then a.seen b.seen c.seen fault p.keeps q.0, q.1)
 
-pub walk-cost : (store : Stored) (size i : ℕ) (kind : VersionKind) (type offset n place : ℕ) (table : Rows) → Some i ≡ first_typed (store_sections store) type
+pub walk-cost : (store : StoreState) (size i : ℕ) (kind : VersionKind) (type offset n place : ℕ) (table : Rows) → Some i ≡ first_typed (store_sections store) type
     → type ≡ kind_type kind → offset ≡ sh_offset (row store i) 0 → n ≡ sh_size (row store i) 0 → (n == 0) ≡ false → byte_rows size offset n place ≡ Ok table
-    → walk_cost (store_sections store) size (kind_type kind) (record_size kind) (bytes_each kind) ≡ most_records kind table.count * bytes_each kind
+    → walk_cost (store_sections store) size (kind_type kind) (record_size kind) (bytes_each kind) ≡ max_records kind table.count * bytes_each kind
 walk-cost store size i kind type offset n place table first typed off len some h =
     let inside = range-inside size offset n place table some h in
     let within : is_inside (store_sections store) i size ≡ true = rw (off, len) at inside.0 in

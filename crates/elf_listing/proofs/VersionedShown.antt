@@ -5,23 +5,23 @@ use Rattle.std.proofs.lemmas.List.Elements.{All-nil}
 use Rattle.std.specs.Prelude.{All}
 use Rattle.std.specs.Prelude.{is_none}
 use Rattle.std.specs.Result.{is_ok}
-use Rattle.elf_model.specs.Choice.{RowChoice}
+use Rattle.elf_model.specs.Choice.{RowFilter}
 use Rattle.elf_model.specs.Checks.{first_refusal, pass, table_checks_of}
 use Rattle.elf_model.specs.Cost.{cost_where, table_cost}
 use Rattle.elf_model.specs.HeaderTables.{HeaderTable, TableKind, file_sections, first_typed, header_field}
 use Rattle.elf_model.specs.Listing.{ListingItem, Fault as FaultItem, each, fault_of}
-use Rattle.elf_model.specs.Names.{Shown, name_bytes, shown}
+use Rattle.elf_model.specs.Names.{DisplayedName, name_bytes, shown}
 use Rattle.elf_model.specs.Numbers.{SHT_GNU_VERDEF, SHT_GNU_VERNEED}
 use Rattle.elf_model.specs.Records.{e_shnum, sh_offset, sh_size, sh_type, section_at, versym}
 use Rattle.elf_model.specs.Report.{kinds_rows, table_rows}
-use Rattle.elf_model.specs.Fields.{LineFront}
+use Rattle.elf_model.specs.Fields.{LinePrefix}
 use Rattle.elf_model.specs.Rows.{chosen_row, refused_row}
 use Rattle.elf_model.specs.Style.{Style}
 use Rattle.elf_model.specs.Tables.{all_checks, entry_count, strings_of}
 use Rattle.elf_model.specs.VersionCost.{has_symbol_table, versioned_cost, versioned_rows, walk_cost, walks_cost, is_inside}
 use Rattle.elf_model.specs.VersionLaws.{records_rows}
-use Rattle.elf_model.specs.VersionRows.{end_rows, first_of_type, first_strings, first_versions, met_rows, numbered_row, section_versions, symbol_version_front, symbol_version_row, symbol_version_rows, symbol_versions, version_definitions, version_named, version_needs, version_strings, version_table, versioned_symbols, versions_rows}
-use Rattle.elf_model.specs.Versions.{VERSYM_SIZE, Met, Versions, named_by, name_index, named_at, number_in, version_of, versions_in, met_from}
+use Rattle.elf_model.specs.VersionRows.{end_rows, first_of_type, first_strings, first_versions, visited_rows, numbered_row, section_versions, symbol_version_prefix, symbol_version_row, symbol_version_rows, symbol_versions, version_definitions, version_named, version_needs, version_strings, version_table, versioned_symbols, versions_rows}
+use Rattle.elf_model.specs.Versions.{VERSYM_SIZE, VisitedRecord, Versions, named_by, name_index, named_at, number_in, version_of, versions_in, visited_from}
 use Rattle.elf_model.specs.declared.causes.Cause.{Cause}
 use Rattle.elf_model.specs.declared.causes.Cause.TheVariants.{VersionCut, VersionIndex}
 use Rattle.elf_model.specs.declared.causes.Refusal.{Refusal}
@@ -30,27 +30,27 @@ use Rattle.elf_model.specs.declared.versions.VersionKind.TheVariants.{Definition
 use Rattle.elf_model.proofs.VersionNameLaws.{IsDefinition, back-none, each-none, front-none, named-is, names_are_shown, table-kinds}
 use Rattle.elf_model.proofs.LookupSteps.{first_that-holds}
 use Rattle.elf_versions.specs.NumberNames.{IsNameOfRecord, NamesNumbers, name_at}
-use Rattle.elf_versions.specs.declared.number_names.NameAt.{NameAt}
-use Rattle.elf_versions.specs.declared.number_names.NameAt.TheVariants.{Nowhere, Defined, Needed}
-use Rattle.elf_table.specs.Tables.{Rows, Strings, strings_in}
+use Rattle.elf_versions.specs.declared.number_names.VersionNameRef.{VersionNameRef}
+use Rattle.elf_versions.specs.declared.number_names.VersionNameRef.TheVariants.{Nowhere, Defined, Needed}
+use Rattle.elf_table.specs.Tables.{Rows, StringTableRange, strings_in}
 use Rattle.elf_headers.specs.Stops.{stop_of}
 use Rattle.elf_headers.specs.declared.fault.Fault.{Fault}
 use Rattle.elf_headers.specs.declared.fault.Fault.TheVariants.{Refused, Source}
-use Rattle.elf_headers.specs.declared.stop.Stop.{Stop}
-use Rattle.elf_source.specs.Output.{Written}
+use Rattle.elf_headers.specs.declared.stop.RunFault.{RunFault}
+use Rattle.elf_source.specs.Output.{OutState}
 use Rattle.elf_source.specs.declared.source.Source.{Ghosts as Sources}
 use Rattle.elf_source.specs.declared.sink.Sink.{Ghosts as Sinks}
-use Rattle.elf_listing.specs.Shows.{EndsRefused, Fetches, Lists, Stopped, WroteItems}
+use Rattle.elf_listing.specs.Shows.{WroteUntilRefusal, ListingReads, Lists, WroteUntilStop, WroteItems}
 use Rattle.elf_listing.specs.declared.listing.Listing.{Listing}
 use Rattle.elf_listing.proofs.ListsLaws.{SameFile-then}
-use Rattle.elf_listing.proofs.RowLaws.{Ends-first, Front-none}
-use Rattle.elf_listing.proofs.ShowLaws.{Spent-then, Whole-none}
+use Rattle.elf_listing.proofs.RowLaws.{Ends-first, WrotePrefix-none}
+use Rattle.elf_listing.proofs.ShowLaws.{SpentCredit-then, Whole-none}
 use Rattle.elf_listing.proofs.SectionShown.{table_passes}
-use Rattle.elf_listing.specs.Numbered.{told_row, version_told}
+use Rattle.elf_listing.specs.Numbered.{reported_row, version_told}
 use Rattle.elf_listing.specs.SymbolVersions.{AreNumbered, AreRecordsWhole, NumberedOr, versioned_items, walks_refusal}
 use Rattle.elf_listing.proofs.FirstTaken.{or-none, walk-whole}
 use Rattle.elf_listing.specs.Versions.{kind_type}
-use Rattle.elf_listing.specs.declared.numbered.Numbered.{Numbered}
+use Rattle.elf_listing.specs.declared.numbered.VersionStrings.{VersionStrings}
 
 -- rows without a fault have checks that pass, and no record that is refused
 passes-none : (checks : Option Refusal) (members : List ListingItem)
@@ -70,7 +70,7 @@ section-whole kind table file style i at has rows h =
     let passes = passes-none (first_refusal (all_checks table.checks file at)) (table.rows file style i at) (rw (has, table_rows) at h) in
     let none = rw (rows, versions_rows) at passes.1 in
     let versions = section_versions kind file at in
-    (passes.0, cut-none versions.cut (back-none (met_rows file style i (strings_of file at) versions.met) (end_rows versions.cut) none))
+    (passes.0, cut-none versions.cut (back-none (visited_rows file style i (strings_of file at) versions.met) (end_rows versions.cut) none))
 
 pub definitions-whole : (file : List ℕ) (style : Style) → fault_of (records_rows file style) ≡ None → AreRecordsWhole file Definition
 unfolding kinds_rows version_definitions version_needs
@@ -91,34 +91,34 @@ needs-whole file style h = walk-whole File SHT_GNU_VERNEED file (λ i first.
     section-whole File version_needs file style i (section_at file i) there.0 refl row)
 
 -- a name that is shown makes one row, wherever its fault would be
-shown-anywhere : (choice : RowChoice) (front : LineFront) (at other : ℕ) (name : Result Shown Cause) → is_ok name ≡ true → chosen_row choice front at name ≡ chosen_row choice front other name
+shown-anywhere : (choice : RowFilter) (front : LinePrefix) (at other : ℕ) (name : Result DisplayedName Cause) → is_ok name ≡ true → chosen_row choice front at name ≡ chosen_row choice front other name
 shown-anywhere choice front at other (Ok name) h = refl
 shown-anywhere choice front at other (Err cause) h = cc
 
 -- all records of the first section of a type are of one kind
-first-kinds : (kind : VersionKind) (type : ℕ) (file : List ℕ) → All (λ (m : Met). IsDefinition m.kind ≡ IsDefinition kind) (first_versions kind type file)
+first-kinds : (kind : VersionKind) (type : ℕ) (file : List ℕ) → All (λ (m : VisitedRecord). IsDefinition m.kind ≡ IsDefinition kind) (first_versions kind type file)
 first-kinds kind type file = by_found (first_of_type file type)
   where
     by_found : (found : Option ℕ)
-        → All (λ (m : Met). IsDefinition m.kind ≡ IsDefinition kind) (elim found as (λ _. List Met) [ None ↦ [] | Some i ↦ (section_versions kind file (section_at file i)).met ])
+        → All (λ (m : VisitedRecord). IsDefinition m.kind ≡ IsDefinition kind) (elim found as (λ _. List VisitedRecord) [ None ↦ [] | Some i ↦ (section_versions kind file (section_at file i)).met ])
     by_found None = All-nil _
     by_found (Some i) = table-kinds kind file (section_at file i)
 
 -- so a number that a definition names is not one of the needs, nor the other way round
-pub some-definitions : (file : List ℕ) (number : ℕ) (definitions : List Met) (met : Met) → named_by file number (definitions ++ first_versions File SHT_GNU_VERNEED file) ≡ Some met
+pub some-definitions : (file : List ℕ) (number : ℕ) (definitions : List VisitedRecord) (met : VisitedRecord) → named_by file number (definitions ++ first_versions File SHT_GNU_VERNEED file) ≡ Some met
     → met.kind ≡ Definition → definitions ≡ [] → ⊥
 some-definitions file number definitions met named kind none =
     let needs = first_versions File SHT_GNU_VERNEED file in
     let found : named_by file number needs ≡ Some met = rw none at named in
-    let is = named-is file number (λ (m : Met). IsDefinition m.kind ≡ false) needs met (first-kinds File SHT_GNU_VERNEED file) found in
+    let is = named-is file number (λ (m : VisitedRecord). IsDefinition m.kind ≡ false) needs met (first-kinds File SHT_GNU_VERNEED file) found in
     let other = rw kind at is in cc
 
-pub some-needs : (file : List ℕ) (number : ℕ) (needs : List Met) (met : Met) → named_by file number (first_versions Definition SHT_GNU_VERDEF file ++ needs) ≡ Some met
+pub some-needs : (file : List ℕ) (number : ℕ) (needs : List VisitedRecord) (met : VisitedRecord) → named_by file number (first_versions Definition SHT_GNU_VERDEF file ++ needs) ≡ Some met
     → met.kind ≡ Need → needs ≡ [] → ⊥
 some-needs file number needs met named kind none =
     let definitions = first_versions Definition SHT_GNU_VERDEF file in
-    let found : named_by file number definitions ≡ Some met = ap (named_by file number) (sym (ap (λ (n : List Met). definitions ++ n) none ∙ append-nil definitions)) ∙ named in
-    let is = named-is file number (λ (m : Met). IsDefinition m.kind ≡ true) definitions met (first-kinds Definition SHT_GNU_VERDEF file) found in
+    let found : named_by file number definitions ≡ Some met = ap (named_by file number) (sym (ap (λ (n : List VisitedRecord). definitions ++ n) none ∙ append-nil definitions)) ∙ named in
+    let is = named-is file number (λ (m : VisitedRecord). IsDefinition m.kind ≡ true) definitions met (first-kinds Definition SHT_GNU_VERDEF file) found in
     let other = rw kind at is in cc
 
 pub strings-defined : (file : List ℕ) (kind : VersionKind) → kind ≡ Definition → version_strings file kind ≡ first_strings SHT_GNU_VERDEF file
@@ -129,24 +129,24 @@ pub strings-needed : (file : List ℕ) (kind : VersionKind) → kind ≡ Need �
 unfolding version_strings
 strings-needed file kind is = rw is refl
 
-module _ (file : List ℕ) (style : Style) (numbered : Numbered) (places : List ℕ) (are : AreNumbered file numbered places) (no_fault : fault_of (records_rows file style) ≡ None) (front : LineFront) (entry number : ℕ) where
-  all : List Met
+module _ (file : List ℕ) (style : Style) (numbered : VersionStrings) (places : List ℕ) (are : AreNumbered file numbered places) (no_fault : fault_of (records_rows file style) ≡ None) (front : LinePrefix) (entry number : ℕ) where
+  all : List VisitedRecord
   all = first_versions Definition SHT_GNU_VERDEF file ++ first_versions File SHT_GNU_VERNEED file
 
-  abbrev told : NameAt → Result Shown Cause
+  abbrev told : VersionNameRef → Result DisplayedName Cause
   told name = elim name [
     | Nowhere ↦ Err VersionIndex
     | Defined index ↦ shown (strings_in file numbered.defined) index style.cap
     | Needed index ↦ shown (strings_in file numbered.needed) index style.cap
   ]
 
-  abbrev listed : Option Met → List ListingItem
+  abbrev listed : Option VisitedRecord → List ListingItem
   listed named = elim named [
     | None ↦ refused_row entry VersionIndex
     | Some met ↦ chosen_row style.choice front (named_at file met) (shown (version_strings file met.kind) (name_index file met) style.cap)
   ]
 
-  by_name : (few : nat_lt number 2 ≡ false) (named : Option Met) → named_by file number all ≡ named → (name : NameAt) → IsNameOfRecord file named name → chosen_row style.choice front entry (told name) ≡ listed named
+  by_name : (few : nat_lt number 2 ≡ false) (named : Option VisitedRecord) → named_by file number all ≡ named → (name : VersionNameRef) → IsNameOfRecord file named name → chosen_row style.choice front entry (told name) ≡ listed named
   unfolding all version_named version_of
   by_name few None is Nowhere fits = refl
   by_name few None is (Defined index) fits = absurd fits
@@ -171,13 +171,13 @@ module _ (file : List ℕ) (style : Style) (numbered : Numbered) (places : List 
   ]
 
 -- the row of an entry
-pub entry-is : (file : List ℕ) (style : Style) (numbered : Numbered) (places : List ℕ) → AreNumbered file numbered places → fault_of (records_rows file style) ≡ None → (section at index : ℕ)
-    → told_row file style numbered section (sh_offset file at + index * VERSYM_SIZE) index ≡ symbol_version_row file style section at index
-unfolding told_row symbol_version_row
+pub entry-is : (file : List ℕ) (style : Style) (numbered : VersionStrings) (places : List ℕ) → AreNumbered file numbered places → fault_of (records_rows file style) ≡ None → (section at index : ℕ)
+    → reported_row file style numbered section (sh_offset file at + index * VERSYM_SIZE) index ≡ symbol_version_row file style section at index
+unfolding reported_row symbol_version_row
 entry-is file style numbered places are no_fault section at index =
     let place : sh_offset file at + index * 2 ≡ sh_offset file at + 2 * index = omega arith in
     rw place
-    (number-is file style numbered places are no_fault (symbol_version_front style.format section index (versym file (sh_offset file at + 2 * index))) (sh_offset file at + 2 * index)
+    (number-is file style numbered places are no_fault (symbol_version_prefix style.format section index (versym file (sh_offset file at + 2 * index))) (sh_offset file at + 2 * index)
     (number_in (versym file (sh_offset file at + 2 * index))))
 
 each-equal : (row other : ℕ → List ListingItem) (first count : ℕ) → ((i : ℕ) → row i ≡ other i) → each row first count ≡ each other first count
@@ -186,7 +186,7 @@ each-equal row other first zero same = refl
 each-equal row other first (suc count) same = let one = same first in let more = each-equal row other (suc first) count same in cc
 
 -- the rows of a section
-pub rows-are : (file : List ℕ) (style : Style) (numbered : Numbered) (places : List ℕ) → AreNumbered file numbered places → fault_of (records_rows file style) ≡ None
+pub rows-are : (file : List ℕ) (style : Style) (numbered : VersionStrings) (places : List ℕ) → AreNumbered file numbered places → fault_of (records_rows file style) ≡ None
     → (section at : ℕ) (table : Rows) (symbols : ℕ) → (sh_size file at == 0) ≡ false → table.at ≡ sh_offset file at → table.count ≡ entry_count file at VERSYM_SIZE
     → symbols ≡ versioned_symbols file at
     → symbol_version_rows file style section at ≡ versioned_items file style numbered section table symbols at
@@ -194,37 +194,37 @@ unfolding symbol_version_rows versioned_items
 rows-are file style numbered places are no_fault section at table symbols some place count linked =
     rw (some, place, count, linked)
     (ap (λ (rows : List ListingItem). rows ++ (if nat_lt (entry_count file at VERSYM_SIZE) (versioned_symbols file at) then refused_row at VersionCut else []))
-    (sym (each-equal (λ i. told_row file style numbered section (sh_offset file at + i * VERSYM_SIZE) i) (symbol_version_row file style section at) 0
+    (sym (each-equal (λ i. reported_row file style numbered section (sh_offset file at + i * VERSYM_SIZE) i) (symbol_version_row file style section at) 0
     (min (entry_count file at VERSYM_SIZE) (versioned_symbols file at)) (entry-is file style numbered places are no_fault section at))))
 
 -- a call that writes behind one that reads, in a bound on both
-pub Lists-behind : {S W X Y : Type 0} {s : Sources S} {w : Sinks W} (a b c : Listing S W s w) (y : Y) (result : Result X Stop) (n m k : ℕ) (read shown : Type 0)
-    → n + m ≤ k → Fetches a b (Ok y) n → Lists b c result m read → shown → Lists a c result k shown
+pub Lists-behind : {S W X Y : Type 0} {s : Sources S} {w : Sinks W} (a b c : Listing S W s w) (y : Y) (result : Result X RunFault) (n m k : ℕ) (read shown : Type 0)
+    → n + m ≤ k → ListingReads a b (Ok y) n → Lists b c result m read → shown → Lists a c result k shown
 Lists-behind a b c y result n m k read shown within p q is = record {
   grows = rw (← p.1) q.grows;
   keeps = SameFile-then p.0 q.keeps;
-  spent = Spent-then _ _ _ _ _ _ _ _ _ _ _ within p.2 q.spent;
+  spent = SpentCredit-then _ _ _ _ _ _ _ _ _ _ _ within p.2 q.spent;
   shows = is;
 }
 
 -- a fault that is no check's stops before all items
-pub Stopped-no-check : (file : List ℕ) (places : List ℕ) (a : Written) (fault : Fault) (all : List ListingItem) → walks_refusal file ≡ None
-    → NumberedOr file places (Err fault) → Stopped a a (stop_of fault) all
-Stopped-no-check file places a (Refused refusal) all none is = Ends-first a refusal all (λ other. let some = is other in cc)
-Stopped-no-check file places a (Source fault at) all none is = Front-none a all
+pub WroteUntilStop-no-check : (file : List ℕ) (places : List ℕ) (a : OutState) (fault : Fault) (all : List ListingItem) → walks_refusal file ≡ None
+    → NumberedOr file places (Err fault) → WroteUntilStop a a (stop_of fault) all
+WroteUntilStop-no-check file places a (Refused refusal) all none is = Ends-first a refusal all (λ other. let some = is other in cc)
+WroteUntilStop-no-check file places a (Source fault at) all none is = WrotePrefix-none a all
 
 pub walks-whole : (file : List ℕ) → AreRecordsWhole file Definition → AreRecordsWhole file File → walks_refusal file ≡ None
 walks-whole file definitions needs = or-none _ _ None definitions needs
 
 -- the refusal behind rows that were written
-pub Ends-behind : (a b : Written) (refusal : Refusal) (rows : List ListingItem) → WroteItems a b rows → EndsRefused a b refusal (rows ++ FaultItem refusal ∷ [])
+pub Ends-behind : (a b : OutState) (refusal : Refusal) (rows : List ListingItem) → WroteItems a b rows → WroteUntilRefusal a b refusal (rows ++ FaultItem refusal ∷ [])
 Ends-behind a b refusal rows wrote = record {
   front = record { front = rows; rest = FaultItem refusal ∷ []; split = refl; takes = wrote.takes; no_fault = wrote.no_fault };
   next = λ other. record { behind = []; is_next = refl };
 }
 
 -- those of an empty section
-pub empty-is : (file : List ℕ) (style : Style) (section : ℕ) (a : Written) (at : ℕ) → symbol_versions.has_table file at ≡ true → sh_size file at ≡ 0
+pub empty-is : (file : List ℕ) (style : Style) (section : ℕ) (a : OutState) (at : ℕ) → symbol_versions.has_table file at ≡ true → sh_size file at ≡ 0
     → WroteItems a a (table_rows symbol_versions file style section at)
 unfolding symbol_versions symbol_version_rows
 empty-is file style section a at has empty = rw (table_passes symbol_versions file style section at has (rw empty refl)) (rw empty (Whole-none a))

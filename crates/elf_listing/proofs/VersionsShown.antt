@@ -2,32 +2,32 @@
 use Rattle.std.proofs.Common.{◌≡◌, ℕ, ◌+◌, ◌-◌, ◌*◌, ◌≤◌, List, [], ◌∷◌, ◌++◌, Option, None, Some, Ok, Err, refl, sym, ap, ◌∙◌, append_assoc, append-nil, arith}
 use Rattle.elf_model.specs.Listing.{ListingItem, Fault as FaultItem}
 use Rattle.elf_model.specs.Rows.{chosen_row}
-use Rattle.elf_model.specs.Names.{Shown, shown}
+use Rattle.elf_model.specs.Names.{DisplayedName, shown}
 use Rattle.elf_model.specs.Style.{Style}
-use Rattle.elf_model.specs.VersionRows.{end_rows, met_rows, version_front, version_row}
-use Rattle.elf_model.specs.Versions.{Met, Versions, flags_word, hash_word, name_index, named_at, no_versions, number_word, with_met}
+use Rattle.elf_model.specs.VersionRows.{end_rows, visited_rows, version_prefix, version_row}
+use Rattle.elf_model.specs.Versions.{VisitedRecord, Versions, flags_word, hash_word, name_index, named_at, no_versions, number_word, with_visited}
 use Rattle.elf_model.specs.declared.causes.Refusal.{Refusal}
 use Rattle.elf_headers.specs.Stops.{stop_of}
 use Rattle.elf_headers.specs.declared.fault.Fault.{Fault}
 use Rattle.elf_headers.specs.declared.fault.Fault.TheVariants.{Refused, Source as Unread}
-use Rattle.elf_source.specs.Output.{Written}
-use Rattle.elf_source.specs.Source.{Counting, Reads}
-use Rattle.elf_headers.specs.Ledger.{Did}
+use Rattle.elf_source.specs.Output.{OutState}
+use Rattle.elf_source.specs.Source.{CountedState, ReadsUpTo}
+use Rattle.elf_headers.specs.Ledger.{CallDid}
 use Rattle.elf_headers.specs.Permitted.{style_of}
 use Rattle.elf_headers.specs.declared.caps.Style.{Style as Shape}
-use Rattle.elf_versions.specs.Reading.{IsCursorOf, GivesVersion, IsVersion, KeepsWalk, LeavesWalk, StepsIn, TellsVersion, Walking, unread, versions_left, why_stopped_now}
+use Rattle.elf_versions.specs.Reading.{IsCursorOf, GivesVersion, IsVersion, KeepsWalk, LeavesWalk, StepsIn, ReturnsVersion, VersionCursorState, unread, versions_left, why_stopped_now}
 use Rattle.elf_versions.proofs.TakenLaws.{going-did, unread-fewer}
 use Rattle.elf_versions.specs.declared.record.VersionRecord.{VersionRecord}
 use Rattle.elf_listing.specs.Notes.{WrittenBefore}
-use Rattle.elf_listing.specs.Shows.{Front, Stopped, WroteItems}
+use Rattle.elf_listing.specs.Shows.{WrotePrefix, WroteUntilStop, WroteItems}
 use Rattle.elf_listing.specs.Versions.{versions_items}
-use Rattle.elf_headers.specs.declared.stop.Stop.{Stop}
+use Rattle.elf_headers.specs.declared.stop.RunFault.{RunFault}
 use Rattle.elf_listing.proofs.NotesShown.{before_more, before_stopped}
 
 -- the row of a record as it is given
-pub record_is : (file : List ℕ) (style : Style) (section : ℕ) (strings : List ℕ) (met : Met) (given : VersionRecord) → IsVersion file met given
+pub record_is : (file : List ℕ) (style : Style) (section : ℕ) (strings : List ℕ) (met : VisitedRecord) (given : VersionRecord) → IsVersion file met given
     → version_row file style section strings met
-    ≡ chosen_row style.choice (version_front style.format given.kind section given.number given.flags given.hash) given.named_at (shown strings given.name style.cap)
+    ≡ chosen_row style.choice (version_prefix style.format given.kind section given.number given.flags given.hash) given.named_at (shown strings given.name style.cap)
 unfolding version_row
 record_is file style section strings met given is =
     let kind = is.kind in
@@ -39,19 +39,19 @@ record_is file style section strings met given is =
     rw (kind, number, flags, hash, place, name) refl
 
 -- a record, and what is left behind it
-pub record_left : (file : List ℕ) (style : Style) (section : ℕ) (strings : List ℕ) (met : Met) (left : Versions)
-    → versions_items file style section strings (with_met met left)
+pub record_left : (file : List ℕ) (style : Style) (section : ℕ) (strings : List ℕ) (met : VisitedRecord) (left : Versions)
+    → versions_items file style section strings (with_visited met left)
     ≡ version_row file style section strings met ++ versions_items file style section strings left
-unfolding met_rows
-record_left file style section strings met left = append_assoc (version_row file style section strings met) (met_rows file style section strings left.met) (end_rows left.cut)
+unfolding visited_rows
+record_left file style section strings met left = append_assoc (version_row file style section strings met) (visited_rows file style section strings left.met) (end_rows left.cut)
 
 -- what is left where none is
 none_left : (file : List ℕ) (style : Style) (section : ℕ) (strings : List ℕ) (cut : Option Refusal) → versions_items file style section strings (no_versions cut) ≡ end_rows cut
-unfolding met_rows
+unfolding visited_rows
 none_left file style section strings cut = refl
 
 -- behind the last record
-pub records_end : {a b : Written} (file : List ℕ) (style : Style) (section : ℕ) (strings : List ℕ) (all : List ListingItem) (left : Versions) → left ≡ no_versions None
+pub records_end : {a b : OutState} (file : List ℕ) (style : Style) (section : ℕ) (strings : List ℕ) (all : List ListingItem) (left : Versions) → left ≡ no_versions None
     → WrittenBefore a b all (versions_items file style section strings left) → WroteItems a b all
 records_end file style section strings all left none before =
     rw (before.split
@@ -60,8 +60,8 @@ records_end file style section strings all left none before =
     before.whole
 
 -- a step over the next record failed: at a read, or where there is no record
-pub records_fault : (a b : Written) (fault : Fault) (file : List ℕ) (style : Style) (section : ℕ) (strings : List ℕ) (all : List ListingItem) (left new : Versions)
-    → TellsVersion file left new (Err fault) → WrittenBefore a b all (versions_items file style section strings left) → Stopped a b (stop_of fault) all
+pub records_fault : (a b : OutState) (fault : Fault) (file : List ℕ) (style : Style) (section : ℕ) (strings : List ℕ) (all : List ListingItem) (left new : Versions)
+    → ReturnsVersion file left new (Err fault) → WrittenBefore a b all (versions_items file style section strings left) → WroteUntilStop a b (stop_of fault) all
 records_fault a b (Refused refusal) file style section strings all left new tells before = record {
   front = record { front = before.done; rest = versions_items file style section strings left; split = before.split; takes = before.whole.takes; no_fault = before.whole.no_fault };
   next = λ other. record {
@@ -73,16 +73,16 @@ records_fault a b (Unread fault at) file style section strings all left new tell
     record { front = before.done; rest = versions_items file style section strings left; split = before.split; takes = before.whole.takes; no_fault = before.whole.no_fault }
 
 -- a step of a cursor that gave a record: what it read, what may still be asked for, and in a known file the record that was next
-pub record Given (a b : Counting) (old new : Walking) (given : VersionRecord) : Type 0 where
-  pub reads : Reads a b (unread old - unread new)
+pub record Given (a b : CountedState) (old new : VersionCursorState) (given : VersionRecord) : Type 0 where
+  pub reads : ReadsUpTo a b (unread old - unread new)
   pub account : b.asked + unread new ≤ a.asked + unread old
   pub going : new.failed ≡ None
   pub less : new.left + 1 ≡ old.left
   pub agrees : (file : List ℕ) → a.seen.file ≡ Some file → IsCursorOf file old → IsCursorOf file new
   pub gives : (file : List ℕ) → a.seen.file ≡ Some file → IsCursorOf file old → GivesVersion file (versions_left file old) (versions_left file new) given
 
-pub step_given : (a b : Counting) (old new : Walking) (given : VersionRecord) (answer : Option VersionRecord) → answer ≡ Some given → old.failed ≡ None
-    → Did a b (why_stopped_now old.failed (Ok answer)) (unread old - unread new) (λ file. IsCursorOf file old → StepsIn file old new (Ok answer))
+pub step_given : (a b : CountedState) (old new : VersionCursorState) (given : VersionRecord) (answer : Option VersionRecord) → answer ≡ Some given → old.failed ≡ None
+    → CallDid a b (why_stopped_now old.failed (Ok answer)) (unread old - unread new) (λ file. IsCursorOf file old → StepsIn file old new (Ok answer))
     → KeepsWalk old new → LeavesWalk old new (Ok answer) → Given a b old new given
 step_given a b old new given answer is going did keeps leaves =
     let did = going-did old.failed (Ok answer) going did in
@@ -98,18 +98,18 @@ step_given a b old new given answer is going did keeps leaves =
     }
 
 -- the record that was next was shown, and then what is left behind it
-pub record_more : (a b c : Written) (file : List ℕ) (style now : Shape) (section : ℕ) (strings : List ℕ) (all : List ListingItem) (old new : Versions) (given : VersionRecord)
+pub record_more : (a b c : OutState) (file : List ℕ) (style now : Shape) (section : ℕ) (strings : List ℕ) (all : List ListingItem) (old new : Versions) (given : VersionRecord)
     → now ≡ style → GivesVersion file old new given → WrittenBefore a b all (versions_items file (style_of style) section strings old)
-    → ((met : Met) → IsVersion file met given → WroteItems b c (version_row file (style_of now) section strings met))
+    → ((met : VisitedRecord) → IsVersion file met given → WroteItems b c (version_row file (style_of now) section strings met))
     → WrittenBefore a c all (versions_items file (style_of style) section strings new)
 record_more a b c file style now section strings all old new given same gives before shown =
     before_more _ _ _ _ (ap (versions_items file (style_of style) section strings) gives.first ∙ record_left file (style_of style) section strings gives.met new) before
     (rw same at (shown gives.met gives.is))
 
 -- or its row stopped
-pub record_stopped : (a b c : Written) (stop : Stop) (file : List ℕ) (style now : Shape) (section : ℕ) (strings : List ℕ) (all : List ListingItem) (old new : Versions) (given : VersionRecord)
+pub record_stopped : (a b c : OutState) (stop : RunFault) (file : List ℕ) (style now : Shape) (section : ℕ) (strings : List ℕ) (all : List ListingItem) (old new : Versions) (given : VersionRecord)
     → now ≡ style → GivesVersion file old new given → WrittenBefore a b all (versions_items file (style_of style) section strings old)
-    → ((met : Met) → IsVersion file met given → Stopped b c stop (version_row file (style_of now) section strings met)) → Stopped a c stop all
+    → ((met : VisitedRecord) → IsVersion file met given → WroteUntilStop b c stop (version_row file (style_of now) section strings met)) → WroteUntilStop a c stop all
 record_stopped a b c stop file style now section strings all old new given same gives before shown =
     before_stopped _ _ _ _ _ _ _ _ (ap (versions_items file (style_of style) section strings) gives.first ∙ record_left file (style_of style) section strings gives.met new) before
     (rw same at (shown gives.met gives.is))

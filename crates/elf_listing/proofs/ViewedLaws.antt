@@ -7,12 +7,12 @@ use Rattle.elf_model.specs.Overlaps.{overlap_checks}
 use Rattle.elf_model.specs.Records.{e_shnum}
 use Rattle.elf_model.specs.Report.{view_checks}
 use Rattle.elf_model.specs.Style.{Style}
-use Rattle.elf_source.specs.Source.{Counting, Reads}
-use Rattle.elf_headers.specs.Load.{Belongs, Opened}
-use Rattle.elf_headers.specs.Store.{Stored}
-use Rattle.elf_listing.specs.Viewed.{IsViewed, needs_view, viewed_headers}
+use Rattle.elf_source.specs.Source.{CountedState, ReadsUpTo}
+use Rattle.elf_headers.specs.Load.{HoldsSectionHeaders, LoadedFile}
+use Rattle.elf_headers.specs.Store.{StoreState}
+use Rattle.elf_listing.specs.Viewed.{IsViewed, needs_segment_view, viewed_headers}
 
-pub still_viewed : {a b : Counting} {n : ℕ} (loaded : Opened) (store : Stored) → Reads a b n → IsViewed a.seen.file loaded store → IsViewed b.seen.file loaded store
+pub still_viewed : {a b : CountedState} {n : ℕ} (loaded : LoadedFile) (store : StoreState) → ReadsUpTo a b n → IsViewed a.seen.file loaded store → IsViewed b.seen.file loaded store
 still_viewed loaded store p viewed = record { all = viewed.all; held = λ file is. viewed.held file (sym p.keeps.same_file ∙ is) }
 
 -- a style does not go by them
@@ -21,16 +21,16 @@ not_by true n b = cc
 not_by false n b = cc
 
 -- where the style goes by them the file has no sections, and where the parts need them they are loaded
-needed : (file : List ℕ) (parts : ℕ) (loaded : Opened) (store : Stored) → Belongs file loaded store → e_shnum file ≡ 0
-    → needs_segments file parts ≡ needs_view parts loaded
+needed : (file : List ℕ) (parts : ℕ) (loaded : LoadedFile) (store : StoreState) → HoldsSectionHeaders file loaded store → e_shnum file ≡ 0
+    → needs_segments file parts ≡ needs_segment_view parts loaded
 needed file parts loaded store belongs none =
     let told : (e_shnum file == 0) ≡ true = eq-eqb (e_shnum file) 0 none in
     let held : (loaded.header.e_shnum == 0) ≡ true = eq-eqb loaded.header.e_shnum 0 (belongs.header.e_shnum ∙ none) in
     rw (held, told) refl
 
-checks_by : (file : List ℕ) (style : Style) (parts : ℕ) (loaded : Opened) (store : Stored) (by : Bool) → style.by_segments ≡ by
-    → Belongs file loaded store → (by ≡ true → e_shnum file ≡ 0)
-    → view_checks file style parts ≡ (if by && needs_view parts loaded then overlap_checks file else [])
+checks_by : (file : List ℕ) (style : Style) (parts : ℕ) (loaded : LoadedFile) (store : StoreState) (by : Bool) → style.by_segments ≡ by
+    → HoldsSectionHeaders file loaded store → (by ≡ true → e_shnum file ≡ 0)
+    → view_checks file style parts ≡ (if by && needs_segment_view parts loaded then overlap_checks file else [])
 unfolding view_checks
 checks_by file style parts loaded store true by belongs none =
     let same = needed file parts loaded store belongs (none refl) in
@@ -39,20 +39,20 @@ checks_by file style parts loaded store true by belongs none =
 checks_by file style parts loaded store false by belongs none =
     ap (λ (b : Bool). if b && needs_segments file parts then overlap_checks file else []) by
 
-module _ (file : List ℕ) (style : Style) (parts : ℕ) (loaded : Opened) (store : Stored) (belongs : Belongs file loaded store)
+module _ (file : List ℕ) (style : Style) (parts : ℕ) (loaded : LoadedFile) (store : StoreState) (belongs : HoldsSectionHeaders file loaded store)
     (none : style.by_segments ≡ true → e_shnum file ≡ 0) where
   -- which checks are made
-  pub unchecked : style.by_segments && needs_view parts loaded ≡ false → first_refusal (view_checks file style parts) ≡ None
+  pub unchecked : style.by_segments && needs_segment_view parts loaded ≡ false → first_refusal (view_checks file style parts) ≡ None
   unchecked other =
       ap first_refusal (checks_by file style parts loaded store style.by_segments refl belongs none
       ∙ ap (λ (b : Bool). if b then overlap_checks file else []) other)
 
-  pub checked : style.by_segments && needs_view parts loaded ≡ true → view_checks file style parts ≡ overlap_checks file
+  pub checked : style.by_segments && needs_segment_view parts loaded ≡ true → view_checks file style parts ≡ overlap_checks file
   checked asked =
       checks_by file style parts loaded store style.by_segments refl belongs none
       ∙ ap (λ (b : Bool). if b then overlap_checks file else []) asked
 
 -- and all of them are loaded
-pub all_viewed : (by : Bool) (parts : ℕ) (loaded : Opened) → by && needs_view parts loaded ≡ true → viewed_headers parts loaded ≡ loaded.header.e_phnum
+pub all_viewed : (by : Bool) (parts : ℕ) (loaded : LoadedFile) → by && needs_segment_view parts loaded ≡ true → viewed_headers parts loaded ≡ loaded.header.e_phnum
 all_viewed true parts loaded h = ap (λ (b : Bool). if b then loaded.header.e_phnum else 0) h
 all_viewed false parts loaded h = cc

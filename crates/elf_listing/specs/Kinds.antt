@@ -9,25 +9,25 @@ use Rattle.elf_headers.specs.Permitted.{style_of}
 use Rattle.elf_model.specs.Tables.{SYMBOL_SIZE, RELA_SIZE, DYNAMIC_SIZE, strings_of}
 use Rattle.elf_model.specs.Listing.{ListingItem, each}
 use Rattle.elf_model.specs.Rows.{segment_row, symbol_row, relocation_row, dynamic_row}
-use Rattle.elf_model.specs.Suffixes.{suffixed_relocation_row, suffixed_symbol_row}
+use Rattle.elf_model.specs.Suffixes.{relocation_row_with_version, symbol_row_with_version}
 use Rattle.elf_model.specs.Versions.{VERSYM_SIZE}
 use Rattle.elf_source.specs.declared.source.Source.{Ghosts as Sources}
 use Rattle.elf_source.specs.declared.sink.Sink.{Ghosts as Sinks}
 use Rattle.elf_table.specs.Relocations.{RefersTo}
-use Rattle.elf_table.specs.Tables.{Rows, RowsWithin, StringsWithin, SymbolsWithin, strings_in}
+use Rattle.elf_table.specs.Tables.{Rows, TableInBounds, StringsInBounds, SymbolTableInBounds, strings_in}
 use Rattle.elf_table.specs.declared.row.Row.{Row}
-use Rattle.elf_listing.specs.Numbered.{NumberedWithin, told_row}
+use Rattle.elf_listing.specs.Numbered.{NumberedWithin, reported_row}
 use Rattle.elf_listing.specs.RowCursors.{rows_listed}
-use Rattle.elf_listing.specs.Shows.{Lists, Writes}
+use Rattle.elf_listing.specs.Shows.{Lists, WroteSome}
 use Rattle.elf_listing.specs.Suffixed.{AreSuffixes, SuffixesWithin}
-use Rattle.elf_listing.specs.Strings.{strings_told, AreWithin, AreOf}
+use Rattle.elf_listing.specs.Strings.{strings_reported, AreWithin, AreOf}
 use Rattle.elf_listing.specs.declared.listing.Listing.{Listing}
-use Rattle.elf_listing.specs.declared.rows.ListedAs.{ListedAs}
-use Rattle.elf_listing.specs.declared.rows.ListedAs.TheVariants.{Segments, Symbols, Relocations, Dynamic, Versions, SuffixedSymbols, SuffixedRelocations}
-use Rattle.elf_headers.specs.declared.stop.Stop.{Stop}
+use Rattle.elf_listing.specs.declared.rows.RowLayout.{RowLayout}
+use Rattle.elf_listing.specs.declared.rows.RowLayout.TheVariants.{Segments, Symbols, Relocations, Dynamic, Versions, SuffixedSymbols, SuffixedRelocations}
+use Rattle.elf_headers.specs.declared.stop.RunFault.{RunFault}
 
 -- the size of a row in bytes
-abbrev pub row_size : ListedAs → ℕ
+abbrev pub row_size : RowLayout → ℕ
 row_size Segments = 56
 row_size (Symbols section names) = SYMBOL_SIZE
 row_size (Relocations section linked) = RELA_SIZE
@@ -37,7 +37,7 @@ row_size (SuffixedSymbols section names suffixes) = SYMBOL_SIZE
 row_size (SuffixedRelocations section linked suffixes) = RELA_SIZE
 
 -- how many bytes a row asks for at most beside its own
-abbrev pub own_cost : ListedAs → ℕ → ℕ
+abbrev pub own_cost : RowLayout → ℕ → ℕ
 own_cost Segments cap = 0
 own_cost (Symbols section names) cap = name_bytes cap
 own_cost (Relocations section linked) cap = SYMBOL_SIZE + name_bytes cap
@@ -47,33 +47,33 @@ own_cost (SuffixedSymbols section names suffixes) cap = name_bytes cap + (VERSYM
 own_cost (SuffixedRelocations section linked suffixes) cap = SYMBOL_SIZE + name_bytes cap + (VERSYM_SIZE + name_bytes cap)
 
 -- how many bytes the rows of a table ask for at most
-abbrev pub rows_cost : ListedAs → Rows → ℕ → ℕ
+abbrev pub rows_cost : RowLayout → Rows → ℕ → ℕ
 rows_cost kind table cap = table.count * (row_size kind + own_cost kind cap)
 
 -- the items of the row of an index, in a table at an offset
-abbrev pub row_items : ListedAs → List ℕ → Style → ℕ → ℕ → List ListingItem
+abbrev pub row_items : RowLayout → List ℕ → Style → ℕ → ℕ → List ListingItem
 row_items Segments file style table_at index = segment_row file style index
 row_items (Symbols section names) file style table_at index = symbol_row file style section (section_at file section) index
 row_items (Relocations section linked) file style table_at index = relocation_row file style section (section_at file section) index
-row_items (Dynamic strings) file style table_at index = dynamic_row file style (strings_told strings file) (dynamic_at table_at index) index
-row_items (Versions section numbered) file style table_at index = told_row file style numbered.now section (table_at + index * VERSYM_SIZE) index
-row_items (SuffixedSymbols section names suffixes) file style table_at index = suffixed_symbol_row file style section (section_at file section) index
+row_items (Dynamic strings) file style table_at index = dynamic_row file style (strings_reported strings file) (dynamic_at table_at index) index
+row_items (Versions section numbered) file style table_at index = reported_row file style numbered.now section (table_at + index * VERSYM_SIZE) index
+row_items (SuffixedSymbols section names suffixes) file style table_at index = symbol_row_with_version file style section (section_at file section) index
 row_items (SuffixedRelocations section linked suffixes) file style table_at index =
-    suffixed_relocation_row file style section (section_at file section) index
+    relocation_row_with_version file style section (section_at file section) index
 
 -- the tables that a kind's names are read from lie within a source of this size
-abbrev pub KindWithin : ℕ → ListedAs → Type 0
+abbrev pub KindWithin : ℕ → RowLayout → Type 0
 KindWithin size Segments = Unit {0}
-KindWithin size (Symbols section names) = StringsWithin size names
-KindWithin size (Relocations section linked) = IfSome linked (SymbolsWithin size)
+KindWithin size (Symbols section names) = StringsInBounds size names
+KindWithin size (Relocations section linked) = IfSome linked (SymbolTableInBounds size)
 KindWithin size (Dynamic strings) = AreWithin size strings
 KindWithin size (Versions section numbered) = NumberedWithin size numbered.now
-KindWithin size (SuffixedSymbols section names suffixes) = StringsWithin size names × SuffixesWithin size suffixes.now
-KindWithin size (SuffixedRelocations section linked suffixes) = IfSome linked (SymbolsWithin size) × SuffixesWithin size suffixes.now
+KindWithin size (SuffixedSymbols section names suffixes) = StringsInBounds size names × SuffixesWithin size suffixes.now
+KindWithin size (SuffixedRelocations section linked suffixes) = IfSome linked (SymbolTableInBounds size) × SuffixesWithin size suffixes.now
 
 -- a table at an offset is one of the file: it stands where the file's header or section tells, the tables that its names
 -- are read from are those that the section refers to
-abbrev pub KindOf : List ℕ → ℕ → ListedAs → Type 0
+abbrev pub KindOf : List ℕ → ℕ → RowLayout → Type 0
 KindOf file table_at Segments = table_at ≡ e_phoff file
 KindOf file table_at (Symbols section names) =
     (strings_in file names ≡ strings_of file (section_at file section)) × (table_at ≡ sh_offset file (section_at file section))
@@ -89,7 +89,7 @@ KindOf file table_at (SuffixedRelocations section linked suffixes) =
     × AreSuffixes file (sh_link file (section_at file section)) suffixes.now
 
 -- an index of a kind's rows fits the column's type
-abbrev pub IndexFits : ListedAs → ℕ → Type 0
+abbrev pub IndexFits : RowLayout → ℕ → Type 0
 IndexFits Segments index = index < 2 ^ 16
 IndexFits (Symbols section names) index = Unit {0}
 IndexFits (Relocations section linked) index = Unit {0}
@@ -99,33 +99,33 @@ IndexFits (SuffixedSymbols section names suffixes) index = Unit {0}
 IndexFits (SuffixedRelocations section linked suffixes) index = Unit {0}
 
 -- a table of the rows of a kind, which lies within a source of this size with what it refers to
-pub record IsTableOf (size : ℕ) (kind : ListedAs) (table : Rows) : Type 0 where
+pub record IsTableOf (size : ℕ) (kind : RowLayout) (table : Rows) : Type 0 where
   pub entry : table.entry ≡ row_size kind
-  pub rows : RowsWithin size table
+  pub rows : TableInBounds size table
   pub names : KindWithin size kind
   pub fits : (index : ℕ) → index < table.count → IndexFits kind index
 
 -- a row is the one of its index in a file's table at an offset
-pub record IsRowOf (file : List ℕ) (table_at : ℕ) (kind : ListedAs) (row : Row) : Type 0 where
+pub record IsRowOf (file : List ℕ) (table_at : ℕ) (kind : RowLayout) (row : Row) : Type 0 where
   pub bytes : row.bytes.now ≡ slice file row.at (row_size kind)
   pub here : row.at ≡ table_at + row.index * row_size kind
 
 -- a row is one of a kind: it is whole, its index fits, and the tables that its names are read from lie within a source of this size
-pub record RowFits (size : ℕ) (kind : ListedAs) (row : Row) : Type 0 where
+pub record RowFits (size : ℕ) (kind : RowLayout) (row : Row) : Type 0 where
   pub whole : length row.bytes.now ≡ row_size kind
   pub within : KindWithin size kind
   pub fits : IndexFits kind row.index
 
 -- what a call did that shows a row: where the row is the file's, its items
-abbrev pub ListsRow : {S W X : Type 0} {s : Sources S} {w : Sinks W} → Listing S W s w → Listing S W s w → Result X Stop → ListedAs → Row → Type 0
+abbrev pub ListsRow : {S W X : Type 0} {s : Sources S} {w : Sinks W} → Listing S W s w → Listing S W s w → Result X RunFault → RowLayout → Row → Type 0
 ListsRow old new result kind row =
     Lists old new result (own_cost kind old.style.cap.bytes)
     ((file : List ℕ) → old.src.now.seen.file ≡ Some file → (table_at : ℕ) → KindOf file table_at kind → IsRowOf file table_at kind row
-    → Writes old.out.now new.out.now result (row_items kind file (style_of old.style) table_at row.index))
+    → WroteSome old.out.now new.out.now result (row_items kind file (style_of old.style) table_at row.index))
 
 -- what a call did that shows the rows of a table: where the table is the file's, the items of all that are listed
-abbrev pub ListsRows : {S W X : Type 0} {s : Sources S} {w : Sinks W} → Listing S W s w → Listing S W s w → Result X Stop → ListedAs → Rows → Type 0
+abbrev pub ListsRows : {S W X : Type 0} {s : Sources S} {w : Sinks W} → Listing S W s w → Listing S W s w → Result X RunFault → RowLayout → Rows → Type 0
 ListsRows old new result kind table =
     Lists old new result (rows_cost kind table old.style.cap.bytes)
     ((file : List ℕ) → old.src.now.seen.file ≡ Some file → (0 < table.count → KindOf file table.at kind)
-    → Writes old.out.now new.out.now result (each (row_items kind file (style_of old.style) table.at) 0 (rows_listed kind file table)))
+    → WroteSome old.out.now new.out.now result (each (row_items kind file (style_of old.style) table.at) 0 (rows_listed kind file table)))

@@ -1,11 +1,11 @@
 -- Where the names of the numbers of versions are.
 use Rattle.std.specs.Prelude.{ℕ, ◌≡◌, nat_lt, if◌then◌else◌, List, Some, Result, Err}
 use Rattle.elf_model.specs.Listing.{ListingItem}
-use Rattle.elf_model.specs.Names.{Shown, name_bytes, shown}
+use Rattle.elf_model.specs.Names.{DisplayedName, name_bytes, shown}
 use Rattle.elf_model.specs.Records.{versym}
 use Rattle.elf_model.specs.Rows.{chosen_row, no_name}
 use Rattle.elf_model.specs.Style.{Style}
-use Rattle.elf_model.specs.VersionRows.{symbol_version_front}
+use Rattle.elf_model.specs.VersionRows.{symbol_version_prefix}
 use Rattle.elf_model.specs.Versions.{number_in}
 use Rattle.elf_model.specs.declared.causes.Cause.{Cause}
 use Rattle.elf_model.specs.declared.causes.Cause.TheVariants.{VersionIndex}
@@ -13,20 +13,20 @@ use Rattle.elf_headers.specs.declared.fault.Fault.{Fault}
 use Rattle.elf_source.specs.declared.source.Source.{Ghosts as Sources}
 use Rattle.elf_source.specs.declared.sink.Sink.{Ghosts as Sinks}
 use Rattle.elf_table.specs.NamesRead.{NameRead}
-use Rattle.elf_table.specs.Tables.{StringsWithin, strings_in}
+use Rattle.elf_table.specs.Tables.{StringsInBounds, strings_in}
 use Rattle.elf_table.specs.declared.names.NameEnd.{NameEnd}
 use Rattle.elf_versions.specs.NumberNames.{name_at}
-use Rattle.elf_versions.specs.declared.number_names.NameAt.TheVariants.{Nowhere, Defined, Needed}
-use Rattle.elf_listing.specs.Shows.{Fetches}
+use Rattle.elf_versions.specs.declared.number_names.VersionNameRef.TheVariants.{Nowhere, Defined, Needed}
+use Rattle.elf_listing.specs.Shows.{ListingReads}
 use Rattle.elf_listing.specs.declared.listing.Listing.{Listing}
-use Rattle.elf_listing.specs.declared.numbered.Numbered.{Numbered}
+use Rattle.elf_listing.specs.declared.numbered.VersionStrings.{VersionStrings}
 
 -- the string tables of the names lie within a source of this size
-abbrev pub NumberedWithin : ℕ → Numbered → Type 0
-NumberedWithin size numbered = StringsWithin size numbered.defined × StringsWithin size numbered.needed
+abbrev pub NumberedWithin : ℕ → VersionStrings → Type 0
+NumberedWithin size numbered = StringsInBounds size numbered.defined × StringsInBounds size numbered.needed
 
 -- the name of a number, where it is told to be: 0 and 1 have none, and one that no record names is refused
-unfoldable pub version_told : Numbered → List ℕ → (cap number : ℕ) → Result Shown Cause
+unfoldable pub version_told : VersionStrings → List ℕ → (cap number : ℕ) → Result DisplayedName Cause
 version_told numbered file cap number =
     if nat_lt number 2 then no_name
     else elim (name_at numbered.names number) [
@@ -36,12 +36,12 @@ version_told numbered file cap number =
     ]
 
 -- the row of the version of a symbol, whose entry stands at an offset, with that name: its fault is at the entry
-unfoldable pub told_row : List ℕ → Style → Numbered → (section entry_at index : ℕ) → List ListingItem
-told_row file style numbered section entry_at index =
+unfoldable pub reported_row : List ℕ → Style → VersionStrings → (section entry_at index : ℕ) → List ListingItem
+reported_row file style numbered section entry_at index =
     let word = versym file entry_at in
-    chosen_row style.choice (symbol_version_front style.format section index word) entry_at (version_told numbered file style.cap (number_in word))
+    chosen_row style.choice (symbol_version_prefix style.format section index word) entry_at (version_told numbered file style.cap (number_in word))
 
 -- what a call did that reads the name of a number, for the entry at an offset
-pub record FetchesVersion {S W : Type 0} {s : Sources S} {w : Sinks W} (old new : Listing S W s w) (result : Result NameEnd Fault) (numbered : Numbered) (number at : ℕ) : Type 0 where
-  pub fetches : Fetches old new result (name_bytes old.style.cap.bytes)
+pub record FetchesVersion {S W : Type 0} {s : Sources S} {w : Sinks W} (old new : Listing S W s w) (result : Result NameEnd Fault) (numbered : VersionStrings) (number at : ℕ) : Type 0 where
+  pub fetches : ListingReads old new result (name_bytes old.style.cap.bytes)
   pub read : (file : List ℕ) → old.src.now.seen.file ≡ Some file → NameRead at result new.name (version_told numbered file old.style.cap.bytes number)

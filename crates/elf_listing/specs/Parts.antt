@@ -2,19 +2,19 @@
 use Rattle.std.specs.Prelude.{ℕ, ◌+◌, ◌*◌, ◌==◌, ◌&&◌, ◌≡◌, not, Bool, true, false, List, Option, None, Some, Result}
 use Rattle.elf_model.specs.Cost.{sum_over, cost_where, table_cost}
 use Rattle.elf_model.specs.Listing.{ListingItem, each, fault_of, has, SECTIONS, SEGMENTS, SYMBOLS, RELOCS, NOTES, DYNAMIC}
-use Rattle.elf_model.specs.Names.{Shown, shown, name_bytes}
+use Rattle.elf_model.specs.Names.{DisplayedName, shown, name_bytes}
 use Rattle.elf_model.specs.Records.{section_at, segment_at}
 use Rattle.elf_model.specs.Report.{table_rows}
 use Rattle.elf_model.specs.Rows.{no_name, section_row, segment_row}
 use Rattle.elf_model.specs.Style.{Style}
 use Rattle.elf_model.specs.HeaderTables.{HeaderTable, TableKind, held_headers}
-use Rattle.elf_model.specs.TableKinds.{suffixed_relocations, suffixed_symbols, symbols, relocations, section_notes, segment_notes, section_dynamic, segment_dynamic}
+use Rattle.elf_model.specs.TableKinds.{relocations_with_versions, suffixed_symbols, symbols, relocations, section_notes, segment_notes, section_dynamic, segment_dynamic}
 use Rattle.elf_model.specs.VersionLaws.{records_rows}
 use Rattle.elf_model.specs.VersionRows.{symbol_versions, version_definitions, version_needs}
 use Rattle.elf_model.specs.declared.causes.Cause.{Cause}
-use Rattle.elf_headers.specs.Load.{Opened}
-use Rattle.elf_headers.specs.Store.{Stored, row, segment_bytes}
-use Rattle.elf_table.specs.Tables.{Strings, strings_in}
+use Rattle.elf_headers.specs.Load.{LoadedFile}
+use Rattle.elf_headers.specs.Store.{StoreState, row, segment_bytes}
+use Rattle.elf_table.specs.Tables.{StringTableRange, strings_in}
 use Rattle.elf_listing.specs.declared.parts.Part.{Part}
 use Rattle.elf_listing.specs.declared.parts.Part.TheVariants.{Headers, Segments, Symbols, Relocations, SectionNotes, SegmentNotes, SectionDynamic, SegmentDynamic, Definitions, Needs, SymbolVersions, SuffixedSymbols, SuffixedRelocations}
 
@@ -22,15 +22,15 @@ use Rattle.elf_listing.specs.declared.parts.Part.TheVariants.{Headers, Segments,
 -- header of an index, in a file; and how many bytes it asks for at most with its table, by the store
 pub record PartListed : Type 0 where
   pub bit : ℕ
-  pub count : Stored → ℕ
+  pub count : StoreState → ℕ
   pub items : List ℕ → Style → ℕ → List ListingItem
-  pub cost : Opened → Stored → ℕ → ℕ → ℕ
+  pub cost : LoadedFile → StoreState → ℕ → ℕ → ℕ
 
 -- the section headers in the store, and the program headers
-abbrev pub store_sections : Stored → HeaderTable
+abbrev pub store_sections : StoreState → HeaderTable
 store_sections store = held_headers store.loaded (row store)
 
-abbrev pub store_segments : Stored → HeaderTable
+abbrev pub store_segments : StoreState → HeaderTable
 store_segments store = held_headers store.segments (segment_bytes store)
 
 -- the tables of a kind, as section headers describe them, and as program headers do
@@ -81,7 +81,7 @@ listed_by Definitions = of_sections version_definitions
 listed_by Needs = of_sections version_needs
 listed_by SymbolVersions = of_sections symbol_versions
 listed_by SuffixedSymbols = of_sections suffixed_symbols
-listed_by SuffixedRelocations = of_sections suffixed_relocations
+listed_by SuffixedRelocations = of_sections relocations_with_versions
 
 -- the symbols of sections and their relocation entries, with or without versions behind the names of symbols
 abbrev pub symbols_part : Bool → Part
@@ -105,30 +105,30 @@ abbrev pub part_items : Part → Style → ℕ → List ℕ → List ListingItem
 part_items part style count file = each ((listed_by part).items file style) 0 count
 
 -- the name that an index gives in a string table of the file, as it is shown; empty without a string table
-abbrev pub shown_in : List ℕ → Option Strings → ℕ → ℕ → Result Shown Cause
+abbrev pub shown_in : List ℕ → Option StringTableRange → ℕ → ℕ → Result DisplayedName Cause
 shown_in file None off cap = no_name
 shown_in file (Some names) off cap = shown (strings_in file names) off cap
 
 -- how many bytes a name in a string table asks for at most: none without one
-abbrev pub name_cost : Option Strings → ℕ → ℕ
+abbrev pub name_cost : Option StringTableRange → ℕ → ℕ
 name_cost None cap = 0
 name_cost (Some names) cap = name_bytes cap
 
 -- how many bytes all headers of a part ask for at most
-abbrev pub part_cost : Part → Opened → Stored → ℕ → ℕ
+abbrev pub part_cost : Part → LoadedFile → StoreState → ℕ → ℕ
 part_cost part loaded store cap = sum_over ((listed_by part).cost loaded store cap) 0 ((listed_by part).count store)
 
 -- how many bytes a part asks for, where the parts have it
-abbrev pub asked_cost : ℕ → Part → Opened → Stored → ℕ → ℕ
+abbrev pub asked_cost : ℕ → Part → LoadedFile → StoreState → ℕ → ℕ
 asked_cost parts part loaded store cap = cost_where (has parts (listed_by part).bit) (part_cost part loaded store cap)
 
 -- how many bytes the program headers ask for where they are listed: those in the store none
-abbrev pub segments_listed : ℕ → Opened → ℕ
+abbrev pub segments_listed : ℕ → LoadedFile → ℕ
 segments_listed parts loaded = cost_where (has parts SEGMENTS && not (loaded.header.e_shnum == 0)) (56 * loaded.header.e_phnum)
 
 -- how many bytes the tables of a loaded file ask for at most, as far as the parts have them, with or without versions behind
 -- the names of symbols
-abbrev pub tables_listed : ℕ → Opened → Stored → (cap : ℕ) → (versions : Bool) → ℕ
+abbrev pub tables_listed : ℕ → LoadedFile → StoreState → (cap : ℕ) → (versions : Bool) → ℕ
 tables_listed parts loaded store cap versions =
     asked_cost parts Headers loaded store cap
     + segments_listed parts loaded

@@ -1,65 +1,65 @@
 -- What the call that writes a listing did.
 use Rattle.std.specs.Prelude.{ℕ, ◌≡◌, ◌<◌, ◌+◌, ◌≤◌, false, List, Option, None, Some, Result, Ok, Err, IfSome}
-use Rattle.elf_model.specs.Budget.{IsBudgeted, IsBudget}
+use Rattle.elf_model.specs.Budget.{IsBudgeted, IsBudgetRefusal}
 use Rattle.elf_model.specs.Checks.{first_refusal, length_checks}
 use Rattle.elf_model.specs.Cost.{style_ceiling}
 use Rattle.elf_model.specs.Lines.{refusal_line}
 use Rattle.elf_model.specs.Listing.{has_tables, known_parts}
 use Rattle.elf_model.specs.declared.causes.Refusal.{Refusal}
 use Rattle.elf_model.specs.declared.formats.Format.{Format}
-use Rattle.elf_source.specs.Source.{Counting, Keeps, Faults}
-use Rattle.elf_source.specs.Output.{Written, Takes, TakesFront, OutFails}
+use Rattle.elf_source.specs.Source.{CountedState, Keeps, IsSourceFault}
+use Rattle.elf_source.specs.Output.{OutState, SinkTakes, SinkTakesPrefix, IsOutFault}
 use Rattle.elf_headers.specs.Permitted.{style_of}
 use Rattle.elf_headers.specs.declared.caps.Caps.{Caps}
-use Rattle.elf_headers.specs.declared.stop.Stop.{Stop}
-use Rattle.elf_headers.specs.declared.stop.Stop.TheVariants.{Refused, Source, Out}
+use Rattle.elf_headers.specs.declared.stop.RunFault.{RunFault}
+use Rattle.elf_headers.specs.declared.stop.RunFault.TheVariants.{Refused, Source, Out}
 
 -- a text with this fault was written: all of it where the answer names the fault, or that there is none; else a front of it
-abbrev pub Wrote : {X : Type 0} → Written → Written → Result X Stop → List ℕ → Option Refusal → Type 0
-Wrote old new (Ok x) text fault = Takes old new text × (None ≡ fault)
-Wrote old new (Err (Refused refusal)) text fault = Takes old new text × (Some refusal ≡ fault)
-Wrote old new (Err (Source cause at)) text fault = TakesFront old new text
-Wrote old new (Err (Out cause)) text fault = TakesFront old new text
+abbrev pub WroteText : {X : Type 0} → OutState → OutState → Result X RunFault → List ℕ → Option Refusal → Type 0
+WroteText old new (Ok x) text fault = SinkTakes old new text × (None ≡ fault)
+WroteText old new (Err (Refused refusal)) text fault = SinkTakes old new text × (Some refusal ≡ fault)
+WroteText old new (Err (Source cause at)) text fault = SinkTakesPrefix old new text
+WroteText old new (Err (Out cause)) text fault = SinkTakesPrefix old new text
 
 -- THE TEXT: what these caps and parts list of a file was written, its report or, where it costs more than the budget, a
 -- front of whole lines and the line of the budget; at a fault of the source or the output a front of that
-pub record Reports {X : Type 0} (file : List ℕ) (caps : Caps) (parts : ℕ) (old new : Written) (result : Result X Stop) : Type 0 where
+pub record WroteReport {X : Type 0} (file : List ℕ) (caps : Caps) (parts : ℕ) (old new : OutState) (result : Result X RunFault) : Type 0 where
   pub text : List ℕ
   pub fault : Option Refusal
   pub listed : IsBudgeted caps.limits.budget file caps.limits.headers (style_of caps.style) parts text fault
-  pub wrote : Wrote old new result text fault
+  pub wrote : WroteText old new result text fault
 
 -- what a fault says of the source and the output: the source's names the read that failed
-abbrev pub FaultSays : Counting → Counting → Written → Stop → Type 0
+abbrev pub FaultSays : CountedState → CountedState → OutState → RunFault → Type 0
 FaultSays old new out (Refused refusal) = Unit {0}
-FaultSays old new out (Source fault at) = Faults old.seen new.seen fault × (at ≡ new.stopped)
-FaultSays old new out (Out fault) = OutFails out fault
+FaultSays old new out (Source fault at) = IsSourceFault old.seen new.seen fault × (at ≡ new.stopped)
+FaultSays old new out (Out fault) = IsOutFault out fault
 
 -- WHAT IS ASKED FOR, for every source: no more than the ceiling, nothing where the length refuses the file, and the file
 -- header alone where no table is asked for; never more than the budget; and where the answer is that the budget is used up,
 -- fewer than 4,096 bytes of it are left, and the answer names the read that it had no room for
-pub record AsksWithin {X : Type 0} (caps : Caps) (parts : ℕ) (old new : Counting) (result : Result X Stop) : Type 0 where
+pub record AsksWithin {X : Type 0} (caps : Caps) (parts : ℕ) (old new : CountedState) (result : Result X RunFault) : Type 0 where
   pub ceiling : new.asked ≤ old.asked + style_ceiling old.seen.size caps.limits.headers (style_of caps.style)
   pub unread : (refusal : Refusal) → first_refusal (length_checks old.seen.size) ≡ Some refusal → new.seen ≡ old.seen × new.asked ≡ old.asked
   pub alone : has_tables (known_parts (style_of caps.style) parts) ≡ false → new.asked ≤ old.asked + 64
   pub budget : IfSome caps.limits.budget (λ bytes. new.asked ≤ old.asked + bytes)
-  pub late : (refusal : Refusal) → result ≡ Err (Refused refusal) → IsBudget refusal
+  pub late : (refusal : Refusal) → result ≡ Err (Refused refusal) → IsBudgetRefusal refusal
       → (bytes : ℕ) × (caps.limits.budget ≡ Some bytes) × (old.asked + bytes < new.asked + 4096)
-  pub place : (refusal : Refusal) → result ≡ Err (Refused refusal) → IsBudget refusal → refusal.at ≡ new.stopped
+  pub place : (refusal : Refusal) → result ≡ Err (Refused refusal) → IsBudgetRefusal refusal → refusal.at ≡ new.stopped
 
 -- what is kept of the source: its size, its failures so far, its file; and no limit is left
-pub record Leaves (old new : Counting) : Type 0 where
+pub record KeepsSourceUnlimited (old new : CountedState) : Type 0 where
   pub keeps : Keeps old.seen new.seen
   pub free : new.most ≡ None
 
 -- the line of a refusal was written, and this is the answer: the refusal, or the output's fault, at which a front of it was written
-abbrev pub WroteRefusal : Format → Written → Written → Refusal → Stop → Type 0
-WroteRefusal format old new refusal (Refused same) = (same ≡ refusal) × Takes old new (refusal_line format refusal)
+abbrev pub WroteRefusal : Format → OutState → OutState → Refusal → RunFault → Type 0
+WroteRefusal format old new refusal (Refused same) = (same ≡ refusal) × SinkTakes old new (refusal_line format refusal)
 WroteRefusal format old new refusal (Source fault at) = ⊥
-WroteRefusal format old new refusal (Out fault) = OutFails new fault × TakesFront old new (refusal_line format refusal)
+WroteRefusal format old new refusal (Out fault) = IsOutFault new fault × SinkTakesPrefix old new (refusal_line format refusal)
 
 -- what stopped a call was told, and this is the answer: of a refusal its line was written, of any other stop nothing
-abbrev pub TellsStop : Format → Written → Written → Stop → Stop → Type 0
-TellsStop format old new (Refused refusal) told = WroteRefusal format old new refusal told
-TellsStop format old new (Source fault at) told = (new ≡ old) × (told ≡ Source fault at)
-TellsStop format old new (Out fault) told = (new ≡ old) × (told ≡ Out fault)
+abbrev pub ReturnsStop : Format → OutState → OutState → RunFault → RunFault → Type 0
+ReturnsStop format old new (Refused refusal) told = WroteRefusal format old new refusal told
+ReturnsStop format old new (Source fault at) told = (new ≡ old) × (told ≡ Source fault at)
+ReturnsStop format old new (Out fault) told = (new ≡ old) × (told ≡ Out fault)

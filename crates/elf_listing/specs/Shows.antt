@@ -1,38 +1,38 @@
 -- What a call that writes a part of a listing did.
 use Rattle.std.specs.Prelude.{ℕ, ◌≡◌, ◌+◌, Bool, true, false, List, ◌∷◌, ◌++◌, None, Some, Result, Ok, Err, IfErr}
-use Rattle.elf_model.specs.Budget.{IsBudget}
-use Rattle.elf_model.specs.Fields.{LineFront}
+use Rattle.elf_model.specs.Budget.{IsBudgetRefusal}
+use Rattle.elf_model.specs.Fields.{LinePrefix}
 use Rattle.elf_model.specs.Listing.{ListingItem, Fault, lines_of, fault_of}
-use Rattle.elf_model.specs.Names.{Shown}
+use Rattle.elf_model.specs.Names.{DisplayedName}
 use Rattle.elf_model.specs.Rows.{named_row}
 use Rattle.elf_model.specs.declared.causes.Cause.{Cause}
 use Rattle.elf_model.specs.declared.causes.Refusal.{Refusal}
-use Rattle.elf_source.specs.Source.{Counting, Reads, Faults}
-use Rattle.elf_source.specs.Output.{Written, Takes, TakesFront, OutFails}
-use Rattle.elf_source.specs.Growth.{Grows}
+use Rattle.elf_source.specs.Source.{CountedState, ReadsUpTo, IsSourceFault}
+use Rattle.elf_source.specs.Output.{OutState, SinkTakes, SinkTakesPrefix, IsOutFault}
+use Rattle.elf_source.specs.Growth.{OutGrows}
 use Rattle.elf_source.specs.declared.source.Source.{Ghosts as Sources}
 use Rattle.elf_source.specs.declared.sink.Sink.{Ghosts as Sinks}
-use Rattle.elf_names.specs.Ahead.{SpendsCredit}
-use Rattle.elf_headers.specs.Faults.{RefusalSays, Says}
+use Rattle.elf_names.specs.Ahead.{ReadsOnCredit}
+use Rattle.elf_headers.specs.Faults.{IsReadRefusal, IsReadFault}
 use Rattle.elf_table.specs.NamesRead.{NameRead}
 use Rattle.elf_headers.specs.declared.fault.Fault.{Fault as Failure}
 use Rattle.elf_table.specs.declared.names.NameEnd.{NameEnd}
 use Rattle.elf_table.specs.declared.names.NameEnd.TheVariants.{Whole as NameWhole, Cut as NameCut}
 use Rattle.elf_listing.specs.declared.listing.Listing.{Listing}
-use Rattle.elf_headers.specs.declared.stop.Stop.{Stop}
-use Rattle.elf_headers.specs.declared.stop.Stop.TheVariants.{Refused, Source, Out}
+use Rattle.elf_headers.specs.declared.stop.RunFault.{RunFault}
+use Rattle.elf_headers.specs.declared.stop.RunFault.TheVariants.{Refused, Source, Out}
 
 -- the lines of all items were written, and none is a fault
-pub record WroteItems (old new : Written) (items : List ListingItem) : Type 0 where
-  pub takes : Takes old new (lines_of items)
+pub record WroteItems (old new : OutState) (items : List ListingItem) : Type 0 where
+  pub takes : SinkTakes old new (lines_of items)
   pub no_fault : fault_of items ≡ None
 
 -- the lines of a front of the items were written, each whole, and none of the rest
-pub record Front (old new : Written) (items : List ListingItem) : Type 0 where
+pub record WrotePrefix (old new : OutState) (items : List ListingItem) : Type 0 where
   pub front : List ListingItem
   pub rest : List ListingItem
   pub split : items ≡ front ++ rest
-  pub takes : Takes old new (lines_of front)
+  pub takes : SinkTakes old new (lines_of front)
   pub no_fault : fault_of front ≡ None
 
 -- a refusal is the fault that the items begin with
@@ -41,36 +41,36 @@ pub record IsNext (refusal : Refusal) (items : List ListingItem) : Type 0 where
   pub is_next : items ≡ Fault refusal ∷ behind
 
 -- the lines before the first fault were written, and this is the fault; where it is for want of budget, the lines of a front
-pub record EndsRefused (old new : Written) (refusal : Refusal) (items : List ListingItem) : Type 0 where
-  pub front : Front old new items
-  pub next : (IsBudget refusal → ⊥) → IsNext refusal front.rest
+pub record WroteUntilRefusal (old new : OutState) (refusal : Refusal) (items : List ListingItem) : Type 0 where
+  pub front : WrotePrefix old new items
+  pub next : (IsBudgetRefusal refusal → ⊥) → IsNext refusal front.rest
 
 -- what was written where a listing stops
-abbrev pub Stopped : Written → Written → Stop → List ListingItem → Type 0
-Stopped old new (Refused refusal) items = EndsRefused old new refusal items
-Stopped old new (Source fault at) items = Front old new items
-Stopped old new (Out fault) items = TakesFront old new (lines_of items)
+abbrev pub WroteUntilStop : OutState → OutState → RunFault → List ListingItem → Type 0
+WroteUntilStop old new (Refused refusal) items = WroteUntilRefusal old new refusal items
+WroteUntilStop old new (Source fault at) items = WrotePrefix old new items
+WroteUntilStop old new (Out fault) items = SinkTakesPrefix old new (lines_of items)
 
 -- a part of these items was written
-abbrev pub Writes : {X : Type 0} → Written → Written → Result X Stop → List ListingItem → Type 0
-Writes old new (Ok x) items = WroteItems old new items
-Writes old new (Err stop) items = Stopped old new stop items
+abbrev pub WroteSome : {X : Type 0} → OutState → OutState → Result X RunFault → List ListingItem → Type 0
+WroteSome old new (Ok x) items = WroteItems old new items
+WroteSome old new (Err stop) items = WroteUntilStop old new stop items
 
 -- what a stop says of the source and the output
-abbrev pub StopSays : Counting → Counting → Written → ℕ → Stop → Type 0
-StopSays old new out n (Refused refusal) = RefusalSays old new n refusal
-StopSays old new out n (Source fault at) = Faults old.seen new.seen fault × (at ≡ new.stopped)
-StopSays old new out n (Out fault) = OutFails out fault
+abbrev pub StopSays : CountedState → CountedState → OutState → ℕ → RunFault → Type 0
+StopSays old new out n (Refused refusal) = IsReadRefusal old new n refusal
+StopSays old new out n (Source fault at) = IsSourceFault old.seen new.seen fault × (at ≡ new.stopped)
+StopSays old new out n (Out fault) = IsOutFault out fault
 
 -- a stop is a fault of the output
-abbrev pub IsOfOutput : Written → Stop → Type 0
+abbrev pub IsOfOutput : OutState → RunFault → Type 0
 IsOfOutput out (Refused refusal) = ⊥
 IsOfOutput out (Source fault at) = ⊥
-IsOfOutput out (Out fault) = OutFails out fault
+IsOfOutput out (Out fault) = IsOutFault out fault
 
 -- WHAT A CALL COSTS: it asked for at most n bytes, and a stop says what is so
-abbrev pub Costs : {X : Type 0} → Counting → Counting → Written → Result X Stop → ℕ → Type 0
-Costs old new out result n = Reads old new n × IfErr result (StopSays old new out n)
+abbrev pub ListingCosts : {X : Type 0} → CountedState → CountedState → OutState → Result X RunFault → ℕ → Type 0
+ListingCosts old new out result n = ReadsUpTo old new n × IfErr result (StopSays old new out n)
 
 -- what the calls of a listing keep
 pub record SameFile {S W : Type 0} {s : Sources S} {w : Sinks W} (old new : Listing S W s w) : Type 0 where
@@ -81,27 +81,27 @@ pub record SameFile {S W : Type 0} {s : Sources S} {w : Sinks W} (old new : List
 
 -- what a call costs that has some credit before it, and some after it: it asked for no more than n bytes and what it took of
 -- the credit, and a stop says what is so
-abbrev pub Spent : {X : Type 0} → Counting → Counting → Written → ℕ → ℕ → Result X Stop → ℕ → Type 0
-Spent old new out before after result n = SpendsCredit old new before after n × IfErr result (StopSays old new out (before + n))
+abbrev pub SpentCredit : {X : Type 0} → CountedState → CountedState → OutState → ℕ → ℕ → Result X RunFault → ℕ → Type 0
+SpentCredit old new out before after result n = ReadsOnCredit old new before after n × IfErr result (StopSays old new out (before + n))
 
 -- WHAT A CALL OF A LISTING DID. For every source: what was written stays, the listing is still of the same file, and no more than
 -- n bytes were asked for. And what it showed
-pub record Lists {S W X : Type 0} {s : Sources S} {w : Sinks W} (old new : Listing S W s w) (result : Result X Stop) (n : ℕ) (shown : Type 0) : Type 0 where
-  pub grows : Grows old.out.now new.out.now
+pub record Lists {S W X : Type 0} {s : Sources S} {w : Sinks W} (old new : Listing S W s w) (result : Result X RunFault) (n : ℕ) (shown : Type 0) : Type 0 where
+  pub grows : OutGrows old.out.now new.out.now
   pub keeps : SameFile old new
-  pub spent : Spent old.src.now new.src.now new.out.now old.ahead.credit new.ahead.credit result n
+  pub spent : SpentCredit old.src.now new.src.now new.out.now old.ahead.credit new.ahead.credit result n
   pub shows : shown
 
 -- WHAT A CALL THAT WRITES NOTHING DID, for every source: the listing is still of the same file, no more than n bytes were asked
 -- for, and a fault says what is so
-abbrev pub Fetches : {S W X : Type 0} {s : Sources S} {w : Sinks W} → Listing S W s w → Listing S W s w → Result X Failure → ℕ → Type 0
-Fetches old new result n =
-    SameFile old new × (new.out.now ≡ old.out.now) × SpendsCredit old.src.now new.src.now old.ahead.credit new.ahead.credit n
-    × IfErr result (Says old.src.now new.src.now (old.ahead.credit + n))
+abbrev pub ListingReads : {S W X : Type 0} {s : Sources S} {w : Sinks W} → Listing S W s w → Listing S W s w → Result X Failure → ℕ → Type 0
+ListingReads old new result n =
+    SameFile old new × (new.out.now ≡ old.out.now) × ReadsOnCredit old.src.now new.src.now old.ahead.credit new.ahead.credit n
+    × IfErr result (IsReadFault old.src.now new.src.now (old.ahead.credit + n))
 
 -- WHAT IT WROTE: where the file of the source is known, its items
-abbrev pub Shows : {S W X : Type 0} {s : Sources S} {w : Sinks W} → Listing S W s w → Listing S W s w → Result X Stop → (List ℕ → List ListingItem) → Type 0
-Shows old new result items = (file : List ℕ) → old.src.now.seen.file ≡ Some file → Writes old.out.now new.out.now result (items file)
+abbrev pub ListingWrote : {S W X : Type 0} {s : Sources S} {w : Sinks W} → Listing S W s w → Listing S W s w → Result X RunFault → (List ℕ → List ListingItem) → Type 0
+ListingWrote old new result items = (file : List ℕ) → old.src.now.seen.file ≡ Some file → WroteSome old.out.now new.out.now result (items file)
 
 -- whether a name is cut
 abbrev pub cut_of : NameEnd → Bool
@@ -109,6 +109,6 @@ cut_of NameWhole = false
 cut_of NameCut = true
 
 -- what a call did that writes a line that ends in the name that was read: the line with what is shown of the name
-abbrev pub ListsLine : {S W X : Type 0} {s : Sources S} {w : Sinks W} → Listing S W s w → Listing S W s w → Result X Stop → LineFront → NameEnd → Type 0
+abbrev pub ListsLine : {S W X : Type 0} {s : Sources S} {w : Sinks W} → Listing S W s w → Listing S W s w → Result X RunFault → LinePrefix → NameEnd → Type 0
 ListsLine old new result front end =
-    Lists old new result 0 ((at : ℕ) (answer : Result Shown Cause) → NameRead at (Ok end) old.name answer → Writes old.out.now new.out.now result (named_row front at answer))
+    Lists old new result 0 ((at : ℕ) (answer : Result DisplayedName Cause) → NameRead at (Ok end) old.name answer → WroteSome old.out.now new.out.now result (named_row front at answer))

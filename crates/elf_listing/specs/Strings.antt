@@ -1,38 +1,38 @@
 -- The strings that dynamic entries tell of.
 use Rattle.std.specs.Prelude.{ℕ, ◌≡◌, Bool, true, false, List, Result, Ok, Err, IfOk, IfErr}
 use Rattle.elf_model.specs.Mapped.{strings_at}
-use Rattle.elf_model.specs.Names.{Shown, shown}
+use Rattle.elf_model.specs.Names.{DisplayedName, shown}
 use Rattle.elf_model.specs.Records.{d_tag, d_un}
 use Rattle.elf_model.specs.Rows.{is_string_tag, no_name}
 use Rattle.elf_model.specs.declared.causes.Cause.{Cause}
 use Rattle.elf_model.specs.declared.causes.Refusal.{Refusal}
 use Rattle.elf_table.specs.NamesRead.{NameRead}
-use Rattle.elf_table.specs.Tables.{Strings, StringsWithin, strings_in}
+use Rattle.elf_table.specs.Tables.{StringTableRange, StringsInBounds, strings_in}
 use Rattle.elf_headers.specs.Faults.{IsOfCheck}
-use Rattle.elf_headers.specs.Load.{Views}
+use Rattle.elf_headers.specs.Load.{HoldsProgramHeaders}
 use Rattle.elf_headers.specs.declared.fault.Fault.{Fault as Failure}
 use Rattle.elf_headers.specs.declared.fault.Fault.TheVariants.{Refused}
 use Rattle.elf_table.specs.declared.names.NameEnd.{NameEnd}
-use Rattle.elf_listing.specs.declared.dynamic_row.EntryStrings.{EntryStrings}
-use Rattle.elf_listing.specs.declared.dynamic_row.EntryStrings.TheVariants.{Linked, Mapped}
+use Rattle.elf_listing.specs.declared.dynamic_row.DynamicStringTable.{DynamicStringTable}
+use Rattle.elf_listing.specs.declared.dynamic_row.DynamicStringTable.TheVariants.{LinkedSymbolTable, Mapped}
 
 -- the string table of the entry at an offset of a file, or the refusal where there is none
-abbrev pub strings_told : EntryStrings → List ℕ → ℕ → Result (List ℕ) Refusal
-strings_told (Linked names) file entry_at = Ok (strings_in file names)
-strings_told (Mapped view told) file entry_at = strings_at file entry_at told.address told.size
+abbrev pub strings_reported : DynamicStringTable → List ℕ → ℕ → Result (List ℕ) Refusal
+strings_reported (LinkedSymbolTable names) file entry_at = Ok (strings_in file names)
+strings_reported (Mapped view told) file entry_at = strings_at file entry_at told.address told.size
 
 -- what the strings are looked for in lies within a source of this size
-abbrev pub AreWithin : ℕ → EntryStrings → Type 0
-AreWithin size (Linked names) = StringsWithin size names
+abbrev pub AreWithin : ℕ → DynamicStringTable → Type 0
+AreWithin size (LinkedSymbolTable names) = StringsInBounds size names
 AreWithin size (Mapped view told) = view.loaded.size ≡ size
 
 -- what the strings are looked for in is of this file
-abbrev pub AreOf : List ℕ → EntryStrings → Type 0
-AreOf file (Linked names) = Unit {0}
-AreOf file (Mapped view told) = Views file view.loaded view.store.now
+abbrev pub AreOf : List ℕ → DynamicStringTable → Type 0
+AreOf file (LinkedSymbolTable names) = Unit {0}
+AreOf file (Mapped view told) = HoldsProgramHeaders file view.loaded view.store.now
 
 -- a string table was found as it is told, or refused
-abbrev pub StringsFound : List ℕ → Result Strings Failure → Result (List ℕ) Refusal → Type 0
+abbrev pub StringsFound : List ℕ → Result StringTableRange Failure → Result (List ℕ) Refusal → Type 0
 StringsFound file (Ok names) (Ok table) = strings_in file names ≡ table
 StringsFound file (Ok names) (Err refusal) = ⊥
 StringsFound file (Err fault) (Ok table) = ⊥
@@ -40,22 +40,22 @@ StringsFound file (Err fault) (Err refusal) = fault ≡ Refused refusal
 
 -- THE STRING TABLE OF AN ENTRY, which was looked for at its offset: the one that is told, or its refusal; it lies within the source,
 -- and a refusal is a check's
-pub record FindsStrings (strings : EntryStrings) (at : ℕ) (result : Result Strings Failure) : Type 0 where
-  pub told : (file : List ℕ) → AreOf file strings → StringsFound file result (strings_told strings file at)
-  pub within : (size : ℕ) → AreWithin size strings → IfOk result (StringsWithin size)
+pub record FindsStrings (strings : DynamicStringTable) (at : ℕ) (result : Result StringTableRange Failure) : Type 0 where
+  pub told : (file : List ℕ) → AreOf file strings → StringsFound file result (strings_reported strings file at)
+  pub within : (size : ℕ) → AreWithin size strings → IfOk result (StringsInBounds size)
   pub refusal : IfErr result IsOfCheck
 
 -- the string of the entry at an offset, as it is shown; the refusal where its string table is refused
-abbrev pub string_told_by : Bool → Result (List ℕ) Refusal → (List ℕ → Result Shown Cause) → Result (Result Shown Cause) Refusal
+abbrev pub string_told_by : Bool → Result (List ℕ) Refusal → (List ℕ → Result DisplayedName Cause) → Result (Result DisplayedName Cause) Refusal
 string_told_by false table name = Ok no_name
 string_told_by true (Err refusal) name = Err refusal
 string_told_by true (Ok strings) name = Ok (name strings)
 
-abbrev pub string_told : (ℕ → Result (List ℕ) Refusal) → List ℕ → ℕ → ℕ → Result (Result Shown Cause) Refusal
+abbrev pub string_told : (ℕ → Result (List ℕ) Refusal) → List ℕ → ℕ → ℕ → Result (Result DisplayedName Cause) Refusal
 string_told strings file cap entry_at =
     string_told_by (is_string_tag (d_tag file entry_at)) (strings entry_at) (λ table. shown table (d_un file entry_at) cap)
 
 -- that string was read, or its string table is refused
-abbrev pub ToldRead : ℕ → Result NameEnd Failure → List ℕ → Result (Result Shown Cause) Refusal → Type 0
+abbrev pub ToldRead : ℕ → Result NameEnd Failure → List ℕ → Result (Result DisplayedName Cause) Refusal → Type 0
 ToldRead at result name (Ok answer) = NameRead at result name answer
 ToldRead at result name (Err refusal) = result ≡ Err (Refused refusal)

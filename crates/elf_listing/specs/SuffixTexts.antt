@@ -9,8 +9,8 @@ before_version Columns is_default = if is_default then codes "@@" else codes "@"
 before_version Object is_default = codes ",\"version\":\""
 
 -- what stands behind a version, with the line's end
-unfoldable pub behind_version : Format → (is_cut is_default : Bool) → List ℕ
-behind_version Columns is_cut is_default = if is_cut then codes "\\+\n" else codes "\n"
-behind_version Object is_cut is_default =
+unfoldable pub after_version : Format → (is_cut is_default : Bool) → List ℕ
+after_version Columns is_cut is_default = if is_cut then codes "\\+\n" else codes "\n"
+after_version Object is_cut is_default =
     (if is_cut then codes "\",\"version_cut\":true" else codes "\"")
     ++ (if is_default then codes ",\"default\":true}\n" else codes ",\"default\":false}\n")

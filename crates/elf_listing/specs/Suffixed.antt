@@ -1,49 +1,49 @@
 -- The versions behind the names of symbols: what finds them, and what a call did that reads one.
 use Rattle.std.specs.Prelude.{ℕ, ◌≡◌, ◌+◌, ◌==◌, not, if◌then◌else◌, Bool, false, List, Option, None, Some, Result, Ok, Err, IfOk, IfSome, length, ◌⊎◌}
-use Rattle.elf_model.specs.Budget.{IsBudget}
+use Rattle.elf_model.specs.Budget.{IsBudgetRefusal}
 use Rattle.elf_model.specs.Choice.{Suffix, NoSuffix, Suffixed}
 use Rattle.elf_model.specs.HeaderTables.{HeaderTable}
-use Rattle.elf_model.specs.Names.{Shown, name_bytes}
+use Rattle.elf_model.specs.Names.{DisplayedName, name_bytes}
 use Rattle.elf_model.specs.Numbers.{SHN_UNDEF}
 use Rattle.elf_model.specs.Records.{section_at, sh_offset, st_shndx}
-use Rattle.elf_model.specs.Suffixes.{first_numbers, numbers_of, suffixed_row, suffixes_refusal, symbol_suffix}
+use Rattle.elf_model.specs.Suffixes.{first_numbers, version_numbers_of, suffixed_row, suffixes_refusal, symbol_suffix}
 use Rattle.elf_model.specs.Choice.{EveryRow}
 use Rattle.elf_model.specs.Tables.{SYMBOL_SIZE, entry_count}
 use Rattle.elf_model.specs.VersionCost.{walks_cost}
 use Rattle.elf_model.specs.Versions.{VERSYM_SIZE, VERSION_NUMBERS}
 use Rattle.elf_model.specs.declared.causes.Cause.{Cause}
 use Rattle.elf_model.specs.declared.causes.Refusal.{Refusal}
-use Rattle.elf_model.specs.Fields.{LineFront}
+use Rattle.elf_model.specs.Fields.{LinePrefix}
 use Rattle.elf_headers.specs.declared.fault.Fault.{Fault}
 use Rattle.elf_headers.specs.declared.fault.Fault.TheVariants.{Refused, Source}
-use Rattle.elf_headers.specs.declared.stop.Stop.{Stop}
+use Rattle.elf_headers.specs.declared.stop.RunFault.{RunFault}
 use Rattle.elf_source.specs.declared.source.Source.{Ghosts as Sources}
 use Rattle.elf_source.specs.declared.sink.Sink.{Ghosts as Sinks}
 use Rattle.elf_table.specs.NamesRead.{NameRead, shown_by}
-use Rattle.elf_table.specs.Tables.{Rows, RowsWithin, Strings}
+use Rattle.elf_table.specs.Tables.{Rows, TableInBounds, StringTableRange}
 use Rattle.elf_table.specs.declared.names.NameEnd.{NameEnd}
 use Rattle.elf_listing.specs.Numbered.{NumberedWithin}
 use Rattle.elf_listing.specs.Parts.{store_sections}
-use Rattle.elf_listing.specs.Shows.{Fetches, Lists, Writes}
+use Rattle.elf_listing.specs.Shows.{ListingReads, Lists, WroteSome}
 use Rattle.elf_listing.specs.SymbolVersions.{AreNumbered}
 use Rattle.elf_listing.specs.declared.listing.Listing.{Listing}
-use Rattle.elf_listing.specs.declared.read_suffix.SuffixEnd.{SuffixEnd}
-use Rattle.elf_listing.specs.declared.suffixes.Suffixes.{Suffixes}
+use Rattle.elf_listing.specs.declared.read_suffix.VersionSuffixEnd.{VersionSuffixEnd}
+use Rattle.elf_listing.specs.declared.suffixes.VersionLookup.{VersionLookup}
 
 -- what finds the versions of the symbols of the table of an index: its section of version numbers, and where the names of all
 -- numbers are
-pub record AreSuffixes (file : List ℕ) (table : ℕ) (suffixes : Suffixes) : Type 0 where
+pub record AreSuffixes (file : List ℕ) (table : ℕ) (suffixes : VersionLookup) : Type 0 where
   pub section : ℕ
-  pub found : numbers_of file table ≡ Some section
+  pub found : version_numbers_of file table ≡ Some section
   pub here : suffixes.at ≡ section_at file section
   pub placed : suffixes.words.at ≡ sh_offset file (section_at file section)
   pub counted : suffixes.words.count ≡ entry_count file (section_at file section) VERSYM_SIZE
   pub numbered : AreNumbered file suffixes.numbered suffixes.places
 
 -- it lies within a source of this size, and keeps a place for each number
-pub record SuffixesWithin (size : ℕ) (suffixes : Suffixes) : Type 0 where
+pub record SuffixesWithin (size : ℕ) (suffixes : VersionLookup) : Type 0 where
   pub entry : suffixes.words.entry ≡ VERSYM_SIZE
-  pub words : RowsWithin size suffixes.words
+  pub words : TableInBounds size suffixes.words
   pub names : NumberedWithin size suffixes.numbered
   pub places : length suffixes.places ≡ VERSION_NUMBERS
 
@@ -56,71 +56,71 @@ abbrev pub suffix_bytes : HeaderTable → (table cap : ℕ) → ℕ
 suffix_bytes headers table cap = elim (first_numbers headers table) [ None ↦ 0 | Some i ↦ VERSYM_SIZE + name_bytes cap ]
 
 -- what was looked for: it is found, or there is none, or it is refused
-abbrev pub SuffixesOr : List ℕ → ℕ → Result (Option Suffixes) Fault → Type 0
+abbrev pub SuffixesOr : List ℕ → ℕ → Result (Option VersionLookup) Fault → Type 0
 SuffixesOr file table (Ok None) =
-    (suffixes_refusal file table ≡ None) × ((entry_count file (section_at file table) SYMBOL_SIZE ≡ 0) ⊎ (numbers_of file table ≡ None))
+    (suffixes_refusal file table ≡ None) × ((entry_count file (section_at file table) SYMBOL_SIZE ≡ 0) ⊎ (version_numbers_of file table ≡ None))
 SuffixesOr file table (Ok (Some suffixes)) = (suffixes_refusal file table ≡ None) × AreSuffixes file table suffixes
-SuffixesOr file table (Err (Refused refusal)) = (IsBudget refusal → ⊥) → suffixes_refusal file table ≡ Some refusal
+SuffixesOr file table (Err (Refused refusal)) = (IsBudgetRefusal refusal → ⊥) → suffixes_refusal file table ≡ Some refusal
 SuffixesOr file table (Err (Source fault at)) = Unit {0}
 
 -- what a call did that looks for it, of a table of so many symbols
-pub record FetchesSuffixes {S W : Type 0} {s : Sources S} {w : Sinks W} (old new : Listing S W s w) (result : Result (Option Suffixes) Fault) (table symbols : ℕ) : Type 0 where
-  pub fetches : Fetches old new result (walks_asked (store_sections old.file.store.now) table symbols old.file.loaded.size)
+pub record FetchesSuffixes {S W : Type 0} {s : Sources S} {w : Sinks W} (old new : Listing S W s w) (result : Result (Option VersionLookup) Fault) (table symbols : ℕ) : Type 0 where
+  pub fetches : ListingReads old new result (walks_asked (store_sections old.file.store.now) table symbols old.file.loaded.size)
   pub within : IfOk result (λ found. IfSome found (SuffixesWithin old.src.now.seen.size))
   pub pays : IfOk result (λ found. IfSome found (λ suffixes. (cap : ℕ) → suffix_bytes (store_sections old.file.store.now) table cap ≡ VERSYM_SIZE + name_bytes cap))
   pub read : (file : List ℕ) → old.src.now.seen.file ≡ Some file → symbols ≡ entry_count file (section_at file table) SYMBOL_SIZE → SuffixesOr file table result
 
 -- a version was read: nothing, or its name; or it is refused
-abbrev pub SuffixRead : Result (Option SuffixEnd) Fault → List ℕ → Result Suffix Refusal → Type 0
+abbrev pub SuffixRead : Result (Option VersionSuffixEnd) Fault → List ℕ → Result Suffix Refusal → Type 0
 SuffixRead (Ok None) version answer = answer ≡ Ok NoSuffix
 SuffixRead (Ok (Some suffix)) version answer = answer ≡ Ok (Suffixed suffix.is_default (shown_by suffix.end version))
-SuffixRead (Err (Refused refusal)) version answer = (IsBudget refusal → ⊥) → answer ≡ Err refusal
+SuffixRead (Err (Refused refusal)) version answer = (IsBudgetRefusal refusal → ⊥) → answer ≡ Err refusal
 SuffixRead (Err (Source fault at)) version answer = Unit {0}
 
 -- the name of a number was read, whose word stands at an offset
 abbrev pub SuffixNamed : Result NameEnd Fault → List ℕ → (Bool → Result Suffix Refusal) → Type 0
 SuffixNamed (Ok end) version answer = (default : Bool) → answer default ≡ Ok (Suffixed default (shown_by end version))
-SuffixNamed (Err (Refused refusal)) version answer = (IsBudget refusal → ⊥) → (default : Bool) → answer default ≡ Err refusal
+SuffixNamed (Err (Refused refusal)) version answer = (IsBudgetRefusal refusal → ⊥) → (default : Bool) → answer default ≡ Err refusal
 SuffixNamed (Err (Source fault at)) version answer = Unit {0}
 
 -- what a call did that reads the version of the symbol of an index, which is defined or not; the name that was read stays
-pub record FetchesSuffix {S W : Type 0} {s : Sources S} {w : Sinks W} (old new : Listing S W s w) (version : List ℕ) (result : Result (Option SuffixEnd) Fault) (suffixes : Suffixes) (index : ℕ) (is_defined : Bool) : Type 0 where
-  pub fetches : Fetches old new result (VERSYM_SIZE + name_bytes old.style.cap.bytes)
+pub record FetchesSuffix {S W : Type 0} {s : Sources S} {w : Sinks W} (old new : Listing S W s w) (version : List ℕ) (result : Result (Option VersionSuffixEnd) Fault) (suffixes : VersionLookup) (index : ℕ) (is_defined : Bool) : Type 0 where
+  pub fetches : ListingReads old new result (VERSYM_SIZE + name_bytes old.style.cap.bytes)
   pub kept : new.name ≡ old.name
   pub read : (file : List ℕ) → old.src.now.seen.file ≡ Some file → (table symbol_at : ℕ) → AreSuffixes file table suffixes
       → is_defined ≡ not (st_shndx file symbol_at == SHN_UNDEF) → SuffixRead result version (symbol_suffix file old.style.cap.bytes table symbol_at index)
 
 -- what stands behind a name, as it was read
-abbrev pub suffix_read : Option SuffixEnd → List ℕ → Suffix
+abbrev pub suffix_read : Option VersionSuffixEnd → List ℕ → Suffix
 suffix_read None version = NoSuffix
 suffix_read (Some suffix) version = Suffixed suffix.is_default (shown_by suffix.end version)
 
 -- what a call did that writes a line that ends in the name that was read, with what stands behind it
-abbrev pub ListsSuffixed : {S W X : Type 0} {s : Sources S} {w : Sinks W} → Listing S W s w → Listing S W s w → Result X Stop → LineFront → NameEnd → Suffix → Type 0
+abbrev pub ListsSuffixed : {S W X : Type 0} {s : Sources S} {w : Sinks W} → Listing S W s w → Listing S W s w → Result X RunFault → LinePrefix → NameEnd → Suffix → Type 0
 ListsSuffixed old new result front end suffix =
     Lists old new result 0
-    ((at : ℕ) (answer : Result Shown Cause) → NameRead at (Ok end) old.name answer
-    → Writes old.out.now new.out.now result (suffixed_row EveryRow front at answer (Ok suffix)))
+    ((at : ℕ) (answer : Result DisplayedName Cause) → NameRead at (Ok end) old.name answer
+    → WroteSome old.out.now new.out.now result (suffixed_row EveryRow front at answer (Ok suffix)))
 
 -- what a call did that reads the version of the symbol that a relocation entry names; symbol 0 has none
-pub record FetchesOfEntry {S W : Type 0} {s : Sources S} {w : Sinks W} (old new : Listing S W s w) (version : List ℕ) (result : Result (Option SuffixEnd) Fault) (suffixes : Suffixes) (symbol : ℕ) (is_defined : Bool) : Type 0 where
-  pub fetches : Fetches old new result (VERSYM_SIZE + name_bytes old.style.cap.bytes)
+pub record FetchesOfEntry {S W : Type 0} {s : Sources S} {w : Sinks W} (old new : Listing S W s w) (version : List ℕ) (result : Result (Option VersionSuffixEnd) Fault) (suffixes : VersionLookup) (symbol : ℕ) (is_defined : Bool) : Type 0 where
+  pub fetches : ListingReads old new result (VERSYM_SIZE + name_bytes old.style.cap.bytes)
   pub kept : new.name ≡ old.name
   pub read : (file : List ℕ) → old.src.now.seen.file ≡ Some file → (table symbol_at : ℕ) → AreSuffixes file table suffixes
       → ((symbol == 0) ≡ false → is_defined ≡ not (st_shndx file symbol_at == SHN_UNDEF))
       → SuffixRead result version (if symbol == 0 then Ok NoSuffix else symbol_suffix file old.style.cap.bytes table symbol_at symbol)
 
 -- what a call did that looks for what finds the versions of the symbols that relocation entries refer to, if they refer to some
-abbrev pub linked_count : Option (Rows × Strings) → ℕ
+abbrev pub linked_count : Option (Rows × StringTableRange) → ℕ
 linked_count None = 0
 linked_count (Some found) = found.0.count
 
-abbrev pub LinkedOr : List ℕ → ℕ → Option (Rows × Strings) → Result (Option Suffixes) Fault → Type 0
+abbrev pub LinkedOr : List ℕ → ℕ → Option (Rows × StringTableRange) → Result (Option VersionLookup) Fault → Type 0
 LinkedOr file table None result = result ≡ Ok None
 LinkedOr file table (Some found) result = found.0.count ≡ entry_count file (section_at file table) SYMBOL_SIZE → SuffixesOr file table result
 
-pub record FetchesOfLinked {S W : Type 0} {s : Sources S} {w : Sinks W} (old new : Listing S W s w) (result : Result (Option Suffixes) Fault) (table : ℕ) (linked : Option (Rows × Strings)) : Type 0 where
-  pub fetches : Fetches old new result (walks_asked (store_sections old.file.store.now) table (linked_count linked) old.file.loaded.size)
+pub record FetchesOfLinked {S W : Type 0} {s : Sources S} {w : Sinks W} (old new : Listing S W s w) (result : Result (Option VersionLookup) Fault) (table : ℕ) (linked : Option (Rows × StringTableRange)) : Type 0 where
+  pub fetches : ListingReads old new result (walks_asked (store_sections old.file.store.now) table (linked_count linked) old.file.loaded.size)
   pub within : IfOk result (λ found. IfSome found (SuffixesWithin old.src.now.seen.size))
   pub pays : IfOk result (λ found. IfSome found (λ suffixes. (cap : ℕ) → suffix_bytes (store_sections old.file.store.now) table cap ≡ VERSYM_SIZE + name_bytes cap))
   pub read : (file : List ℕ) → old.src.now.seen.file ≡ Some file → LinkedOr file table linked result

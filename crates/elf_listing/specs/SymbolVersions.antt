@@ -11,7 +11,7 @@ use Rattle.elf_model.specs.Suffixes.{or_refusal, walk_refusal}
 use Rattle.elf_model.specs.Tables.{all_checks}
 use Rattle.elf_model.specs.VersionCost.{walk_cost, walks_cost}
 use Rattle.elf_model.specs.VersionRows.{first_of_type, first_strings, first_versions, section_versions, version_table}
-use Rattle.elf_model.specs.Versions.{VERSYM_SIZE, Met, record_size}
+use Rattle.elf_model.specs.Versions.{VERSYM_SIZE, VisitedRecord, record_size}
 use Rattle.elf_model.specs.declared.causes.Cause.TheVariants.{VersionCut}
 use Rattle.elf_model.specs.declared.causes.Refusal.{Refusal}
 use Rattle.elf_model.specs.declared.versions.VersionKind.{VersionKind}
@@ -20,61 +20,61 @@ use Rattle.elf_headers.specs.Load.{section_place}
 use Rattle.elf_headers.specs.Permitted.{style_of}
 use Rattle.elf_headers.specs.declared.fault.Fault.{Fault}
 use Rattle.elf_headers.specs.declared.fault.Fault.TheVariants.{Refused, Source}
-use Rattle.elf_model.specs.Budget.{IsBudget}
-use Rattle.elf_headers.specs.declared.stop.Stop.{Stop}
+use Rattle.elf_model.specs.Budget.{IsBudgetRefusal}
+use Rattle.elf_headers.specs.declared.stop.RunFault.{RunFault}
 use Rattle.elf_source.specs.declared.source.Source.{Ghosts as Sources}
 use Rattle.elf_source.specs.declared.sink.Sink.{Ghosts as Sinks}
-use Rattle.elf_table.specs.Tables.{Rows, Strings, StringsWithin, strings_in}
+use Rattle.elf_table.specs.Tables.{Rows, StringTableRange, StringsInBounds, strings_in}
 use Rattle.elf_versions.specs.NumberNames.{NamesNumbers}
 use Rattle.elf_versions.specs.Reading.{bytes_each}
-use Rattle.elf_versions.specs.declared.number_names.NameAt.{NameAt}
-use Rattle.elf_listing.specs.Numbered.{NumberedWithin, told_row}
+use Rattle.elf_versions.specs.declared.number_names.VersionNameRef.{VersionNameRef}
+use Rattle.elf_listing.specs.Numbered.{NumberedWithin, reported_row}
 use Rattle.elf_listing.specs.Parts.{store_sections}
-use Rattle.elf_listing.specs.Shows.{Fetches, Lists, Writes}
+use Rattle.elf_listing.specs.Shows.{ListingReads, Lists, WroteSome}
 use Rattle.elf_listing.specs.Versions.{kind_type}
 use Rattle.elf_listing.specs.declared.listing.Listing.{Listing}
-use Rattle.elf_listing.specs.declared.numbered.Numbered.{Numbered}
+use Rattle.elf_listing.specs.declared.numbered.VersionStrings.{VersionStrings}
 
 -- the rows of so many entries of a table, for so many symbols: where a symbol has no entry any more the refusal stands at a place
-unfoldable pub versioned_items : List ℕ → Style → Numbered → (section : ℕ) → Rows → (symbols place : ℕ) → List ListingItem
+unfoldable pub versioned_items : List ℕ → Style → VersionStrings → (section : ℕ) → Rows → (symbols place : ℕ) → List ListingItem
 versioned_items file style numbered section table symbols place =
-    each (λ i. told_row file style numbered section (table.at + i * VERSYM_SIZE) i) 0 (min table.count symbols)
+    each (λ i. reported_row file style numbered section (table.at + i * VERSYM_SIZE) i) 0 (min table.count symbols)
     ++ (if nat_lt table.count symbols then refused_row place VersionCut else [])
 
 -- what a call did that shows them
-abbrev pub ListsVersioned : {S W X : Type 0} {s : Sources S} {w : Sinks W} → Listing S W s w → Listing S W s w → Result X Stop → ℕ → Rows → ℕ → Numbered → Type 0
+abbrev pub ListsVersioned : {S W X : Type 0} {s : Sources S} {w : Sinks W} → Listing S W s w → Listing S W s w → Result X RunFault → ℕ → Rows → ℕ → VersionStrings → Type 0
 ListsVersioned old new result section table symbols numbered =
     Lists old new result (min table.count symbols * (VERSYM_SIZE + name_bytes old.style.cap.bytes))
     ((file : List ℕ) → old.src.now.seen.file ≡ Some file
-    → Writes old.out.now new.out.now result (versioned_items file (style_of old.style) numbered section table symbols (section_place old.file.loaded.header section)))
+    → WroteSome old.out.now new.out.now result (versioned_items file (style_of old.style) numbered section table symbols (section_place old.file.loaded.header section)))
 
 -- the checks of the first section that holds records of a kind pass, and no record of it is refused
 abbrev pub AreRecordsWhole : List ℕ → VersionKind → Type 0
 AreRecordsWhole file kind = walk_refusal kind (kind_type kind) file ≡ None
 
 -- the names and the places of some records
-abbrev pub NumbersTaken : List NameAt → List ℕ → List ℕ → List Met → Type 0
+abbrev pub NumbersTaken : List VersionNameRef → List ℕ → List ℕ → List VisitedRecord → Type 0
 NumbersTaken names places file records = NamesNumbers file records names places
 
 -- the records of that section were taken in behind others, and their names are in these strings
-pub record TakenIn (file : List ℕ) (kind : VersionKind) (records : List Met) (after : List ℕ → List Met → Type 0) (strings : Strings) : Type 0 where
+pub record TakenIn (file : List ℕ) (kind : VersionKind) (records : List VisitedRecord) (after : List ℕ → List VisitedRecord → Type 0) (strings : StringTableRange) : Type 0 where
   pub whole : AreRecordsWhole file kind
   pub names : after file (records ++ first_versions kind (kind_type kind) file)
   pub named : (first_versions kind (kind_type kind) file ≡ [] → ⊥) → strings_in file strings ≡ first_strings (kind_type kind) file
 
-abbrev pub TakenOr : List ℕ → VersionKind → List Met → (List ℕ → List Met → Type 0) → Result Strings Fault → Type 0
+abbrev pub TakenOr : List ℕ → VersionKind → List VisitedRecord → (List ℕ → List VisitedRecord → Type 0) → Result StringTableRange Fault → Type 0
 TakenOr file kind records after (Ok strings) = TakenIn file kind records after strings
-TakenOr file kind records after (Err (Refused refusal)) = (IsBudget refusal → ⊥) → walk_refusal kind (kind_type kind) file ≡ Some refusal
+TakenOr file kind records after (Err (Refused refusal)) = (IsBudgetRefusal refusal → ⊥) → walk_refusal kind (kind_type kind) file ≡ Some refusal
 TakenOr file kind records after (Err (Source fault at)) = Unit {0}
 
 -- what a call did that takes them in: they are taken in, or what refuses them is told, unless a read fails
-pub record TakesRecords {S W : Type 0} {s : Sources S} {w : Sinks W} (old new : Listing S W s w) (before after : List ℕ → List Met → Type 0) (result : Result Strings Fault) (kind : VersionKind) : Type 0 where
-  pub fetches : Fetches old new result (walk_cost (store_sections old.file.store.now) old.file.loaded.size (kind_type kind) (record_size kind) (bytes_each kind))
-  pub within : IfOk result (StringsWithin old.src.now.seen.size)
-  pub taken : (file : List ℕ) → old.src.now.seen.file ≡ Some file → (records : List Met) → before file records → TakenOr file kind records after result
+pub record TakesRecords {S W : Type 0} {s : Sources S} {w : Sinks W} (old new : Listing S W s w) (before after : List ℕ → List VisitedRecord → Type 0) (result : Result StringTableRange Fault) (kind : VersionKind) : Type 0 where
+  pub fetches : ListingReads old new result (walk_cost (store_sections old.file.store.now) old.file.loaded.size (kind_type kind) (record_size kind) (bytes_each kind))
+  pub within : IfOk result (StringsInBounds old.src.now.seen.size)
+  pub taken : (file : List ℕ) → old.src.now.seen.file ≡ Some file → (records : List VisitedRecord) → before file records → TakenOr file kind records after result
 
 -- the names of all numbers of a file
-pub record AreNumbered (file : List ℕ) (numbered : Numbered) (places : List ℕ) : Type 0 where
+pub record AreNumbered (file : List ℕ) (numbered : VersionStrings) (places : List ℕ) : Type 0 where
   pub names : NamesNumbers file (first_versions Definition SHT_GNU_VERDEF file ++ first_versions File SHT_GNU_VERNEED file) numbered.names places
   pub defined : (first_versions Definition SHT_GNU_VERDEF file ≡ [] → ⊥) → strings_in file numbered.defined ≡ first_strings SHT_GNU_VERDEF file
   pub needed : (first_versions File SHT_GNU_VERNEED file ≡ [] → ⊥) → strings_in file numbered.needed ≡ first_strings SHT_GNU_VERNEED file
@@ -83,13 +83,13 @@ pub record AreNumbered (file : List ℕ) (numbered : Numbered) (places : List �
 abbrev pub walks_refusal : List ℕ → Option Refusal
 walks_refusal file = or_refusal (walk_refusal Definition SHT_GNU_VERDEF file) (walk_refusal File SHT_GNU_VERNEED file)
 
-abbrev pub NumberedOr : List ℕ → List ℕ → Result Numbered Fault → Type 0
+abbrev pub NumberedOr : List ℕ → List ℕ → Result VersionStrings Fault → Type 0
 NumberedOr file places (Ok numbered) = (walks_refusal file ≡ None) × AreNumbered file numbered places
-NumberedOr file places (Err (Refused refusal)) = (IsBudget refusal → ⊥) → walks_refusal file ≡ Some refusal
+NumberedOr file places (Err (Refused refusal)) = (IsBudgetRefusal refusal → ⊥) → walks_refusal file ≡ Some refusal
 NumberedOr file places (Err (Source fault at)) = Unit {0}
 
 -- what a call did that finds them
-pub record FetchesNumbers {S W : Type 0} {s : Sources S} {w : Sinks W} (old new : Listing S W s w) (places : List ℕ) (result : Result Numbered Fault) : Type 0 where
-  pub fetches : Fetches old new result (walks_cost (store_sections old.file.store.now) old.file.loaded.size)
+pub record FetchesNumbers {S W : Type 0} {s : Sources S} {w : Sinks W} (old new : Listing S W s w) (places : List ℕ) (result : Result VersionStrings Fault) : Type 0 where
+  pub fetches : ListingReads old new result (walks_cost (store_sections old.file.store.now) old.file.loaded.size)
   pub within : IfOk result (NumberedWithin old.src.now.seen.size)
   pub read : (file : List ℕ) → old.src.now.seen.file ≡ Some file → NumberedOr file places result

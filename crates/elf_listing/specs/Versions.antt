@@ -5,42 +5,42 @@ use Rattle.elf_model.specs.Names.{name_bytes}
 use Rattle.elf_model.specs.Style.{Style}
 use Rattle.elf_model.specs.HeaderTables.{TableKind}
 use Rattle.elf_model.specs.Numbers.{SHT_GNU_VERDEF, SHT_GNU_VERNEED}
-use Rattle.elf_model.specs.VersionRows.{end_rows, met_rows, version_records, version_row}
-use Rattle.elf_model.specs.Versions.{Met, Versions, record_size}
+use Rattle.elf_model.specs.VersionRows.{end_rows, visited_rows, version_records, version_row}
+use Rattle.elf_model.specs.Versions.{VisitedRecord, Versions, record_size}
 use Rattle.elf_model.specs.declared.versions.VersionKind.{VersionKind}
 use Rattle.elf_model.specs.declared.versions.VersionKind.TheVariants.{Definition, File, Need}
 use Rattle.elf_headers.specs.Permitted.{style_of}
 use Rattle.elf_source.specs.declared.source.Source.{Ghosts as Sources}
 use Rattle.elf_source.specs.declared.sink.Sink.{Ghosts as Sinks}
-use Rattle.elf_table.specs.Tables.{Strings, strings_in}
-use Rattle.elf_versions.specs.Reading.{IsCursorOf, IsVersion, Walking, bytes_each, unread, versions_left}
+use Rattle.elf_table.specs.Tables.{StringTableRange, strings_in}
+use Rattle.elf_versions.specs.Reading.{IsCursorOf, IsVersion, VersionCursorState, bytes_each, unread, versions_left}
 use Rattle.elf_versions.specs.declared.record.VersionRecord.{VersionRecord}
 use Rattle.elf_listing.specs.Parts.{of_sections}
-use Rattle.elf_listing.specs.Shows.{Lists, Shows, Writes}
+use Rattle.elf_listing.specs.Shows.{Lists, ListingWrote, WroteSome}
 use Rattle.elf_listing.specs.declared.listing.Listing.{Listing}
-use Rattle.elf_headers.specs.declared.stop.Stop.{Stop}
+use Rattle.elf_headers.specs.declared.stop.RunFault.{RunFault}
 
 -- what a call did that shows a record, with its name in a string table: where the record is the file's, its row
-abbrev pub ListsRecord : {S W X : Type 0} {s : Sources S} {w : Sinks W} → Listing S W s w → Listing S W s w → Result X Stop → VersionRecord → ℕ → Strings → Type 0
+abbrev pub ListsRecord : {S W X : Type 0} {s : Sources S} {w : Sinks W} → Listing S W s w → Listing S W s w → Result X RunFault → VersionRecord → ℕ → StringTableRange → Type 0
 ListsRecord old new result given section names =
     Lists old new result (name_bytes old.style.cap.bytes)
-    ((file : List ℕ) (met : Met) → old.src.now.seen.file ≡ Some file → IsVersion file met given
-    → Writes old.out.now new.out.now result (version_row file (style_of old.style) section (strings_in file names) met))
+    ((file : List ℕ) (met : VisitedRecord) → old.src.now.seen.file ≡ Some file → IsVersion file met given
+    → WroteSome old.out.now new.out.now result (version_row file (style_of old.style) section (strings_in file names) met))
 
 -- the rows of records, up to the refusal of what is none
 abbrev pub versions_items : List ℕ → Style → ℕ → List ℕ → Versions → List ListingItem
-versions_items file style section strings versions = met_rows file style section strings versions.met ++ end_rows versions.cut
+versions_items file style section strings versions = visited_rows file style section strings versions.met ++ end_rows versions.cut
 
 -- how many bytes the records ask for at most that a cursor still gives, each with its name
-abbrev pub records_cost : Walking → ℕ → ℕ
+abbrev pub records_cost : VersionCursorState → ℕ → ℕ
 records_cost cursor cap = unread cursor + cursor.left * name_bytes cap
 
 -- what a call did that shows the records that a cursor still gives: where the cursor is of the file, their rows
-abbrev pub ListsRecords : {S W X : Type 0} {s : Sources S} {w : Sinks W} → Listing S W s w → Listing S W s w → Result X Stop → Walking → ℕ → Strings → Type 0
+abbrev pub ListsRecords : {S W X : Type 0} {s : Sources S} {w : Sinks W} → Listing S W s w → Listing S W s w → Result X RunFault → VersionCursorState → ℕ → StringTableRange → Type 0
 ListsRecords old new result cursor section names =
     Lists old new result (records_cost cursor old.style.cap.bytes)
     ((file : List ℕ) → old.src.now.seen.file ≡ Some file → IsCursorOf file cursor
-    → Writes old.out.now new.out.now result (versions_items file (style_of old.style) section (strings_in file names) (versions_left file cursor)))
+    → WroteSome old.out.now new.out.now result (versions_items file (style_of old.style) section (strings_in file names) (versions_left file cursor)))
 
 -- the sections that hold records of a kind: their type, and their tables
 abbrev pub kind_type : VersionKind → ℕ
@@ -50,8 +50,8 @@ abbrev pub records_kind : VersionKind → TableKind
 records_kind kind = version_records kind (kind_type kind) (record_size kind) (bytes_each kind)
 
 -- what a call did that shows the records of a section, where it holds records of a kind
-abbrev pub ListsVersions : {S W X : Type 0} {s : Sources S} {w : Sinks W} → Listing S W s w → Listing S W s w → Result X Stop → ℕ → VersionKind → Type 0
+abbrev pub ListsVersions : {S W X : Type 0} {s : Sources S} {w : Sinks W} → Listing S W s w → Listing S W s w → Result X RunFault → ℕ → VersionKind → Type 0
 ListsVersions old new result section kind =
     let listed = of_sections (records_kind kind) in
     Lists old new result (listed.cost old.file.loaded old.file.store.now old.style.cap.bytes section)
-    (Shows old new result (λ file. listed.items file (style_of old.style) section))
+    (ListingWrote old new result (λ file. listed.items file (style_of old.style) section))

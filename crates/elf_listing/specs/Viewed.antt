@@ -1,47 +1,47 @@
 -- The program headers that are loaded beside a file: where they describe its tables.
 use Rattle.std.specs.Prelude.{ℕ, ◌≡◌, ◌*◌, ◌<◌, ◌≤◌, ◌==◌, ◌&&◌, ◌||◌, Bool, List, Option, None, Some, Result, Ok, Err, if◌then◌else◌}
-use Rattle.elf_model.specs.Budget.{IsBudget}
+use Rattle.elf_model.specs.Budget.{IsBudgetRefusal}
 use Rattle.elf_model.specs.Checks.{Check, first_refusal}
 use Rattle.elf_model.specs.Cost.{cost_where}
 use Rattle.elf_model.specs.Listing.{has, SEGMENTS, NOTES, DYNAMIC}
-use Rattle.elf_source.specs.Source.{Counting}
-use Rattle.elf_headers.specs.Load.{IsOpen, Opened, SegmentsWithin}
-use Rattle.elf_headers.specs.Store.{Stored, HoldsSegments}
+use Rattle.elf_source.specs.Source.{CountedState}
+use Rattle.elf_headers.specs.Load.{IsOpen, LoadedFile, SegmentsInBounds}
+use Rattle.elf_headers.specs.Store.{StoreState, HoldsSegments}
 use Rattle.elf_headers.specs.declared.fault.Fault.{Fault}
 use Rattle.elf_headers.specs.declared.fault.Fault.TheVariants.{Refused, Source}
 
 -- the parts of a file without sections need its program headers
-abbrev pub needs_view : ℕ → Opened → Bool
-needs_view parts loaded = loaded.header.e_shnum == 0 && (has parts SEGMENTS || (has parts NOTES || has parts DYNAMIC))
+abbrev pub needs_segment_view : ℕ → LoadedFile → Bool
+needs_segment_view parts loaded = loaded.header.e_shnum == 0 && (has parts SEGMENTS || (has parts NOTES || has parts DYNAMIC))
 
 -- how many program headers are loaded
-abbrev pub viewed_headers : ℕ → Opened → ℕ
-viewed_headers parts loaded = if needs_view parts loaded then loaded.header.e_phnum else 0
+abbrev pub viewed_headers : ℕ → LoadedFile → ℕ
+viewed_headers parts loaded = if needs_segment_view parts loaded then loaded.header.e_phnum else 0
 
 -- how many bytes that asks for
-abbrev pub view_cost : ℕ → Opened → ℕ
-view_cost parts loaded = cost_where (needs_view parts loaded) (56 * loaded.header.e_phnum)
+abbrev pub view_cost : ℕ → LoadedFile → ℕ
+view_cost parts loaded = cost_where (needs_segment_view parts loaded) (56 * loaded.header.e_phnum)
 
 -- where program headers are loaded all are, and they are those of the source's file
-pub record IsViewed (file : Option (List ℕ)) (loaded : Opened) (store : Stored) : Type 0 where
+pub record IsViewed (file : Option (List ℕ)) (loaded : LoadedFile) (store : StoreState) : Type 0 where
   pub all : 0 < store.segments → store.segments ≡ loaded.header.e_phnum
   pub held : (bytes : List ℕ) → file ≡ Some bytes → HoldsSegments bytes store
 
 -- THE PROGRAM HEADERS WERE READ AND CHECKED: all checks pass; or a read failed, or the refusal is the first of them that fails
 abbrev pub ChecksView : List Check → Result (Unit {0}) Fault → Type 0
 ChecksView checks (Ok passed) = first_refusal checks ≡ None
-ChecksView checks (Err (Refused refusal)) = (IsBudget refusal → ⊥) → first_refusal checks ≡ Some refusal
+ChecksView checks (Err (Refused refusal)) = (IsBudgetRefusal refusal → ⊥) → first_refusal checks ≡ Some refusal
 ChecksView checks (Err (Source fault at)) = Unit {0}
 
 -- what is so before the program headers of a file are loaded: its section headers are in the store, which has room
-pub record AwaitsView (size : ℕ) (loaded : Opened) (store : Stored) : Type 0 where
+pub record AwaitsView (size : ℕ) (loaded : LoadedFile) (store : StoreState) : Type 0 where
   pub whole : store.loaded ≡ loaded.header.e_shnum
   pub none : store.segments ≡ 0
   pub room : loaded.header.e_phnum ≤ store.slots
-  pub within : SegmentsWithin size loaded.header
+  pub within : SegmentsInBounds size loaded.header
 
 -- what is so where the tables of a file are listed: what was loaded is its source's, with the program headers where the parts need them
-pub record IsReady (parts : ℕ) (src : Counting) (loaded : Opened) (store : Stored) : Type 0 where
+pub record IsReady (parts : ℕ) (src : CountedState) (loaded : LoadedFile) (store : StoreState) : Type 0 where
   pub opened : IsOpen src loaded store
   pub whole : store.loaded ≡ loaded.header.e_shnum
   pub counted : store.segments ≡ viewed_headers parts loaded

@@ -7,11 +7,11 @@ ghost use Rattle.elf_listing.specs.Choosing.{ShowsRows};
 ghost use Rattle.elf_listing.specs.Suffixed.{suffix_read};
 
 use crate::listing::Listing;
-use crate::read_suffix::SuffixEnd;
+use crate::read_suffix::VersionSuffixEnd;
 use crate::row::is_cut;
 use elf_source::{Sink, Source};
 use elf_table::{NameBuf, NameEnd};
-use elf_wanted::ShownVersion;
+use elf_wanted::VersionSuffix;
 
 /// Whether rows are chosen by their names, which is known where the code is made: where every row is
 /// shown, no name is looked for.
@@ -52,10 +52,10 @@ impl<S: Source, W: Sink> Listing<'_, '_, '_, '_, S, W> {
     }
 
     /// Whether the row of the name that was read is shown, with the version behind it, if there is one.
-    pub(crate) fn is_suffixed_shown<C: Choosing>(
+    pub(crate) fn is_versioned_row_shown<C: Choosing>(
         &self,
         end: NameEnd,
-        suffix: Option<SuffixEnd>,
+        suffix: Option<VersionSuffixEnd>,
         version: &NameBuf,
     ) -> bool
         requires { ShowsRows C.BY_NAME self.now.style }
@@ -68,7 +68,7 @@ impl<S: Source, W: Sink> Listing<'_, '_, '_, '_, S, W> {
         if !C::BY_NAME {
             return true;
         }
-        let behind = ShownVersion {
+        let behind = VersionSuffix {
             name: version.bytes(),
             is_cut: is_cut(read.end),
             is_default: read.is_default,

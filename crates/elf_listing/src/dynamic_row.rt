@@ -6,31 +6,31 @@ ghost use Rattle.elf_record.specs.Dyn.{IsDyn};
 ghost use Rattle.elf_listing.specs.Fetched.{FetchesString};
 ghost use Rattle.elf_listing.specs.Kinds.{ListsRow, RowFits};
 ghost use Rattle.elf_listing.specs.Strings.{AreWithin, FindsStrings};
-ghost use Rattle.elf_listing.specs.declared.dynamic_row.EntryStrings.TheVariants.{Mapped};
-ghost use Rattle.elf_listing.specs.declared.rows.ListedAs.TheVariants.{Dynamic};
+ghost use Rattle.elf_listing.specs.declared.dynamic_row.DynamicStringTable.TheVariants.{Mapped};
+ghost use Rattle.elf_listing.specs.declared.rows.RowLayout.TheVariants.{Dynamic};
 
 use crate::listing::Listing;
-use elf_fields::{LineFront, Render};
-use elf_headers::{Fault, Stop, refused};
-use elf_lines::dynamic_front;
+use elf_fields::{LinePrefix, Render};
+use elf_headers::{Fault, RunFault, refused};
+use elf_lines::dynamic_prefix;
 use elf_names::NameIndex;
-use elf_note::DynStrings;
+use elf_note::DynamicStrings;
 use elf_record::numbers::{DT_NEEDED, DT_RPATH, DT_RUNPATH, DT_SONAME};
 use elf_record::{Cause, Dyn};
 use elf_source::{Sink, Source};
-use elf_table::{NameEnd, Names, Row, SegmentView};
+use elf_table::{ExecutionView, NameEnd, Names, Row};
 
 /// Where the strings of dynamic entries are looked for.
 #[derive(Clone, Copy)]
-pub enum EntryStrings<'f> {
+pub enum DynamicStringTable<'f> {
     /// In the string table that their section links to.
-    Linked(Names),
+    LinkedSymbolTable(Names),
     /// Where a segment loads them, at the address that the entries tell.
     Mapped {
         /// The file with its program headers.
-        view: SegmentView<'f>,
+        view: ExecutionView<'f>,
         /// The address and the size that the entries tell.
-        told: DynStrings,
+        told: DynamicStrings,
     },
 }
 
@@ -39,10 +39,10 @@ impl<S: Source, W: Sink> Listing<'_, '_, '_, '_, S, W> {
     /// table or of the string.
     pub(crate) fn dynamic_row<R: Render>(
         &mut self,
-        front: &mut LineFront,
+        front: &mut LinePrefix,
         row: &Row<'_>,
-        strings: &EntryStrings<'_>,
-    ) -> Result<(), Stop>
+        strings: &DynamicStringTable<'_>,
+    ) -> Result<(), RunFault>
         requires format { R.FORMAT ≡ self.old.style.format }
         requires row { RowFits self.old.src.now.seen.size (Dynamic strings.now) row.now }
         ensures { ListsRow self.old self.new result (Dynamic strings.now) row.now }
@@ -50,7 +50,7 @@ impl<S: Source, W: Sink> Listing<'_, '_, '_, '_, S, W> {
         let gnu = self.style.gnu;
         let entry = Dyn::decode(row.whole());
         let end = self.read_string(&entry, strings, row.at)?;
-        dynamic_front::<R>(front, row.index, &entry, gnu);
+        dynamic_prefix::<R>(front, row.index, &entry, gnu);
         self.named_line(front, end)
     }
 
@@ -60,7 +60,7 @@ impl<S: Source, W: Sink> Listing<'_, '_, '_, '_, S, W> {
     fn read_string(
         &mut self,
         entry: &Dyn,
-        strings: &EntryStrings<'_>,
+        strings: &DynamicStringTable<'_>,
         at: u64,
     ) -> Result<NameEnd, Fault>
         requires { AreWithin self.old.src.now.seen.size strings.now }
@@ -77,17 +77,17 @@ impl<S: Source, W: Sink> Listing<'_, '_, '_, '_, S, W> {
 }
 
 /// The string table of the entry at the file offset `at`.
-fn strings_for(strings: &EntryStrings<'_>, at: u64) -> Result<Names, Fault>
+fn strings_for(strings: &DynamicStringTable<'_>, at: u64) -> Result<Names, Fault>
     ensures { FindsStrings strings.now at result }
 {
     match strings {
-        EntryStrings::Linked(names) => Ok(*names),
-        EntryStrings::Mapped { view, told } => strings_mapped(view, told, at),
+        DynamicStringTable::LinkedSymbolTable(names) => Ok(*names),
+        DynamicStringTable::Mapped { view, told } => strings_mapped(view, told, at),
     }
 }
 
 /// The string table at the address that entries tell, for the entry at the file offset `at`.
-fn strings_mapped(view: &SegmentView<'_>, told: &DynStrings, at: u64) -> Result<Names, Fault>
+fn strings_mapped(view: &ExecutionView<'_>, told: &DynamicStrings, at: u64) -> Result<Names, Fault>
     ensures { FindsStrings (Mapped view.now told.now) at result }
 {
     let Some(address) = told.address else {

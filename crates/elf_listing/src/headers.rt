@@ -6,12 +6,12 @@ ghost use Rattle.elf_listing.specs.Parts.{Awaits, listed_by};
 
 use crate::listing::Listing;
 use crate::parts::Part;
-use elf_headers::Stop;
+use elf_headers::RunFault;
 use elf_source::{Sink, Source};
 
 impl<S: Source, W: Sink> Listing<'_, '_, '_, '_, S, W> {
     /// Shows a part of each header in the order of the headers, up to the first that is refused.
-    pub(crate) fn headers(&mut self, part: Part) -> Result<(), Stop>
+    pub(crate) fn headers(&mut self, part: Part) -> Result<(), RunFault>
         requires { Awaits part self.old.src.now.seen.file (style_of self.old.style) }
         ensures { ListsPart part self.old self.new result }
     {
@@ -38,7 +38,7 @@ impl<S: Source, W: Sink> Listing<'_, '_, '_, '_, S, W> {
 
     /// Shows a part of one header. A table is a call of its own, so that its windows leave the stack
     /// with it.
-    fn header(&mut self, part: Part, index: u16) -> Result<(), Stop>
+    fn header(&mut self, part: Part, index: u16) -> Result<(), RunFault>
         requires awaits { Awaits part self.old.src.now.seen.file (style_of self.old.style) }
         requires below { index < (listed_by part).count self.old.file.store.now }
         ensures { ListsHeader part self.old self.new result index }
@@ -56,7 +56,7 @@ impl<S: Source, W: Sink> Listing<'_, '_, '_, '_, S, W> {
             Part::Needs => self.needs(index),
             Part::SymbolVersions => self.symbol_versions(index),
             Part::SuffixedSymbols => self.suffixed_symbols(index),
-            Part::SuffixedRelocations => self.suffixed_relocations(index),
+            Part::SuffixedRelocations => self.relocations_with_versions(index),
         }
     }
 }

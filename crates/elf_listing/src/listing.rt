@@ -6,7 +6,7 @@ ghost use Rattle.elf_listing.specs.Viewed.{IsViewed};
 ghost use Rattle.elf_headers.specs.Load.{IsOpen};
 
 use elf_headers::Style;
-use elf_lines::NumberNaming;
+use elf_lines::ConstantNames;
 use elf_names::ReadAhead;
 use elf_source::{Counted, Out, Sink, Source};
 use elf_table::{File, NameBuf};
@@ -35,12 +35,12 @@ pub struct Listing<'s, 'o, 'f, 'n, S: Source, W: Sink> {
 
 impl<S: Source, W: Sink> Listing<'_, '_, '_, '_, S, W> {
     /// How numbers are named in the file's lines.
-    pub(crate) fn naming(&self) -> NumberNaming
+    pub(crate) fn naming(&self) -> ConstantNames
         ensures gnu { result.gnu ≡ self.now.style.gnu }
         ensures machine { (file : List ℕ) → self.now.src.now.seen.file ≡ Some file →
             result.machine ≡ e_machine file }
     {
-        NumberNaming {
+        ConstantNames {
             gnu: self.style.gnu,
             machine: self.file.loaded.header().e_machine,
         }

@@ -1,6 +1,6 @@
 //! The names that rows refer to, read.
 ghost use Rattle.std.specs.Prelude.{Some, IfSome};
-ghost use Rattle.elf_table.specs.Tables.{StringsWithin};
+ghost use Rattle.elf_table.specs.Tables.{StringsInBounds};
 ghost use Rattle.elf_listing.specs.Fetched.{FetchesName};
 
 use crate::listing::Listing;
@@ -16,7 +16,7 @@ impl<S: Source, W: Sink> Listing<'_, '_, '_, '_, S, W> {
     /// # Errors
     /// As for `ReadAhead::name`.
     pub(crate) fn read_name(&mut self, index: NameIndex) -> Result<NameEnd, Fault>
-        requires { StringsWithin self.old.src.now.seen.size index.names }
+        requires { StringsInBounds self.old.src.now.seen.size index.names }
         ensures { FetchesName self.old self.new result (Some index.names) index.off index.at }
     {
         self.ahead
@@ -31,7 +31,7 @@ impl<S: Source, W: Sink> Listing<'_, '_, '_, '_, S, W> {
         off: u32,
         at: u64,
     ) -> Result<NameEnd, Fault>
-        requires { IfSome names (StringsWithin self.old.src.now.seen.size) }
+        requires { IfSome names (StringsInBounds self.old.src.now.seen.size) }
         ensures { FetchesName self.old self.new result names off at }
     {
         let Some(names) = names else {

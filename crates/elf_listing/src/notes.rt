@@ -1,13 +1,13 @@
 //! The notes of a table, shown one after another.
 ghost use Rattle.std.specs.Prelude.{◌≡◌, ◌≤◌, length};
-ghost use Rattle.elf_table.specs.Tables.{RowsWithin};
+ghost use Rattle.elf_table.specs.Tables.{TableInBounds};
 ghost use Rattle.elf_listing.specs.Notes.{ListsNote, ListsNotes};
 
 use crate::listing::Listing;
 use crate::row::is_cut;
-use elf_fields::{Columns, LineFront, Object, Render};
-use elf_headers::Stop;
-use elf_lines::{note_front, show_note};
+use elf_fields::{Columns, LinePrefix, Object, Render};
+use elf_headers::RunFault;
+use elf_lines::{note_prefix, show_note};
 use elf_model::Format;
 use elf_note::{NoteCursor, NoteRow};
 use elf_source::{Sink, Source};
@@ -17,9 +17,9 @@ impl<S: Source, W: Sink> Listing<'_, '_, '_, '_, S, W> {
     /// Shows the notes of a table of single bytes, an `N` line each, up to the place where no note
     /// stands. `align` is the alignment that the table's header tells, and `index` is the header's
     /// (gABI 5, Note Section).
-    pub(crate) fn notes(&mut self, table: Table, align: u64, index: u16) -> Result<(), Stop>
+    pub(crate) fn notes(&mut self, table: Table, align: u64, index: u16) -> Result<(), RunFault>
         requires bytes { table.entry ≡ 1 }
-        requires within { RowsWithin self.old.src.now.seen.size table }
+        requires within { TableInBounds self.old.src.now.seen.size table }
         ensures { ListsNotes self.old self.new result table align index }
     {
         let mut cursor = NoteCursor::new(table, align);
@@ -30,7 +30,7 @@ impl<S: Source, W: Sink> Listing<'_, '_, '_, '_, S, W> {
     }
 
     /// Shows a note, whose name was read: its `N` line.
-    fn note_row(&mut self, row: &NoteRow<'_>, index: u16) -> Result<(), Stop>
+    fn note_row(&mut self, row: &NoteRow<'_>, index: u16) -> Result<(), RunFault>
         requires { length row.now.desc.now ≤ 32 }
         ensures { ListsNote self.old self.new result row.now index }
     {
@@ -41,15 +41,15 @@ impl<S: Source, W: Sink> Listing<'_, '_, '_, '_, S, W> {
     }
 
     /// Shows it in the rendering of the style.
-    fn note_line<R: Render>(&mut self, row: &NoteRow<'_>, index: u16) -> Result<(), Stop>
+    fn note_line<R: Render>(&mut self, row: &NoteRow<'_>, index: u16) -> Result<(), RunFault>
         requires format { R.FORMAT ≡ self.old.style.format }
         requires few { length row.now.desc.now ≤ 32 }
         ensures { ListsNote self.old self.new result row.now index }
     {
         let is_cut = is_cut(row.name_end);
         let name = self.name.bytes();
-        let mut front = LineFront::new();
-        note_front::<R>(&mut front, index, &row.head);
+        let mut front = LinePrefix::new();
+        note_prefix::<R>(&mut front, index, &row.head);
         show_note(
             &mut front,
             name,

@@ -3,24 +3,24 @@ ghost use Rattle.std.specs.Prelude.{◌≡◌};
 ghost use Rattle.elf_listing.specs.Choosing.{ShowsRows};
 ghost use Rattle.elf_listing.specs.Kinds.{ListsRow, RowFits};
 ghost use Rattle.elf_listing.specs.Numbered.{FetchesVersion, NumberedWithin};
-ghost use Rattle.elf_listing.specs.declared.rows.ListedAs.TheVariants.{Versions};
+ghost use Rattle.elf_listing.specs.declared.rows.RowLayout.TheVariants.{Versions};
 
 use crate::choosing::Choosing;
 use crate::listing::Listing;
-use elf_fields::{LineFront, Render};
-use elf_headers::{Fault, Stop, refused};
-use elf_lines::symbol_version_front;
+use elf_fields::{LinePrefix, Render};
+use elf_headers::{Fault, RunFault, refused};
+use elf_lines::symbol_version_prefix;
 use elf_names::NameIndex;
 use elf_record::{Cause, u16_at, version_number};
 use elf_source::{Sink, Source};
 use elf_table::{NameEnd, Names, Row};
-use elf_versions::{NameAt, NumberNames};
+use elf_versions::{VersionNameRef, VersionNames};
 
 /// Where the names of the numbers of versions are.
 #[derive(Drop)]
-pub struct Numbered {
+pub struct VersionStrings {
     /// The index of each number's name in one of the string tables.
-    pub names: NumberNames,
+    pub names: VersionNames,
     /// The string table of the definitions; empty where there are none.
     pub defined: Names,
     /// The string table of the needs; empty where there are none.
@@ -33,11 +33,11 @@ impl<S: Source, W: Sink> Listing<'_, '_, '_, '_, S, W> {
     /// Standard Base Core, Symbol Versioning).
     pub(crate) fn version_number<R: Render, C: Choosing>(
         &mut self,
-        front: &mut LineFront,
+        front: &mut LinePrefix,
         row: &Row<'_>,
         section: u16,
-        numbered: &Numbered,
-    ) -> Result<(), Stop>
+        numbered: &VersionStrings,
+    ) -> Result<(), RunFault>
         requires format { R.FORMAT ≡ self.old.style.format }
         requires rows { ShowsRows C.BY_NAME self.old.style }
         requires row { RowFits self.old.src.now.seen.size (Versions section numbered) row.now }
@@ -49,13 +49,18 @@ impl<S: Source, W: Sink> Listing<'_, '_, '_, '_, S, W> {
         if !self.is_shown::<C>(end) {
             return Ok(());
         }
-        symbol_version_front::<R>(front, section, row.index, word);
+        symbol_version_prefix::<R>(front, section, row.index, word);
         self.named_line(front, end)
     }
 
     /// Reads the name of a number, which is empty for 0 and 1. A refusal names `at`.
     #[tactic(auto, unfolding(crate::specs::Numbered::version_told))]
-    fn read_version(&mut self, numbered: &Numbered, number: u16, at: u64) -> Result<NameEnd, Fault>
+    fn read_version(
+        &mut self,
+        numbered: &VersionStrings,
+        number: u16,
+        at: u64,
+    ) -> Result<NameEnd, Fault>
         requires { NumberedWithin self.old.src.now.seen.size numbered.now }
         ensures { FetchesVersion self.old self.new result numbered.now number at }
     {
@@ -64,13 +69,13 @@ impl<S: Source, W: Sink> Listing<'_, '_, '_, '_, S, W> {
             return Ok(NameEnd::Whole);
         }
         match numbered.names.name(number) {
-            NameAt::Nowhere => refused(at, Cause::VersionIndex),
-            NameAt::Defined(index) => {
+            VersionNameRef::Nowhere => refused(at, Cause::VersionIndex),
+            VersionNameRef::Defined(index) => {
                 let off = u64::from(index);
                 let names = numbered.defined;
                 self.read_name(NameIndex { names, off, at })
             }
-            NameAt::Needed(index) => {
+            VersionNameRef::Needed(index) => {
                 let off = u64::from(index);
                 let names = numbered.needed;
                 self.read_name(NameIndex { names, off, at })

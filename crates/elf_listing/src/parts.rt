@@ -8,9 +8,9 @@ ghost use Rattle.elf_listing.specs.Parts.{relocations_part, symbols_part};
 ghost use Rattle.elf_listing.specs.Viewed.{viewed_headers};
 
 use crate::listing::Listing;
-use crate::rows::ListedAs;
+use crate::rows::RowLayout;
 use bitflags::Flags;
-use elf_headers::Stop;
+use elf_headers::RunFault;
 use elf_record::Parts;
 use elf_source::{Sink, Source};
 
@@ -49,7 +49,7 @@ pub enum Part {
 impl<S: Source, W: Sink> Listing<'_, '_, '_, '_, S, W> {
     /// Shows the tables of the file in their order, as far as the parts have them, up to the first
     /// refusal.
-    pub(crate) fn tables(&mut self, parts: Parts) -> Result<(), Stop>
+    pub(crate) fn tables(&mut self, parts: Parts) -> Result<(), RunFault>
         requires { self.old.file.store.now.segments ≡ viewed_headers parts.0 self.old.file.loaded }
         ensures { ListsTables parts.0 self.old self.new result }
     {
@@ -64,7 +64,7 @@ impl<S: Source, W: Sink> Listing<'_, '_, '_, '_, S, W> {
 
     /// Shows the symbols of sections and the relocation entries, with or without the versions of
     /// symbols as the style has it.
-    fn named(&mut self, parts: Parts) -> Result<(), Stop>
+    fn named(&mut self, parts: Parts) -> Result<(), RunFault>
         ensures { let versions = self.old.style.versions in
             ListsPair parts.0 (symbols_part versions) (relocations_part versions)
             self.old self.new result }
@@ -76,7 +76,7 @@ impl<S: Source, W: Sink> Listing<'_, '_, '_, '_, S, W> {
     }
 
     /// Shows two parts, one behind the other.
-    fn pair(&mut self, parts: Parts, first: Part, second: Part) -> Result<(), Stop>
+    fn pair(&mut self, parts: Parts, first: Part, second: Part) -> Result<(), RunFault>
         requires first { AwaitsAsked parts.0 first self.old.src.now.seen.file
             (style_of self.old.style) }
         requires second { AwaitsAsked parts.0 second self.old.src.now.seen.file
@@ -88,7 +88,7 @@ impl<S: Source, W: Sink> Listing<'_, '_, '_, '_, S, W> {
     }
 
     /// Shows a part of each header, where the parts have it.
-    fn part(&mut self, parts: Parts, part: Part) -> Result<(), Stop>
+    fn part(&mut self, parts: Parts, part: Part) -> Result<(), RunFault>
         requires { AwaitsAsked parts.0 part self.old.src.now.seen.file (style_of self.old.style) }
         ensures { ListsAsked parts.0 part self.old self.new result }
     {
@@ -100,7 +100,7 @@ impl<S: Source, W: Sink> Listing<'_, '_, '_, '_, S, W> {
 
     /// Shows the program headers, where the parts have them: a `P` line each (gABI 5, Program
     /// Header). Those of a file without sections are in the store.
-    fn segments(&mut self, parts: Parts) -> Result<(), Stop>
+    fn segments(&mut self, parts: Parts) -> Result<(), RunFault>
         requires { self.old.file.store.now.segments ≡ viewed_headers parts.0 self.old.file.loaded }
         ensures { ListsSegments parts.0 self.old self.new result }
     {
@@ -111,7 +111,7 @@ impl<S: Source, W: Sink> Listing<'_, '_, '_, '_, S, W> {
             return self.headers(Part::Segments);
         }
         let table = self.file.segments();
-        self.rows(table, &ListedAs::Segments)
+        self.rows(table, &RowLayout::Segments)
     }
 }
 

@@ -2,20 +2,20 @@
 ghost use Rattle.std.specs.Prelude.{◌≡◌, ◌==◌, ◌<◌, ◌≤◌, ◌+◌, not, length};
 ghost use Rattle.elf_listing.specs.Suffixed.{FetchesSuffix, SuffixesWithin};
 ghost use Rattle.elf_listing.specs.SuffixNames.{FetchesNamed, FetchesWord, FetchesInto};
-ghost use Rattle.elf_table.specs.Tables.{StringsWithin};
+ghost use Rattle.elf_table.specs.Tables.{StringsInBounds};
 
 use crate::listing::Listing;
-use crate::suffixes::Suffixes;
+use crate::suffixes::VersionLookup;
 use elf_headers::{Fault, fill, refused};
 use elf_names::NameIndex;
 use elf_record::{Cause, u16_at, version_number};
 use elf_source::{Sink, Source};
 use elf_table::{NameBuf, NameEnd};
-use elf_versions::NameAt;
+use elf_versions::VersionNameRef;
 
 /// The version behind a name, which was read.
 #[derive(Clone, Copy)]
-pub struct SuffixEnd {
+pub struct VersionSuffixEnd {
     /// Whether it is the default one of the name.
     pub is_default: bool,
     /// How its name ends.
@@ -32,11 +32,11 @@ impl<S: Source, W: Sink> Listing<'_, '_, '_, '_, S, W> {
     /// record that holds it; a fault of a read.
     pub(crate) fn read_suffix(
         &mut self,
-        suffixes: &Suffixes,
+        suffixes: &VersionLookup,
         index: u64,
         is_defined: bool,
         version: &mut NameBuf,
-    ) -> Result<Option<SuffixEnd>, Fault>
+    ) -> Result<Option<VersionSuffixEnd>, Fault>
         requires { SuffixesWithin self.old.src.now.seen.size suffixes.now }
         ensures { FetchesSuffix self.old self.new version.new result suffixes.now index is_defined }
     {
@@ -51,7 +51,7 @@ impl<S: Source, W: Sink> Listing<'_, '_, '_, '_, S, W> {
         }
         let end = self.read_number(suffixes, number, at, version)?;
         let is_default = word == number && is_defined;
-        Ok(Some(SuffixEnd { is_default, end }))
+        Ok(Some(VersionSuffixEnd { is_default, end }))
     }
 
     /// Reads the word at an offset.
@@ -67,7 +67,7 @@ impl<S: Source, W: Sink> Listing<'_, '_, '_, '_, S, W> {
     /// Reads the name of a number, whose word stands at an offset.
     fn read_number(
         &mut self,
-        suffixes: &Suffixes,
+        suffixes: &VersionLookup,
         number: u16,
         at: u64,
         version: &mut NameBuf,
@@ -76,8 +76,8 @@ impl<S: Source, W: Sink> Listing<'_, '_, '_, '_, S, W> {
         ensures { FetchesNamed self.old self.new version.new result suffixes.now number at }
     {
         match suffixes.numbered.names.name(number) {
-            NameAt::Nowhere => refused(at, Cause::VersionIndex),
-            NameAt::Defined(index) => self.read_into(
+            VersionNameRef::Nowhere => refused(at, Cause::VersionIndex),
+            VersionNameRef::Defined(index) => self.read_into(
                 NameIndex {
                     names: suffixes.numbered.defined,
                     off: u64::from(index),
@@ -85,7 +85,7 @@ impl<S: Source, W: Sink> Listing<'_, '_, '_, '_, S, W> {
                 },
                 version,
             ),
-            NameAt::Needed(index) => self.read_into(
+            VersionNameRef::Needed(index) => self.read_into(
                 NameIndex {
                     names: suffixes.numbered.needed,
                     off: u64::from(index),
@@ -98,7 +98,7 @@ impl<S: Source, W: Sink> Listing<'_, '_, '_, '_, S, W> {
 
     /// Reads the name at an index of a string table into a buffer.
     fn read_into(&mut self, index: NameIndex, name: &mut NameBuf) -> Result<NameEnd, Fault>
-        requires { StringsWithin self.old.src.now.seen.size index.names }
+        requires { StringsInBounds self.old.src.now.seen.size index.names }
         ensures { FetchesInto self.old self.new name.new result index.names index.off index.at }
     {
         self.ahead.name(self.src, index, self.style.cap, name)

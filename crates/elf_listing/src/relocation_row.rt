@@ -1,23 +1,23 @@
 //! The row of a relocation entry, shown.
 ghost use Rattle.std.specs.Prelude.{◌≡◌, IfSome};
-ghost use Rattle.elf_table.specs.Tables.{SymbolsWithin};
+ghost use Rattle.elf_table.specs.Tables.{SymbolTableInBounds};
 ghost use Rattle.elf_listing.specs.Choosing.{ShowsRows};
 ghost use Rattle.elf_listing.specs.Fetched.{FetchesSymbol};
 ghost use Rattle.elf_listing.specs.Kinds.{ListsRow, RowFits};
-ghost use Rattle.elf_listing.specs.declared.rows.ListedAs.TheVariants.{Relocations};
+ghost use Rattle.elf_listing.specs.declared.rows.RowLayout.TheVariants.{Relocations};
 
 use crate::choosing::Choosing;
 use crate::listing::Listing;
-use elf_fields::{LineFront, Render};
-use elf_headers::{Fault, Stop, refused};
-use elf_lines::relocation_front;
+use elf_fields::{LinePrefix, Render};
+use elf_headers::{Fault, RunFault, refused};
+use elf_lines::relocation_prefix;
 use elf_names::NameIndex;
 use elf_record::{Cause, Rela};
 use elf_source::{Sink, Source};
 use elf_table::{NameEnd, Names, Row, Table};
 
 /// Symbols with the string table of their names.
-type Linked = Option<(Table, Names)>;
+type LinkedSymbolTable = Option<(Table, Names)>;
 
 impl<S: Source, W: Sink> Listing<'_, '_, '_, '_, S, W> {
     /// Shows the row of a relocation entry of a section: its `R` line with the name of its symbol,
@@ -25,11 +25,11 @@ impl<S: Source, W: Sink> Listing<'_, '_, '_, '_, S, W> {
     /// or of the name at the symbol's.
     pub(crate) fn relocation_row<R: Render, C: Choosing>(
         &mut self,
-        front: &mut LineFront,
+        front: &mut LinePrefix,
         row: &Row<'_>,
         section: u16,
-        linked: Linked,
-    ) -> Result<(), Stop>
+        linked: LinkedSymbolTable,
+    ) -> Result<(), RunFault>
         requires format { R.FORMAT ≡ self.old.style.format }
         requires rows { ShowsRows C.BY_NAME self.old.style }
         requires row { let kind = Relocations section linked in
@@ -43,15 +43,20 @@ impl<S: Source, W: Sink> Listing<'_, '_, '_, '_, S, W> {
         if !self.is_shown::<C>(end) {
             return Ok(());
         }
-        relocation_front::<R>(front, section, &entry, naming);
+        relocation_prefix::<R>(front, section, &entry, naming);
         self.named_line(front, end)
     }
 
     /// Reads the name of the symbol of an index, which is empty for symbol 0 (gABI 4, Symbol
     /// Table). Where there is no such symbol the refusal names `at`, and where the name is refused
     /// the symbol.
-    fn read_symbol(&mut self, linked: Linked, symbol: u32, at: u64) -> Result<NameEnd, Fault>
-        requires { IfSome linked (SymbolsWithin self.old.src.now.seen.size) }
+    fn read_symbol(
+        &mut self,
+        linked: LinkedSymbolTable,
+        symbol: u32,
+        at: u64,
+    ) -> Result<NameEnd, Fault>
+        requires { IfSome linked (SymbolTableInBounds self.old.src.now.seen.size) }
         ensures { FetchesSymbol self.old self.new result linked symbol at }
     {
         if symbol == 0 {

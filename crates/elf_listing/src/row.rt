@@ -4,13 +4,13 @@ ghost use Rattle.elf_fields.specs.Fronts.{front_of};
 ghost use Rattle.elf_listing.specs.Choosing.{ShowsRows};
 ghost use Rattle.elf_listing.specs.Kinds.{ListsRow, RowFits};
 ghost use Rattle.elf_listing.specs.Shows.{ListsLine, cut_of};
-ghost use Rattle.elf_listing.specs.declared.rows.ListedAs.TheVariants.{Segments, Symbols};
+ghost use Rattle.elf_listing.specs.declared.rows.RowLayout.TheVariants.{Segments, Symbols};
 
 use crate::choosing::Choosing;
 use crate::listing::Listing;
-use elf_fields::{LineFront, Render, show_named};
-use elf_headers::Stop;
-use elf_lines::{segment_row, symbol_front};
+use elf_fields::{LinePrefix, Render, show_named};
+use elf_headers::RunFault;
+use elf_lines::{segment_row, symbol_prefix};
 use elf_names::NameIndex;
 use elf_record::{Phdr, Sym};
 use elf_source::{Sink, Source};
@@ -18,7 +18,7 @@ use elf_table::{NameEnd, Names, Row};
 
 impl<S: Source, W: Sink> Listing<'_, '_, '_, '_, S, W> {
     /// Shows the row of a program header: its `P` line.
-    pub(crate) fn segment_row<R: Render>(&mut self, row: &Row<'_>) -> Result<(), Stop>
+    pub(crate) fn segment_row<R: Render>(&mut self, row: &Row<'_>) -> Result<(), RunFault>
         requires format { R.FORMAT ≡ self.old.style.format }
         requires row { RowFits self.old.src.now.seen.size Segments row.now }
         ensures { ListsRow self.old self.new result Segments row.now }
@@ -32,11 +32,11 @@ impl<S: Source, W: Sink> Listing<'_, '_, '_, '_, S, W> {
     /// rows that are shown, or the name's refusal at the symbol's offset.
     pub(crate) fn symbol_row<R: Render, C: Choosing>(
         &mut self,
-        front: &mut LineFront,
+        front: &mut LinePrefix,
         row: &Row<'_>,
         section: u16,
         names: &Names,
-    ) -> Result<(), Stop>
+    ) -> Result<(), RunFault>
         requires format { R.FORMAT ≡ self.old.style.format }
         requires rows { ShowsRows C.BY_NAME self.old.style }
         requires row { RowFits self.old.src.now.seen.size (Symbols section names.now) row.now }
@@ -53,12 +53,16 @@ impl<S: Source, W: Sink> Listing<'_, '_, '_, '_, S, W> {
         if !self.is_shown::<C>(end) {
             return Ok(());
         }
-        symbol_front::<R>(front, section, row.index, &symbol, naming);
+        symbol_prefix::<R>(front, section, row.index, &symbol, naming);
         self.named_line(front, end)
     }
 
     /// Writes a line that ends in the name that was read. Its front is used on the way.
-    pub(crate) fn named_line(&mut self, front: &mut LineFront, end: NameEnd) -> Result<(), Stop>
+    pub(crate) fn named_line(
+        &mut self,
+        front: &mut LinePrefix,
+        end: NameEnd,
+    ) -> Result<(), RunFault>
         requires { length front.old.key.now ≤ 16 }
         ensures { ListsLine self.old self.new result (front_of front.old) end }
     {

@@ -1,13 +1,13 @@
 //! A cursor over the rows of a table that are listed.
 ghost use Rattle.std.specs.Prelude.{◌≡◌, ◌+◌, ◌<◌, ◌≤◌, None, IfErr};
-ghost use Rattle.elf_source.specs.Source.{Reads};
+ghost use Rattle.elf_source.specs.Source.{ReadsUpTo};
 ghost use Rattle.elf_table.specs.Cursors.{ShowsRow, unread_bytes};
-ghost use Rattle.elf_headers.specs.Faults.{Says};
-ghost use Rattle.elf_table.specs.Tables.{RowsWithin};
+ghost use Rattle.elf_headers.specs.Faults.{IsReadFault};
+ghost use Rattle.elf_table.specs.Tables.{TableInBounds};
 ghost use Rattle.elf_listing.specs.Kinds.{row_size};
 ghost use Rattle.elf_listing.specs.RowCursors.{AdvancesRows, BeginsTable, reading};
 
-use crate::rows::ListedAs;
+use crate::rows::RowLayout;
 use elf_headers::Fault;
 use elf_note::{DynCursor, dynamic_rows};
 use elf_source::{Counted, Source};
@@ -24,12 +24,12 @@ pub enum RowCursor {
 
 impl RowCursor {
     /// A cursor before the first row of a table of a kind.
-    pub(crate) fn new(table: Table, kind: &ListedAs<'_>) -> RowCursor
+    pub(crate) fn new(table: Table, kind: &RowLayout<'_>) -> RowCursor
         requires { table.entry ≡ row_size kind.now }
         ensures { BeginsTable kind.now table result }
     {
         match kind {
-            ListedAs::Dynamic { .. } => RowCursor::Entries(dynamic_rows(table)),
+            RowLayout::Dynamic { .. } => RowCursor::Entries(dynamic_rows(table)),
             _ => RowCursor::All(Cursor::new(table)),
         }
     }
@@ -39,10 +39,10 @@ impl RowCursor {
     /// # Errors
     /// As for `Cursor::advance`.
     pub(crate) fn advance<S: Source>(&mut self, src: &mut Counted<S>) -> Result<bool, Fault>
-        requires { RowsWithin src.old.seen.size (reading self.old).table }
-        ensures reads { Reads src.old src.new (unread_bytes (reading self.old)) }
+        requires { TableInBounds src.old.seen.size (reading self.old).table }
+        ensures reads { ReadsUpTo src.old src.new (unread_bytes (reading self.old)) }
         ensures says { (reading self.old).failed ≡ None →
-            IfErr result (Says src.old src.new (unread_bytes (reading self.old))) }
+            IfErr result (IsReadFault src.old src.new (unread_bytes (reading self.old))) }
         ensures account { src.new.asked + unread_bytes (reading self.new)
             ≤ src.old.asked + unread_bytes (reading self.old) }
         ensures steps { AdvancesRows src.old.seen.file self.old self.new result }

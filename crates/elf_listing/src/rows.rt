@@ -4,20 +4,20 @@ ghost use Rattle.elf_listing.specs.Choosing.{ShowsRows};
 ghost use Rattle.elf_listing.specs.Kinds.{IsTableOf, ListsRow, ListsRows, RowFits};
 
 use crate::choosing::{AllRows, Choosing, NamedRows};
-use crate::dynamic_row::EntryStrings;
+use crate::dynamic_row::DynamicStringTable;
 use crate::listing::Listing;
-use crate::numbered::Numbered;
+use crate::numbered::VersionStrings;
 use crate::row_cursor::RowCursor;
-use crate::suffixes::Suffixes;
-use elf_fields::{Columns, LineFront, Object, Render};
-use elf_headers::Stop;
+use crate::suffixes::VersionLookup;
+use elf_fields::{Columns, LinePrefix, Object, Render};
+use elf_headers::RunFault;
 use elf_model::Format;
 use elf_source::{Sink, Source};
 use elf_table::{Names, Row, Table};
 
 /// What the rows of a table are listed as.
 #[derive(Clone, Copy)]
-pub enum ListedAs<'f> {
+pub enum RowLayout<'f> {
     /// Program headers, a `P` line each.
     Segments,
     /// The symbols of a section, a `Y` line each.
@@ -37,14 +37,14 @@ pub enum ListedAs<'f> {
     /// Dynamic entries, a `D` line each.
     Dynamic {
         /// Where their strings are looked for.
-        strings: EntryStrings<'f>,
+        strings: DynamicStringTable<'f>,
     },
     /// The versions of symbols of a section, an `X` line each.
     Versions {
         /// The index of the section.
         section: u16,
         /// Where the names of their numbers are.
-        numbered: &'f Numbered,
+        numbered: &'f VersionStrings,
     },
     /// The symbols of a section, a `Y` line each, with their versions.
     SuffixedSymbols {
@@ -53,7 +53,7 @@ pub enum ListedAs<'f> {
         /// The string table of their names.
         names: Names,
         /// What finds their versions.
-        suffixes: &'f Suffixes,
+        suffixes: &'f VersionLookup,
     },
     /// The relocation entries of a section, an `R` line each, with the versions of their symbols.
     SuffixedRelocations {
@@ -62,14 +62,14 @@ pub enum ListedAs<'f> {
         /// The symbols that they refer to, with their names.
         linked: Option<(Table, Names)>,
         /// What finds their versions.
-        suffixes: &'f Suffixes,
+        suffixes: &'f VersionLookup,
     },
 }
 
 impl<S: Source, W: Sink> Listing<'_, '_, '_, '_, S, W> {
     /// Shows the rows of a table that are listed one after another, up to the first that is
     /// refused.
-    pub(crate) fn rows(&mut self, table: Table, kind: &ListedAs<'_>) -> Result<(), Stop>
+    pub(crate) fn rows(&mut self, table: Table, kind: &RowLayout<'_>) -> Result<(), RunFault>
         requires { IsTableOf self.old.src.now.seen.size kind.now table }
         ensures { ListsRows self.old self.new result kind.now table }
     {
@@ -80,7 +80,7 @@ impl<S: Source, W: Sink> Listing<'_, '_, '_, '_, S, W> {
     }
 
     /// Shows them in the rendering of the style.
-    fn rows_of<R: Render>(&mut self, table: Table, kind: &ListedAs<'_>) -> Result<(), Stop>
+    fn rows_of<R: Render>(&mut self, table: Table, kind: &RowLayout<'_>) -> Result<(), RunFault>
         requires format { R.FORMAT ≡ self.old.style.format }
         requires table { IsTableOf self.old.src.now.seen.size kind.now table }
         ensures { ListsRows self.old self.new result kind.now table }
@@ -95,14 +95,14 @@ impl<S: Source, W: Sink> Listing<'_, '_, '_, '_, S, W> {
     fn rows_in<R: Render, C: Choosing>(
         &mut self,
         table: Table,
-        kind: &ListedAs<'_>,
-    ) -> Result<(), Stop>
+        kind: &RowLayout<'_>,
+    ) -> Result<(), RunFault>
         requires format { R.FORMAT ≡ self.old.style.format }
         requires rows { ShowsRows C.BY_NAME self.old.style }
         requires table { IsTableOf self.old.src.now.seen.size kind.now table }
         ensures { ListsRows self.old self.new result kind.now table }
     {
-        let mut front = LineFront::new();
+        let mut front = LinePrefix::new();
         let mut cursor = RowCursor::new(table, kind);
         'rows: while cursor.advance(self.src)? {
             self.row::<R, C>(&mut front, &cursor.row(), kind)?;
@@ -113,37 +113,37 @@ impl<S: Source, W: Sink> Listing<'_, '_, '_, '_, S, W> {
     /// Shows one row.
     fn row<R: Render, C: Choosing>(
         &mut self,
-        front: &mut LineFront,
+        front: &mut LinePrefix,
         row: &Row<'_>,
-        kind: &ListedAs<'_>,
-    ) -> Result<(), Stop>
+        kind: &RowLayout<'_>,
+    ) -> Result<(), RunFault>
         requires format { R.FORMAT ≡ self.old.style.format }
         requires rows { ShowsRows C.BY_NAME self.old.style }
         requires row { RowFits self.old.src.now.seen.size kind.now row.now }
         ensures { ListsRow self.old self.new result kind.now row.now }
     {
         match kind {
-            ListedAs::Segments => self.segment_row::<R>(row),
-            ListedAs::Symbols { section, names } => self.symbol_row::<R, C>(
+            RowLayout::Segments => self.segment_row::<R>(row),
+            RowLayout::Symbols { section, names } => self.symbol_row::<R, C>(
                 front, row, *section, names,
             ),
-            ListedAs::Relocations { section, linked } => self.relocation_row::<R, C>(
+            RowLayout::Relocations { section, linked } => self.relocation_row::<R, C>(
                 front, row, *section, *linked,
             ),
-            ListedAs::Dynamic { strings } => self.dynamic_row::<R>(front, row, strings),
-            ListedAs::Versions { section, numbered } => self.version_number::<R, C>(
+            RowLayout::Dynamic { strings } => self.dynamic_row::<R>(front, row, strings),
+            RowLayout::Versions { section, numbered } => self.version_number::<R, C>(
                 front, row, *section, numbered,
             ),
-            ListedAs::SuffixedSymbols {
+            RowLayout::SuffixedSymbols {
                 section,
                 names,
                 suffixes,
-            } => self.suffixed_symbol_row::<R, C>(front, row, *section, names, suffixes),
-            ListedAs::SuffixedRelocations {
+            } => self.symbol_row_with_version::<R, C>(front, row, *section, names, suffixes),
+            RowLayout::SuffixedRelocations {
                 section,
                 linked,
                 suffixes,
-            } => self.suffixed_relocation_row::<R, C>(front, row, *section, *linked, suffixes),
+            } => self.relocation_row_with_version::<R, C>(front, row, *section, *linked, suffixes),
         }
     }
 }

@@ -5,12 +5,12 @@ ghost use Rattle.elf_listing.specs.declared.parts.Part.TheVariants.{Headers, Sym
 ghost use Rattle.elf_listing.specs.declared.parts.Part.TheVariants.{Relocations};
 ghost use Rattle.elf_listing.specs.declared.parts.Part.TheVariants.{SectionNotes, SectionDynamic};
 
-use crate::dynamic_row::EntryStrings;
+use crate::dynamic_row::DynamicStringTable;
 use crate::listing::Listing;
-use crate::rows::ListedAs;
-use elf_fields::{Columns, LineFront, Object, Render};
-use elf_headers::Stop;
-use elf_lines::section_front;
+use crate::rows::RowLayout;
+use elf_fields::{Columns, LinePrefix, Object, Render};
+use elf_headers::RunFault;
+use elf_lines::section_prefix;
 use elf_model::Format;
 use elf_record::numbers::{SHT_DYNAMIC, SHT_NOTE, SHT_RELA};
 use elf_record::sizes::DYNAMIC_BYTES;
@@ -20,7 +20,7 @@ use elf_table::holds_symbols;
 impl<S: Source, W: Sink> Listing<'_, '_, '_, '_, S, W> {
     /// Shows the row of a section header: its `S` line with its name, or the name's refusal at the
     /// section header (gABI 4, Section Header).
-    pub(crate) fn section_row(&mut self, section: u16) -> Result<(), Stop>
+    pub(crate) fn section_row(&mut self, section: u16) -> Result<(), RunFault>
         requires { section < self.old.file.store.now.loaded }
         ensures { ListsHeader Headers self.old self.new result section }
     {
@@ -31,7 +31,7 @@ impl<S: Source, W: Sink> Listing<'_, '_, '_, '_, S, W> {
     }
 
     /// Shows it in the rendering of the style.
-    fn section_line<R: Render>(&mut self, section: u16) -> Result<(), Stop>
+    fn section_line<R: Render>(&mut self, section: u16) -> Result<(), RunFault>
         requires format { R.FORMAT ≡ self.old.style.format }
         requires below { section < self.old.file.store.now.loaded }
         ensures { ListsHeader Headers self.old self.new result section }
@@ -42,15 +42,15 @@ impl<S: Source, W: Sink> Listing<'_, '_, '_, '_, S, W> {
         let names = self.file.names();
         let off = header.sh_name;
         let end = self.read_section_name(names, off, place)?;
-        let mut front = LineFront::new();
-        section_front::<R>(&mut front, section, &header, naming);
+        let mut front = LinePrefix::new();
+        section_prefix::<R>(&mut front, section, &header, naming);
         self.named_line(&mut front, end)
     }
 
     /// Shows the symbols of a section, where it holds symbols: a `Y` line each, or the first
     /// refusal of its table, of its string table or of a name (gABI 4, Symbol Table).
     #[inline(never)]
-    pub(crate) fn symbols(&mut self, section: u16) -> Result<(), Stop>
+    pub(crate) fn symbols(&mut self, section: u16) -> Result<(), RunFault>
         requires { section < self.old.file.store.now.loaded }
         ensures { ListsHeader Symbols self.old self.new result section }
     {
@@ -59,14 +59,14 @@ impl<S: Source, W: Sink> Listing<'_, '_, '_, '_, S, W> {
         }
         let symbols = self.file.symbols(section)?;
         let (table, names) = symbols;
-        self.rows(table, &ListedAs::Symbols { section, names })
+        self.rows(table, &RowLayout::Symbols { section, names })
     }
 
     /// Shows the relocation entries of a section, where it holds them: an `R` line each, or the
     /// first refusal of its table, of the symbols that they refer to or of an entry (gABI 4,
     /// Relocation).
     #[inline(never)]
-    pub(crate) fn relocations(&mut self, section: u16) -> Result<(), Stop>
+    pub(crate) fn relocations(&mut self, section: u16) -> Result<(), RunFault>
         requires { section < self.old.file.store.now.loaded }
         ensures { ListsHeader Relocations self.old self.new result section }
     {
@@ -75,13 +75,13 @@ impl<S: Source, W: Sink> Listing<'_, '_, '_, '_, S, W> {
         }
         let found = self.file.relocations(section)?;
         let (table, linked) = found;
-        self.rows(table, &ListedAs::Relocations { section, linked })
+        self.rows(table, &RowLayout::Relocations { section, linked })
     }
 
     /// Shows the notes of a section, where it holds notes: an `N` line each, or the refusal of its
     /// table or of what stands in the place of a note (gABI 5, Note Section).
     #[inline(never)]
-    pub(crate) fn section_notes(&mut self, section: u16) -> Result<(), Stop>
+    pub(crate) fn section_notes(&mut self, section: u16) -> Result<(), RunFault>
         requires { section < self.old.file.store.now.loaded }
         ensures { ListsHeader SectionNotes self.old self.new result section }
     {
@@ -98,7 +98,7 @@ impl<S: Source, W: Sink> Listing<'_, '_, '_, '_, S, W> {
     /// the first DT_NULL, or the first refusal of its table, of its string table or of a string
     /// (gABI 5, Dynamic Section).
     #[inline(never)]
-    pub(crate) fn section_dynamic(&mut self, section: u16) -> Result<(), Stop>
+    pub(crate) fn section_dynamic(&mut self, section: u16) -> Result<(), RunFault>
         requires { section < self.old.file.store.now.loaded }
         ensures { ListsHeader SectionDynamic self.old self.new result section }
     {
@@ -111,7 +111,7 @@ impl<S: Source, W: Sink> Listing<'_, '_, '_, '_, S, W> {
         }
         let table = self.file.table(section, DYNAMIC_BYTES)?;
         let names = self.file.strings(section)?;
-        let strings = EntryStrings::Linked(names);
-        self.rows(table, &ListedAs::Dynamic { strings })
+        let strings = DynamicStringTable::LinkedSymbolTable(names);
+        self.rows(table, &RowLayout::Dynamic { strings })
     }
 }

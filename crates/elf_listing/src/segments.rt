@@ -4,26 +4,26 @@ ghost use Rattle.elf_listing.specs.HeadersListed.{ListsHeader};
 ghost use Rattle.elf_listing.specs.declared.parts.Part.TheVariants.{Segments, SegmentNotes};
 ghost use Rattle.elf_listing.specs.declared.parts.Part.TheVariants.{SegmentDynamic};
 
-use crate::dynamic_row::EntryStrings;
+use crate::dynamic_row::DynamicStringTable;
 use crate::listing::Listing;
-use crate::rows::ListedAs;
+use crate::rows::RowLayout;
 use elf_fields::{Columns, Object, Render};
-use elf_headers::Stop;
+use elf_headers::RunFault;
 use elf_lines::segment_row;
 use elf_model::Format;
 use elf_note::dynamic_strings;
 use elf_record::numbers::{PT_DYNAMIC, PT_NOTE};
 use elf_source::{Sink, Source};
-use elf_table::SegmentView;
+use elf_table::ExecutionView;
 
 impl<'f, S: Source, W: Sink> Listing<'_, '_, 'f, '_, S, W> {
     /// The file with its program headers, where they are loaded.
-    fn view(&self) -> SegmentView<'f>
+    fn view(&self) -> ExecutionView<'f>
         requires { 0 < self.now.file.store.now.segments }
         ensures loaded { result.loaded ≡ self.now.file.loaded }
         ensures store { result.store.now ≡ self.now.file.store.now }
     {
-        SegmentView {
+        ExecutionView {
             loaded: self.file.loaded,
             store: self.file.store,
         }
@@ -31,7 +31,7 @@ impl<'f, S: Source, W: Sink> Listing<'_, '_, 'f, '_, S, W> {
 
     /// Shows the row of a program header that is in the store: its `P` line (gABI 5, Program
     /// Header).
-    pub(crate) fn segment_header(&mut self, segment: u16) -> Result<(), Stop>
+    pub(crate) fn segment_header(&mut self, segment: u16) -> Result<(), RunFault>
         requires { segment < self.old.file.store.now.segments }
         ensures { ListsHeader Segments self.old self.new result segment }
     {
@@ -42,7 +42,7 @@ impl<'f, S: Source, W: Sink> Listing<'_, '_, 'f, '_, S, W> {
     }
 
     /// Shows it in the rendering of the style.
-    fn segment_line<R: Render>(&mut self, segment: u16) -> Result<(), Stop>
+    fn segment_line<R: Render>(&mut self, segment: u16) -> Result<(), RunFault>
         requires format { R.FORMAT ≡ self.old.style.format }
         requires below { segment < self.old.file.store.now.segments }
         ensures { ListsHeader Segments self.old self.new result segment }
@@ -56,7 +56,7 @@ impl<'f, S: Source, W: Sink> Listing<'_, '_, 'f, '_, S, W> {
     /// Shows the notes of a segment, where it holds notes, as those of a section (gABI 5, Note
     /// Section).
     #[inline(never)]
-    pub(crate) fn segment_notes(&mut self, segment: u16) -> Result<(), Stop>
+    pub(crate) fn segment_notes(&mut self, segment: u16) -> Result<(), RunFault>
         requires { segment < self.old.file.store.now.segments }
         ensures { ListsHeader SegmentNotes self.old self.new result segment }
     {
@@ -73,7 +73,7 @@ impl<'f, S: Source, W: Sink> Listing<'_, '_, 'f, '_, S, W> {
     /// strings are where a segment loads them: the entries are gone through once for the address
     /// and the size, and once more to be shown (gABI 5, Dynamic Section).
     #[inline(never)]
-    pub(crate) fn segment_dynamic(&mut self, segment: u16) -> Result<(), Stop>
+    pub(crate) fn segment_dynamic(&mut self, segment: u16) -> Result<(), RunFault>
         requires { segment < self.old.file.store.now.segments }
         ensures { ListsHeader SegmentDynamic self.old self.new result segment }
     {
@@ -83,7 +83,7 @@ impl<'f, S: Source, W: Sink> Listing<'_, '_, 'f, '_, S, W> {
         }
         let table = view.dynamic(segment)?;
         let told = dynamic_strings(table, self.src)?;
-        let strings = EntryStrings::Mapped { view, told };
-        self.rows(table, &ListedAs::Dynamic { strings })
+        let strings = DynamicStringTable::Mapped { view, told };
+        self.rows(table, &RowLayout::Dynamic { strings })
     }
 }

@@ -1,10 +1,10 @@
 //! The call that writes a listing.
-ghost use Rattle.elf_source.specs.Growth.{Grows};
+ghost use Rattle.elf_source.specs.Growth.{OutGrows};
 ghost use Rattle.std.specs.Prelude.{◌≡◌, ◌+◌, ◌-◌, ◌^◌, ◌≤◌, [], ◌∷◌, true, false, ℕ, List};
 ghost use Rattle.std.specs.Prelude.{Some, None, Ok, IfErr};
 ghost use Rattle.elf_model.specs.Checks.{first_refusal, length_checks};
 ghost use Rattle.elf_model.specs.declared.causes.Refusal.{Refusal as Refuses};
-ghost use Rattle.elf_model.specs.Cost.{listing_cost, style_ceiling, behind_header};
+ghost use Rattle.elf_model.specs.Cost.{listing_cost, style_ceiling, after_header};
 ghost use Rattle.elf_model.specs.Lines.{header_line};
 ghost use Rattle.elf_model.specs.Listing.{Line as LineItem, has, has_tables, known_parts, where_asked, HEADER};
 ghost use Rattle.elf_model.specs.Records.{e_shnum};
@@ -15,15 +15,15 @@ ghost use Rattle.elf_listing.specs.Parts.{tables_listed};
 ghost use Rattle.elf_listing.specs.Viewed.{IsReady};
 ghost use Rattle.elf_headers.specs.Faults.{HeaderRead};
 ghost use Rattle.elf_headers.specs.Permitted.{style_of};
-ghost use Rattle.elf_listing.specs.Reports.{Reports, FaultSays, AsksWithin, Leaves};
-ghost use Rattle.elf_listing.specs.Shows.{Costs, IsOfOutput, Writes};
+ghost use Rattle.elf_listing.specs.Reports.{WroteReport, FaultSays, AsksWithin, KeepsSourceUnlimited};
+ghost use Rattle.elf_listing.specs.Shows.{ListingCosts, IsOfOutput, WroteSome};
 
 use crate::listing::Listing;
 use crate::telling::show_stop;
 use crate::viewing::load_view;
 use bitflags::Flags;
 use elf_fields::{Columns, Object};
-use elf_headers::{Caps, HeaderStore, Loaded, Stop, Style, header, load};
+use elf_headers::{Caps, HeaderStore, Loaded, RunFault, Style, header, load};
 use elf_lines::header_row;
 use elf_model::Format;
 use elf_names::ReadAhead;
@@ -55,14 +55,14 @@ pub fn show<S: Source, W: Sink>(
     caps: Caps,
     parts: Parts,
     out: &mut Out<W>,
-) -> Result<(), Stop>
+) -> Result<(), RunFault>
     requires { (store.old.slots ≡ caps.limits.headers) × (src.old.asked ≤ 2 ^ 127) }
     ensures slots { store.new.slots ≡ store.old.slots }
-    ensures grows { Grows out.old out.new }
-    ensures leaves { Leaves src.old src.new }
+    ensures grows { OutGrows out.old out.new }
+    ensures leaves { KeepsSourceUnlimited src.old src.new }
     ensures says { IfErr result (FaultSays src.old src.new out.new) }
     ensures text { (file : List ℕ) → src.old.seen.file ≡ Some file →
-        Reports file caps.entry parts.0 out.old out.new result }
+        WroteReport file caps.entry parts.0 out.old out.new result }
     ensures cost { (file : List ℕ) → src.old.seen.file ≡ Some file →
         src.new.asked ≤ src.old.asked
         + listing_cost file caps.entry.limits.headers (style_of caps.entry.style) parts.0 }
@@ -91,25 +91,25 @@ pub fn list<S: Source, W: Sink>(
     style: Style,
     parts: Parts,
     out: &mut Out<W>,
-) -> Result<(), Stop>
+) -> Result<(), RunFault>
     ensures slots { store.new.slots ≡ store.old.slots }
-    ensures grows { Grows out.old out.new }
-    ensures ceiling { Costs src.old src.new out.new result
+    ensures grows { OutGrows out.old out.new }
+    ensures ceiling { ListingCosts src.old src.new out.new result
         (style_ceiling src.old.seen.size store.old.slots (style_of style.entry)) }
     ensures unread { (refusal : Refuses) →
         first_refusal (length_checks src.old.seen.size) ≡ Some refusal → src.new ≡ src.old }
     ensures alone { has_tables (known_parts (style_of style.entry) parts.0) ≡ false →
         src.new.asked ≤ src.old.asked + 64 }
     ensures cost { (file : List ℕ) → src.old.seen.file ≡ Some file →
-        Costs src.old src.new out.new result
+        ListingCosts src.old src.new out.new result
         (listing_cost file store.old.slots (style_of style.entry) parts.0) }
     ensures text { (file : List ℕ) → src.old.seen.file ≡ Some file →
-        Writes out.old out.new result
+        WroteSome out.old out.new result
         (listed_items file store.old.slots (style_of style.entry) parts.0) }
 {
     let header = header(src)?;
     list_header(&header, style.format, parts, out)?;
-    list_viewed(src, store, &header, style, parts.known(style.gnu), out)
+    list_by_segments(src, store, &header, style, parts.known(style.gnu), out)
 }
 
 /// Lists the file header, where the parts have it: its `H` line (gABI 4, ELF Header).
@@ -118,10 +118,10 @@ fn list_header<W: Sink>(
     format: Format,
     parts: Parts,
     out: &mut Out<W>,
-) -> Result<(), Stop>
-    ensures grows { Grows out.old out.new }
+) -> Result<(), RunFault>
+    ensures grows { OutGrows out.old out.new }
     ensures fails { IfErr result (IsOfOutput out.new) }
-    ensures text { (file : List ℕ) → IsEhdr file 0 header.now → Writes out.old out.new result
+    ensures text { (file : List ℕ) → IsEhdr file 0 header.now → WroteSome out.old out.new result
         (where_asked parts.0 HEADER (LineItem (header_line format file) ∷ [])) }
 {
     if !parts.contains(Parts::HEADER) {
@@ -138,65 +138,65 @@ fn list_header<W: Sink>(
 /// Lists what stands behind the file header, of the file that the style looks at: where tables are
 /// found by the program headers, what the file header tells of section headers is hidden meanwhile.
 /// `header` is the file's header.
-fn list_viewed<S: Source, W: Sink>(
+fn list_by_segments<S: Source, W: Sink>(
     src: &mut Counted<S>,
     store: &mut HeaderStore,
     header: &Ehdr,
     style: Style,
     parts: Parts,
     out: &mut Out<W>,
-) -> Result<(), Stop>
+) -> Result<(), RunFault>
     requires header { (file : List ℕ) → src.old.seen.file ≡ Some file →
         HeaderRead file (Ok header.now) }
     ensures slots { store.new.slots ≡ store.old.slots }
-    ensures grows { Grows out.old out.new }
-    ensures below { Costs src.old src.new out.new result
+    ensures grows { OutGrows out.old out.new }
+    ensures below { ListingCosts src.old src.new out.new result
         (style_ceiling src.old.seen.size store.old.slots (style_of style.entry) - 64) }
     ensures alone { has_tables parts.0 ≡ false → src.new.asked ≡ src.old.asked }
     ensures cost { (file : List ℕ) → src.old.seen.file ≡ Some file →
-        Costs src.old src.new out.new result
-        (behind_header (view_of (style_of style.entry) file)
+        ListingCosts src.old src.new out.new result
+        (after_header (view_of (style_of style.entry) file)
         store.old.slots (style_of style.entry) parts.0) }
     ensures text { (file : List ℕ) → src.old.seen.file ≡ Some file →
-        Writes out.old out.new result
+        WroteSome out.old out.new result
         (load_items (view_of (style_of style.entry) file)
         store.old.slots (style_of style.entry) parts.0) }
 {
     if !style.by_segments {
-        return list_loaded(src, store, header, style, parts, out);
+        return list_by_sections(src, store, header, style, parts, out);
     }
     let hides = src.hides();
-    src.hide_sections(true);
-    let listed = list_loaded(src, store, &header.without_sections(), style, parts, out);
-    src.hide_sections(hides);
+    src.mask_section_headers(true);
+    let listed = list_by_sections(src, store, &header.without_sections(), style, parts, out);
+    src.mask_section_headers(hides);
     listed
 }
 
 /// Loads the headers and lists the tables, where the parts have more than the file header.
 /// `header` is the file's header, which tells of no sections where the style finds tables by the
 /// program headers.
-fn list_loaded<S: Source, W: Sink>(
+fn list_by_sections<S: Source, W: Sink>(
     src: &mut Counted<S>,
     store: &mut HeaderStore,
     header: &Ehdr,
     style: Style,
     parts: Parts,
     out: &mut Out<W>,
-) -> Result<(), Stop>
+) -> Result<(), RunFault>
     requires header { (file : List ℕ) → src.old.seen.file ≡ Some file →
         HeaderRead file (Ok header.now) }
     requires hidden { (file : List ℕ) → src.old.seen.file ≡ Some file →
         style.by_segments ≡ true → e_shnum file ≡ 0 }
     ensures slots { store.new.slots ≡ store.old.slots }
-    ensures grows { Grows out.old out.new }
-    ensures below { Costs src.old src.new out.new result
+    ensures grows { OutGrows out.old out.new }
+    ensures below { ListingCosts src.old src.new out.new result
         (style_ceiling src.old.seen.size store.old.slots (style_of style.entry) - 64) }
     ensures alone { has_tables parts.0 ≡ false → src.new ≡ src.old }
     ensures cost { (file : List ℕ) → src.old.seen.file ≡ Some file →
-        Costs src.old src.new out.new result
-        (behind_header file store.old.slots (style_of style.entry) parts.0) }
+        ListingCosts src.old src.new out.new result
+        (after_header file store.old.slots (style_of style.entry) parts.0) }
     ensures text { (file : List ℕ) → src.old.seen.file ≡ Some file →
-        Writes out.old out.new result
+        WroteSome out.old out.new result
         (load_items file store.old.slots (style_of style.entry) parts.0) }
 {
     if !parts.intersects(TABLES) {
@@ -215,13 +215,13 @@ fn list_tables<S: Source, W: Sink>(
     store: &HeaderStore,
     style: Style,
     parts: Parts,
-) -> Result<(), Stop>
+) -> Result<(), RunFault>
     requires { IsReady parts.0 src.old loaded store.now }
-    ensures grows { Grows out.old out.new }
-    ensures costs { Costs src.old src.new out.new result
+    ensures grows { OutGrows out.old out.new }
+    ensures costs { ListingCosts src.old src.new out.new result
         (tables_listed parts.0 loaded store.now style.entry.cap.bytes style.entry.versions) }
     ensures text { (file : List ℕ) → src.old.seen.file ≡ Some file →
-        Writes out.old out.new result (table_items file (style_of style.entry) parts.0) }
+        WroteSome out.old out.new result (table_items file (style_of style.entry) parts.0) }
 {
     let name = NameBuf::new();
     let ahead = ReadAhead::new();

@@ -1,19 +1,19 @@
 //! Relocation entries with the versions of their symbols, shown.
 ghost use Rattle.std.specs.Prelude.{◌≡◌, IfSome};
-ghost use Rattle.elf_table.specs.Tables.{SymbolsWithin};
+ghost use Rattle.elf_table.specs.Tables.{SymbolTableInBounds};
 ghost use Rattle.elf_listing.specs.Choosing.{ShowsRows};
 ghost use Rattle.elf_listing.specs.Fetched.{FetchesLinked};
 ghost use Rattle.elf_listing.specs.Kinds.{ListsRow, RowFits};
 ghost use Rattle.elf_listing.specs.Suffixed.{FetchesOfEntry, SuffixesWithin};
-ghost use Rattle.elf_listing.specs.declared.rows.ListedAs.TheVariants.{SuffixedRelocations};
+ghost use Rattle.elf_listing.specs.declared.rows.RowLayout.TheVariants.{SuffixedRelocations};
 
 use crate::choosing::Choosing;
 use crate::listing::Listing;
-use crate::read_suffix::SuffixEnd;
-use crate::suffixes::Suffixes;
-use elf_fields::{LineFront, Render};
-use elf_headers::{Fault, Stop, refused};
-use elf_lines::relocation_front;
+use crate::read_suffix::VersionSuffixEnd;
+use crate::suffixes::VersionLookup;
+use elf_fields::{LinePrefix, Render};
+use elf_headers::{Fault, RunFault, refused};
+use elf_lines::relocation_prefix;
 use elf_names::NameIndex;
 use elf_record::{Cause, Rela};
 use elf_source::{Sink, Source};
@@ -21,7 +21,7 @@ use elf_table::{NameBuf, NameEnd, Names, Row, Table};
 
 /// The name of the symbol of an entry, which was read, and whether the symbol is defined.
 #[derive(Clone, Copy)]
-pub struct EntryName {
+pub struct RelocationName {
     /// How the name ends.
     pub end: NameEnd,
     /// Whether the symbol is defined.
@@ -32,14 +32,14 @@ impl<S: Source, W: Sink> Listing<'_, '_, '_, '_, S, W> {
     /// Shows the row of a relocation entry of a section: its `R` line with the name of its symbol and
     /// the version behind it, where it is one of the rows that are shown; or the refusal of its symbol
     /// at the entry's offset, of the name at the symbol's, or the version's.
-    pub(crate) fn suffixed_relocation_row<R: Render, C: Choosing>(
+    pub(crate) fn relocation_row_with_version<R: Render, C: Choosing>(
         &mut self,
-        front: &mut LineFront,
+        front: &mut LinePrefix,
         row: &Row<'_>,
         section: u16,
         linked: Option<(Table, Names)>,
-        suffixes: &Suffixes,
-    ) -> Result<(), Stop>
+        suffixes: &VersionLookup,
+    ) -> Result<(), RunFault>
         requires format { R.FORMAT ≡ self.old.style.format }
         requires rows { ShowsRows C.BY_NAME self.old.style }
         requires row { let kind = SuffixedRelocations section linked suffixes in
@@ -53,21 +53,21 @@ impl<S: Source, W: Sink> Listing<'_, '_, '_, '_, S, W> {
         let read = self.read_linked(linked, symbol, row.at)?;
         let mut version = NameBuf::new();
         let suffix = self.read_entry(suffixes, symbol, read.is_defined, &mut version)?;
-        if !self.is_suffixed_shown::<C>(read.end, suffix, &version) {
+        if !self.is_versioned_row_shown::<C>(read.end, suffix, &version) {
             return Ok(());
         }
-        relocation_front::<R>(front, section, &entry, naming);
+        relocation_prefix::<R>(front, section, &entry, naming);
         self.suffixed_line(front, read.end, suffix, &version)
     }
 
     /// Reads the version of the symbol of an index; none for symbol 0.
     fn read_entry(
         &mut self,
-        suffixes: &Suffixes,
+        suffixes: &VersionLookup,
         symbol: u32,
         is_defined: bool,
         version: &mut NameBuf,
-    ) -> Result<Option<SuffixEnd>, Fault>
+    ) -> Result<Option<VersionSuffixEnd>, Fault>
         requires { SuffixesWithin self.old.src.now.seen.size suffixes.now }
         ensures { FetchesOfEntry
             self.old self.new version.new result suffixes.now symbol is_defined }
@@ -85,13 +85,13 @@ impl<S: Source, W: Sink> Listing<'_, '_, '_, '_, S, W> {
         linked: Option<(Table, Names)>,
         symbol: u32,
         at: u64,
-    ) -> Result<EntryName, Fault>
-        requires { IfSome linked (SymbolsWithin self.old.src.now.seen.size) }
+    ) -> Result<RelocationName, Fault>
+        requires { IfSome linked (SymbolTableInBounds self.old.src.now.seen.size) }
         ensures { FetchesLinked self.old self.new result linked symbol at }
     {
         if symbol == 0 {
             self.name.clear();
-            return Ok(EntryName {
+            return Ok(RelocationName {
                 end: NameEnd::Whole,
                 is_defined: false,
             });
@@ -111,6 +111,6 @@ impl<S: Source, W: Sink> Listing<'_, '_, '_, '_, S, W> {
             at: symbols.place(index),
         })?;
         let is_defined = entry.st_shndx != 0;
-        Ok(EntryName { end, is_defined })
+        Ok(RelocationName { end, is_defined })
     }
 }

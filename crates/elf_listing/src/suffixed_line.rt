@@ -3,13 +3,13 @@ ghost use Rattle.std.specs.Prelude.{◌≡◌, ◌≤◌, length};
 ghost use Rattle.elf_fields.specs.Fronts.{front_of};
 ghost use Rattle.elf_listing.specs.Shows.{cut_of};
 ghost use Rattle.elf_listing.specs.Suffixed.{ListsSuffixed, suffix_read};
-ghost use Rattle.elf_listing.specs.SuffixTexts.{before_version, behind_version};
+ghost use Rattle.elf_listing.specs.SuffixTexts.{before_version, after_version};
 
 use crate::listing::Listing;
-use crate::read_suffix::SuffixEnd;
+use crate::read_suffix::VersionSuffixEnd;
 use crate::row::is_cut;
-use elf_fields::{LineFront, NextName, show_joined};
-use elf_headers::Stop;
+use elf_fields::{LinePrefix, SecondName, show_joined};
+use elf_headers::RunFault;
 use elf_model::Format;
 use elf_source::{Sink, Source};
 use elf_table::{NameBuf, NameEnd};
@@ -19,11 +19,11 @@ impl<S: Source, W: Sink> Listing<'_, '_, '_, '_, S, W> {
     /// used on the way.
     pub(crate) fn suffixed_line(
         &mut self,
-        front: &mut LineFront,
+        front: &mut LinePrefix,
         end: NameEnd,
-        suffix: Option<SuffixEnd>,
+        suffix: Option<VersionSuffixEnd>,
         version: &NameBuf,
-    ) -> Result<(), Stop>
+    ) -> Result<(), RunFault>
         requires { length front.old.key.now ≤ 16 }
         ensures { let suffix = suffix_read suffix version.now in
             ListsSuffixed self.old self.new result (front_of front.old) end suffix }
@@ -37,22 +37,22 @@ impl<S: Source, W: Sink> Listing<'_, '_, '_, '_, S, W> {
     /// Writes it where there is one.
     fn versioned_line(
         &mut self,
-        front: &mut LineFront,
+        front: &mut LinePrefix,
         end: NameEnd,
-        suffix: SuffixEnd,
+        suffix: VersionSuffixEnd,
         version: &NameBuf,
-    ) -> Result<(), Stop>
+    ) -> Result<(), RunFault>
         requires { length front.old.key.now ≤ 16 }
         ensures { let suffix = suffix_read (Some suffix) version.now in
             ListsSuffixed self.old self.new result (front_of front.old) end suffix }
     {
-        let next = NextName {
+        let next = SecondName {
             between: before_version(front.format, suffix.is_default),
             name: version.bytes(),
-            tail: behind_version(front.format, is_cut(suffix.end), suffix.is_default),
+            tail: after_version(front.format, is_cut(suffix.end), suffix.is_default),
         };
         let shown = show_joined(front, self.name.bytes(), is_cut(end), &next, self.out);
-        let NextName {
+        let SecondName {
             between: _,
             name: _,
             tail: _,
@@ -76,9 +76,9 @@ fn before_version(format: Format, is_default: bool) -> &'static [u8]
 }
 
 /// What stands behind a version, with the line's end.
-#[tactic(auto, unfolding(crate::specs::SuffixTexts::behind_version))]
-fn behind_version(format: Format, is_cut: bool, is_default: bool) -> &'static [u8]
-    ensures text { result.now ≡ behind_version format is_cut is_default }
+#[tactic(auto, unfolding(crate::specs::SuffixTexts::after_version))]
+fn after_version(format: Format, is_cut: bool, is_default: bool) -> &'static [u8]
+    ensures text { result.now ≡ after_version format is_cut is_default }
     ensures short { length result.now ≤ 64 }
 {
     match (format, is_cut, is_default) {

@@ -2,14 +2,14 @@
 ghost use Rattle.std.specs.Prelude.{◌≡◌};
 ghost use Rattle.elf_listing.specs.Choosing.{ShowsRows};
 ghost use Rattle.elf_listing.specs.Kinds.{ListsRow, RowFits};
-ghost use Rattle.elf_listing.specs.declared.rows.ListedAs.TheVariants.{SuffixedSymbols};
+ghost use Rattle.elf_listing.specs.declared.rows.RowLayout.TheVariants.{SuffixedSymbols};
 
 use crate::choosing::Choosing;
 use crate::listing::Listing;
-use crate::suffixes::Suffixes;
-use elf_fields::{LineFront, Render};
-use elf_headers::Stop;
-use elf_lines::symbol_front;
+use crate::suffixes::VersionLookup;
+use elf_fields::{LinePrefix, Render};
+use elf_headers::RunFault;
+use elf_lines::symbol_prefix;
 use elf_names::NameIndex;
 use elf_record::Sym;
 use elf_source::{Sink, Source};
@@ -19,14 +19,14 @@ impl<S: Source, W: Sink> Listing<'_, '_, '_, '_, S, W> {
     /// Shows the row of a symbol of a section: its `Y` line with its name and the version behind it,
     /// where it is one of the rows that are shown; or the name's refusal at the symbol's offset, or
     /// the version's.
-    pub(crate) fn suffixed_symbol_row<R: Render, C: Choosing>(
+    pub(crate) fn symbol_row_with_version<R: Render, C: Choosing>(
         &mut self,
-        front: &mut LineFront,
+        front: &mut LinePrefix,
         row: &Row<'_>,
         section: u16,
         names: &Names,
-        suffixes: &Suffixes,
-    ) -> Result<(), Stop>
+        suffixes: &VersionLookup,
+    ) -> Result<(), RunFault>
         requires format { R.FORMAT ≡ self.old.style.format }
         requires rows { ShowsRows C.BY_NAME self.old.style }
         requires row { let kind = SuffixedSymbols section names.now suffixes in
@@ -45,10 +45,10 @@ impl<S: Source, W: Sink> Listing<'_, '_, '_, '_, S, W> {
         let mut version = NameBuf::new();
         let is_defined = symbol.st_shndx != 0;
         let suffix = self.read_suffix(suffixes, row.index, is_defined, &mut version)?;
-        if !self.is_suffixed_shown::<C>(end, suffix, &version) {
+        if !self.is_versioned_row_shown::<C>(end, suffix, &version) {
             return Ok(());
         }
-        symbol_front::<R>(front, section, row.index, &symbol, naming);
+        symbol_prefix::<R>(front, section, row.index, &symbol, naming);
         self.suffixed_line(front, end, suffix, &version)
     }
 }

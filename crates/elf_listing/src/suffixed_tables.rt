@@ -6,9 +6,9 @@ ghost use Rattle.elf_listing.specs.declared.parts.Part.TheVariants.{SuffixedRelo
 ghost use Rattle.elf_listing.specs.declared.parts.Part.TheVariants.{SuffixedSymbols};
 
 use crate::listing::Listing;
-use crate::rows::ListedAs;
-use crate::suffixes::Suffixes;
-use elf_headers::{Fault, Stop};
+use crate::rows::RowLayout;
+use crate::suffixes::VersionLookup;
+use elf_headers::{Fault, RunFault};
 use elf_record::numbers::SHT_RELA;
 use elf_source::{Sink, Source};
 use elf_table::{Names, Table, holds_symbols};
@@ -18,7 +18,7 @@ impl<S: Source, W: Sink> Listing<'_, '_, '_, '_, S, W> {
     /// the first refusal of its table, of its string table, of what finds the versions, of a name or
     /// of a version (gABI 4, Symbol Table).
     #[inline(never)]
-    pub(crate) fn suffixed_symbols(&mut self, section: u16) -> Result<(), Stop>
+    pub(crate) fn suffixed_symbols(&mut self, section: u16) -> Result<(), RunFault>
         requires { section < self.old.file.store.now.loaded }
         ensures { ListsHeader SuffixedSymbols self.old self.new result section }
     {
@@ -29,10 +29,10 @@ impl<S: Source, W: Sink> Listing<'_, '_, '_, '_, S, W> {
         let (table, names) = symbols;
         let found = self.suffixes(u32::from(section), table.len())?;
         match &found {
-            None => self.rows(table, &ListedAs::Symbols { section, names }),
+            None => self.rows(table, &RowLayout::Symbols { section, names }),
             Some(suffixes) => self.rows(
                 table,
-                &ListedAs::SuffixedSymbols {
+                &RowLayout::SuffixedSymbols {
                     section,
                     names,
                     suffixes,
@@ -45,7 +45,7 @@ impl<S: Source, W: Sink> Listing<'_, '_, '_, '_, S, W> {
     /// them: an `R` line each, or the first refusal of its table, of the symbols that they refer to,
     /// of what finds the versions or of an entry (gABI 4, Relocation).
     #[inline(never)]
-    pub(crate) fn suffixed_relocations(&mut self, section: u16) -> Result<(), Stop>
+    pub(crate) fn relocations_with_versions(&mut self, section: u16) -> Result<(), RunFault>
         requires { section < self.old.file.store.now.loaded }
         ensures { ListsHeader SuffixedRelocations self.old self.new result section }
     {
@@ -60,10 +60,10 @@ impl<S: Source, W: Sink> Listing<'_, '_, '_, '_, S, W> {
         }
         let found = self.linked_suffixes(header.sh_link, &linked)?;
         match &found {
-            None => self.rows(table, &ListedAs::Relocations { section, linked }),
+            None => self.rows(table, &RowLayout::Relocations { section, linked }),
             Some(suffixes) => self.rows(
                 table,
-                &ListedAs::SuffixedRelocations {
+                &RowLayout::SuffixedRelocations {
                     section,
                     linked,
                     suffixes,
@@ -77,7 +77,7 @@ impl<S: Source, W: Sink> Listing<'_, '_, '_, '_, S, W> {
         &mut self,
         table: u32,
         linked: &Option<(Table, Names)>,
-    ) -> Result<Option<Suffixes>, Fault>
+    ) -> Result<Option<VersionLookup>, Fault>
         ensures { FetchesOfLinked self.old self.new result table linked.now }
     {
         match linked {

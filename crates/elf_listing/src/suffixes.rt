@@ -2,7 +2,7 @@
 ghost use Rattle.elf_listing.specs.Suffixed.{FetchesSuffixes};
 
 use crate::listing::Listing;
-use crate::numbered::Numbered;
+use crate::numbered::VersionStrings;
 use elf_headers::Fault;
 use elf_source::{Sink, Source};
 use elf_table::Table;
@@ -10,13 +10,13 @@ use elf_versions::ALL_PLACES;
 
 /// What finds the versions of the symbols of a table (Linux Standard Base Core, Symbol Versioning).
 #[derive(Drop)]
-pub struct Suffixes {
+pub struct VersionLookup {
     /// The version numbers, a word for each symbol.
     pub words: Table,
     /// The file offset of the section header of the version numbers.
     pub at: u64,
     /// Where the names of the numbers are.
-    pub numbered: Numbered,
+    pub numbered: VersionStrings,
     /// Where the file tells of the name of each number.
     pub places: [u64; ALL_PLACES],
 }
@@ -28,13 +28,17 @@ impl<S: Source, W: Sink> Listing<'_, '_, '_, '_, S, W> {
     /// # Errors
     /// The first check that fails of the section of version numbers; then of the first section of
     /// definitions or what is no definition, and the same of the needs. A fault of a read.
-    pub(crate) fn suffixes(&mut self, table: u32, symbols: u64) -> Result<Option<Suffixes>, Fault>
+    pub(crate) fn suffixes(
+        &mut self,
+        table: u32,
+        symbols: u64,
+    ) -> Result<Option<VersionLookup>, Fault>
         ensures { FetchesSuffixes self.old self.new result table symbols }
     {
         if symbols == 0 {
             return Ok(None);
         }
-        let Some(section) = self.file.numbers_of(table) else {
+        let Some(section) = self.file.version_numbers_of(table) else {
             return Ok(None);
         };
         let found = self.file.symbol_versions(section)?;
@@ -42,7 +46,7 @@ impl<S: Source, W: Sink> Listing<'_, '_, '_, '_, S, W> {
         let at = self.file.place(section);
         let mut places = [0; ALL_PLACES];
         let numbered = self.numbered(&mut places)?;
-        Ok(Some(Suffixes {
+        Ok(Some(VersionLookup {
             words,
             at,
             numbered,

@@ -2,7 +2,7 @@
 ghost use Rattle.std.specs.Prelude.{◌≡◌, ◌<◌, length, min};
 ghost use Rattle.elf_headers.specs.Permitted.{style_of};
 ghost use Rattle.elf_model.specs.declared.versions.VersionKind.TheVariants.{Need};
-ghost use Rattle.elf_table.specs.Tables.{RowsWithin};
+ghost use Rattle.elf_table.specs.Tables.{TableInBounds};
 ghost use Rattle.elf_listing.specs.HeadersListed.{ListsHeader};
 ghost use Rattle.elf_listing.specs.Numbered.{NumberedWithin};
 ghost use Rattle.elf_listing.specs.Parts.{Awaits};
@@ -10,16 +10,16 @@ ghost use Rattle.elf_listing.specs.SymbolVersions.{FetchesNumbers, ListsVersione
 ghost use Rattle.elf_listing.specs.declared.parts.Part.TheVariants.{SymbolVersions};
 
 use crate::listing::Listing;
-use crate::numbered::Numbered;
-use crate::rows::ListedAs;
+use crate::numbered::VersionStrings;
+use crate::rows::RowLayout;
 use crate::versions::section_type;
-use elf_headers::{Fault, Stop};
+use elf_headers::{Fault, RunFault};
 use elf_record::gnu_numbers::SHT_GNU_VERSYM;
 use elf_record::sizes::SYMBOL_VERSION_BYTES;
 use elf_record::{Cause, Refusal, VersionKind};
 use elf_source::{Sink, Source};
 use elf_table::{Names, Table};
-use elf_versions::{NumberNames, VersionCursor};
+use elf_versions::{VersionCursor, VersionNames};
 
 impl<S: Source, W: Sink> Listing<'_, '_, '_, '_, S, W> {
     /// Shows the versions of the symbols of a section, where it holds them: an `X` line each, or the
@@ -27,7 +27,7 @@ impl<S: Source, W: Sink> Listing<'_, '_, '_, '_, S, W> {
     /// refusal where a symbol has no entry any more (Linux Standard Base Core, Symbol Versioning).
     /// The rows of all definitions and needs have come without a fault.
     #[inline(never)]
-    pub(crate) fn symbol_versions(&mut self, section: u16) -> Result<(), Stop>
+    pub(crate) fn symbol_versions(&mut self, section: u16) -> Result<(), RunFault>
         requires awaits { Awaits SymbolVersions self.old.src.now.seen.file
             (style_of self.old.style) }
         requires below { section < self.old.file.store.now.loaded }
@@ -54,19 +54,19 @@ impl<S: Source, W: Sink> Listing<'_, '_, '_, '_, S, W> {
         section: u16,
         table: Table,
         symbols: u64,
-        numbered: &Numbered,
-    ) -> Result<(), Stop>
+        numbered: &VersionStrings,
+    ) -> Result<(), RunFault>
         requires below { section < self.old.file.store.now.loaded }
         requires entry { table.entry ≡ 2 }
-        requires rows { RowsWithin self.old.src.now.seen.size table }
+        requires rows { TableInBounds self.old.src.now.seen.size table }
         requires within { NumberedWithin self.old.src.now.seen.size numbered.now }
         ensures { ListsVersioned self.old self.new result section table symbols numbered.now }
     {
         let at = self.file.place(section);
         let rows = first_entries(&table, symbols);
-        self.rows(rows, &ListedAs::Versions { section, numbered })?;
+        self.rows(rows, &RowLayout::Versions { section, numbered })?;
         if table.len() < symbols {
-            return Err(Stop::Refused(Refusal {
+            return Err(RunFault::Refused(Refusal {
                 at,
                 cause: Cause::VersionCut,
             }));
@@ -77,14 +77,14 @@ impl<S: Source, W: Sink> Listing<'_, '_, '_, '_, S, W> {
     /// Where the names of all numbers are: by the first section of definitions, else by the first of
     /// needs. Of the first numbers, as many as there are `places`, it keeps where the file tells of
     /// the name.
-    pub(crate) fn numbered(&mut self, places: &mut [u64]) -> Result<Numbered, Fault>
+    pub(crate) fn numbered(&mut self, places: &mut [u64]) -> Result<VersionStrings, Fault>
         ensures count { length places.new ≡ length places.old }
         ensures numbers { FetchesNumbers self.old self.new places.new result }
     {
-        let mut names = NumberNames::new();
+        let mut names = VersionNames::new();
         let defined = self.take_first(&mut names, places, VersionKind::Definition)?;
         let needed = self.take_first(&mut names, places, VersionKind::File)?;
-        Ok(Numbered {
+        Ok(VersionStrings {
             names,
             defined,
             needed,
@@ -95,7 +95,7 @@ impl<S: Source, W: Sink> Listing<'_, '_, '_, '_, S, W> {
     /// table of their names; an empty one where there is no record.
     fn take_first(
         &mut self,
-        names: &mut NumberNames,
+        names: &mut VersionNames,
         places: &mut [u64],
         kind: VersionKind,
     ) -> Result<Names, Fault>

@@ -1,7 +1,7 @@
 //! The records of symbol versions, shown one after another.
 ghost use Rattle.std.specs.Prelude.{◌≡◌, ◌<◌, None};
 ghost use Rattle.elf_model.specs.declared.versions.VersionKind.TheVariants.{Need};
-ghost use Rattle.elf_table.specs.Tables.{RowsWithin, StringsWithin};
+ghost use Rattle.elf_table.specs.Tables.{TableInBounds, StringsInBounds};
 ghost use Rattle.elf_listing.specs.Choosing.{ShowsRows};
 ghost use Rattle.elf_listing.specs.HeadersListed.{ListsHeader};
 ghost use Rattle.elf_listing.specs.Versions.{ListsRecord, ListsRecords, ListsVersions, kind_type};
@@ -9,9 +9,9 @@ ghost use Rattle.elf_listing.specs.declared.parts.Part.TheVariants.{Definitions,
 
 use crate::choosing::{AllRows, Choosing, NamedRows};
 use crate::listing::Listing;
-use elf_fields::{Columns, LineFront, Object, Render};
-use elf_headers::Stop;
-use elf_lines::version_front;
+use elf_fields::{Columns, LinePrefix, Object, Render};
+use elf_headers::RunFault;
+use elf_lines::version_prefix;
 use elf_model::Format;
 use elf_names::NameIndex;
 use elf_record::VersionKind;
@@ -26,7 +26,7 @@ impl<S: Source, W: Sink> Listing<'_, '_, '_, '_, S, W> {
     /// of a definition (Linux Standard Base Core, Symbol Versioning).
     #[tactic(auto, unfolding(elf_model::specs::VersionRows::version_definitions))]
     #[inline(never)]
-    pub(crate) fn definitions(&mut self, section: u16) -> Result<(), Stop>
+    pub(crate) fn definitions(&mut self, section: u16) -> Result<(), RunFault>
         requires { section < self.old.file.store.now.loaded }
         ensures { ListsHeader Definitions self.old self.new result section }
     {
@@ -37,7 +37,7 @@ impl<S: Source, W: Sink> Listing<'_, '_, '_, '_, S, W> {
     /// them, as definitions.
     #[tactic(auto, unfolding(elf_model::specs::VersionRows::version_needs))]
     #[inline(never)]
-    pub(crate) fn needs(&mut self, section: u16) -> Result<(), Stop>
+    pub(crate) fn needs(&mut self, section: u16) -> Result<(), RunFault>
         requires { section < self.old.file.store.now.loaded }
         ensures { ListsHeader Needs self.old self.new result section }
     {
@@ -45,7 +45,7 @@ impl<S: Source, W: Sink> Listing<'_, '_, '_, '_, S, W> {
     }
 
     /// Shows the records of a section, where it holds records of a kind.
-    fn versions(&mut self, section: u16, kind: VersionKind) -> Result<(), Stop>
+    fn versions(&mut self, section: u16, kind: VersionKind) -> Result<(), RunFault>
         requires below { section < self.old.file.store.now.loaded }
         requires kind { kind ≡ Need → ⊥ }
         ensures { ListsVersions self.old self.new result section kind }
@@ -71,10 +71,10 @@ impl<S: Source, W: Sink> Listing<'_, '_, '_, '_, S, W> {
         cursor: &mut VersionCursor,
         section: u16,
         names: Names,
-    ) -> Result<(), Stop>
+    ) -> Result<(), RunFault>
         requires going { cursor.old.failed ≡ None }
-        requires within { RowsWithin self.old.src.now.seen.size cursor.old.held.table }
-        requires strings { StringsWithin self.old.src.now.seen.size names }
+        requires within { TableInBounds self.old.src.now.seen.size cursor.old.held.table }
+        requires strings { StringsInBounds self.old.src.now.seen.size names }
         ensures { ListsRecords self.old self.new result cursor.old section names }
     {
         if self.style.choice.by_name {
@@ -89,11 +89,11 @@ impl<S: Source, W: Sink> Listing<'_, '_, '_, '_, S, W> {
         cursor: &mut VersionCursor,
         section: u16,
         names: Names,
-    ) -> Result<(), Stop>
+    ) -> Result<(), RunFault>
         requires rows { ShowsRows C.BY_NAME self.old.style }
         requires going { cursor.old.failed ≡ None }
-        requires within { RowsWithin self.old.src.now.seen.size cursor.old.held.table }
-        requires strings { StringsWithin self.old.src.now.seen.size names }
+        requires within { TableInBounds self.old.src.now.seen.size cursor.old.held.table }
+        requires strings { StringsInBounds self.old.src.now.seen.size names }
         ensures { ListsRecords self.old self.new result cursor.old section names }
     {
         'records: while let Some(given) = cursor.advance(self.src)? {
@@ -109,9 +109,9 @@ impl<S: Source, W: Sink> Listing<'_, '_, '_, '_, S, W> {
         given: &VersionRecord,
         section: u16,
         names: Names,
-    ) -> Result<(), Stop>
+    ) -> Result<(), RunFault>
         requires rows { ShowsRows C.BY_NAME self.old.style }
-        requires within { StringsWithin self.old.src.now.seen.size names }
+        requires within { StringsInBounds self.old.src.now.seen.size names }
         ensures { ListsRecord self.old self.new result given.now section names }
     {
         match self.style.format {
@@ -126,10 +126,10 @@ impl<S: Source, W: Sink> Listing<'_, '_, '_, '_, S, W> {
         given: &VersionRecord,
         section: u16,
         names: Names,
-    ) -> Result<(), Stop>
+    ) -> Result<(), RunFault>
         requires format { R.FORMAT ≡ self.old.style.format }
         requires rows { ShowsRows C.BY_NAME self.old.style }
-        requires within { StringsWithin self.old.src.now.seen.size names }
+        requires within { StringsInBounds self.old.src.now.seen.size names }
         ensures { ListsRecord self.old self.new result given.now section names }
     {
         let end = self.read_name(NameIndex {
@@ -140,8 +140,8 @@ impl<S: Source, W: Sink> Listing<'_, '_, '_, '_, S, W> {
         if !self.is_shown::<C>(end) {
             return Ok(());
         }
-        let mut front = LineFront::new();
-        version_front::<R>(
+        let mut front = LinePrefix::new();
+        version_prefix::<R>(
             &mut front,
             section,
             given.kind,

@@ -3,19 +3,19 @@ ghost use Rattle.std.specs.Prelude.{◌≡◌, ◌&&◌, ◌||◌, true, ℕ, Li
 ghost use Rattle.elf_model.specs.Listing.{has, SEGMENTS, NOTES, DYNAMIC};
 ghost use Rattle.elf_model.specs.Records.{e_shnum};
 ghost use Rattle.elf_model.specs.Report.{view_checks};
-ghost use Rattle.elf_source.specs.Source.{Reads};
-ghost use Rattle.elf_headers.specs.Faults.{IsOfCheck, IsOfRead, Says};
-ghost use Rattle.elf_headers.specs.Load.{Belongs};
+ghost use Rattle.elf_source.specs.Source.{ReadsUpTo};
+ghost use Rattle.elf_headers.specs.Faults.{IsOfCheck, IsOfRead, IsReadFault};
+ghost use Rattle.elf_headers.specs.Load.{HoldsSectionHeaders};
 ghost use Rattle.elf_headers.specs.Permitted.{style_of};
 ghost use Rattle.elf_headers.specs.Store.{HoldsSegments};
 ghost use Rattle.elf_table.specs.Views.{Decides};
-ghost use Rattle.elf_listing.specs.Viewed.{AwaitsView, ChecksView, needs_view, view_cost, viewed_headers};
+ghost use Rattle.elf_listing.specs.Viewed.{AwaitsView, ChecksView, needs_segment_view, view_cost, viewed_headers};
 
 use bitflags::Flags;
 use elf_headers::{Fault, HeaderStore, Loaded, Style};
 use elf_record::Parts;
 use elf_source::{Counted, Source};
-use elf_table::SegmentView;
+use elf_table::ExecutionView;
 
 /// Loads the program headers of a file without sections, where the parts need them: to be shown, or
 /// because they tell where its notes and its dynamic entries are. Where the style finds tables by
@@ -23,7 +23,7 @@ use elf_table::SegmentView;
 ///
 /// # Errors
 /// A fault of a read, or a refusal for want of budget; behind that the check of
-/// [`SegmentView::check_overlaps`], where the style calls for it.
+/// [`ExecutionView::check_overlaps`], where the style calls for it.
 pub(crate) fn load_view<S: Source>(
     src: &mut Counted<S>,
     store: &mut HeaderStore,
@@ -35,13 +35,13 @@ pub(crate) fn load_view<S: Source>(
     ensures slots { store.new.slots ≡ store.old.slots }
     ensures loaded { store.new.loaded ≡ store.old.loaded }
     ensures segments { OnOk result (store.new.segments ≡ viewed_headers parts.0 loaded.now) }
-    ensures reads { Reads src.old src.new (view_cost parts.0 loaded.now) }
-    ensures says { IfErr result (Says src.old src.new (view_cost parts.0 loaded.now)) }
+    ensures reads { ReadsUpTo src.old src.new (view_cost parts.0 loaded.now) }
+    ensures says { IfErr result (IsReadFault src.old src.new (view_cost parts.0 loaded.now)) }
     ensures held { (file : List ℕ) → src.old.seen.file ≡ Some file →
-        Belongs file loaded.now store.old → OnOk result
-        (Belongs file loaded.now store.new × HoldsSegments file store.new) }
+        HoldsSectionHeaders file loaded.now store.old → OnOk result
+        (HoldsSectionHeaders file loaded.now store.new × HoldsSegments file store.new) }
     ensures checked { (file : List ℕ) → src.old.seen.file ≡ Some file →
-        Belongs file loaded.now store.old → (style.entry.by_segments ≡ true → e_shnum file ≡ 0) →
+        HoldsSectionHeaders file loaded.now store.old → (style.entry.by_segments ≡ true → e_shnum file ≡ 0) →
         ChecksView (view_checks file (style_of style.entry) parts.0) result }
 {
     read_view(src, store, loaded, parts)?;
@@ -51,10 +51,10 @@ pub(crate) fn load_view<S: Source>(
 /// Checks the program headers in the store, where the style finds tables by them.
 ///
 /// # Errors
-/// That of [`SegmentView::check_overlaps`].
+/// That of [`ExecutionView::check_overlaps`].
 fn check_view(store: &HeaderStore, loaded: &Loaded, style: Style, parts: Parts) -> Result<(), Fault>
     requires { store.now.segments ≡ viewed_headers parts.0 loaded.now }
-    ensures checked { (file : List ℕ) → Belongs file loaded.now store.now →
+    ensures checked { (file : List ℕ) → HoldsSectionHeaders file loaded.now store.now →
         HoldsSegments file store.now → (style.entry.by_segments ≡ true → e_shnum file ≡ 0) →
         Decides (view_checks file (style_of style.entry) parts.0) result }
     ensures refusal { IfErr result IsOfCheck }
@@ -63,14 +63,14 @@ fn check_view(store: &HeaderStore, loaded: &Loaded, style: Style, parts: Parts) 
         return Ok(());
     }
     let loaded = *loaded;
-    SegmentView { loaded, store }.check_overlaps()
+    ExecutionView { loaded, store }.check_overlaps()
 }
 
 /// Whether the style finds tables by the program headers, and the parts need these.
 fn is_checked(loaded: &Loaded, style: Style, parts: Parts) -> bool
-    ensures { result ≡ (style.entry.by_segments && needs_view parts.0 loaded.now) }
+    ensures { result ≡ (style.entry.by_segments && needs_segment_view parts.0 loaded.now) }
 {
-    style.by_segments && loaded.header().e_shnum == 0 && needs_view(parts)
+    style.by_segments && loaded.header().e_shnum == 0 && needs_segment_view(parts)
 }
 
 /// Loads the program headers of a file without sections, where the parts need them.
@@ -84,21 +84,21 @@ fn read_view<S: Source>(
     ensures slots { store.new.slots ≡ store.old.slots }
     ensures loaded { store.new.loaded ≡ store.old.loaded }
     ensures segments { OnOk result (store.new.segments ≡ viewed_headers parts.0 loaded.now) }
-    ensures reads { Reads src.old src.new (view_cost parts.0 loaded.now) }
-    ensures says { IfErr result (Says src.old src.new (view_cost parts.0 loaded.now)) }
+    ensures reads { ReadsUpTo src.old src.new (view_cost parts.0 loaded.now) }
+    ensures says { IfErr result (IsReadFault src.old src.new (view_cost parts.0 loaded.now)) }
     ensures fault { IfErr result IsOfRead }
     ensures held { (file : List ℕ) → src.old.seen.file ≡ Some file →
-        Belongs file loaded.now store.old → OnOk result
-        (Belongs file loaded.now store.new × HoldsSegments file store.new) }
+        HoldsSectionHeaders file loaded.now store.old → OnOk result
+        (HoldsSectionHeaders file loaded.now store.new × HoldsSegments file store.new) }
 {
-    if loaded.header().e_shnum != 0 || !needs_view(parts) {
+    if loaded.header().e_shnum != 0 || !needs_segment_view(parts) {
         return Ok(());
     }
     loaded.load_segments(src, store)
 }
 
 /// Whether the parts of a file without sections need its program headers.
-fn needs_view(parts: Parts) -> bool
+fn needs_segment_view(parts: Parts) -> bool
     ensures { result ≡ (has parts.0 SEGMENTS || (has parts.0 NOTES || has parts.0 DYNAMIC)) }
 {
     parts.contains(Parts::SEGMENTS)

@@ -4,10 +4,10 @@ use Rattle.std.specs.Borrow.{Bor}
 use Rattle.clap.specs.Walk.{Row, Text, first_of}
 use Rattle.elf_listing_requests.specs.Faults.{IsUnasked}
 use Rattle.elf_listing_requests.specs.Options.{AreLimitOptions, AreParts, IsStyle}
-use Rattle.elf_listing_requests.specs.RowNames.{asks_names}
+use Rattle.elf_listing_requests.specs.RowNames.{has_name_option}
 use Rattle.elf_listing_requests.specs.Reading.{AreRead, AreRefused}
 use Rattle.elf_listing_requests.specs.declared.faults.RequestFault.{RequestFault}
-use Rattle.elf_listing_requests.specs.declared.listings.ListingAsked.{ListingAsked}
+use Rattle.elf_listing_requests.specs.declared.listings.ListingRequest.{ListingRequest}
 use Rattle.elf_listing_requests.specs.declared.listings.ShowRequest.{ShowRequest}
 use Rattle.elf_listing_requests.specs.declared.listings.ShowRequest.TheVariants.{Listed, Version}
 
@@ -17,12 +17,12 @@ IsOfFile command rows (Some path) = (command ≡ codes "show") × (first_of (cod
 IsOfFile command rows None = command ≡ codes "sample"
 
 -- a command with the values of its arguments asks for just this listing, of every row
-pub record IsListing (command : Text) (rows : List Row) (asked : ListingAsked) : Type 0 where
+pub record IsListing (command : Text) (rows : List Row) (asked : ListingRequest) : Type 0 where
   pub of_file : IsOfFile command rows asked.file
   pub limits : AreLimitOptions rows asked.limits
   pub style : IsStyle rows asked.style
   pub parts : AreParts rows asked.parts
-  pub every : asks_names rows ≡ false
+  pub every : has_name_option rows ≡ false
 
 -- a command with the values of its arguments asks for this, by what such values ask for
 abbrev pub AskedBy : {A : Type 0} → (Text → List Row → A → Type 0) → Option (Text × List Row) → A → Type 0

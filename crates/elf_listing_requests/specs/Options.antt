@@ -52,20 +52,20 @@ is_option_set None = false
 is_option_set (Some text) = bytes_eq text (codes "true")
 
 -- whether listings of the GNU system are asked for
-abbrev pub asks_gnu : List Row → Bool
-asks_gnu rows = is_option_set (first_of (codes "gnu") rows)
+abbrev pub has_gnu_option : List Row → Bool
+has_gnu_option rows = is_option_set (first_of (codes "gnu") rows)
 
 -- whether the program headers alone are to be gone by, where only a loader's lookup does that and none is asked for
-abbrev pub lacks_gnu : List Row → Bool
-lacks_gnu rows = is_option_set (first_of (codes "by-segments") rows) && not (asks_gnu rows)
+abbrev pub gnu_option_is_missing : List Row → Bool
+gnu_option_is_missing rows = is_option_set (first_of (codes "by-segments") rows) && not (has_gnu_option rows)
 
 -- whether the version of a symbol is to stand behind its name
-abbrev pub asks_versions : List Row → Bool
-asks_versions rows = is_option_set (first_of (codes "versions") rows)
+abbrev pub has_versions_option : List Row → Bool
+has_versions_option rows = is_option_set (first_of (codes "versions") rows)
 
 -- whether it is, in a listing that is none of the GNU system
-abbrev pub versions_lack_gnu : List Row → Bool
-versions_lack_gnu rows = asks_versions rows && not (asks_gnu rows)
+abbrev pub versions_without_gnu : List Row → Bool
+versions_without_gnu rows = has_versions_option rows && not (has_gnu_option rows)
 
 -- how a line is written, by whether objects are asked for
 abbrev pub asked_format : List Row → Format
@@ -74,12 +74,12 @@ asked_format rows = if is_option_set (first_of (codes "json") rows) then Object 
 -- how rows are shown, by the values of the options
 pub record IsStyle (rows : List Row) (style : Style) : Type 0 where
   pub cap : HasNumber (one_of (codes "names") rows) (Some style.cap.bytes)
-  pub gnu : style.gnu ≡ asks_gnu rows
+  pub gnu : style.gnu ≡ has_gnu_option rows
   pub by_segments : style.by_segments ≡ is_option_set (first_of (codes "by-segments") rows)
   pub format : style.format ≡ asked_format rows
   pub choice : choice_of style.choice ≡ EveryRow
-  pub versions : style.versions ≡ asks_versions rows
-  pub allowed : versions_lack_gnu rows ≡ false
+  pub versions : style.versions ≡ has_versions_option rows
+  pub allowed : versions_without_gnu rows ≡ false
 
 -- the part with this name, or without a name all, of listings of the GNU system or of the standards' alone
 abbrev pub ArePartsOf : Bool → Option Text → Parts → Type 0
@@ -88,4 +88,4 @@ ArePartsOf gnu (Some name) parts = name_in_table (part_names gnu) parts.0 ≡ So
 
 -- which parts are listed, by the values of the options
 abbrev pub AreParts : List Row → Parts → Type 0
-AreParts rows = ArePartsOf (asks_gnu rows) (first_of (codes "only") rows)
+AreParts rows = ArePartsOf (has_gnu_option rows) (first_of (codes "only") rows)

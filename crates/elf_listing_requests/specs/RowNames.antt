@@ -6,7 +6,7 @@ use Rattle.clap.specs.declared.parser.matches.ValueSource.TheVariants.{CommandLi
 use Rattle.elf_model.specs.Listing.{SYMBOLS, RELOCS, VERSIONS}
 use Rattle.elf_model.specs.Text.{name_of as name_in_table}
 use Rattle.elf_record.specs.declared.parts.Parts.{Parts}
-use Rattle.elf_listing_requests.specs.Options.{asks_gnu}
+use Rattle.elf_listing_requests.specs.Options.{has_gnu_option}
 
 -- a value comes from the words, and is none that stands for missing ones
 abbrev pub is_of_words : Option ValueSource → Bool
@@ -23,8 +23,8 @@ abbrev pub name_words : List Row → List Text
 name_words rows = unwrap_or (all_of (codes "name") rows) []
 
 -- whether the rows of some names alone are asked for: there is a name, or a file that has some
-abbrev pub asks_names : List Row → Bool
-asks_names rows = is_some (all_of (codes "name") rows) || is_some (all_of (codes "name-list") rows)
+abbrev pub has_name_option : List Row → Bool
+has_name_option rows = is_some (all_of (codes "name") rows) || is_some (all_of (codes "name-list") rows)
 
 -- the parts whose rows are chosen by names: symbol versions in listings of the GNU system alone
 abbrev pub chosen_part_names : Bool → List (ℕ × List ℕ)
@@ -39,4 +39,4 @@ AreChosenPartsOf gnu (Some name) parts = name_in_table (chosen_part_names gnu) p
 -- which parts are listed where rows are chosen by names, by the values of the options; as many bytes of a name are looked at
 -- as the names have, and no option tells that
 abbrev pub AreChosenParts : List Row → Parts → Type 0
-AreChosenParts rows parts = (is_given (codes "names") rows ≡ false) × AreChosenPartsOf (asks_gnu rows) (first_of (codes "only") rows) parts
+AreChosenParts rows parts = (is_given (codes "names") rows ≡ false) × AreChosenPartsOf (has_gnu_option rows) (first_of (codes "only") rows) parts

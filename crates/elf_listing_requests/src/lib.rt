@@ -9,11 +9,11 @@ mod reading;
 mod row_names;
 
 pub use faults::RequestFault;
-pub use listings::{ListingAsked, ShowRequest, listing_of, shown_asked};
+pub use listings::{ListingRequest, ShowRequest, listing_of, parse_show};
 pub use nothing::unasked;
 pub use options::{
-    asks_gnu, asks_versions, find_lacks_gnu, format_of, is_set, limits_of, parts_of,
-    small_number_of, style_of, text_of, whole,
+    find_without_gnu, format_of, has_gnu_option, has_versions_option, is_set, limits_of, parts_of,
+    style_of, text_of, u16_option_of, whole,
 };
-pub use reading::matches_of;
-pub use row_names::{asks_names, chosen_parts_of, is_given};
+pub use reading::parse_arguments;
+pub use row_names::{chosen_parts_of, has_name_option, is_given};

@@ -7,16 +7,16 @@ ghost use Rattle.elf_headers.specs.declared.caps.Style.{Style};
 ghost use Rattle.elf_listing_requests.specs.Faults.{IsUnasked};
 ghost use Rattle.elf_listing_requests.specs.Listings.{IsListing, NothingShown, ShowsBy};
 ghost use Rattle.elf_listing_requests.specs.Listings.{ShowsNothing, WordsShow};
-ghost use Rattle.elf_listing_requests.specs.declared.listings.ListingAsked.{ListingAsked};
+ghost use Rattle.elf_listing_requests.specs.declared.listings.ListingRequest.{ListingRequest};
 ghost use Rattle.elf_listing_requests.specs.Options.{AreLimitOptions, AreParts, IsStyle};
-ghost use Rattle.elf_listing_requests.specs.RowNames.{asks_names};
+ghost use Rattle.elf_listing_requests.specs.RowNames.{has_name_option};
 ghost use Rattle.elf_record.specs.declared.parts.Parts.{Parts};
 
 use crate::faults::RequestFault;
 use crate::nothing::unasked;
 use crate::options::{limits_of, parts_of, style_of, text_of};
-use crate::reading::matches_of;
-use crate::row_names::asks_names;
+use crate::reading::parse_arguments;
+use crate::row_names::has_name_option;
 use clap::ArgMatches;
 use elf_headers::{Limits, Style};
 use elf_record::Parts;
@@ -26,7 +26,7 @@ use std::convert::AsStr;
 /// A listing that is asked for: of which file, how much of it may be read, which parts there are, and
 /// how rows are shown.
 #[derive(Clone, Copy, Drop)]
-pub struct ListingAsked<'a> {
+pub struct ListingRequest<'a> {
     /// The file's path, or none for the sample, which is a file that the program carries.
     pub file: Option<&'a str>,
     /// How many headers are permitted, and how many bytes may be read.
@@ -41,7 +41,7 @@ pub struct ListingAsked<'a> {
 #[derive(Drop)]
 pub enum ShowRequest<'a> {
     /// A file is listed.
-    Listed(ListingAsked<'a>),
+    Listed(ListingRequest<'a>),
     /// The version of the program is told.
     Version,
 }
@@ -51,14 +51,14 @@ pub enum ShowRequest<'a> {
 ///
 /// # Errors
 /// `Words` for words that ask for neither, or for help; `Memory` where there is none for reading them.
-pub fn shown_asked<'a, S: AsStr>(
+pub fn parse_show<'a, S: AsStr>(
     alloc: Global,
     words: &'a [S],
 ) -> Result<ShowRequest<'a>, RequestFault>
     ensures asked { IfOk result (WordsShow (map S.text words.entry.now)) }
     ensures refused { IfErr result (ShowsNothing (map S.text words.entry.now)) }
 {
-    let matches = matches_of(alloc, words)?;
+    let matches = parse_arguments(alloc, words)?;
     shown_by(alloc, &matches)
 }
 
@@ -98,9 +98,9 @@ fn shown_of<'a>(command: &str, options: &ArgMatches<'a>) -> Option<ShowRequest<'
 }
 
 /// The listing of one file that a command with these arguments asks for, or None where it asks for none.
-pub fn listing_of<'a>(command: &str, options: &ArgMatches<'a>) -> Option<ListingAsked<'a>>
+pub fn listing_of<'a>(command: &str, options: &ArgMatches<'a>) -> Option<ListingRequest<'a>>
     ensures some { IfSome result (IsListing command.now (rows_of (found_of options.now))) }
-    ensures none { result ≡ None → (listing : ListingAsked)
+    ensures none { result ≡ None → (listing : ListingRequest)
         → IsListing command.now (rows_of (found_of options.now)) listing → ⊥ }
 {
     match command {
@@ -111,7 +111,7 @@ pub fn listing_of<'a>(command: &str, options: &ArgMatches<'a>) -> Option<Listing
 }
 
 /// The listing of a file, or of the sample where there is none, with the options that are asked for.
-fn options_of<'a>(file: Option<&'a str>, options: &ArgMatches<'a>) -> Option<ListingAsked<'a>>
+fn options_of<'a>(file: Option<&'a str>, options: &ArgMatches<'a>) -> Option<ListingRequest<'a>>
     ensures file { IfSome result (λ listing. listing.file ≡ file.entry) }
     ensures limits { IfSome result (λ listing.
         AreLimitOptions (rows_of (found_of options.now)) listing.limits) }
@@ -119,20 +119,20 @@ fn options_of<'a>(file: Option<&'a str>, options: &ArgMatches<'a>) -> Option<Lis
         IsStyle (rows_of (found_of options.now)) listing.style) }
     ensures parts { IfSome result (λ listing.
         AreParts (rows_of (found_of options.now)) listing.parts) }
-    ensures every { IfSome result (λ _. asks_names (rows_of (found_of options.now)) ≡ false) }
+    ensures every { IfSome result (λ _. has_name_option (rows_of (found_of options.now)) ≡ false) }
     ensures none { result ≡ None → (limits : Limits) (style : Style) (parts : Parts)
-        → asks_names (rows_of (found_of options.now)) ≡ false
+        → has_name_option (rows_of (found_of options.now)) ≡ false
         → AreLimitOptions (rows_of (found_of options.now)) limits
         → IsStyle (rows_of (found_of options.now)) style
         → AreParts (rows_of (found_of options.now)) parts → ⊥ }
 {
-    if asks_names(options) {
+    if has_name_option(options) {
         return None;
     }
     let limits = limits_of(options)?;
     let style = style_of(options)?;
     let parts = parts_of(options)?;
-    Some(ListingAsked {
+    Some(ListingRequest {
         file,
         limits,
         parts,

@@ -5,9 +5,9 @@ ghost use Rattle.clap.specs.declared.error.kind.ErrorKind.TheVariants.{Format};
 ghost use Rattle.elf_listing_requests.specs.Faults.{IsUnasked};
 
 use crate::faults::RequestFault;
-use crate::options::{asks_gnu, find_lacks_gnu, text_of, versions_lack_gnu};
+use crate::options::{find_without_gnu, has_gnu_option, text_of, versions_without_gnu};
 use crate::reading::{MEMBER_PARTS, PARTS};
-use crate::row_names::{asks_names, chosen_parts_of, is_given};
+use crate::row_names::{chosen_parts_of, has_name_option, is_given};
 use clap::error::ErrorKind;
 use clap::{ArgMatches, Command, Error};
 use elf_command_line::{archive, check, find, list, sample, show, traits};
@@ -56,10 +56,10 @@ fn missing(alloc: Global, matches: &ArgMatches<'_>) -> Result<Error, AllocError>
 /// The command whose usage is told, and what it lacks.
 fn lacking<'m>(matches: &'m ArgMatches<'_>) -> (&'m str, &'static str) {
     match matches.subcommand() {
-        Some((command, options)) if lacks_gnu(options) => (command, NO_GNU),
-        Some((command, options)) if versions_lack_gnu(options) => (command, NO_GNU),
-        Some((command, options)) if asks_names(options) => (command, lacking_rows(options)),
-        Some(("find", options)) if find_lacks_gnu(options) => ("find", NO_GNU),
+        Some((command, options)) if gnu_option_is_missing(options) => (command, NO_GNU),
+        Some((command, options)) if versions_without_gnu(options) => (command, NO_GNU),
+        Some((command, options)) if has_name_option(options) => (command, lacking_rows(options)),
+        Some(("find", options)) if find_without_gnu(options) => ("find", NO_GNU),
         Some(("check", _)) => ("check", NO_PATH),
         Some(("list", _)) => ("list", NO_PATH),
         Some(("traits", _)) => ("traits", NO_PATH),
@@ -79,9 +79,9 @@ fn lacking_rows(options: &ArgMatches<'_>) -> &'static str {
 }
 
 /// Whether the symbol versions alone are asked for, but no listing of the GNU system.
-fn lacks_gnu(options: &ArgMatches<'_>) -> bool {
+fn gnu_option_is_missing(options: &ArgMatches<'_>) -> bool {
     match text_of(options, "only") {
-        Some(part) => part == "versions" && !asks_gnu(options),
+        Some(part) => part == "versions" && !has_gnu_option(options),
         None => false,
     }
 }

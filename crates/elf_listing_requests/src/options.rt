@@ -6,18 +6,18 @@ ghost use Rattle.clap.specs.Words.{found_of};
 ghost use Rattle.elf_model.specs.Listing.{all_parts};
 ghost use Rattle.elf_model.specs.Text.{name_of};
 ghost use Rattle.elf_listing_requests.specs.Options.{AreLimitOptions, AreParts, HasNumber, IsStyle};
-ghost use Rattle.elf_listing_requests.specs.Options.{asked_format, asks_gnu, is_part, is_option_set};
-ghost use Rattle.elf_listing_requests.specs.Options.{asks_versions, lacks_gnu, part_names};
-ghost use Rattle.elf_listing_requests.specs.Options.{versions_lack_gnu};
+ghost use Rattle.elf_listing_requests.specs.Options.{asked_format, has_gnu_option, is_part, is_option_set};
+ghost use Rattle.elf_listing_requests.specs.Options.{has_versions_option, gnu_option_is_missing, part_names};
+ghost use Rattle.elf_listing_requests.specs.Options.{versions_without_gnu};
 ghost use Rattle.elf_record.specs.declared.parts.Parts.{Parts};
 ghost use Rattle.elf_headers.specs.declared.caps.Limits.{Limits};
 ghost use Rattle.elf_headers.specs.declared.caps.Style.{Style};
 
 use clap::ArgMatches;
-use elf_headers::{Cap, Limits, Style};
+use elf_headers::{Limits, NameLimit, Style};
 use elf_model::Format;
 use elf_record::Parts;
-use elf_wanted::RowChoice;
+use elf_wanted::RowFilter;
 
 /// The limits that the options ask for.
 pub fn limits_of(options: &ArgMatches<'_>) -> Option<Limits>
@@ -25,7 +25,7 @@ pub fn limits_of(options: &ArgMatches<'_>) -> Option<Limits>
     ensures none { result ≡ None → (limits : Limits)
         → AreLimitOptions (rows_of (found_of options.now)) limits → ⊥ }
 {
-    let headers = small_number_of(options, "headers")?;
+    let headers = u16_option_of(options, "headers")?;
     let budget = number_of(options, "max-read")?;
     Limits::new(headers, budget)
 }
@@ -36,10 +36,10 @@ pub fn style_of(options: &ArgMatches<'_>) -> Option<Style<'static>>
     ensures none { result ≡ None → (style : Style)
         → IsStyle (rows_of (found_of options.now)) style → ⊥ }
 {
-    let cap = Cap::new(small_number_of(options, "names")?)?;
-    let gnu = asks_gnu(options);
+    let cap = NameLimit::new(u16_option_of(options, "names")?)?;
+    let gnu = has_gnu_option(options);
     let by_segments = is_set(options, "by-segments");
-    if versions_lack_gnu(options) {
+    if versions_without_gnu(options) {
         return None;
     }
     Some(Style {
@@ -47,8 +47,8 @@ pub fn style_of(options: &ArgMatches<'_>) -> Option<Style<'static>>
         gnu,
         by_segments,
         format: format_of(options),
-        choice: RowChoice::every_row(),
-        versions: asks_versions(options),
+        choice: RowFilter::every_row(),
+        versions: has_versions_option(options),
     })
 }
 
@@ -74,31 +74,31 @@ pub fn is_set(options: &ArgMatches<'_>, option: &str) -> bool
 }
 
 /// Whether the options ask for a listing of the GNU system.
-pub fn asks_gnu(options: &ArgMatches<'_>) -> bool
-    ensures { result ≡ asks_gnu (rows_of (found_of options.now)) }
+pub fn has_gnu_option(options: &ArgMatches<'_>) -> bool
+    ensures { result ≡ has_gnu_option (rows_of (found_of options.now)) }
 {
     is_set(options, "gnu")
 }
 
 /// Whether the options ask for the version of a symbol behind its name.
-pub fn asks_versions(options: &ArgMatches<'_>) -> bool
-    ensures { result ≡ asks_versions (rows_of (found_of options.now)) }
+pub fn has_versions_option(options: &ArgMatches<'_>) -> bool
+    ensures { result ≡ has_versions_option (rows_of (found_of options.now)) }
 {
     is_set(options, "versions")
 }
 
 /// Whether they do, of a listing that is none of the GNU system.
-pub fn versions_lack_gnu(options: &ArgMatches<'_>) -> bool
-    ensures { result ≡ versions_lack_gnu (rows_of (found_of options.now)) }
+pub fn versions_without_gnu(options: &ArgMatches<'_>) -> bool
+    ensures { result ≡ versions_without_gnu (rows_of (found_of options.now)) }
 {
-    asks_versions(options) && !asks_gnu(options)
+    has_versions_option(options) && !has_gnu_option(options)
 }
 
 /// Whether a lookup by the program headers is asked for that is none as a loader does it.
-pub fn find_lacks_gnu(options: &ArgMatches<'_>) -> bool
-    ensures { result ≡ lacks_gnu (rows_of (found_of options.now)) }
+pub fn find_without_gnu(options: &ArgMatches<'_>) -> bool
+    ensures { result ≡ gnu_option_is_missing (rows_of (found_of options.now)) }
 {
-    is_set(options, "by-segments") && !asks_gnu(options)
+    is_set(options, "by-segments") && !has_gnu_option(options)
 }
 
 /// The parts that the options ask for.
@@ -107,7 +107,7 @@ pub fn parts_of(options: &ArgMatches<'_>) -> Option<Parts>
     ensures none { result ≡ None → (parts : Parts)
         → AreParts (rows_of (found_of options.now)) parts → ⊥ }
 {
-    let gnu = asks_gnu(options);
+    let gnu = has_gnu_option(options);
     match text_of(options, "only") {
         Some(name) => part_named(name, gnu),
         None => Some(whole(gnu)),
@@ -130,7 +130,7 @@ pub fn text_of<'a>(options: &ArgMatches<'a>, argument: &str) -> Option<&'a str>
 }
 
 /// The number below 2^16 that an option has, where it has one.
-pub fn small_number_of(options: &ArgMatches<'_>, option: &str) -> Option<u16>
+pub fn u16_option_of(options: &ArgMatches<'_>, option: &str) -> Option<u16>
     ensures some { IfSome result (λ value.
         HasNumber (one_of option.now (rows_of (found_of options.now))) (Some value)) }
     ensures none { result ≡ None → (value : ℕ) → value < 2 ^ 16

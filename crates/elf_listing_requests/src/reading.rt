@@ -27,7 +27,7 @@ pub(crate) static MEMBER_PARTS: [&str; 9] = [
 /// # Errors
 /// `Words` for words that the command line refuses, or that ask for help; `Memory` where there is none for
 /// reading them.
-pub fn matches_of<'a, S: AsStr>(
+pub fn parse_arguments<'a, S: AsStr>(
     alloc: Global,
     words: &'a [S],
 ) -> Result<ArgMatches<'a>, RequestFault>

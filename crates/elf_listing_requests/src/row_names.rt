@@ -5,18 +5,18 @@ ghost use Rattle.std.specs.Prelude.{bytes_eq};
 ghost use Rattle.clap.specs.Walk.{all_of, rows_of};
 ghost use Rattle.clap.specs.Words.{found_of};
 ghost use Rattle.elf_model.specs.Text.{name_of};
-ghost use Rattle.elf_listing_requests.specs.RowNames.{AreChosenParts, asks_names, chosen_part_names};
+ghost use Rattle.elf_listing_requests.specs.RowNames.{AreChosenParts, has_name_option, chosen_part_names};
 ghost use Rattle.elf_listing_requests.specs.RowNames.{is_given, is_of_words};
 ghost use Rattle.elf_record.specs.declared.parts.Parts.{Parts};
 
-use crate::options::{asks_gnu, text_of};
+use crate::options::{has_gnu_option, text_of};
 use clap::ArgMatches;
 use clap::parser::ValueSource;
 use elf_record::Parts;
 
 /// Whether the rows of some names alone are asked for.
-pub fn asks_names(options: &ArgMatches<'_>) -> bool
-    ensures { result ≡ asks_names (rows_of (found_of options.now)) }
+pub fn has_name_option(options: &ArgMatches<'_>) -> bool
+    ensures { result ≡ has_name_option (rows_of (found_of options.now)) }
 {
     has_values(options, "name") || has_values(options, "name-list")
 }
@@ -57,7 +57,7 @@ pub fn chosen_parts_of(options: &ArgMatches<'_>) -> Option<Parts>
     if is_given(options, "names") {
         return None;
     }
-    let gnu = asks_gnu(options);
+    let gnu = has_gnu_option(options);
     match text_of(options, "only") {
         Some(name) => chosen_part_named(name, gnu),
         None => Some(Parts::SYMBOLS),

@@ -2,9 +2,9 @@
 use Rattle.std.proofs.Common.{◌≡◌, ℕ, suc, ◌+◌, ◌%◌, ◌^◌, ◌≤◌, ◌==◌, ◌||◌, nat_lt, length, Bool, true, false, List, ◌∷◌, Result, Ok, Err, Some, refl, sym, ap, ◌∙◌, arith}
 use Rattle.std.proofs.lemmas.Bool.Decides.{nat_tests}
 use Rattle.std.specs.List.{position_or_len}
-use Rattle.elf_model.specs.Loader.{Compared, RecordReading, Meets, Refuses, Misses, compared_with, is_among, one_more, with_number}
+use Rattle.elf_model.specs.Loader.{Compared, VersionRecordRead, Meets, Refuses, Misses, compared_with, is_among, one_more, with_number}
 use Rattle.elf_model.specs.Names.{same}
-use Rattle.elf_model.specs.Versions.{Met, name_index, named_at, names_version, number_in, number_word}
+use Rattle.elf_model.specs.Versions.{VisitedRecord, name_index, named_at, names_version, number_in, number_word}
 use Rattle.elf_model.specs.declared.causes.Cause.{Cause}
 use Rattle.elf_model.specs.declared.causes.Refusal.{Refusal}
 use Rattle.elf_model.proofs.ReadingLaws.{compared-fault, compared-is, compared-none}
@@ -13,7 +13,7 @@ use Rattle.elf_headers.specs.declared.fault.Fault.TheVariants.{Refused, Source}
 use Rattle.elf_table.specs.NamesRead.{Refuses as RefusesName}
 use Rattle.elf_versions.specs.Reading.{IsVersion}
 use Rattle.elf_versions.specs.declared.record.VersionRecord.{VersionRecord}
-use Rattle.elf_loader.specs.Comparing.{ComparedAs, ComparesOne}
+use Rattle.elf_loader.specs.Comparing.{CompareProgress, ComparesOne}
 use Rattle.elf_loader.specs.NumberSets.{has_number}
 
 -- a number is one of some with another in front
@@ -30,7 +30,7 @@ among-more n number numbers = go (number == n) refl (nat_lt (position_or_len (λ
 
 -- a record that is met is read, whatever it holds
 pub compared-reads :
-    (file wanted strings : List ℕ) (met : Met) (others : List RecordReading) → 1 ≤ (compared_with file wanted (Meets strings met ∷ others)).read
+    (file wanted strings : List ℕ) (met : VisitedRecord) (others : List VersionRecordRead) → 1 ≤ (compared_with file wanted (Meets strings met ∷ others)).read
 compared-reads file wanted strings met others = go (names_version file met) refl (same strings (name_index file met) wanted) refl
   where
     go : (n : Bool) → names_version file met ≡ n → (e : Result Bool Cause) → same strings (name_index file met) wanted ≡ e
@@ -40,26 +40,26 @@ compared-reads file wanted strings met others = go (names_version file met) refl
     go true n (Ok b) is = let c = compared-is file wanted strings met others b n is in rw c (omega arith)
 
 -- so is one that is refused
-pub refused-reads : (file wanted : List ℕ) (refusal : Refusal) (others : List RecordReading) → 1 ≤ (compared_with file wanted (Refuses refusal ∷ others)).read
+pub refused-reads : (file wanted : List ℕ) (refusal : Refusal) (others : List VersionRecordRead) → 1 ≤ (compared_with file wanted (Refuses refusal ∷ others)).read
 unfolding compared_with
 refused-reads file wanted refusal others = omega arith
 
-pub refused-refuses : (file wanted : List ℕ) (refusal : Refusal) (others : List RecordReading) → (compared_with file wanted (Refuses refusal ∷ others)).refused ≡ Some refusal
+pub refused-refuses : (file wanted : List ℕ) (refusal : Refusal) (others : List VersionRecordRead) → (compared_with file wanted (Refuses refusal ∷ others)).refused ≡ Some refusal
 unfolding compared_with
 refused-refuses file wanted refusal others = refl
 
-pub missed-refuses : (file wanted : List ℕ) (refusal : Refusal) (others : List RecordReading) → (compared_with file wanted (Misses refusal ∷ others)).refused ≡ Some refusal
+pub missed-refuses : (file wanted : List ℕ) (refusal : Refusal) (others : List VersionRecordRead) → (compared_with file wanted (Misses refusal ∷ others)).refused ≡ Some refusal
 unfolding compared_with
 missed-refuses file wanted refusal others = refl
 
 -- nothing is done yet
-pub as-none : (set : List ℕ) (all : Compared) → ComparedAs set set 0 all all
+pub as-none : (set : List ℕ) (all : Compared) → CompareProgress set set 0 all all
 as-none set all = record { numbers = λ number. refl; refused = refl; read = omega arith }
 
 -- what is done, and then more
 pub as-then :
-    (a b c : List ℕ) (n m k : ℕ) (all mid left : Compared) → n + m ≡ k → ComparedAs a b n all mid → ComparedAs b c m mid left
-    → ComparedAs a c k all left
+    (a b c : List ℕ) (n m k : ℕ) (all mid left : Compared) → n + m ≡ k → CompareProgress a b n all mid → CompareProgress b c m mid left
+    → CompareProgress a c k all left
 as-then a b c n m k all mid left sum p q = record {
   numbers = λ number. p.numbers number ∙ q.numbers number;
   refused = p.refused ∙ q.refused;
@@ -67,13 +67,13 @@ as-then a b c n m k all mid left sum p q = record {
 }
 
 -- a record without the wanted name
-pub as-other : (set : List ℕ) (number : ℕ) (all left : Compared) → all ≡ one_more (with_number false number left) → ComparedAs set set 1 all left
+pub as-other : (set : List ℕ) (number : ℕ) (all left : Compared) → all ≡ one_more (with_number false number left) → CompareProgress set set 1 all left
 as-other set number all left is = rw is (record { numbers = λ n. refl; refused = refl; read = omega arith })
 
 -- one with it
 pub as-wanted :
     (old new : List ℕ) (number : ℕ) (all left : Compared) → all ≡ one_more (with_number true number left)
-    → ((n : ℕ) → has_number new n ≡ (number == n || has_number old n)) → ComparedAs old new 1 all left
+    → ((n : ℕ) → has_number new n ≡ (number == n || has_number old n)) → CompareProgress old new 1 all left
 as-wanted old new number all left is more =
     rw is (record { numbers = λ n. let m = more n in let a = among-more n number left.numbers in rw (m, a) (swap (has_number old n) (number == n) (is_among n left.numbers)); refused = refl; read = omega arith })
   where
@@ -85,28 +85,28 @@ as-wanted old new number all left is more =
 
 -- a record as it is given: it names no version, another or the wanted one, or its name has a fault
 pub one-none :
-    (file wanted strings : List ℕ) (met : Met) (others : List RecordReading) (set : List ℕ) → names_version file met ≡ false
-    → ComparedAs set set 1 (compared_with file wanted (Meets strings met ∷ others)) (compared_with file wanted others)
+    (file wanted strings : List ℕ) (met : VisitedRecord) (others : List VersionRecordRead) (set : List ℕ) → names_version file met ≡ false
+    → CompareProgress set set 1 (compared_with file wanted (Meets strings met ∷ others)) (compared_with file wanted others)
 one-none file wanted strings met others set n = as-other set 0 _ _ (compared-none file wanted strings met others n)
 
 pub one-other :
-    (file wanted strings : List ℕ) (met : Met) (others : List RecordReading) (set : List ℕ) (given : VersionRecord) → IsVersion file met given
+    (file wanted strings : List ℕ) (met : VisitedRecord) (others : List VersionRecordRead) (set : List ℕ) (given : VersionRecord) → IsVersion file met given
     → names_version file met ≡ true → same strings given.name wanted ≡ Ok false
-    → ComparedAs set set 1 (compared_with file wanted (Meets strings met ∷ others)) (compared_with file wanted others)
+    → CompareProgress set set 1 (compared_with file wanted (Meets strings met ∷ others)) (compared_with file wanted others)
 one-other file wanted strings met others set given is n e =
     as-other set (number_in (number_word file met)) _ _ (compared-is file wanted strings met others false n (ap (λ (off : ℕ). same strings off wanted) (sym is.name) ∙ e))
 
 pub one-wanted :
-    (file wanted strings : List ℕ) (met : Met) (others : List RecordReading) (old new : List ℕ) (given : VersionRecord) → IsVersion file met given
+    (file wanted strings : List ℕ) (met : VisitedRecord) (others : List VersionRecordRead) (old new : List ℕ) (given : VersionRecord) → IsVersion file met given
     → names_version file met ≡ true → same strings given.name wanted ≡ Ok true
     → ((n : ℕ) → has_number new n ≡ (given.number % 2 ^ 15 == n || has_number old n))
-    → ComparedAs old new 1 (compared_with file wanted (Meets strings met ∷ others)) (compared_with file wanted others)
+    → CompareProgress old new 1 (compared_with file wanted (Meets strings met ∷ others)) (compared_with file wanted others)
 one-wanted file wanted strings met others old new given is n e more =
     as-wanted old new (number_in (number_word file met)) _ _ (compared-is file wanted strings met others true n (ap (λ (off : ℕ). same strings off wanted) (sym is.name) ∙ e))
     (rw is.number at more)
 
 pub one-fault :
-    (file wanted strings : List ℕ) (met : Met) (others : List RecordReading) (old new : List ℕ) (given : VersionRecord) (fault : Fault) → IsVersion file met given
+    (file wanted strings : List ℕ) (met : VisitedRecord) (others : List VersionRecordRead) (old new : List ℕ) (given : VersionRecord) (fault : Fault) → IsVersion file met given
     → names_version file met ≡ true → RefusesName given.named_at fault (same strings given.name wanted)
     → ComparesOne old new (compared_with file wanted (Meets strings met ∷ others)) (compared_with file wanted others) (Err fault)
 one-fault file wanted strings met others old new given (Refused refusal) is n e = (

@@ -2,83 +2,83 @@
 use Rattle.std.proofs.Common.{◌≡◌, ℕ, ◌+◌, ◌*◌, ◌<◌, ◌≤◌, subst, nat_lt, true, false, is_some, List, [], Option, None, Some, Result, Ok, Err, refl, sym, ap, ◌∙◌, arith}
 use Rattle.std.proofs.lemmas.Bool.Decides.{nat_tests}
 use Rattle.elf_model.specs.Bytes.{field}
-use Rattle.elf_model.specs.Chains.{Walked}
+use Rattle.elf_model.specs.Chains.{ChainResult}
 use Rattle.elf_model.specs.Cost.{cost_where}
-use Rattle.elf_model.specs.Loader.{Asked, Naming, VersionWords, asked_name, naming_of, readings, version_word_at}
-use Rattle.elf_model.specs.LoaderFind.{LoaderLookup, TOLD_BYTES, found_in, found_lookup, told_by}
-use Rattle.elf_model.specs.LoaderScope.{Scope}
-use Rattle.elf_model.specs.Names.{Shown, shown}
-use Rattle.elf_model.specs.Names.Shown.{Whole}
+use Rattle.elf_model.specs.Loader.{Asked, NumberNameSource, VersionWords, asked_name, naming_of, readings, versym_at}
+use Rattle.elf_model.specs.LoaderFind.{LoaderLookup, TOLD_BYTES, found_in, found_lookup, named_by_record}
+use Rattle.elf_model.specs.LoaderScope.{LookupTables}
+use Rattle.elf_model.specs.Names.{DisplayedName, shown}
+use Rattle.elf_model.specs.Names.DisplayedName.{Whole}
 use Rattle.elf_model.specs.Records.{versym}
-use Rattle.elf_model.specs.Versions.{Met, name_index, number_in}
+use Rattle.elf_model.specs.Versions.{VisitedRecord, name_index, number_in}
 use Rattle.elf_model.specs.declared.causes.Cause.{Cause}
 use Rattle.elf_model.specs.declared.causes.Refusal.{Refusal}
-use Rattle.elf_source.specs.Source.{Counting}
-use Rattle.elf_headers.specs.Ledger.{Charges}
+use Rattle.elf_source.specs.Source.{CountedState}
+use Rattle.elf_headers.specs.Ledger.{CallReads}
 use Rattle.elf_headers.specs.declared.fault.Fault.{Fault}
 use Rattle.elf_headers.specs.declared.fault.Fault.TheVariants.{Refused, Source}
-use Rattle.elf_headers.proofs.LedgerLaws.{Charges-more, Charges-none}
-use Rattle.elf_lookup_tables.specs.Symbols.{AreWords, IsWords}
+use Rattle.elf_headers.proofs.LedgerLaws.{CallReads-more, CallReads-none}
+use Rattle.elf_lookup_tables.specs.Symbols.{AreVersymTable, IsVersymTable}
 use Rattle.elf_lookup_tables.specs.declared.symbols.VersionWords.{VersionWords as Words}
 use Rattle.elf_table.specs.Cursors.{row_at}
-use Rattle.elf_loader.specs.Finding.{FindsVersion, IsVersionFound, LookupSpends, StandsTold, name_shown}
-use Rattle.elf_loader.specs.Telling.{TellsVersionName, told_bytes}
+use Rattle.elf_loader.specs.Finding.{FindsVersion, IsVersionFound, LookupSpends, IsRelocationReported, name_shown}
+use Rattle.elf_loader.specs.Telling.{ReturnsVersionName, parsed_member_bytes}
 use Rattle.elf_loader.specs.declared.found.FoundVersion.{FoundVersion}
-use Rattle.elf_loader.specs.declared.telling.ToldName.{ToldName}
+use Rattle.elf_loader.specs.declared.telling.ResolvedVersionName.{ResolvedVersionName}
 use Rattle.elf_loader.specs.declared.found.VersionName.{VersionName}
 use Rattle.elf_loader.specs.declared.found.VersionName.TheVariants.{Wanted, Unnamed, Told}
 
 -- where a version is wanted, it is told as it is wanted
 pub in-wanted :
-    (file : List ℕ) (scope : Scope) (asked : Asked) (records y : ℕ) (walked : Walked) (words : VersionWords) (version : List ℕ) → asked_name asked ≡ Some version
+    (file : List ℕ) (scope : LookupTables) (asked : Asked) (records y : ℕ) (walked : ChainResult) (words : VersionWords) (version : List ℕ) → asked_name asked ≡ Some version
     → found_in file scope asked records y walked (Some words)
-    ≡ found_lookup scope y walked records false (Some (record { index = words.index; word = versym file (version_word_at words y); name = Whole version }))
+    ≡ found_lookup scope y walked records false (Some (record { index = words.index; word = versym file (versym_at words y); name = Whole version }))
 unfolding found_in
 in-wanted file scope asked records y walked words version n = rw (n, found_in) refl
 
 -- where its number is 0 or 1, it has no name
 pub in-unnamed :
-    (file : List ℕ) (scope : Scope) (asked : Asked) (records y : ℕ) (walked : Walked) (words : VersionWords) → asked_name asked ≡ None
-    → nat_lt (number_in (versym file (version_word_at words y))) 2 ≡ true
+    (file : List ℕ) (scope : LookupTables) (asked : Asked) (records y : ℕ) (walked : ChainResult) (words : VersionWords) → asked_name asked ≡ None
+    → nat_lt (number_in (versym file (versym_at words y))) 2 ≡ true
     → found_in file scope asked records y walked (Some words)
-    ≡ found_lookup scope y walked records false (Some (record { index = words.index; word = versym file (version_word_at words y); name = Whole [] }))
+    ≡ found_lookup scope y walked records false (Some (record { index = words.index; word = versym file (versym_at words y); name = Whole [] }))
 unfolding found_in
 in-unnamed file scope asked records y walked words n low = rw (n, low, found_in) refl
 
 -- else it is that of its number
 pub in-told :
-    (file : List ℕ) (scope : Scope) (asked : Asked) (records y : ℕ) (walked : Walked) (words : VersionWords) → asked_name asked ≡ None
-    → nat_lt (number_in (versym file (version_word_at words y))) 2 ≡ false
+    (file : List ℕ) (scope : LookupTables) (asked : Asked) (records y : ℕ) (walked : ChainResult) (words : VersionWords) → asked_name asked ≡ None
+    → nat_lt (number_in (versym file (versym_at words y))) 2 ≡ false
     → found_in file scope asked records y walked (Some words)
-    ≡ told_by file scope words y walked (naming_of file (number_in (versym file (version_word_at words y))) (readings file scope.symbols.records))
+    ≡ named_by_record file scope words y walked (naming_of file (number_in (versym file (versym_at words y))) (readings file scope.symbols.records))
 unfolding found_in
 in-told file scope asked records y walked words n high = rw (n, high, found_in) refl
 
 -- what telling it reads, whatever it answers
-pub told-spends : (file : List ℕ) (scope : Scope) (words : VersionWords) (y : ℕ) (walked : Walked) (naming : Naming) → LookupSpends (told_by file scope words y walked naming) walked naming.read (is_some naming.found)
-unfolding told_by
+pub told-spends : (file : List ℕ) (scope : LookupTables) (words : VersionWords) (y : ℕ) (walked : ChainResult) (naming : NumberNameSource) → LookupSpends (named_by_record file scope words y walked naming) walked naming.read (is_some naming.found)
+unfolding named_by_record
 told-spends file scope words y walked naming = go naming.found refl naming.refused refl
   where
-    read : (found : List ℕ × Met) → naming.found ≡ Some found → (name : Result Shown Cause) → shown found.0 (name_index file found.1) TOLD_BYTES ≡ name → LookupSpends (told_by file scope words y walked naming) walked naming.read (is_some naming.found)
-    read found f (Ok name) n = rw (f, told_by) (rw (n, told_by) (record { tried = refl; chain_words = refl; records = refl; is_named = refl }))
-    read found f (Err cause) n = rw (f, told_by) (rw (n, told_by) (record { tried = refl; chain_words = refl; records = refl; is_named = refl }))
+    read : (found : List ℕ × VisitedRecord) → naming.found ≡ Some found → (name : Result DisplayedName Cause) → shown found.0 (name_index file found.1) TOLD_BYTES ≡ name → LookupSpends (named_by_record file scope words y walked naming) walked naming.read (is_some naming.found)
+    read found f (Ok name) n = rw (f, named_by_record) (rw (n, named_by_record) (record { tried = refl; chain_words = refl; records = refl; is_named = refl }))
+    read found f (Err cause) n = rw (f, named_by_record) (rw (n, named_by_record) (record { tried = refl; chain_words = refl; records = refl; is_named = refl }))
 
-    go : (found : Option (List ℕ × Met)) → naming.found ≡ found → (refused : Option Refusal) → naming.refused ≡ refused → LookupSpends (told_by file scope words y walked naming) walked naming.read (is_some naming.found)
+    go : (found : Option (List ℕ × VisitedRecord)) → naming.found ≡ found → (refused : Option Refusal) → naming.refused ≡ refused → LookupSpends (named_by_record file scope words y walked naming) walked naming.read (is_some naming.found)
     go (Some found) f refused r = read found f (shown found.0 (name_index file found.1) TOLD_BYTES) refl
-    go None f None r = rw (f, r, told_by) (record { tried = refl; chain_words = refl; records = refl; is_named = refl })
-    go None f (Some refusal) r = rw (f, r, told_by) (record { tried = refl; chain_words = refl; records = refl; is_named = refl })
+    go None f None r = rw (f, r, named_by_record) (record { tried = refl; chain_words = refl; records = refl; is_named = refl })
+    go None f (Some refusal) r = rw (f, r, named_by_record) (record { tried = refl; chain_words = refl; records = refl; is_named = refl })
 
 -- the version of a symbol that is found is told without a read
 finds-here :
-    (file : List ℕ) (scope : Scope) (asked : Asked) (words : VersionWords) (y word : ℕ) (told : List ℕ) (c : Counting) (code : Words) (named : VersionName)
-    → IsWords words code → word ≡ versym file (version_word_at words y) → StandsTold file told 0 named → Charges c c None 0
-    → ((before : ℕ) (walked : Walked) → found_in file scope asked before y walked (Some words)
-    ≡ found_lookup scope y walked before false (Some (record { index = words.index; word = versym file (version_word_at words y); name = name_shown (asked_name asked) told named })))
+    (file : List ℕ) (scope : LookupTables) (asked : Asked) (words : VersionWords) (y word : ℕ) (told : List ℕ) (c : CountedState) (code : Words) (named : VersionName)
+    → IsVersymTable words code → word ≡ versym file (versym_at words y) → IsRelocationReported file told 0 named → CallReads c c None 0
+    → ((before : ℕ) (walked : ChainResult) → found_in file scope asked before y walked (Some words)
+    ≡ found_lookup scope y walked before false (Some (record { index = words.index; word = versym file (versym_at words y); name = name_shown (asked_name asked) told named })))
     → FindsVersion Some file scope asked (Some words) y c c told (Ok (record { index = code.index; word = word; name = named; name_at = 0 }))
 finds-here file scope asked words y word told c code named is here stands none in_is = record {
   records = 0;
   is_named = false;
-  costs = Charges-more _ (omega arith) none;
+  costs = CallReads-more _ (omega arith) none;
   spends = λ walked before first.
       let e = in_is before walked in
       rw e (record { tried = refl; chain_words = refl; records = omega arith; is_named = refl });
@@ -91,19 +91,19 @@ finds-here file scope asked words y word told c code named is here stands none i
 
 -- under the wanted name
 pub finds-wanted :
-    (file : List ℕ) (scope : Scope) (asked : Asked) (words : VersionWords) (y word : ℕ) (version told : List ℕ) (c : Counting) (code : Words)
-    → asked_name asked ≡ Some version → IsWords words code → word ≡ versym file (version_word_at words y) → Charges c c None 0
+    (file : List ℕ) (scope : LookupTables) (asked : Asked) (words : VersionWords) (y word : ℕ) (version told : List ℕ) (c : CountedState) (code : Words)
+    → asked_name asked ≡ Some version → IsVersymTable words code → word ≡ versym file (versym_at words y) → CallReads c c None 0
     → FindsVersion Some file scope asked (Some words) y c c told (Ok (record { index = code.index; word = word; name = Wanted; name_at = 0 }))
 finds-wanted file scope asked words y word version told c code n is here none =
     finds-here file scope asked words y word told c code Wanted is here refl none (λ before walked. rw n (in-wanted file scope asked before y walked words version n))
 
 -- without a name
 pub finds-unnamed :
-    (file : List ℕ) (scope : Scope) (asked : Asked) (words : VersionWords) (y word : ℕ) (told : List ℕ) (c : Counting) (code : Words)
-    → asked_name asked ≡ None → IsWords words code → word ≡ versym file (version_word_at words y) → number_in word < 2 → Charges c c None 0
+    (file : List ℕ) (scope : LookupTables) (asked : Asked) (words : VersionWords) (y word : ℕ) (told : List ℕ) (c : CountedState) (code : Words)
+    → asked_name asked ≡ None → IsVersymTable words code → word ≡ versym file (versym_at words y) → number_in word < 2 → CallReads c c None 0
     → FindsVersion Some file scope asked (Some words) y c c told (Ok (record { index = code.index; word = word; name = Unnamed; name_at = 0 }))
 finds-unnamed file scope asked words y word told c code n is here low none =
-    let small : nat_lt (number_in (versym file (version_word_at words y))) 2 ≡ true = subst (λ (w : ℕ). nat_lt (number_in w) 2 ≡ true) here (below (number_in word) low) in
+    let small : nat_lt (number_in (versym file (versym_at words y))) 2 ≡ true = subst (λ (w : ℕ). nat_lt (number_in w) 2 ≡ true) here (below (number_in word) low) in
     finds-here file scope asked words y word told c code Unnamed is here refl none (λ before walked. in-unnamed file scope asked before y walked words n small)
   where
     below : (number : ℕ) → number < 2 → nat_lt number 2 ≡ true
@@ -114,15 +114,15 @@ above : (number : ℕ) → 2 ≤ number → nat_lt number 2 ≡ false
 above number high = grind (arith, nat_tests)
 
 finds-told :
-    (file : List ℕ) (scope : Scope) (asked : Asked) (words : VersionWords) (y word : ℕ) (told : List ℕ) (a b : Counting) (code : Words) (name : ToldName)
-    → asked_name asked ≡ None → IsWords words code → word ≡ versym file (version_word_at words y) → 2 ≤ number_in word
-    → TellsVersionName file scope words y (naming_of file (number_in word) (readings file scope.symbols.records)) a b told (Ok name)
+    (file : List ℕ) (scope : LookupTables) (asked : Asked) (words : VersionWords) (y word : ℕ) (told : List ℕ) (a b : CountedState) (code : Words) (name : ResolvedVersionName)
+    → asked_name asked ≡ None → IsVersymTable words code → word ≡ versym file (versym_at words y) → 2 ≤ number_in word
+    → ReturnsVersionName file scope words y (naming_of file (number_in word) (readings file scope.symbols.records)) a b told (Ok name)
     → FindsVersion Some file scope asked (Some words) y a b told (Ok (record { index = code.index; word = word; name = Told name.end; name_at = name.at }))
 finds-told file scope asked words y word told a b code name n is here high tells =
     let naming = naming_of file (number_in word) (readings file scope.symbols.records) in
-    let large : nat_lt (number_in (versym file (version_word_at words y))) 2 ≡ false = subst (λ (w : ℕ). nat_lt (number_in w) 2 ≡ false) here (above (number_in word) high) in
-    let in_told : (before : ℕ) (walked : Walked) → found_in file scope asked before y walked (Some words) ≡ told_by file scope words y walked naming =
-    λ before walked. in-told file scope asked before y walked words n large ∙ ap (λ (w : ℕ). told_by file scope words y walked (naming_of file (number_in w) (readings file scope.symbols.records))) (sym here) in
+    let large : nat_lt (number_in (versym file (versym_at words y))) 2 ≡ false = subst (λ (w : ℕ). nat_lt (number_in w) 2 ≡ false) here (above (number_in word) high) in
+    let in_told : (before : ℕ) (walked : ChainResult) → found_in file scope asked before y walked (Some words) ≡ named_by_record file scope words y walked naming =
+    λ before walked. in-told file scope asked before y walked words n large ∙ ap (λ (w : ℕ). named_by_record file scope words y walked (naming_of file (number_in w) (readings file scope.symbols.records))) (sym here) in
     record {
       records = naming.read;
       is_named = true;
@@ -140,15 +140,15 @@ finds-told file scope asked words y word told a b code name n is here high tells
 
 -- or it is not told
 finds-fault :
-    (file : List ℕ) (scope : Scope) (asked : Asked) (words : VersionWords) (y word : ℕ) (told : List ℕ) (a b : Counting) (fault : Fault)
-    → asked_name asked ≡ None → word ≡ versym file (version_word_at words y) → 2 ≤ number_in word
-    → TellsVersionName file scope words y (naming_of file (number_in word) (readings file scope.symbols.records)) a b told (Err fault)
+    (file : List ℕ) (scope : LookupTables) (asked : Asked) (words : VersionWords) (y word : ℕ) (told : List ℕ) (a b : CountedState) (fault : Fault)
+    → asked_name asked ≡ None → word ≡ versym file (versym_at words y) → 2 ≤ number_in word
+    → ReturnsVersionName file scope words y (naming_of file (number_in word) (readings file scope.symbols.records)) a b told (Err fault)
     → FindsVersion Some file scope asked (Some words) y a b told (Err fault)
 finds-fault file scope asked words y word told a b fault n here high tells =
     let naming = naming_of file (number_in word) (readings file scope.symbols.records) in
-    let large : nat_lt (number_in (versym file (version_word_at words y))) 2 ≡ false = subst (λ (w : ℕ). nat_lt (number_in w) 2 ≡ false) here (above (number_in word) high) in
-    let in_told : (before : ℕ) (walked : Walked) → found_in file scope asked before y walked (Some words) ≡ told_by file scope words y walked naming =
-    λ before walked. in-told file scope asked before y walked words n large ∙ ap (λ (w : ℕ). told_by file scope words y walked (naming_of file (number_in w) (readings file scope.symbols.records))) (sym here) in
+    let large : nat_lt (number_in (versym file (versym_at words y))) 2 ≡ false = subst (λ (w : ℕ). nat_lt (number_in w) 2 ≡ false) here (above (number_in word) high) in
+    let in_told : (before : ℕ) (walked : ChainResult) → found_in file scope asked before y walked (Some words) ≡ named_by_record file scope words y walked naming =
+    λ before walked. in-told file scope asked before y walked words n large ∙ ap (λ (w : ℕ). named_by_record file scope words y walked (naming_of file (number_in w) (readings file scope.symbols.records))) (sym here) in
     record {
       records = naming.read;
       is_named = is_some naming.found;
@@ -162,71 +162,71 @@ finds-fault file scope asked words y word told a b fault n here high tells =
       stands = tt;
     }
   where
-    naming : Naming
+    naming : NumberNameSource
     naming = naming_of file (number_in word) (readings file scope.symbols.records)
 
-    paid : (fault : Fault) → TellsVersionName file scope words y naming a b told (Err fault) → Charges a b (Some fault) (naming.read * 28 + cost_where (is_some naming.found) told_bytes)
+    paid : (fault : Fault) → ReturnsVersionName file scope words y naming a b told (Err fault) → CallReads a b (Some fault) (naming.read * 28 + cost_where (is_some naming.found) parsed_member_bytes)
     paid (Refused refusal) t = t.0
     paid (Source fault at) t = t
 
-    refused : (fault : Fault) → TellsVersionName file scope words y naming a b told (Err fault) → (walked : Walked) (lookup : LoaderLookup) → lookup ≡ told_by file scope words y walked naming
+    refused : (fault : Fault) → ReturnsVersionName file scope words y naming a b told (Err fault) → (walked : ChainResult) (lookup : LoaderLookup) → lookup ≡ named_by_record file scope words y walked naming
         → IsVersionFound Some scope asked y told walked lookup (Err fault)
     refused (Refused refusal) t walked lookup e = λ other. let told_so = e ∙ t.1 other walked in rw told_so refl
     refused (Source fault at) t walked lookup e = tt
 
 -- the same of a number that is the one in the word
 pub finds-told-by :
-    (file : List ℕ) (scope : Scope) (asked : Asked) (words : VersionWords) (y word number : ℕ) (told : List ℕ) (a b : Counting) (code : Words) (name : ToldName)
-    → number ≡ number_in word → asked_name asked ≡ None → IsWords words code → word ≡ versym file (version_word_at words y) → 2 ≤ number
-    → TellsVersionName file scope words y (naming_of file number (readings file scope.symbols.records)) a b told (Ok name)
+    (file : List ℕ) (scope : LookupTables) (asked : Asked) (words : VersionWords) (y word number : ℕ) (told : List ℕ) (a b : CountedState) (code : Words) (name : ResolvedVersionName)
+    → number ≡ number_in word → asked_name asked ≡ None → IsVersymTable words code → word ≡ versym file (versym_at words y) → 2 ≤ number
+    → ReturnsVersionName file scope words y (naming_of file number (readings file scope.symbols.records)) a b told (Ok name)
     → FindsVersion Some file scope asked (Some words) y a b told (Ok (record { index = code.index; word = word; name = Told name.end; name_at = name.at }))
 finds-told-by file scope asked words y word number told a b code name e n is here high tells =
     finds-told file scope asked words y word told a b code name n is here (subst (λ (m : ℕ). 2 ≤ m) e high)
-    (subst (λ (m : ℕ). TellsVersionName file scope words y (naming_of file m (readings file scope.symbols.records)) a b told (Ok name)) e tells)
+    (subst (λ (m : ℕ). ReturnsVersionName file scope words y (naming_of file m (readings file scope.symbols.records)) a b told (Ok name)) e tells)
 
 pub finds-fault-by :
-    (file : List ℕ) (scope : Scope) (asked : Asked) (words : VersionWords) (y word number : ℕ) (told : List ℕ) (a b : Counting) (fault : Fault)
-    → number ≡ number_in word → asked_name asked ≡ None → word ≡ versym file (version_word_at words y) → 2 ≤ number
-    → TellsVersionName file scope words y (naming_of file number (readings file scope.symbols.records)) a b told (Err fault)
+    (file : List ℕ) (scope : LookupTables) (asked : Asked) (words : VersionWords) (y word number : ℕ) (told : List ℕ) (a b : CountedState) (fault : Fault)
+    → number ≡ number_in word → asked_name asked ≡ None → word ≡ versym file (versym_at words y) → 2 ≤ number
+    → ReturnsVersionName file scope words y (naming_of file number (readings file scope.symbols.records)) a b told (Err fault)
     → FindsVersion Some file scope asked (Some words) y a b told (Err fault)
 finds-fault-by file scope asked words y word number told a b fault e n here high tells =
     finds-fault file scope asked words y word told a b fault n here (subst (λ (m : ℕ). 2 ≤ m) e high)
-    (subst (λ (m : ℕ). TellsVersionName file scope words y (naming_of file m (readings file scope.symbols.records)) a b told (Err fault)) e tells)
+    (subst (λ (m : ℕ). ReturnsVersionName file scope words y (naming_of file m (readings file scope.symbols.records)) a b told (Err fault)) e tells)
 
 -- where a word stands
-pub word-at : (told : VersionWords) (code : Words) (y : ℕ) → IsWords told code → code.words.entry ≡ 2 → row_at code.words y ≡ version_word_at told y
+pub word-at : (told : VersionWords) (code : Words) (y : ℕ) → IsVersymTable told code → code.words.entry ≡ 2 → row_at code.words y ≡ versym_at told y
 word-at told code y is entry = rw (entry, is.place) (omega arith)
 
-pub word-is : (file : List ℕ) (told : VersionWords) (code : Words) (y word : ℕ) → IsWords told code → code.words.entry ≡ 2 → word ≡ field file (row_at code.words y) 2
-    → word ≡ versym file (version_word_at told y)
+pub word-is : (file : List ℕ) (told : VersionWords) (code : Words) (y word : ℕ) → IsVersymTable told code → code.words.entry ≡ 2 → word ≡ field file (row_at code.words y) 2
+    → word ≡ versym file (versym_at told y)
 word-is file told code y word is entry stands = stands ∙ ap (λ (at : ℕ). field file at 2) (word-at told code y is entry)
 
 -- the same where there may be no versions
-pub finds-none : (file : List ℕ) (scope : Scope) (asked : Asked) (y : ℕ) (told : List ℕ) (c : Counting) → AreWords scope.symbols.words None → FindsVersion (λ (version : Option FoundVersion). version) file scope asked scope.symbols.words y c c told (Ok None)
+pub finds-none : (file : List ℕ) (scope : LookupTables) (asked : Asked) (y : ℕ) (told : List ℕ) (c : CountedState) → AreVersymTable scope.symbols.words None → FindsVersion (λ (version : Option FoundVersion). version) file scope asked scope.symbols.words y c c told (Ok None)
 unfolding found_in
 finds-none file scope asked y told c are = go scope.symbols.words refl are
   where
-    go : (words : Option VersionWords) → scope.symbols.words ≡ words → AreWords words None → FindsVersion (λ (version : Option FoundVersion). version) file scope asked scope.symbols.words y c c told (Ok None)
+    go : (words : Option VersionWords) → scope.symbols.words ≡ words → AreVersymTable words None → FindsVersion (λ (version : Option FoundVersion). version) file scope asked scope.symbols.words y c c told (Ok None)
     go None e none = record {
       records = 0;
       is_named = false;
-      costs = Charges-more _ (omega arith) (Charges-none c);
+      costs = CallReads-more _ (omega arith) (CallReads-none c);
       spends = λ walked before first. rw e (record { tried = refl; chain_words = refl; records = omega arith; is_named = refl });
       finds = λ walked before first. rw e refl;
       stands = tt;
     }
     go (Some words) e none = absurd none
 
-with-words : (file : List ℕ) (scope : Scope) (asked : Asked) (y : ℕ) {words : VersionWords} → scope.symbols.words ≡ Some words → (before : ℕ) (walked : Walked)
+with-words : (file : List ℕ) (scope : LookupTables) (asked : Asked) (y : ℕ) {words : VersionWords} → scope.symbols.words ≡ Some words → (before : ℕ) (walked : ChainResult)
     → found_in file scope asked before y walked scope.symbols.words ≡ found_in file scope asked before y walked (Some words)
 with-words file scope asked y e before walked = ap (found_in file scope asked before y walked) e
 
-module _ {a b : Counting} (file : List ℕ) (scope : Scope) (asked : Asked) (y : ℕ) (told : List ℕ) (code : Words) (are : AreWords scope.symbols.words (Some code)) where
-  pub finds-some : (version : FoundVersion) → ((words : VersionWords) → IsWords words code → FindsVersion Some file scope asked (Some words) y a b told (Ok version))
+module _ {a b : CountedState} (file : List ℕ) (scope : LookupTables) (asked : Asked) (y : ℕ) (told : List ℕ) (code : Words) (are : AreVersymTable scope.symbols.words (Some code)) where
+  pub finds-some : (version : FoundVersion) → ((words : VersionWords) → IsVersymTable words code → FindsVersion Some file scope asked (Some words) y a b told (Ok version))
       → FindsVersion (λ (version : Option FoundVersion). version) file scope asked scope.symbols.words y a b told (Ok (Some version))
   finds-some version finds = go scope.symbols.words refl are
     where
-      go : (words : Option VersionWords) → scope.symbols.words ≡ words → AreWords words (Some code) → FindsVersion (λ (version : Option FoundVersion). version) file scope asked scope.symbols.words y a b told (Ok (Some version))
+      go : (words : Option VersionWords) → scope.symbols.words ≡ words → AreVersymTable words (Some code) → FindsVersion (λ (version : Option FoundVersion). version) file scope asked scope.symbols.words y a b told (Ok (Some version))
       go None e is = absurd is
       go (Some words) e is =
           let f = finds words is in
@@ -239,15 +239,15 @@ module _ {a b : Counting} (file : List ℕ) (scope : Scope) (asked : Asked) (y :
             stands = f.stands;
           }
 
-  pub finds-failed : (fault : Fault) → ((words : VersionWords) → IsWords words code → FindsVersion Some file scope asked (Some words) y a b told (Err fault))
+  pub finds-failed : (fault : Fault) → ((words : VersionWords) → IsVersymTable words code → FindsVersion Some file scope asked (Some words) y a b told (Err fault))
       → FindsVersion (λ (version : Option FoundVersion). version) file scope asked scope.symbols.words y a b told (Err fault)
   finds-failed fault finds = go scope.symbols.words refl are
     where
-      fails : (fault : Fault) (walked : Walked) (looked there : LoaderLookup) → looked ≡ there → IsVersionFound Some scope asked y told walked there (Err fault) → IsVersionFound (λ (version : Option FoundVersion). version) scope asked y told walked looked (Err fault)
+      fails : (fault : Fault) (walked : ChainResult) (looked there : LoaderLookup) → looked ≡ there → IsVersionFound Some scope asked y told walked there (Err fault) → IsVersionFound (λ (version : Option FoundVersion). version) scope asked y told walked looked (Err fault)
       fails (Refused refusal) walked looked there e found = λ other. ap (λ (l : LoaderLookup). l.lookup.answer) e ∙ found other
       fails (Source fault at) walked looked there e found = tt
 
-      go : (words : Option VersionWords) → scope.symbols.words ≡ words → AreWords words (Some code) → FindsVersion (λ (version : Option FoundVersion). version) file scope asked scope.symbols.words y a b told (Err fault)
+      go : (words : Option VersionWords) → scope.symbols.words ≡ words → AreVersymTable words (Some code) → FindsVersion (λ (version : Option FoundVersion). version) file scope asked scope.symbols.words y a b told (Err fault)
       go None e is = absurd is
       go (Some words) e is =
           let f = finds words is in

@@ -2,9 +2,9 @@
 use Rattle.std.proofs.Common.{◌≡◌, ℕ, Bool, true, false, List, Result, refl, subst}
 use Rattle.elf_model.specs.Loader.{Wanted}
 use Rattle.elf_model.specs.Style.{looked_at, without_sections}
-use Rattle.elf_source.specs.Source.{Counting, Hides}
+use Rattle.elf_source.specs.Source.{CountedState, MasksSectionHeaders}
 use Rattle.elf_headers.proofs.FaultLaws.{charges_hidden}
-use Rattle.elf_headers.specs.Ledger.{Charges, Did, why_stopped}
+use Rattle.elf_headers.specs.Ledger.{CallReads, CallDid, fault_of_result}
 use Rattle.elf_headers.specs.declared.fault.Fault.{Fault}
 use Rattle.elf_loader.specs.Lookups.{LooksUp}
 use Rattle.elf_loader.specs.declared.lookup.SymbolLookup.{SymbolLookup}
@@ -20,22 +20,22 @@ none_shown false file h = cc
 
 -- a lookup in the file as it is
 module _ {headers : ℕ} {wanted : Wanted} {told : List ℕ} {result : Result SymbolLookup Fault} (by_segments : Bool) where
-  pub looked_as_it_is : {n : ℕ} {a b : Counting} → by_segments ≡ false
-      → Did a b (why_stopped result) n (λ file. LooksUp file headers wanted told a b result)
-      → Did a b (why_stopped result) n (λ file. LooksUp (looked_at by_segments file) headers wanted told a b result)
+  pub looked_as_it_is : {n : ℕ} {a b : CountedState} → by_segments ≡ false
+      → CallDid a b (fault_of_result result) n (λ file. LooksUp file headers wanted told a b result)
+      → CallDid a b (fault_of_result result) n (λ file. LooksUp (looked_at by_segments file) headers wanted told a b result)
   looked_as_it_is shown did = record {
     costs = did.costs;
     known = λ file held. rw (all_shown by_segments file shown) (did.known file held);
   }
 
   -- and where section headers are hidden meanwhile
-  pub looked_hidden : {a b c d : Counting} (most : ℕ → ℕ) → by_segments ≡ true → Hides a b true → Hides c d a.hides
-      → Did b c (why_stopped result) (most b.seen.size) (λ file. LooksUp file headers wanted told b c result)
-      → Did a d (why_stopped result) (most a.seen.size) (λ file. LooksUp (looked_at by_segments file) headers wanted told a d result)
+  pub looked_hidden : {a b c d : CountedState} (most : ℕ → ℕ) → by_segments ≡ true → MasksSectionHeaders a b true → MasksSectionHeaders c d a.hides
+      → CallDid b c (fault_of_result result) (most b.seen.size) (λ file. LooksUp file headers wanted told b c result)
+      → CallDid a d (fault_of_result result) (most a.seen.size) (λ file. LooksUp (looked_at by_segments file) headers wanted told a d result)
   looked_hidden {a} {b} {c} {d} most hidden hide show did = record {
-    costs = subst (λ (size : ℕ). Charges a d (why_stopped result) (most size)) hide.same_size (charges_hidden _ (why_stopped result) hide show did.costs);
+    costs = subst (λ (size : ℕ). CallReads a d (fault_of_result result) (most size)) hide.same_size (charges_hidden _ (fault_of_result result) hide show did.costs);
     known = λ file held.
         let looks = did.known (without_sections file) (hide.shows refl file held) in
         rw (none_shown by_segments file hidden)
-        (record { costs = charges_hidden _ (why_stopped result) hide show looks.costs; tells = looks.tells });
+        (record { costs = charges_hidden _ (fault_of_result result) hide show looks.costs; tells = looks.tells });
   }

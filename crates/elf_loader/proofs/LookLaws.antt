@@ -1,39 +1,39 @@
 -- What a lookup gives, stage by stage.
 use mathlib.Core.Path.{fun_ext}
 use Rattle.std.proofs.Common.{◌≡◌, ℕ, ◌+◌, ◌*◌, ◌≤◌, Bool, false, List, [], ◌∷◌, ◌++◌, Option, None, Some, Result, Ok, Err, refl, sym, ap, subst, ◌∙◌, arith}
-use Rattle.elf_model.specs.Chains.{Walked as Walk}
+use Rattle.elf_model.specs.Chains.{ChainResult as NoteScan}
 use Rattle.elf_model.specs.Checks.{before_headers, early_checks, first_refusal, header_checks, load_checks, section_name_checks}
 use Rattle.elf_model.specs.Cost.{cost_where}
 use Rattle.elf_model.specs.Loader.{Compared, Wanted, answers, asked_name, is_among, symbol_offset}
-use Rattle.elf_model.specs.LoaderFind.{LoaderLookup, counts_check, found_in, loaded_in, loader_cost, loader_looked, looked_by, lookup_asks, record_cost, refused_lookup, segments_asked, walk_in, wanted_numbers}
-use Rattle.elf_model.specs.LoaderScope.{Scope as IsScopeOf, scope_of}
+use Rattle.elf_model.specs.LoaderFind.{LoaderLookup, counts_check, found_in, loaded_in, loader_cost, loader_looked, looked_by, lookup_asks, record_cost, refused_lookup, segments_asked, walk_in, version_indices}
+use Rattle.elf_model.specs.LoaderScope.{LookupTables as IsScopeOf, lookup_tables_of}
 use Rattle.elf_model.specs.Records.{e_shnum}
 use Rattle.elf_model.specs.declared.causes.Refusal.{Refusal}
 use Rattle.elf_model.proofs.CheckSteps.{first_refusal-none, passes_front}
 use Rattle.elf_record.specs.Sym.{IsSym}
-use Rattle.elf_source.specs.Source.{Counting}
-use Rattle.elf_headers.specs.Ledger.{Charges}
+use Rattle.elf_source.specs.Source.{CountedState}
+use Rattle.elf_headers.specs.Ledger.{CallReads}
 use Rattle.elf_headers.specs.declared.fault.Fault.{Fault}
 use Rattle.elf_headers.specs.declared.fault.Fault.TheVariants.{Refused, Source}
-use Rattle.elf_headers.proofs.LedgerLaws.{Charges-more, Charges-none, Charges-then}
+use Rattle.elf_headers.proofs.LedgerLaws.{CallReads-more, CallReads-none, CallReads-then}
 use Rattle.elf_table.specs.Cursors.{row_at}
 use Rattle.elf_hash.specs.Scopes.{HasCounts, IsPlaceIn, counts_bytes, walked_in}
-use Rattle.elf_hash.specs.Walks.{GivesWalked, Walks, walk_bytes}
-use Rattle.elf_hash.specs.declared.answer.TrialAnswer.{TrialAnswer}
-use Rattle.elf_hash.specs.declared.kind.HashKind.{HashKind}
-use Rattle.elf_hash.specs.declared.kind.HashKind.TheVariants.{Gnu, Sysv}
+use Rattle.elf_hash.specs.Walks.{GivesWalked, WalksChain, walk_bytes}
+use Rattle.elf_hash.specs.declared.answer.SymbolMatch.{SymbolMatch}
+use Rattle.elf_hash.specs.declared.kind.HashStyle.{HashStyle}
+use Rattle.elf_hash.specs.declared.kind.HashStyle.TheVariants.{Gnu, Sysv}
 use Rattle.elf_hash.specs.declared.table.HashTable.{HashTable}
-use Rattle.elf_hash.specs.declared.walked.Walked.{Walked}
+use Rattle.elf_hash.specs.declared.walked.ChainResult.{ChainResult}
 use Rattle.elf_hash.proofs.ScopeLaws.{walk_in_is}
 use Rattle.elf_lookup_tables.specs.Finding.{scope_cost}
-use Rattle.elf_lookup_tables.specs.Scopes.{IsScopeFound, IsScope}
-use Rattle.elf_lookup_tables.specs.declared.scope.Scope.{Scope}
-use Rattle.elf_loader.specs.Answering.{StandsAs}
-use Rattle.elf_loader.specs.Comparing.{Collects}
+use Rattle.elf_lookup_tables.specs.Scopes.{FindsLookupTables, IsLookupTables}
+use Rattle.elf_lookup_tables.specs.declared.scope.LookupTables.{LookupTables}
+use Rattle.elf_loader.specs.Answering.{IsSymbolWithVersym}
+use Rattle.elf_loader.specs.Comparing.{CollectsNumbers}
 use Rattle.elf_loader.specs.Finding.{FindsVersion, IsVersionFound}
-use Rattle.elf_loader.specs.Lookups.{LooksBehind, LooksUp, TellsLookup, looked_with, trial_bytes}
+use Rattle.elf_loader.specs.Lookups.{LooksAfter, LooksUp, ReturnsLookup, looked_with, match_bytes}
 use Rattle.elf_loader.specs.NumberSets.{has_number}
-use Rattle.elf_loader.specs.Telling.{told_bytes}
+use Rattle.elf_loader.specs.Telling.{parsed_member_bytes}
 use Rattle.elf_loader.specs.declared.found.FoundVersion.{FoundVersion}
 use Rattle.elf_loader.specs.declared.lookup.SymbolLookup.{SymbolLookup}
 use Rattle.elf_loader.specs.declared.lookup.SymbolLookup.TheVariants.{Found as IsFoundSymbol, Absent}
@@ -42,12 +42,12 @@ use Rattle.elf_loader.proofs.ReadLaws.{asks_all, asks_least, asks_records, by_ab
 
 -- one call behind another
 pub looks_then :
-    {file : List ℕ} {wanted : Wanted} {looked : LoaderLookup} {told : List ℕ} {a b c : Counting} {result : Result SymbolLookup Fault} (n few before few_behind before_behind : ℕ)
-    → before + n + few_behind ≤ before_behind + few → Charges a b None n → LooksBehind file wanted few_behind before_behind looked told b c result
-    → LooksBehind file wanted few before looked told a c result
+    {file : List ℕ} {wanted : Wanted} {looked : LoaderLookup} {told : List ℕ} {a b c : CountedState} {result : Result SymbolLookup Fault} (n few before few_behind before_behind : ℕ)
+    → before + n + few_behind ≤ before_behind + few → CallReads a b None n → LooksAfter file wanted few_behind before_behind looked told b c result
+    → LooksAfter file wanted few before looked told a c result
 looks_then n few before few_behind before_behind less first looks = record {
   spent = n + looks.spent;
-  costs = Charges-then (n + looks.spent) (omega arith) first looks.costs;
+  costs = CallReads-then (n + looks.spent) (omega arith) first looks.costs;
   within = omega (arith, less, looks.within);
   tells = looks.tells;
 }
@@ -58,7 +58,7 @@ module _ (file : List ℕ) (scope : IsScopeOf) (wanted : Wanted) where
   unfolding loaded_in
   misshapen refusal e = rw (e, loaded_in) refl
 
-  pub shaped : first_refusal (counts_check file scope ∷ []) ≡ None → loaded_in file scope wanted ≡ looked_with file scope wanted (wanted_numbers file scope wanted.asked)
+  pub shaped : first_refusal (counts_check file scope ∷ []) ≡ None → loaded_in file scope wanted ≡ looked_with file scope wanted (version_indices file scope wanted.asked)
   unfolding loaded_in
   shaped e = rw (e, loaded_in) refl
 
@@ -70,21 +70,21 @@ module _ (file : List ℕ) (scope : IsScopeOf) (wanted : Wanted) where
   with_told compared e = rw (e, looked_with) refl
 
 -- WHAT IS ANSWERED by a walk, before which so many records were read
-module _ (file : List ℕ) (told : IsScopeOf) (wanted : Wanted) (before : ℕ) (walk : Walk) (first : asked_name wanted.asked ≡ None → before ≡ 0) where
+module _ (file : List ℕ) (told : IsScopeOf) (wanted : Wanted) (before : ℕ) (walk : NoteScan) (first : asked_name wanted.asked ≡ None → before ≡ 0) where
   abbrev looked : LoaderLookup
   looked = looked_by file told wanted.asked before walk
 
   abbrev asked_before : ℕ
-  asked_before = walk_bytes (before * record_cost wanted.asked) walk.read walk.tried (trial_bytes wanted)
+  asked_before = walk_bytes (before * record_cost wanted.asked) walk.read walk.tried (match_bytes wanted)
 
   least : asked_before ≤ lookup_asks wanted looked
   least = asks_least wanted looked walk before (looked_reads file told wanted.asked before walk first)
 
-  pub looks_absent : (c : Counting) (name : List ℕ) (tried : ℕ) → walk.answer ≡ Ok None → tried ≡ walk.tried
-      → LooksBehind file wanted 0 asked_before looked name c c (Ok (Absent tried))
+  pub looks_absent : (c : CountedState) (name : List ℕ) (tried : ℕ) → walk.answer ≡ Ok None → tried ≡ walk.tried
+      → LooksAfter file wanted 0 asked_before looked name c c (Ok (Absent tried))
   looks_absent c name tried e same = record {
     spent = 0;
-    costs = Charges-none c;
+    costs = CallReads-none c;
     within = omega (arith, least);
     tells = rw same (by_absent file told wanted.asked before walk e);
   }
@@ -93,9 +93,9 @@ module _ (file : List ℕ) (told : IsScopeOf) (wanted : Wanted) (before : ℕ) (
     is_found : looked ≡ found_in file told wanted.asked before y walk told.symbols.words
     is_found = by_found file told wanted.asked before walk y e
 
-    pub looks_found : {a b : Counting} (name : List ℕ) (scope : Scope) (answer : TrialAnswer) (version : Option FoundVersion) (tried : ℕ)
-        → IsScope file told scope → StandsAs file scope.symbols y answer → tried ≡ walk.tried → FindsVersion (λ (version : Option FoundVersion). version) file told wanted.asked told.symbols.words y a b name (Ok version)
-        → LooksBehind file wanted 0 asked_before looked name a b
+    pub looks_found : {a b : CountedState} (name : List ℕ) (scope : LookupTables) (answer : SymbolMatch) (version : Option FoundVersion) (tried : ℕ)
+        → IsLookupTables file told scope → IsSymbolWithVersym file scope.symbols y answer → tried ≡ walk.tried → FindsVersion (λ (version : Option FoundVersion). version) file told wanted.asked told.symbols.words y a b name (Ok version)
+        → LooksAfter file wanted 0 asked_before looked name a b
         (Ok (IsFoundSymbol (record { section = scope.symbols.index; machine = scope.machine; index = y; symbol = answer.symbol; version = version; tried = tried })))
     looks_found name scope answer version tried is stands same finds =
         let here = is_found ∙ finds.finds walk before first in
@@ -106,7 +106,7 @@ module _ (file : List ℕ) (told : IsScopeOf) (wanted : Wanted) (before : ℕ) (
         let at : row_at scope.symbols.table y ≡ symbol_offset told.symbols y = rw (entry, place) (omega arith) in
         let all = asks_all wanted looked walk before finds.records finds.is_named spends in
         record {
-          spent = finds.records * 28 + cost_where finds.is_named told_bytes;
+          spent = finds.records * 28 + cost_where finds.is_named parsed_member_bytes;
           costs = finds.costs;
           within = omega (arith, all);
           tells = (
@@ -119,46 +119,46 @@ module _ (file : List ℕ) (told : IsScopeOf) (wanted : Wanted) (before : ℕ) (
           );
         }
 
-    pub looks_untold : {a b : Counting} (name : List ℕ) (fault : Fault) → FindsVersion (λ (version : Option FoundVersion). version) file told wanted.asked told.symbols.words y a b name (Err fault)
-        → LooksBehind file wanted 0 asked_before looked name a b (Err fault)
+    pub looks_untold : {a b : CountedState} (name : List ℕ) (fault : Fault) → FindsVersion (λ (version : Option FoundVersion). version) file told wanted.asked told.symbols.words y a b name (Err fault)
+        → LooksAfter file wanted 0 asked_before looked name a b (Err fault)
     looks_untold name fault finds =
         let spends = rw (← is_found) at (finds.spends walk before first) in
         let all = asks_all wanted looked walk before finds.records finds.is_named spends in
         record {
-          spent = finds.records * 28 + cost_where finds.is_named told_bytes;
+          spent = finds.records * 28 + cost_where finds.is_named parsed_member_bytes;
           costs = finds.costs;
           within = omega (arith, all);
           tells = tells fault (finds.finds walk before first);
         }
       where
         tells : (fault : Fault) → IsVersionFound (λ (version : Option FoundVersion). version) told wanted.asked y name walk (found_in file told wanted.asked before y walk told.symbols.words) (Err fault)
-            → TellsLookup file wanted.asked name looked (Err fault)
+            → ReturnsLookup file wanted.asked name looked (Err fault)
         tells (Refused refusal) found = λ other. ap (λ (l : LoaderLookup). l.lookup.answer) is_found ∙ found other
         tells (Source fault at) found = tt
 
   -- a walk that gives no answer
-  pub looks_unwalked : {a b : Counting} {stands : ℕ → TrialAnswer → Type 0} (name : List ℕ) (fault : Fault) → Walks stands 12 (trial_bytes wanted) walk a b (Err fault)
-      → LooksBehind file wanted 12 (before * record_cost wanted.asked) looked name a b (Err fault)
+  pub looks_unwalked : {a b : CountedState} {stands : ℕ → SymbolMatch → Type 0} (name : List ℕ) (fault : Fault) → WalksChain stands 12 (match_bytes wanted) walk a b (Err fault)
+      → LooksAfter file wanted 12 (before * record_cost wanted.asked) looked name a b (Err fault)
   looks_unwalked {stands = stands} name fault walks = record {
-    spent = walk_bytes 12 walk.read walk.tried (trial_bytes wanted);
+    spent = walk_bytes 12 walk.read walk.tried (match_bytes wanted);
     costs = walks.costs;
     within = omega (arith, least);
     tells = tells fault walks.gives;
   }
     where
-      tells : (fault : Fault) → GivesWalked stands walk (Err fault) → TellsLookup file wanted.asked name looked (Err fault)
+      tells : (fault : Fault) → GivesWalked stands walk (Err fault) → ReturnsLookup file wanted.asked name looked (Err fault)
       tells (Refused refusal) gives = λ other. ap (λ (l : LoaderLookup). l.lookup.answer) (by_refused file told wanted.asked before walk refusal (gives other))
       tells (Source fault at) gives = tt
 
-  pub looks_walked : {a b c : Counting} {stands : ℕ → TrialAnswer → Type 0} (name : List ℕ) (w : Walked) (result : Result SymbolLookup Fault) → Walks stands 12 (trial_bytes wanted) walk a b (Ok w)
-      → LooksBehind file wanted 0 asked_before looked name b c result → LooksBehind file wanted 12 (before * record_cost wanted.asked) looked name a c result
+  pub looks_walked : {a b c : CountedState} {stands : ℕ → SymbolMatch → Type 0} (name : List ℕ) (w : ChainResult) (result : Result SymbolLookup Fault) → WalksChain stands 12 (match_bytes wanted) walk a b (Ok w)
+      → LooksAfter file wanted 0 asked_before looked name b c result → LooksAfter file wanted 12 (before * record_cost wanted.asked) looked name a c result
   looks_walked name w result walks looks =
-      looks_then (walk_bytes 12 walk.read walk.tried (trial_bytes wanted)) 12 (before * record_cost wanted.asked) 0 asked_before (omega arith) walks.costs looks
+      looks_then (walk_bytes 12 walk.read walk.tried (match_bytes wanted)) 12 (before * record_cost wanted.asked) 0 asked_before (omega arith) walks.costs looks
 
 -- THE NUMBERS of the version that is asked for
 module _ (file : List ℕ) (told : IsScopeOf) (wanted : Wanted) where
   abbrev compared : Compared
-  compared = wanted_numbers file told wanted.asked
+  compared = version_indices file told wanted.asked
 
   pub none_read : asked_name wanted.asked ≡ None → compared.read ≡ 0
   none_read n = ap (λ (c : Compared). c.read) (no-version file told wanted.asked n)
@@ -169,8 +169,8 @@ module _ (file : List ℕ) (told : IsScopeOf) (wanted : Wanted) where
       rw (with_told file told wanted compared e)
       (looked_reads file told wanted.asked compared.read (walk_in file told wanted (λ number. is_among number compared.numbers)) none_read).records
 
-  pub looks_unnumbered : {a b : Counting} (name : List ℕ) (fault : Fault) → Collects a b (record_cost wanted.asked) compared (Err fault)
-      → LooksBehind file wanted 12 0 (looked_with file told wanted compared) name a b (Err fault)
+  pub looks_unnumbered : {a b : CountedState} (name : List ℕ) (fault : Fault) → CollectsNumbers a b (record_cost wanted.asked) compared (Err fault)
+      → LooksAfter file wanted 12 0 (looked_with file told wanted compared) name a b (Err fault)
   looks_unnumbered name (Refused refusal) collects =
       let records = asks_records wanted (looked_with file told wanted compared) compared.read (with_reads compared.refused refl) in
       record {
@@ -183,36 +183,36 @@ module _ (file : List ℕ) (told : IsScopeOf) (wanted : Wanted) where
       let records = asks_records wanted (looked_with file told wanted compared) compared.read (with_reads compared.refused refl) in
       record { spent = compared.read * record_cost wanted.asked; costs = collects; within = omega (arith, records); tells = tt }
 
-  pub looks_numbered : {a b c : Counting} (name numbers : List ℕ) (result : Result SymbolLookup Fault) → Collects a b (record_cost wanted.asked) compared (Ok numbers)
-      → LooksBehind file wanted 12 (compared.read * record_cost wanted.asked) (looked_by file told wanted.asked compared.read (walk_in file told wanted (has_number numbers))) name b c result
-      → LooksBehind file wanted 12 0 (looked_with file told wanted compared) name a c result
+  pub looks_numbered : {a b c : CountedState} (name numbers : List ℕ) (result : Result SymbolLookup Fault) → CollectsNumbers a b (record_cost wanted.asked) compared (Ok numbers)
+      → LooksAfter file wanted 12 (compared.read * record_cost wanted.asked) (looked_by file told wanted.asked compared.read (walk_in file told wanted (has_number numbers))) name b c result
+      → LooksAfter file wanted 12 0 (looked_with file told wanted compared) name a c result
   looks_numbered name numbers result collects looks =
       let same : has_number numbers ≡ (λ number. is_among number compared.numbers) = fun_ext collects.2 in
       let is = with_told file told wanted compared collects.1 in
       rw (is, ← same) (looks_then (compared.read * record_cost wanted.asked) 12 0 12 (compared.read * record_cost wanted.asked) (omega arith) collects.0 looks)
 
 -- THE COUNTS of the hash table
-pub counts_few : (kind : HashKind) → counts_bytes kind ≤ 16
+pub counts_few : (kind : HashStyle) → counts_bytes kind ≤ 16
 counts_few Gnu = omega arith
 counts_few Sysv = omega arith
 
-pub place_in : (file : List ℕ) (told : IsScopeOf) (scope : Scope) → IsScope file told scope → IsPlaceIn told scope.hash
+pub place_in : (file : List ℕ) (told : IsScopeOf) (scope : LookupTables) → IsLookupTables file told scope → IsPlaceIn told scope.hash
 place_in file told scope is = record { kind = is.kind; head = is.head; table = record { start = is.place; size = is.size; symbols = is.count } }
 
-module _ (file : List ℕ) (told : IsScopeOf) (wanted : Wanted) (kind : HashKind) where
-  pub looks_uncounted : {a b : Counting} (name : List ℕ) (fault : Fault) → Charges a b (Some fault) (counts_bytes kind) → HasCounts file told (Err fault)
-      → LooksBehind file wanted 28 0 (loaded_in file told wanted) name a b (Err fault)
+module _ (file : List ℕ) (told : IsScopeOf) (wanted : Wanted) (kind : HashStyle) where
+  pub looks_uncounted : {a b : CountedState} (name : List ℕ) (fault : Fault) → CallReads a b (Some fault) (counts_bytes kind) → HasCounts file told (Err fault)
+      → LooksAfter file wanted 28 0 (loaded_in file told wanted) name a b (Err fault)
   looks_uncounted name fault costs counts =
       let few = counts_few kind in
       record { spent = counts_bytes kind; costs = costs; within = omega (arith, few); tells = tells fault counts }
     where
-      tells : (fault : Fault) → HasCounts file told (Err fault) → TellsLookup file wanted.asked name (loaded_in file told wanted) (Err fault)
+      tells : (fault : Fault) → HasCounts file told (Err fault) → ReturnsLookup file wanted.asked name (loaded_in file told wanted) (Err fault)
       tells (Refused refusal) counts = λ other. ap (λ (l : LoaderLookup). l.lookup.answer) (misshapen file told wanted refusal (counts other))
       tells (Source fault at) counts = tt
 
-  pub looks_counted : {a b c : Counting} (name : List ℕ) (table : HashTable) (result : Result SymbolLookup Fault) → Charges a b None (counts_bytes kind) → HasCounts file told (Ok table)
-      → LooksBehind file wanted 12 0 (looked_with file told wanted (wanted_numbers file told wanted.asked)) name b c result
-      → LooksBehind file wanted 28 0 (loaded_in file told wanted) name a c result
+  pub looks_counted : {a b c : CountedState} (name : List ℕ) (table : HashTable) (result : Result SymbolLookup Fault) → CallReads a b None (counts_bytes kind) → HasCounts file told (Ok table)
+      → LooksAfter file wanted 12 0 (looked_with file told wanted (version_indices file told wanted.asked)) name b c result
+      → LooksAfter file wanted 28 0 (loaded_in file told wanted) name a c result
   looks_counted name table result costs counts looks =
       let few = counts_few kind in
       let is = shaped file told wanted counts.0 in
@@ -228,30 +228,30 @@ module _ (file : List ℕ) (headers : ℕ) (wanted : Wanted) where
       go None e = rw (e, loader_cost, scope_cost) (omega arith)
       go (Some refusal) e = rw (e, loader_cost, scope_cost) (omega arith)
 
-  looked_refused : (refusal : Refusal) → scope_of file headers ≡ Err refusal → loader_looked file headers wanted ≡ refused_lookup 0 0 0 false refusal
+  looked_refused : (refusal : Refusal) → lookup_tables_of file headers ≡ Err refusal → loader_looked file headers wanted ≡ refused_lookup 0 0 0 false refusal
   unfolding loader_looked
   looked_refused refusal e = rw (e, loader_looked) refl
 
-  pub looks_unscoped : {a b : Counting} (name : List ℕ) (fault : Fault) → Charges a b (Some fault) (scope_cost file headers) → IsScopeFound file (scope_of file headers) (Err fault)
+  pub looks_unscoped : {a b : CountedState} (name : List ℕ) (fault : Fault) → CallReads a b (Some fault) (scope_cost file headers) → FindsLookupTables file (lookup_tables_of file headers) (Err fault)
       → LooksUp file headers wanted name a b (Err fault)
-  looks_unscoped name fault costs finds = record { costs = Charges-more _ scope_within costs; tells = tells fault finds }
+  looks_unscoped name fault costs finds = record { costs = CallReads-more _ scope_within costs; tells = tells fault finds }
     where
-      tells : (fault : Fault) → IsScopeFound file (scope_of file headers) (Err fault) → TellsLookup file wanted.asked name (loader_looked file headers wanted) (Err fault)
+      tells : (fault : Fault) → FindsLookupTables file (lookup_tables_of file headers) (Err fault) → ReturnsLookup file wanted.asked name (loader_looked file headers wanted) (Err fault)
       tells (Refused refusal) finds = λ other. ap (λ (l : LoaderLookup). l.lookup.answer) (looked_refused refusal (finds other))
       tells (Source fault at) finds = tt
 
-  module _ (told : IsScopeOf) (found : scope_of file headers ≡ Ok told) where
+  module _ (told : IsScopeOf) (found : lookup_tables_of file headers ≡ Ok told) where
     looked_there : loader_looked file headers wanted ≡ loaded_in file told wanted
     unfolding loader_looked
     looked_there = rw (found, loader_looked) refl
 
     checks_pass : first_refusal (header_checks file ++ load_checks file headers) ≡ None
-    unfolding scope_of
+    unfolding lookup_tables_of
     checks_pass = go (first_refusal (header_checks file ++ load_checks file headers)) refl
       where
         go : (refusal : Option Refusal) → first_refusal (header_checks file ++ load_checks file headers) ≡ refusal → first_refusal (header_checks file ++ load_checks file headers) ≡ None
         go None e = e
-        go (Some refusal) e = absurd (let is = rw (e, scope_of) at found in cc)
+        go (Some refusal) e = absurd (let is = rw (e, lookup_tables_of) at found in cc)
 
     before_pass : first_refusal (before_headers file headers) ≡ None
     before_pass =
@@ -267,18 +267,18 @@ module _ (file : List ℕ) (headers : ℕ) (wanted : Wanted) where
         let same = ap (lookup_asks wanted) looked_there in
         omega (arith, cost, scope, same)
 
-    pub looks_scoped : {a b c : Counting} (name : List ℕ) (result : Result SymbolLookup Fault) → Charges a b None (scope_cost file headers)
-        → LooksBehind file wanted 28 0 (loaded_in file told wanted) name b c result → LooksUp file headers wanted name a c result
+    pub looks_scoped : {a b c : CountedState} (name : List ℕ) (result : Result SymbolLookup Fault) → CallReads a b None (scope_cost file headers)
+        → LooksAfter file wanted 28 0 (loaded_in file told wanted) name b c result → LooksUp file headers wanted name a c result
     looks_scoped name result costs looks =
         let within = looks.within in
         let cost = cost_there in
         record {
-          costs = Charges-then _ (omega (arith, within, cost)) costs looks.costs;
+          costs = CallReads-then _ (omega (arith, within, cost)) costs looks.costs;
           tells = rw looked_there looks.tells;
         }
 
 -- the walk for the symbol that answers, as it is made
 pub walks_as :
-    {a b : Counting} {stands : ℕ → TrialAnswer → Type 0} (file : List ℕ) (told : IsScopeOf) (wanted : Wanted) (is_wanted : ℕ → Bool) (cost : ℕ) (result : Result Walked Fault)
-    → Walks stands 12 cost (walked_in file told wanted.name (answers file told.symbols wanted is_wanted)) a b result → Walks stands 12 cost (walk_in file told wanted is_wanted) a b result
+    {a b : CountedState} {stands : ℕ → SymbolMatch → Type 0} (file : List ℕ) (told : IsScopeOf) (wanted : Wanted) (is_wanted : ℕ → Bool) (cost : ℕ) (result : Result ChainResult Fault)
+    → WalksChain stands 12 cost (walked_in file told wanted.name (answers file told.symbols wanted is_wanted)) a b result → WalksChain stands 12 cost (walk_in file told wanted is_wanted) a b result
 walks_as file told wanted is_wanted cost result walks = rw (walk_in_is file told wanted is_wanted) walks

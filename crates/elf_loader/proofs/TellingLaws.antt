@@ -2,94 +2,94 @@
 use Rattle.std.proofs.Common.{◌≡◌, ℕ, ◌+◌, ◌*◌, ◌-◌, ◌^◌, ◌<◌, ◌≤◌, min, true, false, is_some, List, [], length, take, drop, None, Some, Result, Ok, Err, refl, sym, ap, subst, ◌∙◌, arith, length-take, length-drop}
 use Rattle.std.proofs.lemmas.List.{take-take}
 use Rattle.elf_model.specs.Bytes.{slice}
-use Rattle.elf_model.specs.Chains.{Walked}
-use Rattle.elf_model.specs.Loader.{Naming, VersionWords, version_word_at}
-use Rattle.elf_model.specs.LoaderFind.{TOLD_BYTES, found_lookup, refused_lookup, told_by}
-use Rattle.elf_model.specs.LoaderScope.{Scope}
-use Rattle.elf_model.specs.Names.{Shown, StandsAt, shown}
-use Rattle.elf_model.specs.Names.Shown.{Whole as ShownWhole, Cut as ShownCut}
+use Rattle.elf_model.specs.Chains.{ChainResult}
+use Rattle.elf_model.specs.Loader.{NumberNameSource, VersionWords, versym_at}
+use Rattle.elf_model.specs.LoaderFind.{TOLD_BYTES, found_lookup, refused_lookup, named_by_record}
+use Rattle.elf_model.specs.LoaderScope.{LookupTables}
+use Rattle.elf_model.specs.Names.{DisplayedName, IsNameBytesAt, shown}
+use Rattle.elf_model.specs.Names.DisplayedName.{Whole as ShownWhole, Cut as ShownCut}
 use Rattle.elf_model.specs.Records.{versym}
-use Rattle.elf_model.specs.Versions.{Met, name_index, named_at}
+use Rattle.elf_model.specs.Versions.{VisitedRecord, name_index, named_at}
 use Rattle.elf_model.specs.declared.causes.Cause.{Cause}
 use Rattle.elf_model.specs.declared.causes.Cause.TheVariants.{VersionIndex}
 use Rattle.elf_model.specs.declared.causes.Refusal.{Refusal}
 use Rattle.elf_model.proofs.NameLemmas.{View, is_cut, is_empty, is_outside, is_unended, is_whole, view}
 use Rattle.elf_model.proofs.Nuls.{some-free}
 use Rattle.elf_model.proofs.Slices.{slice-size, slice-slice}
-use Rattle.elf_source.specs.Source.{Counting}
-use Rattle.elf_headers.specs.Ledger.{Charges}
+use Rattle.elf_source.specs.Source.{CountedState}
+use Rattle.elf_headers.specs.Ledger.{CallReads}
 use Rattle.elf_headers.specs.declared.fault.Fault.{Fault}
 use Rattle.elf_headers.specs.declared.fault.Fault.TheVariants.{Refused, Source}
-use Rattle.elf_headers.proofs.LedgerLaws.{Charges-more, Charges-then}
+use Rattle.elf_headers.proofs.LedgerLaws.{CallReads-more, CallReads-then}
 use Rattle.elf_table.specs.NamesRead.{NameRead}
-use Rattle.elf_table.specs.Tables.{Strings, strings_in}
+use Rattle.elf_table.specs.Tables.{StringTableRange, strings_in}
 use Rattle.elf_table.specs.declared.names.NameEnd.{NameEnd}
 use Rattle.elf_table.specs.declared.names.NameEnd.TheVariants.{Whole, Cut}
 use Rattle.elf_loader.specs.Naming.{NamesBefore}
-use Rattle.elf_loader.specs.Telling.{TellsVersionName, told_bytes}
-use Rattle.elf_loader.specs.declared.naming.NamedBy.{NamedBy}
+use Rattle.elf_loader.specs.Telling.{ReturnsVersionName, parsed_member_bytes}
+use Rattle.elf_loader.specs.declared.naming.VersionNameRecord.{VersionNameRecord}
 
 -- the first record that has the number tells its name
 told-shown :
-    (file : List ℕ) (scope : Scope) (words : VersionWords) (y : ℕ) (walked : Walked) (naming : Naming) (strings : List ℕ) (met : Met) (name : Shown)
+    (file : List ℕ) (scope : LookupTables) (words : VersionWords) (y : ℕ) (walked : ChainResult) (naming : NumberNameSource) (strings : List ℕ) (met : VisitedRecord) (name : DisplayedName)
     → naming.found ≡ Some (strings, met) → shown strings (name_index file met) TOLD_BYTES ≡ Ok name
-    → told_by file scope words y walked naming
-    ≡ found_lookup scope y walked naming.read true (Some (record { index = words.index; word = versym file (version_word_at words y); name = name }))
-unfolding told_by
-told-shown file scope words y walked naming strings met name found told = rw (found, told_by) (rw (told, told_by) refl)
+    → named_by_record file scope words y walked naming
+    ≡ found_lookup scope y walked naming.read true (Some (record { index = words.index; word = versym file (versym_at words y); name = name }))
+unfolding named_by_record
+told-shown file scope words y walked naming strings met name found told = rw (found, named_by_record) (rw (told, named_by_record) refl)
 
 -- or the fault of its name
 told-fault :
-    (file : List ℕ) (scope : Scope) (words : VersionWords) (y : ℕ) (walked : Walked) (naming : Naming) (strings : List ℕ) (met : Met) (cause : Cause)
+    (file : List ℕ) (scope : LookupTables) (words : VersionWords) (y : ℕ) (walked : ChainResult) (naming : NumberNameSource) (strings : List ℕ) (met : VisitedRecord) (cause : Cause)
     → naming.found ≡ Some (strings, met) → shown strings (name_index file met) TOLD_BYTES ≡ Err cause
-    → told_by file scope words y walked naming ≡ refused_lookup walked.tried walked.read naming.read true (record { at = named_at file met; cause = cause })
-unfolding told_by
-told-fault file scope words y walked naming strings met cause found told = rw (found, told_by) (rw (told, told_by) refl)
+    → named_by_record file scope words y walked naming ≡ refused_lookup walked.tried walked.read naming.read true (record { at = named_at file met; cause = cause })
+unfolding named_by_record
+told-fault file scope words y walked naming strings met cause found told = rw (found, named_by_record) (rw (told, named_by_record) refl)
 
 -- or none has it, or what comes before is refused
 told-none :
-    (file : List ℕ) (scope : Scope) (words : VersionWords) (y : ℕ) (walked : Walked) (naming : Naming) → naming.found ≡ None → naming.refused ≡ None
-    → told_by file scope words y walked naming ≡ refused_lookup walked.tried walked.read naming.read false (record { at = version_word_at words y; cause = VersionIndex })
-unfolding told_by
-told-none file scope words y walked naming found none = rw (found, none, told_by) refl
+    (file : List ℕ) (scope : LookupTables) (words : VersionWords) (y : ℕ) (walked : ChainResult) (naming : NumberNameSource) → naming.found ≡ None → naming.refused ≡ None
+    → named_by_record file scope words y walked naming ≡ refused_lookup walked.tried walked.read naming.read false (record { at = versym_at words y; cause = VersionIndex })
+unfolding named_by_record
+told-none file scope words y walked naming found none = rw (found, none, named_by_record) refl
 
 told-refused :
-    (file : List ℕ) (scope : Scope) (words : VersionWords) (y : ℕ) (walked : Walked) (naming : Naming) (refusal : Refusal) → naming.found ≡ None → naming.refused ≡ Some refusal
-    → told_by file scope words y walked naming ≡ refused_lookup walked.tried walked.read naming.read false refusal
-unfolding told_by
-told-refused file scope words y walked naming refusal found none = rw (found, none, told_by) refl
+    (file : List ℕ) (scope : LookupTables) (words : VersionWords) (y : ℕ) (walked : ChainResult) (naming : NumberNameSource) (refusal : Refusal) → naming.found ≡ None → naming.refused ≡ Some refusal
+    → named_by_record file scope words y walked naming ≡ refused_lookup walked.tried walked.read naming.read false refusal
+unfolding named_by_record
+told-refused file scope words y walked naming refusal found none = rw (found, none, named_by_record) refl
 
 -- a fault before the record
 pub fault-tells :
-    (file : List ℕ) (scope : Scope) (words : VersionWords) (y : ℕ) (naming left : Naming) (a b : Counting) (name : List ℕ) (fault : Fault)
-    → NamesBefore file a b naming left (Err fault) → TellsVersionName file scope words y naming a b name (Err fault)
+    (file : List ℕ) (scope : LookupTables) (words : VersionWords) (y : ℕ) (naming left : NumberNameSource) (a b : CountedState) (name : List ℕ) (fault : Fault)
+    → NamesBefore file a b naming left (Err fault) → ReturnsVersionName file scope words y naming a b name (Err fault)
 fault-tells file scope words y naming left a b name (Refused refusal) p = (
-  Charges-more _ (omega arith) p.0,
+  CallReads-more _ (omega arith) p.0,
   λ other walked. let r = p.1 other in let none : is_some naming.found ≡ false = ap is_some r.0 in rw none (told-refused file scope words y walked naming refusal r.0 r.1),
 )
-fault-tells file scope words y naming left a b name (Source fault at) p = Charges-more _ (omega arith) p
+fault-tells file scope words y naming left a b name (Source fault at) p = CallReads-more _ (omega arith) p
 
-stopped : (a b : Counting) (n at : ℕ) → Charges a b None n → Charges a b (Some (Refused (record { at = at; cause = VersionIndex }))) n
+stopped : (a b : CountedState) (n at : ℕ) → CallReads a b None n → CallReads a b (Some (Refused (record { at = at; cause = VersionIndex }))) n
 stopped a b n at p = record { reads = p.reads; says = λ budget. absurd (cc) }
 
 -- no record
 pub none-tells :
-    (file : List ℕ) (scope : Scope) (words : VersionWords) (y at : ℕ) (naming left : Naming) (a b : Counting) (name : List ℕ)
-    → at ≡ version_word_at words y → left ≡ record { found = None; refused = None; read = 0 } → NamesBefore file a b naming left (Ok None)
-    → TellsVersionName file scope words y naming a b name (Err (Refused (record { at = at; cause = VersionIndex })))
+    (file : List ℕ) (scope : LookupTables) (words : VersionWords) (y at : ℕ) (naming left : NumberNameSource) (a b : CountedState) (name : List ℕ)
+    → at ≡ versym_at words y → left ≡ record { found = None; refused = None; read = 0 } → NamesBefore file a b naming left (Ok None)
+    → ReturnsVersionName file scope words y naming a b name (Err (Refused (record { at = at; cause = VersionIndex })))
 none-tells file scope words y at naming left a b name here nothing p =
     let n = rw nothing at p.2 in (
-      Charges-more _ (omega (arith, n.read)) (stopped a b (p.0 * 28) at p.1),
+      CallReads-more _ (omega (arith, n.read)) (stopped a b (p.0 * 28) at p.1),
       λ other walked. let none : is_some naming.found ≡ false = ap is_some n.found in rw (none, here) (told-none file scope words y walked naming n.found n.refused),
     )
 
 -- the bytes that are shown of a name stand in the file, where its strings do
-abbrev shown_bytes : Result Shown Cause → List ℕ
+abbrev shown_bytes : Result DisplayedName Cause → List ℕ
 shown_bytes (Ok (ShownWhole bytes)) = bytes
 shown_bytes (Ok (ShownCut bytes)) = bytes
 shown_bytes (Err cause) = []
 
-slice-stands : (file : List ℕ) (at size off n : ℕ) → off + n ≤ length (slice file at size) → StandsAt file (at + off) (slice (slice file at size) off n)
+slice-stands : (file : List ℕ) (at size off n : ℕ) → off + n ≤ length (slice file at size) → IsNameBytesAt file (at + off) (slice (slice file at size) off n)
 slice-stands file at size off n fits =
     let few = length-take size (drop at file) in
     let within : length (slice file at size) ≤ size = omega (arith, few) in
@@ -98,8 +98,8 @@ slice-stands file at size off n fits =
     ap (slice file (at + off)) long ∙ sym same
 
 shown-stands :
-    (file : List ℕ) (at size off cap : ℕ) (name : Shown) → shown (slice file at size) off cap ≡ Ok name
-    → StandsAt file (at + off) (shown_bytes (Ok name)) × (off ≤ size)
+    (file : List ℕ) (at size off cap : ℕ) (name : DisplayedName) → shown (slice file at size) off cap ≡ Ok name
+    → IsNameBytesAt file (at + off) (shown_bytes (Ok name)) × (off ≤ size)
 shown-stands file at size off cap name told = go (view (slice file at size) off cap)
   where
     table : List ℕ
@@ -108,10 +108,10 @@ shown-stands file at size off cap name told = go (view (slice file at size) off 
     few : length table ≤ size
     few = let l = length-take size (drop at file) in omega (arith, l)
 
-    so : (bytes : List ℕ) → bytes ≡ shown_bytes (Ok name) → StandsAt file (at + off) bytes → off ≤ size → StandsAt file (at + off) (shown_bytes (Ok name)) × (off ≤ size)
-    so bytes is stands inside = (subst (StandsAt file (at + off)) is stands, inside)
+    so : (bytes : List ℕ) → bytes ≡ shown_bytes (Ok name) → IsNameBytesAt file (at + off) bytes → off ≤ size → IsNameBytesAt file (at + off) (shown_bytes (Ok name)) × (off ≤ size)
+    so bytes is stands inside = (subst (IsNameBytesAt file (at + off)) is stands, inside)
 
-    go : View table off cap → StandsAt file (at + off) (shown_bytes (Ok name)) × (off ≤ size)
+    go : View table off cap → IsNameBytesAt file (at + off) (shown_bytes (Ok name)) × (off ≤ size)
     go (is_empty none e) = let zero = none.1 in so [] (ap shown_bytes (sym e ∙ told)) refl (omega (arith, zero))
     go (is_outside none e) = let no = sym e ∙ told in absurd (cc)
     go (is_whole place below nul e) =
@@ -127,42 +127,42 @@ shown-stands file at size off cap name told = go (view (slice file at size) off 
 
 -- where the strings end below 2^64, the name's offset is a number of 64 bits
 pub stands-there :
-    (file : List ℕ) (strings : Strings) (off cap at : ℕ) (name : Shown) → shown (strings_in file strings) off cap ≡ Ok name
-    → strings.at + strings.size < 2 ^ 64 → at ≡ min (strings.at + off) (2 ^ 64 - 1) → StandsAt file at (shown_bytes (Ok name))
+    (file : List ℕ) (strings : StringTableRange) (off cap at : ℕ) (name : DisplayedName) → shown (strings_in file strings) off cap ≡ Ok name
+    → strings.at + strings.size < 2 ^ 64 → at ≡ min (strings.at + off) (2 ^ 64 - 1) → IsNameBytesAt file at (shown_bytes (Ok name))
 stands-there file strings off cap at name told ends is =
     let stands = shown-stands file strings.at strings.size off cap name told in
     let inside = stands.1 in
     let here : strings.at + off ≡ at = omega (arith, inside, ends, is) in
-    subst (λ (n : ℕ). StandsAt file n (shown_bytes (Ok name))) here stands.0
+    subst (λ (n : ℕ). IsNameBytesAt file n (shown_bytes (Ok name))) here stands.0
 
 -- its name is read, and stands there
 pub name-tells :
-    (file : List ℕ) (scope : Scope) (words : VersionWords) (y at : ℕ) (naming left : Naming) (a b c : Counting) (name : List ℕ) (by : NamedBy) (end : NameEnd)
-    → NamesBefore file a b naming left (Ok (Some by)) → Charges b c None told_bytes
+    (file : List ℕ) (scope : LookupTables) (words : VersionWords) (y at : ℕ) (naming left : NumberNameSource) (a b c : CountedState) (name : List ℕ) (by : VersionNameRecord) (end : NameEnd)
+    → NamesBefore file a b naming left (Ok (Some by)) → CallReads b c None parsed_member_bytes
     → NameRead by.«record».named_at (Ok end) name (shown (strings_in file by.names) by.«record».name TOLD_BYTES)
     → by.names.at + by.names.size < 2 ^ 64 → at ≡ min (by.names.at + by.«record».name) (2 ^ 64 - 1)
-    → TellsVersionName file scope words y naming a c name (Ok (record { end = end; at = at }))
+    → ReturnsVersionName file scope words y naming a c name (Ok (record { end = end; at = at }))
 name-tells file scope words y at naming left a b c name by Whole p pays reads ends is = (
-  Charges-then _ (omega arith) p.3 pays,
+  CallReads-then _ (omega arith) p.3 pays,
   λ walked. told-shown file scope words y walked naming (strings_in file by.names) p.0 (ShownWhole name) p.1 (let e = p.2.name in rw e at reads),
   stands-there file by.names by.«record».name TOLD_BYTES at (ShownWhole name) reads ends is,
 )
 name-tells file scope words y at naming left a b c name by Cut p pays reads ends is = (
-  Charges-then _ (omega arith) p.3 pays,
+  CallReads-then _ (omega arith) p.3 pays,
   λ walked. told-shown file scope words y walked naming (strings_in file by.names) p.0 (ShownCut name) p.1 (let e = p.2.name in rw e at reads),
   stands-there file by.names by.«record».name TOLD_BYTES at (ShownCut name) reads ends is,
 )
 
 -- or it is not
 pub name-fails :
-    (file : List ℕ) (scope : Scope) (words : VersionWords) (y : ℕ) (naming left : Naming) (a b c : Counting) (name : List ℕ) (by : NamedBy) (fault : Fault)
-    → NamesBefore file a b naming left (Ok (Some by)) → Charges b c (Some fault) told_bytes
+    (file : List ℕ) (scope : LookupTables) (words : VersionWords) (y : ℕ) (naming left : NumberNameSource) (a b c : CountedState) (name : List ℕ) (by : VersionNameRecord) (fault : Fault)
+    → NamesBefore file a b naming left (Ok (Some by)) → CallReads b c (Some fault) parsed_member_bytes
     → NameRead by.«record».named_at (Err fault) name (shown (strings_in file by.names) by.«record».name TOLD_BYTES)
-    → TellsVersionName file scope words y naming a c name (Err fault)
+    → ReturnsVersionName file scope words y naming a c name (Err fault)
 name-fails file scope words y naming left a b c name by (Refused refusal) p pays reads =
     let some : is_some naming.found ≡ true = ap is_some p.1 in
     rw some (
-      Charges-then _ (omega arith) p.3 pays,
+      CallReads-then _ (omega arith) p.3 pays,
       λ other walked.
           let r = reads other in
           let e = p.2.name in
@@ -171,4 +171,4 @@ name-fails file scope words y naming left a b c name by (Refused refusal) p pays
           rw at at t,
     )
 name-fails file scope words y naming left a b c name by (Source fault at) p pays reads =
-    let some : is_some naming.found ≡ true = ap is_some p.1 in rw some (Charges-then _ (omega arith) p.3 pays)
+    let some : is_some naming.found ≡ true = ap is_some p.1 in rw some (CallReads-then _ (omega arith) p.3 pays)

@@ -1,10 +1,10 @@
 -- What comparing the records of versions with a wanted one gives.
 use Rattle.std.specs.Prelude.{ℕ, ◌≡◌, ◌+◌, ◌*◌, ◌≤◌, ◌||◌, List, length, None, Some, Result, Ok, Err}
-use Rattle.elf_model.specs.Budget.{IsBudget}
-use Rattle.elf_model.specs.Loader.{Asked, Compared, RecordReading, asked_name, compared_with, is_among}
+use Rattle.elf_model.specs.Budget.{IsBudgetRefusal}
+use Rattle.elf_model.specs.Loader.{Asked, Compared, VersionRecordRead, asked_name, compared_with, is_among}
 use Rattle.elf_model.specs.Names.{pad64}
-use Rattle.elf_source.specs.Source.{Counting}
-use Rattle.elf_headers.specs.Ledger.{Charges, Did, why_stopped}
+use Rattle.elf_source.specs.Source.{CountedState}
+use Rattle.elf_headers.specs.Ledger.{CallReads, CallDid, fault_of_result}
 use Rattle.elf_headers.specs.declared.fault.Fault.{Fault}
 use Rattle.elf_headers.specs.declared.fault.Fault.TheVariants.{Refused, Source}
 use Rattle.elf_loader.specs.NumberSets.{has_number}
@@ -14,37 +14,37 @@ abbrev pub comparing_bytes : Asked → ℕ → ℕ
 comparing_bytes asked records = elim (asked_name asked) [ None ↦ 0 | Some version ↦ records * (28 + pad64 (length version + 1)) ]
 
 -- SO MUCH OF COMPARING IS DONE: some records are read, and what they give is in the set; the others are left
-pub record ComparedAs (old new : List ℕ) (records : ℕ) (all left : Compared) : Type 0 where
+pub record CompareProgress (old new : List ℕ) (records : ℕ) (all left : Compared) : Type 0 where
   pub numbers : (number : ℕ) → (has_number old number || is_among number all.numbers) ≡ (has_number new number || is_among number left.numbers)
   pub refused : all.refused ≡ left.refused
   pub read : all.read ≡ records + left.read
 
 -- comparing some records, each of which asks for at most so many bytes: they are compared, and the others are left; or
 -- comparing is refused, unless a read failed
-abbrev pub Compares : Counting → Counting → ℕ → List ℕ → List ℕ → Compared → Compared → Result (Unit {0}) Fault → Type 0
-Compares before after each old new all left (Ok x) =
-    (records : ℕ) × Charges before after None (records * each) × ComparedAs old new records all left
-Compares before after each old new all left (Err (Refused refusal)) =
-    Charges before after (Some (Refused refusal)) (all.read * each) × ((IsBudget refusal → ⊥) → all.refused ≡ Some refusal)
-Compares before after each old new all left (Err (Source fault at)) = Charges before after (Some (Source fault at)) (all.read * each)
+abbrev pub CompareCosts : CountedState → CountedState → ℕ → List ℕ → List ℕ → Compared → Compared → Result (Unit {0}) Fault → Type 0
+CompareCosts before after each old new all left (Ok x) =
+    (records : ℕ) × CallReads before after None (records * each) × CompareProgress old new records all left
+CompareCosts before after each old new all left (Err (Refused refusal)) =
+    CallReads before after (Some (Refused refusal)) (all.read * each) × ((IsBudgetRefusal refusal → ⊥) → all.refused ≡ Some refusal)
+CompareCosts before after each old new all left (Err (Source fault at)) = CallReads before after (Some (Source fault at)) (all.read * each)
 
 -- what a call did that compares records, at most so many, with a version: it asks for their heads and as many names, and of
 -- those that are read of tables and those that are left this is so
-abbrev pub ComparesRecords : Counting → Counting → List ℕ → List ℕ → List ℕ → Result (Unit {0}) Fault → ℕ → (List ℕ → (List RecordReading → List RecordReading → Type 0) → Type 0) → Type 0
+abbrev pub ComparesRecords : CountedState → CountedState → List ℕ → List ℕ → List ℕ → Result (Unit {0}) Fault → ℕ → (List ℕ → (List VersionRecordRead → List VersionRecordRead → Type 0) → Type 0) → Type 0
 ComparesRecords before after version old new result most Of =
-    Did before after (why_stopped result) (most * (28 + pad64 (length version + 1)))
-    (λ file. Of file (λ all left. Compares before after (28 + pad64 (length version + 1)) old new (compared_with file version all) (compared_with file version left) result))
+    CallDid before after (fault_of_result result) (most * (28 + pad64 (length version + 1)))
+    (λ file. Of file (λ all left. CompareCosts before after (28 + pad64 (length version + 1)) old new (compared_with file version all) (compared_with file version left) result))
 
 -- comparing one record, whose refusal is at that
 abbrev pub ComparesOne : List ℕ → List ℕ → Compared → Compared → Result (Unit {0}) Fault → Type 0
-ComparesOne old new all left (Ok x) = ComparedAs old new 1 all left
-ComparesOne old new all left (Err (Refused refusal)) = (1 ≤ all.read) × ((IsBudget refusal → ⊥) → all.refused ≡ Some refusal)
+ComparesOne old new all left (Ok x) = CompareProgress old new 1 all left
+ComparesOne old new all left (Err (Refused refusal)) = (1 ≤ all.read) × ((IsBudgetRefusal refusal → ⊥) → all.refused ≡ Some refusal)
 ComparesOne old new all left (Err (Source fault at)) = 1 ≤ all.read
 
 -- what the whole of it gives: the set of the numbers of the wanted version; or that it is refused, unless a read failed
-abbrev pub Collects : Counting → Counting → ℕ → Compared → Result (List ℕ) Fault → Type 0
-Collects before after each compared (Ok numbers) =
-    Charges before after None (compared.read * each) × (compared.refused ≡ None) × ((number : ℕ) → has_number numbers number ≡ is_among number compared.numbers)
-Collects before after each compared (Err (Refused refusal)) =
-    Charges before after (Some (Refused refusal)) (compared.read * each) × ((IsBudget refusal → ⊥) → compared.refused ≡ Some refusal)
-Collects before after each compared (Err (Source fault at)) = Charges before after (Some (Source fault at)) (compared.read * each)
+abbrev pub CollectsNumbers : CountedState → CountedState → ℕ → Compared → Result (List ℕ) Fault → Type 0
+CollectsNumbers before after each compared (Ok numbers) =
+    CallReads before after None (compared.read * each) × (compared.refused ≡ None) × ((number : ℕ) → has_number numbers number ≡ is_among number compared.numbers)
+CollectsNumbers before after each compared (Err (Refused refusal)) =
+    CallReads before after (Some (Refused refusal)) (compared.read * each) × ((IsBudgetRefusal refusal → ⊥) → compared.refused ≡ Some refusal)
+CollectsNumbers before after each compared (Err (Source fault at)) = CallReads before after (Some (Source fault at)) (compared.read * each)

@@ -1,21 +1,21 @@
 -- What a lookup answers, and what it asks for.
 use Rattle.std.specs.Prelude.{ℕ, ◌≡◌, ◌+◌, ◌*◌, ◌/◌, ◌≤◌, false, List, length, None, Some, option_map, Result, Ok, Err, IfSome}
-use Rattle.elf_model.specs.Budget.{IsBudget}
+use Rattle.elf_model.specs.Budget.{IsBudgetRefusal}
 use Rattle.elf_model.specs.Hash.{Found as IsFound, Absent as IsAbsent, Refused as IsRefused}
 use Rattle.elf_model.specs.Loader.{Asked, Compared, Wanted, asked_name, is_among}
 use Rattle.elf_model.specs.LoaderFind.{LoaderLookup, loader_ceiling, loader_cost, loader_looked, looked_by, lookup_asks, record_cost, refused_lookup, walk_in}
-use Rattle.elf_model.specs.LoaderScope.{Scope}
+use Rattle.elf_model.specs.LoaderScope.{LookupTables}
 use Rattle.elf_model.specs.Names.{pad64}
 use Rattle.elf_model.specs.Records.{e_machine}
 use Rattle.elf_record.specs.Sym.{IsSym}
-use Rattle.elf_source.specs.Source.{Counting}
-use Rattle.elf_headers.specs.Ledger.{Charges, Did, why_stopped}
+use Rattle.elf_source.specs.Source.{CountedState}
+use Rattle.elf_headers.specs.Ledger.{CallReads, CallDid, fault_of_result}
 use Rattle.elf_headers.specs.declared.fault.Fault.{Fault}
 use Rattle.elf_headers.specs.declared.fault.Fault.TheVariants.{Refused, Source}
-use Rattle.elf_lookup_tables.specs.Scopes.{IsScope, ScopeLies}
-use Rattle.elf_lookup_tables.specs.declared.scope.Scope.{Scope as ScopeCode}
-use Rattle.elf_loader.specs.Finding.{StandsTold, version_found}
-use Rattle.elf_loader.specs.Telling.{told_bytes}
+use Rattle.elf_lookup_tables.specs.Scopes.{IsLookupTables, LookupTablesInBounds}
+use Rattle.elf_lookup_tables.specs.declared.scope.LookupTables.{LookupTables as ScopeCode}
+use Rattle.elf_loader.specs.Finding.{IsRelocationReported, version_found}
+use Rattle.elf_loader.specs.Telling.{parsed_member_bytes}
 use Rattle.elf_loader.specs.declared.lookup.SymbolLookup.{SymbolLookup}
 use Rattle.elf_loader.specs.declared.lookup.SymbolLookup.TheVariants.{Found, Absent}
 
@@ -24,18 +24,18 @@ abbrev pub AreShort : Wanted → Type 0
 AreShort wanted = (length wanted.name ≤ 4096) × IfSome (asked_name wanted.asked) (λ version. length version ≤ 4096)
 
 -- a lookup may be made: so short is what is wanted, and the tables that it searches lie within the source
-pub record MayLookOn (src : Counting) (scope : ScopeCode) (wanted : Wanted) : Type 0 where
+pub record MayLookOn (src : CountedState) (scope : ScopeCode) (wanted : Wanted) : Type 0 where
   pub short : AreShort wanted
-  pub lies : ScopeLies src.seen.size scope
+  pub lies : LookupTablesInBounds src.seen.size scope
 
 -- how many bytes a symbol asks for that is tried
-abbrev pub trial_bytes : Wanted → ℕ
-trial_bytes wanted = 26 + pad64 (length wanted.name + 1)
+abbrev pub match_bytes : Wanted → ℕ
+match_bytes wanted = 26 + pad64 (length wanted.name + 1)
 
 -- a few bytes and what is asked for behind them in a source of this size, whatever its bytes are: a chain word and a symbol for
 -- each word that has room there, the records of versions, and the name of one
 abbrev pub lookup_bytes : (few size : ℕ) → Wanted → ℕ
-lookup_bytes few size wanted = few + size / 4 * (4 + trial_bytes wanted) + size / 8 * record_cost wanted.asked + told_bytes
+lookup_bytes few size wanted = few + size / 4 * (4 + match_bytes wanted) + size / 8 * record_cost wanted.asked + parsed_member_bytes
 
 -- an answer is the one that a lookup gives: the symbol that is found, with its version and the file's machine, or that there is
 -- none; and how many symbols are tried. The name of a version is in these bytes, and stands where it says
@@ -46,43 +46,43 @@ AnswersLoaderLookup file asked told looked (Found found) =
     × IsSym file at found.symbol
     × (looked.version ≡ option_map (version_found asked told) found.version)
     × (found.machine ≡ e_machine file)
-    × IfSome found.version (λ version. StandsTold file told version.name_at version.name)
+    × IfSome found.version (λ version. IsRelocationReported file told version.name_at version.name)
 AnswersLoaderLookup file asked told looked (Absent tried) = looked.lookup ≡ record { answer = IsAbsent; compared = tried }
 
 -- what a lookup tells: its answer; or its refusal, unless that is for want of budget
-abbrev pub TellsLookup : List ℕ → Asked → List ℕ → LoaderLookup → Result SymbolLookup Fault → Type 0
-TellsLookup file asked told looked (Ok lookup) = AnswersLoaderLookup file asked told looked lookup
-TellsLookup file asked told looked (Err (Refused refusal)) = (IsBudget refusal → ⊥) → looked.lookup.answer ≡ IsRefused refusal
-TellsLookup file asked told looked (Err (Source fault at)) = Unit {0}
+abbrev pub ReturnsLookup : List ℕ → Asked → List ℕ → LoaderLookup → Result SymbolLookup Fault → Type 0
+ReturnsLookup file asked told looked (Ok lookup) = AnswersLoaderLookup file asked told looked lookup
+ReturnsLookup file asked told looked (Err (Refused refusal)) = (IsBudgetRefusal refusal → ⊥) → looked.lookup.answer ≡ IsRefused refusal
+ReturnsLookup file asked told looked (Err (Source fault at)) = Unit {0}
 
 -- WHAT IS LEFT OF A LOOKUP DOES in a known file, where so many bytes of what it reads were asked for before: it asks for the
 -- others and a few, and tells what the lookup gives
-pub record LooksBehind (file : List ℕ) (wanted : Wanted) (few before : ℕ) (looked : LoaderLookup) (told : List ℕ) (old new : Counting) (result : Result SymbolLookup Fault) : Type 0 where
+pub record LooksAfter (file : List ℕ) (wanted : Wanted) (few before : ℕ) (looked : LoaderLookup) (told : List ℕ) (old new : CountedState) (result : Result SymbolLookup Fault) : Type 0 where
   pub spent : ℕ
-  pub costs : Charges old new (why_stopped result) spent
+  pub costs : CallReads old new (fault_of_result result) spent
   pub within : before + spent ≤ few + lookup_asks wanted looked
-  pub tells : TellsLookup file wanted.asked told looked result
+  pub tells : ReturnsLookup file wanted.asked told looked result
 
 -- what a call did that goes on with a lookup: it asked for at most n bytes, and where the file is known, and the tables that the
 -- lookup searches, it does what is left of it
-abbrev pub LooksOn : Counting → Counting → ScopeCode → Wanted → List ℕ → Result SymbolLookup Fault → (few n : ℕ) → (List ℕ → Scope → (ℕ → LoaderLookup → Type 0) → Type 0) → Type 0
-LooksOn old new scope wanted told result few n Leaves =
-    Did old new (why_stopped result) n
-    (λ file. (is : Scope) → IsScope file is scope → Leaves file is (λ before looked. LooksBehind file wanted few before looked told old new result))
+abbrev pub LooksOn : CountedState → CountedState → ScopeCode → Wanted → List ℕ → Result SymbolLookup Fault → (few n : ℕ) → (List ℕ → LookupTables → (ℕ → LoaderLookup → Type 0) → Type 0) → Type 0
+LooksOn old new scope wanted told result few n KeepsSourceUnlimited =
+    CallDid old new (fault_of_result result) n
+    (λ file. (is : LookupTables) → IsLookupTables file is scope → KeepsSourceUnlimited file is (λ before looked. LooksAfter file wanted few before looked told old new result))
 
 -- WHAT A LOADER'S LOOKUP DOES in a known file: it costs no more than the definition's, and tells what that gives
-pub record LooksUp (file : List ℕ) (headers : ℕ) (wanted : Wanted) (told : List ℕ) (old new : Counting) (result : Result SymbolLookup Fault) : Type 0 where
-  pub costs : Charges old new (why_stopped result) (loader_cost file headers wanted)
-  pub tells : TellsLookup file wanted.asked told (loader_looked file headers wanted) result
+pub record LooksUp (file : List ℕ) (headers : ℕ) (wanted : Wanted) (told : List ℕ) (old new : CountedState) (result : Result SymbolLookup Fault) : Type 0 where
+  pub costs : CallReads old new (fault_of_result result) (loader_cost file headers wanted)
+  pub tells : ReturnsLookup file wanted.asked told (loader_looked file headers wanted) result
 
 -- WHAT A CALL DID that looks up as a loader does: it asked for no more than its ceiling, and in the file that is looked at it
 -- does so
-abbrev pub LooksThrough : Counting → Counting → (List ℕ → List ℕ) → ℕ → Wanted → List ℕ → Result SymbolLookup Fault → Type 0
+abbrev pub LooksThrough : CountedState → CountedState → (List ℕ → List ℕ) → ℕ → Wanted → List ℕ → Result SymbolLookup Fault → Type 0
 LooksThrough old new looked_at headers wanted told result =
-    Did old new (why_stopped result) (loader_ceiling old.seen.size headers wanted) (λ file. LooksUp (looked_at file) headers wanted told old new result)
+    CallDid old new (fault_of_result result) (loader_ceiling old.seen.size headers wanted) (λ file. LooksUp (looked_at file) headers wanted told old new result)
 
 -- a lookup once the numbers of the version are known, or why they are not
-abbrev pub looked_with : List ℕ → Scope → Wanted → Compared → LoaderLookup
+abbrev pub looked_with : List ℕ → LookupTables → Wanted → Compared → LoaderLookup
 looked_with file scope wanted compared = elim compared.refused [
   | Some refusal ↦ refused_lookup 0 0 compared.read false refusal
   | None ↦ looked_by file scope wanted.asked compared.read (walk_in file scope wanted (λ number. is_among number compared.numbers))

@@ -1,64 +1,64 @@
 -- What looking for the name of a number gives.
 use Rattle.std.specs.Prelude.{ℕ, ◌≡◌, ◌+◌, ◌*◌, List, Option, None, Some, Result, Ok, Err, IfSome}
-use Rattle.elf_model.specs.Budget.{IsBudget}
+use Rattle.elf_model.specs.Budget.{IsBudgetRefusal}
 use Rattle.elf_model.specs.BoundSymbols.{file_before}
-use Rattle.elf_model.specs.Loader.{Naming, RecordReading, naming_of}
-use Rattle.elf_model.specs.Versions.{Met}
-use Rattle.elf_source.specs.Source.{Counting}
-use Rattle.elf_headers.specs.Ledger.{Charges, Did, why_stopped}
+use Rattle.elf_model.specs.Loader.{NumberNameSource, VersionRecordRead, naming_of}
+use Rattle.elf_model.specs.Versions.{VisitedRecord}
+use Rattle.elf_source.specs.Source.{CountedState}
+use Rattle.elf_headers.specs.Ledger.{CallReads, CallDid, fault_of_result}
 use Rattle.elf_headers.specs.declared.fault.Fault.{Fault}
 use Rattle.elf_headers.specs.declared.fault.Fault.TheVariants.{Refused, Source}
-use Rattle.elf_table.specs.Tables.{StringsWithin, strings_in}
+use Rattle.elf_table.specs.Tables.{StringsInBounds, strings_in}
 use Rattle.elf_versions.specs.Reading.{IsVersion}
 use Rattle.elf_versions.specs.declared.record.VersionRecord.{VersionRecord}
-use Rattle.elf_loader.specs.declared.naming.NamedBy.{NamedBy}
+use Rattle.elf_loader.specs.declared.naming.VersionNameRecord.{VersionNameRecord}
 
 -- some records are read that have not the number; the others are left
-pub record NamedAs (records : ℕ) (all left : Naming) : Type 0 where
+pub record NamedAs (records : ℕ) (all left : NumberNameSource) : Type 0 where
   pub found : all.found ≡ left.found
   pub refused : all.refused ≡ left.refused
   pub read : all.read ≡ records + left.read
 
 -- the first that has the number is given, with the strings of its name; or none of some has it, and the others are left; or
 -- what comes before is refused, unless a read failed
-abbrev pub NamesBefore : List ℕ → Counting → Counting → Naming → Naming → Result (Option NamedBy) Fault → Type 0
+abbrev pub NamesBefore : List ℕ → CountedState → CountedState → NumberNameSource → NumberNameSource → Result (Option VersionNameRecord) Fault → Type 0
 NamesBefore file before after all left (Ok (Some by)) =
-    (met : Met) × (all.found ≡ Some (strings_in file by.names, met)) × IsVersion file met by.«record» × Charges before after None (all.read * 28)
-NamesBefore file before after all left (Ok None) = (records : ℕ) × Charges before after None (records * 28) × NamedAs records all left
+    (met : VisitedRecord) × (all.found ≡ Some (strings_in file by.names, met)) × IsVersion file met by.«record» × CallReads before after None (all.read * 28)
+NamesBefore file before after all left (Ok None) = (records : ℕ) × CallReads before after None (records * 28) × NamedAs records all left
 NamesBefore file before after all left (Err (Refused refusal)) =
-    Charges before after (Some (Refused refusal)) (all.read * 28)
-    × ((IsBudget refusal → ⊥) → (all.found ≡ None) × (all.refused ≡ Some refusal))
-NamesBefore file before after all left (Err (Source fault at)) = Charges before after (Some (Source fault at)) (all.read * 28)
+    CallReads before after (Some (Refused refusal)) (all.read * 28)
+    × ((IsBudgetRefusal refusal → ⊥) → (all.found ≡ None) × (all.refused ≡ Some refusal))
+NamesBefore file before after all left (Err (Source fault at)) = CallReads before after (Some (Source fault at)) (all.read * 28)
 
 -- what a call did that looks for the record of a number among at most so many: it asks for their heads, and of those that are
 -- read of tables and those that are left this is so
-abbrev pub NamesRecord : Counting → Counting → ℕ → Result (Option NamedBy) Fault → ℕ → (List ℕ → (List RecordReading → List RecordReading → Type 0) → Type 0) → Type 0
+abbrev pub NamesRecord : CountedState → CountedState → ℕ → Result (Option VersionNameRecord) Fault → ℕ → (List ℕ → (List VersionRecordRead → List VersionRecordRead → Type 0) → Type 0) → Type 0
 NamesRecord before after number result most Of =
-    Did before after (why_stopped result) (most * 28) (λ file. Of file (λ all left. NamesBefore file before after (naming_of file number all) (naming_of file number left) result))
+    CallDid before after (fault_of_result result) (most * 28) (λ file. Of file (λ all left. NamesBefore file before after (naming_of file number all) (naming_of file number left) result))
 
 -- the strings of its name lie within a source of this size
-abbrev pub NamedLies : ℕ → Option NamedBy → Type 0
-NamedLies size named = IfSome named (λ by. StringsWithin size by.names)
+abbrev pub NamedInBounds : ℕ → Option VersionNameRecord → Type 0
+NamedInBounds size named = IfSome named (λ by. StringsInBounds size by.names)
 
 -- the record of a needed file is one that is met, or there is none
-abbrev pub IsFileIf : List ℕ → Option Met → Option VersionRecord → Type 0
+abbrev pub IsFileIf : List ℕ → Option VisitedRecord → Option VersionRecord → Type 0
 IsFileIf file None None = Unit {0}
 IsFileIf file (Some met) (Some given) = IsVersion file met given
 IsFileIf file None (Some given) = ⊥
 IsFileIf file (Some met) None = ⊥
 
 -- the record of the needed file of a version is the one that is told
-abbrev pub HasFile : List ℕ → Option Met → Result (Option NamedBy) Fault → Type 0
+abbrev pub HasFile : List ℕ → Option VisitedRecord → Result (Option VersionNameRecord) Fault → Type 0
 HasFile file told (Ok (Some by)) = IsFileIf file told by.file
 HasFile file told (Ok None) = Unit {0}
 HasFile file told (Err fault) = Unit {0}
 
 -- the same behind some records; where none of these has the number, the last needed file that is met is told before the others
-abbrev pub NamesFileBehind : List ℕ → ℕ → Option Met → (left : List RecordReading) → (after : Option VersionRecord) → Result (Option NamedBy) Fault → Type 0
+abbrev pub NamesFileBehind : List ℕ → ℕ → Option VisitedRecord → (left : List VersionRecordRead) → (after : Option VersionRecord) → Result (Option VersionNameRecord) Fault → Type 0
 NamesFileBehind file number told left after (Ok (Some by)) = IsFileIf file told by.file
-NamesFileBehind file number told left after (Ok None) = (met : Option Met) × IsFileIf file met after × (told ≡ file_before file number met left)
+NamesFileBehind file number told left after (Ok None) = (met : Option VisitedRecord) × IsFileIf file met after × (told ≡ file_before file number met left)
 NamesFileBehind file number told left after (Err fault) = Unit {0}
 
-abbrev pub NamesFile : List ℕ → ℕ → (all left : List RecordReading) → (before after : Option VersionRecord) → Result (Option NamedBy) Fault → Type 0
+abbrev pub NamesFile : List ℕ → ℕ → (all left : List VersionRecordRead) → (before after : Option VersionRecord) → Result (Option VersionNameRecord) Fault → Type 0
 NamesFile file number all left before after result =
-    (met : Option Met) → IsFileIf file met before → NamesFileBehind file number (file_before file number met all) left after result
+    (met : Option VisitedRecord) → IsFileIf file met before → NamesFileBehind file number (file_before file number met all) left after result

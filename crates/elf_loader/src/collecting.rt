@@ -1,32 +1,32 @@
 //! The numbers of the version that is asked for, of all records of versions.
 ghost use Rattle.std.specs.Prelude.{◌≤◌, length, IfSome};
-ghost use Rattle.elf_headers.specs.Ledger.{Did, why_stopped};
-ghost use Rattle.elf_loader.specs.Comparing.{Collects, ComparesRecords, comparing_bytes};
-ghost use Rattle.elf_loader.specs.Tables.{OfAnyTable, OfTables, most_of, most_versions};
+ghost use Rattle.elf_headers.specs.Ledger.{CallDid, fault_of_result};
+ghost use Rattle.elf_loader.specs.Comparing.{CollectsNumbers, ComparesRecords, comparing_bytes};
+ghost use Rattle.elf_loader.specs.Tables.{OfAnyTable, OfTables, max_records_of, max_versions_of};
 ghost use Rattle.elf_wanted.specs.Wants.{asked_of};
 ghost use Rattle.elf_model.specs.Loader.{asked_name};
-ghost use Rattle.elf_model.specs.LoaderFind.{record_cost, wanted_numbers};
-ghost use Rattle.elf_model.specs.LoaderScope.{Scope as IsScopeOf};
-ghost use Rattle.elf_lookup_tables.specs.Symbols.{IsSymbols, RecordsWithin, SymbolsLie};
+ghost use Rattle.elf_model.specs.LoaderFind.{record_cost, version_indices};
+ghost use Rattle.elf_model.specs.LoaderScope.{LookupTables as IsScopeOf};
+ghost use Rattle.elf_lookup_tables.specs.Symbols.{IsDynamicSymbols, VersionRecordsInBounds, DynamicSymbolsInBounds};
 
 use crate::comparing::compare_table;
-use crate::number_set::NumberSet;
+use crate::number_set::VersionIndexSet;
 use elf_headers::Fault;
-use elf_lookup_tables::{RecordTable, Symbols};
+use elf_lookup_tables::{Symbols, VersionRecordTable};
 use elf_source::{Counted, Source};
 use elf_wanted::Asked;
 
 // Compares the records of a table, if there is one.
 fn compare_any<S: Source>(
     src: &mut Counted<S>,
-    records: &Option<RecordTable>,
+    records: &Option<VersionRecordTable>,
     version: &[u8],
-    numbers: &mut NumberSet,
+    numbers: &mut VersionIndexSet,
 ) -> Result<(), Fault>
     requires most { length version.now ≤ 4096 }
-    requires within { IfSome records.now (RecordsWithin src.old.seen.size) }
+    requires within { IfSome records.now (VersionRecordsInBounds src.old.seen.size) }
     ensures { ComparesRecords src.old src.new version.now numbers.old numbers.new result
-        (most_of records.now) (OfAnyTable records.now) }
+        (max_records_of records.now) (OfAnyTable records.now) }
 {
     match records {
         None => Ok(()),
@@ -39,12 +39,12 @@ fn compare_all<S: Source>(
     src: &mut Counted<S>,
     symbols: &Symbols,
     version: &[u8],
-    numbers: &mut NumberSet,
+    numbers: &mut VersionIndexSet,
 ) -> Result<(), Fault>
     requires most { length version.now ≤ 4096 }
-    requires lies { SymbolsLie src.old.seen.size symbols.now }
+    requires lies { DynamicSymbolsInBounds src.old.seen.size symbols.now }
     ensures { ComparesRecords src.old src.new version.now numbers.old numbers.new result
-        (most_versions symbols.now) (OfTables symbols.now) }
+        (max_versions_of symbols.now) (OfTables symbols.now) }
 {
     compare_any(src, &symbols.definitions, version, numbers)?;
     compare_any(src, &symbols.needs, version, numbers)
@@ -56,20 +56,20 @@ fn compare_all<S: Source>(
 /// # Errors
 /// The first record that is refused, as [`elf_versions::VersionCursor::advance`] has it, or whose
 /// name has a fault, at what holds the name: of the definitions and then of the needs.
-pub fn wanted_numbers<S: Source>(
+pub fn version_indices<S: Source>(
     src: &mut Counted<S>,
     symbols: &Symbols,
     asked: &Asked<'_>,
-) -> Result<NumberSet, Fault>
+) -> Result<VersionIndexSet, Fault>
     requires most { IfSome (asked_name (asked_of asked.now)) (λ version. length version ≤ 4096) }
-    requires lies { SymbolsLie src.old.seen.size symbols.now }
-    ensures { Did src.old src.new (why_stopped result)
-        (comparing_bytes (asked_of asked.now) (most_versions symbols.now))
-        (λ file. (scope : IsScopeOf) → IsSymbols file scope.symbols symbols.now →
-        Collects src.old src.new (record_cost (asked_of asked.now))
-        (wanted_numbers file scope (asked_of asked.now)) result) }
+    requires lies { DynamicSymbolsInBounds src.old.seen.size symbols.now }
+    ensures { CallDid src.old src.new (fault_of_result result)
+        (comparing_bytes (asked_of asked.now) (max_versions_of symbols.now))
+        (λ file. (scope : IsScopeOf) → IsDynamicSymbols file scope.symbols symbols.now →
+        CollectsNumbers src.old src.new (record_cost (asked_of asked.now))
+        (version_indices file scope (asked_of asked.now)) result) }
 {
-    let mut numbers = NumberSet::new();
+    let mut numbers = VersionIndexSet::new();
     let Some(_words) = &symbols.words else {
         return Ok(numbers);
     };

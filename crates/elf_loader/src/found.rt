@@ -1,17 +1,17 @@
 //! The version of a symbol that is found.
 ghost use Rattle.std.specs.Prelude.{◌≡◌, ℕ, ◌+◌, ◌*◌, ◌<◌, Some};
-ghost use Rattle.elf_headers.specs.Ledger.{Did, why_stopped};
+ghost use Rattle.elf_headers.specs.Ledger.{CallDid, fault_of_result};
 ghost use Rattle.elf_loader.specs.Answering.{IsWord};
 ghost use Rattle.elf_loader.specs.Finding.{FindsVersion};
-ghost use Rattle.elf_loader.specs.Tables.{most_versions};
+ghost use Rattle.elf_loader.specs.Tables.{max_versions_of};
 ghost use Rattle.elf_loader.specs.Telling.{telling_bytes};
 ghost use Rattle.elf_wanted.specs.Wants.{asked_of};
 ghost use Rattle.elf_model.specs.Loader.{VersionWords as AreWordsOf};
-ghost use Rattle.elf_model.specs.LoaderScope.{Scope as IsScopeOf};
-ghost use Rattle.elf_lookup_tables.specs.Symbols.{IsSymbols, IsWords, SymbolsLie};
+ghost use Rattle.elf_model.specs.LoaderScope.{LookupTables as IsScopeOf};
+ghost use Rattle.elf_lookup_tables.specs.Symbols.{IsDynamicSymbols, IsVersymTable, DynamicSymbolsInBounds};
 
-use crate::telling::told_name;
-use elf_hash::{FoundInChain, WordAt};
+use crate::telling::parsed_member_name;
+use elf_hash::{ChainMatch, VersymEntry};
 use elf_headers::Fault;
 use elf_lookup_tables::{Symbols, VersionWords};
 use elf_record::version_number;
@@ -53,13 +53,13 @@ pub(crate) fn version_of<S: Source>(
     src: &mut Counted<S>,
     symbols: &Symbols,
     asked: &Asked<'_>,
-    found: &FoundInChain,
+    found: &ChainMatch,
     name: &mut NameBuf,
 ) -> Result<Option<FoundVersion>, Fault>
-    requires lies { SymbolsLie src.old.seen.size symbols.now }
-    ensures { Did src.old src.new (why_stopped result)
-        (telling_bytes (asked_of asked.now) (most_versions symbols.now))
-        (λ file. (scope : IsScopeOf) → IsSymbols file scope.symbols symbols.now →
+    requires lies { DynamicSymbolsInBounds src.old.seen.size symbols.now }
+    ensures { CallDid src.old src.new (fault_of_result result)
+        (telling_bytes (asked_of asked.now) (max_versions_of symbols.now))
+        (λ file. (scope : IsScopeOf) → IsDynamicSymbols file scope.symbols symbols.now →
         IsWord file symbols.now.words found.now.index found.now.answer.version →
         FindsVersion (λ version. version) file scope (asked_of asked.now) scope.symbols.words
         found.now.index src.old src.new name.new result) }
@@ -78,37 +78,37 @@ pub(crate) fn version_of<S: Source>(
 /// without one where its number is 0 or 1, else by the name of its number, into `name`.
 ///
 /// # Errors
-/// Those of [`told_name`].
+/// Those of [`parsed_member_name`].
 fn found_version<S: Source>(
     src: &mut Counted<S>,
     symbols: &Symbols,
     words: &VersionWords,
     asked: &Asked<'_>,
-    found: WordAt,
+    found: VersymEntry,
     name: &mut NameBuf,
 ) -> Result<FoundVersion, Fault>
-    requires { SymbolsLie src.old.seen.size symbols.now }
-    ensures { Did src.old src.new (why_stopped result)
-        (telling_bytes (asked_of asked.now) (most_versions symbols.now))
+    requires { DynamicSymbolsInBounds src.old.seen.size symbols.now }
+    ensures { CallDid src.old src.new (fault_of_result result)
+        (telling_bytes (asked_of asked.now) (max_versions_of symbols.now))
         (λ file. (scope : IsScopeOf) (is : AreWordsOf) (y : ℕ) →
-        IsSymbols file scope.symbols symbols.now → IsWords is words.now →
+        IsDynamicSymbols file scope.symbols symbols.now → IsVersymTable is words.now →
         IsWord file (Some words.now) y (Some found) → FindsVersion Some file scope
         (asked_of asked.now) (Some is) y src.old src.new name.new result) }
 {
-    let WordAt { word, at } = found;
+    let VersymEntry { word, at } = found;
     if let Some(_version) = asked.name() {
-        return Ok(told_as(words, word, VersionName::Wanted, 0));
+        return Ok(reported_as(words, word, VersionName::Wanted, 0));
     }
     let number = version_number(word);
     if number < 2 {
-        return Ok(told_as(words, word, VersionName::Unnamed, 0));
+        return Ok(reported_as(words, word, VersionName::Unnamed, 0));
     }
-    let told = told_name(src, symbols, at, number, name)?;
-    Ok(told_as(words, word, VersionName::Told(told.end), told.at))
+    let told = parsed_member_name(src, symbols, at, number, name)?;
+    Ok(reported_as(words, word, VersionName::Told(told.end), told.at))
 }
 
 // A version by its word, its name and where that stands.
-fn told_as(words: &VersionWords, word: u16, name: VersionName, name_at: u64) -> FoundVersion
+fn reported_as(words: &VersionWords, word: u16, name: VersionName, name_at: u64) -> FoundVersion
     ensures { result
         ≡ record { index = words.now.index; word = word; name = name; name_at = name_at } }
 {

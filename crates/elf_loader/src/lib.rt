@@ -14,12 +14,12 @@ mod number_set;
 mod offered;
 mod telling;
 
-pub use answering::WantedTrial;
-pub use collecting::wanted_numbers;
+pub use answering::VersionMatcher;
+pub use collecting::version_indices;
 pub use fitting::read_half;
 pub use found::{FoundVersion, VersionName};
 pub use looking::look_up;
 pub use lookup::{FoundSymbol, SymbolLookup};
-pub use naming::{NamedBy, name_of};
-pub use number_set::NumberSet;
-pub use offered::is_offered;
+pub use naming::{VersionNameRecord, name_of};
+pub use number_set::VersionIndexSet;
+pub use offered::is_exported;

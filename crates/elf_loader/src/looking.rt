@@ -2,28 +2,28 @@
 ghost use Rattle.std.specs.Prelude.{◌≡◌, ℕ, ◌+◌, ◌*◌, ◌/◌, None, Ok};
 ghost use Rattle.elf_hash.specs.Scopes.{IsTable, place_of_table};
 ghost use Rattle.elf_hash.specs.Walks.{GivesWalked, walk_bytes};
-ghost use Rattle.elf_loader.specs.Answering.{StandsAs};
+ghost use Rattle.elf_loader.specs.Answering.{IsSymbolWithVersym};
 ghost use Rattle.elf_loader.specs.Lookups.{AreShort, LooksOn, LooksThrough, MayLookOn, lookup_bytes};
-ghost use Rattle.elf_loader.specs.Lookups.{looked_with, trial_bytes};
+ghost use Rattle.elf_loader.specs.Lookups.{looked_with, match_bytes};
 ghost use Rattle.elf_loader.specs.NumberSets.{has_number};
-ghost use Rattle.elf_loader.specs.Tables.{most_versions};
+ghost use Rattle.elf_loader.specs.Tables.{max_versions_of};
 ghost use Rattle.elf_loader.specs.Telling.{telling_bytes};
-ghost use Rattle.elf_model.specs.Chains.{Walked as Walk};
+ghost use Rattle.elf_model.specs.Chains.{ChainResult as NoteScan};
 ghost use Rattle.elf_model.specs.Loader.{asked_name};
 ghost use Rattle.elf_model.specs.LoaderFind.{loaded_in, looked_by, record_cost, walk_in};
-ghost use Rattle.elf_model.specs.LoaderFind.{wanted_numbers};
+ghost use Rattle.elf_model.specs.LoaderFind.{version_indices};
 ghost use Rattle.elf_model.specs.Style.{looked_at};
-ghost use Rattle.elf_lookup_tables.specs.Scopes.{ScopeLies};
-ghost use Rattle.elf_wanted.specs.Wants.{asked_of, the_wanted};
+ghost use Rattle.elf_lookup_tables.specs.Scopes.{LookupTablesInBounds};
+ghost use Rattle.elf_wanted.specs.Wants.{asked_of, query_of};
 
-use crate::answering::WantedTrial;
-use crate::collecting::wanted_numbers;
+use crate::answering::VersionMatcher;
+use crate::collecting::version_indices;
 use crate::found::version_of;
 use crate::lookup::{FoundSymbol, SymbolLookup};
-use crate::number_set::NumberSet;
-use elf_hash::{HashTable, Walked, counts, walk};
+use crate::number_set::VersionIndexSet;
+use elf_hash::{ChainResult, HashTable, counts, walk};
 use elf_headers::{Fault, HeaderStore};
-use elf_lookup_tables::{Scope, find_scope};
+use elf_lookup_tables::{LookupTables, find_lookup_tables};
 use elf_source::{Counted, Source};
 use elf_table::NameBuf;
 use elf_wanted::Wanted;
@@ -31,8 +31,8 @@ use elf_wanted::Wanted;
 /// Looks a name up in a file, alone or with a version, as a loader of the GNU system does (gABI 5,
 /// Dynamic Linking; Linux Standard Base Core, Symbol Versioning): by the file's hash table, of the
 /// GNU system or else of the gABI, the first symbol of the name's chain that has the name, is offered
-/// to others ([`crate::is_offered`]) and whose version fits. The tables that it searches are
-/// those of [`find_scope`], and the headers are loaded into the store. With `by_segments` they are
+/// to others ([`crate::is_exported`]) and whose version fits. The tables that it searches are
+/// those of [`find_lookup_tables`], and the headers are loaded into the store. With `by_segments` they are
 /// found by the program headers also where there are section headers: the file is read with zeros for
 /// e_shoff, e_shnum and e_shstrndx. The name and the version that is
 /// asked for have at most 4,096 bytes each. Where the name of the symbol's version is read, `name`
@@ -42,7 +42,7 @@ use elf_wanted::Wanted;
 /// asked for than the lookup costs, also where the source fails.
 ///
 /// # Errors
-/// The first that fails: what [`find_scope`] refuses; `HashShape` at the header or entry that locates
+/// The first that fails: what [`find_lookup_tables`] refuses; `HashShape` at the header or entry that locates
 /// the hash table where its counts are no table's of its size; where a version is asked for, what
 /// [`elf_versions::VersionCursor::advance`] refuses of the definitions and the needs, and a fault of
 /// a version's name at the record that holds it; on the way `HashIndex` at the word that leads to a
@@ -59,107 +59,107 @@ pub fn look_up<S: Source>(
     by_segments: bool,
     name: &mut NameBuf,
 ) -> Result<SymbolLookup, Fault>
-    requires { AreShort (the_wanted wanted.now) }
+    requires { AreShort (query_of wanted.now) }
     ensures did { LooksThrough src.old src.new (looked_at by_segments) store.old.slots
-        (the_wanted wanted.now) name.new result }
+        (query_of wanted.now) name.new result }
     ensures slots { store.new.slots ≡ store.old.slots }
 {
     if !by_segments {
-        return look_up_shown(src, store, wanted, name);
+        return lookup_and_read_version(src, store, wanted, name);
     }
     let hides = src.hides();
-    src.hide_sections(true);
-    let found = look_up_shown(src, store, wanted, name);
-    src.hide_sections(hides);
+    src.mask_section_headers(true);
+    let found = lookup_and_read_version(src, store, wanted, name);
+    src.mask_section_headers(hides);
     found
 }
 
 /// Looks up in the file that the source shows.
 ///
 /// # Errors
-/// Those of [`find_scope`], and of [`look_in`].
-fn look_up_shown<S: Source>(
+/// Those of [`find_lookup_tables`], and of [`look_in`].
+fn lookup_and_read_version<S: Source>(
     src: &mut Counted<S>,
     store: &mut HeaderStore,
     wanted: &Wanted<'_>,
     name: &mut NameBuf,
 ) -> Result<SymbolLookup, Fault>
-    requires { AreShort (the_wanted wanted.now) }
+    requires { AreShort (query_of wanted.now) }
     ensures did { LooksThrough src.old src.new (λ file. file) store.old.slots
-        (the_wanted wanted.now) name.new result }
+        (query_of wanted.now) name.new result }
     ensures slots { store.new.slots ≡ store.old.slots }
 {
-    let scope = find_scope(src, store)?;
+    let scope = find_lookup_tables(src, store)?;
     look_in(src, &scope, wanted, name)
 }
 
 /// Looks up in the tables that a lookup searches.
 ///
 /// # Errors
-/// Those of the table's counts, and of [`look_in_table`].
+/// Those of the table's counts, and of [`search_hash_table`].
 fn look_in<S: Source>(
     src: &mut Counted<S>,
-    scope: &Scope,
+    scope: &LookupTables,
     wanted: &Wanted<'_>,
     name: &mut NameBuf,
 ) -> Result<SymbolLookup, Fault>
-    requires { MayLookOn src.old scope.now (the_wanted wanted.now) }
-    ensures { LooksOn src.old src.new scope.now (the_wanted wanted.now) name.new result 28
-        (lookup_bytes 28 src.old.seen.size (the_wanted wanted.now))
-        (λ file told leaves. leaves 0 (loaded_in file told (the_wanted wanted.now))) }
+    requires { MayLookOn src.old scope.now (query_of wanted.now) }
+    ensures { LooksOn src.old src.new scope.now (query_of wanted.now) name.new result 28
+        (lookup_bytes 28 src.old.seen.size (query_of wanted.now))
+        (λ file told leaves. leaves 0 (loaded_in file told (query_of wanted.now))) }
 {
     let table = counts(src, &scope.hash)?;
-    look_in_table(src, scope, &table, wanted, name)
+    search_hash_table(src, scope, &table, wanted, name)
 }
 
 /// Looks up in a hash table with its counts: finds the numbers of the version that is asked for, and
 /// goes along the chain.
 ///
 /// # Errors
-/// Those of [`wanted_numbers`], and of [`look_along`].
-fn look_in_table<S: Source>(
+/// Those of [`version_indices`], and of [`search_chain`].
+fn search_hash_table<S: Source>(
     src: &mut Counted<S>,
-    scope: &Scope,
+    scope: &LookupTables,
     table: &HashTable,
     wanted: &Wanted<'_>,
     name: &mut NameBuf,
 ) -> Result<SymbolLookup, Fault>
-    requires may { MayLookOn src.old scope.now (the_wanted wanted.now) }
+    requires may { MayLookOn src.old scope.now (query_of wanted.now) }
     requires place { place_of_table table.now ≡ scope.now.hash }
-    ensures { LooksOn src.old src.new scope.now (the_wanted wanted.now) name.new result 12
-        (lookup_bytes 12 src.old.seen.size (the_wanted wanted.now)) (λ file told leaves.
-        IsTable file told table.now → leaves 0 (looked_with file told (the_wanted wanted.now)
-        (wanted_numbers file told (the_wanted wanted.now).asked))) }
+    ensures { LooksOn src.old src.new scope.now (query_of wanted.now) name.new result 12
+        (lookup_bytes 12 src.old.seen.size (query_of wanted.now)) (λ file told leaves.
+        IsTable file told table.now → leaves 0 (looked_with file told (query_of wanted.now)
+        (version_indices file told (query_of wanted.now).asked))) }
 {
-    let numbers = wanted_numbers(src, &scope.symbols, &wanted.asked)?;
-    look_along(src, scope, table, wanted, &numbers, name)
+    let numbers = version_indices(src, &scope.symbols, &wanted.asked)?;
+    search_chain(src, scope, table, wanted, &numbers, name)
 }
 
 /// Goes along the chain of the wanted name for the symbol that answers, and finds its version.
 ///
 /// # Errors
 /// Those of [`walk`], and of [`version_of`].
-fn look_along<S: Source>(
+fn search_chain<S: Source>(
     src: &mut Counted<S>,
-    scope: &Scope,
+    scope: &LookupTables,
     table: &HashTable,
     wanted: &Wanted<'_>,
-    numbers: &NumberSet,
+    numbers: &VersionIndexSet,
     name: &mut NameBuf,
 ) -> Result<SymbolLookup, Fault>
-    requires may { MayLookOn src.old scope.now (the_wanted wanted.now) }
+    requires may { MayLookOn src.old scope.now (query_of wanted.now) }
     requires place { place_of_table table.now ≡ scope.now.hash }
-    ensures { LooksOn src.old src.new scope.now (the_wanted wanted.now) name.new result 12
+    ensures { LooksOn src.old src.new scope.now (query_of wanted.now) name.new result 12
         (walk_bytes 12 (scope.now.hash.size / 4) (scope.now.hash.size / 4)
-        (trial_bytes (the_wanted wanted.now))
-        + telling_bytes (asked_of wanted.now.asked) (most_versions scope.now.symbols))
+        (match_bytes (query_of wanted.now))
+        + telling_bytes (asked_of wanted.now.asked) (max_versions_of scope.now.symbols))
         (λ file told leaves. (before : ℕ) → IsTable file told table.now →
         (asked_name (asked_of wanted.now.asked) ≡ None → before ≡ 0) →
         leaves (before * record_cost (asked_of wanted.now.asked))
         (looked_by file told (asked_of wanted.now.asked) before
-        (walk_in file told (the_wanted wanted.now) (has_number numbers.now)))) }
+        (walk_in file told (query_of wanted.now) (has_number numbers.now)))) }
 {
-    let trial = WantedTrial {
+    let trial = VersionMatcher {
         symbols: &scope.symbols,
         wanted,
         numbers,
@@ -174,19 +174,19 @@ fn look_along<S: Source>(
 /// Those of [`version_of`].
 fn answer_of<S: Source>(
     src: &mut Counted<S>,
-    scope: &Scope,
+    scope: &LookupTables,
     wanted: &Wanted<'_>,
-    walked: &Walked,
+    walked: &ChainResult,
     name: &mut NameBuf,
 ) -> Result<SymbolLookup, Fault>
-    requires { ScopeLies src.old.seen.size scope.now }
-    ensures { LooksOn src.old src.new scope.now (the_wanted wanted.now) name.new result 0
-        (telling_bytes (asked_of wanted.now.asked) (most_versions scope.now.symbols))
-        (λ file told leaves. (walk : Walk) (before : ℕ) →
-        GivesWalked (StandsAs file scope.now.symbols) walk (Ok walked.now) →
+    requires { LookupTablesInBounds src.old.seen.size scope.now }
+    ensures { LooksOn src.old src.new scope.now (query_of wanted.now) name.new result 0
+        (telling_bytes (asked_of wanted.now.asked) (max_versions_of scope.now.symbols))
+        (λ file told leaves. (walk : NoteScan) (before : ℕ) →
+        GivesWalked (IsSymbolWithVersym file scope.now.symbols) walk (Ok walked.now) →
         (asked_name (asked_of wanted.now.asked) ≡ None → before ≡ 0) →
         leaves (walk_bytes (before * record_cost (asked_of wanted.now.asked)) walk.read walk.tried
-        (trial_bytes (the_wanted wanted.now)))
+        (match_bytes (query_of wanted.now)))
         (looked_by file told (asked_of wanted.now.asked) before walk)) }
 {
     let Some(found) = walked.found else {

@@ -1,14 +1,14 @@
 //! The record that names the version of a number.
 ghost use Rattle.std.specs.Prelude.{◌≡◌, ℕ, List, Option, None, Some, IfOk, IfSome};
-ghost use Rattle.elf_loader.specs.Naming.{HasFile, IsFileIf, NamedLies, NamesFile, NamesRecord};
-ghost use Rattle.elf_loader.specs.Tables.{OfAnyTable, OfTable, OfTables, most_of, most_versions};
+ghost use Rattle.elf_loader.specs.Naming.{HasFile, IsFileIf, NamedInBounds, NamesFile, NamesRecord};
+ghost use Rattle.elf_loader.specs.Tables.{OfAnyTable, OfTable, OfTables, max_records_of, max_versions_of};
 ghost use Rattle.elf_model.specs.BoundSymbols.{file_before, file_or};
-ghost use Rattle.elf_model.specs.Versions.{Met, most_records, names_number};
-ghost use Rattle.elf_lookup_tables.specs.Symbols.{RecordsWithin, SymbolsLie};
+ghost use Rattle.elf_model.specs.Versions.{VisitedRecord, max_records, names_version_index};
+ghost use Rattle.elf_lookup_tables.specs.Symbols.{VersionRecordsInBounds, DynamicSymbolsInBounds};
 ghost use Rattle.elf_versions.specs.Reading.{IsVersion};
 
 use elf_headers::Fault;
-use elf_lookup_tables::{RecordTable, Symbols};
+use elf_lookup_tables::{Symbols, VersionRecordTable};
 use elf_record::{VersionKind, version_number};
 use elf_source::{Counted, Source};
 use elf_table::Names;
@@ -16,7 +16,7 @@ use elf_versions::{VersionCursor, VersionRecord};
 
 /// A record that names the version of a number, with the strings of its name.
 #[derive(Clone, Copy)]
-pub struct NamedBy {
+pub struct VersionNameRecord {
     /// The record.
     pub record: VersionRecord,
     /// The strings of its name.
@@ -32,21 +32,21 @@ pub struct NamedBy {
 /// As for [`VersionCursor::advance`], of what comes before.
 pub(crate) fn name_in_table<S: Source>(
     src: &mut Counted<S>,
-    records: &RecordTable,
+    records: &VersionRecordTable,
     number: u16,
     file: &mut Option<VersionRecord>,
-) -> Result<Option<NamedBy>, Fault>
-    requires within { RecordsWithin src.old.seen.size records.now }
+) -> Result<Option<VersionNameRecord>, Fault>
+    requires within { VersionRecordsInBounds src.old.seen.size records.now }
     ensures did { NamesRecord src.old src.new number result
-        (most_records records.now.kind records.now.table.count) (OfTable records.now) }
-    ensures lies { IfOk result (NamedLies src.old.seen.size) }
+        (max_records records.now.kind records.now.table.count) (OfTable records.now) }
+    ensures lies { IfOk result (NamedInBounds src.old.seen.size) }
     ensures file { (bytes : List ℕ) → src.old.seen.file ≡ Some bytes → OfTable records.now bytes
         (λ all left. NamesFile bytes number all left file.old file.new result) }
 {
     let mut cursor = VersionCursor::one_by_one(records.kind, records.head, records.table);
     'records: while let Some(given) = cursor.advance(src)? {
-        if names_number(&given, number) {
-            return Ok(Some(NamedBy {
+        if names_version_index(&given, number) {
+            return Ok(Some(VersionNameRecord {
                 record: given,
                 names: records.names,
                 file: *file,
@@ -59,7 +59,7 @@ pub(crate) fn name_in_table<S: Source>(
 
 /// The record of the needed file that the next record is a version of, behind one more record.
 fn file_of(given: &VersionRecord, before: Option<VersionRecord>) -> Option<VersionRecord>
-    ensures { (bytes : List ℕ) (met : Met) (told : Option Met) → IsVersion bytes met given.now →
+    ensures { (bytes : List ℕ) (met : VisitedRecord) (told : Option VisitedRecord) → IsVersion bytes met given.now →
         IsFileIf bytes told before → IsFileIf bytes (file_or met told) result }
 {
     match given.kind {
@@ -77,11 +77,11 @@ pub fn name_of<S: Source>(
     src: &mut Counted<S>,
     symbols: &Symbols,
     number: u16,
-) -> Result<Option<NamedBy>, Fault>
-    requires lies { SymbolsLie src.old.seen.size symbols.now }
-    ensures did { NamesRecord src.old src.new number result (most_versions symbols.now)
+) -> Result<Option<VersionNameRecord>, Fault>
+    requires lies { DynamicSymbolsInBounds src.old.seen.size symbols.now }
+    ensures did { NamesRecord src.old src.new number result (max_versions_of symbols.now)
         (OfTables symbols.now) }
-    ensures lies { IfOk result (NamedLies src.old.seen.size) }
+    ensures lies { IfOk result (NamedInBounds src.old.seen.size) }
     ensures file { (bytes : List ℕ) → src.old.seen.file ≡ Some bytes → OfTables symbols.now bytes
         (λ all left. HasFile bytes (file_before bytes number None all) result) }
 {
@@ -95,14 +95,14 @@ pub fn name_of<S: Source>(
 // The first record of a table that names the version of a number, if there is a table and one does.
 fn name_in_any<S: Source>(
     src: &mut Counted<S>,
-    records: &Option<RecordTable>,
+    records: &Option<VersionRecordTable>,
     number: u16,
     file: &mut Option<VersionRecord>,
-) -> Result<Option<NamedBy>, Fault>
-    requires within { IfSome records.now (RecordsWithin src.old.seen.size) }
-    ensures did { NamesRecord src.old src.new number result (most_of records.now)
+) -> Result<Option<VersionNameRecord>, Fault>
+    requires within { IfSome records.now (VersionRecordsInBounds src.old.seen.size) }
+    ensures did { NamesRecord src.old src.new number result (max_records_of records.now)
         (OfAnyTable records.now) }
-    ensures lies { IfOk result (NamedLies src.old.seen.size) }
+    ensures lies { IfOk result (NamedInBounds src.old.seen.size) }
     ensures file { (bytes : List ℕ) → src.old.seen.file ≡ Some bytes → OfAnyTable records.now bytes
         (λ all left. NamesFile bytes number all left file.old file.new result) }
 {
@@ -113,9 +113,9 @@ fn name_in_any<S: Source>(
 }
 
 // Whether a record names the version of a number.
-fn names_number(given: &VersionRecord, number: u16) -> bool
-    ensures { (file : List ℕ) (met : Met) → IsVersion file met given.now →
-        result ≡ names_number file number met }
+fn names_version_index(given: &VersionRecord, number: u16) -> bool
+    ensures { (file : List ℕ) (met : VisitedRecord) → IsVersion file met given.now →
+        result ≡ names_version_index file number met }
 {
     given.names_version() && version_number(given.number) == number
 }

@@ -11,11 +11,11 @@ const WORDS: usize = 16;
 
 /// A set of numbers of versions, of which each is below 1,024: a bit for each.
 #[derive(Drop)]
-pub struct NumberSet {
+pub struct VersionIndexSet {
     words: [u64; WORDS],
 }
 
-impl Model for NumberSet {
+impl Model for VersionIndexSet {
     ghost use Rattle.std.specs.Prelude.{◌≡◌, ℕ, List, length};
 
     ghost Value = { List ℕ };
@@ -25,12 +25,12 @@ impl Model for NumberSet {
     ghost invariant = { λ s. length s.words ≡ 16 };
 }
 
-impl NumberSet {
+impl VersionIndexSet {
     /// No number.
-    pub fn new() -> NumberSet
+    pub fn new() -> VersionIndexSet
         ensures { (number : ℕ) → has_number result number ≡ false }
     {
-        NumberSet { words: [0; WORDS] }
+        VersionIndexSet { words: [0; WORDS] }
     }
 
     /// Whether a number is in the set.

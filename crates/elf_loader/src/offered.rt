@@ -1,6 +1,6 @@
 //! Which symbols are offered to others.
 ghost use Rattle.std.specs.Prelude.{◌≡◌, ℕ, ◌∷◌, [], List};
-ghost use Rattle.elf_model.specs.Loader.{is_among, is_offered};
+ghost use Rattle.elf_model.specs.Loader.{is_among, is_exported};
 ghost use Rattle.elf_model.specs.Numbers.{STB_GLOBAL, STB_WEAK, STB_GNU_UNIQUE, STT_NOTYPE, STT_OBJECT, STT_FUNC, STT_COMMON, STT_TLS, STT_GNU_IFUNC, STV_DEFAULT, STV_PROTECTED};
 ghost use Rattle.elf_record.specs.Sym.{IsSym};
 
@@ -17,9 +17,9 @@ use elf_record::numbers::{
 /// block, of thread-local storage or of an indirect function; it is global, weak or unique; and its
 /// visibility is the default one or protected (gABI 4, Symbol Table). An undefined symbol with a
 /// value is offered: it is a function whose address the program gives out.
-#[tactic(auto, unfolding(elf_model::specs::Loader::is_offered))]
-pub fn is_offered(symbol: &Sym) -> bool
-    ensures { (file : List ℕ) (at : ℕ) → IsSym file at symbol.now → result ≡ is_offered file at }
+#[tactic(auto, unfolding(elf_model::specs::Loader::is_exported))]
+pub fn is_exported(symbol: &Sym) -> bool
+    ensures { (file : List ℕ) (at : ℕ) → IsSym file at symbol.now → result ≡ is_exported file at }
 {
     let is_tls = symbol.kind() == STT_TLS;
     !(is_tls && symbol.st_shndx == SHN_UNDEF)

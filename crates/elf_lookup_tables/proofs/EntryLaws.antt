@@ -10,8 +10,8 @@ use Rattle.elf_record.specs.Dyn.{IsDyn}
 use Rattle.elf_record.specs.declared.dyn_entry.Dyn.{Dyn}
 use Rattle.elf_table.specs.Tables.{Rows}
 use Rattle.elf_lookup_tables.specs.Entries.{AreTaggedEntries, AreListed, EachTag, TakesEntry, dynamic_entry_at, entry_here, first_entry, listed_entry, tagged_entry}
-use Rattle.elf_lookup_tables.specs.declared.entry.TaggedEntries.{TaggedEntries}
-use Rattle.elf_lookup_tables.specs.declared.entry.Entry.{Entry}
+use Rattle.elf_lookup_tables.specs.declared.entry.DynamicTags.{DynamicTags}
+use Rattle.elf_lookup_tables.specs.declared.entry.DynEntry.{DynEntry}
 
 module _ (file : List ℕ) (tag : ℕ) where
   here_some : (at : ℕ) → (d_tag file at == tag) ≡ true → entry_here file at tag ≡ Some (dynamic_entry_at file at)
@@ -33,23 +33,23 @@ module _ (file : List ℕ) (tag : ℕ) where
   tagged_suc at n = go (d_tag file at == tag) refl
     where
       go : (b : Bool) → (d_tag file at == tag) ≡ b → first_entry (entry_here file at tag) (tagged_entry file (at + 16) n tag) ≡ tagged_entry file at (suc n) tag
-      go true t = ap (λ (x : Option Entry). first_entry x (tagged_entry file (at + 16) n tag)) (here_some at t) ∙ sym (tagged_here at n t)
-      go false t = ap (λ (x : Option Entry). first_entry x (tagged_entry file (at + 16) n tag)) (here_none at t) ∙ sym (tagged_more at n t)
+      go true t = ap (λ (x : Option DynEntry). first_entry x (tagged_entry file (at + 16) n tag)) (here_some at t) ∙ sym (tagged_here at n t)
+      go false t = ap (λ (x : Option DynEntry). first_entry x (tagged_entry file (at + 16) n tag)) (here_none at t) ∙ sym (tagged_more at n t)
 
   -- an entry that is looked for in the one that a step gives, and then in those that are left
-  entry_step : (at n before : ℕ) (next : ℕ) (found : Option Entry) → before ≡ suc n → next ≡ at + 16
+  entry_step : (at n before : ℕ) (next : ℕ) (found : Option DynEntry) → before ≡ suc n → next ≡ at + 16
       → first_entry (first_entry found (entry_here file at tag)) (tagged_entry file next n tag) ≡ first_entry found (tagged_entry file at before tag)
   entry_step at n before next (Some entry) less there = refl
   entry_step at n before next None less there = rw (less, there) (tagged_suc at n)
 
   -- where no entry is left, it is what was found
-  entry_end : (at n : ℕ) (found : Option Entry) → n ≡ 0 → first_entry found (tagged_entry file at n tag) ≡ found
+  entry_end : (at n : ℕ) (found : Option DynEntry) → n ≡ 0 → first_entry found (tagged_entry file at n tag) ≡ found
   unfolding tagged_entry
   entry_end at n (Some entry) z = refl
   entry_end at n None z = rw (z, tagged_entry) refl
 
   -- the entry of a row that is found
-  abbrev row_entry : Option ℕ → ℕ → Option Entry
+  abbrev row_entry : Option ℕ → ℕ → Option DynEntry
   row_entry None base = None
   row_entry (Some i) base = Some (dynamic_entry_at file (dynamic_at base i))
 
@@ -104,7 +104,7 @@ module _ (file : List ℕ) (tag : ℕ) where
       go (Some i) e = rw (e, tagged_row) refl
 
 -- of each tag
-pub entries_are : (file : List ℕ) (at : ℕ) (table : Rows) (found : TaggedEntries) → table.at ≡ p_offset file at → table.count ≡ p_filesz file at / DYNAMIC_SIZE
+pub entries_are : (file : List ℕ) (at : ℕ) (table : Rows) (found : DynamicTags) → table.at ≡ p_offset file at → table.count ≡ p_filesz file at / DYNAMIC_SIZE
     → AreListed file table found → AreTaggedEntries file at found
 entries_are file at table found place count l = record {
   hash = l.hash ∙ listed_is file _ at table place count;
@@ -117,11 +117,11 @@ entries_are file at table found place count l = record {
   verneed = l.verneed ∙ listed_is file _ at table place count;
 }
 
-module _ (file : List ℕ) (table : Rows) (at n before next : ℕ) (old new : TaggedEntries) (less : before ≡ suc n) (there : next ≡ at + 16) (t : TakesEntry file at old new)
+module _ (file : List ℕ) (table : Rows) (at n before next : ℕ) (old new : DynamicTags) (less : before ≡ suc n) (there : next ≡ at + 16) (t : TakesEntry file at old new)
     (e : EachTag (λ entry tag. first_entry entry (tagged_entry file at before tag) ≡ listed_entry file table tag) old) where
-  taken : (one other : Option Entry) (tag : ℕ) → one ≡ first_entry other (entry_here file at tag) → first_entry other (tagged_entry file at before tag) ≡ listed_entry file table tag
+  taken : (one other : Option DynEntry) (tag : ℕ) → one ≡ first_entry other (entry_here file at tag) → first_entry other (tagged_entry file at before tag) ≡ listed_entry file table tag
       → first_entry one (tagged_entry file next n tag) ≡ listed_entry file table tag
-  taken one other tag is goes = ap (λ (x : Option Entry). first_entry x (tagged_entry file next n tag)) is ∙ (entry_step file tag at n before next other less there ∙ goes)
+  taken one other tag is goes = ap (λ (x : Option DynEntry). first_entry x (tagged_entry file next n tag)) is ∙ (entry_step file tag at n before next other less there ∙ goes)
 
   pub each_step : EachTag (λ entry tag. first_entry entry (tagged_entry file next n tag) ≡ listed_entry file table tag) new
   each_step = record {
@@ -135,7 +135,7 @@ module _ (file : List ℕ) (table : Rows) (at n before next : ℕ) (old new : Ta
     verneed = taken _ _ _ t.verneed e.verneed;
   }
 
-module _ (file : List ℕ) (table : Rows) (at n : ℕ) (found : TaggedEntries) (none : n ≡ 0)
+module _ (file : List ℕ) (table : Rows) (at n : ℕ) (found : DynamicTags) (none : n ≡ 0)
     (e : EachTag (λ entry tag. first_entry entry (tagged_entry file at n tag) ≡ listed_entry file table tag) found) where
   pub each_end : AreListed file table found
   each_end = record {
@@ -150,7 +150,7 @@ module _ (file : List ℕ) (table : Rows) (at n : ℕ) (found : TaggedEntries) (
   }
 
 -- an entry that is taken in stands at an offset that is told in other words
-pub takes_at : (file : List ℕ) (at there : ℕ) (entry : Dyn) (old new : TaggedEntries) → there ≡ at → (IsDyn file there entry → TakesEntry file there old new) → IsDyn file at entry
+pub takes_at : (file : List ℕ) (at there : ℕ) (entry : Dyn) (old new : DynamicTags) → there ≡ at → (IsDyn file there entry → TakesEntry file there old new) → IsDyn file at entry
     → TakesEntry file at old new
 takes_at file at there entry old new is gives stands =
     subst (λ (x : ℕ). TakesEntry file x old new) is (gives (subst (λ (x : ℕ). IsDyn file x entry) (sym is) stands))

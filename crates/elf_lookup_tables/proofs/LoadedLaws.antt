@@ -1,10 +1,10 @@
 -- What a file tells of what a lookup is made in, behind its load, and what asking for it costs.
 use Rattle.std.proofs.Common.{◌≡◌, ℕ, ◌+◌, ◌*◌, ◌≤◌, ◌==◌, true, false, inl, inr, List, ◌++◌, length, Option, None, Some, Result, Err, refl, sym, ap, subst, ◌∙◌, arith, eq-eqb, ne_eqb}
 use Rattle.std.proofs.lemmas.Bool.{cases_Bool, eqb-true}
-use Rattle.elf_model.specs.Budget.{IsBudget}
+use Rattle.elf_model.specs.Budget.{IsBudgetRefusal}
 use Rattle.elf_model.specs.Checks.{first_refusal, before_headers, header_checks, early_checks, load_checks}
 use Rattle.elf_model.specs.LoaderFind.{segments_asked}
-use Rattle.elf_model.specs.LoaderScope.{Scope as IsScopeOf, scope_by_sections, scope_by_segments, scope_of}
+use Rattle.elf_model.specs.LoaderScope.{LookupTables as IsScopeOf, scope_by_sections, lookup_tables_by_segments, lookup_tables_of}
 use Rattle.elf_model.specs.Records.{e_phnum, e_shnum}
 use Rattle.elf_model.specs.declared.causes.Refusal.{Refusal}
 use Rattle.elf_model.proofs.CheckSteps.{first_refusal-none, first_refusal-some}
@@ -12,69 +12,69 @@ use Rattle.elf_record.specs.Ehdr.{IsEhdr}
 use Rattle.elf_record.specs.declared.ehdr.Ehdr.{Ehdr}
 use Rattle.elf_headers.specs.Faults.{HeaderRead, IsOfRead}
 use Rattle.elf_headers.specs.Load.{LoadedAs, load_cost}
-use Rattle.elf_headers.specs.Store.{Stored}
+use Rattle.elf_headers.specs.Store.{StoreState}
 use Rattle.elf_headers.specs.declared.fault.Fault.{Fault}
 use Rattle.elf_headers.specs.declared.fault.Fault.TheVariants.{Refused, Source}
 use Rattle.elf_headers.proofs.LoadLaws.{load-within, load_most}
 use Rattle.elf_lookup_tables.specs.Finding.{scope_cost, scope_loaded, segments_bytes}
-use Rattle.elf_lookup_tables.specs.Scopes.{IsScopeFound}
+use Rattle.elf_lookup_tables.specs.Scopes.{FindsLookupTables}
 use Rattle.elf_lookup_tables.specs.Segments.{entries_asked}
-use Rattle.elf_lookup_tables.specs.declared.scope.Scope.{Scope}
+use Rattle.elf_lookup_tables.specs.declared.scope.LookupTables.{LookupTables}
 
 -- a fault of a read tells nothing
-pub read_tells : (file : List ℕ) (found : Result IsScopeOf Refusal) (fault : Fault) → IsOfRead fault → IsScopeFound file found (Err fault)
+pub read_tells : (file : List ℕ) (found : Result IsScopeOf Refusal) (fault : Fault) → IsOfRead fault → FindsLookupTables file found (Err fault)
 read_tells file found (Refused refusal) budget = λ other. absurd (other budget)
 read_tells file found (Source fault at) budget = tt
 
 -- a refusal of the file
-told_refused : (file : List ℕ) (found : Result IsScopeOf Refusal) (refusal : Refusal) → ((IsBudget refusal → ⊥) → found ≡ Err refusal) → IsScopeFound file found (Err (Refused refusal))
+told_refused : (file : List ℕ) (found : Result IsScopeOf Refusal) (refusal : Refusal) → ((IsBudgetRefusal refusal → ⊥) → found ≡ Err refusal) → FindsLookupTables file found (Err (Refused refusal))
 told_refused file found refusal h = h
 
 module _ (file : List ℕ) where
-  pub loaded_sections : (result : Result Scope Fault) → (e_shnum file ≡ 0 → ⊥) → IsScopeFound file (scope_by_sections file) result → IsScopeFound file (scope_loaded file) result
+  pub loaded_sections : (result : Result LookupTables Fault) → (e_shnum file ≡ 0 → ⊥) → FindsLookupTables file (scope_by_sections file) result → FindsLookupTables file (scope_loaded file) result
   loaded_sections result some f =
       let other : (e_shnum file == 0) ≡ false = ne_eqb (e_shnum file) 0 some in
       let is : scope_loaded file ≡ scope_by_sections file = rw (other, scope_loaded) refl in
-      subst (λ r. IsScopeFound file r result) (sym is) f
+      subst (λ r. FindsLookupTables file r result) (sym is) f
 
   module _ (none : e_shnum file ≡ 0) where
     zero_is : (e_shnum file == 0) ≡ true
     zero_is = eq-eqb (e_shnum file) 0 none
 
-    pub loaded_segments : (result : Result Scope Fault) → IsScopeFound file (scope_by_segments file) result → IsScopeFound file (scope_loaded file) result
+    pub loaded_segments : (result : Result LookupTables Fault) → FindsLookupTables file (lookup_tables_by_segments file) result → FindsLookupTables file (scope_loaded file) result
     loaded_segments result f =
-        let is : scope_loaded file ≡ scope_by_segments file = rw (zero_is, scope_loaded) refl in
-        subst (λ r. IsScopeFound file r result) (sym is) f
+        let is : scope_loaded file ≡ lookup_tables_by_segments file = rw (zero_is, scope_loaded) refl in
+        subst (λ r. FindsLookupTables file r result) (sym is) f
 
     pub segments_cost : segments_asked file ≡ 56 * e_phnum file + entries_asked file
     unfolding segments_asked
     segments_cost = rw (zero_is, segments_asked) refl
 
 module _ (file : List ℕ) (headers : ℕ) where
-  scope_refused : (refusal : Refusal) → first_refusal (header_checks file ++ load_checks file headers) ≡ Some refusal → scope_of file headers ≡ Err refusal
-  unfolding scope_of
-  scope_refused refusal e = rw (e, scope_of) refl
+  scope_refused : (refusal : Refusal) → first_refusal (header_checks file ++ load_checks file headers) ≡ Some refusal → lookup_tables_of file headers ≡ Err refusal
+  unfolding lookup_tables_of
+  scope_refused refusal e = rw (e, lookup_tables_of) refl
 
-  scope_passed : first_refusal (header_checks file ++ load_checks file headers) ≡ None → scope_of file headers ≡ scope_loaded file
-  unfolding scope_of
-  scope_passed e = rw (e, scope_of) refl
+  scope_passed : first_refusal (header_checks file ++ load_checks file headers) ≡ None → lookup_tables_of file headers ≡ scope_loaded file
+  unfolding lookup_tables_of
+  scope_passed e = rw (e, lookup_tables_of) refl
 
-  pub tells_header : (fault : Fault) → HeaderRead file (Err fault) → IsScopeFound file (scope_of file headers) (Err fault)
+  pub tells_header : (fault : Fault) → HeaderRead file (Err fault) → FindsLookupTables file (lookup_tables_of file headers) (Err fault)
   tells_header (Refused refusal) read = λ other. scope_refused refusal (first_refusal-some (header_checks file) (load_checks file headers) refusal (read other))
   tells_header (Source fault at) read = tt
 
-  pub tells_load : (fault : Fault) (store : Stored) → first_refusal (header_checks file) ≡ None → store.slots ≡ headers → LoadedAs file (Err fault) store
-      → IsScopeFound file (scope_of file headers) (Err fault)
+  pub tells_load : (fault : Fault) (store : StoreState) → first_refusal (header_checks file) ≡ None → store.slots ≡ headers → LoadedAs file (Err fault) store
+      → FindsLookupTables file (lookup_tables_of file headers) (Err fault)
   tells_load (Refused refusal) store passed slots loads = λ other.
       let fails = ap (λ (n : ℕ). first_refusal (load_checks file n)) (sym slots) ∙ loads other in
       scope_refused refusal (first_refusal-none (header_checks file) (load_checks file headers) passed ∙ fails)
   tells_load (Source fault at) store passed slots loads = tt
 
-  pub tells_loaded : (result : Result Scope Fault) → first_refusal (header_checks file) ≡ None → first_refusal (load_checks file headers) ≡ None
-      → IsScopeFound file (scope_loaded file) result → IsScopeFound file (scope_of file headers) result
+  pub tells_loaded : (result : Result LookupTables Fault) → first_refusal (header_checks file) ≡ None → first_refusal (load_checks file headers) ≡ None
+      → FindsLookupTables file (scope_loaded file) result → FindsLookupTables file (lookup_tables_of file headers) result
   tells_loaded result header load f =
       let is = scope_passed (first_refusal-none (header_checks file) (load_checks file headers) header ∙ load) in
-      subst (λ r. IsScopeFound file r result) (sym is) f
+      subst (λ r. FindsLookupTables file r result) (sym is) f
 
   -- what it costs: the file header at least, and where the early checks pass the headers
   pub scope_least : 64 ≤ scope_cost file headers

@@ -9,7 +9,7 @@ use Rattle.elf_model.proofs.SumLemmas.{cost_where-le}
 use Rattle.elf_record.specs.declared.ehdr.Ehdr.{Ehdr}
 use Rattle.elf_headers.specs.Faults.{HeaderRead, IsOfRead}
 use Rattle.elf_headers.specs.Load.{LoadedAs, early_of, load_cost}
-use Rattle.elf_headers.specs.Store.{Stored}
+use Rattle.elf_headers.specs.Store.{StoreState}
 use Rattle.elf_headers.specs.declared.fault.Fault.{Fault}
 use Rattle.elf_headers.specs.declared.fault.Fault.TheVariants.{Refused, Source}
 use Rattle.elf_lookup_tables.specs.Loading.{LoadsSegments, segments_load_cost}
@@ -22,18 +22,18 @@ load_none header size slots none =
     omega (arith, most, none)
 
 module _ (file : List ℕ) (headers : ℕ) where
-  pub header_stops : (fault : Fault) (store : Stored) → HeaderRead file (Err fault) → LoadsSegments file headers store (Err fault)
+  pub header_stops : (fault : Fault) (store : StoreState) → HeaderRead file (Err fault) → LoadsSegments file headers store (Err fault)
   header_stops (Refused refusal) store read = λ other. first_refusal-some (header_checks file) (load_checks file headers) refusal (read other)
   header_stops (Source fault at) store read = tt
 
-  pub load_stops : (fault : Fault) (store : Stored) → first_refusal (header_checks file) ≡ None → store.slots ≡ headers → LoadedAs file (Err fault) store
+  pub load_stops : (fault : Fault) (store : StoreState) → first_refusal (header_checks file) ≡ None → store.slots ≡ headers → LoadedAs file (Err fault) store
       → LoadsSegments file headers store (Err fault)
   load_stops (Refused refusal) store passed slots loads = λ other.
       first_refusal-none (header_checks file) (load_checks file headers) passed ∙ ap (λ (n : ℕ). first_refusal (load_checks file n)) (sym slots) ∙ loads other
   load_stops (Source fault at) store passed slots loads = tt
 
   -- a fault of a read tells nothing
-  pub read_stops : (fault : Fault) (store : Stored) → IsOfRead fault → LoadsSegments file headers store (Err fault)
+  pub read_stops : (fault : Fault) (store : StoreState) → IsOfRead fault → LoadsSegments file headers store (Err fault)
   read_stops (Refused refusal) store budget = λ other. absurd (other budget)
   read_stops (Source fault at) store budget = tt
 

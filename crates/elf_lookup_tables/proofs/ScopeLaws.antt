@@ -3,7 +3,7 @@ use Rattle.std.proofs.Common.{◌≡◌, ◌⊎◌, inl, inr, ℕ, ◌/◌, ◌<
 use Rattle.std.proofs.lemmas.Bool.Decides.{nat_tests}
 use Rattle.std.specs.Prelude.{is_none, option_map}
 use Rattle.elf_model.specs.Checks.{Check, refuse, first_refusal}
-use Rattle.elf_model.specs.LoaderScope.{HashKind as IsHashKind, checks_of_row, has_wide_kind, hash_row, least_size, rest_checks, rest_place, rest_size, rows_checks, segment_checks, segment_scope, segment_strings, segment_strings_at, segment_symbols, segment_words, tagged_row}
+use Rattle.elf_model.specs.LoaderScope.{HashStyle as IsHashKind, checks_of_row, has_wide_kind, hash_row, least_size, rest_checks, rest_place, rest_size, rows_checks, segment_checks, segment_lookup_tables, segment_strings, segment_strings_at, segment_symbols, segment_words, tagged_row}
 use Rattle.elf_model.specs.Mapped.{mapped_bytes, mapped_checks, mapped_place}
 use Rattle.elf_model.specs.Numbers.{DT_SYMTAB, DT_STRTAB, DT_STRSZ}
 use Rattle.elf_model.specs.Records.{d_un, e_machine}
@@ -11,19 +11,19 @@ use Rattle.elf_model.specs.Tables.{SYMBOL_SIZE}
 use Rattle.elf_model.specs.declared.causes.Cause.TheVariants.{HashShape, NoHash, Unmapped}
 use Rattle.elf_headers.specs.declared.fault.Fault.{Fault}
 use Rattle.elf_headers.specs.declared.fault.Fault.TheVariants.{Refused, Source}
-use Rattle.elf_table.specs.HashSections.{Settles}
+use Rattle.elf_table.specs.HashSections.{ChecksThenValue}
 use Rattle.elf_table.specs.Relocations.{RefusedBy}
 use Rattle.elf_table.specs.Sections.{strings}
-use Rattle.elf_table.specs.Tables.{Rows, Strings, strings_in}
+use Rattle.elf_table.specs.Tables.{Rows, StringTableRange, strings_in}
 use Rattle.elf_table.specs.Views.{rest_mapped, strings_mapped}
 use Rattle.elf_lookup_tables.specs.Entries.{AreTaggedEntries, dynamic_entry_at}
-use Rattle.elf_hash.specs.Kinds.{hash_kind_of}
-use Rattle.elf_lookup_tables.specs.Scopes.{IsScopeFound, IsScope}
+use Rattle.elf_hash.specs.Kinds.{hash_style_of}
+use Rattle.elf_lookup_tables.specs.Scopes.{FindsLookupTables, IsLookupTables}
 use Rattle.elf_lookup_tables.specs.Segments.{AreRowsSymbols, TellSymbols, rows_records, scope_by_entries, version_rows}
 use Rattle.elf_lookup_tables.specs.Versions.{AreVersions}
-use Rattle.elf_lookup_tables.specs.declared.entry.TaggedEntries.{TaggedEntries}
-use Rattle.elf_lookup_tables.specs.declared.entry.Entry.{Entry}
-use Rattle.elf_lookup_tables.specs.declared.scope.Scope.{Scope}
+use Rattle.elf_lookup_tables.specs.declared.entry.DynamicTags.{DynamicTags}
+use Rattle.elf_lookup_tables.specs.declared.entry.DynEntry.{DynEntry}
+use Rattle.elf_lookup_tables.specs.declared.scope.LookupTables.{LookupTables}
 use Rattle.elf_lookup_tables.specs.declared.symbols.Symbols.{Symbols}
 use Rattle.elf_lookup_tables.specs.declared.versions.VersionTables.{VersionTables}
 use Rattle.elf_lookup_tables.proofs.SettleLaws.{checked_fails, checked_passes, passed_both, refused_back, refused_front}
@@ -60,7 +60,7 @@ module _ (file : List ℕ) (at row : ℕ) where
   unfolding rows_checks
   rows_are = refl
 
-  pub symbols_missing : (found : TaggedEntries) → AreTaggedEntries file at found → TellSymbols found None → RefusedBy (rows_checks file at row) (Refused (record { at = row; cause = Unmapped }))
+  pub symbols_missing : (found : DynamicTags) → AreTaggedEntries file at found → TellSymbols found None → RefusedBy (rows_checks file at row) (Refused (record { at = row; cause = Unmapped }))
   symbols_missing found are none =
       let s = ap is_none are.symtab ∙ none_map file (tagged_row file at DT_SYMTAB) in
       let t = ap is_none are.strtab ∙ none_map file (tagged_row file at DT_STRTAB) in
@@ -71,7 +71,7 @@ module _ (file : List ℕ) (at row : ℕ) where
       (refused_front (missing_rows ++ symbol_rows ++ string_rows) (version_rows file at) fault
       (refused_front (missing_rows ++ symbol_rows) string_rows fault (refused_front missing_rows symbol_rows fault first)))
 
-  module _ (found : TaggedEntries) (symtab strtab strsz : Entry) (are : AreTaggedEntries file at found) (told : TellSymbols found (Some (symtab, strtab, strsz))) where
+  module _ (found : DynamicTags) (symtab strtab strsz : DynEntry) (are : AreTaggedEntries file at found) (told : TellSymbols found (Some (symtab, strtab, strsz))) where
     symtab_here : (tagged_row file at DT_SYMTAB ≡ Some symtab.at) × (d_un file symtab.at ≡ symtab.value)
     symtab_here = row_some file _ symtab (sym told.0 ∙ are.symtab)
 
@@ -126,7 +126,7 @@ module _ (file : List ℕ) (at row : ℕ) where
           rw rows_are
           (refused_front (missing_rows ++ symbol_rows ++ string_rows) (version_rows file at) fault (refused_back (missing_rows ++ symbol_rows) string_rows fault symbols_pass here))
 
-      module _ (names : Strings) (s : Ok names ≡ strings_mapped file strtab.value strsz.value strtab.at) where
+      module _ (names : StringTableRange) (s : Ok names ≡ strings_mapped file strtab.value strsz.value strtab.at) where
         names_are : (first_refusal (mapped_checks file strtab.value strsz.value strtab.at) ≡ None) × (strings (mapped_place file strtab.value strsz.value) strsz.value ≡ names)
         names_are = checked_passes (mapped_checks file strtab.value strsz.value strtab.at) (strings (mapped_place file strtab.value strsz.value) strsz.value) names s
 
@@ -140,10 +140,10 @@ module _ (file : List ℕ) (at row : ℕ) where
         versions_refuse fault r = rw rows_are (refused_back (missing_rows ++ symbol_rows ++ string_rows) (version_rows file at) fault strings_pass r)
 
         pub symbols_settle : (index : ℕ) (symbols : Symbols) (versions : VersionTables)
-            → Settles (version_rows file at) (AreVersions file (segment_words file index at) (rows_records file at)) (Ok versions)
+            → ChecksThenValue (version_rows file at) (AreVersions file (segment_words file index at) (rows_records file at)) (Ok versions)
             → symbols.index ≡ index → symbols.table.at ≡ table.at → symbols.table.count ≡ table.count / 24 → symbols.names ≡ names
             → symbols.words ≡ versions.words → symbols.definitions ≡ versions.definitions → symbols.needs ≡ versions.needs
-            → Settles (rows_checks file at row) (AreRowsSymbols file index at) (Ok symbols)
+            → ChecksThenValue (rows_checks file at row) (AreRowsSymbols file index at) (Ok symbols)
         unfolding segment_symbols
         symbols_settle index symbols versions v to place count same words definitions needs =
             let told_symbols : segment_symbols file at ≡ (rest_place file symtab.at, rest_size file symtab.at / SYMBOL_SIZE) = rw (symtab_here.0, segment_symbols) refl in
@@ -156,7 +156,7 @@ module _ (file : List ℕ) (at row : ℕ) where
                   index = to;
                   place = placed;
                   names = λ some. ap (strings_in file) same ∙ names_told;
-                  names_at = λ some. ap (λ (s : Strings). s.at) (same ∙ sym names_are.1) ∙ sym begin_is;
+                  names_at = λ some. ap (λ (s : StringTableRange). s.at) (same ∙ sym names_are.1) ∙ sym begin_is;
                   words = rw words v.1.words;
                   records = rw (definitions, needs) v.1.records;
                 };
@@ -170,7 +170,7 @@ less_true a b h = grind (arith, nat_tests)
 less_false : (a b : ℕ) → b ≤ a → nat_lt a b ≡ false
 less_false a b h = grind (arith, nat_tests)
 
-module _ (file : List ℕ) (kind : IsHashKind) (index at : ℕ) (entry : Entry) (value : d_un file entry.at ≡ entry.value) where
+module _ (file : List ℕ) (kind : IsHashKind) (index at : ℕ) (entry : DynEntry) (value : d_un file entry.at ≡ entry.value) where
   abbrev shape : List Check
   shape = refuse (nat_lt (rest_size file entry.at) (least_size kind) || has_wide_kind file kind) entry.at HashShape ∷ []
 
@@ -214,11 +214,11 @@ module _ (file : List ℕ) (kind : IsHashKind) (index at : ℕ) (entry : Entry) 
       pub rows_refuse : (fault : Fault) → RefusedBy (rows_checks file at entry.at) fault → RefusedBy (segment_checks file kind at entry.at) fault
       rows_refuse fault r = rw all_are (refused_back (rest_checks file entry.at ++ shape) (rows_checks file at entry.at) fault shape_passes r)
 
-      pub scope_settles : (scope : Scope) → Settles (rows_checks file at entry.at) (AreRowsSymbols file index at) (Ok scope.symbols)
-          → scope.machine ≡ e_machine file → hash_kind_of scope.hash.kind ≡ kind → scope.hash.head ≡ entry.at → scope.hash.at ≡ table.at → scope.hash.size ≡ table.count
+      pub scope_settles : (scope : LookupTables) → ChecksThenValue (rows_checks file at entry.at) (AreRowsSymbols file index at) (Ok scope.symbols)
+          → scope.machine ≡ e_machine file → hash_style_of scope.hash.kind ≡ kind → scope.hash.head ≡ entry.at → scope.hash.at ≡ table.at → scope.hash.size ≡ table.count
           → scope.hash.symbols ≡ scope.symbols.table.count
-          → Settles (segment_checks file kind at entry.at) (IsScope file (segment_scope file kind index at entry.at)) (Ok scope)
-      unfolding segment_scope
+          → ChecksThenValue (segment_checks file kind at entry.at) (IsLookupTables file (segment_lookup_tables file kind index at entry.at)) (Ok scope)
+      unfolding segment_lookup_tables
       scope_settles scope s machine is_kind head place size count = (
         ap first_refusal all_are ∙ passed_both (rest_checks file entry.at ++ shape) (rows_checks file at entry.at) shape_passes s.0,
         record {
@@ -237,9 +237,9 @@ module _ (file : List ℕ) (index at : ℕ) where
   pub entries_none : hash_row file at ≡ None → scope_by_entries file index at ≡ Err (record { at = 0x20; cause = NoHash })
   entries_none e = rw (e, scope_by_entries) refl
 
-  pub entries_find : (found : IsHashKind × ℕ) → hash_row file at ≡ Some found → (result : Result Scope Fault)
-      → Settles (segment_checks file found.0 at found.1) (IsScope file (segment_scope file found.0 index at found.1)) result
-      → IsScopeFound file (scope_by_entries file index at) result
-  entries_find found e (Ok scope) s = (segment_scope file found.0 index at found.1, rw (e, s.0, scope_by_entries) refl, s.1)
+  pub entries_find : (found : IsHashKind × ℕ) → hash_row file at ≡ Some found → (result : Result LookupTables Fault)
+      → ChecksThenValue (segment_checks file found.0 at found.1) (IsLookupTables file (segment_lookup_tables file found.0 index at found.1)) result
+      → FindsLookupTables file (scope_by_entries file index at) result
+  entries_find found e (Ok scope) s = (segment_lookup_tables file found.0 index at found.1, rw (e, s.0, scope_by_entries) refl, s.1)
   entries_find found e (Err (Refused refusal)) s = λ other. rw (e, s, scope_by_entries) refl
   entries_find found e (Err (Source fault offset)) s = absurd s

@@ -1,6 +1,6 @@
 -- What a lookup is made in, by the section headers.
 use Rattle.std.proofs.Common.{◌≡◌, ℕ, List, [], None, Some, Result, Ok, Err, refl, ap, ◌∙◌}
-use Rattle.elf_model.specs.LoaderScope.{HashKind as IsHashKind, GnuTable, SysvTable, hash_section, scope_by_sections, section_checks, section_scope, version_checks, section_words, records_of_type, least_size}
+use Rattle.elf_model.specs.LoaderScope.{HashStyle as IsHashKind, GnuTable, SysvTable, hash_section, scope_by_sections, section_checks, section_lookup_tables, version_checks, section_words, records_of_type, least_size}
 use Rattle.elf_model.specs.Find.{hash_checks_from}
 use Rattle.elf_model.specs.Numbers.{SHT_HASH, SHT_GNU_HASH, SHT_GNU_VERDEF, SHT_GNU_VERNEED}
 use Rattle.elf_model.specs.Records.{e_machine, section_at, sh_offset, sh_size}
@@ -9,12 +9,12 @@ use Rattle.elf_model.specs.declared.causes.Cause.TheVariants.{NoHash}
 use Rattle.elf_model.specs.declared.versions.VersionKind.TheVariants.{Definition, File}
 use Rattle.elf_headers.specs.declared.fault.Fault.{Fault}
 use Rattle.elf_headers.specs.declared.fault.Fault.TheVariants.{Refused, Source}
-use Rattle.elf_table.specs.HashSections.{AreHashed, Settles}
-use Rattle.elf_table.specs.Tables.{Rows, Strings, strings_in}
-use Rattle.elf_hash.specs.Kinds.{hash_kind_of}
-use Rattle.elf_lookup_tables.specs.Scopes.{IsScopeFound, IsScope}
+use Rattle.elf_table.specs.HashSections.{AreHashed, ChecksThenValue}
+use Rattle.elf_table.specs.Tables.{Rows, StringTableRange, strings_in}
+use Rattle.elf_hash.specs.Kinds.{hash_style_of}
+use Rattle.elf_lookup_tables.specs.Scopes.{FindsLookupTables, IsLookupTables}
 use Rattle.elf_lookup_tables.specs.Versions.{AreVersions}
-use Rattle.elf_lookup_tables.specs.declared.scope.Scope.{Scope}
+use Rattle.elf_lookup_tables.specs.declared.scope.LookupTables.{LookupTables}
 use Rattle.elf_lookup_tables.specs.declared.versions.VersionTables.{VersionTables}
 use Rattle.elf_lookup_tables.proofs.SettleLaws.{passed_both}
 
@@ -37,22 +37,22 @@ module _ (file : List ℕ) where
   unfolding scope_by_sections
   sections_none e = rw (e, scope_by_sections) refl
 
-  pub sections_find : (found : IsHashKind × ℕ) → hash_section file ≡ Some found → (result : Result Scope Fault)
-      → Settles (section_checks file found.0 found.1) (IsScope file (section_scope file found.0 found.1)) result → IsScopeFound file (scope_by_sections file) result
+  pub sections_find : (found : IsHashKind × ℕ) → hash_section file ≡ Some found → (result : Result LookupTables Fault)
+      → ChecksThenValue (section_checks file found.0 found.1) (IsLookupTables file (section_lookup_tables file found.0 found.1)) result → FindsLookupTables file (scope_by_sections file) result
   unfolding scope_by_sections
-  sections_find found e (Ok scope) s = (section_scope file found.0 found.1, rw (e, s.0, scope_by_sections) refl, s.1)
+  sections_find found e (Ok scope) s = (section_lookup_tables file found.0 found.1, rw (e, s.0, scope_by_sections) refl, s.1)
   sections_find found e (Err (Refused refusal)) s = λ other. rw (e, s, scope_by_sections) refl
   sections_find found e (Err (Source fault at)) s = absurd s
 
 -- what a section with a hash table answers, once its checks pass
-pub section_is : (file : List ℕ) (kind : IsHashKind) (at : ℕ) (scope : Scope) (found : ℕ × (Rows × Strings)) (versions : VersionTables)
-    → Settles (hash_checks_from (least_size kind) file at) (AreHashed file at) (Ok found)
-    → Settles (version_checks file at) (AreVersions file (section_words file) (records_of_type file SHT_GNU_VERDEF Definition (records_of_type file SHT_GNU_VERNEED File []))) (Ok versions)
-    → scope.machine ≡ e_machine file → hash_kind_of scope.hash.kind ≡ kind → scope.hash.head ≡ at → scope.hash.at ≡ sh_offset file at → scope.hash.size ≡ sh_size file at
+pub section_is : (file : List ℕ) (kind : IsHashKind) (at : ℕ) (scope : LookupTables) (found : ℕ × (Rows × StringTableRange)) (versions : VersionTables)
+    → ChecksThenValue (hash_checks_from (least_size kind) file at) (AreHashed file at) (Ok found)
+    → ChecksThenValue (version_checks file at) (AreVersions file (section_words file) (records_of_type file SHT_GNU_VERDEF Definition (records_of_type file SHT_GNU_VERNEED File []))) (Ok versions)
+    → scope.machine ≡ e_machine file → hash_style_of scope.hash.kind ≡ kind → scope.hash.head ≡ at → scope.hash.at ≡ sh_offset file at → scope.hash.size ≡ sh_size file at
     → scope.hash.symbols ≡ found.1.0.count → scope.symbols.index ≡ found.0 → scope.symbols.table ≡ found.1.0 → scope.symbols.names ≡ found.1.1
     → scope.symbols.words ≡ versions.words → scope.symbols.definitions ≡ versions.definitions → scope.symbols.needs ≡ versions.needs
-    → Settles (section_checks file kind at) (IsScope file (section_scope file kind at)) (Ok scope)
-unfolding section_scope
+    → ChecksThenValue (section_checks file kind at) (IsLookupTables file (section_lookup_tables file kind at)) (Ok scope)
+unfolding section_lookup_tables
 section_is file kind at scope found versions h v machine is_kind head place size count index table names words definitions needs = (
   passed_both (hash_checks_from (least_size kind) file at) (version_checks file at) h.0 v.0,
   record {
@@ -66,7 +66,7 @@ section_is file kind at scope found versions h v machine is_kind head place size
       index = index ∙ h.1.link;
       place = ap (λ (t : Rows). t.at) table ∙ h.1.symbols.placed;
       names = λ some. ap (strings_in file) names ∙ ap (strings_in file) (h.1.symbols.named (rw table at some));
-      names_at = λ some. ap (λ (s : Strings). s.at) (names ∙ h.1.symbols.named (rw table at some));
+      names_at = λ some. ap (λ (s : StringTableRange). s.at) (names ∙ h.1.symbols.named (rw table at some));
       words = rw words v.1.words;
       records = rw (definitions, needs) v.1.records;
     };

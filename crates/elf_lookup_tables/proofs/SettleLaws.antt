@@ -3,8 +3,8 @@ use Rattle.std.proofs.Common.{◌≡◌, ℕ, false, List, [], ◌++◌, None, O
 use Rattle.elf_model.specs.Checks.{Check, first_refusal}
 use Rattle.elf_model.proofs.CheckSteps.{first_refusal-none, first_refusal-some}
 use Rattle.elf_headers.specs.Faults.{IsOfCheck}
-use Rattle.elf_headers.specs.Load.{Opened}
-use Rattle.elf_headers.specs.Store.{Stored}
+use Rattle.elf_headers.specs.Load.{LoadedFile}
+use Rattle.elf_headers.specs.Store.{StoreState}
 use Rattle.elf_headers.specs.declared.fault.Fault.{Fault}
 use Rattle.elf_headers.specs.declared.fault.Fault.TheVariants.{Refused, Source}
 use Rattle.elf_table.specs.Relocations.{RefusedBy}
@@ -37,7 +37,7 @@ pub checked_passes : {A : Type 0} (checks : List Check) (value result : A) → O
 checked_passes checks value result h = passed_first (first_refusal checks) value result (sym h)
 
 -- a check refuses, or something is found
-module _ {X : Type 0} {Of : List ℕ → Opened → Stored → Type 0} {loaded : Opened} {store : Stored} {Lies : ℕ → X → Type 0} {Tells : List ℕ → Type 0} where
+module _ {X : Type 0} {Of : List ℕ → LoadedFile → StoreState → Type 0} {loaded : LoadedFile} {store : StoreState} {Lies : ℕ → X → Type 0} {Tells : List ℕ → Type 0} where
   pub refuses : (fault : Fault) → IsOfCheck fault → ((bytes : List ℕ) → Of bytes loaded store → Tells bytes) → FindsIn Of loaded store (Err fault) Lies Tells
   refuses fault check told = record { held = told; within = tt; refusal = check }
 

@@ -2,7 +2,7 @@
 use Rattle.std.proofs.Common.{◌≡◌, ℕ, ◌/◌, ◌<◌, ◌==◌, not, true, false, inl, inr, List, [], ◌∷◌, ◌++◌, length, Option, None, Some, Ok, Err, refl, sym, ap, ◌∙◌, arith, eq-eqb}
 use Rattle.std.proofs.lemmas.Bool.{cases_Bool, eqb-true}
 use Rattle.elf_model.specs.Checks.{Check, refuse, first_refusal, unless_empty, range_checks_of, table_checks, strings_checks}
-use Rattle.elf_model.specs.Loader.{VersionWords as IsWordsOf, RecordTable as IsTableOf}
+use Rattle.elf_model.specs.Loader.{VersionWords as IsWordsOf, VersionRecordTable as IsTableOf}
 use Rattle.elf_model.specs.LoaderScope.{checks_of_type, has_bytes, records_of_type, records_with, section_words, version_checks, words_section}
 use Rattle.elf_model.specs.Numbers.{SHT_GNU_VERSYM, SHT_GNU_VERDEF, SHT_GNU_VERNEED}
 use Rattle.elf_model.specs.Records.{section_at, sh_offset, sh_size, sh_link}
@@ -13,14 +13,14 @@ use Rattle.elf_model.specs.declared.causes.Cause.TheVariants.{BadLink}
 use Rattle.elf_model.specs.declared.versions.VersionKind.{VersionKind}
 use Rattle.elf_model.specs.declared.versions.VersionKind.TheVariants.{Definition, File}
 use Rattle.elf_headers.specs.declared.fault.Fault.{Fault}
-use Rattle.elf_table.specs.HashSections.{Settles}
+use Rattle.elf_table.specs.HashSections.{ChecksThenValue}
 use Rattle.elf_table.specs.Relocations.{RefusedBy}
 use Rattle.elf_table.specs.Sections.{byte_rows, rows, string_table_at, table_at}
 use Rattle.elf_table.specs.Tables.{Rows, strings_in}
 use Rattle.elf_table.proofs.RelocationLaws.{table-fails, table-passes}
-use Rattle.elf_lookup_tables.specs.Symbols.{AreRecordTables, AreWords, IsRecordTable, IsWords, table_if_any}
+use Rattle.elf_lookup_tables.specs.Symbols.{AreVersionRecordTables, AreVersymTable, IsVersionRecordTable, IsVersymTable, table_if_any}
 use Rattle.elf_lookup_tables.specs.Versions.{AreInFront, AreVersions, records_at, words_checks}
-use Rattle.elf_lookup_tables.specs.declared.symbols.RecordTable.{RecordTable}
+use Rattle.elf_lookup_tables.specs.declared.symbols.VersionRecordTable.{VersionRecordTable}
 use Rattle.elf_lookup_tables.specs.declared.symbols.VersionWords.{VersionWords}
 use Rattle.elf_lookup_tables.specs.declared.versions.VersionTables.{VersionTables}
 use Rattle.elf_lookup_tables.proofs.SettleLaws.{checked_fails, checked_passes, none_refused, passed_both, refused_back, refused_front}
@@ -67,11 +67,11 @@ module _ (file : List ℕ) where
 
 -- the first section of words
 module _ (file : List ℕ) (at : ℕ) where
-  pub words_none : words_section file ≡ None → Settles (words_checks file at) (AreWords (section_words file)) (Ok None)
+  pub words_none : words_section file ≡ None → ChecksThenValue (words_checks file at) (AreVersymTable (section_words file)) (Ok None)
   unfolding section_words
   words_none e =
       let checks : words_checks file at ≡ [] = rw e refl in
-      let told : AreWords (section_words file) None = rw (e, section_words) tt in
+      let told : AreVersymTable (section_words file) None = rw (e, section_words) tt in
       (ap first_refusal checks, told)
 
   module _ (i : ℕ) (e : words_section file ≡ Some i) where
@@ -86,15 +86,15 @@ module _ (file : List ℕ) (at : ℕ) where
     words_refused fault h = rw these (refused_front (words_own file (section_at file i)) link fault (own_refused file (section_at file i) fault h))
 
     pub words_are : (words : VersionWords) → Ok words.words ≡ table_at file (section_at file i) 2 → words.head ≡ section_at file i → words.index ≡ i
-        → sh_link file (section_at file i) ≡ sh_link file at → Settles (words_checks file at) (AreWords (section_words file)) (Ok (Some words))
+        → sh_link file (section_at file i) ≡ sh_link file at → ChecksThenValue (words_checks file at) (AreVersymTable (section_words file)) (Ok (Some words))
     unfolding link section_words
     words_are words h head index same =
         let p = own_passes file (section_at file i) words.words h in
         let equal : (sh_link file (section_at file i) == sh_link file at) ≡ true = eq-eqb _ _ same in
         let link_passes : first_refusal link ≡ None = rw equal refl in
-        let is : IsWords (record { place = sh_offset file (section_at file i); count = sh_size file (section_at file i) / 2; head = section_at file i; index = i }) words
+        let is : IsVersymTable (record { place = sh_offset file (section_at file i); count = sh_size file (section_at file i) / 2; head = section_at file i; index = i }) words
         = record { place = p.1.0; count = p.1.1; head = head; index = index } in
-        let told : AreWords (section_words file) (Some words) = rw (e, section_words) is in
+        let told : AreVersymTable (section_words file) (Some words) = rw (e, section_words) is in
         (ap first_refusal these ∙ passed_both (words_own file (section_at file i)) link p.0 link_passes, told)
 
 -- the records of a section
@@ -111,9 +111,9 @@ module _ (file : List ℕ) (at : ℕ) where
             rw full (refused_back (range_own file at) (strings_checks file at) fault (rw full at p.0) (checked_fails (strings_checks file at) _ fault s))
       ]
 
-  pub records_are : (kind : VersionKind) (records : RecordTable) → Ok records.table ≡ byte_rows (length file) (sh_offset file at) (sh_size file at) at
+  pub records_are : (kind : VersionKind) (records : VersionRecordTable) → Ok records.table ≡ byte_rows (length file) (sh_offset file at) (sh_size file at) at
       → records.kind ≡ kind → records.head ≡ at → (0 < records.table.count → Ok records.names ≡ string_table_at file at)
-      → Settles (all_checks version_table file at) (IsRecordTable file (records_at file kind at)) (Ok records)
+      → ChecksThenValue (all_checks version_table file at) (IsVersionRecordTable file (records_at file kind at)) (Ok records)
   records_are kind records h same head named =
       let p = table-passes (sh_size file at == 0) (rows (sh_offset file at) 0 1) (rows (sh_offset file at) (sh_size file at) 1) records.table (range_own file at) (sym h) in
       elim (cases_Bool (sh_size file at == 0)) [
@@ -152,7 +152,7 @@ module _ (file : List ℕ) (at : ℕ) where
 
 -- the first section of records of a type
 module _ (file : List ℕ) (type : ℕ) (kind : VersionKind) where
-  pub first_none : first_of_type file type ≡ None → Settles (checks_of_type file type (all_checks version_table file)) (AreInFront file (records_of_type file type kind)) (Ok None)
+  pub first_none : first_of_type file type ≡ None → ChecksThenValue (checks_of_type file type (all_checks version_table file)) (AreInFront file (records_of_type file type kind)) (Ok None)
   first_none e =
       let same : (others : List IsTableOf) → records_of_type file type kind others ≡ others = λ others. rw (e, records_of_type) refl in
       let checks : checks_of_type file type (all_checks version_table file) ≡ [] = rw (e, checks_of_type) refl in
@@ -165,27 +165,27 @@ module _ (file : List ℕ) (type : ℕ) (kind : VersionKind) where
     pub first_refused : (fault : Fault) → RefusedBy (all_checks version_table file (section_at file i)) fault → RefusedBy (checks_of_type file type (all_checks version_table file)) fault
     first_refused fault r = rw first_checks r
 
-    pub first_are : (records : RecordTable) → Settles (all_checks version_table file (section_at file i)) (IsRecordTable file (records_at file kind (section_at file i))) (Ok records)
-        → Settles (checks_of_type file type (all_checks version_table file)) (AreInFront file (records_of_type file type kind)) (Ok (Some records))
+    pub first_are : (records : VersionRecordTable) → ChecksThenValue (all_checks version_table file (section_at file i)) (IsVersionRecordTable file (records_at file kind (section_at file i))) (Ok records)
+        → ChecksThenValue (checks_of_type file type (all_checks version_table file)) (AreInFront file (records_of_type file type kind)) (Ok (Some records))
     first_are records s =
         let same : (others : List IsTableOf) → records_of_type file type kind others ≡ records_at file kind (section_at file i) ∷ others = λ others. rw (e, records_of_type) refl in
         (ap first_refusal first_checks ∙ s.0, λ others tables h. rw (same others) (s.1, h))
 
 -- nothing behind
-one_alone : (found : Option RecordTable) → table_if_any found ++ [] ≡ table_if_any found
+one_alone : (found : Option VersionRecordTable) → table_if_any found ++ [] ≡ table_if_any found
 one_alone None = refl
 one_alone (Some table) = refl
 
 -- both tables of records, one in front of the other
-pub both_in_front : (file : List ℕ) (front back : List IsTableOf → List IsTableOf) (one other : Option RecordTable) → AreInFront file front one → AreInFront file back other
-    → AreRecordTables file (front (back [])) (table_if_any one ++ table_if_any other)
+pub both_in_front : (file : List ℕ) (front back : List IsTableOf → List IsTableOf) (one other : Option VersionRecordTable) → AreInFront file front one → AreInFront file back other
+    → AreVersionRecordTables file (front (back [])) (table_if_any one ++ table_if_any other)
 both_in_front file front back one other f b =
-    let alone : AreRecordTables file (back []) (table_if_any other ++ []) = b [] [] tt in
-    let behind : AreRecordTables file (back []) (table_if_any other) = rw (one_alone other) at alone in
+    let alone : AreVersionRecordTables file (back []) (table_if_any other ++ []) = b [] [] tt in
+    let behind : AreVersionRecordTables file (back []) (table_if_any other) = rw (one_alone other) at alone in
     f (back []) (table_if_any other) behind
 
 -- the records that stand with words
-pub records_kept : (told : Option IsWordsOf) (words : VersionWords) (records : List IsTableOf) → AreWords told (Some words) → records_with told records ≡ records
+pub records_kept : (told : Option IsWordsOf) (words : VersionWords) (records : List IsTableOf) → AreVersymTable told (Some words) → records_with told records ≡ records
 records_kept None words records h = absurd h
 records_kept (Some one) words records h = refl
 
@@ -208,7 +208,7 @@ module _ (file : List ℕ) (at : ℕ) where
   unfolding version_checks
   all_of_them i e = rw (e, version_checks) refl
 
-  found_words : (found : Option ℕ) (words : VersionWords) → words_section file ≡ found → AreWords (section_words file) (Some words)
+  found_words : (found : Option ℕ) (words : VersionWords) → words_section file ≡ found → AreVersymTable (section_words file) (Some words)
       → version_checks file at ≡ words_checks file at ++ definitions ++ needs
   unfolding section_words
   found_words None words e h = absurd (rw (e, section_words) at h)
@@ -223,18 +223,18 @@ module _ (file : List ℕ) (at : ℕ) where
           absurd (none_refused fault (rw none at r))
       go (Some i) e = rw (all_of_them i e) (refused_front (words_checks file at ++ definitions) needs fault (refused_front (words_checks file at) definitions fault r))
 
-  pub no_versions : (versions : VersionTables) → AreWords (section_words file) None → versions.words ≡ None → versions.definitions ≡ None → versions.needs ≡ None
-      → Settles (version_checks file at) (AreVersions file (section_words file) told) (Ok versions)
+  pub no_versions : (versions : VersionTables) → AreVersymTable (section_words file) None → versions.words ≡ None → versions.definitions ≡ None → versions.needs ≡ None
+      → ChecksThenValue (version_checks file at) (AreVersions file (section_words file) told) (Ok versions)
   unfolding section_words
   no_versions versions h w d n = go (words_section file) refl
     where
-      go : (found : Option ℕ) → words_section file ≡ found → Settles (version_checks file at) (AreVersions file (section_words file) told) (Ok versions)
+      go : (found : Option ℕ) → words_section file ≡ found → ChecksThenValue (version_checks file at) (AreVersions file (section_words file) told) (Ok versions)
       go None e =
           let words : section_words file ≡ None = rw (e, section_words) refl in
           (ap first_refusal (none_at_all e), record { words = rw (words, w) tt; records = rw (words, d, n) tt })
       go (Some i) e = absurd (rw (e, section_words) at h)
 
-  module _ (words : VersionWords) (w : Settles (words_checks file at) (AreWords (section_words file)) (Ok (Some words))) where
+  module _ (words : VersionWords) (w : ChecksThenValue (words_checks file at) (AreVersymTable (section_words file)) (Ok (Some words))) where
     pub definitions_refuse : (fault : Fault) → RefusedBy definitions fault → RefusedBy (version_checks file at) fault
     definitions_refuse fault r =
         rw (found_words (words_section file) words refl w.1) (refused_front (words_checks file at ++ definitions) needs fault (refused_back (words_checks file at) definitions fault w.0 r))
@@ -244,9 +244,9 @@ module _ (file : List ℕ) (at : ℕ) where
         rw (found_words (words_section file) words refl w.1) (refused_back (words_checks file at ++ definitions) needs fault (passed_both (words_checks file at) definitions w.0 d) r)
 
     pub versions_are : (versions : VersionTables) → versions.words ≡ Some words
-        → Settles definitions (AreInFront file (records_of_type file SHT_GNU_VERDEF Definition)) (Ok versions.definitions)
-        → Settles needs (AreInFront file (records_of_type file SHT_GNU_VERNEED File)) (Ok versions.needs)
-        → Settles (version_checks file at) (AreVersions file (section_words file) told) (Ok versions)
+        → ChecksThenValue definitions (AreInFront file (records_of_type file SHT_GNU_VERDEF Definition)) (Ok versions.definitions)
+        → ChecksThenValue needs (AreInFront file (records_of_type file SHT_GNU_VERNEED File)) (Ok versions.needs)
+        → ChecksThenValue (version_checks file at) (AreVersions file (section_words file) told) (Ok versions)
     versions_are versions same d n =
         let all = found_words (words_section file) words refl w.1 in (
           ap first_refusal all ∙ passed_both (words_checks file at ++ definitions) needs (passed_both (words_checks file at) definitions w.0 d.0) n.0,

@@ -1,13 +1,13 @@
 -- What is found by the headers of a loaded file.
 use Rattle.std.specs.Prelude.{ℕ, ◌≡◌, ◌^◌, ◌<◌, List, Result, IfOk, IfErr}
-use Rattle.elf_source.specs.Source.{Counting}
+use Rattle.elf_source.specs.Source.{CountedState}
 use Rattle.elf_headers.specs.Faults.{IsOfCheck}
-use Rattle.elf_headers.specs.Load.{Opened}
-use Rattle.elf_headers.specs.Store.{Stored}
+use Rattle.elf_headers.specs.Load.{LoadedFile}
+use Rattle.elf_headers.specs.Store.{StoreState}
 use Rattle.elf_headers.specs.declared.fault.Fault.{Fault}
 
 -- a loaded file is as long as the source, and offsets in it may be added
-pub record IsOfSource (src : Counting) (loaded : Opened) : Type 0 where
+pub record IsOfSource (src : CountedState) (loaded : LoadedFile) : Type 0 where
   pub size : loaded.size ≡ src.seen.size
   pub small : loaded.size < 2 ^ 63
 
@@ -18,7 +18,7 @@ pub record HasHeader (index count size : ℕ) : Type 0 where
 
 -- WHAT IS FOUND by the headers of a loaded file: it lies within the file, or a check refuses; and where the file's bytes are
 -- known, what this says of them
-pub record FindsIn {X : Type 0} (Of : List ℕ → Opened → Stored → Type 0) (loaded : Opened) (store : Stored) (result : Result X Fault) (Lies : ℕ → X → Type 0) (Tells : List ℕ → Type 0) : Type 0 where
+pub record FindsIn {X : Type 0} (Of : List ℕ → LoadedFile → StoreState → Type 0) (loaded : LoadedFile) (store : StoreState) (result : Result X Fault) (Lies : ℕ → X → Type 0) (Tells : List ℕ → Type 0) : Type 0 where
   pub held : (bytes : List ℕ) → Of bytes loaded store → Tells bytes
   pub within : IfOk result (Lies loaded.size)
   pub refusal : IfErr result IsOfCheck

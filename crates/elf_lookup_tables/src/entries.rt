@@ -2,11 +2,11 @@
 ghost use Rattle.std.specs.Prelude.{◌≡◌, ℕ, List, IfErr, IfOk};
 ghost use Rattle.elf_record.specs.Dyn.{IsDyn};
 ghost use Rattle.elf_headers.specs.Faults.{IsOfRead};
-ghost use Rattle.elf_headers.specs.Ledger.{Did, why_stopped};
-ghost use Rattle.elf_table.specs.Tables.{RowsWithin, size_of};
+ghost use Rattle.elf_headers.specs.Ledger.{CallDid, fault_of_result};
+ghost use Rattle.elf_table.specs.Tables.{TableInBounds, size_of};
 ghost use Rattle.elf_lookup_tables.specs.Entries.{AreListed, TakesEntry, entry_here, first_entry, no_entries};
 
-use crate::entry::{Entry, TaggedEntries};
+use crate::entry::{DynEntry, DynamicTags};
 use elf_headers::Fault;
 use elf_note::{dynamic_rows, entry_in};
 use elf_record::Dyn;
@@ -24,10 +24,10 @@ use elf_table::Table;
 pub(crate) fn first_entries<S: Source>(
     src: &mut Counted<S>,
     table: Table,
-) -> Result<TaggedEntries, Fault>
+) -> Result<DynamicTags, Fault>
     requires rows { table.entry ≡ 16 }
-    requires within { RowsWithin src.old.seen.size table }
-    ensures did { Did src.old src.new (why_stopped result) (size_of table)
+    requires within { TableInBounds src.old.seen.size table }
+    ensures did { CallDid src.old src.new (fault_of_result result) (size_of table)
         (λ file. IfOk result (AreListed file table)) }
     ensures fault { IfErr result IsOfRead }
 {
@@ -41,10 +41,10 @@ pub(crate) fn first_entries<S: Source>(
 }
 
 /// No entry.
-fn nothing() -> TaggedEntries
+fn nothing() -> DynamicTags
     ensures { result ≡ no_entries }
 {
-    TaggedEntries {
+    DynamicTags {
         hash: None,
         gnu_hash: None,
         symtab: None,
@@ -57,10 +57,10 @@ fn nothing() -> TaggedEntries
 }
 
 /// The first entries, with one behind those that they are of.
-fn with_entry(found: &TaggedEntries, at: u64, entry: &Dyn) -> TaggedEntries
+fn with_entry(found: &DynamicTags, at: u64, entry: &Dyn) -> DynamicTags
     ensures { (file : List ℕ) → IsDyn file at entry.now → TakesEntry file at found.now result }
 {
-    TaggedEntries {
+    DynamicTags {
         hash: first_of(found.hash, DT_HASH, at, entry),
         gnu_hash: first_of(found.gnu_hash, DT_GNU_HASH, at, entry),
         symtab: first_of(found.symtab, DT_SYMTAB, at, entry),
@@ -73,12 +73,12 @@ fn with_entry(found: &TaggedEntries, at: u64, entry: &Dyn) -> TaggedEntries
 }
 
 /// An entry that was found, or this one where it has the tag.
-fn first_of(found: Option<Entry>, tag: u64, at: u64, entry: &Dyn) -> Option<Entry>
+fn first_of(found: Option<DynEntry>, tag: u64, at: u64, entry: &Dyn) -> Option<DynEntry>
     ensures { (file : List ℕ) → IsDyn file at entry.now →
         result ≡ first_entry found (entry_here file at tag) }
 {
     if found.is_none() && entry.d_tag.cast_unsigned() == tag {
-        return Some(Entry {
+        return Some(DynEntry {
             at,
             value: entry.d_un,
         });

@@ -2,7 +2,7 @@
 
 /// A dynamic entry (gABI 5, Dynamic Section).
 #[derive(Clone, Copy)]
-pub(crate) struct Entry {
+pub(crate) struct DynEntry {
     /// Its file offset.
     pub at: u64,
     /// Its value: an address, or a size.
@@ -11,21 +11,21 @@ pub(crate) struct Entry {
 
 /// The first entries with the tags that tell of a lookup's tables, where there are such.
 #[derive(Clone, Copy)]
-pub(crate) struct TaggedEntries {
+pub(crate) struct DynamicTags {
     /// DT_HASH: the hash table of the gABI.
-    pub hash: Option<Entry>,
+    pub hash: Option<DynEntry>,
     /// DT_GNU_HASH: that of the GNU system.
-    pub gnu_hash: Option<Entry>,
+    pub gnu_hash: Option<DynEntry>,
     /// DT_SYMTAB: the symbols.
-    pub symtab: Option<Entry>,
+    pub symtab: Option<DynEntry>,
     /// DT_STRTAB: the strings.
-    pub strtab: Option<Entry>,
+    pub strtab: Option<DynEntry>,
     /// DT_STRSZ: the size of the strings.
-    pub strsz: Option<Entry>,
+    pub strsz: Option<DynEntry>,
     /// DT_VERSYM: the words of symbols' versions.
-    pub versym: Option<Entry>,
+    pub versym: Option<DynEntry>,
     /// DT_VERDEF: the definitions of versions.
-    pub verdef: Option<Entry>,
+    pub verdef: Option<DynEntry>,
     /// DT_VERNEED: the needs of versions.
-    pub verneed: Option<Entry>,
+    pub verneed: Option<DynEntry>,
 }

@@ -1,10 +1,10 @@
 //! How many symbols a lookup has.
 ghost use Rattle.std.specs.Prelude.{◌≡◌, ◌+◌, ◌≤◌, IfOk};
-ghost use Rattle.elf_headers.specs.Ledger.{Did, why_stopped};
-ghost use Rattle.elf_hash.specs.Extents.{TellsExtent};
-ghost use Rattle.elf_hash.specs.Scopes.{IsTable, TableWithin, place_of_table};
-ghost use Rattle.elf_lookup_tables.specs.Symbols.{IsSymbols};
-ghost use Rattle.elf_model.specs.LoaderScope.{Scope};
+ghost use Rattle.elf_headers.specs.Ledger.{CallDid, fault_of_result};
+ghost use Rattle.elf_hash.specs.Extents.{ReturnsExtent};
+ghost use Rattle.elf_hash.specs.Scopes.{IsTable, HashTableInBounds, place_of_table};
+ghost use Rattle.elf_lookup_tables.specs.Symbols.{IsDynamicSymbols};
+ghost use Rattle.elf_model.specs.LoaderScope.{LookupTables};
 
 use crate::symbols::Symbols;
 use elf_hash::{HashTable, symbol_extent};
@@ -18,11 +18,11 @@ impl Symbols {
     /// # Errors
     /// A fault of a read, or a refusal for want of budget, at the offset that was asked for.
     pub fn extent<S: Source>(&self, src: &mut Counted<S>, table: &HashTable) -> Result<u64, Fault>
-        requires within { TableWithin src.old.seen.size table.now }
+        requires within { HashTableInBounds src.old.seen.size table.now }
         requires count { self.now.table.count ≡ (place_of_table table.now).symbols }
-        ensures did { Did src.old src.new (why_stopped result) (place_of_table table.now).size
-            (λ file. (scope : Scope) → IsTable file scope table.now →
-            IsSymbols file scope.symbols self.now → TellsExtent file scope src.old src.new result) }
+        ensures did { CallDid src.old src.new (fault_of_result result) (place_of_table table.now).size
+            (λ file. (scope : LookupTables) → IsTable file scope table.now →
+            IsDynamicSymbols file scope.symbols self.now → ReturnsExtent file scope src.old src.new result) }
         ensures few { IfOk result (λ count. count ≤ self.now.table.count) }
     {
         symbol_extent(src, table, self.table.at(), self.names.at())

@@ -17,8 +17,8 @@ mod symbols;
 mod versions;
 
 pub use by_segments::find_in_segments;
-pub use elf_hash::{HashKind, HashPlace};
+pub use elf_hash::{HashStyle, HashTableLocation};
 pub use loading::load_by_segments;
-pub use scope::Scope;
-pub use scoping::find_scope;
-pub use symbols::{RecordTable, Symbols, VersionWords};
+pub use scope::LookupTables;
+pub use scoping::find_lookup_tables;
+pub use symbols::{Symbols, VersionRecordTable, VersionWords};

@@ -1,6 +1,6 @@
 //! The load of a file's program headers, whatever its section headers are.
 ghost use Rattle.std.specs.Prelude.{◌≡◌, ◌+◌, ◌*◌, IfOk};
-ghost use Rattle.elf_headers.specs.Ledger.{Did, why_stopped};
+ghost use Rattle.elf_headers.specs.Ledger.{CallDid, fault_of_result};
 ghost use Rattle.elf_lookup_tables.specs.Loading.{FitsSource, LoadsShown};
 ghost use Rattle.elf_model.specs.Records.{e_shnum};
 
@@ -9,7 +9,7 @@ use elf_record::Cause;
 use elf_source::{Counted, Source};
 
 /// Loads the program headers of the file that the source shows into the store: of a file whose header
-/// locates no section headers, as where these are hidden ([`Counted::hide_sections`]). Where the
+/// locates no section headers, as where these are hidden ([`Counted::mask_section_headers`]). Where the
 /// source's file is known no more is asked for than the file header and they have, also where the
 /// source fails.
 ///
@@ -20,7 +20,7 @@ pub fn load_by_segments<S: Source>(
     src: &mut Counted<S>,
     store: &mut HeaderStore,
 ) -> Result<Loaded, Fault>
-    ensures did { Did src.old src.new (why_stopped result) (64 + store.old.slots * 56) (λ file.
+    ensures did { CallDid src.old src.new (fault_of_result result) (64 + store.old.slots * 56) (λ file.
         e_shnum file ≡ 0 → LoadsShown file store.old.slots store.new src.old src.new result) }
     ensures slots { store.new.slots ≡ store.old.slots }
     ensures fits { IfOk result (FitsSource src.old.seen.size store.new) }

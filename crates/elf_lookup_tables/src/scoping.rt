@@ -1,18 +1,18 @@
 //! The tables that a lookup searches, found by the headers of a file.
 ghost use Rattle.std.specs.Prelude.{◌≡◌, ◌+◌, ◌*◌, ◌<◌, ◌≤◌, ◌^◌, ℕ, List, IfOk};
 ghost use Rattle.elf_model.specs.LoaderFind.{segments_asked};
-ghost use Rattle.elf_headers.specs.Ledger.{Charges, Did, why_stopped};
-ghost use Rattle.elf_headers.specs.Load.{Belongs, SegmentsWithin};
+ghost use Rattle.elf_headers.specs.Ledger.{CallReads, CallDid, fault_of_result};
+ghost use Rattle.elf_headers.specs.Load.{HoldsSectionHeaders, SegmentsInBounds};
 ghost use Rattle.elf_lookup_tables.specs.Finding.{FindsScope, scope_loaded, segments_bytes};
 ghost use Rattle.elf_lookup_tables.specs.Headers.{IsOfSource};
-ghost use Rattle.elf_lookup_tables.specs.Scopes.{IsScopeFound, ScopeLies};
+ghost use Rattle.elf_lookup_tables.specs.Scopes.{FindsLookupTables, LookupTablesInBounds};
 
 use crate::by_sections::by_sections;
 use crate::by_segments::find_in_segments;
-use crate::scope::Scope;
+use crate::scope::LookupTables;
 use elf_headers::{Fault, HeaderStore, Loaded, header, load};
 use elf_source::{Counted, Source};
-use elf_table::{File, SegmentView};
+use elf_table::{ExecutionView, File};
 
 /// The tables that a loader of the GNU system searches in one file (gABI 5, Dynamic Linking;
 /// Linux Standard Base Core, Symbol Versioning). By the section headers: the hash table of the first
@@ -30,12 +30,15 @@ use elf_table::{File, SegmentView};
 /// where there are words of versions those of the words, of the definitions and of the needs, each
 /// at the section header or the dynamic entry that locates it. Else a fault of the source, or
 /// `Budget` where a limit has no room for a read, at the offset that was asked for.
-pub fn find_scope<S: Source>(src: &mut Counted<S>, store: &mut HeaderStore) -> Result<Scope, Fault>
-    ensures did { Did src.old src.new (why_stopped result)
+pub fn find_lookup_tables<S: Source>(
+    src: &mut Counted<S>,
+    store: &mut HeaderStore,
+) -> Result<LookupTables, Fault>
+    ensures did { CallDid src.old src.new (fault_of_result result)
         (64 + 64 * store.old.slots + src.old.seen.size)
         (λ file. FindsScope file store.old.slots src.old src.new result) }
     ensures slots { store.new.slots ≡ store.old.slots }
-    ensures within { IfOk result (ScopeLies src.old.seen.size) }
+    ensures within { IfOk result (LookupTablesInBounds src.old.seen.size) }
     ensures small { IfOk result (λ found. src.old.seen.size < 2 ^ 63) }
 {
     let header = header(src)?;
@@ -48,20 +51,20 @@ fn loaded_scope<S: Source>(
     src: &mut Counted<S>,
     store: &mut HeaderStore,
     loaded: Loaded,
-) -> Result<Scope, Fault>
+) -> Result<LookupTables, Fault>
     requires sized { IsOfSource src.old loaded }
     requires whole { store.old.loaded ≡ loaded.header.e_shnum }
     requires few { loaded.header.e_phnum ≤ store.old.slots }
-    ensures did { Did src.old src.new (why_stopped result)
-        (segments_bytes loaded.header src.old.seen.size) (λ file. Belongs file loaded store.old →
-        Charges src.old src.new (why_stopped result) (segments_asked file)
-        × IsScopeFound file (scope_loaded file) result) }
+    ensures did { CallDid src.old src.new (fault_of_result result)
+        (segments_bytes loaded.header src.old.seen.size) (λ file. HoldsSectionHeaders file loaded store.old →
+        CallReads src.old src.new (fault_of_result result) (segments_asked file)
+        × FindsLookupTables file (scope_loaded file) result) }
     ensures slots { store.new.slots ≡ store.old.slots }
-    ensures within { IfOk result (ScopeLies src.old.seen.size) }
+    ensures within { IfOk result (LookupTablesInBounds src.old.seen.size) }
 {
     if loaded.header().e_shnum != 0 {
         return by_sections(&File { loaded, store });
     }
     loaded.load_segments(src, store)?;
-    find_in_segments(src, &SegmentView { loaded, store })
+    find_in_segments(src, &ExecutionView { loaded, store })
 }

@@ -6,15 +6,15 @@ ghost use Rattle.elf_model.specs.Records.{section_at, sh_link};
 ghost use Rattle.elf_model.specs.Tables.{all_checks};
 ghost use Rattle.elf_model.specs.VersionRows.{version_table};
 ghost use Rattle.elf_model.specs.declared.versions.VersionKind.TheVariants.{Definition, File as NeededFile, Need};
-ghost use Rattle.elf_headers.specs.Load.{Belongs};
-ghost use Rattle.elf_table.specs.HashSections.{Settles};
+ghost use Rattle.elf_headers.specs.Load.{HoldsSectionHeaders};
+ghost use Rattle.elf_table.specs.HashSections.{ChecksThenValue};
 ghost use Rattle.elf_table.specs.Sections.{string_table_at};
-ghost use Rattle.elf_table.specs.Tables.{RowsWithin, StringsWithin};
+ghost use Rattle.elf_table.specs.Tables.{TableInBounds, StringsInBounds};
 ghost use Rattle.elf_lookup_tables.specs.Headers.{FindsIn, HasHeader};
-ghost use Rattle.elf_lookup_tables.specs.Symbols.{AreWords, IsRecordTable, RecordsWithin};
-ghost use Rattle.elf_lookup_tables.specs.Versions.{AreInFront, AreVersions, VersionsLie, records_at, words_checks};
+ghost use Rattle.elf_lookup_tables.specs.Symbols.{AreVersymTable, IsVersionRecordTable, VersionRecordsInBounds};
+ghost use Rattle.elf_lookup_tables.specs.Versions.{AreInFront, AreVersions, VersionsInBounds, records_at, words_checks};
 
-use crate::symbols::{RecordTable, VersionWords};
+use crate::symbols::{VersionRecordTable, VersionWords};
 use crate::versions::VersionTables;
 use elf_headers::{Fault, refused};
 use elf_record::gnu_numbers::{SHT_GNU_VERDEF, SHT_GNU_VERNEED, SHT_GNU_VERSYM};
@@ -30,8 +30,8 @@ use elf_table::{File, Names, Table};
 /// The first check that fails: those of the words, of the definitions, of the needs.
 pub(crate) fn section_versions(file: &File<'_>, link: u32) -> Result<VersionTables, Fault>
     requires small { file.now.loaded.size < 2 ^ 63 }
-    ensures { FindsIn Belongs file.now.loaded file.now.store.now result VersionsLie (λ bytes.
-        (at : ℕ) → sh_link bytes at ≡ link → Settles (version_checks bytes at)
+    ensures { FindsIn HoldsSectionHeaders file.now.loaded file.now.store.now result VersionsInBounds (λ bytes.
+        (at : ℕ) → sh_link bytes at ≡ link → ChecksThenValue (version_checks bytes at)
         (AreVersions bytes (section_words bytes)
         (records_of_type bytes SHT_GNU_VERDEF Definition
         (records_of_type bytes SHT_GNU_VERNEED NeededFile []))) result) }
@@ -58,10 +58,10 @@ pub(crate) fn section_versions(file: &File<'_>, link: u32) -> Result<VersionTabl
 /// # Errors
 /// At its header: those of [`File::table`]; `BadLink` where its link is another than `link`.
 fn section_words(file: &File<'_>, link: u32) -> Result<Option<VersionWords>, Fault>
-    ensures { FindsIn Belongs file.now.loaded file.now.store.now result
-        (λ size found. IfSome found (λ words. RowsWithin size words.words))
+    ensures { FindsIn HoldsSectionHeaders file.now.loaded file.now.store.now result
+        (λ size found. IfSome found (λ words. TableInBounds size words.words))
         (λ bytes. (at : ℕ) → sh_link bytes at ≡ link →
-        Settles (words_checks bytes at) (AreWords (section_words bytes)) result) }
+        ChecksThenValue (words_checks bytes at) (AreVersymTable (section_words bytes)) result) }
 {
     let Some(section) = words_section(file) else {
         return Ok(None);
@@ -82,7 +82,7 @@ fn section_words(file: &File<'_>, link: u32) -> Result<Option<VersionWords>, Fau
 /// them no word names a version, and a loader does not look at the words.
 fn words_section(file: &File<'_>) -> Option<u16>
     ensures below { IfSome result (λ section. section < file.now.store.now.loaded) }
-    ensures held { (bytes : List ℕ) → Belongs bytes file.now.loaded file.now.store.now →
+    ensures held { (bytes : List ℕ) → HoldsSectionHeaders bytes file.now.loaded file.now.store.now →
         result ≡ words_section bytes }
 {
     if has_bytes(file, SHT_GNU_VERDEF) || has_bytes(file, SHT_GNU_VERNEED) {
@@ -93,7 +93,7 @@ fn words_section(file: &File<'_>) -> Option<u16>
 
 /// Whether there is a section of a type, and the first of them has a byte.
 fn has_bytes(file: &File<'_>, sh_type: u32) -> bool
-    ensures { (bytes : List ℕ) → Belongs bytes file.now.loaded file.now.store.now →
+    ensures { (bytes : List ℕ) → HoldsSectionHeaders bytes file.now.loaded file.now.store.now →
         result ≡ has_bytes bytes sh_type }
 {
     let Some(section) = file.first(sh_type) else {
@@ -110,12 +110,12 @@ fn first_records(
     file: &File<'_>,
     sh_type: u32,
     kind: VersionKind,
-) -> Result<Option<RecordTable>, Fault>
+) -> Result<Option<VersionRecordTable>, Fault>
     requires kind { kind ≡ Need → ⊥ }
     requires small { file.now.loaded.size < 2 ^ 63 }
-    ensures { FindsIn Belongs file.now.loaded file.now.store.now result
-        (λ size found. IfSome found (RecordsWithin size)) (λ bytes.
-        Settles (checks_of_type bytes sh_type (all_checks version_table bytes))
+    ensures { FindsIn HoldsSectionHeaders file.now.loaded file.now.store.now result
+        (λ size found. IfSome found (VersionRecordsInBounds size)) (λ bytes.
+        ChecksThenValue (checks_of_type bytes sh_type (all_checks version_table bytes))
         (AreInFront bytes (records_of_type bytes sh_type kind)) result) }
 {
     let Some(section) = file.first(sh_type) else {
@@ -129,18 +129,22 @@ fn first_records(
 ///
 /// # Errors
 /// `TableOutside` at its header where it ends past the end of the file; those of [`File::strings`].
-fn section_records(file: &File<'_>, section: u16, kind: VersionKind) -> Result<RecordTable, Fault>
+fn section_records(
+    file: &File<'_>,
+    section: u16,
+    kind: VersionKind,
+) -> Result<VersionRecordTable, Fault>
     requires header { HasHeader section file.now.store.now.loaded file.now.loaded.size }
     requires kind { kind ≡ Need → ⊥ }
-    ensures { FindsIn Belongs file.now.loaded file.now.store.now result RecordsWithin (λ bytes.
-        Settles (all_checks version_table bytes (section_at bytes section))
-        (IsRecordTable bytes (records_at bytes kind (section_at bytes section))) result) }
+    ensures { FindsIn HoldsSectionHeaders file.now.loaded file.now.store.now result VersionRecordsInBounds (λ bytes.
+        ChecksThenValue (all_checks version_table bytes (section_at bytes section))
+        (IsVersionRecordTable bytes (records_at bytes kind (section_at bytes section))) result) }
 {
     let header = file.section(section);
     let head = file.place(section);
     let table = file.bytes(header.sh_offset, header.sh_size, head)?;
     let names = record_names(file, section, table)?;
-    Ok(RecordTable {
+    Ok(VersionRecordTable {
         kind,
         head,
         table,
@@ -155,7 +159,7 @@ fn section_records(file: &File<'_>, section: u16, kind: VersionKind) -> Result<R
 fn record_names(file: &File<'_>, section: u16, table: Table) -> Result<Names, Fault>
     requires below { section < file.now.store.now.loaded }
     ensures some { IfErr result (λ fault. 0 < table.count) }
-    ensures finds { FindsIn Belongs file.now.loaded file.now.store.now result StringsWithin
+    ensures finds { FindsIn HoldsSectionHeaders file.now.loaded file.now.store.now result StringsInBounds
         (λ bytes. 0 < table.count → result ≡ string_table_at bytes (section_at bytes section)) }
 {
     if table.is_empty() {

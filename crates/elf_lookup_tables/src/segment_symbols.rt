@@ -3,40 +3,40 @@ ghost use Rattle.std.specs.Prelude.{◌≡◌, ◌/◌, ◌<◌, ◌≤◌, ◌^
 ghost use Rattle.elf_model.specs.LoaderScope.{checks_of_row, records_of_tag, rest_checks, rows_checks, segment_strings, segment_words, tagged_row, words_row};
 ghost use Rattle.elf_model.specs.Records.{segment_at};
 ghost use Rattle.elf_model.specs.declared.versions.VersionKind.TheVariants.{Need};
-ghost use Rattle.elf_headers.specs.Load.{Views};
-ghost use Rattle.elf_table.specs.HashSections.{Settles};
-ghost use Rattle.elf_table.specs.Tables.{StringsWithin, strings_in};
+ghost use Rattle.elf_headers.specs.Load.{HoldsProgramHeaders};
+ghost use Rattle.elf_table.specs.HashSections.{ChecksThenValue};
+ghost use Rattle.elf_table.specs.Tables.{StringsInBounds, strings_in};
 ghost use Rattle.elf_lookup_tables.specs.Entries.{AreTaggedEntries, dynamic_entry_at};
 ghost use Rattle.elf_lookup_tables.specs.Headers.{FindsIn};
 ghost use Rattle.elf_lookup_tables.specs.Segments.{AreRowsSymbols, TellSymbols, rows_records, version_rows};
-ghost use Rattle.elf_lookup_tables.specs.Symbols.{RecordsWithin, SymbolsLie};
-ghost use Rattle.elf_lookup_tables.specs.Versions.{AreInFront, AreVersions, VersionsLie};
+ghost use Rattle.elf_lookup_tables.specs.Symbols.{VersionRecordsInBounds, DynamicSymbolsInBounds};
+ghost use Rattle.elf_lookup_tables.specs.Versions.{AreInFront, AreVersions, VersionsInBounds};
 
-use crate::entry::{Entry, TaggedEntries};
-use crate::symbols::{RecordTable, Symbols, VersionWords};
+use crate::entry::{DynEntry, DynamicTags};
+use crate::symbols::{Symbols, VersionRecordTable, VersionWords};
 use crate::versions::VersionTables;
 use elf_headers::{Fault, refused};
 use elf_record::sizes::{SYMBOL_BYTES, SYMBOL_VERSION_BYTES};
 use elf_record::{Cause, VersionKind};
-use elf_table::{Names, SegmentView, Table};
+use elf_table::{ExecutionView, Names, Table};
 
 /// The symbols that the entries of a segment locate, with their names and versions. `row` is the
 /// file offset of the entry of the hash table.
 ///
 /// # Errors
 /// The first that fails: `Unmapped` at `row` where no entry locates the symbols or their strings, or
-/// has the size of these; those of [`SegmentView::rest`] for the symbols and of
-/// [`SegmentView::mapped`]; those of the tables of versions.
+/// has the size of these; those of [`ExecutionView::rest`] for the symbols and of
+/// [`ExecutionView::mapped`]; those of the tables of versions.
 pub(crate) fn segment_symbols(
-    view: &SegmentView<'_>,
+    view: &ExecutionView<'_>,
     segment: u16,
-    found: &TaggedEntries,
+    found: &DynamicTags,
     row: u64,
 ) -> Result<Symbols, Fault>
     requires small { view.now.loaded.size < 2 ^ 63 }
-    ensures { FindsIn Views view.now.loaded view.now.store.now result SymbolsLie (λ bytes.
+    ensures { FindsIn HoldsProgramHeaders view.now.loaded view.now.store.now result DynamicSymbolsInBounds (λ bytes.
         (at : ℕ) → AreTaggedEntries bytes at found.now →
-        Settles (rows_checks bytes at row) (AreRowsSymbols bytes segment at) result) }
+        ChecksThenValue (rows_checks bytes at row) (AreRowsSymbols bytes segment at) result) }
 {
     let Some((symtab, strtab, strsz)) = symbol_entries(found) else {
         return refused(row, Cause::Unmapped);
@@ -55,7 +55,7 @@ pub(crate) fn segment_symbols(
 }
 
 /// The entries that locate symbols and their strings, and have the size of these.
-fn symbol_entries(found: &TaggedEntries) -> Option<(Entry, Entry, Entry)>
+fn symbol_entries(found: &DynamicTags) -> Option<(DynEntry, DynEntry, DynEntry)>
     ensures { TellSymbols found.now result }
 {
     let Some(symtab) = found.symtab else {
@@ -84,18 +84,18 @@ fn rows_in(bytes: Table, entry: u64) -> Table
 /// strings; nothing without an entry of the words, or without one of the definitions or the needs.
 ///
 /// # Errors
-/// Those of [`SegmentView::rest`] for the words, for the definitions and for the needs.
+/// Those of [`ExecutionView::rest`] for the words, for the definitions and for the needs.
 fn segment_versions(
-    view: &SegmentView<'_>,
+    view: &ExecutionView<'_>,
     segment: u16,
-    found: &TaggedEntries,
+    found: &DynamicTags,
     names: Names,
 ) -> Result<VersionTables, Fault>
     requires small { view.now.loaded.size < 2 ^ 63 }
-    requires names { StringsWithin view.now.loaded.size names }
-    ensures { FindsIn Views view.now.loaded view.now.store.now result VersionsLie (λ bytes.
+    requires names { StringsInBounds view.now.loaded.size names }
+    ensures { FindsIn HoldsProgramHeaders view.now.loaded view.now.store.now result VersionsInBounds (λ bytes.
         (at : ℕ) → AreTaggedEntries bytes at found.now →
-        strings_in bytes names ≡ segment_strings bytes at → Settles (version_rows bytes at)
+        strings_in bytes names ≡ segment_strings bytes at → ChecksThenValue (version_rows bytes at)
         (AreVersions bytes (segment_words bytes segment at) (rows_records bytes at)) result) }
 {
     let Some(entry) = words_entry(found) else {
@@ -122,7 +122,7 @@ fn segment_versions(
 
 /// The entry of the words of symbols' versions, where there is one of the definitions or of the needs.
 /// Without them no word names a version, and a loader does not look at the words.
-fn words_entry(found: &TaggedEntries) -> Option<Entry>
+fn words_entry(found: &DynamicTags) -> Option<DynEntry>
     ensures { (bytes : List ℕ) (at : ℕ) → AreTaggedEntries bytes at found.now →
         result ≡ option_map (dynamic_entry_at bytes) (words_row bytes at) }
 {
@@ -135,28 +135,28 @@ fn words_entry(found: &TaggedEntries) -> Option<Entry>
 /// The definitions, or the needs, that an entry locates, if there is one.
 ///
 /// # Errors
-/// Those of [`SegmentView::rest`].
+/// Those of [`ExecutionView::rest`].
 fn segment_records(
-    view: &SegmentView<'_>,
-    entry: Option<Entry>,
+    view: &ExecutionView<'_>,
+    entry: Option<DynEntry>,
     kind: VersionKind,
     names: Names,
-) -> Result<Option<RecordTable>, Fault>
+) -> Result<Option<VersionRecordTable>, Fault>
     requires kind { kind ≡ Need → ⊥ }
     requires small { view.now.loaded.size < 2 ^ 63 }
-    requires names { StringsWithin view.now.loaded.size names }
-    ensures { FindsIn Views view.now.loaded view.now.store.now result
-        (λ size found. IfSome found (RecordsWithin size)) (λ bytes. (at tag : ℕ) →
+    requires names { StringsInBounds view.now.loaded.size names }
+    ensures { FindsIn HoldsProgramHeaders view.now.loaded view.now.store.now result
+        (λ size found. IfSome found (VersionRecordsInBounds size)) (λ bytes. (at tag : ℕ) →
         entry ≡ option_map (dynamic_entry_at bytes) (tagged_row bytes at tag) →
         strings_in bytes names ≡ segment_strings bytes at →
-        Settles (checks_of_row (tagged_row bytes at tag) (rest_checks bytes))
+        ChecksThenValue (checks_of_row (tagged_row bytes at tag) (rest_checks bytes))
         (AreInFront bytes (records_of_tag bytes at tag kind)) result) }
 {
     let Some(entry) = entry else {
         return Ok(None);
     };
     let table = view.rest(entry.value, entry.at)?;
-    Ok(Some(RecordTable {
+    Ok(Some(VersionRecordTable {
         kind,
         head: entry.at,
         table,

@@ -22,7 +22,7 @@ pub struct VersionWords {
 /// A table of definitions or of needs of versions (Linux Standard Base Core, Symbol Versioning). It
 /// holds no bytes.
 #[derive(Clone, Copy)]
-pub struct RecordTable {
+pub struct VersionRecordTable {
     /// The kind of its first record: a definition, or a needed file.
     pub kind: VersionKind,
     /// The file offset of the section header or dynamic entry that locates it.
@@ -48,8 +48,8 @@ pub struct Symbols {
     /// The words of their versions, if there are such.
     pub words: Option<VersionWords>,
     /// The definitions of versions, where there are words of versions and definitions.
-    pub definitions: Option<RecordTable>,
+    pub definitions: Option<VersionRecordTable>,
     /// The needs of versions, where there are words of versions and needs.
-    pub needs: Option<RecordTable>,
+    pub needs: Option<VersionRecordTable>,
     pub ghost rows: { table.entry ≡ 24 },
 }

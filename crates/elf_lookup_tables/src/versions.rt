@@ -1,7 +1,7 @@
 //! The tables of versions of symbols.
 ghost use Rattle.std.specs.Prelude.{◌≡◌};
 
-use crate::symbols::{RecordTable, VersionWords};
+use crate::symbols::{VersionRecordTable, VersionWords};
 
 /// The tables of the versions of symbols.
 #[derive(Clone, Copy)]
@@ -9,7 +9,7 @@ pub(crate) struct VersionTables {
     /// The words of the symbols' versions, if there are such.
     pub words: Option<VersionWords>,
     /// The definitions, where there are words and definitions.
-    pub definitions: Option<RecordTable>,
+    pub definitions: Option<VersionRecordTable>,
     /// The needs, where there are words and needs.
-    pub needs: Option<RecordTable>,
+    pub needs: Option<VersionRecordTable>,
 }

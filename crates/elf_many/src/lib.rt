@@ -11,10 +11,10 @@ mod short;
 mod statuses;
 mod walk;
 
-pub use each_file::EachFile;
+pub use each_file::FileVisitor;
 pub use lists::{ListFault, visit_list};
-pub use many::Many;
+pub use many::FileRun;
 pub use paths::visit_path;
-pub use short::{refused_state, short_state};
+pub use short::{refused_state, short_file_status};
 pub use statuses::status;
-pub use walk::{DEPTH, FolderWalk};
+pub use walk::{DEPTH, DirWalk};

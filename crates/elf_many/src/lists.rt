@@ -1,8 +1,8 @@
 //! A list of paths, each ended by NUL.
-use crate::each_file::EachFile;
-use crate::many::Many;
+use crate::each_file::FileVisitor;
+use crate::many::FileRun;
 use crate::paths::visit_path;
-use crate::walk::FolderWalk;
+use crate::walk::DirWalk;
 use elf_folder::entry_end;
 use elf_source::{OutFault, Sink};
 use std::io::{ErrorKind, Read, Write};
@@ -21,7 +21,7 @@ pub enum ListFault {
 
 /// Whether the list is within an entry that is longer than the room for it.
 #[derive(Clone, Copy)]
-enum Place {
+enum EntryState {
     /// At an entry's begin.
     Entry,
     /// Within an entry that is too long: what comes up to its NUL is passed over.
@@ -34,10 +34,10 @@ enum Place {
 ///
 /// # Errors
 /// Where the list can't be read, or the output failed: the paths before were told of.
-pub fn visit_list<R: Files, W: Sink, E: Write + Drop, A: EachFile + Drop, I: Read>(
+pub fn visit_list<R: Files, W: Sink, E: Write + Drop, A: FileVisitor + Drop, I: Read>(
     rt: &R,
-    many: &mut Many<W, E, A>,
-    walk: &mut FolderWalk,
+    many: &mut FileRun<W, E, A>,
+    walk: &mut DirWalk,
     list: &mut I,
     room: &mut [u8],
 ) -> Result<(), ListFault>
@@ -45,7 +45,7 @@ where
     R::File: FileExt,
 {
     let mut held = 0;
-    let mut place = Place::Entry;
+    let mut place = EntryState::Entry;
     for _turn in 0..u64::MAX {
         let start = held.min(room.len());
         let count = match list.read(&mut room[start..]) {
@@ -58,7 +58,7 @@ where
         let used = visit_entries(rt, many, walk, &room[..end], &mut place)?;
         held = keep_rest(room, used, end);
         if held == room.len() {
-            place = Place::TooLong;
+            place = EntryState::TooLong;
             held = 0;
         }
     }
@@ -73,12 +73,12 @@ fn keep_rest(room: &mut [u8], used: usize, end: usize) -> usize {
 }
 
 /// Tells of the entries that are whole, and answers how many bytes they have.
-fn visit_entries<R: Files, W: Sink, E: Write + Drop, A: EachFile + Drop>(
+fn visit_entries<R: Files, W: Sink, E: Write + Drop, A: FileVisitor + Drop>(
     rt: &R,
-    many: &mut Many<W, E, A>,
-    walk: &mut FolderWalk,
+    many: &mut FileRun<W, E, A>,
+    walk: &mut DirWalk,
     bytes: &[u8],
-    place: &mut Place,
+    place: &mut EntryState,
 ) -> Result<usize, ListFault>
 where
     R::File: FileExt,
@@ -90,42 +90,42 @@ where
         };
         let end = at + len;
         visit_entry(rt, many, walk, &bytes[at..end], *place)?;
-        *place = Place::Entry;
+        *place = EntryState::Entry;
         at = end + 1;
     }
     Ok(at)
 }
 
 /// Tells of what is left behind the last NUL.
-fn visit_last<R: Files, W: Sink, E: Write + Drop, A: EachFile + Drop>(
+fn visit_last<R: Files, W: Sink, E: Write + Drop, A: FileVisitor + Drop>(
     rt: &R,
-    many: &mut Many<W, E, A>,
-    walk: &mut FolderWalk,
+    many: &mut FileRun<W, E, A>,
+    walk: &mut DirWalk,
     rest: &[u8],
-    place: Place,
+    place: EntryState,
 ) -> Result<(), ListFault>
 where
     R::File: FileExt,
 {
-    if rest.is_empty() && place == Place::Entry {
+    if rest.is_empty() && place == EntryState::Entry {
         return Ok(());
     }
     visit_entry(rt, many, walk, rest, place)
 }
 
 /// Tells of the path that an entry has.
-fn visit_entry<R: Files, W: Sink, E: Write + Drop, A: EachFile + Drop>(
+fn visit_entry<R: Files, W: Sink, E: Write + Drop, A: FileVisitor + Drop>(
     rt: &R,
-    many: &mut Many<W, E, A>,
-    walk: &mut FolderWalk,
+    many: &mut FileRun<W, E, A>,
+    walk: &mut DirWalk,
     entry: &[u8],
-    place: Place,
+    place: EntryState,
 ) -> Result<(), ListFault>
 where
     R::File: FileExt,
 {
     match str::from_utf8(entry) {
-        Ok(path) if place == Place::Entry => {
+        Ok(path) if place == EntryState::Entry => {
             visit_path(rt, many, walk, path).map_err(ListFault::Out)
         }
         _ => {

@@ -1,14 +1,14 @@
 //! What is kept from one of many files to the next.
 ghost use Rattle.std.specs.Prelude.{◌≡◌, ◌+◌, ◌-◌, ◌^◌, ◌<◌, max, min, OnOk, Ok};
-ghost use Rattle.elf_many.specs.Telling.{KeepsRule, StandsWhole, TellsLine, TellsSource};
+ghost use Rattle.elf_many.specs.Telling.{KeepsRule, StandsWhole, ReturnsLine, ReturnsSource};
 ghost use Rattle.elf_model.specs.Checking.{unnamed_line};
-ghost use Rattle.elf_source.specs.Output.{Puts};
+ghost use Rattle.elf_source.specs.Output.{OutPuts};
 
-use crate::each_file::EachFile;
+use crate::each_file::FileVisitor;
 use crate::statuses::status;
 use elf_lines::{show_check, show_unnamed};
-use elf_model::{FileState, Format};
-use elf_source::{Counted, HoldingSink, Out, OutFault, RangeSource, Sink, Source};
+use elf_model::{FileStatus, Format};
+use elf_source::{Counted, DeferredSink, Out, OutFault, RangeSource, Sink, Source};
 use std::io::Write;
 use std::marker::Model;
 
@@ -17,9 +17,9 @@ const TELL_EVERY: u64 = 512;
 
 /// Many files, of which each is told by the same rule: the output, and what has come of them so far.
 #[derive(Drop)]
-pub struct Many<W: Sink, E: Write + Drop, A: EachFile> {
+pub struct FileRun<W: Sink, E: Write + Drop, A: FileVisitor> {
     each: A,
-    out: Out<HoldingSink<W>>,
+    out: Out<DeferredSink<W>>,
     format: Format,
     status: u8,
     unnamed: u64,
@@ -27,7 +27,7 @@ pub struct Many<W: Sink, E: Write + Drop, A: EachFile> {
     terminal: Option<E>,
 }
 
-impl<W: Sink, E: Write + Drop, A: EachFile> Model for Many<W, E, A> {
+impl<W: Sink, E: Write + Drop, A: FileVisitor> Model for FileRun<W, E, A> {
     ghost use Rattle.elf_many.specs.Telling.{Tally};
 
     ghost Value = { Tally A.Rule };
@@ -41,15 +41,15 @@ impl<W: Sink, E: Write + Drop, A: EachFile> Model for Many<W, E, A> {
     } };
 }
 
-impl<W: Sink, E: Write + Drop, A: EachFile + Drop> Many<W, E, A> {
+impl<W: Sink, E: Write + Drop, A: FileVisitor + Drop> FileRun<W, E, A> {
     /// No file yet. Where there is a terminal it is told how far it is.
-    pub fn new(out: Out<HoldingSink<W>>, each: A, format: Format, terminal: Option<E>) -> Self
+    pub fn new(out: Out<DeferredSink<W>>, each: A, format: Format, terminal: Option<E>) -> Self
         ensures out { result.out ≡ out }
         ensures format { result.format ≡ format }
         ensures rule { result.rule ≡ A.rule each }
         ensures begins { (result.status ≡ 0) × (result.unnamed ≡ 0) }
     {
-        Many {
+        FileRun {
             each,
             out,
             format,
@@ -65,13 +65,13 @@ impl<W: Sink, E: Write + Drop, A: EachFile + Drop> Many<W, E, A> {
     ///
     /// # Errors
     /// A fault of the output, with a front of what there is to tell written.
-    pub fn tell_source<S: Source>(
+    pub fn report_source<S: Source>(
         &mut self,
         src: &mut Counted<RangeSource<S>>,
         path: &[u8],
     ) -> Result<(), OutFault>
         requires { StandsWhole src.old }
-        ensures { TellsSource (A.tells self.old.rule path.now src.old src.new)
+        ensures { ReturnsSource (A.tells self.old.rule path.now src.old src.new)
             result self.old self.new }
     {
         let found = self.each.tell(src, path, &mut self.out)?;
@@ -83,8 +83,8 @@ impl<W: Sink, E: Write + Drop, A: EachFile + Drop> Many<W, E, A> {
     ///
     /// # Errors
     /// A fault of the output, with a front of the line written.
-    pub(crate) fn tell_state(&mut self, state: FileState, path: &[u8]) -> Result<(), OutFault>
-        ensures { TellsLine state path.now result self.old self.new }
+    pub(crate) fn report_state(&mut self, state: FileStatus, path: &[u8]) -> Result<(), OutFault>
+        ensures { ReturnsLine state path.now result self.old self.new }
     {
         show_check(state, path, self.format, &mut self.out)?;
         self.count_file(status(state));
@@ -100,7 +100,7 @@ impl<W: Sink, E: Write + Drop, A: EachFile + Drop> Many<W, E, A> {
     {
         self.status = self.status.max(found);
         self.files = self.files.saturating_add(1);
-        self.tell_terminal();
+        self.report_progress();
     }
 
     /// Counts paths that could not be named.
@@ -114,7 +114,7 @@ impl<W: Sink, E: Write + Drop, A: EachFile + Drop> Many<W, E, A> {
     }
 
     /// Tells a terminal how far it is, now and then.
-    fn tell_terminal(&mut self)
+    fn report_progress(&mut self)
         ensures { self.new ≡ self.old }
     {
         if self.files % TELL_EVERY != 0 {
@@ -135,7 +135,7 @@ impl<W: Sink, E: Write + Drop, A: EachFile + Drop> Many<W, E, A> {
         ensures quiet { self.old.unnamed ≡ 0 → self.new.out ≡ self.old.out }
         ensures told { 0 < self.old.unnamed → OnOk result (result ≡ Ok 3) }
         ensures puts { 0 < self.old.unnamed →
-            Puts self.old.out self.new.out result
+            OutPuts self.old.out self.new.out result
             (unnamed_line self.old.format self.old.unnamed) }
     {
         self.clear_terminal();
@@ -159,10 +159,10 @@ impl<W: Sink, E: Write + Drop, A: EachFile + Drop> Many<W, E, A> {
     }
 
     /// Gives the output back.
-    pub fn into_out(self) -> Out<HoldingSink<W>>
+    pub fn into_out(self) -> Out<DeferredSink<W>>
         ensures { result ≡ self.out }
     {
-        let Many { out, .. } = self;
+        let FileRun { out, .. } = self;
         out
     }
 }

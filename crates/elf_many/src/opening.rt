@@ -1,14 +1,14 @@
 //! One file, opened and told of.
 ghost use Rattle.std.specs.Prelude.{◌≡◌, ◌⊎◌, IfErr};
-ghost use Rattle.elf_many.specs.Telling.{StandsWhole, TellsFile};
-ghost use Rattle.elf_model.specs.declared.states.FileState.TheVariants.{Memory, Unread};
+ghost use Rattle.elf_many.specs.Telling.{StandsWhole, ReturnsFile};
+ghost use Rattle.elf_model.specs.declared.states.FileStatus.TheVariants.{Memory, Unread};
 
-use crate::each_file::EachFile;
-use crate::many::Many;
+use crate::each_file::FileVisitor;
+use crate::many::FileRun;
 use elf_folder::unopened;
-use elf_model::FileState;
+use elf_model::FileStatus;
 use elf_source::{
-    Counted, OffsetReader, OutFault, RangeSource, Sink, Source, StreamSource, opened_path,
+    Counted, FileReader, OutFault, RangeSource, Sink, Source, StreamSource, opened_path,
 };
 use std::fs;
 use std::io::Write;
@@ -19,18 +19,18 @@ use std::rt::Files;
 ///
 /// # Errors
 /// A fault of the output.
-pub(crate) fn visit_file<R: Files, W: Sink, E: Write + Drop, A: EachFile + Drop>(
+pub(crate) fn visit_file<R: Files, W: Sink, E: Write + Drop, A: FileVisitor + Drop>(
     rt: &R,
-    many: &mut Many<W, E, A>,
+    many: &mut FileRun<W, E, A>,
     path: &str,
 ) -> Result<(), OutFault>
 where
     R::File: FileExt,
-    ensures { TellsFile (A.tells many.old.rule) path.now result many.old many.new }
+    ensures { ReturnsFile (A.tells many.old.rule) path.now result many.old many.new }
 {
     match open(rt, path) {
-        Ok(source) => many.tell_source(&mut whole(source), path.as_bytes()),
-        Err(state) => many.tell_state(state, path.as_bytes()),
+        Ok(source) => many.report_source(&mut whole(source), path.as_bytes()),
+        Err(state) => many.report_state(state, path.as_bytes()),
     }
 }
 
@@ -38,13 +38,13 @@ where
 ///
 /// # Errors
 /// The state of a file that can't be opened, or whose length can't be found.
-fn open<R: Files>(rt: &R, path: &str) -> Result<StreamSource<OffsetReader<R::File>>, FileState>
+fn open<R: Files>(rt: &R, path: &str) -> Result<StreamSource<FileReader<R::File>>, FileStatus>
 where
     R::File: FileExt,
     ensures { IfErr result (λ state. (state ≡ Unread) ⊎ (state ≡ Memory)) }
 {
     match fs::open(rt, opened_path(path)) {
-        Ok(file) => StreamSource::over(OffsetReader::new(file)).map_err(|_| FileState::Unread),
+        Ok(file) => StreamSource::over(FileReader::new(file)).map_err(|_| FileStatus::Unread),
         Err(error) => Err(unopened(&error)),
     }
 }

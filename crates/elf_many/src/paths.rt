@@ -1,10 +1,10 @@
 //! A path that is asked for.
-use crate::each_file::EachFile;
-use crate::many::Many;
+use crate::each_file::FileVisitor;
+use crate::many::FileRun;
 use crate::opening::visit_file;
-use crate::walk::FolderWalk;
+use crate::walk::DirWalk;
 use elf_folder::unopened;
-use elf_model::FileState;
+use elf_model::FileStatus;
 use elf_source::{OutFault, Sink, opened_path};
 use std::fs;
 use std::io::Write;
@@ -16,10 +16,10 @@ use std::rt::Files;
 ///
 /// # Errors
 /// A fault of the output.
-pub fn visit_path<R: Files, W: Sink, E: Write + Drop, A: EachFile + Drop>(
+pub fn visit_path<R: Files, W: Sink, E: Write + Drop, A: FileVisitor + Drop>(
     rt: &R,
-    many: &mut Many<W, E, A>,
-    walk: &mut FolderWalk,
+    many: &mut FileRun<W, E, A>,
+    walk: &mut DirWalk,
     path: &str,
 ) -> Result<(), OutFault>
 where
@@ -28,13 +28,13 @@ where
     let opened = opened_path(path);
     let kind = match fs::metadata(rt, opened) {
         Ok(found) => found.file_type(),
-        Err(error) => return many.tell_state(unopened(&error), path.as_bytes()),
+        Err(error) => return many.report_state(unopened(&error), path.as_bytes()),
     };
     if kind.is_dir() {
-        return walk.visit_folder(rt, many, opened);
+        return walk.visit_dir(rt, many, opened);
     }
     if kind.is_fifo() || kind.is_socket() {
-        return many.tell_state(FileState::Unread, path.as_bytes());
+        return many.report_state(FileStatus::Unread, path.as_bytes());
     }
     visit_file(rt, many, path)
 }

@@ -1,12 +1,12 @@
 //! The state of a file that is too short for a file header, and of one that is refused.
 ghost use Rattle.std.specs.Prelude.{◌≡◌, ◌+◌, ◌<◌, ◌≤◌, ◌^◌, ℕ, List, IfOk, IfErr, IfSome, None, Some, true, if◌then◌else◌};
-ghost use Rattle.elf_model.specs.Checking.{is_not_elf, permits_magic};
-ghost use Rattle.elf_model.specs.Records.{begins_as_elf};
-ghost use Rattle.elf_model.specs.declared.states.FileState.TheVariants.{NoElf, Refused};
-ghost use Rattle.elf_source.specs.Source.{Faults, Fills, Keeps};
+ghost use Rattle.elf_model.specs.Checking.{is_not_elf, may_read_magic};
+ghost use Rattle.elf_model.specs.Records.{has_elf_magic};
+ghost use Rattle.elf_model.specs.declared.states.FileStatus.TheVariants.{NoElf, Refused};
+ghost use Rattle.elf_source.specs.Source.{IsSourceFault, FillsUnlimited, Keeps};
 ghost use Rattle.elf_many.specs.Checked.{FailsRead, FindsShort};
 
-use elf_model::{Cause, FileState, Refusal};
+use elf_model::{Cause, FileStatus, Refusal};
 use elf_record::word;
 use elf_source::{Counted, Source, SourceFault};
 
@@ -18,7 +18,7 @@ const MAGIC_BYTES: u64 = 4;
 
 /// The state of a file with fewer bytes than a file header: by one read of its first four, where it has
 /// four and the budget has them too. Afterwards no limit is set.
-pub fn short_state<S: Source>(src: &mut Counted<S>, budget: Option<u64>) -> FileState
+pub fn short_file_status<S: Source>(src: &mut Counted<S>, budget: Option<u64>) -> FileStatus
     requires short { src.old.seen.size < 64 }
     requires few { src.old.asked ≤ 2 ^ 127 }
     ensures keeps { Keeps src.old.seen src.new.seen }
@@ -32,27 +32,27 @@ pub fn short_state<S: Source>(src: &mut Counted<S>, budget: Option<u64>) -> File
     src.limit(None);
     let at = src.length();
     if at < MAGIC_BYTES {
-        return FileState::NoElf;
+        return FileStatus::NoElf;
     }
     let short = Refusal {
         at,
         cause: Cause::Short,
     };
-    if !permits_magic(budget) {
-        return FileState::Refused(short);
+    if !may_read_magic(budget) {
+        return FileStatus::Refused(short);
     }
-    let begins = begins_as_elf(src);
+    let begins = has_elf_magic(src);
     src.limit(None);
     match begins {
-        Ok(true) => FileState::Refused(short),
-        Ok(false) => FileState::NoElf,
-        Err(_) => FileState::Unread,
+        Ok(true) => FileStatus::Refused(short),
+        Ok(false) => FileStatus::NoElf,
+        Err(_) => FileStatus::Unread,
     }
 }
 
 /// Whether a budget has the magic number's bytes.
-fn permits_magic(budget: Option<u64>) -> bool
-    ensures value { result ≡ permits_magic budget }
+fn may_read_magic(budget: Option<u64>) -> bool
+    ensures value { result ≡ may_read_magic budget }
     ensures four { result ≡ true → IfSome budget (λ bytes. 4 ≤ bytes) }
 {
     match budget {
@@ -65,12 +65,12 @@ fn permits_magic(budget: Option<u64>) -> bool
 ///
 /// # Errors
 /// The source's own.
-fn begins_as_elf<S: Source>(src: &mut Counted<S>) -> Result<bool, SourceFault>
+fn has_elf_magic<S: Source>(src: &mut Counted<S>) -> Result<bool, SourceFault>
     requires { 4 ≤ src.old.seen.size }
-    ensures fills { Fills src.old src.new 4 }
-    ensures fails { IfErr result (Faults src.old.seen src.new.seen) }
+    ensures fills { FillsUnlimited src.old src.new 4 }
+    ensures fails { IfErr result (IsSourceFault src.old.seen src.new.seen) }
     ensures value { (file : List ℕ) → src.old.seen.file ≡ Some file →
-        IfOk result (λ begins. begins ≡ begins_as_elf file) }
+        IfOk result (λ begins. begins ≡ has_elf_magic file) }
 {
     let mut bytes = [0; 4];
     src.fill(0, &mut bytes)?;
@@ -78,11 +78,11 @@ fn begins_as_elf<S: Source>(src: &mut Counted<S>) -> Result<bool, SourceFault>
 }
 
 /// The state of a file that has room for a file header, by its refusal.
-pub fn refused_state(refusal: Refusal) -> FileState
+pub fn refused_state(refusal: Refusal) -> FileStatus
     ensures { result ≡ (if is_not_elf refusal.cause then NoElf else Refused refusal) }
 {
     match refusal.cause {
-        Cause::NotElf => FileState::NoElf,
-        _ => FileState::Refused(refusal),
+        Cause::NotElf => FileStatus::NoElf,
+        _ => FileStatus::Refused(refusal),
     }
 }

@@ -2,16 +2,16 @@
 ghost use Rattle.std.specs.Prelude.{◌≡◌};
 ghost use Rattle.elf_many.specs.Statuses.{state_status};
 
-use elf_model::FileState;
+use elf_model::FileStatus;
 
 /// The exit status that a file's state calls for: 0 where it has no fault or is of another kind, 1
 /// where it is refused, 3 where it could not be read or there was no memory.
-pub fn status(state: FileState) -> u8
+pub fn status(state: FileStatus) -> u8
     ensures { result ≡ state_status state }
 {
     match state {
-        FileState::Ok | FileState::NoElf => 0,
-        FileState::Refused(_) => 1,
-        FileState::Unread | FileState::Memory => 3,
+        FileStatus::Ok | FileStatus::NoElf => 0,
+        FileStatus::Refused(_) => 1,
+        FileStatus::Unread | FileStatus::Memory => 3,
     }
 }

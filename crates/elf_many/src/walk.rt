@@ -1,11 +1,11 @@
 //! Folders, gone through in the order of their names.
-use crate::each_file::EachFile;
-use crate::many::Many;
+use crate::each_file::FileVisitor;
+use crate::many::FileRun;
 use crate::opening::visit_file;
 use elf_folder::{
-    Batch, FolderName, PathText, STACK_BYTES, Stack, count_within, gather, join, unopened,
+    DirEntryName, NameBatch, PathText, STACK_BYTES, Stack, count_fitting, gather, join, unopened,
 };
-use elf_model::FileState;
+use elf_model::FileStatus;
 use elf_source::{OutFault, Sink};
 use std::alloc::{AllocError, Global};
 use std::io::Write;
@@ -25,11 +25,11 @@ const LEVEL_BYTES: usize = 4_096;
 /// What a walk over folders needs, taken once: where the names of a folder are put in order, where those
 /// of each folder on the way wait, a path, and where names are read.
 #[derive(Drop)]
-pub struct FolderWalk {
-    batch: Batch,
+pub struct DirWalk {
+    batch: NameBatch,
     /// The names that wait, those of the innermost folder last.
     stack: Stack,
-    levels: Vec<Level>,
+    levels: Vec<DirLevel>,
     depth: usize,
     path: PathText,
     /// How many bytes of the path were given.
@@ -39,9 +39,9 @@ pub struct FolderWalk {
 
 /// A folder on the way.
 #[derive(Drop)]
-struct Level {
+struct DirLevel {
     /// The last of its names that a pass kept; before the first pass no name.
-    after: FolderName,
+    after: DirEntryName,
     /// Whether it has names behind that one.
     has_more: bool,
     /// How many bytes the names of those above it take.
@@ -51,7 +51,7 @@ struct Level {
 }
 
 /// What is at a path in a folder.
-enum Found {
+enum FoundEntry {
     /// A file.
     File,
     /// A folder.
@@ -59,11 +59,11 @@ enum Found {
     /// What is neither: a link, a device, a pipe or a socket.
     Other,
     /// Nothing that can be looked at.
-    Gone(FileState),
+    Gone(FileStatus),
 }
 
 /// What comes next in a folder.
-enum NextName {
+enum NextEntry {
     /// The path has the next name behind the folder's.
     Named,
     /// The path of the next name is too long.
@@ -74,24 +74,24 @@ enum NextName {
     Nothing,
 }
 
-impl FolderWalk {
+impl DirWalk {
     /// A walk over folders. All memory that it needs is taken here.
     ///
     /// # Errors
     /// Where memory is refused.
-    pub fn new(alloc: Global) -> Result<FolderWalk, AllocError> {
+    pub fn new(alloc: Global) -> Result<DirWalk, AllocError> {
         let mut levels = Vec::with_capacity(alloc, DEPTH)?;
         for _level in 0..DEPTH {
-            levels.push(Level {
-                after: FolderName::new(),
+            levels.push(DirLevel {
+                after: DirEntryName::new(),
                 has_more: false,
                 base: 0,
                 end: 0,
             })?;
         }
         let room = vec![in alloc; 0u8; ROOM_BYTES]?;
-        Ok(FolderWalk {
-            batch: Batch::new(alloc)?,
+        Ok(DirWalk {
+            batch: NameBatch::new(alloc)?,
             stack: Stack::new(alloc)?,
             levels,
             depth: 0,
@@ -106,10 +106,10 @@ impl FolderWalk {
     ///
     /// # Errors
     /// A fault of the output.
-    pub(crate) fn visit_folder<R: Files, W: Sink, E: Write + Drop, A: EachFile + Drop>(
+    pub(crate) fn visit_dir<R: Files, W: Sink, E: Write + Drop, A: FileVisitor + Drop>(
         &mut self,
         rt: &R,
-        many: &mut Many<W, E, A>,
+        many: &mut FileRun<W, E, A>,
         path: &str,
     ) -> Result<(), OutFault>
     where
@@ -121,7 +121,7 @@ impl FolderWalk {
         self.given = path.len();
         // The slash has a link at the path followed.
         if !join(&mut self.path, path.as_bytes()) || !join(&mut self.path, b"") {
-            return many.tell_state(FileState::Unread, path.as_bytes());
+            return many.report_state(FileStatus::Unread, path.as_bytes());
         }
         self.enter(rt, many)?;
         for _step in 0..u64::MAX {
@@ -134,23 +134,23 @@ impl FolderWalk {
     }
 
     /// Takes the next name of the innermost folder, or begins its next pass, or leaves it.
-    fn step<R: Files, W: Sink, E: Write + Drop, A: EachFile + Drop>(
+    fn step<R: Files, W: Sink, E: Write + Drop, A: FileVisitor + Drop>(
         &mut self,
         rt: &R,
-        many: &mut Many<W, E, A>,
+        many: &mut FileRun<W, E, A>,
     ) -> Result<(), OutFault>
     where
         R::File: FileExt,
     {
         let innermost = self.depth.saturating_sub(1);
         match next_name(&self.levels, innermost, &mut self.stack, &mut self.path) {
-            NextName::Named => self.visit(rt, many),
-            NextName::TooLong => {
+            NextEntry::Named => self.visit(rt, many),
+            NextEntry::TooLong => {
                 many.count_unnamed(1);
                 Ok(())
             }
-            NextName::Pass => self.pass(rt, many, innermost),
-            NextName::Nothing => {
+            NextEntry::Pass => self.pass(rt, many, innermost),
+            NextEntry::Nothing => {
                 self.depth = innermost;
                 Ok(())
             }
@@ -158,10 +158,10 @@ impl FolderWalk {
     }
 
     /// Tells of the file at the path, or enters the folder there.
-    fn visit<R: Files, W: Sink, E: Write + Drop, A: EachFile + Drop>(
+    fn visit<R: Files, W: Sink, E: Write + Drop, A: FileVisitor + Drop>(
         &mut self,
         rt: &R,
-        many: &mut Many<W, E, A>,
+        many: &mut FileRun<W, E, A>,
     ) -> Result<(), OutFault>
     where
         R::File: FileExt,
@@ -171,22 +171,22 @@ impl FolderWalk {
             return Ok(());
         };
         match look(rt, text) {
-            Found::File => visit_file(rt, many, text),
-            Found::Other => Ok(()),
-            Found::Gone(state) => many.tell_state(state, &self.path),
-            Found::Folder => self.enter(rt, many),
+            FoundEntry::File => visit_file(rt, many, text),
+            FoundEntry::Other => Ok(()),
+            FoundEntry::Gone(state) => many.report_state(state, &self.path),
+            FoundEntry::Folder => self.enter(rt, many),
         }
     }
 
     /// Enters the folder at the path. One that lies too deep is not read.
-    fn enter<R: Files, W: Sink, E: Write + Drop, A: EachFile + Drop>(
+    fn enter<R: Files, W: Sink, E: Write + Drop, A: FileVisitor + Drop>(
         &mut self,
         rt: &R,
-        many: &mut Many<W, E, A>,
+        many: &mut FileRun<W, E, A>,
     ) -> Result<(), OutFault> {
         let at = self.depth;
         let Some(level) = self.levels.get_mut(at) else {
-            return many.tell_state(FileState::Unread, &self.path);
+            return many.report_state(FileStatus::Unread, &self.path);
         };
         level.after.clear();
         level.has_more = false;
@@ -197,10 +197,10 @@ impl FolderWalk {
     }
 
     /// Goes once through the folder at the path, for its next names. One that can't be read is left.
-    fn pass<R: Files, W: Sink, E: Write + Drop, A: EachFile + Drop>(
+    fn pass<R: Files, W: Sink, E: Write + Drop, A: FileVisitor + Drop>(
         &mut self,
         rt: &R,
-        many: &mut Many<W, E, A>,
+        many: &mut FileRun<W, E, A>,
         at: usize,
     ) -> Result<(), OutFault> {
         let Ok(text) = str::from_utf8(&self.path) else {
@@ -222,7 +222,7 @@ impl FolderWalk {
                 self.depth = at;
                 let end = if at == 0 { self.given } else { self.path.len() };
                 let path = self.path.get(..end).unwrap_or(&self.path);
-                many.tell_state(state, path)
+                many.report_state(state, path)
             }
         }
     }
@@ -235,16 +235,16 @@ impl FolderWalk {
 /// # Errors
 /// The state of a folder that can't be read, or for whose names there is no memory.
 fn keep(
-    level: &mut Level,
-    batch: &Batch,
+    level: &mut DirLevel,
+    batch: &NameBatch,
     stack: &mut Stack,
     at: usize,
-    gathered: Result<u64, FileState>,
-) -> Result<u64, FileState> {
+    gathered: Result<u64, FileStatus>,
+) -> Result<u64, FileStatus> {
     let unnamed = gathered?;
     let is_first = level.after.is_empty();
     let names = batch.names();
-    let count = count_within(names, share(stack.len(), at));
+    let count = count_fitting(names, share(stack.len(), at));
     level.has_more = batch.has_more() || count < names.len();
     if let Some(last) = names.get(count.saturating_sub(1)) {
         level.after.clear();
@@ -253,7 +253,7 @@ fn keep(
     let taken = stack.len();
     if stack.push_first(names, count).is_err() {
         stack.truncate(taken);
-        return Err(FileState::Memory);
+        return Err(FileStatus::Memory);
     }
     if is_first { Ok(unnamed) } else { Ok(0) }
 }
@@ -268,39 +268,39 @@ fn share(taken: usize, at: usize) -> usize {
 
 /// Puts the next name of the innermost folder behind its path.
 fn next_name(
-    levels: &[Level],
+    levels: &[DirLevel],
     innermost: usize,
     stack: &mut Stack,
     path: &mut PathText,
-) -> NextName {
+) -> NextEntry {
     let Some(level) = levels.get(innermost) else {
-        return NextName::Nothing;
+        return NextEntry::Nothing;
     };
     path.truncate(level.end);
     if stack.len() <= level.base {
         return if level.has_more {
-            NextName::Pass
+            NextEntry::Pass
         } else {
-            NextName::Nothing
+            NextEntry::Nothing
         };
     }
     match stack.pop() {
-        Some(name) if join(path, &name) => NextName::Named,
-        _ => NextName::TooLong,
+        Some(name) if join(path, &name) => NextEntry::Named,
+        _ => NextEntry::TooLong,
     }
 }
 
 /// Looks at a path in a folder, and follows no link.
-fn look<R: Files>(rt: &R, path: &str) -> Found {
+fn look<R: Files>(rt: &R, path: &str) -> FoundEntry {
     let kind = match fs::symlink_metadata(rt, path) {
         Ok(found) => found.file_type(),
-        Err(error) => return Found::Gone(unopened(&error)),
+        Err(error) => return FoundEntry::Gone(unopened(&error)),
     };
     if kind.is_dir() {
-        return Found::Folder;
+        return FoundEntry::Folder;
     }
     if kind.is_file() {
-        return Found::File;
+        return FoundEntry::File;
     }
-    Found::Other
+    FoundEntry::Other
 }

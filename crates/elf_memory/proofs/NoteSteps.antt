@@ -2,7 +2,7 @@
 use Rattle.std.proofs.Common.{◌≡◌, ℕ, ◌+◌, ◌-◌, ◌<◌, ◌≤◌, min, true, false, List, length, drop, ap, sym, ◌∙◌, refl, arith}
 use Rattle.elf_model.specs.Bytes.{slice}
 use Rattle.elf_model.specs.Records.{n_namesz, n_descsz}
-use Rattle.elf_model.specs.Notes.{are_zeros, first_note, first_end, to_next, descriptor_start, OneNote, gap_between, with_note}
+use Rattle.elf_model.specs.Notes.{are_zeros, first_note, first_end, bytes_to_alignment, descriptor_start, OneNote, alignment_gap, with_note}
 use Rattle.elf_model.proofs.Slices.{slice-size, slice-slice, slice-rest}
 use Rattle.elf_model.proofs.Spellings.{next-ends, next-tails, next-past, next-found}
 use Rattle.elf_model.proofs.Walks.{walk, walk-ends, walk-broken, walk-found}
@@ -12,7 +12,7 @@ use Rattle.elf_note.specs.NoteCursors.{notes_from, no_notes, cut_at, note_size}
 use Rattle.elf_note.proofs.Stepping.{size-parts}
 use Rattle.elf_memory.specs.NoteRows.{IsNoteAt}
 use Rattle.elf_memory.specs.declared.notes.Note.{Note as Row}
-use Rattle.elf_memory.specs.declared.notes.NotesLeft.{NotesLeft}
+use Rattle.elf_memory.specs.declared.notes.NotePosition.{NotePosition}
 
 pub ends : (a at : ℕ) (bytes : List ℕ) → length bytes < 12 → are_zeros bytes ≡ true → notes_from a at bytes ≡ no_notes
 ends a at bytes few z = walk-ends a at bytes (next-ends a bytes few z)
@@ -38,14 +38,14 @@ pub found : (a : ℕ) (file : List ℕ) (at left : ℕ) (head : NoteHead) → Is
 found a file at left head s many fits whole size sized =
     let bytes : List ℕ = slice file at left in
     let e = end-is a bytes head s in
-    let its : min (first_end a bytes + to_next a (first_end a bytes)) (length bytes) ≡ size = rw e (sym sized) in
+    let its : min (first_end a bytes + bytes_to_alignment a (first_end a bytes)) (length bytes) ≡ size = rw e (sym sized) in
     let next = next-found a bytes many (omega (arith, e, fits)) ∙ ap (OneNote (first_note a bytes)) its in
     let behind : drop size bytes ≡ slice file (at + size) (left - size) = slice-rest file at left size (omega (arith, sized, whole)) in
     walk-found a at bytes (first_note a bytes) size next
     ∙ ap (λ (x : List ℕ). with_note (first_note a bytes) (walk a (at + size) x)) behind
 
 -- its name and its descriptor stand where the row tells
-pub tells : (a : ℕ) (file : List ℕ) (old : NotesLeft) (head : NoteHead) (row : Row) → IsNoteHead (slice file old.at old.left) 0 head
+pub tells : (a : ℕ) (file : List ℕ) (old : NotePosition) (head : NoteHead) (row : Row) → IsNoteHead (slice file old.at old.left) 0 head
     → descriptor_start a head.namesz head.descsz + head.descsz ≤ length (slice file old.at old.left) → length (slice file old.at old.left) ≤ old.left
     → row.at ≡ old.at → row.header ≡ old.header → row.kind ≡ head.kind → row.namesz ≡ head.namesz → row.descsz ≡ head.descsz → row.name_at ≡ old.at + 12
     → row.desc_at ≡ old.at + descriptor_start a head.namesz head.descsz → IsNoteAt file old (first_note a (slice file old.at old.left)) row
@@ -69,10 +69,10 @@ tells a file old head row s fits whole place header kind namesz descsz name_at d
     }
 
 -- the end of a note's descriptor, by its parts
-pub end-of : (a n d gp end : ℕ) → gp ≡ gap_between a n d → end ≡ 12 + n + gp + d → end ≡ descriptor_start a n d + d
+pub end-of : (a n d gp end : ℕ) → gp ≡ alignment_gap a n d → end ≡ 12 + n + gp + d → end ≡ descriptor_start a n d + d
 end-of a n d gp end g e = e ∙ ap (λ (x : ℕ). 12 + n + x + d) g
 
 -- how many bytes it takes
-pub sized : (a n d len gp pad end : ℕ) → gp ≡ gap_between a n d → end ≡ 12 + n + gp + d → pad ≡ min (to_next a end) (len - end) → end ≤ len → end + pad ≡ note_size a n d len
+pub sized : (a n d len gp pad end : ℕ) → gp ≡ alignment_gap a n d → end ≡ 12 + n + gp + d → pad ≡ min (bytes_to_alignment a end) (len - end) → end ≤ len → end + pad ≡ note_size a n d len
 sized a n d len gp pad end g e p fits =
-    ap (λ (x : ℕ). end + x) p ∙ sym (size-parts end (to_next a end) len fits) ∙ ap (λ (x : ℕ). min (x + to_next a x) len) (end-of a n d gp end g e)
+    ap (λ (x : ℕ). end + x) p ∙ sym (size-parts end (bytes_to_alignment a end) len fits) ∙ ap (λ (x : ℕ). min (x + bytes_to_alignment a x) len) (end-of a n d gp end g e)

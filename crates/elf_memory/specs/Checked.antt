@@ -4,7 +4,7 @@ use Rattle.elf_model.specs.Checks.{first_refusal, header_checks, before_headers}
 use Rattle.elf_model.specs.declared.causes.Refusal.{Refusal}
 use Rattle.elf_record.specs.Ehdr.{IsEhdr}
 use Rattle.elf_record.specs.declared.ehdr.Ehdr.{Ehdr}
-use Rattle.elf_headers.specs.Load.{Passes}
+use Rattle.elf_headers.specs.Load.{PassesLoadChecks}
 
 -- how many headers may be permitted at most
 abbrev pub MOST_HEADERS : ℕ
@@ -22,5 +22,5 @@ HeaderChecked file (Err refusal) = first_refusal (header_checks file) ≡ Some r
 
 -- the file header, whose headers lie within the file, or the first check that fails
 abbrev pub CountsChecked : List ℕ → Result Ehdr Refusal → Type 0
-CountsChecked file (Ok header) = (first_refused file ≡ None) × IsEhdr file 0 header × Passes (length file) MOST_HEADERS header
+CountsChecked file (Ok header) = (first_refused file ≡ None) × IsEhdr file 0 header × PassesLoadChecks (length file) MOST_HEADERS header
 CountsChecked file (Err refusal) = first_refused file ≡ Some refusal

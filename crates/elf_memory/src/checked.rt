@@ -3,7 +3,7 @@
 ghost use Rattle.elf_memory.specs.Checked.{HeaderChecked, CountsChecked};
 
 use crate::bytes::chunk_at;
-use elf_headers::{refused_early, refused_length};
+use elf_headers::{check_before_load, refused_length};
 use elf_record::{Ehdr, Refusal};
 
 /// How many section headers, and as many program headers, are permitted at most.
@@ -32,7 +32,7 @@ pub(crate) fn checked_counts(file: &[u8]) -> Result<Ehdr, Refusal>
     ensures { CountsChecked file.now result }
 {
     let header = checked_header(file)?;
-    match refused_early(&header, file.len() as u64, MOST_HEADERS) {
+    match check_before_load(&header, file.len() as u64, MOST_HEADERS) {
         Some(refusal) => Err(refusal),
         None => Ok(header),
     }

@@ -22,7 +22,7 @@ pub use header::{Header, read_header};
 pub use mapped_bytes::find_mapped;
 pub use name::{ByteRange, bytes_of, find_name};
 pub use note_tables::{section_notes, segment_notes};
-pub use notes::{Note, NotesLeft, next_note};
+pub use notes::{Note, NotePosition, next_note};
 pub use room::slots_for;
 pub use section::{Section, read_section};
 pub use segment::{Segment, read_segment, segment_at, segment_place};

@@ -2,7 +2,7 @@
 ghost use Rattle.std.specs.Prelude.{◌≡◌};
 ghost use Rattle.elf_memory.specs.NoteRows.{InFile, ReadsSectionNotes, ReadsSegmentNotes};
 
-use crate::notes::NotesLeft;
+use crate::notes::NotePosition;
 use crate::section::{section_at, section_place};
 use crate::segment::{segment_at, segment_place};
 use elf_headers::ends_outside;
@@ -16,7 +16,7 @@ use elf_record::{Cause, Refusal};
 /// The first check that fails of those that a listing makes before it reads the headers, as many of
 /// them permitted as can be; then `TableOutside` at the section header where the section ends past
 /// the end of the file.
-pub fn section_notes(file: &[u8], section: u16) -> Result<Option<NotesLeft>, Refusal>
+pub fn section_notes(file: &[u8], section: u16) -> Result<Option<NotePosition>, Refusal>
     ensures { ReadsSectionNotes file.now section result }
 {
     let Some(place) = section_place(file, section)? else {
@@ -26,7 +26,7 @@ pub fn section_notes(file: &[u8], section: u16) -> Result<Option<NotesLeft>, Ref
     if header.kind != SHT_NOTE {
         return Ok(None);
     }
-    let notes = NotesLeft {
+    let notes = NotePosition {
         at: header.offset,
         left: header.size,
         align: header.addralign,
@@ -40,7 +40,7 @@ pub fn section_notes(file: &[u8], section: u16) -> Result<Option<NotesLeft>, Ref
 ///
 /// # Errors
 /// As for [`section_notes`], at the program header.
-pub fn segment_notes(file: &[u8], segment: u16) -> Result<Option<NotesLeft>, Refusal>
+pub fn segment_notes(file: &[u8], segment: u16) -> Result<Option<NotePosition>, Refusal>
     ensures { ReadsSegmentNotes file.now segment result }
 {
     let Some(place) = segment_place(file, segment)? else {
@@ -50,7 +50,7 @@ pub fn segment_notes(file: &[u8], segment: u16) -> Result<Option<NotesLeft>, Ref
     if header.kind != PT_NOTE {
         return Ok(None);
     }
-    let notes = NotesLeft {
+    let notes = NotePosition {
         at: header.offset,
         left: header.filesz,
         align: header.align,
@@ -61,7 +61,7 @@ pub fn segment_notes(file: &[u8], segment: u16) -> Result<Option<NotesLeft>, Ref
 }
 
 /// The notes, where their table lies within a file of `size` bytes; one of no bytes is not checked.
-fn within(size: u64, place: u64, notes: NotesLeft) -> Result<Option<NotesLeft>, Refusal>
+fn within(size: u64, place: u64, notes: NotePosition) -> Result<Option<NotePosition>, Refusal>
     ensures { InFile size place notes result }
 {
     if notes.left != 0 && ends_outside(size, notes.at, notes.left) {

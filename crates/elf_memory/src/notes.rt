@@ -6,13 +6,13 @@ ghost use Rattle.elf_model.specs.declared.causes.Cause.TheVariants.{NoteCut};
 
 use crate::bytes::chunk_at;
 use crate::name::{ByteRange, bytes_of};
-use elf_note::{are_zeros, gap_between, padding};
+use elf_note::{alignment_gap, are_zeros, padding};
 use elf_record::{Cause, NoteHead, Refusal};
 
 /// A place in a table of notes: plain numbers, as [`Rows`](crate::Rows) are.
 #[repr(C)]
 #[derive(Clone, Copy)]
-pub struct NotesLeft {
+pub struct NotePosition {
     /// The file offset of the next note.
     pub at: u64,
     /// How many bytes of the table are left from there on.
@@ -50,7 +50,7 @@ pub struct Note {
 ///
 /// # Errors
 /// `NoteCut` at the offset of the next note where none stands there. Then the place is as it was.
-pub fn next_note(file: &[u8], notes: &mut NotesLeft) -> Result<Option<Note>, Refusal>
+pub fn next_note(file: &[u8], notes: &mut NotePosition) -> Result<Option<Note>, Refusal>
     ensures { TakesNote file.now notes.old notes.new result }
 {
     let range = ByteRange {
@@ -66,7 +66,7 @@ pub fn next_note(file: &[u8], notes: &mut NotesLeft) -> Result<Option<Note>, Ref
     }
     let head = NoteHead::decode(chunk_at(table, 0));
     let align = note_align(notes.align);
-    let gap = gap_between(align, head.namesz, head.descsz);
+    let gap = alignment_gap(align, head.namesz, head.descsz);
     let start = 12 + u64::from(head.namesz) + gap;
     let end = start + u64::from(head.descsz);
     let len = table.len() as u64;

@@ -5,12 +5,12 @@ use Rattle.elf_memory_rows.specs.declared.end.End.{End}
 use Rattle.elf_memory_rows.specs.Causes.{cause_number}
 
 -- the cause of a refusal and the file offset that it names
-abbrev pub TellsCause : End → Refusal → Type 0
-TellsCause end refusal = (end.cause ≡ cause_number refusal.cause) × (end.at ≡ refusal.at)
+abbrev pub ReturnsCause : End → Refusal → Type 0
+ReturnsCause end refusal = (end.cause ≡ cause_number refusal.cause) × (end.at ≡ refusal.at)
 
 -- no refusal
-abbrev pub TellsNone : End → Type 0
-TellsNone end = (end.cause ≡ 0) × (end.at ≡ 0)
+abbrev pub ReturnsNone : End → Type 0
+ReturnsNone end = (end.cause ≡ 0) × (end.at ≡ 0)
 
 -- nothing to tell: no refusal, nothing written and nothing asked for
 abbrev pub no_end : End
@@ -22,21 +22,21 @@ refused_end refusal = record { at = refusal.at; written = 0; asked = 0; cause = 
 
 -- A READ OF A ROW AS NUMBERS: status 0 and the row; 2 where there is none, and 1 where the file is refused, with the row left
 -- as it was
-abbrev pub IsTold : {A : Type 0} → ℕ → A → A → End → Result (Option A) Refusal → Type 0
-IsTold status old new end (Ok (Some row)) = (status ≡ 0) × (new ≡ row) × (end ≡ no_end)
-IsTold status old new end (Ok None) = (status ≡ 2) × (new ≡ old) × (end ≡ no_end)
-IsTold status old new end (Err refusal) = (status ≡ 1) × (new ≡ old) × (end ≡ refused_end refusal)
+abbrev pub IsRowReported : {A : Type 0} → ℕ → A → A → End → Result (Option A) Refusal → Type 0
+IsRowReported status old new end (Ok (Some row)) = (status ≡ 0) × (new ≡ row) × (end ≡ no_end)
+IsRowReported status old new end (Ok None) = (status ≡ 2) × (new ≡ old) × (end ≡ no_end)
+IsRowReported status old new end (Err refusal) = (status ≡ 1) × (new ≡ old) × (end ≡ refused_end refusal)
 
 -- WHAT A CALL READS, AS NUMBERS: an answer of that reading, told so
-abbrev pub TellsRead : {A : Type 0} → (Result (Option A) Refusal → Type 0) → ℕ → A → A → End → Type 0
-TellsRead {A} reads status old new end = (read : Result (Option A) Refusal) × reads read × IsTold status old new end read
+abbrev pub ReturnsRead : {A : Type 0} → (Result (Option A) Refusal → Type 0) → ℕ → A → A → End → Type 0
+ReturnsRead {A} reads status old new end = (read : Result (Option A) Refusal) × reads read × IsRowReported status old new end read
 
 -- AN OPENED TABLE AS NUMBERS: as a row that is read; status 4, with nothing changed, where a number of the call is outside
 -- its range
 abbrev pub IsOpenedTable : {A : Type 0} → ℕ → A → A → End → Option (Result (Option A) Refusal) → Type 0
-IsOpenedTable status old new end (Some read) = IsTold status old new end read
+IsOpenedTable status old new end (Some read) = IsRowReported status old new end read
 IsOpenedTable status old new end None = (status ≡ 4) × (new ≡ old) × (end ≡ no_end)
 
 -- WHAT A CALL OPENS, AS NUMBERS: an answer of that opening, told so
-abbrev pub TellsOpened : {A : Type 0} → (Option (Result (Option A) Refusal) → Type 0) → ℕ → A → A → End → Type 0
-TellsOpened {A} opens status old new end = (opened : Option (Result (Option A) Refusal)) × opens opened × IsOpenedTable status old new end opened
+abbrev pub ReturnsOpened : {A : Type 0} → (Option (Result (Option A) Refusal) → Type 0) → ℕ → A → A → End → Type 0
+ReturnsOpened {A} opens status old new end = (opened : Option (Result (Option A) Refusal)) × opens opened × IsOpenedTable status old new end opened

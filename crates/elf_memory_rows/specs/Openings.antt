@@ -10,25 +10,25 @@ use Rattle.elf_headers.specs.declared.fault.Fault.{Fault}
 use Rattle.elf_headers.specs.declared.fault.Fault.TheVariants.{Refused}
 use Rattle.elf_table.specs.Relocations.{AreRelocations, RefusedBy, Relocates}
 use Rattle.elf_table.specs.Sections.{symbols_at, section_names}
-use Rattle.elf_table.specs.Tables.{Rows as Table, Strings}
+use Rattle.elf_table.specs.Tables.{Rows as Table, StringTableRange}
 use Rattle.elf_memory_rows.specs.DynamicTables.{IsDynamicTable}
 use Rattle.elf_memory_rows.specs.ListedEntries.{all_listed}
 use Rattle.elf_memory_rows.specs.LoadRefused.{load_refused}
 use Rattle.elf_memory_rows.specs.Rows.{rows_from_first}
 use Rattle.elf_memory_rows.specs.VersionRecords.{version_words}
-use Rattle.elf_memory_rows.specs.declared.held.HeldFile.{HeldFile}
+use Rattle.elf_memory_rows.specs.declared.held.MemoryFile.{MemoryFile}
 use Rattle.elf_memory_rows.specs.declared.kind.RowKind.{RowKind}
 use Rattle.elf_memory_rows.specs.declared.kind.RowKind.TheVariants.{Symbols, Relocations, Dynamic, VersionWords}
 use Rattle.elf_memory.specs.declared.name.ByteRange.{ByteRange}
-use Rattle.elf_memory_rows.specs.declared.rows.RowsLeft.{RowsLeft}
+use Rattle.elf_memory_rows.specs.declared.rows.RowPosition.{RowPosition}
 
 -- a file passes those checks, or the first of them that fails
-abbrev pub LoadsFile : List ℕ → ℕ → Result HeldFile Refusal → Type 0
+abbrev pub LoadsFile : List ℕ → ℕ → Result MemoryFile Refusal → Type 0
 LoadsFile file headers (Ok held) = (load_refused file headers ≡ None) × (held.bytes.now ≡ file)
 LoadsFile file headers (Err refusal) = load_refused file headers ≡ Some refusal
 
 -- the string table of a file's section names, whose checks pass; or the first of them that fails
-abbrev pub NamesSections : List ℕ → Result (Option Strings) Refusal → Type 0
+abbrev pub NamesSections : List ℕ → Result (Option StringTableRange) Refusal → Type 0
 NamesSections file (Ok names) = (first_refusal (section_name_checks file) ≡ None) × (names ≡ section_names file)
 NamesSections file (Err refusal) = first_refusal (section_name_checks file) ≡ Some refusal
 
@@ -40,18 +40,18 @@ holds Dynamic file at = sh_type file at == SHT_DYNAMIC
 holds VersionWords file at = sh_type file at == SHT_GNU_VERSYM
 
 -- the string table of the symbols that relocation entries refer to; no bytes where they refer to none
-abbrev pub linked_names : Option (Table × Strings) → Strings
+abbrev pub linked_names : Option (Table × StringTableRange) → StringTableRange
 linked_names None = record { at = 0; size = 0 }
 linked_names (Some symbols) = symbols.1
 
 -- the rows of a kind of the section with this header, whose checks pass: symbols with their string table; relocation entries with
 -- the string table of the symbols that they refer to; dynamic entries up to and with the first DT_NULL, with their string table; words of symbols' versions
-abbrev AreOpenedRows : RowKind → List ℕ → ℕ → RowsLeft → Type 0
-AreOpenedRows Symbols file at rows = (table : Table) × (names : Strings) × (symbols_at file at ≡ Ok (table, names)) × (rows ≡ rows_from_first table names)
+abbrev AreOpenedRows : RowKind → List ℕ → ℕ → RowPosition → Type 0
+AreOpenedRows Symbols file at rows = (table : Table) × (names : StringTableRange) × (symbols_at file at ≡ Ok (table, names)) × (rows ≡ rows_from_first table names)
 AreOpenedRows Relocations file at rows =
-    (table : Table) × (linked : Option (Table × Strings)) × (table.entry ≡ 24) × AreRelocations file at table linked × (rows ≡ rows_from_first table (linked_names linked))
+    (table : Table) × (linked : Option (Table × StringTableRange)) × (table.entry ≡ 24) × AreRelocations file at table linked × (rows ≡ rows_from_first table (linked_names linked))
 AreOpenedRows Dynamic file at rows =
-    (table : Table) × (names : Strings) × IsDynamicTable file at (Ok (table, names)) × (rows ≡ all_listed file (rows_from_first table names))
+    (table : Table) × (names : StringTableRange) × IsDynamicTable file at (Ok (table, names)) × (rows ≡ all_listed file (rows_from_first table names))
 AreOpenedRows VersionWords file at rows = (first_refusal (all_checks symbol_versions.checks file at) ≡ None) × (rows ≡ version_words file at)
 
 -- the first check of such a table that fails
@@ -62,7 +62,7 @@ RefusesRows Dynamic file at fault = IsDynamicTable file at (Err fault)
 RefusesRows VersionWords file at fault = RefusedBy (all_checks symbol_versions.checks file at) fault
 
 -- those rows, or that check
-abbrev pub OpensTable : RowKind → List ℕ → ℕ → Result RowsLeft Fault → Type 0
+abbrev pub OpensTable : RowKind → List ℕ → ℕ → Result RowPosition Fault → Type 0
 OpensTable kind file at (Ok rows) = AreOpenedRows kind file at rows
 OpensTable kind file at (Err fault) = RefusesRows kind file at fault
 
@@ -76,7 +76,7 @@ LacksRows kind file section = (e_shnum file ≤ section) ⊎ (holds kind file (s
 
 -- WHAT A CALLER HAS of a section of rows of a kind: its rows, whose checks pass; that there is no such section; or the first check
 -- that fails, until the section headers are loaded or of the table
-abbrev pub ReadsRows : RowKind → List ℕ → ℕ → ℕ → Result (Option RowsLeft) Refusal → Type 0
+abbrev pub ReadsRows : RowKind → List ℕ → ℕ → ℕ → Result (Option RowPosition) Refusal → Type 0
 ReadsRows kind file headers section (Ok (Some rows)) = (load_refused file headers ≡ None) × HasRows kind file section × AreOpenedRows kind file (section_at file section) rows
 ReadsRows kind file headers section (Ok None) = (load_refused file headers ≡ None) × LacksRows kind file section
 ReadsRows kind file headers section (Err refusal) =
@@ -84,7 +84,7 @@ ReadsRows kind file headers section (Err refusal) =
     ⊎ ((load_refused file headers ≡ None) × HasRows kind file section × RefusesRows kind file (section_at file section) (Refused refusal))
 
 -- the range that a string table is
-abbrev range_of : Strings → ByteRange
+abbrev range_of : StringTableRange → ByteRange
 range_of names = record { at = names.at; len = names.size }
 
 -- WHAT A CALLER HAS of the section names: their string table; that there is none; or the first check that fails until the

@@ -7,10 +7,10 @@ use Rattle.elf_model.specs.Tables.{segment_dynamic_checks}
 use Rattle.elf_model.specs.declared.causes.Refusal.{Refusal}
 use Rattle.elf_memory.specs.Checked.{first_refused}
 use Rattle.elf_memory_rows.specs.ListedEntries.{all_listed}
-use Rattle.elf_memory_rows.specs.declared.rows.RowsLeft.{RowsLeft}
+use Rattle.elf_memory_rows.specs.declared.rows.RowPosition.{RowPosition}
 
 -- a place before the first of all entries in so many bytes at an offset; without strings
-abbrev pub entries_at : ℕ → ℕ → RowsLeft
+abbrev pub entries_at : ℕ → ℕ → RowPosition
 entries_at at bytes = record {
   at = at;
   count = bytes / 16;
@@ -21,7 +21,7 @@ entries_at at bytes = record {
 }
 
 -- those, where they are whole entries within the file; the refusal names a place
-abbrev pub AreSegmentEntries : List ℕ → ℕ → ℕ → ℕ → Result (Option RowsLeft) Refusal → Type 0
+abbrev pub AreSegmentEntries : List ℕ → ℕ → ℕ → ℕ → Result (Option RowPosition) Refusal → Type 0
 AreSegmentEntries file place at bytes (Ok (Some rows)) =
     (first_refusal (unless_empty bytes (whole_checks_of (length file) at bytes place 16)) ≡ None) × (rows ≡ entries_at at bytes)
     × (0 < rows.count → rows.at + rows.count * 16 ≤ length file)
@@ -34,12 +34,12 @@ abbrev HasEntries : List ℕ → ℕ → Type 0
 HasEntries file index = (index < e_phnum file) × (p_type file (segment_at file index) ≡ PT_DYNAMIC)
 
 -- all entries of a segment
-abbrev all_entries : List ℕ → ℕ → RowsLeft
+abbrev all_entries : List ℕ → ℕ → RowPosition
 all_entries file index = entries_at (p_offset file (segment_at file index)) (p_filesz file (segment_at file index))
 
 -- a place before the first of all entries of a segment, which lie within the file; that there is no such segment, or that it holds
 -- none; or the first check that fails
-abbrev pub FindsEntries : List ℕ → ℕ → Result (Option RowsLeft) Refusal → Type 0
+abbrev pub FindsEntries : List ℕ → ℕ → Result (Option RowPosition) Refusal → Type 0
 FindsEntries file index (Ok (Some rows)) =
     (first_refused file ≡ None) × HasEntries file index
     × (first_refusal (segment_dynamic_checks file (segment_at file index)) ≡ None)
@@ -52,7 +52,7 @@ FindsEntries file index (Err refusal) =
 
 -- WHAT A CALLER HAS of the dynamic entries of a segment: a place before the first, in a table whose checks pass; that the file
 -- has no such segment, or that it holds none; or the first check that fails
-abbrev pub ReadsSegmentDynamic : List ℕ → ℕ → Result (Option RowsLeft) Refusal → Type 0
+abbrev pub ReadsSegmentDynamic : List ℕ → ℕ → Result (Option RowPosition) Refusal → Type 0
 ReadsSegmentDynamic file index (Ok (Some rows)) =
     (first_refused file ≡ None) × HasEntries file index
     × (first_refusal (segment_dynamic_checks file (segment_at file index)) ≡ None)

@@ -4,14 +4,14 @@ ghost use Rattle.elf_model.specs.Numbers.{DT_NULL};
 ghost use Rattle.elf_model.specs.Records.{d_tag};
 ghost use Rattle.elf_memory_rows.specs.ListedEntries.{CountsListed, ListsWithin, all_listed};
 
-use crate::rows::RowsLeft;
+use crate::rows::RowPosition;
 use elf_memory::chunk_at;
 use elf_record::numbers::DT_NULL;
 use elf_record::{Cause, Dyn, Refusal};
 
 /// Of rows that are all entries of a table those that are listed: up to and with the first DT_NULL, or
 /// all.
-pub(crate) fn listed_rows(file: &[u8], all: RowsLeft) -> RowsLeft
+pub(crate) fn listed_rows(file: &[u8], all: RowPosition) -> RowPosition
     requires { 0 < all.count → all.at + all.count * 16 ≤ length file.now }
     ensures { result ≡ all_listed file.now all }
 {
@@ -28,7 +28,11 @@ pub(crate) fn listed_rows(file: &[u8], all: RowsLeft) -> RowsLeft
 ///
 /// # Errors
 /// `Budget` where more have to be, at the first of these.
-pub(crate) fn listed_within(file: &[u8], all: RowsLeft, most: u64) -> Result<RowsLeft, Refusal>
+pub(crate) fn listed_within(
+    file: &[u8],
+    all: RowPosition,
+    most: u64,
+) -> Result<RowPosition, Refusal>
     requires { 0 < all.count → all.at + all.count * 16 ≤ length file.now }
     ensures { ListsWithin file.now all most result }
 {

@@ -1,6 +1,6 @@
 //! How a call ended, as C sees it.
 ghost use Rattle.std.specs.Prelude.{◌≡◌};
-ghost use Rattle.elf_memory_rows.specs.Ends.{TellsCause};
+ghost use Rattle.elf_memory_rows.specs.Ends.{ReturnsCause};
 
 use crate::causes::cause_number;
 use elf_record::Refusal;
@@ -37,7 +37,7 @@ impl End {
 
     /// Tells of a refusal.
     pub fn refuse(&mut self, refusal: Refusal)
-        ensures told { TellsCause self.new refusal }
+        ensures told { ReturnsCause self.new refusal }
         ensures written { self.new.written ≡ self.old.written }
         ensures asked { self.new.asked ≡ self.old.asked }
         ensures none { self.new.none ≡ self.old.none }

@@ -3,7 +3,7 @@ ghost use Rattle.std.specs.Prelude.{◌≡◌, ◌+◌, ◌<◌, ◌≤◌, leng
 ghost use Rattle.elf_model.specs.Records.{e_shnum, section_at};
 ghost use Rattle.elf_record.specs.Ehdr.{IsEhdr};
 ghost use Rattle.elf_record.specs.Shdr.{IsShdr};
-ghost use Rattle.elf_headers.specs.Load.{Passes};
+ghost use Rattle.elf_headers.specs.Load.{PassesLoadChecks};
 ghost use Rattle.elf_table.specs.Sections.{section_names};
 
 use elf_memory::chunk_at;
@@ -14,7 +14,7 @@ use elf_table::Names;
 /// A file that lies in memory, whose headers lie within it. A section header is read where it stands,
 /// and only where it is asked for.
 #[derive(Clone, Copy)]
-pub(crate) struct HeldFile<'a> {
+pub(crate) struct MemoryFile<'a> {
     /// The file.
     pub(crate) bytes: &'a [u8],
     /// Its header.
@@ -22,7 +22,7 @@ pub(crate) struct HeldFile<'a> {
     /// The string table of the section names; None where e_shnum or e_shstrndx is 0.
     pub(crate) names: Option<Names>,
     pub(crate) ghost same: { IsEhdr bytes.now 0 header },
-    pub(crate) ghost within: { Passes (length bytes.now) 65535 header },
+    pub(crate) ghost within: { PassesLoadChecks (length bytes.now) 65535 header },
     pub(crate) ghost named: { names ≡ section_names bytes.now },
 }
 
@@ -34,7 +34,7 @@ pub(crate) fn section_header(file: &[u8], at: usize) -> Shdr
     Shdr::decode(chunk_at(file, at))
 }
 
-impl HeldFile<'_> {
+impl MemoryFile<'_> {
     /// The file's length in bytes.
     pub(crate) fn size(&self) -> u64
         ensures { result ≡ length self.now.bytes.now }

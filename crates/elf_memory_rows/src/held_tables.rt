@@ -5,18 +5,18 @@ ghost use Rattle.elf_model.specs.Records.{section_at};
 ghost use Rattle.elf_headers.specs.Faults.{IsOfCheck};
 ghost use Rattle.elf_table.specs.Relocations.{Links, Relocates};
 ghost use Rattle.elf_table.specs.Sections.{string_table_at, symbols_at, table_at};
-ghost use Rattle.elf_table.specs.Tables.{RowsWithin};
+ghost use Rattle.elf_table.specs.Tables.{TableInBounds};
 ghost use Rattle.elf_table.specs.Versions.{Versioned};
 ghost use Rattle.elf_memory_rows.specs.DynamicTables.{IsDynamicTable};
 ghost use Rattle.elf_memory_rows.specs.VersionRecords.{FindsRecords, SymbolsLink};
 
-use crate::held::HeldFile;
+use crate::held::MemoryFile;
 use elf_headers::{Fault, ends_outside, refused};
 use elf_record::Cause;
 use elf_record::sizes::{DYNAMIC_BYTES, RELOCATION_BYTES, SYMBOL_BYTES, SYMBOL_VERSION_BYTES};
 use elf_table::{Names, Table, checked_strings, checked_table, holds_symbols};
 
-impl HeldFile<'_> {
+impl MemoryFile<'_> {
     /// The section as a table of rows of `entry` bytes, 1 to 4,096. One of size 0 is not checked.
     ///
     /// # Errors
@@ -26,7 +26,7 @@ impl HeldFile<'_> {
         requires entry { (0 < entry) × (entry ≤ 4096) }
         ensures value { let file = self.now.bytes.now in
             result ≡ table_at file (section_at file section) entry }
-        ensures within { IfOk result (RowsWithin (length self.now.bytes.now)) }
+        ensures within { IfOk result (TableInBounds (length self.now.bytes.now)) }
         ensures entry { IfOk result (λ table. table.entry ≡ entry) }
         ensures refusal { IfErr result IsOfCheck }
     {
@@ -81,7 +81,7 @@ impl HeldFile<'_> {
     /// None where that names no section of symbols (gABI 4, Relocation).
     ///
     /// # Errors
-    /// Those of [`HeldFile::symbols`] at the linked section.
+    /// Those of [`MemoryFile::symbols`] at the linked section.
     fn linked(&self, section: u16) -> Result<Option<(Table, Names)>, Fault>
         requires { section < self.now.header.e_shnum }
         ensures value { let file = self.now.bytes.now in
@@ -125,7 +125,7 @@ impl HeldFile<'_> {
     ///
     /// # Errors
     /// The first check that fails: of the table; `BadLink` at the section's header where its link is 0
-    /// or names no section of symbols; then those of [`HeldFile::symbols`] at the linked section.
+    /// or names no section of symbols; then those of [`MemoryFile::symbols`] at the linked section.
     pub(crate) fn version_words(&self, section: u16) -> Result<(Table, u64), Fault>
         requires { section < self.now.header.e_shnum }
         ensures value { let file = self.now.bytes.now in
@@ -193,7 +193,7 @@ impl HeldFile<'_> {
         requires { section < self.now.header.e_shnum }
         ensures value { let file = self.now.bytes.now in
             IsDynamicTable file (section_at file section) result }
-        ensures within { IfOk result (λ table. RowsWithin (length self.now.bytes.now) table.0) }
+        ensures within { IfOk result (λ table. TableInBounds (length self.now.bytes.now) table.0) }
         ensures entry { IfOk result (λ table. table.0.entry ≡ 16) }
         ensures refusal { IfErr result IsOfCheck }
     {

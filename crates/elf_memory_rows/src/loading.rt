@@ -1,11 +1,11 @@
 //! The load checks of a file that lies in memory.
 ghost use Rattle.std.specs.Prelude.{length};
 ghost use Rattle.elf_record.specs.Ehdr.{IsEhdr};
-ghost use Rattle.elf_headers.specs.Load.{Passes};
+ghost use Rattle.elf_headers.specs.Load.{PassesLoadChecks};
 ghost use Rattle.elf_memory_rows.specs.Openings.{LoadsFile, NamesSections};
 
-use crate::held::{HeldFile, section_header};
-use elf_headers::{Fault, refused_early};
+use crate::held::{MemoryFile, section_header};
+use elf_headers::{Fault, check_before_load};
 use elf_memory::checked_header;
 use elf_record::sizes::SECTION_HEADER_BYTES;
 use elf_record::{Ehdr, Refusal};
@@ -16,15 +16,15 @@ use elf_table::{Names, checked_strings};
 /// # Errors
 /// The first check that fails: of the file header, then those of a load with so many headers
 /// permitted.
-pub(crate) fn held_file(file: &[u8], headers: u16) -> Result<HeldFile<'_>, Refusal>
+pub(crate) fn held_file(file: &[u8], headers: u16) -> Result<MemoryFile<'_>, Refusal>
     ensures { LoadsFile file.now headers result }
 {
     let header = checked_header(file)?;
-    if let Some(refusal) = refused_early(&header, file.len() as u64, headers) {
+    if let Some(refusal) = check_before_load(&header, file.len() as u64, headers) {
         return Err(refusal);
     }
     let names = names_of(file, &header)?;
-    Ok(HeldFile {
+    Ok(MemoryFile {
         bytes: file,
         header,
         names,
@@ -37,7 +37,7 @@ pub(crate) fn held_file(file: &[u8], headers: u16) -> Result<HeldFile<'_>, Refus
 /// The first check of it that fails.
 fn names_of(file: &[u8], header: &Ehdr) -> Result<Option<Names>, Refusal>
     requires same { IsEhdr file.now 0 header.now }
-    requires within { Passes (length file.now) 65535 header.now }
+    requires within { PassesLoadChecks (length file.now) 65535 header.now }
     ensures { NamesSections file.now result }
 {
     if header.e_shnum == 0 || header.e_shstrndx == 0 {

@@ -1,6 +1,6 @@
 //! A record of symbol versions, as a caller keeps it.
 ghost use Rattle.std.specs.Prelude.{◌≡◌, ℕ, List};
-ghost use Rattle.elf_model.specs.Versions.{Met};
+ghost use Rattle.elf_model.specs.Versions.{VisitedRecord};
 ghost use Rattle.elf_versions.specs.Reading.{IsVersion};
 ghost use Rattle.elf_memory_rows.specs.VersionRecords.{IsRecordRow, kind_number};
 
@@ -31,7 +31,7 @@ pub struct RecordRow {
 impl RecordRow {
     /// The fields of a record.
     pub(crate) fn of(given: &VersionRecord) -> RecordRow
-        ensures { (file : List ℕ) (met : Met) → IsVersion file met given.now →
+        ensures { (file : List ℕ) (met : VisitedRecord) → IsVersion file met given.now →
             IsRecordRow file met result }
     {
         RecordRow {

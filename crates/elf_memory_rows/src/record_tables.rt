@@ -5,7 +5,7 @@ ghost use Rattle.elf_memory_rows.specs.VersionRecords.{ReadsRecords, first_kind,
 
 use crate::loading::held_file;
 use crate::record_row::kind_number;
-use crate::records::RecordsLeft;
+use crate::records::VersionRecordPosition;
 use elf_headers::Fault;
 use elf_record::gnu_numbers::{SHT_GNU_VERDEF, SHT_GNU_VERNEED};
 use elf_record::{Refusal, Shdr, VersionKind};
@@ -20,7 +20,11 @@ use elf_versions::record_bytes;
 /// # Errors
 /// The first check that fails of those that a listing makes up to the table's first record, with so
 /// many headers permitted.
-pub fn records_in(file: &[u8], headers: u16, section: u16) -> Result<Option<RecordsLeft>, Refusal>
+pub fn records_in(
+    file: &[u8],
+    headers: u16,
+    section: u16,
+) -> Result<Option<VersionRecordPosition>, Refusal>
     ensures { ReadsRecords file.now headers section result }
 {
     let held = match held_file(file, headers) {
@@ -55,12 +59,12 @@ fn first_kind(header: &Shdr) -> Option<VersionKind>
 
 /// A place before the first record of a section whose header stands at a file offset; behind the last
 /// where it is empty.
-fn first_records(header: &Shdr, kind: VersionKind, at: u64, names: Names) -> RecordsLeft
+fn first_records(header: &Shdr, kind: VersionKind, at: u64, names: Names) -> VersionRecordPosition
     ensures { (file : List ℕ) (place : ℕ) → IsShdr file place header.now → at ≡ place →
         result ≡ starting file kind place names }
 {
     let size = header.sh_size;
-    RecordsLeft {
+    VersionRecordPosition {
         at: header.sh_offset,
         size,
         place: 0,

@@ -1,8 +1,8 @@
 //! A place in a walk over the records of symbol versions, and steps over them.
 ghost use Rattle.std.specs.Prelude.{◌≡◌, ◌+◌, ◌≤◌, ◌^◌, ◌<◌, IfSome, length, option_map};
 ghost use Rattle.elf_model.specs.declared.versions.VersionKind.TheVariants.{Need};
-ghost use Rattle.elf_versions.specs.Reading.{Fits, KnowsAhead, stand_of};
-ghost use Rattle.elf_versions.specs.declared.stepping.Standing.{Standing as IsStanding};
+ghost use Rattle.elf_versions.specs.Reading.{Fits, KnowsAhead, record_position_of};
+ghost use Rattle.elf_versions.specs.declared.stepping.RecordPosition.{RecordPosition as IsStanding};
 ghost use Rattle.elf_memory_rows.specs.VersionRecords.{GoesOnTo, StepsRecord, bytes_within, standing_in};
 
 use crate::record_row::{RecordRow, kind_number};
@@ -12,13 +12,13 @@ use elf_record::sizes::VERSION_NEED_BYTES;
 use elf_record::{Refusal, Verneed, VersionKind};
 use elf_source::{Counted, MemorySource};
 use elf_table::Table;
-use elf_versions::{Standing, VersionCursor};
+use elf_versions::{RecordPosition, VersionCursor};
 
 /// A place in a walk over the records of a table of definitions or needs: plain numbers, which a caller
 /// keeps where it likes and may copy. Each step tests them again, so that no numbers are wrong ones.
 #[repr(C)]
 #[derive(Clone, Copy)]
-pub struct RecordsLeft {
+pub struct VersionRecordPosition {
     /// The file offset of the table's first byte.
     pub at: u64,
     /// How many bytes it has.
@@ -49,7 +49,10 @@ pub struct RecordsLeft {
 /// Where no record is met: `VersionCut` at what led there, where it is not in the table or where as
 /// many records are met as have room, and at the record whose name is not in the table; `BadVersion` at
 /// one of another layout; `VersionIndex` at one whose number is 1,024 or more. Then the place stays.
-pub fn next_record(file: &[u8], records: &mut RecordsLeft) -> Result<Option<RecordRow>, Refusal>
+pub fn next_record(
+    file: &[u8],
+    records: &mut VersionRecordPosition,
+) -> Result<Option<RecordRow>, Refusal>
     ensures { StepsRecord file.now records.old records.new result }
 {
     let table = records.table(file.len() as u64);
@@ -71,7 +74,7 @@ pub fn next_record(file: &[u8], records: &mut RecordsLeft) -> Result<Option<Reco
     }
 }
 
-impl RecordsLeft {
+impl VersionRecordPosition {
     /// The bytes of the table that lie within a file of so many.
     fn table(&self, size: u64) -> Table
         ensures at { result.at ≡ self.now.at }
@@ -83,10 +86,10 @@ impl RecordsLeft {
     }
 
     /// Where the walk stands in the bytes of its table.
-    fn standing(&self, file: &[u8], table: Table) -> Option<Standing>
+    fn standing(&self, file: &[u8], table: Table) -> Option<RecordPosition>
         requires at { table.at ≡ self.now.at }
         requires count { table.count ≡ bytes_within (length file.now) self.now }
-        ensures stands { option_map stand_of result ≡ standing_in table.count self.now }
+        ensures stands { option_map record_position_of result ≡ standing_in table.count self.now }
         ensures knows { KnowsAhead file.now table.at result }
         ensures fits { IfSome result (Fits table.count 28) }
         ensures owned { IfSome result (λ s. s.kind ≡ Need → s.owner + 16 ≤ table.count) }
@@ -104,7 +107,7 @@ impl RecordsLeft {
     }
 
     /// Where it stands, before a record of a kind.
-    fn standing_at(&self, kind: VersionKind, files: u32) -> Standing
+    fn standing_at(&self, kind: VersionKind, files: u32) -> RecordPosition
         ensures { result ≡ record {
           kind = kind;
           place = self.now.place;
@@ -113,7 +116,7 @@ impl RecordsLeft {
           files = files;
         } }
     {
-        Standing {
+        RecordPosition {
             kind,
             place: u128::from(self.place),
             from: self.from,
@@ -123,7 +126,7 @@ impl RecordsLeft {
     }
 
     /// Goes to where a record led, with one record less that may be met.
-    fn go(&mut self, next: Option<Standing>)
+    fn go(&mut self, next: Option<RecordPosition>)
         requires { 0 < self.old.left }
         ensures { GoesOnTo self.old self.new next }
     {

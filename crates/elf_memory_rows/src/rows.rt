@@ -8,7 +8,7 @@ use elf_table::{Names, Table};
 /// tests them again, so that no numbers are wrong ones.
 #[repr(C)]
 #[derive(Clone, Copy)]
-pub struct RowsLeft {
+pub struct RowPosition {
     /// The file offset of the table's first byte.
     pub at: u64,
     /// How many entries there are.
@@ -23,12 +23,12 @@ pub struct RowsLeft {
     pub strings_len: u64,
 }
 
-impl RowsLeft {
+impl RowPosition {
     /// A place before the first row of a table, with its string table.
-    pub(crate) fn of(table: Table, names: Names) -> RowsLeft
+    pub(crate) fn of(table: Table, names: Names) -> RowPosition
         ensures { result ≡ rows_from_first table names }
     {
-        RowsLeft {
+        RowPosition {
             at: table.at(),
             count: table.len(),
             index: 0,

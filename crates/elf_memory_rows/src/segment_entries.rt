@@ -5,7 +5,7 @@ ghost use Rattle.elf_memory_rows.specs.SegmentDynamic.{AreSegmentEntries, FindsE
 ghost use Rattle.elf_memory.specs.declared.segment.Segment.{Segment as IsOne};
 
 use crate::dynamic_table::{listed_rows, listed_within};
-use crate::rows::RowsLeft;
+use crate::rows::RowPosition;
 use elf_headers::ends_outside;
 use elf_memory::{Segment, segment_at, segment_place};
 use elf_record::numbers::PT_DYNAMIC;
@@ -22,7 +22,7 @@ use elf_record::{Cause, Refusal};
 /// them permitted as can be; then, at the program header and of a segment that has bytes in the file,
 /// `SizeNotWhole` where p_filesz is no multiple of 16, `TableOutside` where the segment ends past the
 /// end of the file.
-pub fn segment_dynamic(file: &[u8], segment: u16) -> Result<Option<RowsLeft>, Refusal>
+pub fn segment_dynamic(file: &[u8], segment: u16) -> Result<Option<RowPosition>, Refusal>
     ensures { ReadsSegmentDynamic file.now segment result }
 {
     match segment_table(file, segment)? {
@@ -40,7 +40,7 @@ pub fn segment_dynamic_within(
     file: &[u8],
     segment: u16,
     most: u64,
-) -> Result<Option<RowsLeft>, Refusal>
+) -> Result<Option<RowPosition>, Refusal>
     ensures { ReadsListed (ReadsSegmentDynamic file.now segment) most result }
 {
     match segment_table(file, segment)? {
@@ -57,7 +57,7 @@ pub fn segment_dynamic_within(
 ///
 /// # Errors
 /// As for [`segment_dynamic`].
-fn segment_table(file: &[u8], segment: u16) -> Result<Option<RowsLeft>, Refusal>
+fn segment_table(file: &[u8], segment: u16) -> Result<Option<RowPosition>, Refusal>
     ensures { FindsEntries file.now segment result }
 {
     let Some(place) = segment_place(file, segment)? else {
@@ -71,7 +71,7 @@ fn segment_table(file: &[u8], segment: u16) -> Result<Option<RowsLeft>, Refusal>
 }
 
 /// All entries that a program header tells of, where its checks pass. Refusals name `place`.
-fn entries(file: &[u8], place: u64, header: &Segment) -> Result<Option<RowsLeft>, Refusal>
+fn entries(file: &[u8], place: u64, header: &Segment) -> Result<Option<RowPosition>, Refusal>
     ensures { AreSegmentEntries file.now place header.now.offset header.now.filesz result }
 {
     let (at, bytes) = (header.offset, header.filesz);
@@ -87,7 +87,7 @@ fn entries(file: &[u8], place: u64, header: &Segment) -> Result<Option<RowsLeft>
             cause: Cause::TableOutside,
         });
     }
-    Ok(Some(RowsLeft {
+    Ok(Some(RowPosition {
         at,
         count: bytes / DYNAMIC_BYTES,
         index: 0,

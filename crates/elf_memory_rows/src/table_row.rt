@@ -2,7 +2,7 @@
 ghost use Rattle.std.specs.Prelude.{◌≡◌, ◌+◌, ◌*◌, ◌<◌, ◌≤◌, ℕ, List, length, slice_index_or};
 ghost use Rattle.elf_memory_rows.specs.Rows.{StepsRows, next_at};
 
-use crate::rows::RowsLeft;
+use crate::rows::RowPosition;
 
 /// A row of a table whose entries have one size.
 pub trait TableRow: Copy {
@@ -26,7 +26,7 @@ pub trait TableRow: Copy {
 
 /// Reads the next rows to the front of `out`, as many as there are and as it has room for, steps
 /// over them, and answers how many.
-pub fn next_rows<R: TableRow>(file: &[u8], rows: &mut RowsLeft, out: &mut [R]) -> usize
+pub fn next_rows<R: TableRow>(file: &[u8], rows: &mut RowPosition, out: &mut [R]) -> usize
     ensures steps { StepsRows (length file.now) R.BYTES rows.old rows.new
         (length out.old) result }
     ensures read { (k : ℕ) (none : R) → k < result →

@@ -7,10 +7,10 @@ ghost use Rattle.elf_memory_rows.specs.ListedEntries.{ReadsListed};
 ghost use Rattle.elf_memory_rows.specs.Openings.{OpensTable, ReadsRows, linked_names};
 
 use crate::dynamic_table::{listed_rows, listed_within};
-use crate::held::HeldFile;
+use crate::held::MemoryFile;
 use crate::kind::{RowKind, holds};
 use crate::loading::held_file;
-use crate::rows::RowsLeft;
+use crate::rows::RowPosition;
 use elf_headers::Fault;
 use elf_record::Refusal;
 use elf_table::{Names, Table};
@@ -29,7 +29,7 @@ pub fn rows_in(
     headers: u16,
     section: u16,
     kind: RowKind,
-) -> Result<Option<RowsLeft>, Refusal>
+) -> Result<Option<RowPosition>, Refusal>
     ensures { ReadsRows kind file.now headers section result }
 {
     let held = match held_file(file, headers) {
@@ -57,7 +57,7 @@ pub fn dynamic_within(
     headers: u16,
     section: u16,
     most: u64,
-) -> Result<Option<RowsLeft>, Refusal>
+) -> Result<Option<RowPosition>, Refusal>
     ensures { ReadsListed (ReadsRows Dynamic file.now headers section) most result }
 {
     let held = match held_file(file, headers) {
@@ -68,7 +68,7 @@ pub fn dynamic_within(
         return Ok(None);
     }
     match held.dynamic(section) {
-        Ok(found) => match listed_within(file, RowsLeft::of(found.0, found.1), most) {
+        Ok(found) => match listed_within(file, RowPosition::of(found.0, found.1), most) {
             Ok(rows) => Ok(Some(rows)),
             Err(refusal) => Err(refusal),
         },
@@ -82,7 +82,7 @@ pub fn dynamic_within(
 ///
 /// # Errors
 /// The first check of its table that fails.
-fn opened(held: &HeldFile<'_>, section: u16, kind: RowKind) -> Result<RowsLeft, Fault>
+fn opened(held: &MemoryFile<'_>, section: u16, kind: RowKind) -> Result<RowPosition, Fault>
     requires { section < held.now.header.e_shnum }
     ensures opens { let file = held.now.bytes.now in
         OpensTable kind file (section_at file section) result }
@@ -91,15 +91,15 @@ fn opened(held: &HeldFile<'_>, section: u16, kind: RowKind) -> Result<RowsLeft, 
     match kind {
         RowKind::Symbols => {
             let (table, names) = held.symbols(section)?;
-            Ok(RowsLeft::of(table, names))
+            Ok(RowPosition::of(table, names))
         }
         RowKind::Relocations => {
             let (table, linked) = held.relocations(section)?;
-            Ok(RowsLeft::of(table, names_of(linked)))
+            Ok(RowPosition::of(table, names_of(linked)))
         }
         RowKind::Dynamic => {
             let (table, names) = held.dynamic(section)?;
-            Ok(listed_rows(held.bytes, RowsLeft::of(table, names)))
+            Ok(listed_rows(held.bytes, RowPosition::of(table, names)))
         }
         RowKind::VersionWords => {
             let (table, symbols) = held.version_words(section)?;
@@ -109,7 +109,7 @@ fn opened(held: &HeldFile<'_>, section: u16, kind: RowKind) -> Result<RowsLeft, 
 }
 
 /// The words of the versions of so many symbols, as far as there are some.
-fn words_of(words: Table, symbols: u64) -> RowsLeft
+fn words_of(words: Table, symbols: u64) -> RowPosition
     ensures { result ≡ record {
       at = words.at;
       count = min words.count symbols;
@@ -119,7 +119,7 @@ fn words_of(words: Table, symbols: u64) -> RowsLeft
       strings_len = 0;
     } }
 {
-    let mut rows = RowsLeft::of(words, Names::new(0, 0));
+    let mut rows = RowPosition::of(words, Names::new(0, 0));
     rows.count = rows.count.min(symbols);
     rows
 }

@@ -1,5 +1,5 @@
 //! What a read of a row and the opening of a table answer, as C sees it.
-ghost use Rattle.elf_memory_rows.specs.Ends.{IsOpenedTable, IsTold};
+ghost use Rattle.elf_memory_rows.specs.Ends.{IsOpenedTable, IsRowReported};
 
 use crate::end::End;
 use elf_record::Refusal;
@@ -16,7 +16,7 @@ const BAD_CALL: u32 = 4;
 /// Writes the row that was read to `row`, the refusal, where there is one, to `end`, and answers
 /// the status.
 pub fn tell<T: Copy>(read: Result<Option<T>, Refusal>, row: &mut T, end: &mut End) -> u32
-    ensures { IsTold result row.old row.new end.new read }
+    ensures { IsRowReported result row.old row.new end.new read }
 {
     end.clear();
     match read {
@@ -34,7 +34,7 @@ pub fn tell<T: Copy>(read: Result<Option<T>, Refusal>, row: &mut T, end: &mut En
 
 /// Writes what was opened to `place`, the refusal, where there is one, to `end`, and answers the
 /// status. None is a call with a number outside its range.
-pub fn tell_opened<T: Copy>(
+pub fn report_opened<T: Copy>(
     opened: Option<Result<Option<T>, Refusal>>,
     place: &mut T,
     end: &mut End,

@@ -1,12 +1,12 @@
 -- Where a member's data lie, and what the members of an archive cost at most.
 use Rattle.std.proofs.Common.{◌≡◌, ℕ, zero, suc, ◌+◌, ◌-◌, ◌≤◌, nat_le, nat_lt, if◌then◌else◌, Bool, true, false, List, length, Option, None, Some, Result, Ok, Err, refl, ap, arith}
 use Rattle.std.proofs.lemmas.Bool.Decides.{nat_tests}
-use Rattle.elf_model.specs.Archive.{Extent, Member, Next, Ends, Broken, OneMember, Progress, archive_checks, before_members, behind, bytes_in, data_behind, is_elf, lists_members, member_data, member_name, member_named, member_size, name_field, name_in_data, next_member, told_size}
+use Rattle.elf_model.specs.Archive.{FileRange, Member, NextMember, Ends, Broken, OneMember, MemberWalkState, archive_checks, before_members, behind, bytes_in, data_after, is_elf, lists_members, member_data, member_name, member_named, member_size, name_field, name_in_data, next_member, parsed_member_size}
 use Rattle.elf_model.specs.ArchiveCost.{allowance, archive_cost, header_cost, is_elsewhere, long_name_bytes, member_cost, members_cost}
 use Rattle.elf_model.specs.ArchiveLaws.{ArchiveCostIsWithinCeiling, DataLieInTheFile}
 use Rattle.elf_model.specs.Checks.{pass}
 use Rattle.elf_model.specs.Cost.{cost_where, listing_cost, style_ceiling}
-use Rattle.elf_model.specs.Names.{Shown}
+use Rattle.elf_model.specs.Names.{DisplayedName}
 use Rattle.elf_model.specs.Style.{Style}
 use Rattle.elf_model.specs.declared.causes.Cause.{Cause}
 use Rattle.elf_model.specs.declared.causes.Cause.TheVariants.{MemberCut}
@@ -18,7 +18,7 @@ use Rattle.elf_model.proofs.Slices.{slice-size}
 abbrev IsSize : Result ℕ Cause → ℕ → Type 0
 IsSize answer size = answer ≡ Ok size
 
-abbrev IsExtent : Result Extent Cause → Extent → Type 0
+abbrev IsExtent : Result FileRange Cause → FileRange → Type 0
 IsExtent answer extent = answer ≡ Ok extent
 
 -- header and data lie within the file
@@ -35,14 +35,14 @@ size_lies file at size is = by_room (nat_lt (length file) (at + 60)) is
     by_told (Some n) same = by_end n (nat_lt (length file) (at + 60 + n)) refl same
 
     by_room : (t : Bool)
-        → IsSize (if t then Err MemberCut else elim (told_size file at) [ None ↦ Err MemberCut | Some n ↦ if nat_lt (length file) (at + 60 + n) then Err MemberCut else Ok n ]) size
+        → IsSize (if t then Err MemberCut else elim (parsed_member_size file at) [ None ↦ Err MemberCut | Some n ↦ if nat_lt (length file) (at + 60 + n) then Err MemberCut else Ok n ]) size
         → at + 60 + size ≤ length file
     by_room true same = absurd cc
-    by_room false same = by_told (told_size file at) same
+    by_room false same = by_told (parsed_member_size file at) same
 
 -- and what is left of the data behind a name too
-behind_lies : (at size name : ℕ) (e : Extent) → data_behind at size name ≡ Ok e → (at ≤ e.at) × (e.at + e.size ≤ at + size)
-unfolding data_behind
+behind_lies : (at size name : ℕ) (e : FileRange) → data_after at size name ≡ Ok e → (at ≤ e.at) × (e.at + e.size ≤ at + size)
+unfolding data_after
 behind_lies at size name e is = by_room (nat_lt size name) refl is
   where
     by_room : (t : Bool) → nat_lt size name ≡ t → IsExtent (if t then Err MemberCut else Ok (record { at = at + name; size = size - name })) e → (at ≤ e.at) × (e.at + e.size ≤ at + size)
@@ -52,25 +52,25 @@ behind_lies at size name e is = by_room (nat_lt size name) refl is
         let rest : size - name ≡ e.size = cc in
         let room : name ≤ size = grind (arith, nat_tests) in (omega (arith, begins), omega (arith, begins, rest, room))
 
-data_lies : (file : List ℕ) (at : ℕ) (e : Extent) → member_data file at ≡ Ok e → (at + 60 ≤ e.at) × (e.at + e.size ≤ length file)
+data_lies : (file : List ℕ) (at : ℕ) (e : FileRange) → member_data file at ≡ Ok e → (at + 60 ≤ e.at) × (e.at + e.size ≤ length file)
 unfolding member_data
 data_lies file at e is = go (member_size file at) refl is
   where
-    go : (r : Result ℕ Cause) → member_size file at ≡ r → IsExtent (elim r [ Err cause ↦ Err cause | Ok size ↦ data_behind (at + 60) size (name_in_data (name_field file at)) ]) e
+    go : (r : Result ℕ Cause) → member_size file at ≡ r → IsExtent (elim r [ Err cause ↦ Err cause | Ok size ↦ data_after (at + 60) size (name_in_data (name_field file at)) ]) e
         → (at + 60 ≤ e.at) × (e.at + e.size ≤ length file)
     go (Err cause) r same = absurd cc
     go (Ok size) r same =
         let lies = behind_lies (at + 60) size _ e same in (lies.0, omega (arith, lies.1, size_lies file at size r))
 
-pub data_lie : DataLieInTheFile
+pub data_in_bounds : DataLieInTheFile
 unfolding next_member
-data_lie file cap p m is = by_end (nat_lt p.at (length file)) is
+data_in_bounds file cap p m is = by_end (nat_lt p.at (length file)) is
   where
-    named : (e : Extent) (name : Result Shown Cause) → member_named p e name ≡ OneMember m → e ≡ m.extent
+    named : (e : FileRange) (name : Result DisplayedName Cause) → member_named p e name ≡ OneMember m → e ≡ m.extent
     named e (Ok shown) same = cc
     named e (Err cause) same = absurd cc
 
-    by_data : (r : Result Extent Cause) → member_data file p.at ≡ r
+    by_data : (r : Result FileRange Cause) → member_data file p.at ≡ r
         → elim r [ Err cause ↦ Broken (record { at = p.at; cause = cause }) | Ok extent ↦ member_named p extent (member_name file cap p.names p.at) ] ≡ OneMember m
         → (p.at + 60 ≤ m.extent.at) × (m.extent.at + m.extent.size ≤ length file)
     by_data (Err cause) r same = absurd cc
@@ -87,17 +87,17 @@ where_most true n = omega arith
 where_most false n = omega arith
 
 -- a header and a name cost no more than what is allowed in their place
-header_most : (file : List ℕ) (cap : ℕ) (p : Progress) → header_cost file cap p ≤ 60 + long_name_bytes cap
+header_most : (file : List ℕ) (cap : ℕ) (p : MemberWalkState) → header_cost file cap p ≤ 60 + long_name_bytes cap
 unfolding header_cost
 header_most file cap p =
     let name = where_most (is_elsewhere (name_field file p.at)) (long_name_bytes cap) in
     omega (arith, name, where_most (nat_le (p.at + 60) (length file)) (60 + cost_where (is_elsewhere (name_field file p.at)) (long_name_bytes cap)))
 
-header_none : (file : List ℕ) (cap : ℕ) (p : Progress) → nat_le (p.at + 60) (length file) ≡ false → header_cost file cap p ≡ 0
+header_none : (file : List ℕ) (cap : ℕ) (p : MemberWalkState) → nat_le (p.at + 60) (length file) ≡ false → header_cost file cap p ≡ 0
 unfolding header_cost
 header_none file cap p is = rw is refl
 
-header_within : (file : List ℕ) (headers : ℕ) (style : Style) (p : Progress) → header_cost file style.cap p ≤ allowance (length file - p.at) headers style
+header_within : (file : List ℕ) (headers : ℕ) (style : Style) (p : MemberWalkState) → header_cost file style.cap p ≤ allowance (length file - p.at) headers style
 header_within file headers style p = by_room (nat_le (p.at + 60) (length file)) refl
   where
     by_room : (t : Bool) → nat_le (p.at + 60) (length file) ≡ t → header_cost file style.cap p ≤ allowance (length file - p.at) headers style
@@ -119,14 +119,14 @@ member_most file headers style parts m lies =
     omega (arith, same, file_cost, shown, all)
 
 -- and the members from a place on no more than the bytes from there on
-members_within : (most : ℕ) (file : List ℕ) (headers : ℕ) (style : Style) (parts : ℕ) (p : Progress)
+members_within : (most : ℕ) (file : List ℕ) (headers : ℕ) (style : Style) (parts : ℕ) (p : MemberWalkState)
     → members_cost most file headers style parts p ≤ allowance (length file - p.at) headers style
 unfolding members_cost
 members_within zero file headers style parts p = omega arith
 members_within (suc most) file headers style parts p = go (next_member file style.cap p) refl (λ q. members_within most file headers style parts q)
   where
-    go : (next : Next) → next_member file style.cap p ≡ next
-        → ((q : Progress) → members_cost most file headers style parts q ≤ allowance (length file - q.at) headers style)
+    go : (next : NextMember) → next_member file style.cap p ≡ next
+        → ((q : MemberWalkState) → members_cost most file headers style parts q ≤ allowance (length file - q.at) headers style)
         → header_cost file style.cap p
         + elim next [
           | Ends ↦ 0
@@ -137,7 +137,7 @@ members_within (suc most) file headers style parts p = go (next_member file styl
     go Ends is others = omega (arith, header_within file headers style p)
     go (Broken refusal) is others = omega (arith, header_within file headers style p)
     go (OneMember m) is others =
-        let lies = data_lie file style.cap p m is in
+        let lies = data_in_bounds file style.cap p m is in
         let rest = others (behind file p m) in
         let room = allowed (length file - p.at) (length file - (behind file p m).at) m.extent.size headers style (omega (arith, lies.0, lies.1)) in
         omega (arith, header_most file style.cap p, member_most file headers style parts m lies.1, rest, room)

@@ -3,14 +3,14 @@ use Rattle.std.proofs.Common.{◌≡◌, ℕ, zero, suc, ◌+◌, ◌/◌, ◌�
 use Rattle.std.proofs.lemmas.Bool.{cases_Bool, ltb-false}
 use Rattle.std.proofs.lemmas.List.Elements.{All-nil, All-cons, All-append, All-head, All-tail}
 use Rattle.elf_model.specs.Bytes.{little}
-use Rattle.elf_model.specs.Apply.{StoredBytes, Change, Put, Fails, Target, named_value, symbol_checks, value_checks, terms_of, entry_checks, change_of, where_based, entry_changes, applies_to, relocation_entries, section_headers, section_changes, changes_of, and_patches, patches_of}
+use Rattle.elf_model.specs.Apply.{StoredBytes, SectionChange, Put, Fails, ApplyTarget, named_value, symbol_checks, value_checks, terms_of, entry_checks, change_of, where_based, entry_changes, applies_to, relocation_entries, section_headers, section_changes, changes_of, and_patches, patches_of}
 use Rattle.elf_model.specs.ApplyLaws.{IsInside, AllInside, EntryStoresValue, ChangesInside}
 use Rattle.elf_model.specs.Checks.{refuse, first_refusal}
 use Rattle.elf_model.specs.Placing.{has_base, place_value}
 use Rattle.elf_model.specs.Records.{r_offset, r_type}
 use Rattle.elf_model.specs.Numbers.{R_X86_64_NONE}
 use Rattle.elf_model.specs.Tables.{relocation_table_checks}
-use Rattle.elf_model.specs.Values.{Terms, takes_place, kind_of, overflows, value_of, low_bytes, patch_of}
+use Rattle.elf_model.specs.Values.{FormulaTerms, takes_place, kind_of, overflows, value_of, low_bytes, patch_of}
 use Rattle.elf_model.specs.declared.relocation_types.RelocationType.{RelocationType}
 use Rattle.elf_model.specs.declared.causes.Cause.TheVariants.{Overflow, PlaceOutside}
 use Rattle.elf_model.specs.declared.causes.Refusal.{Refusal}
@@ -22,7 +22,7 @@ length-little zero n = refl
 length-little (suc width) n = ap suc (length-little width (n / 256))
 
 -- a value has as many bytes as its type's width
-pub length-patch_of : (type : RelocationType) (terms : Terms) (bytes : List ℕ) → patch_of type terms ≡ Ok bytes → length bytes ≡ type.width
+pub length-patch_of : (type : RelocationType) (terms : FormulaTerms) (bytes : List ℕ) → patch_of type terms ≡ Ok bytes → length bytes ≡ type.width
 unfolding patch_of
 length-patch_of type terms bytes e =
     elim (cases_Bool (overflows type terms)) [
@@ -34,7 +34,7 @@ length-patch_of type terms bytes e =
     ]
 
 -- a change that stores bytes stores them within the section
-IsInsideChange : ℕ → Change → Type 0
+IsInsideChange : ℕ → SectionChange → Type 0
 IsInsideChange size (Put patch) = IsInside size patch
 IsInsideChange size (Fails refusal) = Unit {0}
 
@@ -47,7 +47,7 @@ all_given : {A : Type 0} (P : A → Type 0) (f : ℕ → List A) (xs : List ℕ)
 all_given P f [] each = All-nil P
 all_given P f (x ∷ xs) each = All-append P (f x) (flat_map f xs) (each x) (all_given P f xs each)
 
-module _ (target : Target) where
+module _ (target : ApplyTarget) where
   -- the first check of an entry
   room :
       (at rela : ℕ) (type : RelocationType) → first_refusal (entry_checks target at rela type) ≡ None
@@ -101,7 +101,7 @@ module _ (target : Target) where
       ]
 
 -- What an entry stores.
-module _ (target : Target) (at rela : ℕ) where
+module _ (target : ApplyTarget) (at rela : ℕ) where
   -- the last check of an entry
   in_range : (type : RelocationType) → first_refusal (entry_checks target at rela type) ≡ None → overflows type (terms_of target at rela type) ≡ false
   unfolding entry_checks
@@ -180,7 +180,7 @@ stored_inside size patch patches (Ok ps) first others e =
     rw (← same) (All-cons (IsInside size) patch ps first (others ps refl))
 
 patches_inside :
-    (size : ℕ) (changes : List Change) (patches : List StoredBytes) → All (IsInsideChange size) changes
+    (size : ℕ) (changes : List SectionChange) (patches : List StoredBytes) → All (IsInsideChange size) changes
     → patches_of changes ≡ Ok patches → AllInside size patches
 unfolding patches_of IsInsideChange
 patches_inside size [] patches inside e = let same : [] ≡ patches = cc in rw (← same) (All-nil (IsInside size))

@@ -7,9 +7,9 @@ use Rattle.std.proofs.lemmas.Bool.Decides.{nat_tests}
 use Rattle.std.proofs.lemmas.List.Sorted.{list_any-IsPermutation}
 use Rattle.elf_model.specs.Choice.{EveryRow, NoSuffix, RowsOf, Suffix, Suffixed, is_named, is_whole, suits, wanted_text}
 use Rattle.elf_model.specs.ChoiceLaws.{CutNamesAreNone, NamesAloneAreChosen, NamesAreChosen, NamesFitEveryVersion, OrderChoosesNothing, VersionsAreChosen, has_sign, has_sign_first, has_version}
-use Rattle.elf_model.specs.Loader.{AT_SIGN, Asked, NoVersion, Version, DefaultVersion, Wanted, asked_behind, wanted_of}
-use Rattle.elf_model.specs.Names.{Shown}
-use Rattle.elf_model.specs.Names.Shown.{Whole, Cut}
+use Rattle.elf_model.specs.Loader.{AT_SIGN, Asked, NoVersion, Version, DefaultVersion, Wanted, asked_after, parse_query}
+use Rattle.elf_model.specs.Names.{DisplayedName}
+use Rattle.elf_model.specs.Names.DisplayedName.{Whole, Cut}
 
 and-true : (b : Bool) → b && true ≡ b
 and-true true = refl
@@ -46,19 +46,19 @@ sign_behind byte text place is found =
     by (Some place) found at = grind (arith, nat_tests)
 
 -- a text that begins with the sign asks for a version of the empty name; another first byte is one of the name
-starts : (byte : ℕ) (text : List ℕ) → (byte == AT_SIGN) ≡ true → wanted_of (byte ∷ text) ≡ record { name = []; asked = asked_behind text }
-unfolding wanted_of
-starts byte text is = rw (sign_here byte text is, wanted_of) refl
+starts : (byte : ℕ) (text : List ℕ) → (byte == AT_SIGN) ≡ true → parse_query (byte ∷ text) ≡ record { name = []; asked = asked_after text }
+unfolding parse_query
+starts byte text is = rw (sign_here byte text is, parse_query) refl
 
 goes_on : (byte : ℕ) (text : List ℕ) → (byte == AT_SIGN) ≡ false
-    → wanted_of (byte ∷ text) ≡ record { name = byte ∷ (wanted_of text).name; asked = (wanted_of text).asked }
-unfolding wanted_of
+    → parse_query (byte ∷ text) ≡ record { name = byte ∷ (parse_query text).name; asked = (parse_query text).asked }
+unfolding parse_query
 goes_on byte text is = by (position (λ byte. byte == AT_SIGN) text) refl
   where
     by : (place : Option ℕ) → position (λ byte. byte == AT_SIGN) text ≡ place
-        → wanted_of (byte ∷ text) ≡ record { name = byte ∷ (wanted_of text).name; asked = (wanted_of text).asked }
-    by None e = rw (e, sign_behind byte text None is e, wanted_of) refl
-    by (Some place) e = rw (e, sign_behind byte text (Some place) is e, wanted_of) refl
+        → parse_query (byte ∷ text) ≡ record { name = byte ∷ (parse_query text).name; asked = (parse_query text).asked }
+    by None e = rw (e, sign_behind byte text None is e, parse_query) refl
+    by (Some place) e = rw (e, sign_behind byte text (Some place) is e, parse_query) refl
 
 -- what a text fits, told without parting it
 fits : (name : List ℕ) (suffix : Suffix) (text : List ℕ) → Bool
@@ -91,7 +91,7 @@ one_sign (first ∷ version) text byte other = elim (cases_Bool (first == AT_SIG
 ]
 
 -- a version that is asked for behind the sign
-behind_fits : (suffix : Suffix) (text : List ℕ) → suits (asked_behind text) suffix ≡ fits [] suffix (AT_SIGN ∷ text)
+behind_fits : (suffix : Suffix) (text : List ℕ) → suits (asked_after text) suffix ≡ fits [] suffix (AT_SIGN ∷ text)
 unfolding fits
 behind_fits NoSuffix [] = refl
 behind_fits NoSuffix (byte ∷ text) = elim (cases_Bool (byte == AT_SIGN)) [ inl sign ↦ rw sign refl | inr other ↦ rw other refl ]
@@ -139,14 +139,14 @@ fits_more first name (Suffixed is_default (Whole version)) byte text =
     shared false a n b d c = or-none (n && false) d ∙ and-false n
 
 -- WHAT A TEXT FITS: a name without the sign that is the text, or that is with its version
-nothing_fits : (name : List ℕ) (behind : Suffix) → is_named (Whole name) behind (wanted_of []) ≡ not (has_sign name) && fits name behind []
-unfolding fits wanted_of
+nothing_fits : (name : List ℕ) (behind : Suffix) → is_named (Whole name) behind (parse_query []) ≡ not (has_sign name) && fits name behind []
+unfolding fits parse_query
 nothing_fits [] NoSuffix = refl
 nothing_fits [] (Suffixed is_default (Cut _)) = refl
 nothing_fits [] (Suffixed is_default (Whole version)) = refl
 nothing_fits (first ∷ name) behind = sym (ap (λ b. not (has_sign (first ∷ name)) && b) (fits_end first name behind) ∙ and-false (not (has_sign (first ∷ name))))
 
-text_fits : (name : List ℕ) (behind : Suffix) (text : List ℕ) → is_named (Whole name) behind (wanted_of text) ≡ not (has_sign name) && fits name behind text
+text_fits : (name : List ℕ) (behind : Suffix) (text : List ℕ) → is_named (Whole name) behind (parse_query text) ≡ not (has_sign name) && fits name behind text
 text_fits name behind [] = nothing_fits name behind
 text_fits [] behind (byte ∷ text) = elim (cases_Bool (byte == AT_SIGN)) [
   | inl sign ↦
@@ -204,7 +204,7 @@ pub names_alone_are_chosen : NamesAloneAreChosen
 unfolding fits
 names_alone_are_chosen texts name = any_fits texts name NoSuffix
 
-any_version : (texts : List (List ℕ)) (name : List ℕ) (is_default : Bool) (version : Shown)
+any_version : (texts : List (List ℕ)) (name : List ℕ) (is_default : Bool) (version : DisplayedName)
     → list_any (fits name (Suffixed is_default version)) texts ≡ list_any (bytes_eq name) texts || has_version texts name is_default version
 unfolding fits
 any_version texts name is_default (Cut _) = sym (or-false (list_any (bytes_eq name) texts))
@@ -222,7 +222,7 @@ versions_are_chosen texts name is_default version =
     any_fits texts name (Suffixed is_default version) ∙ ap (λ b. not (has_sign name) && b) (any_version texts name is_default version)
 
 -- a name that is asked for alone fits whatever stands behind it
-alone_fits : (name : Shown) (behind : Suffix) (wanted : Wanted) → is_named name NoSuffix wanted ≡ true → is_named name behind wanted ≡ true
+alone_fits : (name : DisplayedName) (behind : Suffix) (wanted : Wanted) → is_named name NoSuffix wanted ≡ true → is_named name behind wanted ≡ true
 alone_fits name behind wanted fit = by (is_whole name wanted.name) wanted.asked fit
   where
     by : (whole : Bool) (asked : Asked) → whole && suits asked NoSuffix ≡ true → whole && suits asked behind ≡ true

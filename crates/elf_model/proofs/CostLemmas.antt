@@ -14,8 +14,8 @@ use Rattle.elf_model.specs.VersionCost.{is_inside, links, has_strings, has_symbo
 use Rattle.elf_model.specs.Numbers.{SHT_GNU_VERDEF, SHT_GNU_VERNEED}
 use Rattle.elf_model.specs.Versions.{DEFINITION_SIZE, DEFINED_NAME_SIZE, NEED_SIZE}
 use Rattle.elf_model.specs.VersionRows.{version_definitions, version_needs, symbol_versions}
-use Rattle.elf_model.specs.TableKinds.{TableHeaders, symbols, relocations, section_dynamic, section_notes, segment_notes, segment_dynamic, section_kinds, segment_kinds, suffixed_relocations, suffixed_symbols, suffixes_cost, by_sections, by_segments, table_headers}
-use Rattle.elf_model.specs.Cost.{sum_over, cost_where, table_cost, kinds_cost, is_loadable, needs_segments, sections_cost, segments_cost, tables_cost, behind_header as asked_behind, listing_cost, ceiling, style_ceiling, suffixes_most}
+use Rattle.elf_model.specs.TableKinds.{TableHeaders, symbols, relocations, section_dynamic, section_notes, segment_notes, segment_dynamic, section_kinds, segment_kinds, relocations_with_versions, suffixed_symbols, suffixes_cost, by_sections, by_segments, table_headers}
+use Rattle.elf_model.specs.Cost.{sum_over, cost_where, table_cost, kinds_cost, is_loadable, needs_segments, sections_cost, segments_cost, tables_cost, after_header as asked_after, listing_cost, ceiling, style_ceiling, suffixes_most}
 use Rattle.elf_model.specs.Style.{Style, viewed}
 use Rattle.elf_model.specs.Suffixes.{first_numbers}
 use Rattle.elf_model.proofs.CheckSteps.{all_pass, pass-behind}
@@ -229,9 +229,9 @@ module _ (headers : HeaderTable) (i size cap : ℕ) where
       let within = table_fits i 24 h in
       omega (arith, suffixes_fit i (header_field headers sh_size i / 24) (omega arith)))
 
-  relocations_more : table_cost suffixed_relocations headers i size cap
+  relocations_more : table_cost relocations_with_versions headers i size cap
       ≤ table_cost relocations headers i size cap + cost_where (header_field headers sh_type i == 4) (suffixes_most size cap)
-  unfolding table_cost suffixed_relocations relocations
+  unfolding table_cost relocations_with_versions relocations
   relocations_more =
       cost_more (header_field headers sh_type i == 4) (pass (table_checks_of (headers.bytes i) (headers.at i) size (headers.at i) 24)) _ _
       (suffixes_most size cap) (λ h.
@@ -241,7 +241,7 @@ module _ (headers : HeaderTable) (i size cap : ℕ) where
   -- all of them with versions behind names
   pub suffixed_kinds-le : (parts : ℕ)
       → kinds_cost (section_kinds true) headers i size cap parts ≤ kinds_cost (section_kinds false) headers i size cap parts + suffixes_most size cap
-  unfolding kinds_cost suffixed_symbols symbols suffixed_relocations relocations
+  unfolding kinds_cost suffixed_symbols symbols relocations_with_versions relocations
   suffixed_kinds-le parts =
       let one = two_kinds (header_field headers sh_type i) (suffixes_most size cap) in
       let a = where-more (has parts 8) _ _ _ symbols_more in
@@ -339,11 +339,11 @@ with_sections file style parts headers z s p =
     omega arith
 
 -- what is asked for behind the file header is within the ceiling
-behind_header : (file : List ℕ) (style : Style) (parts headers : ℕ) (none : Bool) → (e_shnum file == 0) ≡ none → is_loadable file headers ≡ true
+after_header : (file : List ℕ) (style : Style) (parts headers : ℕ) (none : Bool) → (e_shnum file == 0) ≡ none → is_loadable file headers ≡ true
     → sections_cost file style.cap parts + segments_cost file parts + tables_cost file style parts
     ≤ headers * (120 + name_bytes style.cap + most_bound style.versions (length file) style.cap)
-behind_header file style parts headers true z h = without_sections file style parts headers z (loadable-within file headers h).1
-behind_header file style parts headers false z h =
+after_header file style parts headers true z h = without_sections file style parts headers z (loadable-within file headers h).1
+after_header file style parts headers false z h =
     let l = loadable-within file headers h in
     with_sections file style parts headers z l.0 l.1
 
@@ -371,12 +371,12 @@ style_ceiling-is size headers style = by_cases style.versions
         omega (arith, same)
 
 -- what a listing asks for is within it
-behind_within : (file : List ℕ) (headers : ℕ) (style : Style) (parts : ℕ) → 64 + asked_behind file headers style parts ≤ style_ceiling (length file) headers style
-behind_within file headers style parts =
+after_within : (file : List ℕ) (headers : ℕ) (style : Style) (parts : ℕ) → 64 + asked_after file headers style parts ≤ style_ceiling (length file) headers style
+after_within file headers style parts =
     let within = cost_where-within (has_tables parts && is_loadable file headers)
     (sections_cost file style.cap parts + segments_cost file parts + tables_cost file style parts)
     (headers * (120 + name_bytes style.cap + most_bound style.versions (length file) style.cap))
-    (λ h. behind_header file style parts headers (e_shnum file == 0) refl (and-second (has_tables parts) (is_loadable file headers) h)) in
+    (λ h. after_header file style parts headers (e_shnum file == 0) refl (and-second (has_tables parts) (is_loadable file headers) h)) in
     omega (arith, within, style_ceiling-is (length file) headers style)
 
 pub suffixes_within_most : SuffixesAreWithinMost
@@ -385,4 +385,4 @@ suffixes_within_most headers i size cap parts = suffixed_kinds-le headers i size
 pub cost_within : CostIsWithinCeiling
 unfolding listing_cost
 cost_within file headers style parts =
-    rw (view_length style file) at (behind_within (viewed style file) headers style (known_parts style parts))
+    rw (view_length style file) at (after_within (viewed style file) headers style (known_parts style parts))

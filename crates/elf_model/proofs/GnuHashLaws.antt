@@ -1,8 +1,8 @@
 -- Lookups in a hash table of the GNU system: what is calculated is the one lookup, and it is bounded.
 use Rattle.std.proofs.Common.{◌≡◌, ℕ, zero, suc, ◌+◌, ◌-◌, ◌*◌, ◌<◌, ◌≤◌, ◌⊎◌, inl, inr, Bool, true, false, not, List, nat_lt, if◌then◌else◌, Option, None, Some, Result, Ok, Err, refl, sym, ap, ◌∙◌, arith}
 use Rattle.std.proofs.lemmas.Bool.{cases_eq, cases_lt, cases_Bool, and_parts, ltb-true}
-use Rattle.elf_model.specs.Chains.{HashTable, WalkEnd, NotThere, Untried, Answers, Last, end_of_trial, Walked, nothing_tried}
-use Rattle.elf_model.specs.GnuHash.{gnu_first, gnu_start, gnu_symbol, gnu_tried, gnu_end, gnu_walked_at, gnu_walked_by, gnu_walk_end, gnu_looked_up, holds_none, before_chains, in_chains, is_chained, chain_word, ends_chain, end_of_chain, is_of_hash, EndsInChain, IsGnuLookup}
+use Rattle.elf_model.specs.Chains.{HashTable, WalkEnd, NotThere, Untried, Answers, Last, end_of_match, ChainResult, nothing_tried}
+use Rattle.elf_model.specs.GnuHash.{gnu_first, gnu_start, gnu_symbol, gnu_tried, gnu_end, gnu_walked_at, gnu_walked_by, gnu_walk_end, gnu_looked_up, holds_none, before_chains, in_chains, is_chained, chain_word, is_chain_end, end_of_chain, hash_bits_match, EndsInChain, IsGnuLookup}
 use Rattle.elf_model.specs.GnuHashLaws.{GnuLookupAnswers, GnuLookupIsOne, IsWithinTable, GnuLookupIsBounded, IsFound, GnuFoundAnswers, IsHeld, GnuAbsentMeansNone, GnuFoundIsFirst}
 use Rattle.elf_model.specs.Hash.{walk_word, IsFirst}
 use Rattle.elf_model.specs.declared.causes.Refusal.{Refusal}
@@ -28,9 +28,9 @@ trial_says (Ok false) = inr (inl refl)
 trial_says (Err e) = inr (inr (e, refl))
 
 -- a chain's end is no other end
-end_of_chain-is : (word : ℕ) → ((ends_chain word ≡ true) × (end_of_chain word ≡ Some Last)) ⊎ ((ends_chain word ≡ false) × (end_of_chain word ≡ None))
+end_of_chain-is : (word : ℕ) → ((is_chain_end word ≡ true) × (end_of_chain word ≡ Some Last)) ⊎ ((is_chain_end word ≡ false) × (end_of_chain word ≡ None))
 end_of_chain-is word =
-    elim (cases_Bool (ends_chain word)) [
+    elim (cases_Bool (is_chain_end word)) [
       | inl t ↦ inl (t, rw t refl)
       | inr f ↦ inr (f, rw f refl)
     ]
@@ -41,14 +41,14 @@ module _ (file : List ℕ) (table : HashTable) (hash : ℕ) (trial : ℕ → Res
   end-not_there y t = rw (t, gnu_end) refl
 
   end-passed :
-      (y : ℕ) → is_chained file table y ≡ true → is_of_hash (chain_word file table.place y) hash ≡ false
+      (y : ℕ) → is_chained file table y ≡ true → hash_bits_match (chain_word file table.place y) hash ≡ false
       → gnu_end file table hash trial y ≡ end_of_chain (chain_word file table.place y)
   unfolding gnu_end
   end-passed y t f = rw (t, gnu_end) (rw (f) refl)
 
   end-tried :
-      (y : ℕ) → is_chained file table y ≡ true → is_of_hash (chain_word file table.place y) hash ≡ true
-      → gnu_end file table hash trial y ≡ end_of_trial (trial y) (end_of_chain (chain_word file table.place y))
+      (y : ℕ) → is_chained file table y ≡ true → hash_bits_match (chain_word file table.place y) hash ≡ true
+      → gnu_end file table hash trial y ≡ end_of_match (trial y) (end_of_chain (chain_word file table.place y))
   unfolding gnu_end
   end-tried y t f = rw (t, gnu_end) (rw (f) refl)
 
@@ -130,7 +130,7 @@ pub gnu_lookup_answers : GnuLookupAnswers
 gnu_lookup_answers file table hash trial = answers_by file table hash trial (cases_Bool (holds_none file table.place hash))
 
 module _ (file : List ℕ) (table : HashTable) (hash : ℕ) (trial : ℕ → Result Bool Refusal) where
-  one_lookup : (first second : Walked) → IsGnuLookup file table hash trial first → IsGnuLookup file table hash trial second → first ≡ second
+  one_lookup : (first second : ChainResult) → IsGnuLookup file table hash trial first → IsGnuLookup file table hash trial second → first ≡ second
   one_lookup first second (inl a) (inl b) = a.gives ∙ sym b.gives
   one_lookup first second (inl a) (inr b) = let x = a.told in let y = b.told in absurd (cc)
   one_lookup first second (inr a) (inl b) = let x = a.told in let y = b.told in absurd (cc)
@@ -144,8 +144,8 @@ gnu_lookup_is_one file table hash trial first second a b = one_lookup file table
 tried_le : (file : List ℕ) (place hash count : ℕ) → gnu_tried file place hash count ≤ count
 unfolding gnu_tried
 tried_le file place hash count =
-    let most = sum_over-le (λ y. if is_of_hash (chain_word file place y) hash then 1 else 0) 1 (gnu_start file place hash) count
-    (λ y. elim (cases_Bool (is_of_hash (chain_word file place y) hash)) [ inl t ↦ rw t (omega arith) | inr f ↦ rw f (omega arith) ]) in
+    let most = sum_over-le (λ y. if hash_bits_match (chain_word file place y) hash then 1 else 0) 1 (gnu_start file place hash) count
+    (λ y. elim (cases_Bool (hash_bits_match (chain_word file place y) hash)) [ inl t ↦ rw t (omega arith) | inr f ↦ rw f (omega arith) ]) in
     omega arith
 
 module _ (file : List ℕ) (table : HashTable) (hash : ℕ) (trial : ℕ → Result Bool Refusal) where
@@ -186,7 +186,7 @@ module _ (file : List ℕ) (table : HashTable) (hash : ℕ) (trial : ℕ → Res
   bounded i Answers f = bounded_at _ _ (tried_le file table.place hash (suc i)) (there_with i Answers f (λ n. cc)) _
   bounded i Last f = bounded_at _ _ (tried_le file table.place hash (suc i)) (there_with i Last f (λ n. cc)) _
 
-  bounded_by : (walked : Walked) → IsGnuLookup file table hash trial walked → IsWithinTable table walked
+  bounded_by : (walked : ChainResult) → IsGnuLookup file table hash trial walked → IsWithinTable table walked
   bounded_by walked (inl a) = rw (a.gives) (record { tried_are_read = omega arith; within_symbols = omega arith; within_bytes = omega arith })
   bounded_by walked (inr b) = rw (b.gives) (bounded b.number b.end b.first)
 
@@ -211,7 +211,7 @@ module _ (file : List ℕ) (table : HashTable) (hash : ℕ) (trial : ℕ → Res
   absent_at i Last e = refl
 
   -- a symbol that is not tried does not end a walk as one that answers
-  passed_no_answer : (y : ℕ) → is_chained file table y ≡ true → is_of_hash (chain_word file table.place y) hash ≡ false
+  passed_no_answer : (y : ℕ) → is_chained file table y ≡ true → hash_bits_match (chain_word file table.place y) hash ≡ false
       → gnu_end file table hash trial y ≡ Some Answers → ⊥
   passed_no_answer y is f e =
       let passed = sym (end-passed file table hash trial y is f) ∙ e in
@@ -220,7 +220,7 @@ module _ (file : List ℕ) (table : HashTable) (hash : ℕ) (trial : ℕ → Res
         | inr on ↦ let x = on.1 in cc
       ]
 
-  tried_answers : (y : ℕ) → is_chained file table y ≡ true → is_of_hash (chain_word file table.place y) hash ≡ true
+  tried_answers : (y : ℕ) → is_chained file table y ≡ true → hash_bits_match (chain_word file table.place y) hash ≡ true
       → gnu_end file table hash trial y ≡ Some Answers → trial y ≡ Ok true
   tried_answers y is t e =
       let tried = sym (end-tried file table hash trial y is t) ∙ e in
@@ -238,15 +238,15 @@ module _ (file : List ℕ) (table : HashTable) (hash : ℕ) (trial : ℕ → Res
   answers_is : (y : ℕ) → gnu_end file table hash trial y ≡ Some Answers → IsFound file table hash trial y
   answers_is y e =
       let is = end_is_there file table hash trial y (Some Answers) e (λ n. cc) in
-      elim (cases_Bool (is_of_hash (chain_word file table.place y) hash)) [
+      elim (cases_Bool (hash_bits_match (chain_word file table.place y) hash)) [
         | inl t ↦ record { chained = is; of_hash = t; answers = tried_answers y is t e }
         | inr f ↦ absurd (passed_no_answer y is f e)
       ]
 
-  found_by : (walked : Walked) (y : ℕ) → IsGnuLookup file table hash trial walked → walked.answer ≡ Ok (Some y) → IsFound file table hash trial y
-  found_by walked y (inl a) e = let g = ap (λ (w : Walked). w.answer) a.gives in absurd (cc)
+  found_by : (walked : ChainResult) (y : ℕ) → IsGnuLookup file table hash trial walked → walked.answer ≡ Ok (Some y) → IsFound file table hash trial y
+  found_by walked y (inl a) e = let g = ap (λ (w : ChainResult). w.answer) a.gives in absurd (cc)
   found_by walked y (inr b) e =
-      let here = found_at b.number y b.end (sym (ap (λ (w : Walked). w.answer) b.gives) ∙ e) in
+      let here = found_at b.number y b.end (sym (ap (λ (w : ChainResult). w.answer) b.gives) ∙ e) in
       rw (here.1) (answers_is (gnu_symbol file table.place hash b.number) (b.first.here ∙ ap (λ (x : WalkEnd). Some x) here.0))
 
 pub gnu_found_answers : GnuFoundAnswers
@@ -255,29 +255,29 @@ gnu_found_answers file table hash trial y e =
 
 -- a symbol that answers and that the table holds: the walk does not pass it
 module _ (file : List ℕ) (table : HashTable) (hash : ℕ) (trial : ℕ → Result Bool Refusal) where
-  held_end : (y : ℕ) → trial y ≡ Ok true → is_of_hash (chain_word file table.place y) hash ≡ true → is_chained file table y ≡ true
+  held_end : (y : ℕ) → trial y ≡ Ok true → hash_bits_match (chain_word file table.place y) hash ≡ true → is_chained file table y ≡ true
       → gnu_end file table hash trial y ≡ Some Answers
   held_end y a t is = rw (end-tried file table hash trial y is t, a) refl
 
-  not_passed : (y : ℕ) → trial y ≡ Ok true → is_of_hash (chain_word file table.place y) hash ≡ true
+  not_passed : (y : ℕ) → trial y ≡ Ok true → hash_bits_match (chain_word file table.place y) hash ≡ true
       → gnu_end file table hash trial y ≡ None → ⊥
   not_passed y a t on =
       let there = held_end y a t (goes_on_there file table hash trial y on) in
       not_both (gnu_end file table hash trial y) Answers there on
 
-  not_last : (y : ℕ) → trial y ≡ Ok true → is_of_hash (chain_word file table.place y) hash ≡ true
+  not_last : (y : ℕ) → trial y ≡ Ok true → hash_bits_match (chain_word file table.place y) hash ≡ true
       → gnu_end file table hash trial y ≡ Some Last → ⊥
   not_last y a t e =
       let there = held_end y a t (end_is_there file table hash trial y (Some Last) e (λ n. cc)) in
       cc
 
   -- the last of a chain has a word that says so
-  last_ends : (y : ℕ) → gnu_end file table hash trial y ≡ Some Last → ends_chain (chain_word file table.place y) ≡ true
+  last_ends : (y : ℕ) → gnu_end file table hash trial y ≡ Some Last → is_chain_end (chain_word file table.place y) ≡ true
   last_ends y e =
       let is = end_is_there file table hash trial y (Some Last) e (λ n. cc) in
       elim (end_of_chain-is (chain_word file table.place y)) [
         | inl last ↦ last.0
-        | inr on ↦ elim (cases_Bool (is_of_hash (chain_word file table.place y) hash)) [
+        | inr on ↦ elim (cases_Bool (hash_bits_match (chain_word file table.place y) hash)) [
           | inr f ↦ let p = sym (end-passed file table hash trial y is f) ∙ e in let x = on.1 in absurd (cc)
           | inl t ↦
               let p = sym (end-tried file table hash trial y is t) ∙ e in
@@ -305,11 +305,11 @@ module _ (file : List ℕ) (table : HashTable) (hash : ℕ) (trial : ℕ → Res
         ]
       ]
 
-  absent_by : (walked : Walked) (y : ℕ) → IsGnuLookup file table hash trial walked → walked.answer ≡ Ok None
+  absent_by : (walked : ChainResult) (y : ℕ) → IsGnuLookup file table hash trial walked → walked.answer ≡ Ok None
       → trial y ≡ Ok true → IsHeld file table hash y → ⊥
   absent_by walked y (inl p) e a h = let x = p.told in let z = h.told in cc
   absent_by walked y (inr b) e a h =
-      let last = absent_at file table hash trial b.number b.end (sym (ap (λ (w : Walked). w.answer) b.gives) ∙ e) in
+      let last = absent_at file table hash trial b.number b.end (sym (ap (λ (w : ChainResult). w.answer) b.gives) ∙ e) in
       none_held h.number b.number y (rw last at b.first) a h refl
 
 pub gnu_absent_means_none : GnuAbsentMeansNone
@@ -317,11 +317,11 @@ gnu_absent_means_none file table hash trial held e y a =
     absent_by file table hash trial (gnu_looked_up file table hash trial) y (gnu_lookup_answers file table hash trial) e a (held y a)
 
 module _ (file : List ℕ) (table : HashTable) (hash : ℕ) (trial : ℕ → Result Bool Refusal) where
-  first_by : (walked : Walked) (found y : ℕ) → IsGnuLookup file table hash trial walked → walked.answer ≡ Ok (Some found)
+  first_by : (walked : ChainResult) (found y : ℕ) → IsGnuLookup file table hash trial walked → walked.answer ≡ Ok (Some found)
       → trial y ≡ Ok true → IsHeld file table hash y → found ≤ y
   first_by walked found y (inl p) e a h = let x = p.told in let z = h.told in absurd (cc)
   first_by walked found y (inr b) e a h =
-      let here = found_at file table hash trial b.number found b.end (sym (ap (λ (w : Walked). w.answer) b.gives) ∙ e) in
+      let here = found_at file table hash trial b.number found b.end (sym (ap (λ (w : ChainResult). w.answer) b.gives) ∙ e) in
       let there = h.in_chain in
       elim (cases_lt h.number b.number) [
         | inl before ↦

@@ -2,7 +2,7 @@
 use Rattle.std.proofs.lemmas.Nat.{and_assoc}
 use Rattle.std.specs.Int.RustNames.{bit_and}
 use Rattle.elf_model.specs.Records.{FILE_HEADER_SIZE}
-use Rattle.elf_model.specs.Cost.{behind_header, listing_cost}
+use Rattle.elf_model.specs.Cost.{after_header, listing_cost}
 use Rattle.std.proofs.Common.{◌≡◌, ℕ, suc, zero, ◌+◌, ◌==◌, Bool, true, false, List, [], ◌∷◌, ◌++◌, Some, None, arith, refl, ap, sym, ◌∙◌, append-nil, append_assoc, add-zero, zero-add}
 use Rattle.elf_model.specs.Checks.{Check, first_refusal, header_checks, load_checks}
 use Rattle.elf_model.specs.Lines.{header_line, refusal_line}
@@ -10,7 +10,7 @@ use Rattle.elf_model.specs.Listing.{ListingItem, Line, Fault, lines_of, fault_of
 use Rattle.elf_model.specs.Style.{Style, viewed}
 use Rattle.elf_model.specs.Report.{listing, load_items, loaded_items}
 use Rattle.elf_model.specs.declared.causes.Refusal.{Refusal}
-use Rattle.elf_model.specs.ListingLaws.{LastRowIsLast, RowsSplit, HeaderAloneIsListed, HeaderFaultIsListedAlone, LoadFaultIsListedSecond, NothingBehindTheFault, ListingsAppend, OtherBitsMeanNothing}
+use Rattle.elf_model.specs.ListingLaws.{LastRowIsLast, RowsSplit, HeaderAloneIsListed, HeaderFaultIsListedAlone, LoadFaultIsListedSecond, NothingAfterTheFault, ListingsAppend, OtherBitsMeanNothing}
 
 -- rows are put together
 pub rows_split : RowsSplit
@@ -86,12 +86,12 @@ load_fault file headers style parts refusal h l p t =
     passes ∙ ap (λ more. line ++ more) fault ∙ ap (λ first. first ++ Fault refusal ∷ []) (asked-true parts HEADER (Line (header_line style.format file) ∷ []) p) in
     ap (report_of style.format) e ∙ ap (λ text. text ++ refusal_line style.format refusal) (append-nil (header_line style.format file))
 
-pub nothing_behind : NothingBehindTheFault
-nothing_behind [] back refusal h = cc
-nothing_behind (Line text ∷ front) back refusal h =
-    let n = nothing_behind front back refusal h in
+pub nothing_after : NothingAfterTheFault
+nothing_after [] back refusal h = cc
+nothing_after (Line text ∷ front) back refusal h =
+    let n = nothing_after front back refusal h in
     (ap (λ more. text ++ more) n.0, n.1)
-nothing_behind (Fault first ∷ front) back refusal h = (refl, h)
+nothing_after (Fault first ∷ front) back refusal h = (refl, h)
 
 pub listings_append : ListingsAppend
 listings_append [] back h = (refl, refl)
@@ -131,7 +131,7 @@ cost_known : (file : List ℕ) (headers : ℕ) (style : Style) (parts : ℕ)
     → listing_cost file headers style (known_parts style parts) ≡ listing_cost file headers style parts
 unfolding listing_cost
 cost_known file headers style parts =
-    ap (λ known. FILE_HEADER_SIZE + behind_header (viewed style file) headers style known) (known_once style parts)
+    ap (λ known. FILE_HEADER_SIZE + after_header (viewed style file) headers style known) (known_once style parts)
 
 pub other_bits : OtherBitsMeanNothing
 other_bits file headers style parts = (listing_known file headers style parts, cost_known file headers style parts)

@@ -3,30 +3,30 @@ use Rattle.std.proofs.Common.{◌≡◌, ℕ, suc, ◌+◌, ◌*◌, ◌/◌, �
 use Rattle.std.proofs.Math.Nat.{mul-le-mul, mul-add}
 use Rattle.std.proofs.lemmas.Bool.{cases_Bool, and_parts, ltb-true, ltb-false, eqb-true}
 use Rattle.std.proofs.lemmas.Nat.{le-div}
-use Rattle.elf_model.specs.Chains.{Walked}
+use Rattle.elf_model.specs.Chains.{ChainResult}
 use Rattle.elf_model.specs.Checks.{first_refusal, pass, before_headers}
 use Rattle.elf_model.specs.Cost.{cost_where, is_loadable}
 use Rattle.elf_model.specs.GnuHash.{gnu_hash}
 use Rattle.elf_model.specs.Hash.{sysv_hash, sysv_nbucket, sysv_nchain}
-use Rattle.elf_model.specs.LoaderFind.{LoaderLookup, TOLD_BYTES, counts_check, walk_in, told_by, found_in, looked_by, wanted_numbers, loaded_in, loader_looked, segments_asked, record_cost, lookup_asks, loader_cost, loader_ceiling}
+use Rattle.elf_model.specs.LoaderFind.{LoaderLookup, TOLD_BYTES, counts_check, walk_in, named_by_record, found_in, looked_by, version_indices, loaded_in, loader_looked, segments_asked, record_cost, lookup_asks, loader_cost, loader_ceiling}
 use Rattle.elf_model.specs.LoaderLaws.{LoaderCostIsWithinCeiling}
-use Rattle.elf_model.specs.LoaderScope.{HashKind, GnuTable, SysvTable, Scope, scope_of, dynamic_segment_index}
+use Rattle.elf_model.specs.LoaderScope.{HashStyle, GnuTable, SysvTable, LookupTables, lookup_tables_of, dynamic_segment_index}
 use Rattle.elf_model.specs.Records.{e_shnum, e_phnum, p_offset, p_filesz, segment_at, versym}
 use Rattle.elf_model.specs.Tables.{segment_dynamic_checks}
-use Rattle.elf_model.specs.Loader.{Wanted, Asked, asked_name, VersionWords, version_word_at, answers, is_among, RecordReading, Meets, Refuses, Misses, RecordTable, Naming, stand_after, has_record, end_reading, meetings, readings_of, readings, compared_with, naming_of}
-use Rattle.elf_model.specs.Names.{Shown, same, shown, pad64}
-use Rattle.elf_model.specs.Versions.{Met, Stand, number_in, names_version, names_number, name_index, most_records, versions_in}
+use Rattle.elf_model.specs.Loader.{Wanted, Asked, asked_name, VersionWords, versym_at, answers, is_among, VersionRecordRead, Meets, Refuses, Misses, VersionRecordTable, NumberNameSource, position_after, has_record, end_reading, meetings, readings_of, readings, compared_with, naming_of}
+use Rattle.elf_model.specs.Names.{DisplayedName, same, shown, pad64}
+use Rattle.elf_model.specs.Versions.{VisitedRecord, RecordCursorState, number_in, names_version, names_version_index, name_index, max_records, versions_in}
 use Rattle.elf_model.specs.declared.causes.Cause.{Cause}
 use Rattle.elf_model.specs.declared.causes.Refusal.{Refusal}
 use Rattle.elf_model.proofs.CostLemmas.{whole_within, loadable-within}
 use Rattle.elf_model.proofs.SumLemmas.{cost_where-le, cost_where-within}
 use Rattle.elf_model.proofs.GnuHashLaws.{gnu_lookup_is_bounded}
-use Rattle.elf_model.proofs.LoaderScopes.{most_of, IsInside, scope_inside}
+use Rattle.elf_model.proofs.LoaderScopes.{max_records_of, IsInside, scope_inside}
 use Rattle.elf_model.proofs.SysvWalkLaws.{sysv_walk_is_bounded}
 use Rattle.elf_model.proofs.VersionLaws.{records_are_bounded}
 
 -- how many records are read
-count_of : List RecordReading → ℕ
+count_of : List VersionRecordRead → ℕ
 count_of [] = 0
 count_of (Meets strings met ∷ others) = suc (count_of others)
 count_of (Refuses refusal ∷ others) = suc (count_of others)
@@ -34,7 +34,7 @@ count_of (Misses refusal ∷ others) = count_of others
 
 module _ (file : List ℕ) where
   -- comparing reads no more
-  compared_few : (wanted : List ℕ) (all : List RecordReading) → (compared_with file wanted all).read ≤ count_of all
+  compared_few : (wanted : List ℕ) (all : List VersionRecordRead) → (compared_with file wanted all).read ≤ count_of all
   unfolding compared_with count_of
   compared_few wanted [] = omega arith
   compared_few wanted (Refuses refusal ∷ others) = omega arith
@@ -49,61 +49,61 @@ module _ (file : List ℕ) where
       go true (Ok is) n e few = rw (n, e, compared_with) (omega arith)
 
   -- and neither does naming
-  naming_few : (number : ℕ) (all : List RecordReading) → (naming_of file number all).read ≤ count_of all
+  naming_few : (number : ℕ) (all : List VersionRecordRead) → (naming_of file number all).read ≤ count_of all
   unfolding naming_of count_of
   naming_few number [] = omega arith
   naming_few number (Refuses refusal ∷ others) = omega arith
   naming_few number (Misses refusal ∷ others) = omega arith
-  naming_few number (Meets strings met ∷ others) = go (names_number file number met) refl (naming_few number others)
+  naming_few number (Meets strings met ∷ others) = go (names_version_index file number met) refl (naming_few number others)
     where
-      go : (names : Bool) → names_number file number met ≡ names → (naming_of file number others).read ≤ count_of others
+      go : (names : Bool) → names_version_index file number met ≡ names → (naming_of file number others).read ≤ count_of others
           → (naming_of file number (Meets strings met ∷ others)).read ≤ suc (count_of others)
       go true n few = rw (n, naming_of) (omega arith)
       go false n few = rw (n, naming_of) (omega arith)
 
-  count_meetings : (strings : List ℕ) (mets : List Met) (others : List RecordReading) → count_of (meetings strings mets others) ≡ length mets + count_of others
+  count_meetings : (strings : List ℕ) (mets : List VisitedRecord) (others : List VersionRecordRead) → count_of (meetings strings mets others) ≡ length mets + count_of others
   unfolding meetings count_of
   count_meetings strings [] others = omega arith
   count_meetings strings (met ∷ mets) others = omega (arith, count_meetings strings mets others)
 
-  count_end : (stands : Bool) (cut : Option Refusal) (others : List RecordReading) (met most : ℕ) → met ≤ most → (stands ≡ true → met < most)
+  count_end : (stands : Bool) (cut : Option Refusal) (others : List VersionRecordRead) (met most : ℕ) → met ≤ most → (stands ≡ true → met < most)
       → met + count_of (end_reading stands cut ++ others) ≤ most + count_of others
   unfolding count_of
   count_end stands None others met most le lt = omega arith
   count_end true (Some refusal) others met most le lt = let low = lt refl in omega arith
   count_end false (Some refusal) others met most le lt = omega arith
 
-  record_below : (table : RecordTable) (met : ℕ) (stand : Option Stand) → has_record table met stand ≡ true → met < most_records table.kind table.size
+  record_below : (table : VersionRecordTable) (met : ℕ) (stand : Option RecordCursorState) → has_record table met stand ≡ true → met < max_records table.kind table.size
   record_below table met None h = absurd (cc)
-  record_below table met (Some stand) h = ltb-true met (most_records table.kind table.size) (and_parts _ _ h).0
+  record_below table met (Some stand) h = ltb-true met (max_records table.kind table.size) (and_parts _ _ h).0
 
-  readings_few : (tables : List RecordTable) → count_of (readings file tables) ≤ most_of tables
-  unfolding readings readings_of most_of count_of
+  readings_few : (tables : List VersionRecordTable) → count_of (readings file tables) ≤ max_records_of tables
+  unfolding readings readings_of max_records_of count_of
   readings_few [] = omega arith
   readings_few (table ∷ tables) =
       let versions = versions_in table.kind file table.head table.place table.size in
       let count = length versions.met in
       let most = records_are_bounded table.kind file table.head table.place table.size in
       let others = readings file tables in
-      let stands = has_record table count (stand_after file table count) in
+      let stands = has_record table count (position_after file table count) in
       let all = count_meetings table.strings versions.met (end_reading stands versions.cut ++ others) in
-      let ends = count_end stands versions.cut others count (most_records table.kind table.size) most
-      (λ h. record_below table count (stand_after file table count) h) in
+      let ends = count_end stands versions.cut others count (max_records table.kind table.size) most
+      (λ h. record_below table count (position_after file table count) h) in
       let few = readings_few tables in
       omega arith
 
 -- what a lookup has read is bounded by a number of bytes
-record IsFew (size : ℕ) (loader : LoaderLookup) : Type 0 where
+record IsSmallFolder (size : ℕ) (loader : LoaderLookup) : Type 0 where
   few_tried : loader.lookup.compared ≤ loader.chain_words
   few_words : 4 * loader.chain_words ≤ size
   few_records : loader.records ≤ size / 8
 
 -- and so is a walk
-record IsShort (size : ℕ) (walked : Walked) : Type 0 where
+record IsShort (size : ℕ) (walked : ChainResult) : Type 0 where
   few_tried : walked.tried ≤ walked.read
   few_words : 4 * walked.read ≤ size
 
-module _ (file : List ℕ) (scope : Scope) where
+module _ (file : List ℕ) (scope : LookupTables) where
   -- the counts of a hash table of the gABI fit it
   counts_fit : (none short : Bool) → (sysv_nbucket file scope.table.place == 0) ≡ none
       → nat_lt scope.table.size (8 + 4 * sysv_nbucket file scope.table.place + 4 * sysv_nchain file scope.table.place) ≡ short
@@ -115,7 +115,7 @@ module _ (file : List ℕ) (scope : Scope) where
       let fits = ltb-false scope.table.size (8 + 4 * sysv_nbucket file scope.table.place + 4 * sysv_nchain file scope.table.place) s in
       omega arith
 
-  walk_short : (wanted : Wanted) (is_wanted : ℕ → Bool) (size : ℕ) (kind : HashKind) → scope.kind ≡ kind → scope.table.size ≤ size
+  walk_short : (wanted : Wanted) (is_wanted : ℕ → Bool) (size : ℕ) (kind : HashStyle) → scope.kind ≡ kind → scope.table.size ≤ size
       → first_refusal (counts_check file scope ∷ []) ≡ None → IsShort size (walk_in file scope wanted is_wanted)
   unfolding walk_in
   walk_short wanted is_wanted size GnuTable k inside e =
@@ -130,87 +130,87 @@ module _ (file : List ℕ) (scope : Scope) where
       let fits = counts_fit _ _ refl refl k e in
       rw (k, walk_in) (record { few_tried = omega arith; few_words = omega arith })
 
-  told_few : (words : VersionWords) (y size : ℕ) (walked : Walked) (naming : Naming) → IsShort size walked → naming.read ≤ size / 8
-      → IsFew size (told_by file scope words y walked naming)
-  unfolding told_by
+  told_few : (words : VersionWords) (y size : ℕ) (walked : ChainResult) (naming : NumberNameSource) → IsShort size walked → naming.read ≤ size / 8
+      → IsSmallFolder size (named_by_record file scope words y walked naming)
+  unfolding named_by_record
   told_few words y size walked naming short few = go naming.found refl
     where
-      go : (found : Option (List ℕ × Met)) → naming.found ≡ found → IsFew size (told_by file scope words y walked naming)
+      go : (found : Option (List ℕ × VisitedRecord)) → naming.found ≡ found → IsSmallFolder size (named_by_record file scope words y walked naming)
       go (Some found) f = named (shown found.0 (name_index file found.1) TOLD_BYTES) refl
         where
-          named : (name : Result Shown Cause) → shown found.0 (name_index file found.1) TOLD_BYTES ≡ name → IsFew size (told_by file scope words y walked naming)
-          named (Ok name) n = rw (f, n, told_by) (record { few_tried = short.few_tried; few_words = short.few_words; few_records = few })
-          named (Err cause) n = rw (f, n, told_by) (record { few_tried = short.few_tried; few_words = short.few_words; few_records = few })
+          named : (name : Result DisplayedName Cause) → shown found.0 (name_index file found.1) TOLD_BYTES ≡ name → IsSmallFolder size (named_by_record file scope words y walked naming)
+          named (Ok name) n = rw (f, n, named_by_record) (record { few_tried = short.few_tried; few_words = short.few_words; few_records = few })
+          named (Err cause) n = rw (f, n, named_by_record) (record { few_tried = short.few_tried; few_words = short.few_words; few_records = few })
       go None f = unnamed naming.refused refl
         where
-          unnamed : (refused : Option Refusal) → naming.refused ≡ refused → IsFew size (told_by file scope words y walked naming)
-          unnamed (Some refusal) r = rw (f, r, told_by) (record { few_tried = short.few_tried; few_words = short.few_words; few_records = few })
-          unnamed None r = rw (f, r, told_by) (record { few_tried = short.few_tried; few_words = short.few_words; few_records = few })
+          unnamed : (refused : Option Refusal) → naming.refused ≡ refused → IsSmallFolder size (named_by_record file scope words y walked naming)
+          unnamed (Some refusal) r = rw (f, r, named_by_record) (record { few_tried = short.few_tried; few_words = short.few_words; few_records = few })
+          unnamed None r = rw (f, r, named_by_record) (record { few_tried = short.few_tried; few_words = short.few_words; few_records = few })
 
-  found_few : (asked : Asked) (records y size : ℕ) (walked : Walked) (words : Option VersionWords) → IsShort size walked → records ≤ size / 8
-      → most_of scope.symbols.records ≤ size / 8 → IsFew size (found_in file scope asked records y walked words)
+  found_few : (asked : Asked) (records y size : ℕ) (walked : ChainResult) (words : Option VersionWords) → IsShort size walked → records ≤ size / 8
+      → max_records_of scope.symbols.records ≤ size / 8 → IsSmallFolder size (found_in file scope asked records y walked words)
   unfolding found_in
   found_few asked records y size walked None short few most =
       record { few_tried = short.few_tried; few_words = short.few_words; few_records = few }
   found_few asked records y size walked (Some words) short few most = go (asked_name asked) refl
     where
-      go : (name : Option (List ℕ)) → asked_name asked ≡ name → IsFew size (found_in file scope asked records y walked (Some words))
+      go : (name : Option (List ℕ)) → asked_name asked ≡ name → IsSmallFolder size (found_in file scope asked records y walked (Some words))
       go (Some version) n = rw (n, found_in) (record { few_tried = short.few_tried; few_words = short.few_words; few_records = few })
       go None n =
-          elim (cases_Bool (nat_lt (number_in (versym file (version_word_at words y))) 2)) [
+          elim (cases_Bool (nat_lt (number_in (versym file (versym_at words y))) 2)) [
             | inl small ↦ rw (n, small, found_in) (record { few_tried = short.few_tried; few_words = short.few_words; few_records = few })
             | inr large ↦
-                let naming = naming_of file (number_in (versym file (version_word_at words y))) (readings file scope.symbols.records) in
-                let less = naming_few file (number_in (versym file (version_word_at words y))) (readings file scope.symbols.records) in
+                let naming = naming_of file (number_in (versym file (versym_at words y))) (readings file scope.symbols.records) in
+                let less = naming_few file (number_in (versym file (versym_at words y))) (readings file scope.symbols.records) in
                 let all = readings_few file scope.symbols.records in
                 rw (n, large, found_in) (told_few words y size walked naming short (omega arith))
           ]
 
-  looked_few : (asked : Asked) (records size : ℕ) (walked : Walked) → IsShort size walked → records ≤ size / 8
-      → most_of scope.symbols.records ≤ size / 8 → IsFew size (looked_by file scope asked records walked)
+  looked_few : (asked : Asked) (records size : ℕ) (walked : ChainResult) → IsShort size walked → records ≤ size / 8
+      → max_records_of scope.symbols.records ≤ size / 8 → IsSmallFolder size (looked_by file scope asked records walked)
   unfolding looked_by
   looked_few asked records size walked short few most = go walked.answer refl
     where
-      go : (answer : Result (Option ℕ) Refusal) → walked.answer ≡ answer → IsFew size (looked_by file scope asked records walked)
+      go : (answer : Result (Option ℕ) Refusal) → walked.answer ≡ answer → IsSmallFolder size (looked_by file scope asked records walked)
       go (Err refusal) a = rw (a, looked_by) (record { few_tried = short.few_tried; few_words = short.few_words; few_records = few })
       go (Ok None) a = rw (a, looked_by) (record { few_tried = short.few_tried; few_words = short.few_words; few_records = few })
       go (Ok (Some y)) a = rw (a, looked_by) (found_few asked records y size walked scope.symbols.words short few most)
 
-  numbers_few : (asked : Asked) (size : ℕ) → most_of scope.symbols.records ≤ size / 8 → (wanted_numbers file scope asked).read ≤ size / 8
-  unfolding wanted_numbers
+  numbers_few : (asked : Asked) (size : ℕ) → max_records_of scope.symbols.records ≤ size / 8 → (version_indices file scope asked).read ≤ size / 8
+  unfolding version_indices
   numbers_few asked size most = go (asked_name asked) refl
     where
-      go : (name : Option (List ℕ)) → asked_name asked ≡ name → (wanted_numbers file scope asked).read ≤ size / 8
-      go None n = rw (n, wanted_numbers) (omega arith)
+      go : (name : Option (List ℕ)) → asked_name asked ≡ name → (version_indices file scope asked).read ≤ size / 8
+      go None n = rw (n, version_indices) (omega arith)
       go (Some version) n = worded scope.symbols.words refl
         where
-          worded : (words : Option VersionWords) → scope.symbols.words ≡ words → (wanted_numbers file scope asked).read ≤ size / 8
-          worded None w = rw (n, w, wanted_numbers) (omega arith)
+          worded : (words : Option VersionWords) → scope.symbols.words ≡ words → (version_indices file scope asked).read ≤ size / 8
+          worded None w = rw (n, w, version_indices) (omega arith)
           worded (Some words) w =
               let less = compared_few file version (readings file scope.symbols.records) in
               let all = readings_few file scope.symbols.records in
-              rw (n, w, wanted_numbers) (omega arith)
+              rw (n, w, version_indices) (omega arith)
 
-  loaded_few : (wanted : Wanted) (size : ℕ) → IsInside size scope → IsFew size (loaded_in file scope wanted)
+  loaded_few : (wanted : Wanted) (size : ℕ) → IsInside size scope → IsSmallFolder size (loaded_in file scope wanted)
   unfolding loaded_in
-  loaded_few wanted size inside = go (first_refusal (counts_check file scope ∷ [])) (wanted_numbers file scope wanted.asked).refused refl refl
+  loaded_few wanted size inside = go (first_refusal (counts_check file scope ∷ [])) (version_indices file scope wanted.asked).refused refl refl
     where
       go : (shape refused : Option Refusal) → first_refusal (counts_check file scope ∷ []) ≡ shape
-          → (wanted_numbers file scope wanted.asked).refused ≡ refused → IsFew size (loaded_in file scope wanted)
+          → (version_indices file scope wanted.asked).refused ≡ refused → IsSmallFolder size (loaded_in file scope wanted)
       go (Some refusal) refused s r = rw (s, loaded_in) (record { few_tried = omega arith; few_words = omega arith; few_records = omega arith })
       go None (Some refusal) s r =
           let few = numbers_few wanted.asked size inside.few_records in
           rw (s, r, loaded_in) (record { few_tried = omega arith; few_words = omega arith; few_records = few })
       go None None s r =
           let few = numbers_few wanted.asked size inside.few_records in
-          let short = walk_short wanted (λ number. is_among number (wanted_numbers file scope wanted.asked).numbers) size _ refl inside.table_inside s in
-          rw (s, r, loaded_in) (looked_few wanted.asked (wanted_numbers file scope wanted.asked).read size _ short few inside.few_records)
+          let short = walk_short wanted (λ number. is_among number (version_indices file scope wanted.asked).numbers) size _ refl inside.table_inside s in
+          rw (s, r, loaded_in) (looked_few wanted.asked (version_indices file scope wanted.asked).read size _ short few inside.few_records)
 
-looked_up_few : (file : List ℕ) (headers : ℕ) (wanted : Wanted) → IsFew (length file) (loader_looked file headers wanted)
+looked_up_few : (file : List ℕ) (headers : ℕ) (wanted : Wanted) → IsSmallFolder (length file) (loader_looked file headers wanted)
 unfolding loader_looked
-looked_up_few file headers wanted = go (scope_of file headers) refl
+looked_up_few file headers wanted = go (lookup_tables_of file headers) refl
   where
-    go : (scope : Result Scope Refusal) → scope_of file headers ≡ scope → IsFew (length file) (loader_looked file headers wanted)
+    go : (scope : Result LookupTables Refusal) → lookup_tables_of file headers ≡ scope → IsSmallFolder (length file) (loader_looked file headers wanted)
     go (Err refusal) s = rw (s, loader_looked) (record { few_tried = omega arith; few_words = omega arith; few_records = omega arith })
     go (Ok scope) s = rw (s, loader_looked) (loaded_few file scope wanted (length file) (scope_inside file headers scope s))
 

@@ -1,29 +1,29 @@
 -- A loader's lookup: a symbol that is found is one to take.
 use Rattle.std.proofs.Common.{◌≡◌, ℕ, Bool, true, false, nat_lt, List, [], ◌∷◌, Option, None, Some, Result, Ok, Err, inl, inr, refl}
 use Rattle.std.proofs.lemmas.Bool.{cases_Bool}
-use Rattle.elf_model.specs.Chains.{Walked}
+use Rattle.elf_model.specs.Chains.{ChainResult}
 use Rattle.elf_model.specs.Checks.{first_refusal}
 use Rattle.elf_model.specs.GnuHash.{gnu_hash}
 use Rattle.elf_model.specs.Hash.{sysv_hash, Found, Refused}
-use Rattle.elf_model.specs.Loader.{Wanted, Asked, asked_name, VersionWords, version_word_at, Symbols, symbol_offset, is_offered, version_fits, answers, Naming, is_among}
-use Rattle.elf_model.specs.LoaderFind.{counts_check, walk_in, told_by, found_in, looked_by, wanted_numbers, loaded_in, loader_looked, TOLD_BYTES}
+use Rattle.elf_model.specs.Loader.{Wanted, Asked, asked_name, VersionWords, versym_at, Symbols, symbol_offset, is_exported, version_fits, answers, NumberNameSource, is_among}
+use Rattle.elf_model.specs.LoaderFind.{counts_check, walk_in, named_by_record, found_in, looked_by, version_indices, loaded_in, loader_looked, TOLD_BYTES}
 use Rattle.elf_model.specs.LoaderLaws.{IsTaken, LoaderFoundIsTaken}
-use Rattle.elf_model.specs.LoaderScope.{HashKind, GnuTable, SysvTable, Scope, scope_of}
-use Rattle.elf_model.specs.Names.{Shown, same, shown}
+use Rattle.elf_model.specs.LoaderScope.{HashStyle, GnuTable, SysvTable, LookupTables, lookup_tables_of}
+use Rattle.elf_model.specs.Names.{DisplayedName, same, shown}
 use Rattle.elf_model.specs.Records.{st_name, versym}
-use Rattle.elf_model.specs.Versions.{Met, number_in, name_index}
+use Rattle.elf_model.specs.Versions.{VisitedRecord, number_in, name_index}
 use Rattle.elf_model.specs.declared.causes.Cause.{Cause}
 use Rattle.elf_model.specs.declared.causes.Refusal.{Refusal}
 use Rattle.elf_model.proofs.GnuHashLaws.{gnu_found_answers}
 use Rattle.elf_model.proofs.SysvWalkLaws.{sysv_found_answers}
 
 -- an answer is that a symbol is found, told in this way
-record IsSymbol (scope : Scope) (y section index symbol : ℕ) : Type 0 where
+record IsSymbol (scope : LookupTables) (y section index symbol : ℕ) : Type 0 where
   section_is : section ≡ scope.symbols.index
   index_is : index ≡ y
   symbol_is : symbol ≡ symbol_offset scope.symbols y
 
-is_symbol : (scope : Scope) (y section index symbol : ℕ)
+is_symbol : (scope : LookupTables) (y section index symbol : ℕ)
     → Found scope.symbols.index y (symbol_offset scope.symbols y) ≡ Found section index symbol → IsSymbol scope y section index symbol
 is_symbol scope y section index symbol e = record { section_is = cc; index_is = cc; symbol_is = cc }
 
@@ -34,12 +34,12 @@ not_refused refusal section index symbol e = cc
 module _ (file : List ℕ) (symbols : Symbols) (wanted : Wanted) (is_wanted : ℕ → Bool) (y : ℕ) where
   record Parts : Type 0 where
     named : same symbols.strings (st_name file (symbol_offset symbols y)) wanted.name ≡ Ok true
-    offered : is_offered file (symbol_offset symbols y) ≡ true
+    offered : is_exported file (symbol_offset symbols y) ≡ true
     fitting : version_fits file symbols.words wanted.asked is_wanted y ≡ Ok true
 
   parts_by :
       (equal : Result Bool Cause) (offered : Bool) → same symbols.strings (st_name file (symbol_offset symbols y)) wanted.name ≡ equal
-      → is_offered file (symbol_offset symbols y) ≡ offered → answers file symbols wanted is_wanted y ≡ Ok true → Parts
+      → is_exported file (symbol_offset symbols y) ≡ offered → answers file symbols wanted is_wanted y ≡ Ok true → Parts
   unfolding answers
   parts_by (Err cause) offered n o e = absurd (let a = rw (n, answers) at e in cc)
   parts_by (Ok false) offered n o e = absurd (let a = rw (n, answers) at e in cc)
@@ -50,7 +50,7 @@ module _ (file : List ℕ) (symbols : Symbols) (wanted : Wanted) (is_wanted : �
   answer_parts e = parts_by _ _ refl refl e
 
 -- a symbol that a walk of either kind gives answers
-walk_by : (file : List ℕ) (scope : Scope) (wanted : Wanted) (is_wanted : ℕ → Bool) (y : ℕ) (kind : HashKind) → scope.kind ≡ kind
+walk_by : (file : List ℕ) (scope : LookupTables) (wanted : Wanted) (is_wanted : ℕ → Bool) (y : ℕ) (kind : HashStyle) → scope.kind ≡ kind
     → (walk_in file scope wanted is_wanted).answer ≡ Ok (Some y) → answers file scope.symbols wanted is_wanted y ≡ Ok true
 unfolding walk_in
 walk_by file scope wanted is_wanted y GnuTable k e =
@@ -60,31 +60,31 @@ walk_by file scope wanted is_wanted y SysvTable k e =
     sysv_found_answers file scope.table (sysv_hash wanted.name) (answers file scope.symbols wanted is_wanted) y (rw (k, walk_in) at e)
 
 -- the symbol that is told is the one that the walk gives
-module _ (file : List ℕ) (scope : Scope) (words : VersionWords) (y : ℕ) (walked : Walked) where
+module _ (file : List ℕ) (scope : LookupTables) (words : VersionWords) (y : ℕ) (walked : ChainResult) where
   told-shown :
-      (naming : Naming) (found : List ℕ × Met) → naming.found ≡ Some found
-      → (name : Result Shown Cause) → shown found.0 (name_index file found.1) TOLD_BYTES ≡ name
-      → (section index symbol : ℕ) → (told_by file scope words y walked naming).lookup.answer ≡ Found section index symbol
+      (naming : NumberNameSource) (found : List ℕ × VisitedRecord) → naming.found ≡ Some found
+      → (name : Result DisplayedName Cause) → shown found.0 (name_index file found.1) TOLD_BYTES ≡ name
+      → (section index symbol : ℕ) → (named_by_record file scope words y walked naming).lookup.answer ≡ Found section index symbol
       → IsSymbol scope y section index symbol
-  unfolding told_by
-  told-shown naming found f (Ok name) n section index symbol e = is_symbol scope y section index symbol (rw (f, n, told_by) at e)
-  told-shown naming found f (Err cause) n section index symbol e = absurd (not_refused _ section index symbol (rw (f, n, told_by) at e))
+  unfolding named_by_record
+  told-shown naming found f (Ok name) n section index symbol e = is_symbol scope y section index symbol (rw (f, n, named_by_record) at e)
+  told-shown naming found f (Err cause) n section index symbol e = absurd (not_refused _ section index symbol (rw (f, n, named_by_record) at e))
 
   told-unnamed :
-      (naming : Naming) (refused : Option Refusal) → naming.found ≡ None → naming.refused ≡ refused
-      → (section index symbol : ℕ) → (told_by file scope words y walked naming).lookup.answer ≡ Found section index symbol → ⊥
-  unfolding told_by
-  told-unnamed naming (Some refusal) f r section index symbol e = not_refused refusal section index symbol (rw (f, r, told_by) at e)
-  told-unnamed naming None f r section index symbol e = not_refused _ section index symbol (rw (f, r, told_by) at e)
+      (naming : NumberNameSource) (refused : Option Refusal) → naming.found ≡ None → naming.refused ≡ refused
+      → (section index symbol : ℕ) → (named_by_record file scope words y walked naming).lookup.answer ≡ Found section index symbol → ⊥
+  unfolding named_by_record
+  told-unnamed naming (Some refusal) f r section index symbol e = not_refused refusal section index symbol (rw (f, r, named_by_record) at e)
+  told-unnamed naming None f r section index symbol e = not_refused _ section index symbol (rw (f, r, named_by_record) at e)
 
-  told_is :
-      (naming : Naming) (found : Option (List ℕ × Met)) → naming.found ≡ found
-      → (section index symbol : ℕ) → (told_by file scope words y walked naming).lookup.answer ≡ Found section index symbol
+  reported_is :
+      (naming : NumberNameSource) (found : Option (List ℕ × VisitedRecord)) → naming.found ≡ found
+      → (section index symbol : ℕ) → (named_by_record file scope words y walked naming).lookup.answer ≡ Found section index symbol
       → IsSymbol scope y section index symbol
-  told_is naming (Some found) f section index symbol e = told-shown naming found f _ refl section index symbol e
-  told_is naming None f section index symbol e = absurd (told-unnamed naming _ f refl section index symbol e)
+  reported_is naming (Some found) f section index symbol e = told-shown naming found f _ refl section index symbol e
+  reported_is naming None f section index symbol e = absurd (told-unnamed naming _ f refl section index symbol e)
 
-module _ (file : List ℕ) (scope : Scope) (asked : Asked) (records y : ℕ) (walked : Walked) where
+module _ (file : List ℕ) (scope : LookupTables) (asked : Asked) (records y : ℕ) (walked : ChainResult) where
   found-with :
       (words : VersionWords) (name : Option (List ℕ)) → asked_name asked ≡ name
       → (section index symbol : ℕ) → (found_in file scope asked records y walked (Some words)).lookup.answer ≡ Found section index symbol
@@ -92,9 +92,9 @@ module _ (file : List ℕ) (scope : Scope) (asked : Asked) (records y : ℕ) (wa
   unfolding found_in
   found-with words (Some version) n section index symbol e = is_symbol scope y section index symbol (rw (n, found_in) at e)
   found-with words None n section index symbol e =
-      elim (cases_Bool (nat_lt (number_in (versym file (version_word_at words y))) 2)) [
+      elim (cases_Bool (nat_lt (number_in (versym file (versym_at words y))) 2)) [
         | inl small ↦ is_symbol scope y section index symbol (rw (n, small, found_in) at e)
-        | inr large ↦ told_is file scope words y walked _ _ refl section index symbol (rw (n, large, found_in) at e)
+        | inr large ↦ reported_is file scope words y walked _ _ refl section index symbol (rw (n, large, found_in) at e)
       ]
 
   found_is :
@@ -106,12 +106,12 @@ module _ (file : List ℕ) (scope : Scope) (asked : Asked) (records y : ℕ) (wa
   found_is (Some words) section index symbol e = found-with words _ refl section index symbol e
 
 -- what a walk gives where a symbol is found
-record FoundBy (scope : Scope) (walked : Walked) (section index symbol : ℕ) : Type 0 where
+record FoundBy (scope : LookupTables) (walked : ChainResult) (section index symbol : ℕ) : Type 0 where
   gives : walked.answer ≡ Ok (Some index)
   section_is : section ≡ scope.symbols.index
   symbol_is : symbol ≡ symbol_offset scope.symbols index
 
-module _ (file : List ℕ) (scope : Scope) (asked : Asked) (records : ℕ) (walked : Walked) where
+module _ (file : List ℕ) (scope : LookupTables) (asked : Asked) (records : ℕ) (walked : ChainResult) where
   found_by :
       (answer : Result (Option ℕ) Refusal) → walked.answer ≡ answer
       → (section index symbol : ℕ) → (looked_by file scope asked records walked).lookup.answer ≡ Found section index symbol
@@ -128,13 +128,13 @@ module _ (file : List ℕ) (scope : Scope) (asked : Asked) (records : ℕ) (walk
         symbol_is = rw same_index (is.symbol_is);
       }
 
-module _ (file : List ℕ) (scope : Scope) (wanted : Wanted) where
+module _ (file : List ℕ) (scope : LookupTables) (wanted : Wanted) where
   is_wanted : ℕ → Bool
-  is_wanted number = is_among number (wanted_numbers file scope wanted.asked).numbers
+  is_wanted number = is_among number (version_indices file scope wanted.asked).numbers
 
   loaded_by :
       (shape refused : Option Refusal) → first_refusal (counts_check file scope ∷ []) ≡ shape
-      → (wanted_numbers file scope wanted.asked).refused ≡ refused
+      → (version_indices file scope wanted.asked).refused ≡ refused
       → (section index symbol : ℕ) → (loaded_in file scope wanted).lookup.answer ≡ Found section index symbol
       → FoundBy scope (walk_in file scope wanted is_wanted) section index symbol
   unfolding loaded_in is_wanted
@@ -145,7 +145,7 @@ module _ (file : List ℕ) (scope : Scope) (wanted : Wanted) where
 
 module _ (file : List ℕ) (headers : ℕ) (wanted : Wanted) where
   taken_by :
-      (scope : Result Scope Refusal) → scope_of file headers ≡ scope
+      (scope : Result LookupTables Refusal) → lookup_tables_of file headers ≡ scope
       → (section index symbol : ℕ) → (loader_looked file headers wanted).lookup.answer ≡ Found section index symbol
       → IsTaken file headers wanted section index symbol
   unfolding loader_looked is_wanted
@@ -158,7 +158,7 @@ module _ (file : List ℕ) (headers : ℕ) (wanted : Wanted) where
       record {
         scope = scope;
         is_scope = s;
-        told_by = by.section_is;
+        named_by_record = by.section_is;
         place = place;
         named = rw place parts.named;
         offered = rw place parts.offered;

@@ -6,15 +6,15 @@ use Rattle.std.proofs.lemmas.Nat.{le-div}
 use Rattle.std.specs.Prelude.{is_none}
 use Rattle.elf_model.specs.Checks.{Check, refuse, first_refusal, unless_empty, table_checks, is_outside, header_checks, load_checks}
 use Rattle.elf_model.specs.Find.{hash_checks_from}
-use Rattle.elf_model.specs.Loader.{RecordTable}
-use Rattle.elf_model.specs.LoaderScope.{HashKind, least_size, Scope, hash_section, checks_of_type, words_section, version_checks, section_checks, records_of_type, section_words, records_with, section_scope, dynamic_segment_index, tagged_row, rest_checks, rest_place, rest_size, hash_row, words_row, checks_of_row, rows_checks, has_wide_kind, segment_checks, segment_strings, segment_words, records_of_tag, segment_scope, scope_by_sections, scope_in_segment, scope_in_segments, scope_by_segments, scope_of}
+use Rattle.elf_model.specs.Loader.{VersionRecordTable}
+use Rattle.elf_model.specs.LoaderScope.{HashStyle, least_size, LookupTables, hash_section, checks_of_type, words_section, version_checks, section_checks, records_of_type, section_words, records_with, section_lookup_tables, dynamic_segment_index, tagged_row, rest_checks, rest_place, rest_size, hash_row, words_row, checks_of_row, rows_checks, has_wide_kind, segment_checks, segment_strings, segment_words, records_of_tag, segment_lookup_tables, scope_by_sections, scope_in_segment, scope_in_segments, lookup_tables_by_segments, lookup_tables_of}
 use Rattle.elf_model.specs.Mapped.{mapped_at, mapped_checks}
 use Rattle.elf_model.specs.Numbers.{SHT_GNU_VERDEF, SHT_GNU_VERNEED, DT_SYMTAB, DT_STRTAB, DT_STRSZ, DT_VERDEF, DT_VERNEED}
 use Rattle.elf_model.specs.Overlaps.{overlap_checks}
 use Rattle.elf_model.specs.Records.{e_shnum, sh_offset, sh_size, sh_link, section_at, segment_at, p_offset, p_filesz, d_un}
 use Rattle.elf_model.specs.Tables.{all_checks, strings_of, segment_dynamic_checks}
 use Rattle.elf_model.specs.VersionRows.{first_of_type, version_table}
-use Rattle.elf_model.specs.Versions.{VERSYM_SIZE, record_size, most_records}
+use Rattle.elf_model.specs.Versions.{VERSYM_SIZE, record_size, max_records}
 use Rattle.elf_model.specs.declared.causes.Cause.TheVariants.{BadLink, HashShape, Unmapped}
 use Rattle.elf_model.specs.declared.causes.Refusal.{Refusal}
 use Rattle.elf_model.specs.declared.versions.VersionKind.{VersionKind}
@@ -22,14 +22,14 @@ use Rattle.elf_model.specs.declared.versions.VersionKind.TheVariants.{Definition
 use Rattle.elf_model.proofs.CheckSteps.{first_refusal-back, passes_front}
 
 -- how many records some tables have at most
-unfoldable pub most_of : List RecordTable → ℕ
-most_of [] = 0
-most_of (table ∷ tables) = most_records table.kind table.size + most_of tables
+unfoldable pub max_records_of : List VersionRecordTable → ℕ
+max_records_of [] = 0
+max_records_of (table ∷ tables) = max_records table.kind table.size + max_records_of tables
 
 -- the hash table and the records of versions lie within the file
-pub record IsInside (size : ℕ) (scope : Scope) : Type 0 where
+pub record IsInside (size : ℕ) (scope : LookupTables) : Type 0 where
   pub table_inside : scope.table.size ≤ size
-  pub few_records : most_of scope.symbols.records ≤ size / 8
+  pub few_records : max_records_of scope.symbols.records ≤ size / 8
 
 -- fewer bytes have fewer records
 fewer : (a b each : ℕ) → 0 < each → a ≤ b → a / each ≤ b / each
@@ -47,7 +47,7 @@ module _ (file : List ℕ) where
   outside_no : (at : ℕ) → is_outside (length file) (sh_offset file at) (sh_size file at) ≡ false → sh_size file at ≤ length file
   outside_no at o = let low = ltb-false (length file) (sh_offset file at + sh_size file at) o in omega arith
 
-  hash_inside : (kind : HashKind) (at : ℕ) (outside : Bool) → is_outside (length file) (sh_offset file at) (sh_size file at) ≡ outside
+  hash_inside : (kind : HashStyle) (at : ℕ) (outside : Bool) → is_outside (length file) (sh_offset file at) (sh_size file at) ≡ outside
       → first_refusal (section_checks file kind at) ≡ None → sh_size file at ≤ length file
   hash_inside kind at true o e = absurd (let a = rw o at e in cc)
   hash_inside kind at false o e = outside_no at o
@@ -62,11 +62,11 @@ module _ (file : List ℕ) where
   checks_then : (type i : ℕ) (checks : ℕ → List Check) → first_of_type file type ≡ Some i → checks_of_type file type checks ≡ checks (section_at file i)
   checks_then type i checks f = rw (f, checks_of_type) refl
 
-  type_few : (type each : ℕ) (kind : VersionKind) (others : List RecordTable) → record_size kind ≡ each → 0 < each
+  type_few : (type each : ℕ) (kind : VersionKind) (others : List VersionRecordTable) → record_size kind ≡ each → 0 < each
       → (found : Option ℕ) → first_of_type file type ≡ found
       → first_refusal (checks_of_type file type (all_checks version_table file)) ≡ None
-      → most_of (records_of_type file type kind others) ≤ length file / each + most_of others
-  unfolding most_of
+      → max_records_of (records_of_type file type kind others) ≤ length file / each + max_records_of others
+  unfolding max_records_of
   type_few type each kind others size some None f e =
       let same : records_of_type file type kind others ≡ others = rw (f, records_of_type) refl in
       rw same (omega arith)
@@ -74,7 +74,7 @@ module _ (file : List ℕ) where
       let at = section_at file i in
       let le = records_inside at _ _ refl refl (ap first_refusal (sym (checks_then type i (all_checks version_table file) f)) ∙ e) in
       let few : sh_size file at / record_size kind ≤ length file / each = rw size (fewer (sh_size file at) (length file) each some le) in
-      let table : RecordTable
+      let table : VersionRecordTable
       = record { kind = kind; head = at; place = sh_offset file at; size = sh_size file at; strings = strings_of file at } in
       let same : records_of_type file type kind others ≡ table ∷ others = rw (f, records_of_type) refl in
       rw same (omega arith)
@@ -97,10 +97,10 @@ module _ (file : List ℕ) where
   words_then at i f = rw (f, version_checks) refl
 
   words_inside : (at : ℕ) (found : Option ℕ) → words_section file ≡ found → first_refusal (version_checks file at) ≡ None
-      → most_of
+      → max_records_of
       (records_with (section_words file) (records_of_type file SHT_GNU_VERDEF Definition (records_of_type file SHT_GNU_VERNEED File [])))
       ≤ length file / 8
-  unfolding section_words most_of definitions_checks needs_checks
+  unfolding section_words max_records_of definitions_checks needs_checks
   words_inside at None f e = rw (f, section_words) (omega arith)
   words_inside at (Some i) f e =
       let all : first_refusal (words_front at i ++ definitions_checks ++ needs_checks) ≡ None = ap first_refusal (sym (words_then at i f)) ∙ e in
@@ -112,8 +112,8 @@ module _ (file : List ℕ) where
       let both = both_few (length file) in
       rw (f, section_words) (omega arith)
 
-  section_inside : (kind : HashKind) (at : ℕ) → first_refusal (section_checks file kind at) ≡ None → IsInside (length file) (section_scope file kind at)
-  unfolding section_scope
+  section_inside : (kind : HashStyle) (at : ℕ) → first_refusal (section_checks file kind at) ≡ None → IsInside (length file) (section_lookup_tables file kind at)
+  unfolding section_lookup_tables
   section_inside kind at e = record {
     table_inside = hash_inside kind at _ refl e;
     few_records = words_inside at _ refl (first_refusal-back (hash_checks_from (least_size kind) file at) (version_checks file at) e);
@@ -136,18 +136,18 @@ module _ (file : List ℕ) where
   rest_inside : (row : ℕ) → first_refusal (rest_checks file row) ≡ None → rest_size file row ≤ length file
   rest_inside row e = rest_by row _ refl e
 
-  tag_few : (at tag each : ℕ) (kind : VersionKind) (others : List RecordTable) → record_size kind ≡ each → 0 < each
+  tag_few : (at tag each : ℕ) (kind : VersionKind) (others : List VersionRecordTable) → record_size kind ≡ each → 0 < each
       → (found : Option ℕ) → tagged_row file at tag ≡ found
       → first_refusal (checks_of_row (tagged_row file at tag) (rest_checks file)) ≡ None
-      → most_of (records_of_tag file at tag kind others) ≤ length file / each + most_of others
-  unfolding most_of
+      → max_records_of (records_of_tag file at tag kind others) ≤ length file / each + max_records_of others
+  unfolding max_records_of
   tag_few at tag each kind others size some None f e =
       let same : records_of_tag file at tag kind others ≡ others = rw (f, records_of_tag) refl in
       rw same (omega arith)
   tag_few at tag each kind others size some (Some row) f e =
       let le = rest_inside row (rw f at e) in
       let few : rest_size file row / record_size kind ≤ length file / each = rw size (fewer (rest_size file row) (length file) each some le) in
-      let table : RecordTable
+      let table : VersionRecordTable
       = record { kind = kind; head = row; place = rest_place file row; size = rest_size file row; strings = segment_strings file at } in
       let same : records_of_tag file at tag kind others ≡ table ∷ others = rw (f, records_of_tag) refl in
       rw same (omega arith)
@@ -199,11 +199,11 @@ module _ (file : List ℕ) where
       )
 
   rows_inside : (index at table_row : ℕ) (found : Option ℕ) → words_row file at ≡ found → first_refusal (rows_checks file at table_row) ≡ None
-      → most_of
+      → max_records_of
       (records_with (segment_words file index at)
       (records_of_tag file at DT_VERDEF Definition (records_of_tag file at DT_VERNEED File [])))
       ≤ length file / 8
-  unfolding segment_words most_of
+  unfolding segment_words max_records_of
   rows_inside index at table_row None f e = rw (f, segment_words) (omega arith)
   rows_inside index at table_row (Some row) f e =
       let behind = rows_then at row f (rows_later at table_row _ refl e) in
@@ -212,13 +212,13 @@ module _ (file : List ℕ) where
       let both = both_few (length file) in
       rw (f, segment_words) (omega arith)
 
-  sized_rest : (kind : HashKind) (table_row : ℕ) → List Check
+  sized_rest : (kind : HashStyle) (table_row : ℕ) → List Check
   sized_rest kind table_row =
       rest_checks file table_row ++ (refuse (nat_lt (rest_size file table_row) (least_size kind) || has_wide_kind file kind) table_row HashShape ∷ [])
 
-  segment_inside : (kind : HashKind) (index at table_row : ℕ) → first_refusal (segment_checks file kind at table_row) ≡ None
-      → IsInside (length file) (segment_scope file kind index at table_row)
-  unfolding segment_scope segment_checks sized_rest
+  segment_inside : (kind : HashStyle) (index at table_row : ℕ) → first_refusal (segment_checks file kind at table_row) ≡ None
+      → IsInside (length file) (segment_lookup_tables file kind index at table_row)
+  unfolding segment_lookup_tables segment_checks sized_rest
   segment_inside kind index at table_row e = record {
     table_inside = rest_inside table_row
         (passes_front (rest_checks file table_row) _ (passes_front (sized_rest kind table_row) (rows_checks file at table_row) e));
@@ -227,7 +227,7 @@ module _ (file : List ℕ) where
 
 -- Where a lookup is made.
 module _ (file : List ℕ) where
-  sections_by : (found : Option (HashKind × ℕ)) → hash_section file ≡ found → (scope : Scope) → scope_by_sections file ≡ Ok scope
+  sections_by : (found : Option (HashStyle × ℕ)) → hash_section file ≡ found → (scope : LookupTables) → scope_by_sections file ≡ Ok scope
       → IsInside (length file) scope
   unfolding scope_by_sections
   sections_by None f scope e = absurd (let a = rw (f, scope_by_sections) at e in cc)
@@ -236,12 +236,12 @@ module _ (file : List ℕ) where
       go : (refusal : Option Refusal) → first_refusal (section_checks file found.0 found.1) ≡ refusal → IsInside (length file) scope
       go (Some refusal) r = absurd (let a = rw (f, r, scope_by_sections) at e in cc)
       go None r =
-          let same : Ok (section_scope file found.0 found.1) ≡ Ok scope = rw (f, r, scope_by_sections) at e in
-          let is : section_scope file found.0 found.1 ≡ scope = cc in
+          let same : Ok (section_lookup_tables file found.0 found.1) ≡ Ok scope = rw (f, r, scope_by_sections) at e in
+          let is : section_lookup_tables file found.0 found.1 ≡ scope = cc in
           rw (← is) (section_inside file found.0 found.1 r)
 
-  segment_by : (index at : ℕ) (refusal : Option Refusal) (found : Option (HashKind × ℕ)) → first_refusal (segment_dynamic_checks file at) ≡ refusal
-      → hash_row file at ≡ found → (scope : Scope) → scope_in_segment file index at ≡ Ok scope → IsInside (length file) scope
+  segment_by : (index at : ℕ) (refusal : Option Refusal) (found : Option (HashStyle × ℕ)) → first_refusal (segment_dynamic_checks file at) ≡ refusal
+      → hash_row file at ≡ found → (scope : LookupTables) → scope_in_segment file index at ≡ Ok scope → IsInside (length file) scope
   unfolding scope_in_segment
   segment_by index at (Some refusal) found d f scope e = absurd (let a = rw (d, scope_in_segment) at e in cc)
   segment_by index at None None d f scope e = absurd (let a = rw (d, f, scope_in_segment) at e in cc)
@@ -250,29 +250,29 @@ module _ (file : List ℕ) where
       go : (refusal : Option Refusal) → first_refusal (segment_checks file found.0 at found.1) ≡ refusal → IsInside (length file) scope
       go (Some refusal) r = absurd (let a = rw (d, f, r, scope_in_segment) at e in cc)
       go None r =
-          let same : Ok (segment_scope file found.0 index at found.1) ≡ Ok scope = rw (d, f, r, scope_in_segment) at e in
-          let is : segment_scope file found.0 index at found.1 ≡ scope = cc in
+          let same : Ok (segment_lookup_tables file found.0 index at found.1) ≡ Ok scope = rw (d, f, r, scope_in_segment) at e in
+          let is : segment_lookup_tables file found.0 index at found.1 ≡ scope = cc in
           rw (← is) (segment_inside file found.0 index at found.1 r)
 
-  segments_by : (found : Option ℕ) → dynamic_segment_index file ≡ found → (scope : Scope) → scope_in_segments file ≡ Ok scope
+  segments_by : (found : Option ℕ) → dynamic_segment_index file ≡ found → (scope : LookupTables) → scope_in_segments file ≡ Ok scope
       → IsInside (length file) scope
   unfolding scope_in_segments
   segments_by None f scope e = absurd (let a = rw (f, scope_in_segments) at e in cc)
   segments_by (Some index) f scope e =
       segment_by index (segment_at file index) _ _ refl refl scope (rw (f, scope_in_segments) at e)
 
-  apart_by : (refusal : Option Refusal) → first_refusal (overlap_checks file) ≡ refusal → (scope : Scope) → scope_by_segments file ≡ Ok scope
+  apart_by : (refusal : Option Refusal) → first_refusal (overlap_checks file) ≡ refusal → (scope : LookupTables) → lookup_tables_by_segments file ≡ Ok scope
       → IsInside (length file) scope
-  unfolding scope_by_segments
-  apart_by (Some refusal) r scope e = absurd (let a = rw (r, scope_by_segments) at e in cc)
-  apart_by None r scope e = segments_by _ refl scope (rw (r, scope_by_segments) at e)
+  unfolding lookup_tables_by_segments
+  apart_by (Some refusal) r scope e = absurd (let a = rw (r, lookup_tables_by_segments) at e in cc)
+  apart_by None r scope e = segments_by _ refl scope (rw (r, lookup_tables_by_segments) at e)
 
   scopes_by : (headers : ℕ) (refusal : Option Refusal) (none : Bool) → first_refusal (header_checks file ++ load_checks file headers) ≡ refusal
-      → (e_shnum file == 0) ≡ none → (scope : Scope) → scope_of file headers ≡ Ok scope → IsInside (length file) scope
-  unfolding scope_of
-  scopes_by headers (Some refusal) none r n scope e = absurd (let a = rw (r, scope_of) at e in cc)
-  scopes_by headers None true r n scope e = apart_by _ refl scope (rw (r, n, scope_of) at e)
-  scopes_by headers None false r n scope e = sections_by _ refl scope (rw (r, n, scope_of) at e)
+      → (e_shnum file == 0) ≡ none → (scope : LookupTables) → lookup_tables_of file headers ≡ Ok scope → IsInside (length file) scope
+  unfolding lookup_tables_of
+  scopes_by headers (Some refusal) none r n scope e = absurd (let a = rw (r, lookup_tables_of) at e in cc)
+  scopes_by headers None true r n scope e = apart_by _ refl scope (rw (r, n, lookup_tables_of) at e)
+  scopes_by headers None false r n scope e = sections_by _ refl scope (rw (r, n, lookup_tables_of) at e)
 
-  pub scope_inside : (headers : ℕ) (scope : Scope) → scope_of file headers ≡ Ok scope → IsInside (length file) scope
+  pub scope_inside : (headers : ℕ) (scope : LookupTables) → lookup_tables_of file headers ≡ Ok scope → IsInside (length file) scope
   scope_inside headers scope e = scopes_by headers _ _ refl refl scope e

@@ -2,15 +2,15 @@
 use Rattle.std.proofs.Common.{◌≡◌, ℕ, suc, ◌+◌, ◌<◌, ◌≤◌, List, [], ◌∷◌, ◌++◌, length, take, drop, Some, None, Ok, Err, ◌⊎◌, inl, inr, refl, ap, sym, ◌∙◌, arith, length-append, length-take, length-drop, zero-le}
 use Rattle.std.proofs.lemmas.List.{take_at, take-take, append_assoc, take_all}
 use Rattle.elf_model.specs.Bytes.{slice}
-use Rattle.elf_model.specs.Names.{nul_in, IsNamed, Name, shown}
-use Rattle.elf_model.specs.Names.Shown.{Whole, Cut}
+use Rattle.elf_model.specs.Names.{nul_in, IsNulTerminatedAt, Name, shown}
+use Rattle.elf_model.specs.Names.DisplayedName.{Whole, Cut}
 use Rattle.elf_model.specs.NameLaws.{IsNameOutside, OneNameAtMost, ShownWholeExactly, ShownCutExactly, ShownOutsideExactly, ShownUnendedExactly, ShownCauses, PadsToPieces}
 use Rattle.elf_model.specs.declared.causes.Cause.TheVariants.{NameOutside, NameUnended}
 use Rattle.elf_model.proofs.Nuls.{free, none-free, free-none, some-free, free-append, free-take, free-within, split_at_nul}
 use Rattle.elf_model.proofs.NameLemmas.{View, is_empty, is_outside, is_whole, is_cut, is_unended, view, named-drop, named-inside, shown-empty, shown-outside}
 
 -- the first NUL at a name's index is the one behind the name
-named-free : (table : List ℕ) (index : ℕ) (name : List ℕ) → IsNamed table index name
+named-free : (table : List ℕ) (index : ℕ) (name : List ℕ) → IsNulTerminatedAt table index name
     → (free (drop index table) ≡ length name) × (length name < length (drop index table)) × (take (length name) (drop index table) ≡ name)
 named-free table index name h =
     let d = named-drop table index name h in
@@ -37,7 +37,7 @@ stands-front bytes name rest cap e =
     sym (take-take n (cap + 1) bytes short) ∙ ap (take n) (e ∙ sym (append_assoc name (0 ∷ []) rest)) ∙ take_at (name ++ 0 ∷ []) rest n refl
 
 front-named : (table : List ℕ) (index cap place : ℕ) → nul_in (slice table index (cap + 1)) ≡ Some place
-    → IsNamed table index (take place (slice table index (cap + 1))) × (length (take place (slice table index (cap + 1))) ≤ cap)
+    → IsNulTerminatedAt table index (take place (slice table index (cap + 1))) × (length (take place (slice table index (cap + 1))) ≤ cap)
 front-named table index cap place h =
     let front : List ℕ = slice table index (cap + 1) in
     let f = some-free front place h in

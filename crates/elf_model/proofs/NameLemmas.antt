@@ -4,8 +4,8 @@ use Rattle.std.proofs.lemmas.List.{take-take, append_assoc, take_all}
 use Rattle.std.proofs.lemmas.Bool.Decides.{nat_tests}
 use Rattle.std.proofs.lemmas.Bool.{cases_lt}
 use Rattle.elf_model.specs.Bytes.{slice}
-use Rattle.elf_model.specs.Names.{nul_in, IsNamed, IsEmptyAtZero, shown, shown_of, is_empty_at_zero}
-use Rattle.elf_model.specs.Names.Shown.{Whole, Cut}
+use Rattle.elf_model.specs.Names.{nul_in, IsNulTerminatedAt, IsEmptyAtZero, shown, shown_of, is_empty_at_zero}
+use Rattle.elf_model.specs.Names.DisplayedName.{Whole, Cut}
 use Rattle.elf_model.specs.NameLaws.{IsNameOutside}
 use Rattle.elf_model.specs.declared.causes.Cause.TheVariants.{NameOutside, NameUnended}
 
@@ -100,13 +100,13 @@ view table index cap = split (place_of table index)
     split (outside h) = is_outside h (shown-outside table index cap h)
 
 -- what stands at a name's index
-pub named-drop : (table : List ℕ) (index : ℕ) (name : List ℕ) → IsNamed table index name → (rest : List ℕ) × (drop index table ≡ name ++ 0 ∷ rest)
+pub named-drop : (table : List ℕ) (index : ℕ) (name : List ℕ) → IsNulTerminatedAt table index name → (rest : List ℕ) × (drop index table ≡ name ++ 0 ∷ rest)
 named-drop table index name h =
     let n : ℕ = length (name ++ 0 ∷ []) in
     let both : (name ++ 0 ∷ []) ++ drop n (drop index table) ≡ drop index table = rw (h.1) at (take-append-drop n (drop index table)) in
     (drop n (drop index table), sym both ∙ append_assoc name (0 ∷ []) (drop n (drop index table)))
 
-pub named-inside : (table : List ℕ) (index : ℕ) (name : List ℕ) → IsNamed table index name → index < length table
+pub named-inside : (table : List ℕ) (index : ℕ) (name : List ℕ) → IsNulTerminatedAt table index name → index < length table
 named-inside table index name h =
     let e = ap length h.1 in
     omega (arith, length-take (length (name ++ 0 ∷ [])) (drop index table), length-drop index table, length-append name (0 ∷ []))

@@ -3,7 +3,7 @@ use Rattle.std.proofs.Common.{min, ◌≡◌, ℕ, suc, zero, ◌+◌, ◌<◌, 
 use Rattle.std.proofs.lemmas.List.{append_assoc, drop_all}
 use Rattle.std.proofs.lemmas.Bool.{cases_lt}
 use Rattle.elf_model.specs.Bytes.{slice}
-use Rattle.elf_model.specs.Notes.{Note, Spelt, Padded, AllPadded, EndsInZeros, EndsInSpelling, Notes, CutAt, Ends, Broken, OneNote, Walk, to_next, padded_size, first_note, first_end, next_note, walked, with_note}
+use Rattle.elf_model.specs.Notes.{Note, Spelt, Padded, AllPadded, EndsInZeros, EndsInSpelling, Notes, CutAt, Ends, Broken, OneNote, NoteScan, bytes_to_alignment, padded_size, first_note, first_end, next_note, walked, with_note}
 use Rattle.elf_model.specs.NoteLaws.{WalkedFits, FittingIsWalked, OneListAtMost, WalkedIsCut, CutIsWalked, FitsOrIsCut}
 use Rattle.elf_model.proofs.Spellings.{NextView, ends, tails, past, found, next_view, next-ends, next-spelt, spelt-size, found-spelt}
 use Rattle.elf_model.proofs.Slices.{slice-size}
@@ -23,7 +23,7 @@ filled-walked a notes table f =
     let end = walk-ends a (0 + length f.front) f.tail (next-ends a f.tail f.few f.zeros) in
     ap (walk a 0) f.parts ∙ all ∙ ap (with_notes notes) end ∙ ap (λ x. whole x) (append-nil notes)
   where
-    whole : List Note → Walk
+    whole : List Note → NoteScan
     whole x = record { notes = x; cut = None }
 
 short-walked : (a : ℕ) (notes : List Note) (table : List ℕ) → EndsInSpelling a notes table → walk a 0 table ≡ record { notes = notes; cut = None }
@@ -32,7 +32,7 @@ short-walked a notes table s =
     let parts : table ≡ s.front ++ rest = s.parts ∙ append_assoc s.front s.spelling s.padding in
     let all = walk-all-padded a 0 s.before s.front rest s.padded in
     let size = spelt-size a s.last s.spelling s.spelt in
-    let turned = ap (to_next a) size in
+    let turned = ap (bytes_to_alignment a) size in
     let few = s.short in
     let m : min (padded_size a s.last) (length rest) ≡ length rest = omega (arith, length-append s.spelling s.padding) in
     let next = next-spelt a s.last s.spelling s.padding s.spelt ∙ ap (OneNote s.last) m in
@@ -41,7 +41,7 @@ short-walked a notes table s =
     let end = ap (walk a (0 + length s.front + length rest)) nothing ∙ nothing-ends a (0 + length s.front + length rest) in
     ap (walk a 0) parts ∙ all ∙ ap (with_notes s.before) (one ∙ ap (with_note s.last) end) ∙ ap (λ x. whole x) (sym s.list)
   where
-    whole : List Note → Walk
+    whole : List Note → NoteScan
     whole x = record { notes = x; cut = None }
 
 fitting : (a : ℕ) (notes : List Note) (table : List ℕ) → Notes a notes table → walk a 0 table ≡ record { notes = notes; cut = None }
@@ -52,10 +52,10 @@ pub fitting_is_walked : FittingIsWalked
 fitting_is_walked a notes table h = walked-is a table ∙ fitting a notes table h
 
 pub one_list : OneListAtMost
-one_list a table notes others h k = let p = fitting a notes table h in let q = fitting a others table k in ap (λ (w : Walk). w.notes) (sym p ∙ q)
+one_list a table notes others h k = let p = fitting a notes table h in let q = fitting a others table k in ap (λ (w : NoteScan). w.notes) (sym p ∙ q)
 
 -- how a walk ends
-data Outcome (a place : ℕ) (rest : List ℕ) (w : Walk) : Type 0 where
+data Outcome (a place : ℕ) (rest : List ℕ) (w : NoteScan) : Type 0 where
   fits : w.cut ≡ None → Notes a w.notes rest → Outcome a place rest w
   cuts : (n : ℕ) → w.cut ≡ Some (place + n) → n ≤ length rest → AllPadded a w.notes (take n rest) → Outcome a place rest w
 
@@ -100,12 +100,12 @@ outcome-broken a place rest e = rw (walk-broken a place rest e) (cuts 0 (ap (λ 
 -- a note whose padding ends too early is the last
 outcome-short : (a place : ℕ) (rest : List ℕ) (note : Note) (size : ℕ) → next_note a rest ≡ OneNote note size
     → Spelt a note (take (first_end a rest) rest) → first_end a rest ≤ length rest → size ≡ length rest
-    → length rest < first_end a rest + to_next a (first_end a rest) → Outcome a place rest (walk a place rest)
+    → length rest < first_end a rest + bytes_to_alignment a (first_end a rest) → Outcome a place rest (walk a place rest)
 outcome-short a place rest note size e s l z few =
     let nothing : drop size rest ≡ [] = drop_all size rest (omega arith) in
     let end = walk-found a place rest note size e ∙ ap (λ x. with_note note (walk a (place + size) x)) nothing ∙ ap (with_note note) (nothing-ends a (place + size)) in
     let n : length (take (first_end a rest) rest) ≡ first_end a rest = length-take-le (first_end a rest) rest l in
-    let short : length (drop (first_end a rest) rest) < to_next a (length (take (first_end a rest) rest)) = rw n (omega (arith, length-drop (first_end a rest) rest)) in
+    let short : length (drop (first_end a rest) rest) < bytes_to_alignment a (length (take (first_end a rest) rest)) = rw n (omega (arith, length-drop (first_end a rest) rest)) in
     rw end (fits refl (inr (record {
       before = [];
       last = note;
@@ -132,16 +132,16 @@ outcome-more a place rest note size e l p o = rw (walk-found a place rest note s
         (take size rest, take n (drop size rest), take-add size n rest, p, q)
 
 found-padded : (a : ℕ) (rest : List ℕ) (note : Note) (size : ℕ) → Spelt a note (take (first_end a rest) rest) → first_end a rest ≤ length rest
-    → size ≡ first_end a rest + to_next a (first_end a rest) → size ≤ length rest → Padded a note (take size rest)
+    → size ≡ first_end a rest + bytes_to_alignment a (first_end a rest) → size ≤ length rest → Padded a note (take size rest)
 found-padded a rest note size s l z h =
     let end : ℕ = first_end a rest in
     let n : length (take end rest) ≡ end = length-take-le end rest l in
     record {
       spelling = take end rest;
-      padding = slice rest end (to_next a end);
-      parts = ap (λ x. take x rest) z ∙ take-add end (to_next a end) rest;
+      padding = slice rest end (bytes_to_alignment a end);
+      parts = ap (λ x. take x rest) z ∙ take-add end (bytes_to_alignment a end) rest;
       spelt = s;
-      padding_size = slice-size rest end (to_next a end) (omega arith) ∙ ap (to_next a) (sym n);
+      padding_size = slice-size rest end (bytes_to_alignment a end) (omega arith) ∙ ap (bytes_to_alignment a) (sym n);
     }
 
 outcome : (a most place : ℕ) (rest : List ℕ) → length rest < most → Outcome a place rest (walk a place rest)
@@ -152,8 +152,8 @@ outcome a (suc most) place rest h = step (λ n xs. outcome a most n xs)
     step more = go (next_view a rest)
       where
         one : (note : Note) (size : ℕ) → next_note a rest ≡ OneNote note size → Spelt a note (take (first_end a rest) rest) → first_end a rest ≤ length rest
-            → size ≡ min (first_end a rest + to_next a (first_end a rest)) (length rest)
-            → (length rest < first_end a rest + to_next a (first_end a rest)) ⊎ (first_end a rest + to_next a (first_end a rest) ≤ length rest)
+            → size ≡ min (first_end a rest + bytes_to_alignment a (first_end a rest)) (length rest)
+            → (length rest < first_end a rest + bytes_to_alignment a (first_end a rest)) ⊎ (first_end a rest + bytes_to_alignment a (first_end a rest) ≤ length rest)
             → Outcome a place rest (walk a place rest)
         one note size e s l z (inl few) = outcome-short a place rest note size e s l (omega arith) few
         one note size e s l z (inr enough) =
@@ -166,8 +166,8 @@ outcome a (suc most) place rest h = step (λ n xs. outcome a most n xs)
         go (tails l n) = outcome-broken a place rest n
         go (past n) = outcome-broken a place rest n
         go (found l m n) =
-            one (first_note a rest) (min (first_end a rest + to_next a (first_end a rest)) (length rest)) n (found-spelt a rest l m) m refl
-            (cases_lt (length rest) (first_end a rest + to_next a (first_end a rest)))
+            one (first_note a rest) (min (first_end a rest + bytes_to_alignment a (first_end a rest)) (length rest)) n (found-spelt a rest l m) m refl
+            (cases_lt (length rest) (first_end a rest + bytes_to_alignment a (first_end a rest)))
 
 table-outcome : (a : ℕ) (table : List ℕ) → Outcome a 0 table (walk a 0 table)
 table-outcome a table = outcome a (suc (length table)) 0 table (omega arith)
@@ -195,12 +195,12 @@ walk-is-cut a table place h = go (table-outcome a table)
         let n : length (take other table) ≡ other = length-take-le other table l in
         let all = walk-all-padded a 0 others (take other table) (drop other table) q in
         let same = ap (walk a 0) (sym (take-append-drop other table)) ∙ all in
-        let k = sym (ap (λ (w : Walk). w.cut) same) ∙ h in
+        let k = sym (ap (λ (w : NoteScan). w.cut) same) ∙ h in
         let b = cut-behind a (0 + length (take other table)) (drop other table) place k in
         omega arith
 
     none_fits : (others : List Note) → Notes a others table → ⊥
-    none_fits others q = let k = fitting a others table q in let m = sym (ap (λ (w : Walk). w.cut) k) ∙ h in cc
+    none_fits others q = let k = fitting a others table q in let m = sym (ap (λ (w : NoteScan). w.cut) k) ∙ h in cc
 
     go : Outcome a 0 table (walk a 0 table) → CutAt a (walk a 0 table).notes place table
     go (fits c n) = cc
@@ -217,7 +217,7 @@ padded-walked : (a : ℕ) (notes : List Note) (front : List ℕ) → AllPadded a
 padded-walked a notes front p = filled-walked a notes front (record { front = front; tail = []; parts = sym (append-nil front); padded = p; few = omega arith; zeros = refl })
 
 one-padded : (a : ℕ) (notes others : List Note) (front : List ℕ) → AllPadded a notes front → AllPadded a others front → notes ≡ others
-one-padded a notes others front p q = ap (λ (w : Walk). w.notes) (sym (padded-walked a notes front p) ∙ padded-walked a others front q)
+one-padded a notes others front p q = ap (λ (w : NoteScan). w.notes) (sym (padded-walked a notes front p) ∙ padded-walked a others front q)
 
 one-cut : (a : ℕ) (notes others : List Note) (place other : ℕ) (table : List ℕ) → CutAt a notes place table → CutAt a others other table
     → (notes ≡ others) × (place ≡ other)
@@ -227,7 +227,7 @@ one-cut a notes others place other table c d =
     let e : place ≡ other = omega arith in
     (one-padded a notes others (take other table) (rw e at c.padded) d.padded, e)
 
-walk-of : (w : Walk) (notes : List Note) (cut : Option ℕ) → w.notes ≡ notes → w.cut ≡ cut → w ≡ record { notes = notes; cut = cut }
+walk-of : (w : NoteScan) (notes : List Note) (cut : Option ℕ) → w.notes ≡ notes → w.cut ≡ cut → w ≡ record { notes = notes; cut = cut }
 walk-of w notes cut p q = rw (← p, ← q) refl
 
 pub cut_is_walked : CutIsWalked

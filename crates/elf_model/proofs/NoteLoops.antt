@@ -3,8 +3,8 @@ use Rattle.std.proofs.Common.{take, length-take, le_of_eq, take-take, min, ◌�
 use Rattle.std.proofs.lemmas.List.{drop_all, take_all}
 use Rattle.std.proofs.lemmas.Bool.{cases_lt}
 use Rattle.elf_model.specs.Names.{nul_in}
-use Rattle.elf_model.specs.Names.Shown.{Whole, Cut}
-use Rattle.elf_model.specs.Notes.{before_nul, note_shown, Note, OneNote, Walk, NoteRow, to_next, padded_size, first_note, first_end, next_note, note_rows}
+use Rattle.elf_model.specs.Names.DisplayedName.{Whole, Cut}
+use Rattle.elf_model.specs.Notes.{before_nul, note_shown, Note, OneNote, NoteScan, NoteRow, bytes_to_alignment, padded_size, first_note, first_end, next_note, note_rows}
 use Rattle.elf_model.proofs.Nuls.{free, none-free, some-free, free-some}
 use Rattle.elf_model.proofs.NameLoops.{nul_in-whole, nul_in-take-some}
 use Rattle.elf_model.proofs.Spellings.{NextView, ends, tails, past, found, next_view}
@@ -21,10 +21,10 @@ cut_left a place rest = (walk a place rest).cut
 
 -- what is found is the first note
 pub found-first : (a : ℕ) (rest : List ℕ) (note : Note) (size : ℕ) → next_note a rest ≡ OneNote note size
-    → (note ≡ first_note a rest) × (size ≡ min (first_end a rest + to_next a (first_end a rest)) (length rest)) × (12 ≤ length rest) × (first_end a rest ≤ length rest)
+    → (note ≡ first_note a rest) × (size ≡ min (first_end a rest + bytes_to_alignment a (first_end a rest)) (length rest)) × (12 ≤ length rest) × (first_end a rest ≤ length rest)
 found-first a rest note size e = go (next_view a rest)
   where
-    go : NextView a rest → (note ≡ first_note a rest) × (size ≡ min (first_end a rest + to_next a (first_end a rest)) (length rest)) × (12 ≤ length rest) × (first_end a rest ≤ length rest)
+    go : NextView a rest → (note ≡ first_note a rest) × (size ≡ min (first_end a rest + bytes_to_alignment a (first_end a rest)) (length rest)) × (12 ≤ length rest) × (first_end a rest ≤ length rest)
     go (ends h z n) = cc
     go (tails h n) = cc
     go (past n) = cc
@@ -32,13 +32,13 @@ found-first a rest note size e = go (next_view a rest)
 
 -- behind the last note, whose padding may be missing, no row is left at any place
 rows-end : (a at n : ℕ) (rest : List ℕ) → rest ≡ [] → note_rows a n (walk a at rest).notes ≡ []
-rows-end a at n rest e = rw (e) (ap (λ (w : Walk). note_rows a n w.notes) (nothing-ends a at) ∙ rows-nil a n)
+rows-end a at n rest e = rw (e) (ap (λ (w : NoteScan). note_rows a n w.notes) (nothing-ends a at) ∙ rows-nil a n)
 
 rows-behind : (a place : ℕ) (rest : List ℕ) (note : Note) (size : ℕ) → next_note a rest ≡ OneNote note size
     → note_rows a (place + padded_size a note) (walk a (place + size) (drop size rest)).notes ≡ rows_left a (place + size) (drop size rest)
-rows-behind a place rest note size e = go (cases_lt (length rest) (first_end a rest + to_next a (first_end a rest)))
+rows-behind a place rest note size e = go (cases_lt (length rest) (first_end a rest + bytes_to_alignment a (first_end a rest)))
   where
-    go : (length rest < first_end a rest + to_next a (first_end a rest)) ⊎ (first_end a rest + to_next a (first_end a rest) ≤ length rest)
+    go : (length rest < first_end a rest + bytes_to_alignment a (first_end a rest)) ⊎ (first_end a rest + bytes_to_alignment a (first_end a rest) ≤ length rest)
         → note_rows a (place + padded_size a note) (walk a (place + size) (drop size rest)).notes ≡ rows_left a (place + size) (drop size rest)
     go (inl few) =
         let f = found-first a rest note size e in
@@ -55,9 +55,9 @@ pub rows-found : (a place : ℕ) (rest : List ℕ) (note : Note) (size : ℕ) �
     × (cut_left a place rest ≡ cut_left a (place + size) (drop size rest))
 rows-found a place rest note size e =
     let w = walk-found a place rest note size e in (
-      ap (λ (x : Walk). note_rows a place x.notes) w ∙ rows-cons a place note (walk a (place + size) (drop size rest)).notes
+      ap (λ (x : NoteScan). note_rows a place x.notes) w ∙ rows-cons a place note (walk a (place + size) (drop size rest)).notes
           ∙ ap (λ x. row_of a place note ∷ x) (rows-behind a place rest note size e),
-      ap (λ (x : Walk). x.cut) w,
+      ap (λ (x : NoteScan). x.cut) w,
     )
 
 -- A note's name as it is shown, from a front of it.

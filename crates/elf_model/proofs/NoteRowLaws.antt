@@ -6,9 +6,9 @@ use Rattle.std.proofs.lemmas.Bool.{cases_lt}
 use Rattle.std.proofs.lemmas.Bool.Decides.{nat_tests}
 use Rattle.elf_model.specs.Bytes.{slice}
 use Rattle.elf_model.specs.Names.{nul_in}
-use Rattle.elf_model.specs.Names.Shown.{Whole, Cut}
-use Rattle.elf_model.specs.Notes.{Note, Spelt, OneNote, Walk, NoteRow, to_next, descriptor_start, spelt_size, padded_size, first_note, first_end, next_note, note_rows, note_align, before_nul, note_shown}
-use Rattle.elf_model.specs.NoteLaws.{StandsIn, RowsStand, IsAligned, RowsAligned, BeforeNulExactly, NoteShownWholeExactly, NoteShownCutExactly}
+use Rattle.elf_model.specs.Names.DisplayedName.{Whole, Cut}
+use Rattle.elf_model.specs.Notes.{Note, Spelt, OneNote, NoteScan, NoteRow, bytes_to_alignment, descriptor_start, escaped_size, padded_size, first_note, first_end, next_note, note_rows, note_align, before_nul, note_shown}
+use Rattle.elf_model.specs.NoteLaws.{IsNoteInTable, RowsStand, IsAligned, RowsAligned, BeforeNulExactly, NoteShownWholeExactly, NoteShownCutExactly}
 use Rattle.elf_model.proofs.Nuls.{free, none-free, free-none, free-append, free-take, split_at_nul}
 use Rattle.elf_model.proofs.Spellings.{NextView, ends, tails, past, found, next_view, spelt-size, spelt-name, spelt-descriptor, found-spelt}
 use Rattle.elf_model.proofs.Walks.{walk, walk-ends, walk-broken, walk-found}
@@ -27,19 +27,19 @@ pub rows-cons : (a place : ℕ) (note : Note) (notes : List Note)
 unfolding note_rows
 rows-cons a place note notes = refl
 
-no-rows-stand : (a place : ℕ) (table : List ℕ) → All (StandsIn a table) (note_rows a place [])
-no-rows-stand a place table = rw (rows-nil a place) (All-nil (StandsIn a table))
+no-rows-stand : (a place : ℕ) (table : List ℕ) → All (IsNoteInTable a table) (note_rows a place [])
+no-rows-stand a place table = rw (rows-nil a place) (All-nil (IsNoteInTable a table))
 
 -- what is found stands in the table
 row-stands : (a place : ℕ) (table : List ℕ) → place ≤ length table → 12 ≤ length (drop place table) → first_end a (drop place table) ≤ length (drop place table)
-    → StandsIn a table (row_of a place (first_note a (drop place table)))
+    → IsNoteInTable a table (row_of a place (first_note a (drop place table)))
 row-stands a place table i h l =
     let rest : List ℕ = drop place table in
     let note : Note = first_note a rest in
     let end : ℕ = first_end a rest in
     let s : Spelt a note (take end rest) = found-spelt a rest h l in
     let n : length (take end rest) ≡ end = length-take-le end rest l in
-    let size : end ≡ spelt_size a note = sym n ∙ spelt-size a note (take end rest) s in
+    let size : end ≡ escaped_size a note = sym n ∙ spelt-size a note (take end rest) s in
     let whole : take end rest ++ drop end rest ≡ rest = take-append-drop end rest in
     record {
       within = omega (arith, length-drop place table);
@@ -53,52 +53,52 @@ row-stands a place table i h l =
 
 rows-found : (a place size : ℕ) (table : List ℕ) → place ≤ length table → 12 ≤ length (drop place table) → first_end a (drop place table) ≤ length (drop place table)
     → next_note a (drop place table) ≡ OneNote (first_note a (drop place table)) size
-    → All (StandsIn a table) (note_rows a (place + padded_size a (first_note a (drop place table))) (walk a (place + size) (drop size (drop place table))).notes)
-    → All (StandsIn a table) (note_rows a place (walk a place (drop place table)).notes)
+    → All (IsNoteInTable a table) (note_rows a (place + padded_size a (first_note a (drop place table))) (walk a (place + size) (drop size (drop place table))).notes)
+    → All (IsNoteInTable a table) (note_rows a place (walk a place (drop place table)).notes)
 rows-found a place size table i h l e more =
     let note : Note = first_note a (drop place table) in
-    let w : Walk = walk a (place + size) (drop size (drop place table)) in
+    let w : NoteScan = walk a (place + size) (drop size (drop place table)) in
     rw (walk-found a place (drop place table) note size e)
     (rw (rows-cons a place note w.notes)
-    (All-cons (StandsIn a table) (row_of a place note) (note_rows a (place + padded_size a note) w.notes) (row-stands a place table i h l) more))
+    (All-cons (IsNoteInTable a table) (row_of a place note) (note_rows a (place + padded_size a note) w.notes) (row-stands a place table i h l) more))
 
-rows-same : (a at n m : ℕ) (table xs ys : List ℕ) → n ≡ m → xs ≡ ys → All (StandsIn a table) (note_rows a m (walk a at ys).notes)
-    → All (StandsIn a table) (note_rows a n (walk a at xs).notes)
+rows-same : (a at n m : ℕ) (table xs ys : List ℕ) → n ≡ m → xs ≡ ys → All (IsNoteInTable a table) (note_rows a m (walk a at ys).notes)
+    → All (IsNoteInTable a table) (note_rows a n (walk a at xs).notes)
 rows-same a at n m table xs ys p q h = rw (p, q) h
 
-no-more-rows : (a at n : ℕ) (table xs : List ℕ) → xs ≡ [] → All (StandsIn a table) (note_rows a n (walk a at xs).notes)
+no-more-rows : (a at n : ℕ) (table xs : List ℕ) → xs ≡ [] → All (IsNoteInTable a table) (note_rows a n (walk a at xs).notes)
 no-more-rows a at n table xs e = rw (e) (rw (nothing-ends a at) (no-rows-stand a n table))
 
-first-size : (a : ℕ) (rest : List ℕ) → 12 ≤ length rest → first_end a rest ≤ length rest → first_end a rest ≡ spelt_size a (first_note a rest)
+first-size : (a : ℕ) (rest : List ℕ) → 12 ≤ length rest → first_end a rest ≤ length rest → first_end a rest ≡ escaped_size a (first_note a rest)
 first-size a rest h l = sym (length-take-le (first_end a rest) rest l) ∙ spelt-size a (first_note a rest) (take (first_end a rest) rest) (found-spelt a rest h l)
 
 pub first-padded : (a : ℕ) (rest : List ℕ) → 12 ≤ length rest → first_end a rest ≤ length rest
-    → padded_size a (first_note a rest) ≡ first_end a rest + to_next a (first_end a rest)
-first-padded a rest h l = ap (λ n. n + to_next a n) (sym (first-size a rest h l))
+    → padded_size a (first_note a rest) ≡ first_end a rest + bytes_to_alignment a (first_end a rest)
+first-padded a rest h l = ap (λ n. n + bytes_to_alignment a n) (sym (first-size a rest h l))
 
 rows-from : (a most place : ℕ) (table : List ℕ) → place ≤ length table → length (drop place table) < most
-    → All (StandsIn a table) (note_rows a place (walk a place (drop place table)).notes)
+    → All (IsNoteInTable a table) (note_rows a place (walk a place (drop place table)).notes)
 rows-from a zero place table i h = absurd (omega arith)
 rows-from a (suc most) place table i h = step (λ n. rows-from a most n table)
   where
-    step : ((n : ℕ) → n ≤ length table → length (drop n table) < most → All (StandsIn a table) (note_rows a n (walk a n (drop n table)).notes))
-        → All (StandsIn a table) (note_rows a place (walk a place (drop place table)).notes)
+    step : ((n : ℕ) → n ≤ length table → length (drop n table) < most → All (IsNoteInTable a table) (note_rows a n (walk a n (drop n table)).notes))
+        → All (IsNoteInTable a table) (note_rows a place (walk a place (drop place table)).notes)
     step more = go (next_view a (drop place table))
       where
-        go : NextView a (drop place table) → All (StandsIn a table) (note_rows a place (walk a place (drop place table)).notes)
+        go : NextView a (drop place table) → All (IsNoteInTable a table) (note_rows a place (walk a place (drop place table)).notes)
         go (ends l z n) = rw (walk-ends a place (drop place table) n) (no-rows-stand a place table)
         go (tails l n) = rw (walk-broken a place (drop place table) n) (no-rows-stand a place table)
         go (past n) = rw (walk-broken a place (drop place table) n) (no-rows-stand a place table)
-        go (found l m n) = rows-found a place (min (end + to_next a end) (length (drop place table))) table i l m n (later (cases_lt (length (drop place table)) (end + to_next a end)))
+        go (found l m n) = rows-found a place (min (end + bytes_to_alignment a end) (length (drop place table))) table i l m n (later (cases_lt (length (drop place table)) (end + bytes_to_alignment a end)))
           where
             end : ℕ
             end = first_end a (drop place table)
 
             size : ℕ
-            size = min (end + to_next a end) (length (drop place table))
+            size = min (end + bytes_to_alignment a end) (length (drop place table))
 
-            later : (length (drop place table) < end + to_next a end) ⊎ (end + to_next a end ≤ length (drop place table))
-                → All (StandsIn a table) (note_rows a (place + padded_size a (first_note a (drop place table))) (walk a (place + size) (drop size (drop place table))).notes)
+            later : (length (drop place table) < end + bytes_to_alignment a end) ⊎ (end + bytes_to_alignment a end ≤ length (drop place table))
+                → All (IsNoteInTable a table) (note_rows a (place + padded_size a (first_note a (drop place table))) (walk a (place + size) (drop size (drop place table))).notes)
             later (inl few) = no-more-rows a (place + size) (place + padded_size a (first_note a (drop place table))) table (drop size (drop place table))
                 (drop_all size (drop place table) (omega arith))
             later (inr enough) =
@@ -110,15 +110,15 @@ pub rows_stand : RowsStand
 rows_stand a table = rw (walked-is a table) (rows-from a (suc (length table)) 0 table zero-le (omega arith))
 
 -- what is reached by the bytes to the next multiple is one
-next-four : (n : ℕ) → (n + to_next 4 n) % 4 ≡ 0
+next-four : (n : ℕ) → (n + bytes_to_alignment 4 n) % 4 ≡ 0
 next-four n = omega arith
 
-next-eight : (n : ℕ) → (n + to_next 8 n) % 8 ≡ 0
+next-eight : (n : ℕ) → (n + bytes_to_alignment 8 n) % 8 ≡ 0
 next-eight n = omega arith
 
 -- what is known of multiples of an alignment
 record Multiples (a : ℕ) : Type 0 where
-  next : (n : ℕ) → (n + to_next a n) % a ≡ 0
+  next : (n : ℕ) → (n + bytes_to_alignment a n) % a ≡ 0
   sum : (m n : ℕ) → m % a ≡ 0 → n % a ≡ 0 → (m + n) % a ≡ 0
   none : 0 % a ≡ 0
 
@@ -145,7 +145,7 @@ descriptor-aligned a k namesz descsz h =
 rows-aligned : (a place : ℕ) (notes : List Note) → Multiples a → place % a ≡ 0 → All (IsAligned a) (note_rows a place notes)
 rows-aligned a place [] k h = rw (rows-nil a place) (All-nil (IsAligned a))
 rows-aligned a place (note ∷ notes) k h =
-    let later = rows-aligned a (place + padded_size a note) notes k (k.sum place (padded_size a note) h (k.next (spelt_size a note))) in
+    let later = rows-aligned a (place + padded_size a note) notes k (k.sum place (padded_size a note) h (k.next (escaped_size a note))) in
     let start = descriptor_start a (length note.name) (length note.descriptor) in
     rw (rows-cons a place note notes)
     (All-cons (IsAligned a) (row_of a place note) (note_rows a (place + padded_size a note) notes)

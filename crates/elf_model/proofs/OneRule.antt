@@ -4,27 +4,27 @@ use Rattle.std.proofs.lemmas.Bool.{cases_Bool}
 use Rattle.std.specs.Option.{option_map}
 use Rattle.elf_model.specs.Dynamic.{dynamic_at, dynamic_count, dynamic_value}
 use Rattle.elf_model.specs.Find.{first_that}
-use Rattle.elf_model.specs.Loader.{Naming, RecordReading, RecordTable, meetings, naming_of, readings, readings_of}
+use Rattle.elf_model.specs.Loader.{NumberNameSource, VersionRecordRead, VersionRecordTable, meetings, naming_of, readings, readings_of}
 use Rattle.elf_model.specs.LoaderLaws.{FirstEntriesAreAlike, NumbersAreNamedAlike, records_in}
 use Rattle.elf_model.specs.LoaderScope.{tagged_row}
 use Rattle.elf_model.specs.Records.{d_tag, d_un, p_filesz, p_offset}
 use Rattle.elf_model.specs.Tables.{DYNAMIC_SIZE}
-use Rattle.elf_model.specs.Versions.{Met, named_by, names_number}
+use Rattle.elf_model.specs.Versions.{VisitedRecord, named_by, names_version_index}
 use Rattle.elf_model.proofs.VersionLaws.{named-here, named-later, named-none}
 
 -- the record by which a number is named
-abbrev record_of : Naming → Option Met
+abbrev record_of : NumberNameSource → Option VisitedRecord
 record_of naming = option_map (λ found. found.1) naming.found
 
 -- of records that are met the first that names the number names it, and else one of those behind them
 named-meetings :
-    (file : List ℕ) (number : ℕ) (strings : List ℕ) (met : List Met) (others : List RecordReading) (rest : List Met)
+    (file : List ℕ) (number : ℕ) (strings : List ℕ) (met : List VisitedRecord) (others : List VersionRecordRead) (rest : List VisitedRecord)
     → record_of (naming_of file number others) ≡ named_by file number rest
     → record_of (naming_of file number (meetings strings met others)) ≡ named_by file number (met ++ rest)
 unfolding meetings naming_of
 named-meetings file number strings [] others rest alike = alike
 named-meetings file number strings (m ∷ met) others rest alike =
-    elim (cases_Bool (names_number file number m)) [
+    elim (cases_Bool (names_version_index file number m)) [
       | inl names ↦ rw (names, naming_of) (sym (named-here file number m (met ++ rest) names))
       | inr not_names ↦
           rw (not_names, naming_of)
@@ -33,7 +33,7 @@ named-meetings file number strings (m ∷ met) others rest alike =
 
 -- a walk that comes to its end reads the records that are met, and no more
 readings-met :
-    (file : List ℕ) (table : RecordTable) (others : List RecordReading) → (records_in file table).cut ≡ None
+    (file : List ℕ) (table : VersionRecordTable) (others : List VersionRecordRead) → (records_in file table).cut ≡ None
     → readings_of file table others ≡ meetings table.strings (records_in file table).met others
 unfolding readings_of
 readings-met file table others whole = rw (whole, readings_of) refl
@@ -45,7 +45,7 @@ named-nowhere file number = sym (named-none file number)
 
 -- the needs alone
 needs-alike :
-    (file : List ℕ) (number : ℕ) (needs : RecordTable) → (records_in file needs).cut ≡ None
+    (file : List ℕ) (number : ℕ) (needs : VersionRecordTable) → (records_in file needs).cut ≡ None
     → record_of (naming_of file number (readings_of file needs [])) ≡ named_by file number ((records_in file needs).met ++ [])
 needs-alike file number needs whole =
     rw (readings-met file needs [] whole)

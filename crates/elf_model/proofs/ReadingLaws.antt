@@ -2,112 +2,112 @@
 use Rattle.std.proofs.Common.{◌≡◌, ℕ, zero, suc, ◌+◌, Bool, true, false, cond, List, [], ◌∷◌, ◌++◌, append-nil, length, map, filter, Option, None, Some, Result, Ok, Err, refl, sym, ap, ◌∙◌, arith, inl, inr}
 use Rattle.std.proofs.lemmas.List.Elements.{All-nil, All-cons}
 use Rattle.elf_model.specs.Checks.{first_refusal}
-use Rattle.elf_model.specs.Loader.{Compared, Meets, Misses, RecordReading, RecordTable, Refuses, compared_until, compared_with, end_reading, has_record, meetings, one_more, readings, readings_of, stand_after, with_number}
+use Rattle.elf_model.specs.Loader.{Compared, Meets, Misses, VersionRecordRead, VersionRecordTable, Refuses, compared_until, compared_with, end_reading, has_record, meetings, one_more, readings, readings_of, position_after, with_number}
 use Rattle.elf_model.specs.LoaderLaws.{ComparedNumbersAreRecords, ComparingEndsAtTheFirst, EndsReadings, IsComparable, IsRefusedAt, ReadingsAreRecords, StandsAtItsEnd, WalksStandAtRecords, WalksStandAtTheirEnd, names_wanted, numbers_under, records_in, records_read}
 use Rattle.elf_model.specs.Names.{same}
-use Rattle.elf_model.specs.Versions.{Met, Stand, Versions, next_stand, first_stand, met_at, met_from, most_records, name_index, named_at, names_version, number_in, number_word, record_checks, versions_in}
+use Rattle.elf_model.specs.Versions.{VisitedRecord, RecordCursorState, Versions, next_position, first_position, visited_at, visited_from, max_records, name_index, named_at, names_version, number_in, number_word, record_checks, versions_in}
 use Rattle.elf_model.specs.declared.causes.Cause.{Cause}
 use Rattle.elf_model.specs.declared.causes.Refusal.{Refusal}
 use Rattle.elf_model.proofs.VersionSteps.{met-ended, met-most, met-record, met-refused}
 
-abbrev met_of : Versions → List Met
-met_of versions = versions.met
+abbrev visited_of : Versions → List VisitedRecord
+visited_of versions = versions.met
 
 -- where a record leads, a walk stands next
 pub stands-next :
-    (file : List ℕ) (table : RecordTable) (done : ℕ) (stand : Stand) → stand_after file table done ≡ Some stand
-    → stand_after file table (suc done) ≡ next_stand file table.place stand
-unfolding stand_after
+    (file : List ℕ) (table : VersionRecordTable) (done : ℕ) (stand : RecordCursorState) → position_after file table done ≡ Some stand
+    → position_after file table (suc done) ≡ next_position file table.place stand
+unfolding position_after
 stands-next file table done stand is = rw is refl
 
 -- a walk stands at a record behind so many
-abbrev StandsAtMet : List ℕ → RecordTable → ℕ → Met → Type 0
-StandsAtMet file table done met = (stand : Stand) × (stand_after file table done ≡ Some stand) × (met_at table.place stand ≡ met)
+abbrev StandsAtVisited : List ℕ → VersionRecordTable → ℕ → VisitedRecord → Type 0
+StandsAtVisited file table done met = (stand : RecordCursorState) × (position_after file table done ≡ Some stand) × (visited_at table.place stand ≡ met)
 
 -- no record is met
-none-met : (file : List ℕ) (table : RecordTable) (done : ℕ) (before : List Met) (met : Met) (others : List Met) → [] ≡ before ++ met ∷ others → StandsAtMet file table done met
+none-met : (file : List ℕ) (table : VersionRecordTable) (done : ℕ) (before : List VisitedRecord) (met : VisitedRecord) (others : List VisitedRecord) → [] ≡ before ++ met ∷ others → StandsAtVisited file table done met
 none-met file table done [] met others none = absurd (cc)
 none-met file table done (first ∷ before) met others none = absurd (cc)
 
 stands-from :
-    (file : List ℕ) (table : RecordTable) (most done : ℕ) (stand : Option Stand) (before : List Met) (met : Met) (others : List Met)
-    → stand_after file table done ≡ stand → (met_from file table.place table.size stand most).met ≡ before ++ met ∷ others
-    → StandsAtMet file table (done + length before) met
+    (file : List ℕ) (table : VersionRecordTable) (most done : ℕ) (stand : Option RecordCursorState) (before : List VisitedRecord) (met : VisitedRecord) (others : List VisitedRecord)
+    → position_after file table done ≡ stand → (visited_from file table.place table.size stand most).met ≡ before ++ met ∷ others
+    → StandsAtVisited file table (done + length before) met
 stands-from file table most done None before met others is all =
-    none-met file table (done + length before) before met others (sym (ap met_of (met-ended file table.place table.size most)) ∙ all)
+    none-met file table (done + length before) before met others (sym (ap visited_of (met-ended file table.place table.size most)) ∙ all)
 stands-from file table zero done (Some stand) before met others is all =
-    none-met file table (done + length before) before met others (sym (ap met_of (met-most file table.place table.size stand)) ∙ all)
+    none-met file table (done + length before) before met others (sym (ap visited_of (met-most file table.place table.size stand)) ∙ all)
 stands-from file table (suc most) done (Some stand) before met others is all =
-    go (λ rest. stands-from file table most (suc done) (next_stand file table.place stand) rest met others (stands-next file table done stand is))
+    go (λ rest. stands-from file table most (suc done) (next_position file table.place stand) rest met others (stands-next file table done stand is))
     (first_refusal (record_checks file table.place table.size stand)) refl before all
   where
-    go : ((rest : List Met) → (met_from file table.place table.size (next_stand file table.place stand) most).met ≡ rest ++ met ∷ others
-        → StandsAtMet file table (suc done + length rest) met)
+    go : ((rest : List VisitedRecord) → (visited_from file table.place table.size (next_position file table.place stand) most).met ≡ rest ++ met ∷ others
+        → StandsAtVisited file table (suc done + length rest) met)
         → (refusal : Option Refusal) → first_refusal (record_checks file table.place table.size stand) ≡ refusal
-        → (before : List Met) → (met_from file table.place table.size (Some stand) (suc most)).met ≡ before ++ met ∷ others
-        → StandsAtMet file table (done + length before) met
+        → (before : List VisitedRecord) → (visited_from file table.place table.size (Some stand) (suc most)).met ≡ before ++ met ∷ others
+        → StandsAtVisited file table (done + length before) met
     go later (Some refusal) c before all =
         none-met file table (done + length before) before met others
-        (sym (ap met_of (met-refused file table.place table.size stand most refusal c)) ∙ all)
+        (sym (ap visited_of (met-refused file table.place table.size stand most refusal c)) ∙ all)
     go later None c [] all =
-        let first = sym (ap met_of (met-record file table.place table.size stand most c)) ∙ all in
+        let first = sym (ap visited_of (met-record file table.place table.size stand most c)) ∙ all in
         let here : done + 0 ≡ done = omega arith in
         (stand, rw here is, cc)
     go later None c (one ∷ rest) all =
-        let first = sym (ap met_of (met-record file table.place table.size stand most c)) ∙ all in
+        let first = sym (ap visited_of (met-record file table.place table.size stand most c)) ∙ all in
         let count : done + suc (length rest) ≡ suc done + length rest = omega arith in
         rw count (later rest (cc))
 
 pub walks_stand_at_records : WalksStandAtRecords
-unfolding versions_in stand_after
+unfolding versions_in position_after
 walks_stand_at_records file table before met others all =
     let count : 0 + length before ≡ length before = omega arith in
     rw count at
-    (stands-from file table (most_records table.kind table.size) 0 (first_stand table.kind table.head table.size) before met others refl all)
+    (stands-from file table (max_records table.kind table.size) 0 (first_position table.kind table.head table.size) before met others refl all)
 
 -- a walk from where it stands ends where it stands then
 ends-from :
-    (file : List ℕ) (table : RecordTable) (most done : ℕ) (stand : Option Stand) → done + most ≡ most_records table.kind table.size
-    → stand_after file table done ≡ stand
-    → let walk = met_from file table.place table.size stand most in
-    StandsAtItsEnd file table (done + length walk.met) walk.cut (stand_after file table (done + length walk.met))
+    (file : List ℕ) (table : VersionRecordTable) (most done : ℕ) (stand : Option RecordCursorState) → done + most ≡ max_records table.kind table.size
+    → position_after file table done ≡ stand
+    → let walk = visited_from file table.place table.size stand most in
+    StandsAtItsEnd file table (done + length walk.met) walk.cut (position_after file table (done + length walk.met))
 ends-from file table most done None room is =
     let here : done + 0 ≡ done = omega arith in
     rw (met-ended file table.place table.size most, here) is
 ends-from file table zero done (Some stand) room is =
     let here : done + 0 ≡ done = omega arith in
-    let full : done ≡ most_records table.kind table.size = omega (arith, room) in
+    let full : done ≡ max_records table.kind table.size = omega (arith, room) in
     rw (met-most file table.place table.size stand, here, is) (inr (full, refl))
 ends-from file table (suc most) done (Some stand) room is =
-    go (ends-from file table most (suc done) (next_stand file table.place stand) (omega (arith, room)) (stands-next file table done stand is))
+    go (ends-from file table most (suc done) (next_position file table.place stand) (omega (arith, room)) (stands-next file table done stand is))
     (first_refusal (record_checks file table.place table.size stand)) refl
   where
-    go : let later = met_from file table.place table.size (next_stand file table.place stand) most in
-        StandsAtItsEnd file table (suc done + length later.met) later.cut (stand_after file table (suc done + length later.met))
+    go : let later = visited_from file table.place table.size (next_position file table.place stand) most in
+        StandsAtItsEnd file table (suc done + length later.met) later.cut (position_after file table (suc done + length later.met))
         → (refusal : Option Refusal) → first_refusal (record_checks file table.place table.size stand) ≡ refusal
-        → let walk = met_from file table.place table.size (Some stand) (suc most) in
-        StandsAtItsEnd file table (done + length walk.met) walk.cut (stand_after file table (done + length walk.met))
+        → let walk = visited_from file table.place table.size (Some stand) (suc most) in
+        StandsAtItsEnd file table (done + length walk.met) walk.cut (position_after file table (done + length walk.met))
     go ends (Some refusal) c =
         let here : done + 0 ≡ done = omega arith in
         rw (met-refused file table.place table.size stand most refusal c, here, is) (inl c)
     go ends None c =
-        let later = met_from file table.place table.size (next_stand file table.place stand) most in
+        let later = visited_from file table.place table.size (next_position file table.place stand) most in
         let count : done + suc (length later.met) ≡ suc done + length later.met = omega arith in
         rw (met-record file table.place table.size stand most c, count) ends
 
 pub walks_stand_at_their_end : WalksStandAtTheirEnd
-unfolding versions_in stand_after
+unfolding versions_in position_after
 walks_stand_at_their_end file table =
-    let walk = met_from file table.place table.size (first_stand table.kind table.head table.size) (most_records table.kind table.size) in
+    let walk = visited_from file table.place table.size (first_position table.kind table.head table.size) (max_records table.kind table.size) in
     let count : 0 + length walk.met ≡ length walk.met = omega arith in
     rw count at
-    (ends-from file table (most_records table.kind table.size) 0 (first_stand table.kind table.head table.size) (omega arith) refl)
+    (ends-from file table (max_records table.kind table.size) 0 (first_position table.kind table.head table.size) (omega arith) refl)
 
 -- met records in front of others
-meetings-are : (strings : List ℕ) (met : List Met) (others : List RecordReading) → meetings strings met others ≡ map (Meets strings) met ++ others
+meetings-are : (strings : List ℕ) (met : List VisitedRecord) (others : List VersionRecordRead) → meetings strings met others ≡ map (Meets strings) met ++ others
 unfolding meetings
 meetings-are strings [] others = refl
-meetings-are strings (one ∷ met) others = ap (λ (more : List RecordReading). Meets strings one ∷ more) (meetings-are strings met others)
+meetings-are strings (one ∷ met) others = ap (λ (more : List VersionRecordRead). Meets strings one ∷ more) (meetings-are strings met others)
 
 -- how they end
 end-is : (stands : Bool) (cut : Option Refusal) → EndsReadings cut (end_reading stands cut)
@@ -121,7 +121,7 @@ readings_are_records file = (
   refl,
   λ table others.
       let walk = records_in file table in
-      let stands = has_record table (length walk.met) (stand_after file table (length walk.met)) in (
+      let stands = has_record table (length walk.met) (position_after file table (length walk.met)) in (
         end_reading stands walk.cut,
         end-is stands walk.cut,
         meetings-are table.strings walk.met (end_reading stands walk.cut ++ readings file others),
@@ -130,13 +130,13 @@ readings_are_records file = (
 
 -- what comparing gives at each kind of record
 pub compared-none :
-    (file wanted strings : List ℕ) (met : Met) (others : List RecordReading) → names_version file met ≡ false
+    (file wanted strings : List ℕ) (met : VisitedRecord) (others : List VersionRecordRead) → names_version file met ≡ false
     → compared_with file wanted (Meets strings met ∷ others) ≡ one_more (compared_with file wanted others)
 unfolding compared_with
 compared-none file wanted strings met others n = rw (n, compared_with) refl
 
 pub compared-is :
-    (file wanted strings : List ℕ) (met : Met) (others : List RecordReading) (is_wanted : Bool) → names_version file met ≡ true
+    (file wanted strings : List ℕ) (met : VisitedRecord) (others : List VersionRecordRead) (is_wanted : Bool) → names_version file met ≡ true
     → same strings (name_index file met) wanted ≡ Ok is_wanted
     → compared_with file wanted (Meets strings met ∷ others)
     ≡ one_more (with_number is_wanted (number_in (number_word file met)) (compared_with file wanted others))
@@ -144,20 +144,20 @@ unfolding compared_with
 compared-is file wanted strings met others is_wanted n e = rw (n, e, compared_with) refl
 
 pub compared-fault :
-    (file wanted strings : List ℕ) (met : Met) (others : List RecordReading) (cause : Cause) → names_version file met ≡ true
+    (file wanted strings : List ℕ) (met : VisitedRecord) (others : List VersionRecordRead) (cause : Cause) → names_version file met ≡ true
     → same strings (name_index file met) wanted ≡ Err cause
     → compared_with file wanted (Meets strings met ∷ others) ≡ compared_until 1 (record { at = named_at file met; cause = cause })
 unfolding compared_with
 compared-fault file wanted strings met others cause n e = rw (n, e, compared_with) refl
 
 compared-refused :
-    (file wanted : List ℕ) (refusal : Refusal) (others : List RecordReading)
+    (file wanted : List ℕ) (refusal : Refusal) (others : List VersionRecordRead)
     → compared_with file wanted (Refuses refusal ∷ others) ≡ compared_until 1 refusal
 unfolding compared_with
 compared-refused file wanted refusal others = refl
 
 compared-missed :
-    (file wanted : List ℕ) (refusal : Refusal) (others : List RecordReading)
+    (file wanted : List ℕ) (refusal : Refusal) (others : List VersionRecordRead)
     → compared_with file wanted (Misses refusal ∷ others) ≡ compared_until 0 refusal
 unfolding compared_with
 compared-missed file wanted refusal others = refl
@@ -177,33 +177,33 @@ read_in compared = compared.read
 
 -- the numbers with one record more, which has the wanted name or not
 numbers-with :
-    (file wanted strings : List ℕ) (one : Met) (met : List Met) → names_wanted file wanted strings one ≡ true
+    (file wanted strings : List ℕ) (one : VisitedRecord) (met : List VisitedRecord) → names_wanted file wanted strings one ≡ true
     → numbers_under file wanted strings (one ∷ met) ≡ number_in (number_word file one) ∷ numbers_under file wanted strings met
 numbers-with file wanted strings one met e =
-    ap (λ (b : Bool). map (λ (m : Met). number_in (number_word file m)) (cond b (one ∷ filter (names_wanted file wanted strings) met) (filter (names_wanted file wanted strings) met))) e
+    ap (λ (b : Bool). map (λ (m : VisitedRecord). number_in (number_word file m)) (cond b (one ∷ filter (names_wanted file wanted strings) met) (filter (names_wanted file wanted strings) met))) e
 
 numbers-without :
-    (file wanted strings : List ℕ) (one : Met) (met : List Met) → names_wanted file wanted strings one ≡ false
+    (file wanted strings : List ℕ) (one : VisitedRecord) (met : List VisitedRecord) → names_wanted file wanted strings one ≡ false
     → numbers_under file wanted strings (one ∷ met) ≡ numbers_under file wanted strings met
 numbers-without file wanted strings one met e =
-    ap (λ (b : Bool). map (λ (m : Met). number_in (number_word file m)) (cond b (one ∷ filter (names_wanted file wanted strings) met) (filter (names_wanted file wanted strings) met))) e
+    ap (λ (b : Bool). map (λ (m : VisitedRecord). number_in (number_word file m)) (cond b (one ∷ filter (names_wanted file wanted strings) met) (filter (names_wanted file wanted strings) met))) e
 
 -- comparing that is not refused gives the numbers of some, and those of the others
-record Splits (file wanted : List ℕ) (numbers : List ℕ) (count : ℕ) (all others : List RecordReading) : Type 0 where
+record Splits (file wanted : List ℕ) (numbers : List ℕ) (count : ℕ) (all others : List VersionRecordRead) : Type 0 where
   later : (compared_with file wanted others).refused ≡ None
   numbers_are : (compared_with file wanted all).numbers ≡ numbers ++ (compared_with file wanted others).numbers
   read_is : (compared_with file wanted all).read ≡ count + (compared_with file wanted others).read
 
 -- of records that are met
 split-met :
-    (file wanted strings : List ℕ) (met : List Met) (others : List RecordReading)
+    (file wanted strings : List ℕ) (met : List VisitedRecord) (others : List VersionRecordRead)
     → (compared_with file wanted (map (Meets strings) met ++ others)).refused ≡ None
     → Splits file wanted (numbers_under file wanted strings met) (length met) (map (Meets strings) met ++ others) others
 split-met file wanted strings [] others none = record { later = none; numbers_are = refl; read_is = omega arith }
 split-met file wanted strings (one ∷ met) others none =
     go (split-met file wanted strings met others) (names_version file one) refl (same strings (name_index file one) wanted) refl
   where
-    rest : List RecordReading
+    rest : List VersionRecordRead
     rest = map (Meets strings) met ++ others
 
     go : ((compared_with file wanted (map (Meets strings) met ++ others)).refused ≡ None
@@ -250,21 +250,21 @@ split-met file wanted strings (one ∷ met) others none =
 
 -- where a walk is refused comparing is
 whole :
-    (file wanted : List ℕ) (cut : Option Refusal) (last others : List RecordReading) → EndsReadings cut last
+    (file wanted : List ℕ) (cut : Option Refusal) (last others : List VersionRecordRead) → EndsReadings cut last
     → (compared_with file wanted (last ++ others)).refused ≡ None → last ≡ []
 whole file wanted None last others ends none = ends
 whole file wanted (Some refusal) last others (inl is) none =
-    let e = sym (ap (λ (l : List RecordReading). (compared_with file wanted (l ++ others)).refused) is) ∙ none in
+    let e = sym (ap (λ (l : List VersionRecordRead). (compared_with file wanted (l ++ others)).refused) is) ∙ none in
     let both = sym (ap refused_in (compared-refused file wanted refusal others)) ∙ e in
     absurd (cc)
 whole file wanted (Some refusal) last others (inr is) none =
-    let e = sym (ap (λ (l : List RecordReading). (compared_with file wanted (l ++ others)).refused) is) ∙ none in
+    let e = sym (ap (λ (l : List VersionRecordRead). (compared_with file wanted (l ++ others)).refused) is) ∙ none in
     let both = sym (ap refused_in (compared-missed file wanted refusal others)) ∙ e in
     absurd (cc)
 
 -- of a table
 split-table :
-    (file wanted : List ℕ) (table : RecordTable) (others : List RecordTable)
+    (file wanted : List ℕ) (table : VersionRecordTable) (others : List VersionRecordTable)
     → (compared_with file wanted (readings file (table ∷ others))).refused ≡ None
     → Splits file wanted (numbers_under file wanted table.strings (records_in file table).met) (length (records_in file table).met)
     (readings file (table ∷ others)) (readings file others)
@@ -273,16 +273,16 @@ split-table file wanted table others none =
     let read = (readings_are_records file).1 table others in
     let last = read.0 in
     let is = read.2 in
-    let all = split-met file wanted table.strings met (last ++ readings file others) (sym (ap (λ (l : List RecordReading). (compared_with file wanted l).refused) is) ∙ none) in
-    let ended = ap (λ (l : List RecordReading). l ++ readings file others) (whole file wanted (records_in file table).cut last (readings file others) read.1 all.later) in
+    let all = split-met file wanted table.strings met (last ++ readings file others) (sym (ap (λ (l : List VersionRecordRead). (compared_with file wanted l).refused) is) ∙ none) in
+    let ended = ap (λ (l : List VersionRecordRead). l ++ readings file others) (whole file wanted (records_in file table).cut last (readings file others) read.1 all.later) in
     record {
-      later = sym (ap (λ (l : List RecordReading). (compared_with file wanted l).refused) ended) ∙ all.later;
+      later = sym (ap (λ (l : List VersionRecordRead). (compared_with file wanted l).refused) ended) ∙ all.later;
       numbers_are =
-          ap (λ (l : List RecordReading). (compared_with file wanted l).numbers) is ∙ all.numbers_are
-          ∙ ap (λ (l : List RecordReading). numbers_under file wanted table.strings met ++ (compared_with file wanted l).numbers) ended;
+          ap (λ (l : List VersionRecordRead). (compared_with file wanted l).numbers) is ∙ all.numbers_are
+          ∙ ap (λ (l : List VersionRecordRead). numbers_under file wanted table.strings met ++ (compared_with file wanted l).numbers) ended;
       read_is =
-          ap (λ (l : List RecordReading). (compared_with file wanted l).read) is ∙ all.read_is
-          ∙ ap (λ (l : List RecordReading). length met + (compared_with file wanted l).read) ended;
+          ap (λ (l : List VersionRecordRead). (compared_with file wanted l).read) is ∙ all.read_is
+          ∙ ap (λ (l : List VersionRecordRead). length met + (compared_with file wanted l).read) ended;
     }
 
 pub compared_numbers_are_records : ComparedNumbersAreRecords
@@ -320,7 +320,7 @@ comparing_ends_at_the_first file wanted (Meets strings met ∷ others) refusal r
       before = Meets strings met ∷ f.before;
       last = f.last;
       others = f.others;
-      parts = ap (λ (l : List RecordReading). Meets strings met ∷ l) f.parts;
+      parts = ap (λ (l : List VersionRecordRead). Meets strings met ∷ l) f.parts;
       refuses = f.refuses;
       goes_on = All-cons (IsComparable file wanted) (Meets strings met) f.before on f.goes_on;
       read_is = let more : suc (length f.before) + records_read f.last ≡ suc (length f.before + records_read f.last) = omega arith in read ∙ ap suc f.read_is ∙ sym more;

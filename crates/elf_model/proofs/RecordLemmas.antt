@@ -1,7 +1,7 @@
 -- Records at their own bytes.
 use Rattle.std.proofs.Common.{◌≡◌, ℕ, ◌+◌, ◌≤◌, Bool, List, ap, ◌∙◌, arith, add-zero}
 use Rattle.elf_model.specs.Bytes.{slice, field}
-use Rattle.elf_model.specs.LineFronts.{section_front, symbol_front, relocation_front, dynamic_front}
+use Rattle.elf_model.specs.LineFronts.{section_prefix, symbol_prefix, relocation_prefix, dynamic_prefix}
 use Rattle.elf_model.specs.Lines.{header_line, segment_line}
 use Rattle.elf_model.specs.declared.formats.Format.{Format}
 use Rattle.elf_model.specs.RecordLaws.{FieldsOfSlices, LinesOfSlices}
@@ -18,8 +18,8 @@ header_line_of_slice format file =
     λ place width h. field-slice file 0 64 place width h ∙ ap (λ n. field file n width) (omega arith) in
     rw (f 16 2 (omega arith), f 18 2 (omega arith), f 24 8 (omega arith), f 32 8 (omega arith), f 40 8 (omega arith), f 48 4 (omega arith), f 56 2 (omega arith), f 60 2 (omega arith), f 62 2 (omega arith))
 
-pub section_front_of_slice : (format : Format) (file : List ℕ) (gnu : Bool) (machine : ℕ) (at index : ℕ) → section_front format gnu machine (slice file at 64) 0 index ≡ section_front format gnu machine file at index
-unfolding section_front
+pub section_front_of_slice : (format : Format) (file : List ℕ) (gnu : Bool) (machine : ℕ) (at index : ℕ) → section_prefix format gnu machine (slice file at 64) 0 index ≡ section_prefix format gnu machine file at index
+unfolding section_prefix
 section_front_of_slice format file gnu machine at index =
     let f = field-slice file at 64 in
     rw (f 4 4 (omega arith), f 8 8 (omega arith), f 16 8 (omega arith), f 24 8 (omega arith), f 32 8 (omega arith), f 40 4 (omega arith), f 44 4 (omega arith))
@@ -31,21 +31,21 @@ segment_line_of_slice format file gnu at index =
     rw (f 0 4 (omega arith), f 4 4 (omega arith), f 8 8 (omega arith), f 16 8 (omega arith), f 24 8 (omega arith), f 32 8 (omega arith), f 40 8 (omega arith), f 48 8 (omega arith), add-zero at)
 
 pub symbol_front_of_slice : (format : Format) (file : List ℕ) (gnu : Bool) (machine : ℕ) (at section index : ℕ)
-    → symbol_front format gnu machine (slice file at 24) 0 section index ≡ symbol_front format gnu machine file at section index
-unfolding symbol_front
+    → symbol_prefix format gnu machine (slice file at 24) 0 section index ≡ symbol_prefix format gnu machine file at section index
+unfolding symbol_prefix
 symbol_front_of_slice format file gnu machine at section index =
     let f = field-slice file at 24 in
     rw (f 4 1 (omega arith), f 5 1 (omega arith), f 6 2 (omega arith), f 8 8 (omega arith), f 16 8 (omega arith))
 
 pub relocation_front_of_slice : (format : Format) (file : List ℕ) (gnu : Bool) (machine at section : ℕ)
-    → relocation_front format gnu machine (slice file at 24) 0 section ≡ relocation_front format gnu machine file at section
-unfolding relocation_front
+    → relocation_prefix format gnu machine (slice file at 24) 0 section ≡ relocation_prefix format gnu machine file at section
+unfolding relocation_prefix
 relocation_front_of_slice format file gnu machine at section =
     let f = field-slice file at 24 in
     rw (f 0 8 (omega arith), f 8 8 (omega arith), f 16 8 (omega arith), add-zero at)
 
-pub dynamic_front_of_slice : (format : Format) (file : List ℕ) (gnu : Bool) (at index : ℕ) → dynamic_front format gnu (slice file at 16) 0 index ≡ dynamic_front format gnu file at index
-unfolding dynamic_front
+pub dynamic_front_of_slice : (format : Format) (file : List ℕ) (gnu : Bool) (at index : ℕ) → dynamic_prefix format gnu (slice file at 16) 0 index ≡ dynamic_prefix format gnu file at index
+unfolding dynamic_prefix
 dynamic_front_of_slice format file gnu at index =
     let f = field-slice file at 16 in
     rw (f 0 8 (omega arith), f 8 8 (omega arith), add-zero at)

@@ -6,7 +6,7 @@ use Rattle.std.proofs.lemmas.Bool.{cases_lt}
 use Rattle.elf_model.specs.Bytes.{slice, field}
 use Rattle.elf_model.proofs.Slices.{field-front, slice-size}
 use Rattle.elf_model.specs.Records.{n_namesz, n_descsz, n_type}
-use Rattle.elf_model.specs.Notes.{Note, Spelt, Ends, Broken, OneNote, to_next, gap_between, descriptor_start, spelt_size, padded_size, are_zeros, first_note, first_end, next_note}
+use Rattle.elf_model.specs.Notes.{Note, Spelt, Ends, Broken, OneNote, bytes_to_alignment, alignment_gap, descriptor_start, escaped_size, padded_size, are_zeros, first_note, first_end, next_note}
 
 -- a slice that stands behind a front
 pub slice-behind : (x y z : List ℕ) (at size : ℕ) → length x ≡ at → length y ≡ size → slice (x ++ y ++ z) at size ≡ y
@@ -19,7 +19,7 @@ pub data NextView (a : ℕ) (rest : List ℕ) : Type 0 where
   tails : length rest < 12 → next_note a rest ≡ Broken → NextView a rest
   past : next_note a rest ≡ Broken → NextView a rest
   found : 12 ≤ length rest → first_end a rest ≤ length rest
-      → next_note a rest ≡ OneNote (first_note a rest) (min (first_end a rest + to_next a (first_end a rest)) (length rest)) → NextView a rest
+      → next_note a rest ≡ OneNote (first_note a rest) (min (first_end a rest + bytes_to_alignment a (first_end a rest)) (length rest)) → NextView a rest
 
 pub next-ends : (a : ℕ) (rest : List ℕ) → length rest < 12 → are_zeros rest ≡ true → next_note a rest ≡ Ends
 unfolding next_note
@@ -37,7 +37,7 @@ next-past a rest h l =
     rw (t, u) refl
 
 pub next-found : (a : ℕ) (rest : List ℕ) → 12 ≤ length rest → first_end a rest ≤ length rest
-    → next_note a rest ≡ OneNote (first_note a rest) (min (first_end a rest + to_next a (first_end a rest)) (length rest))
+    → next_note a rest ≡ OneNote (first_note a rest) (min (first_end a rest + bytes_to_alignment a (first_end a rest)) (length rest))
 unfolding next_note
 next-found a rest h l =
     let t : nat_lt (length rest) 12 ≡ false = grind (arith, nat_tests) in
@@ -60,7 +60,7 @@ next_view a rest = split (cases_lt (length rest) 12)
     split (inr h) = head h (cases_lt (length rest) (first_end a rest))
 
 -- a spelling has the note's size
-pub spelt-size : (a : ℕ) (note : Note) (text : List ℕ) → Spelt a note text → length text ≡ spelt_size a note
+pub spelt-size : (a : ℕ) (note : Note) (text : List ℕ) → Spelt a note text → length text ≡ escaped_size a note
 spelt-size a note text s =
     ap length s.parts ∙ omega (arith, length-append (s.head ++ note.name ++ s.gap) note.descriptor, length-append (s.head ++ note.name) s.gap, length-append s.head note.name, s.head_size, s.gap_size)
 
@@ -93,7 +93,7 @@ spelt-descriptor a note text rest s =
     rw (s.parts) (slice-behind (s.head ++ note.name ++ s.gap) note.descriptor rest (descriptor_start a (length note.name) (length note.descriptor)) (length note.descriptor) l refl)
 
 pub spelt-first : (a : ℕ) (note : Note) (text rest : List ℕ) → Spelt a note text
-    → (first_note a (text ++ rest) ≡ note) × (first_end a (text ++ rest) ≡ spelt_size a note)
+    → (first_note a (text ++ rest) ≡ note) × (first_end a (text ++ rest) ≡ escaped_size a note)
 spelt-first a note text rest s =
     let f = spelt-fields a note text rest s in
     let name = spelt-name a note text rest s in
@@ -115,7 +115,7 @@ pub found-spelt : (a : ℕ) (rest : List ℕ) → 12 ≤ length rest → first_e
 found-spelt a rest h l =
     let namesz : ℕ = n_namesz rest 0 in
     let descsz : ℕ = n_descsz rest 0 in
-    let gapsz : ℕ = gap_between a namesz descsz in
+    let gapsz : ℕ = alignment_gap a namesz descsz in
     let head : List ℕ = take 12 rest in
     let long : length head ≡ 12 = length-take-le 12 rest h in
     let whole = take-append-drop 12 rest in

@@ -14,7 +14,7 @@ use Rattle.elf_model.specs.HeaderTables.{HeaderTable, TableKind, file_sections, 
 use Rattle.elf_model.specs.Numbers.{SHT_GNU_VERDEF, SHT_GNU_VERNEED, SHT_GNU_VERSYM}
 use Rattle.elf_model.specs.Style.{Style}
 use Rattle.elf_model.specs.Suffixes.{first_numbers}
-use Rattle.elf_model.specs.TableKinds.{symbols, relocations, section_dynamic, section_notes, section_kinds, segment_notes, segment_dynamic, segment_kinds, suffixed_relocations, suffixed_symbols, suffixes_cost}
+use Rattle.elf_model.specs.TableKinds.{symbols, relocations, section_dynamic, section_notes, section_kinds, segment_notes, segment_dynamic, segment_kinds, relocations_with_versions, suffixed_symbols, suffixes_cost}
 use Rattle.elf_model.specs.VersionCost.{is_inside, has_strings, versioned_cost, walk_cost, walks_cost}
 use Rattle.elf_model.specs.VersionRows.{version_definitions, version_needs, symbol_versions}
 use Rattle.elf_model.specs.Versions.{DEFINITION_SIZE, DEFINED_NAME_SIZE, NEED_SIZE}
@@ -190,7 +190,7 @@ module _ (file : List ℕ) (row : ℕ → List ℕ) (is : (i : ℕ) → i < e_sh
 
   suffixed_held : (i cap parts : ℕ) → i < e_shnum file
       → kinds_cost (section_kinds true) held i (length file) cap parts ≡ kinds_cost (section_kinds true) all i (length file) cap parts
-  unfolding kinds_cost symbols relocations suffixed_symbols suffixed_relocations section_notes section_dynamic version_definitions version_needs symbol_versions
+  unfolding kinds_cost symbols relocations suffixed_symbols relocations_with_versions section_notes section_dynamic version_definitions version_needs symbol_versions
   suffixed_held i cap parts below =
       let size : ℕ = length file in
       let type = type_held i below in
@@ -198,7 +198,7 @@ module _ (file : List ℕ) (row : ℕ → List ℕ) (is : (i : ℕ) → i < e_sh
       let a = kind-equal suffixed_symbols held all i size cap (symbols_held i below) (table_held i size 24 below)
       (ap (λ n. header_field held sh_size i / 24 * (24 + name_bytes cap) + n) (suffixes_held i (header_field held sh_size i / 24) size cap)
       ∙ ap (λ n. more i n (24 + name_bytes cap)) (size_held i below)) in
-      let b = kind-equal suffixed_relocations held all i size cap (ap (λ n. n == 4) type) (table_held i size 24 below)
+      let b = kind-equal relocations_with_versions held all i size cap (ap (λ n. n == 4) type) (table_held i size 24 below)
       (ap (λ n. header_field held sh_size i / 24 * (24 + (24 + name_bytes cap)) + n) (suffixes_held (header_field held sh_link i) (header_field held sh_size i / 24) size cap)
       ∙ ap₂ (λ n link. more link n (24 + (24 + name_bytes cap))) (size_held i below) (link_held i below)) in
       let c = kind-equal section_notes held all i size cap (ap (λ n. n == 7) type) (range_held i size below) (ap (λ n. n * 1) (size_held i below)) in

@@ -2,7 +2,7 @@
 use Rattle.std.proofs.Common.{◌≡◌, ℕ, suc, zero, ◌+◌, ◌*◌, ◌≤◌, ◌<◌, if◌then◌else◌, Bool, true, false, List, [], ◌∷◌, length, take, drop, refl, ap, sym, ◌∙◌, arith, add-zero, zero-add, length-take, inl, inr}
 use Rattle.elf_model.specs.Bytes.{number, slice, field}
 use Rattle.elf_model.specs.Style.{Style, tells_of_sections, without_sections, without_sections_from, viewed}
-use Rattle.elf_model.specs.StyleLaws.{ViewIsAsLong, ViewIsSeenInSlices, ViewIsTheFileBehindTheHeader, ViewIsTheFileElsewhere, ViewTellsOfNone, ViewIsCheckedAlike, ViewIsItsOwnView}
+use Rattle.elf_model.specs.StyleLaws.{ViewIsAsLong, ViewIsSeenInSlices, ViewIsTheFileAfterTheHeader, ViewIsTheFileElsewhere, ViewTellsOfNone, ViewIsCheckedAlike, ViewIsItsOwnView}
 
 -- the length stays
 pub from_length : (place : ℕ) (bytes : List ℕ) → length (without_sections_from place bytes) ≡ length bytes
@@ -63,12 +63,12 @@ tells-number : (place : ℕ) → 60 ≤ place → place < 64 → tells_of_sectio
 unfolding tells_of_sections
 tells-number place from h = grind arith
 
-pub view_behind : ViewIsTheFileBehindTheHeader
+pub view_after : ViewIsTheFileAfterTheHeader
 unfolding without_sections_from
-view_behind place [] h = refl
-view_behind place (byte ∷ bytes) h =
+view_after place [] h = refl
+view_after place (byte ∷ bytes) h =
     let here = tells-not place h in
-    let rest = view_behind (suc place) bytes (omega arith) in
+    let rest = view_after (suc place) bytes (omega arith) in
     ap (λ b. (if b then 0 else byte) ∷ without_sections_from (suc place) bytes) here ∙ ap (λ more. byte ∷ more) rest
 
 -- the bytes before e_shoff

@@ -1,31 +1,31 @@
 -- The versions behind the names of symbols.
 use Rattle.std.proofs.Common.{◌≡◌, ℕ, zero, suc, ◌==◌, ◌&&◌, nat_lt, not, if◌then◌else◌, Bool, true, false, List, [], ◌∷◌, Option, None, Some, Result, Ok, Err, refl, sym, ap, ◌∙◌, append-nil}
-use Rattle.elf_model.specs.Choice.{RowChoice, NoSuffix, Suffix, Suffixed, chooses}
-use Rattle.elf_model.specs.Fields.{LineFront}
-use Rattle.elf_model.specs.LineFronts.{relocation_front, symbol_front}
+use Rattle.elf_model.specs.Choice.{RowFilter, NoSuffix, Suffix, Suffixed, chooses}
+use Rattle.elf_model.specs.Fields.{LinePrefix}
+use Rattle.elf_model.specs.LineFronts.{relocation_prefix, symbol_prefix}
 use Rattle.elf_model.specs.Lines.{line_named, name_member, name_text, named_line}
 use Rattle.elf_model.specs.Listing.{ListingItem, Line, each}
-use Rattle.elf_model.specs.Names.{Shown, shown}
+use Rattle.elf_model.specs.Names.{DisplayedName, shown}
 use Rattle.elf_model.specs.Checks.{first_refusal}
 use Rattle.elf_model.specs.Numbers.{SHT_GNU_VERDEF, SHT_GNU_VERNEED}
 use Rattle.elf_model.specs.Tables.{all_checks, entry_at, entry_count, has_symbols, linked_at, strings_of}
 use Rattle.elf_model.specs.VersionRows.{symbol_versions, version_named, version_strings}
-use Rattle.elf_model.specs.Versions.{Met, name_index, named_at, number_in}
+use Rattle.elf_model.specs.Versions.{VisitedRecord, name_index, named_at, number_in}
 use Rattle.elf_model.specs.declared.causes.Cause.TheVariants.{VersionCut, VersionIndex}
 use Rattle.elf_model.specs.declared.versions.VersionKind.TheVariants.{Definition, File}
 use Rattle.elf_model.specs.Records.{e_machine, r_sym, section_at, st_name, sh_link, st_shndx, versym}
 use Rattle.elf_model.specs.Rows.{chosen_row, relocation_row, symbol_named, symbol_row}
 use Rattle.elf_model.specs.Style.{Style}
 use Rattle.elf_model.specs.SuffixLaws.{UndefinedHaveNoDefault, UnversionedEntriesArePlain, UnversionedSymbolsArePlain}
-use Rattle.elf_model.specs.Suffixes.{behind_refusal, line_suffixed, numbers_of, or_refusal, walk_refusal, is_default as is_default_of, suffix_at, suffix_of, word_suffix, suffix_members, suffix_text, suffixed_line, suffixed_relocation_row, suffixed_relocation_rows, suffixed_row, suffixed_symbol_row, suffixed_symbol_rows, suffixes_refusal, symbol_suffix}
-use Rattle.elf_model.specs.TableKinds.{relocations, suffixed_relocations, suffixed_symbols, symbols}
+use Rattle.elf_model.specs.Suffixes.{after_refusal, line_suffixed, version_numbers_of, or_refusal, walk_refusal, is_default as is_default_of, suffix_at, suffix_of, word_suffix, suffix_members, suffix_text, suffixed_line, relocation_row_with_version, suffixed_relocation_rows, suffixed_row, symbol_row_with_version, suffixed_symbol_rows, suffixes_refusal, symbol_suffix}
+use Rattle.elf_model.specs.TableKinds.{relocations, relocations_with_versions, suffixed_symbols, symbols}
 use Rattle.elf_model.specs.declared.causes.Cause.{Cause}
 use Rattle.elf_model.specs.declared.causes.Refusal.{Refusal}
 use Rattle.elf_model.specs.declared.formats.Format.{Format}
 use Rattle.elf_model.specs.declared.formats.Format.TheVariants.{Columns, Object}
 
 -- a line with nothing behind its name
-pub unsuffixed_line : (front : LineFront) (name : Shown) → suffixed_line front name NoSuffix ≡ named_line front name
+pub unsuffixed_line : (front : LinePrefix) (name : DisplayedName) → suffixed_line front name NoSuffix ≡ named_line front name
 unfolding line_suffixed line_named suffix_text suffix_members
 unsuffixed_line front name = by_format front.format
   where
@@ -34,7 +34,7 @@ unsuffixed_line front name = by_format front.format
     by_format Object = rw (append-nil (name_member front.key name)) refl
 
 -- a row with nothing behind its name
-pub unsuffixed_row : (choice : RowChoice) (front : LineFront) (at : ℕ) (name : Result Shown Cause)
+pub unsuffixed_row : (choice : RowFilter) (front : LinePrefix) (at : ℕ) (name : Result DisplayedName Cause)
     → suffixed_row choice front at name (Ok NoSuffix) ≡ chosen_row choice front at name
 unsuffixed_row choice front at (Err cause) = refl
 unsuffixed_row choice front at (Ok name) =
@@ -47,17 +47,17 @@ each_same row other first zero same = refl
 each_same row other first (suc count) same = let one = same first in let more = each_same row other (suc first) count same in cc
 
 -- a table without version numbers has no versions, and no refusal of them
-no_suffix : (file : List ℕ) (cap table symbol_at index : ℕ) → numbers_of file table ≡ None → symbol_suffix file cap table symbol_at index ≡ Ok NoSuffix
+no_suffix : (file : List ℕ) (cap table symbol_at index : ℕ) → version_numbers_of file table ≡ None → symbol_suffix file cap table symbol_at index ≡ Ok NoSuffix
 unfolding symbol_suffix
 no_suffix file cap table symbol_at index none = rw (none, symbol_suffix) refl
 
-no_refusal : (file : List ℕ) (table : ℕ) → numbers_of file table ≡ None → suffixes_refusal file table ≡ None
+no_refusal : (file : List ℕ) (table : ℕ) → version_numbers_of file table ≡ None → suffixes_refusal file table ≡ None
 unfolding suffixes_refusal
 no_refusal file table none = by_empty (entry_count file (section_at file table) 24 == 0)
   where
     by_empty : (empty : Bool)
         → (if empty then None
-        else elim (numbers_of file table) as (λ _. Option Refusal) [
+        else elim (version_numbers_of file table) as (λ _. Option Refusal) [
           | None ↦ None
           | Some i ↦
               or_refusal (first_refusal (all_checks symbol_versions.checks file (section_at file i)))
@@ -67,13 +67,13 @@ no_refusal file table none = by_empty (entry_count file (section_at file table) 
     by_empty true = refl
     by_empty false = rw none refl
 
-plain_symbol : (file : List ℕ) (style : Style) (section at index : ℕ) → numbers_of file section ≡ None
-    → suffixed_symbol_row file style section at index ≡ symbol_row file style section at index
-unfolding suffixed_symbol_row symbol_row
+plain_symbol : (file : List ℕ) (style : Style) (section at index : ℕ) → version_numbers_of file section ≡ None
+    → symbol_row_with_version file style section at index ≡ symbol_row file style section at index
+unfolding symbol_row_with_version symbol_row
 plain_symbol file style section at index none =
     let symbol_at : ℕ = entry_at file at 24 index in
-    let front : LineFront = symbol_front style.format style.gnu (e_machine file) file symbol_at section index in
-    let name : Result Shown Cause = shown (strings_of file at) (st_name file symbol_at) style.cap in
+    let front : LinePrefix = symbol_prefix style.format style.gnu (e_machine file) file symbol_at section index in
+    let name : Result DisplayedName Cause = shown (strings_of file at) (st_name file symbol_at) style.cap in
     ap (suffixed_row style.choice front symbol_at name) (no_suffix file style.cap section symbol_at index none)
     ∙ unsuffixed_row style.choice front symbol_at name
 
@@ -83,14 +83,14 @@ unversioned_symbols file style section at none =
     rw (no_refusal file section none) (each_same _ _ _ _ (λ i. plain_symbol file style section at i none))
 
 -- what stands behind a symbol of an entry, where its table has no version numbers
-plain_entry : (file : List ℕ) (style : Style) (section at index : ℕ) → numbers_of file (sh_link file at) ≡ None
-    → suffixed_relocation_row file style section at index ≡ relocation_row file style section at index
-unfolding suffixed_relocation_row relocation_row
+plain_entry : (file : List ℕ) (style : Style) (section at index : ℕ) → version_numbers_of file (sh_link file at) ≡ None
+    → relocation_row_with_version file style section at index ≡ relocation_row file style section at index
+unfolding relocation_row_with_version relocation_row
 plain_entry file style section at index none =
     let rela_at : ℕ = entry_at file at 24 index in
     let symbol : ℕ = r_sym file rela_at in
     let named = symbol_named file style.cap at rela_at symbol in
-    let front : LineFront = relocation_front style.format style.gnu (e_machine file) file rela_at section in
+    let front : LinePrefix = relocation_prefix style.format style.gnu (e_machine file) file rela_at section in
     let behind : Result Suffix Refusal = symbol_suffix file style.cap (sh_link file at) (entry_at file (linked_at file at) 24 symbol) symbol in
     let has_none : (if symbol == 0 then Ok NoSuffix else behind) ≡ Ok NoSuffix =
     by_symbol (symbol == 0) behind (no_suffix file style.cap (sh_link file at) (entry_at file (linked_at file at) 24 symbol) symbol none) in
@@ -100,14 +100,14 @@ plain_entry file style section at index none =
     by_symbol true suffix is = refl
     by_symbol false suffix is = is
 
-no_refusal_linked : (file : List ℕ) (linked : Bool) (table : ℕ) → numbers_of file table ≡ None → (if linked then suffixes_refusal file table else None) ≡ None
+no_refusal_linked : (file : List ℕ) (linked : Bool) (table : ℕ) → version_numbers_of file table ≡ None → (if linked then suffixes_refusal file table else None) ≡ None
 no_refusal_linked file true table none = no_refusal file table none
 no_refusal_linked file false table none = refl
 
 pub unversioned_entries : UnversionedEntriesArePlain
-unfolding suffixed_relocations relocations suffixed_relocation_rows
+unfolding relocations_with_versions relocations suffixed_relocation_rows
 unversioned_entries file style section at none =
-    ap (λ (refusal : Option Refusal). behind_refusal refusal (each (suffixed_relocation_row file style section at) 0 (entry_count file at 24)))
+    ap (λ (refusal : Option Refusal). after_refusal refusal (each (relocation_row_with_version file style section at) 0 (entry_count file at 24)))
     (no_refusal_linked file (has_symbols file at && not (entry_count file at 24 == 0)) (sh_link file at) none)
     ∙ each_same _ _ _ _ (λ i. plain_entry file style section at i none)
 
@@ -117,15 +117,15 @@ default_none true true is = refl
 default_none false true is = refl
 default_none word false is = cc
 
-suffix_default : (b : Bool) (at : ℕ) (answer : Result Shown Cause) (is_default : Bool) (name : Shown) → b ≡ false → suffix_of b at answer ≡ Ok (Suffixed is_default name) → is_default ≡ false
+suffix_default : (b : Bool) (at : ℕ) (answer : Result DisplayedName Cause) (is_default : Bool) (name : DisplayedName) → b ≡ false → suffix_of b at answer ≡ Ok (Suffixed is_default name) → is_default ≡ false
 suffix_default b at (Ok shown) is_default name none is = let same : b ≡ is_default = cc in sym same ∙ none
 suffix_default b at (Err cause) is_default name none is = cc
 
 pub undefined_default : UndefinedHaveNoDefault
 unfolding symbol_suffix suffix_at word_suffix
-undefined_default file cap table symbol_at index is_default name undefined is = by_numbers (numbers_of file table) is
+undefined_default file cap table symbol_at index is_default name undefined is = by_numbers (version_numbers_of file table) is
   where
-    by_met : (word at : ℕ) (found : Option Met)
+    by_met : (word at : ℕ) (found : Option VisitedRecord)
         → (elim found as (λ _. Result Suffix Refusal) [
           | None ↦ Err (record { at = at; cause = VersionIndex })
           | Some met ↦ suffix_of (is_default_of file symbol_at word) (named_at file met) (shown (version_strings file met.kind) (name_index file met) cap)

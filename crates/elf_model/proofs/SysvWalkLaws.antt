@@ -1,13 +1,13 @@
 -- Walks in a hash table of the gABI for a symbol that answers: what is calculated is the one walk, and it is bounded.
 use Rattle.std.proofs.Common.{◌≡◌, ℕ, zero, suc, ◌<◌, ◌≤◌, inl, inr, Bool, true, false, List, Option, None, Some, Result, Ok, Err, refl, sym, ap, ◌∙◌, arith}
 use Rattle.std.proofs.lemmas.Bool.{cases_lt, cases_Bool, and_parts, ltb-true}
-use Rattle.elf_model.specs.Chains.{HashTable, WalkEnd, NotThere, Untried, Answers, Last, end_of_trial, Walked}
+use Rattle.elf_model.specs.Chains.{HashTable, WalkEnd, NotThere, Untried, Answers, Last, end_of_match, ChainResult}
 use Rattle.elf_model.specs.Hash.{sysv_hash, sysv_nchain, bucket_of, symbol_at, same_symbol, is_index, end_at_word, end_of_name, lookup_word, word_at, lookup_at, looked_up, LookupEnd, ChainEnd, NoIndex, Nameless, Wanted, Lookup, IsLookup, IsFirst, IsEndless}
 use Rattle.elf_model.specs.Records.{sh_offset}
 use Rattle.elf_model.specs.Tables.{linked_at}
 use Rattle.elf_model.specs.declared.causes.Cause.{Cause}
 use Rattle.elf_model.specs.HashLaws.{GoesOn, IsBounded}
-use Rattle.elf_model.specs.SysvWalk.{sysv_bucket_of, sysv_word_at, sysv_cycle, section_table_of, fault_at, has_name, lookup_of, is_sysv_index, sysv_end, sysv_word, sysv_walked_at, sysv_walked_by, sysv_walk_end, sysv_walked, IsSysvWalk}
+use Rattle.elf_model.specs.SysvWalk.{sysv_bucket_of, sysv_word_at, sysv_cycle, section_table_of, fault_at, has_name, parse_lookup, is_sysv_index, sysv_end, sysv_word, sysv_walked_at, sysv_walked_by, sysv_walk_end, sysv_walked, IsSysvWalk}
 use Rattle.elf_model.specs.SysvWalkLaws.{SysvWalkAnswers, SysvWalkIsOne, SysvWalkIsBounded, SysvFoundAnswers, SysvWalkIsLookup}
 use Rattle.elf_model.specs.declared.causes.Refusal.{Refusal}
 use Rattle.elf_model.proofs.LookupLaws.{lookup_answers}
@@ -18,7 +18,7 @@ module _ (file : List ℕ) (table : HashTable) (trial : ℕ → Result Bool Refu
   unfolding sysv_end
   end-not_there y t = rw (t, sysv_end) refl
 
-  end-tried : (y : ℕ) → is_sysv_index file table (suc y) ≡ true → sysv_end file table trial (suc y) ≡ end_of_trial (trial (suc y)) None
+  end-tried : (y : ℕ) → is_sysv_index file table (suc y) ≡ true → sysv_end file table trial (suc y) ≡ end_of_match (trial (suc y)) None
   unfolding sysv_end
   end-tried y t = rw (t, sysv_end) refl
 
@@ -121,7 +121,7 @@ module _ (file : List ℕ) (table : HashTable) (hash : ℕ) (trial : ℕ → Res
   tried_at i (Untried refusal) f = (refl, fewer_before i (Untried refusal) f (end_is_below _ _ f.here (λ e. cc) (λ e. cc)))
   tried_at i Answers f = (refl, fewer_before i Answers f (end_is_below _ _ f.here (λ e. cc) (λ e. cc)))
 
-  tried_by : (walked : Walked) → IsSysvWalk file table hash trial walked
+  tried_by : (walked : ChainResult) → IsSysvWalk file table hash trial walked
       → (walked.read ≡ walked.tried) × (walked.tried ≤ sysv_nchain file table.place)
   tried_by walked (inl a) = rw (a.gives) (tried_at a.number a.end a.first)
   tried_by walked (inr b) = rw (b.gives) (refl, omega arith)
@@ -131,7 +131,7 @@ sysv_walk_is_bounded file table hash trial =
     tried_by file table hash trial (sysv_walked file table hash trial) (sysv_walk_answers file table hash trial)
 
 -- a symbol that is tried, and at which the walk ends as at one that answers, answers
-answering_trial : (r : Result Bool Refusal) → end_of_trial r None ≡ Some Answers → r ≡ Ok true
+answering_trial : (r : Result Bool Refusal) → end_of_match r None ≡ Some Answers → r ≡ Ok true
 answering_trial (Ok true) e = refl
 answering_trial (Ok false) e = absurd (cc)
 answering_trial (Err refusal) e = absurd (cc)
@@ -154,10 +154,10 @@ module _ (file : List ℕ) (table : HashTable) (hash : ℕ) (trial : ℕ → Res
   found_at i y Answers e = (refl, cc)
   found_at i y Last e = absurd (cc)
 
-  found_by : (walked : Walked) (y : ℕ) → IsSysvWalk file table hash trial walked → walked.answer ≡ Ok (Some y) → trial y ≡ Ok true
-  found_by walked y (inr b) e = let g = ap (λ (w : Walked). w.answer) b.gives in absurd (cc)
+  found_by : (walked : ChainResult) (y : ℕ) → IsSysvWalk file table hash trial walked → walked.answer ≡ Ok (Some y) → trial y ≡ Ok true
+  found_by walked y (inr b) e = let g = ap (λ (w : ChainResult). w.answer) b.gives in absurd (cc)
   found_by walked y (inl a) e =
-      let here = found_at a.number y a.end (sym (ap (λ (w : Walked). w.answer) a.gives) ∙ e) in
+      let here = found_at a.number y a.end (sym (ap (λ (w : ChainResult). w.answer) a.gives) ∙ e) in
       rw (here.1) (answers_is (sysv_word file table.place hash a.number) (a.first.here ∙ ap (λ (x : WalkEnd). Some x) here.0))
 
 pub sysv_found_answers : SysvFoundAnswers
@@ -175,7 +175,7 @@ as_end_if : ℕ → Option LookupEnd → Option WalkEnd
 as_end_if symbol None = None
 as_end_if symbol (Some end) = Some (as_end symbol end)
 
-trial_alike : (symbol : ℕ) (equal : Result Bool Cause) → end_of_trial (fault_at symbol equal) None ≡ as_end_if symbol (end_of_name equal)
+trial_alike : (symbol : ℕ) (equal : Result Bool Cause) → end_of_match (fault_at symbol equal) None ≡ as_end_if symbol (end_of_name equal)
 unfolding as_end as_end_if
 trial_alike symbol (Ok true) = refl
 trial_alike symbol (Ok false) = refl
@@ -202,7 +202,7 @@ module _ (file : List ℕ) (at : ℕ) (wanted : List ℕ) where
   words_alike i = refl
 
   gives_alike : (i : ℕ) (end : LookupEnd)
-      → lookup_of file at (sysv_walked_at file (sh_offset file at) (sysv_hash wanted) i (as_end (symbol (lookup_word file at wanted i)) end))
+      → parse_lookup file at (sysv_walked_at file (sh_offset file at) (sysv_hash wanted) i (as_end (symbol (lookup_word file at wanted i)) end))
       ≡ lookup_at file at wanted i end
   unfolding sysv_walked_at lookup_at as_end symbol sysv_bucket_of bucket_of sysv_word_at word_at
   gives_alike i ChainEnd = refl
@@ -211,7 +211,7 @@ module _ (file : List ℕ) (at : ℕ) (wanted : List ℕ) where
   gives_alike i (Nameless cause) = refl
   gives_alike i Wanted = refl
 
-  pub walk : Walked
+  pub walk : ChainResult
   walk = sysv_walked file (section_table_of file at) (sysv_hash wanted) trial
 
   first_alike : (number : ℕ) (end : LookupEnd) → IsFirst (end_at_word file at wanted) (lookup_word file at wanted) number end
@@ -227,19 +227,19 @@ module _ (file : List ℕ) (at : ℕ) (wanted : List ℕ) where
         ∙ ap (as_end_if (symbol (lookup_word file at wanted j))) (f.none_before j low);
   }
 
-  walk_is : (walked : Walked) → IsSysvWalk file (section_table_of file at) (sysv_hash wanted) trial walked → walk ≡ walked
+  walk_is : (walked : ChainResult) → IsSysvWalk file (section_table_of file at) (sysv_hash wanted) trial walked → walk ≡ walked
   unfolding walk
   walk_is walked is =
       sysv_walk_is_one file (section_table_of file at) (sysv_hash wanted) trial walk walked
       (sysv_walk_answers file (section_table_of file at) (sysv_hash wanted) trial) is
 
-  walk_alike : (lookup : Lookup) → IsLookup file at wanted lookup → lookup_of file at walk ≡ lookup
+  walk_alike : (lookup : Lookup) → IsLookup file at wanted lookup → parse_lookup file at walk ≡ lookup
   unfolding as_end_if sysv_bucket_of bucket_of
   walk_alike lookup (inl a) =
       let end = as_end (symbol (lookup_word file at wanted a.number)) a.end in
       let is = walk_is (sysv_walked_at file (sh_offset file at) (sysv_hash wanted) a.number end)
       (inl (record { number = a.number; end = end; first = first_alike a.number a.end a.first; gives = refl })) in
-      ap (lookup_of file at) is ∙ gives_alike a.number a.end ∙ sym a.gives
+      ap (parse_lookup file at) is ∙ gives_alike a.number a.end ∙ sym a.gives
   walk_alike lookup (inr b) =
       let is = walk_is (sysv_cycle file (sh_offset file at) (sysv_hash wanted))
       (inr (record {
@@ -247,7 +247,7 @@ module _ (file : List ℕ) (at : ℕ) (wanted : List ℕ) where
             ∙ ap (as_end_if (symbol (lookup_word file at wanted i))) (b.endless i);
         gives = refl;
       })) in
-      ap (lookup_of file at) is ∙ sym b.gives
+      ap (parse_lookup file at) is ∙ sym b.gives
 
 pub sysv_walk_is_lookup : SysvWalkIsLookup
 unfolding walk trial

@@ -3,21 +3,21 @@ use Rattle.std.proofs.Common.{◌≡◌, ℕ, zero, suc, ◌+◌, ◌<◌, ◌�
 use Rattle.std.proofs.lemmas.Bool.{cases_Bool}
 use Rattle.std.proofs.lemmas.List.Elements.{All-nil, All-cons, All-head, All-tail, All-append}
 use Rattle.std.specs.Result.{is_ok}
-use Rattle.elf_model.specs.Choice.{RowChoice}
+use Rattle.elf_model.specs.Choice.{RowFilter}
 use Rattle.elf_model.specs.Checks.{Check, first_refusal}
 use Rattle.elf_model.specs.HeaderTables.{TableKind, file_sections, header_field}
 use Rattle.elf_model.specs.Listing.{ListingItem, Line, Fault, fault_of, guarded, each}
-use Rattle.elf_model.specs.Names.{Shown, shown}
+use Rattle.elf_model.specs.Names.{DisplayedName, shown}
 use Rattle.elf_model.specs.Numbers.{SHT_GNU_VERDEF, SHT_GNU_VERNEED}
 use Rattle.elf_model.specs.Records.{e_shnum, sh_type, sh_offset, sh_size, section_at, vn_aux, vn_next}
 use Rattle.elf_model.specs.Report.{table_rows, kinds_rows}
-use Rattle.elf_model.specs.Fields.{LineFront}
+use Rattle.elf_model.specs.Fields.{LinePrefix}
 use Rattle.elf_model.specs.Rows.{chosen_row}
 use Rattle.elf_model.specs.Style.{Style}
 use Rattle.elf_model.specs.Tables.{all_checks, strings_of}
 use Rattle.elf_model.specs.VersionLaws.{NamesOfNumbersAreShown, records_rows}
-use Rattle.elf_model.specs.VersionRows.{version_row, met_rows, versions_rows, end_rows, section_versions, first_of_type, first_versions, first_strings, version_named, version_strings, version_definitions, version_needs}
-use Rattle.elf_model.specs.Versions.{Met, Stand, along, along_needs, next_stand, met_at, met_from, versions_in, first_stand, most_records, names_number, named_by, name_index, named_at, next_word, record_checks, version_of}
+use Rattle.elf_model.specs.VersionRows.{version_row, visited_rows, versions_rows, end_rows, section_versions, first_of_type, first_versions, first_strings, version_named, version_strings, version_definitions, version_needs}
+use Rattle.elf_model.specs.Versions.{VisitedRecord, RecordCursorState, along, along_needs, next_position, visited_at, visited_from, versions_in, first_position, max_records, names_version_index, named_by, name_index, named_at, next_word, record_checks, version_of}
 use Rattle.elf_model.specs.declared.causes.Cause.{Cause}
 use Rattle.elf_model.specs.declared.causes.Refusal.{Refusal}
 use Rattle.elf_model.specs.declared.versions.VersionKind.{VersionKind}
@@ -61,29 +61,29 @@ table-none kind file style index at has h =
     guarded-none (all_checks kind.checks file at) (kind.rows file style index at) (rw (has, table_rows) at h)
 
 -- the name of a row without a fault is shown
-row-shown : (choice : RowChoice) (front : LineFront) (at : ℕ) (name : Result Shown Cause) → fault_of (chosen_row choice front at name) ≡ None → is_ok name ≡ true
+row-shown : (choice : RowFilter) (front : LinePrefix) (at : ℕ) (name : Result DisplayedName Cause) → fault_of (chosen_row choice front at name) ≡ None → is_ok name ≡ true
 row-shown choice front at (Ok name) h = refl
 row-shown choice front at (Err cause) h = cc
 
 -- the name of a record is shown, in some strings
-abbrev IsShown : List ℕ → ℕ → List ℕ → Met → Type 0
+abbrev IsShown : List ℕ → ℕ → List ℕ → VisitedRecord → Type 0
 IsShown file cap strings met = is_ok (shown strings (name_index file met) cap) ≡ true
 
-rows-shown : (file : List ℕ) (style : Style) (section : ℕ) (strings : List ℕ) (records : List Met)
-    → fault_of (met_rows file style section strings records) ≡ None → All (IsShown file style.cap strings) records
-unfolding met_rows version_row
+rows-shown : (file : List ℕ) (style : Style) (section : ℕ) (strings : List ℕ) (records : List VisitedRecord)
+    → fault_of (visited_rows file style section strings records) ≡ None → All (IsShown file style.cap strings) records
+unfolding visited_rows version_row
 rows-shown file style section strings [] h = All-nil _
 rows-shown file style section strings (met ∷ others) h =
     let row : List ListingItem = version_row file style section strings met in
-    let more : List ListingItem = met_rows file style section strings others in
+    let more : List ListingItem = visited_rows file style section strings others in
     All-cons (IsShown file style.cap strings) met others (row-shown style.choice _ (named_at file met) _ (front-none row more h))
     (rows-shown file style section strings others (back-none row more h))
 
 met-none : (kind : VersionKind) (file : List ℕ) (style : Style) (section at : ℕ) → fault_of (versions_rows kind file style section at) ≡ None
-    → fault_of (met_rows file style section (strings_of file at) (section_versions kind file at).met) ≡ None
+    → fault_of (visited_rows file style section (strings_of file at) (section_versions kind file at).met) ≡ None
 unfolding versions_rows
 met-none kind file style section at h =
-    front-none (met_rows file style section (strings_of file at) (section_versions kind file at).met) (end_rows (section_versions kind file at).cut) h
+    front-none (visited_rows file style section (strings_of file at) (section_versions kind file at).met) (end_rows (section_versions kind file at).cut) h
 
 -- the records of a table of definitions are definitions; those of a table of needs are none
 abbrev pub IsDefinition : VersionKind → Bool
@@ -91,7 +91,7 @@ IsDefinition Definition = true
 IsDefinition File = false
 IsDefinition Need = false
 
-abbrev StandsOn : Bool → Option Stand → Type 0
+abbrev StandsOn : Bool → Option RecordCursorState → Type 0
 StandsOn definition None = Unit {0}
 StandsOn definition (Some stand) = IsDefinition stand.kind ≡ definition
 
@@ -112,37 +112,37 @@ needs-stand table place distance owner files = by_end (distance == 0)
     by_end true = along-stands false table File owner files 0 refl
     by_end false = along-stands false table Need place distance owner refl
 
-behind-stands : (file : List ℕ) (table : ℕ) (stand : Stand) → StandsOn (IsDefinition stand.kind) (next_stand file table stand)
-unfolding next_stand
+behind-stands : (file : List ℕ) (table : ℕ) (stand : RecordCursorState) → StandsOn (IsDefinition stand.kind) (next_position file table stand)
+unfolding next_position
 behind-stands file table stand = by_kind stand.kind
   where
-    by_kind : (kind : VersionKind) → StandsOn (IsDefinition kind) (elim kind as (λ _. Option Stand) [
-      | Definition ↦ along table Definition stand.place (next_word file (met_at table stand)) 0
+    by_kind : (kind : VersionKind) → StandsOn (IsDefinition kind) (elim kind as (λ _. Option RecordCursorState) [
+      | Definition ↦ along table Definition stand.place (next_word file (visited_at table stand)) 0
       | File ↦ Some (record { kind = Need; place = stand.place + vn_aux file (table + stand.place); from = table + stand.place; owner = stand.place })
-      | Need ↦ along_needs table stand.place (next_word file (met_at table stand)) stand.owner (vn_next file (table + stand.owner))
+      | Need ↦ along_needs table stand.place (next_word file (visited_at table stand)) stand.owner (vn_next file (table + stand.owner))
     ])
-    by_kind Definition = along-stands true table Definition stand.place (next_word file (met_at table stand)) 0 refl
+    by_kind Definition = along-stands true table Definition stand.place (next_word file (visited_at table stand)) 0 refl
     by_kind File = refl
-    by_kind Need = needs-stand table stand.place (next_word file (met_at table stand)) stand.owner (vn_next file (table + stand.owner))
+    by_kind Need = needs-stand table stand.place (next_word file (visited_at table stand)) stand.owner (vn_next file (table + stand.owner))
 
 -- so all records of a table are of one kind
-of-one-kind : (file : List ℕ) (table size most : ℕ) (stand : Option Stand) (definition : Bool) → StandsOn definition stand
-    → All (λ (m : Met). IsDefinition m.kind ≡ definition) (met_from file table size stand most).met
+of-one-kind : (file : List ℕ) (table size most : ℕ) (stand : Option RecordCursorState) (definition : Bool) → StandsOn definition stand
+    → All (λ (m : VisitedRecord). IsDefinition m.kind ≡ definition) (visited_from file table size stand most).met
 of-one-kind file table size most None definition is = rw (met-ended file table size most) (All-nil _)
 of-one-kind file table size zero (Some stand) definition is = rw (met-most file table size stand) (All-nil _)
 of-one-kind file table size (suc most) (Some stand) definition is =
-    let next : StandsOn definition (next_stand file table stand) = rw is at (behind-stands file table stand) in
-    go (of-one-kind file table size most (next_stand file table stand) definition next) (first_refusal (record_checks file table size stand)) refl
+    let next : StandsOn definition (next_position file table stand) = rw is at (behind-stands file table stand) in
+    go (of-one-kind file table size most (next_position file table stand) definition next) (first_refusal (record_checks file table size stand)) refl
   where
-    go : All (λ (m : Met). IsDefinition m.kind ≡ definition) (met_from file table size (next_stand file table stand) most).met
+    go : All (λ (m : VisitedRecord). IsDefinition m.kind ≡ definition) (visited_from file table size (next_position file table stand) most).met
         → (refusal : Option Refusal) → first_refusal (record_checks file table size stand) ≡ refusal
-        → All (λ (m : Met). IsDefinition m.kind ≡ definition) (met_from file table size (Some stand) (suc most)).met
+        → All (λ (m : VisitedRecord). IsDefinition m.kind ≡ definition) (visited_from file table size (Some stand) (suc most)).met
     go more (Some refusal) h = rw (met-refused file table size stand most refusal h) (All-nil _)
     go more None h =
         rw (met-record file table size stand most h)
-        (All-cons (λ (m : Met). IsDefinition m.kind ≡ definition) (met_at table stand) (met_from file table size (next_stand file table stand) most).met is more)
+        (All-cons (λ (m : VisitedRecord). IsDefinition m.kind ≡ definition) (visited_at table stand) (visited_from file table size (next_position file table stand) most).met is more)
 
-first-stands : (kind : VersionKind) (head size : ℕ) → StandsOn (IsDefinition kind) (first_stand kind head size)
+first-stands : (kind : VersionKind) (head size : ℕ) → StandsOn (IsDefinition kind) (first_position kind head size)
 first-stands kind head size = by_size (size == 0)
   where
     by_size : (empty : Bool) → StandsOn (IsDefinition kind) (if empty then None else Some (record { kind = kind; place = 0; from = head; owner = 0 }))
@@ -150,10 +150,10 @@ first-stands kind head size = by_size (size == 0)
     by_size false = refl
 
 pub table-kinds : (kind : VersionKind) (file : List ℕ) (at : ℕ)
-    → All (λ (m : Met). IsDefinition m.kind ≡ IsDefinition kind) (section_versions kind file at).met
+    → All (λ (m : VisitedRecord). IsDefinition m.kind ≡ IsDefinition kind) (section_versions kind file at).met
 unfolding versions_in
 table-kinds kind file at =
-    of-one-kind file (sh_offset file at) (sh_size file at) (most_records kind (sh_size file at)) (first_stand kind at (sh_size file at)) (IsDefinition kind)
+    of-one-kind file (sh_offset file at) (sh_size file at) (max_records kind (sh_size file at)) (first_position kind at (sh_size file at)) (IsDefinition kind)
     (first-stands kind at (sh_size file at))
 
 -- the strings of their names
@@ -170,28 +170,28 @@ strings-are file Need File is = refl
 strings-are file Need Need is = refl
 
 -- the name of a record is shown, in the strings of its kind
-abbrev IsNamed : List ℕ → ℕ → Met → Type 0
-IsNamed file cap met = is_ok (shown (version_strings file met.kind) (name_index file met) cap) ≡ true
+abbrev IsNulTerminatedAt : List ℕ → ℕ → VisitedRecord → Type 0
+IsNulTerminatedAt file cap met = is_ok (shown (version_strings file met.kind) (name_index file met) cap) ≡ true
 
-both-named : (file : List ℕ) (cap : ℕ) (kind : VersionKind) (records : List Met) → All (IsShown file cap (version_strings file kind)) records
-    → All (λ (m : Met). IsDefinition m.kind ≡ IsDefinition kind) records → All (IsNamed file cap) records
+both-named : (file : List ℕ) (cap : ℕ) (kind : VersionKind) (records : List VisitedRecord) → All (IsShown file cap (version_strings file kind)) records
+    → All (λ (m : VisitedRecord). IsDefinition m.kind ≡ IsDefinition kind) records → All (IsNulTerminatedAt file cap) records
 both-named file cap kind [] shown_ kinds = All-nil _
 both-named file cap kind (met ∷ others) shown_ kinds =
-    let same = strings-are file met.kind kind (All-head (λ (m : Met). IsDefinition m.kind ≡ IsDefinition kind) met others kinds) in
-    All-cons (IsNamed file cap) met others (rw same (All-head (IsShown file cap (version_strings file kind)) met others shown_))
+    let same = strings-are file met.kind kind (All-head (λ (m : VisitedRecord). IsDefinition m.kind ≡ IsDefinition kind) met others kinds) in
+    All-cons (IsNulTerminatedAt file cap) met others (rw same (All-head (IsShown file cap (version_strings file kind)) met others shown_))
     (both-named file cap kind others (All-tail (IsShown file cap (version_strings file kind)) met others shown_)
-    (All-tail (λ (m : Met). IsDefinition m.kind ≡ IsDefinition kind) met others kinds))
+    (All-tail (λ (m : VisitedRecord). IsDefinition m.kind ≡ IsDefinition kind) met others kinds))
 
 -- the records of the first section of a type, where the rows of all such sections have no fault
 module _ (file : List ℕ) (style : Style) (kind : VersionKind) (type : ℕ) (table : TableKind)
     (is_typed : (at : ℕ) → table.has_table file at ≡ (sh_type file at == type)) (is_listed : (i at : ℕ) → table.rows file style i at ≡ versions_rows kind file style i at)
     (strings : version_strings file kind ≡ first_strings type file)
     (no_fault : fault_of (each (λ i. table_rows table file style i (section_at file i)) 0 (e_shnum file)) ≡ None) where
-  first-named : All (IsNamed file style.cap) (first_versions kind type file)
+  first-named : All (IsNulTerminatedAt file style.cap) (first_versions kind type file)
   first-named = by_found (first_of_type file type) refl
     where
       by_found : (found : Option ℕ) → first_of_type file type ≡ found
-          → All (IsNamed file style.cap) (elim found as (λ _. List Met) [ None ↦ [] | Some i ↦ (section_versions kind file (section_at file i)).met ])
+          → All (IsNulTerminatedAt file style.cap) (elim found as (λ _. List VisitedRecord) [ None ↦ [] | Some i ↦ (section_versions kind file (section_at file i)).met ])
       by_found None f = All-nil _
       by_found (Some i) f =
           let at : ℕ = section_at file i in
@@ -204,10 +204,10 @@ module _ (file : List ℕ) (style : Style) (kind : VersionKind) (type : ℕ) (ta
           both-named file style.cap kind (section_versions kind file at).met (rw told at all) (table-kinds kind file at)
 
 -- a record that names a number is one of those
-pub named-is : (file : List ℕ) (number : ℕ) (P : Met → Type 0) (records : List Met) (met : Met) → All P records → named_by file number records ≡ Some met → P met
+pub named-is : (file : List ℕ) (number : ℕ) (P : VisitedRecord → Type 0) (records : List VisitedRecord) (met : VisitedRecord) → All P records → named_by file number records ≡ Some met → P met
 named-is file number P [] met all e = let n = named-none file number in absurd (cc)
 named-is file number P (first ∷ records) met all e =
-    elim (cases_Bool (names_number file number first)) [
+    elim (cases_Bool (names_version_index file number first)) [
       | inl here ↦
           let h = named-here file number first records here in
           let same : first ≡ met = cc in
@@ -215,7 +215,7 @@ named-is file number P (first ∷ records) met all e =
       | inr later ↦ named-is file number P records met (All-tail P first records all) (sym (named-later file number first records later) ∙ e)
     ]
 
-version-is : (file : List ℕ) (number : ℕ) (P : Met → Type 0) (first second : List Met) (met : Met) → All P first → All P second
+version-is : (file : List ℕ) (number : ℕ) (P : VisitedRecord → Type 0) (first second : List VisitedRecord) (met : VisitedRecord) → All P first → All P second
     → version_of file first second number ≡ Some met → P met
 unfolding version_of
 version-is file number P first second met a b e = by_size (nat_lt number 2) e
@@ -252,4 +252,4 @@ names_are_shown file style number met h named =
     (front-none first (second ++ []) h) in
     let needs = first-named file style File SHT_GNU_VERNEED version_needs (λ at. refl) (λ i at. refl) (strings-need file)
     (front-none second [] (back-none first (second ++ []) h)) in
-    version-is file number (IsNamed file style.cap) _ _ met definitions needs named
+    version-is file number (IsNulTerminatedAt file style.cap) _ _ met definitions needs named

@@ -2,21 +2,21 @@
 use Rattle.std.proofs.Common.{◌≡◌, ℕ, zero, suc, ◌+◌, ◌<◌, ◌≤◌, min, nat_lt, true, false, List, [], ◌++◌, length, length-append, Option, None, Some, Result, Ok, Err, refl, ◌∙◌, arith, inl, inr}
 use Rattle.std.proofs.lemmas.Bool.{cases_Bool}
 use Rattle.std.proofs.lemmas.Bool.Decides.{nat_tests}
-use Rattle.elf_model.specs.Choice.{RowChoice, EveryRow, RowsOf}
+use Rattle.elf_model.specs.Choice.{RowFilter, EveryRow, RowsOf}
 use Rattle.elf_model.specs.Listing.{ListingItem, each}
-use Rattle.elf_model.specs.Names.{Shown}
-use Rattle.elf_model.specs.Fields.{LineFront}
+use Rattle.elf_model.specs.Names.{DisplayedName}
+use Rattle.elf_model.specs.Fields.{LinePrefix}
 use Rattle.elf_model.specs.Rows.{chosen_row, no_name, refused_row}
 use Rattle.elf_model.specs.Style.{Style}
 use Rattle.elf_model.specs.Tables.{entry_count}
-use Rattle.elf_model.specs.Versions.{VERSYM_SIZE, Met}
+use Rattle.elf_model.specs.Versions.{VERSYM_SIZE, VisitedRecord}
 use Rattle.elf_model.specs.VersionRows.{numbered_row, symbol_version_row, symbol_version_rows, versioned_count, versioned_symbols, version_named}
 use Rattle.elf_model.specs.declared.causes.Cause.{Cause}
 use Rattle.elf_model.specs.declared.causes.Cause.TheVariants.{VersionCut}
 use Rattle.elf_model.specs.VersionLaws.{RowsAreSymbols}
 
 -- where every row is shown, a row with a name is one member
-chosen-one : (choice : RowChoice) (front : LineFront) (at : ℕ) (name : Result Shown Cause) → choice ≡ EveryRow
+chosen-one : (choice : RowFilter) (front : LinePrefix) (at : ℕ) (name : Result DisplayedName Cause) → choice ≡ EveryRow
     → length (chosen_row choice front at name) ≡ 1
 chosen-one EveryRow front at (Ok name) every = refl
 chosen-one EveryRow front at (Err cause) every = refl
@@ -24,7 +24,7 @@ chosen-one (RowsOf names) front at name every = cc
 
 -- and so is the row of a number
 numbered-one :
-    (file : List ℕ) (style : Style) (front : LineFront) (entry number : ℕ) → style.choice ≡ EveryRow
+    (file : List ℕ) (style : Style) (front : LinePrefix) (entry number : ℕ) → style.choice ≡ EveryRow
     → length (numbered_row file style front entry number) ≡ 1
 unfolding numbered_row
 numbered-one file style front entry number every =
@@ -33,7 +33,7 @@ numbered-one file style front entry number every =
       | inr many ↦ go many (version_named file number) refl
     ]
   where
-    go : nat_lt number 2 ≡ false → (named : Option Met) → version_named file number ≡ named
+    go : nat_lt number 2 ≡ false → (named : Option VisitedRecord) → version_named file number ≡ named
         → length (numbered_row file style front entry number) ≡ 1
     go many None same = rw (many, same) refl
     go many (Some met) same = rw (many, same) (chosen-one style.choice front _ _ every)

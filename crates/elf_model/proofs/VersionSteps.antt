@@ -5,37 +5,37 @@ use Rattle.std.proofs.lemmas.Bool.Decides.{nat_tests}
 use Rattle.elf_model.specs.Checks.{Check, refuse, first_refusal}
 use Rattle.elf_model.specs.declared.causes.Cause.TheVariants.{BadVersion, VersionCut, VersionIndex}
 use Rattle.elf_model.specs.declared.causes.Refusal.{Refusal}
-use Rattle.elf_model.specs.Versions.{Stand, record_size, word_checks, record_checks, next_stand, met_at, met_from, no_versions, with_met, VERSION_NUMBERS, number_in, number_word, version_word, name_end}
-use Rattle.elf_model.specs.VersionLaws.{RecordIsMet, RecordIsRefused}
+use Rattle.elf_model.specs.Versions.{RecordCursorState, record_size, word_checks, record_checks, next_position, visited_at, visited_from, no_versions, with_visited, VERSION_NUMBERS, number_in, number_word, version_word, name_end}
+use Rattle.elf_model.specs.VersionLaws.{RecordIsVisited, RecordIsRefused}
 
 -- a walk that has ended meets nothing more
-pub met-ended : (file : List ℕ) (table size most : ℕ) → met_from file table size None most ≡ no_versions None
-unfolding met_from
+pub met-ended : (file : List ℕ) (table size most : ℕ) → visited_from file table size None most ≡ no_versions None
+unfolding visited_from
 met-ended file table size most = refl
 
 -- and one that has met as many records as it may is cut
 pub met-most :
-    (file : List ℕ) (table size : ℕ) (stand : Stand)
-    → met_from file table size (Some stand) zero ≡ no_versions (Some (record { at = stand.from; cause = VersionCut }))
-unfolding met_from
+    (file : List ℕ) (table size : ℕ) (stand : RecordCursorState)
+    → visited_from file table size (Some stand) zero ≡ no_versions (Some (record { at = stand.from; cause = VersionCut }))
+unfolding visited_from
 met-most file table size stand = refl
 
 pub met-record :
-    (file : List ℕ) (table size : ℕ) (stand : Stand) (most : ℕ) → first_refusal (record_checks file table size stand) ≡ None
-    → met_from file table size (Some stand) (suc most)
-    ≡ with_met (met_at table stand) (met_from file table size (next_stand file table stand) most)
-unfolding met_from
-met-record file table size stand most h = rw (h, met_from) refl
+    (file : List ℕ) (table size : ℕ) (stand : RecordCursorState) (most : ℕ) → first_refusal (record_checks file table size stand) ≡ None
+    → visited_from file table size (Some stand) (suc most)
+    ≡ with_visited (visited_at table stand) (visited_from file table size (next_position file table stand) most)
+unfolding visited_from
+met-record file table size stand most h = rw (h, visited_from) refl
 
 pub met-refused :
-    (file : List ℕ) (table size : ℕ) (stand : Stand) (most : ℕ) (refusal : Refusal)
+    (file : List ℕ) (table size : ℕ) (stand : RecordCursorState) (most : ℕ) (refusal : Refusal)
     → first_refusal (record_checks file table size stand) ≡ Some refusal
-    → met_from file table size (Some stand) (suc most) ≡ no_versions (Some refusal)
-unfolding met_from
-met-refused file table size stand most refusal h = rw (h, met_from) refl
+    → visited_from file table size (Some stand) (suc most) ≡ no_versions (Some refusal)
+unfolding visited_from
+met-refused file table size stand most refusal h = rw (h, visited_from) refl
 
-pub record_is_met : RecordIsMet
-record_is_met file table size stand most h = met-record file table size stand most h
+pub record_is_visited : RecordIsVisited
+record_is_visited file table size stand most h = met-record file table size stand most h
 
 pub record_is_refused : RecordIsRefused
 record_is_refused file table size stand most refusal h = met-refused file table size stand most refusal h
@@ -51,20 +51,20 @@ others-pass check checks h = rw (first-passes check checks h) at h
 
 -- a record whose checks pass ends within its table
 pub ends-inside :
-    (file : List ℕ) (table size : ℕ) (stand : Stand) → first_refusal (record_checks file table size stand) ≡ None
+    (file : List ℕ) (table size : ℕ) (stand : RecordCursorState) → first_refusal (record_checks file table size stand) ≡ None
     → stand.place + record_size stand.kind ≤ size
 unfolding record_checks
 ends-inside file table size stand h =
-    let inside : nat_lt size (stand.place + record_size stand.kind) ≡ false = first-passes (refuse (nat_lt size (stand.place + record_size stand.kind)) stand.from VersionCut) (word_checks file size stand.place (met_at table stand)) h in
+    let inside : nat_lt size (stand.place + record_size stand.kind) ≡ false = first-passes (refuse (nat_lt size (stand.place + record_size stand.kind)) stand.from VersionCut) (word_checks file size stand.place (visited_at table stand)) h in
     grind (arith, nat_tests)
 
 -- its number is not too large
 pub number-small :
-    (file : List ℕ) (table size : ℕ) (stand : Stand) → first_refusal (record_checks file table size stand) ≡ None
-    → number_in (number_word file (met_at table stand)) < VERSION_NUMBERS
+    (file : List ℕ) (table size : ℕ) (stand : RecordCursorState) → first_refusal (record_checks file table size stand) ≡ None
+    → number_in (number_word file (visited_at table stand)) < VERSION_NUMBERS
 unfolding record_checks
 number-small file table size stand h =
-    let met = met_at table stand in
+    let met = visited_at table stand in
     let inside_ = refuse (nat_lt size (stand.place + record_size stand.kind)) stand.from VersionCut in
     let layout = refuse (not (version_word file met == 1)) met.at BadVersion in
     let small = refuse (not (nat_lt (number_in (number_word file met)) VERSION_NUMBERS)) met.at VersionIndex in

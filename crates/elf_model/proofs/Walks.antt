@@ -1,11 +1,11 @@
 -- The walk over a note table, one note at a time.
 use Rattle.std.proofs.Common.{min, ◌≡◌, ℕ, suc, zero, ◌+◌, ◌<◌, ◌≤◌, List, [], ◌∷◌, ◌++◌, length, drop, Some, None, refl, ap, sym, ◌∙◌, arith, length-append, length-drop, add-zero}
 use Rattle.std.proofs.lemmas.List.{drop_at, append_assoc}
-use Rattle.elf_model.specs.Notes.{Note, Padded, AllPadded, NextNote, Ends, Broken, OneNote, Walk, to_next, padded_size, first_end, next_note, walk_from, with_note}
+use Rattle.elf_model.specs.Notes.{Note, Padded, AllPadded, NextNote, Ends, Broken, OneNote, NoteScan, bytes_to_alignment, padded_size, first_end, next_note, walk_from, with_note}
 use Rattle.elf_model.proofs.Spellings.{NextView, ends, tails, past, found, next_view, next-spelt, spelt-size}
 
 -- one turn of the walk
-abbrev turn : ℕ → List ℕ → (ℕ → List ℕ → Walk) → NextNote → Walk
+abbrev turn : ℕ → List ℕ → (ℕ → List ℕ → NoteScan) → NextNote → NoteScan
 turn place rest more Ends = record { notes = []; cut = None }
 turn place rest more Broken = record { notes = []; cut = Some place }
 turn place rest more (OneNote note size) = with_note note (more (place + size) (drop size rest))
@@ -28,7 +28,7 @@ found-size a rest note size e = go (next_view a rest)
     go (tails h n) = cc
     go (past n) = cc
     go (found h l n) =
-        let s : size ≡ min (first_end a rest + to_next a (first_end a rest)) (length rest) = cc in
+        let s : size ≡ min (first_end a rest + bytes_to_alignment a (first_end a rest)) (length rest) = cc in
         (omega arith, omega arith)
 
 -- any number of turns above the number of bytes is enough
@@ -49,7 +49,7 @@ walk-enough a (suc f) (suc g) place rest p q = step (λ n xs. walk-enough a f g 
             ap (with_note note) (more (place + size) (drop size rest) (omega (arith, length-drop size rest)) (omega (arith, length-drop size rest)))
 
 -- the walk over all bytes that are left
-abbrev pub walk : ℕ → ℕ → List ℕ → Walk
+abbrev pub walk : ℕ → ℕ → List ℕ → NoteScan
 walk a place rest = walk_from a (suc (length rest)) place rest
 
 pub walk-ends : (a place : ℕ) (rest : List ℕ) → next_note a rest ≡ Ends → walk a place rest ≡ record { notes = []; cut = None }
@@ -72,7 +72,7 @@ walk-padded : (a place : ℕ) (note : Note) (first rest : List ℕ) → Padded a
 walk-padded a place note first rest p =
     let e : first ++ rest ≡ p.spelling ++ (p.padding ++ rest) = rw (p.parts) (append_assoc p.spelling p.padding rest) in
     let size : length first ≡ padded_size a note =
-    ap length p.parts ∙ omega (arith, length-append p.spelling p.padding, p.padding_size, spelt-size a note p.spelling p.spelt, ap (to_next a) (spelt-size a note p.spelling p.spelt)) in
+    ap length p.parts ∙ omega (arith, length-append p.spelling p.padding, p.padding_size, spelt-size a note p.spelling p.spelt, ap (bytes_to_alignment a) (spelt-size a note p.spelling p.spelt)) in
     let next : next_note a (first ++ rest) ≡ OneNote note (min (padded_size a note) (length (first ++ rest))) =
     rw e (next-spelt a note p.spelling (p.padding ++ rest) p.spelt) in
     let m : min (padded_size a note) (length (first ++ rest)) ≡ length first = omega (arith, length-append first rest) in
@@ -80,7 +80,7 @@ walk-padded a place note first rest p =
     ∙ ap (λ x. with_note note (walk a (place + length first) x)) (drop_at first rest (length first) refl)
 
 -- notes in front of those of a walk
-abbrev pub with_notes : List Note → Walk → Walk
+abbrev pub with_notes : List Note → NoteScan → NoteScan
 with_notes notes w = record { notes = notes ++ w.notes; cut = w.cut }
 
 -- padded notes are walked first

@@ -8,8 +8,8 @@ use Rattle.elf_model.specs.Numbers.{ET_REL, EM_X86_64, SHT_NULL, SHT_NOBITS, SHT
 use Rattle.elf_model.specs.Placing.{Layout, base_value, unnamed_value, has_base, place_value}
 use Rattle.elf_model.specs.Records.{e_type, e_machine, e_shnum, sh_type, sh_flags, sh_info, r_offset, r_sym, r_type, r_addend, twos_complement, section_at}
 use Rattle.elf_model.specs.Tables.{RELA_SIZE, section_bytes, linked_at, strings_of, entry_count, entry_at, relocation_table_checks, symbol_checks_of}
-use Rattle.elf_model.specs.Values.{Terms, takes_place, kind_of, overflows, low_bytes}
-use Rattle.elf_model.specs.declared.relocation_types.Base.{Base}
+use Rattle.elf_model.specs.Values.{FormulaTerms, takes_place, kind_of, overflows, low_bytes}
+use Rattle.elf_model.specs.declared.relocation_types.RelocationBase.{RelocationBase}
 use Rattle.elf_model.specs.declared.relocation_types.RelocationType.{RelocationType}
 use Rattle.elf_model.specs.declared.causes.Cause.TheVariants.{NotRel, BadLink, Unsupported, Overflow, PlaceOutside}
 use Rattle.elf_model.specs.declared.causes.Refusal.{Refusal}
@@ -28,14 +28,14 @@ unfoldable pub held_bytes : List ℕ → ℕ → List ℕ
 held_bytes file at = elim (has_no_bytes file at) [ true ↦ [] | false ↦ section_bytes file at ]
 
 -- what relocations are applied to: the file, the section's index, how many bytes it has, and the layout
-pub record Target : Type 0 where
+pub record ApplyTarget : Type 0 where
   pub file : List ℕ
   pub section : ℕ
   pub size : ℕ
   pub layout : Layout
 
 -- B, by its base, of the symbol that an entry names
-unfoldable pub named_value : Base → Target → ℕ → ℕ → Result ℕ Refusal
+unfoldable pub named_value : RelocationBase → ApplyTarget → ℕ → ℕ → Result ℕ Refusal
 named_value base target at rela =
     let file = target.file in
     let symbols = linked_at file at in
@@ -59,7 +59,7 @@ value_or_zero (Ok value) = value
 value_or_zero (Err refusal) = 0
 
 -- B, A and P of a relocation entry
-abbrev pub terms_of : Target → ℕ → ℕ → RelocationType → Terms
+abbrev pub terms_of : ApplyTarget → ℕ → ℕ → RelocationType → FormulaTerms
 terms_of target at rela type =
     record {
       base = value_or_zero (named_value type.base target at rela);
@@ -70,7 +70,7 @@ terms_of target at rela type =
 -- The checks of a relocation entry by its type, in their order; the first that fails refuses the entry. Its bytes lie in
 -- the section; its symbol is one; B is there, and P where the formula takes it; its value is in the type's range. They
 -- refuse at the entry, but for a name that cannot be compared: that is at its symbol.
-unfoldable pub entry_checks : Target → ℕ → ℕ → RelocationType → List Check
+unfoldable pub entry_checks : ApplyTarget → ℕ → ℕ → RelocationType → List Check
 entry_checks target at rela type =
     refuse (nat_lt target.size (r_offset target.file rela + type.width)) rela PlaceOutside
     ∷ symbol_checks target.file at rela
@@ -85,12 +85,12 @@ pub record StoredBytes : Type 0 where
   pub bytes : List ℕ
 
 -- what an entry does to the section: bytes are stored, or it is refused
-pub data Change : Type 0 where
-  Put : StoredBytes → Change
-  Fails : Refusal → Change
+pub data SectionChange : Type 0 where
+  Put : StoredBytes → SectionChange
+  Fails : Refusal → SectionChange
 
 -- what an entry does: before all other checks it is refused if its type is none that stores a value
-unfoldable pub change_of : Target → ℕ → ℕ → Option RelocationType → Change
+unfoldable pub change_of : ApplyTarget → ℕ → ℕ → Option RelocationType → SectionChange
 change_of target at rela None = Fails (record { at = rela; cause = Unsupported })
 change_of target at rela (Some type) =
     elim (first_refusal (entry_checks target at rela type)) [
@@ -104,7 +104,7 @@ where_based layout None = None
 where_based layout (Some type) = elim (has_base layout type.base) [ true ↦ Some type | false ↦ None ]
 
 -- what an entry does, if anything: R_X86_64_NONE does nothing, and nothing of it is checked
-unfoldable pub entry_changes : Target → ℕ → ℕ → List Change
+unfoldable pub entry_changes : ApplyTarget → ℕ → ℕ → List SectionChange
 entry_changes target at rela =
     elim (r_type target.file rela == R_X86_64_NONE) [
       | true ↦ []
@@ -129,7 +129,7 @@ abbrev pub applies_to : List ℕ → ℕ → ℕ → Bool
 applies_to file section at = sh_type file at == SHT_RELA && sh_info file at == section
 
 -- what a section does: nothing unless it holds entries for the target; its first refusal, or what its entries do
-unfoldable pub section_changes : Target → ℕ → List Change
+unfoldable pub section_changes : ApplyTarget → ℕ → List SectionChange
 section_changes target at =
     elim (applies_to target.file target.section at) [
       | false ↦ []
@@ -140,7 +140,7 @@ section_changes target at =
     ]
 
 -- what all sections do, in the order of their index
-unfoldable pub changes_of : Target → List Change
+unfoldable pub changes_of : ApplyTarget → List SectionChange
 changes_of target = flat_map (section_changes target) (section_headers target.file)
 
 -- a patch before others, unless there is a refusal among those
@@ -149,7 +149,7 @@ and_patches patch (Err refusal) = Err refusal
 and_patches patch (Ok patches) = Ok (patch ∷ patches)
 
 -- all that is stored, or the first refusal
-unfoldable pub patches_of : List Change → Result (List StoredBytes) Refusal
+unfoldable pub patches_of : List SectionChange → Result (List StoredBytes) Refusal
 patches_of [] = Ok []
 patches_of (Fails refusal ∷ changes) = Err refusal
 patches_of (Put patch ∷ changes) = and_patches patch (patches_of changes)
@@ -181,7 +181,7 @@ abbrev pub held_size : List ℕ → ℕ → ℕ
 held_size file section = length (held_bytes file (section_at file section))
 
 -- a section of a file as a target
-abbrev pub target_of : List ℕ → ℕ → Layout → Target
+abbrev pub target_of : List ℕ → ℕ → Layout → ApplyTarget
 target_of file section layout =
     record { file = file; section = section; size = held_size file section; layout = layout }
 

@@ -1,6 +1,6 @@
 -- Laws of patches: what an entry stores, what a part of a patched section holds, and which parts later patches leave alone.
 use Rattle.std.specs.Prelude.{ℕ, ◌+◌, ◌-◌, ◌≤◌, ◌≡◌, ◌&&◌, nat_lt, nat_le, if◌then◌else◌, min, List, [], ◌∷◌, length, get_or, take, drop, map, All, Some, Ok}
-use Rattle.elf_model.specs.Apply.{StoredBytes, Put, Target, terms_of, entry_changes, changes_of, patches_of, patched, held_size, applied}
+use Rattle.elf_model.specs.Apply.{StoredBytes, Put, ApplyTarget, terms_of, entry_changes, changes_of, patches_of, patched, held_size, applied}
 use Rattle.elf_model.specs.Bytes.{slice}
 use Rattle.elf_model.specs.Placing.{Layout}
 use Rattle.elf_model.specs.Records.{r_offset, r_type}
@@ -68,7 +68,7 @@ KeptAbove =
 -- an entry that stores bytes stores the value of its type's B, A and P at its offset
 abbrev pub EntryStoresValue : Type 0
 EntryStoresValue =
-    (target : Target) (at rela : ℕ) (patch : StoredBytes)
+    (target : ApplyTarget) (at rela : ℕ) (patch : StoredBytes)
     → entry_changes target at rela ≡ Put patch ∷ []
     → (type : RelocationType)
     × (kind_of (r_type target.file rela) ≡ Some type)
@@ -78,7 +78,7 @@ EntryStoresValue =
 -- what the relocation entries store lies in the section
 abbrev pub ChangesInside : Type 0
 ChangesInside =
-    (target : Target) (patches : List StoredBytes) → patches_of (changes_of target) ≡ Ok patches → AllInside target.size patches
+    (target : ApplyTarget) (patches : List StoredBytes) → patches_of (changes_of target) ≡ Ok patches → AllInside target.size patches
 
 -- a section with its relocations applied has as many bytes as it holds in the file
 abbrev pub AppliedKeepsLength : Type 0

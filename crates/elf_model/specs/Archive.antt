@@ -4,14 +4,14 @@ use Rattle.std.specs.Prelude.{ℕ, zero, suc, ◌+◌, ◌-◌, ◌*◌, ◌%◌
 use Rattle.std.specs.List.{list_all}
 use Rattle.elf_model.specs.Bytes.{slice, field}
 use Rattle.elf_model.specs.Checks.{Check, refuse}
-use Rattle.elf_model.specs.Fields.{Fields, LineFront, front}
+use Rattle.elf_model.specs.Fields.{Fields, LinePrefix, front}
 use Rattle.elf_model.specs.Fields.Field.{Decimal, Hexadecimal}
 use Rattle.elf_model.specs.Lines.{named_line, refusal_line}
 use Rattle.elf_model.specs.Listing.{ListingItem, Line, Fault, fault_of, guarded, lines_of, report_of, known_parts}
-use Rattle.elf_model.specs.Names.{Shown}
-use Rattle.elf_model.specs.Names.Shown.{Cut}
+use Rattle.elf_model.specs.Names.{DisplayedName}
+use Rattle.elf_model.specs.Names.DisplayedName.{Cut}
 use Rattle.elf_model.specs.Notes.{capped}
-use Rattle.elf_model.specs.Records.{ELF_MAGIC_SIZE, begins_as_elf}
+use Rattle.elf_model.specs.Records.{ELF_MAGIC_SIZE, has_elf_magic}
 use Rattle.elf_model.specs.Report.{listing}
 use Rattle.elf_model.specs.Style.{Style, standard}
 use Rattle.elf_model.specs.declared.causes.Refusal.{Refusal}
@@ -69,16 +69,16 @@ abbrev pub NUL : ℕ
 NUL = 0
 
 -- the number that digits spell behind a number so far, where spaces alone stand behind them
-unfoldable pub digits_then_spaces : ℕ → List ℕ → Option ℕ
-digits_then_spaces so_far [] = Some so_far
-digits_then_spaces so_far (b ∷ bs) =
-    if is_decimal b then digits_then_spaces (10 * so_far + (b - 48)) bs
+unfoldable pub parse_padded_decimal : ℕ → List ℕ → Option ℕ
+parse_padded_decimal so_far [] = Some so_far
+parse_padded_decimal so_far (b ∷ bs) =
+    if is_decimal b then parse_padded_decimal (10 * so_far + (b - 48)) bs
     else if are_all SPACE (b ∷ bs) then Some so_far
     else None
 
 -- the decimal number in a field: a digit or more, then spaces up to the end
-unfoldable pub padded_decimal : List ℕ → Option ℕ
-padded_decimal bytes = if is_decimal (slice_index bytes 0) then digits_then_spaces 0 bytes else None
+unfoldable pub padded_number : List ℕ → Option ℕ
+padded_number bytes = if is_decimal (slice_index bytes 0) then parse_padded_decimal 0 bytes else None
 
 -- bytes without those at their end that are this one
 unfoldable pub trimmed : ℕ → List ℕ → List ℕ
@@ -86,23 +86,23 @@ trimmed byte [] = []
 trimmed byte (b ∷ bs) = if are_all byte (b ∷ bs) then [] else b ∷ trimmed byte bs
 
 -- some bytes of a file, by their offset and their number
-pub record Extent : Type 0 where
+pub record FileRange : Type 0 where
   pub at : ℕ
   pub size : ℕ
 
 -- the bytes of an extent
-abbrev pub bytes_in : List ℕ → Extent → List ℕ
+abbrev pub bytes_in : List ℕ → FileRange → List ℕ
 bytes_in file extent = slice file extent.at extent.size
 
 -- the size that a header at an offset has, where it ends in its mark, and the size is a decimal number
-unfoldable pub told_size : List ℕ → ℕ → Option ℕ
-told_size bytes at = if field bytes (at + 58) 2 == HEADER_MARK then padded_decimal (slice bytes (at + 48) 10) else None
+unfoldable pub parsed_member_size : List ℕ → ℕ → Option ℕ
+parsed_member_size bytes at = if field bytes (at + 58) 2 == HEADER_MARK then padded_number (slice bytes (at + 48) 10) else None
 
 -- the size of all data of the member whose header stands at an offset, where header and data lie within the file
 unfoldable pub member_size : List ℕ → ℕ → Result ℕ Cause
 member_size file at =
     if nat_lt (length file) (at + MEMBER_HEADER_SIZE) then Err MemberCut
-    else elim (told_size file at) [
+    else elim (parsed_member_size file at) [
       | None ↦ Err MemberCut
       | Some size ↦ if nat_lt (length file) (at + MEMBER_HEADER_SIZE + size) then Err MemberCut else Ok size
     ]
@@ -113,24 +113,24 @@ name_field file at = slice file at 16
 
 -- how many bytes at the front of a member's data are its name, where the name's field says so as BSD's `ar` does: `#1/` and a
 -- decimal number (FreeBSD's ar(5))
-unfoldable pub bsd_name_size : List ℕ → Option ℕ
-bsd_name_size bytes =
-    if slice_index bytes 0 == 35 && slice_index bytes 1 == 49 && slice_index bytes 2 == 47 then padded_decimal (slice bytes 3 13) else None
+unfoldable pub bsd_name_length : List ℕ → Option ℕ
+bsd_name_length bytes =
+    if slice_index bytes 0 == 35 && slice_index bytes 1 == 49 && slice_index bytes 2 == 47 then padded_number (slice bytes 3 13) else None
 
 -- how many bytes of a member's data its name takes
 unfoldable pub name_in_data : List ℕ → ℕ
-name_in_data bytes = elim (bsd_name_size bytes) [ None ↦ 0 | Some size ↦ size ]
+name_in_data bytes = elim (bsd_name_length bytes) [ None ↦ 0 | Some size ↦ size ]
 
 -- what a member's data of so many bytes are behind the name at their front, where it has room in them
-unfoldable pub data_behind : (at size name : ℕ) → Result Extent Cause
-data_behind at size name = if nat_lt size name then Err MemberCut else Ok (record { at = at + name; size = size - name })
+unfoldable pub data_after : (at size name : ℕ) → Result FileRange Cause
+data_after at size name = if nat_lt size name then Err MemberCut else Ok (record { at = at + name; size = size - name })
 
 -- the extent of the data of the member whose header stands at an offset
-unfoldable pub member_data : List ℕ → ℕ → Result Extent Cause
+unfoldable pub member_data : List ℕ → ℕ → Result FileRange Cause
 member_data file at =
     elim (member_size file at) [
       | Err cause ↦ Err cause
-      | Ok size ↦ data_behind (at + MEMBER_HEADER_SIZE) size (name_in_data (name_field file at))
+      | Ok size ↦ data_after (at + MEMBER_HEADER_SIZE) size (name_in_data (name_field file at))
     ]
 
 -- the place of the first slash
@@ -152,7 +152,7 @@ short_name bytes =
 
 -- the offset in the table of names that a name's field has: a slash, and a decimal number
 unfoldable pub long_offset : List ℕ → Option ℕ
-long_offset bytes = if slice_index bytes 0 == 47 then padded_decimal (slice bytes 1 15) else None
+long_offset bytes = if slice_index bytes 0 == 47 then padded_number (slice bytes 1 15) else None
 
 -- a name without the slash at its end
 unfoldable pub without_slash : List ℕ → List ℕ
@@ -160,12 +160,12 @@ without_slash name = if slice_index name (length name - 1) == 47 then take (leng
 
 -- what is shown of a long name, by the cap + 2 bytes at its offset, fewer at the table's end: the name ends before the first
 -- newline; where none is among so many it is cut
-abbrev pub long_of : ℕ → List ℕ → Option ℕ → Result Shown Cause
+abbrev pub long_of : ℕ → List ℕ → Option ℕ → Result DisplayedName Cause
 long_of cap front (Some place) = Ok (capped cap (without_slash (take place front)))
 long_of cap front None = if nat_lt (cap + 1) (length front) then Ok (Cut (take cap front)) else Err NameUnended
 
 -- the name at an offset of the table of names, as it is shown with at most cap bytes
-unfoldable pub long_name : List ℕ → ℕ → Option Extent → ℕ → Result Shown Cause
+unfoldable pub long_name : List ℕ → ℕ → Option FileRange → ℕ → Result DisplayedName Cause
 long_name file cap None offset = Err NameOutside
 long_name file cap (Some table) offset =
     let front = slice (bytes_in file table) offset (cap + 2) in
@@ -173,49 +173,49 @@ long_name file cap (Some table) offset =
 
 -- the name in the first bytes at an offset, as it is shown: no more than cap + 2 of them are looked at, and the NULs at the end
 -- of these are no part of it
-unfoldable pub bsd_name : List ℕ → (cap at size : ℕ) → Shown
+unfoldable pub bsd_name : List ℕ → (cap at size : ℕ) → DisplayedName
 bsd_name file cap at size = capped cap (trimmed NUL (slice file at (min size (cap + 2))))
 
 -- a name that its field alone gives: that in the table of names, or that in the field itself
-unfoldable pub told_name : List ℕ → ℕ → Option Extent → List ℕ → Result Shown Cause
-told_name file cap names bytes =
+unfoldable pub parsed_member_name : List ℕ → ℕ → Option FileRange → List ℕ → Result DisplayedName Cause
+parsed_member_name file cap names bytes =
     elim (long_offset bytes) [
       | Some offset ↦ long_name file cap names offset
       | None ↦ Ok (capped cap (short_name bytes))
     ]
 
 -- the name of the member whose header stands at an offset, as it is shown
-unfoldable pub member_name : List ℕ → ℕ → Option Extent → ℕ → Result Shown Cause
+unfoldable pub member_name : List ℕ → ℕ → Option FileRange → ℕ → Result DisplayedName Cause
 member_name file cap names at =
-    elim (bsd_name_size (name_field file at)) [
+    elim (bsd_name_length (name_field file at)) [
       | Some size ↦ Ok (bsd_name file cap (at + MEMBER_HEADER_SIZE) size)
-      | None ↦ told_name file cap names (name_field file at)
+      | None ↦ parsed_member_name file cap names (name_field file at)
     ]
 
 -- a member: its index, the extent of its data, behind the name where that stands at their front, and its name as it is shown
 pub record Member : Type 0 where
   pub index : ℕ
-  pub extent : Extent
-  pub name : Shown
+  pub extent : FileRange
+  pub name : DisplayedName
 
 -- how far a walk over the members has come: the offset and the index of the next, and the table of names, if there was one
-pub record Progress : Type 0 where
+pub record MemberWalkState : Type 0 where
   pub at : ℕ
   pub index : ℕ
-  pub names : Option Extent
+  pub names : Option FileRange
 
 -- what stands at that offset: the file's end, nothing that is a member, or a member
-pub data Next : Type 0 where
-  Ends : Next
-  Broken : Refusal → Next
-  OneMember : Member → Next
+pub data NextMember : Type 0 where
+  Ends : NextMember
+  Broken : Refusal → NextMember
+  OneMember : Member → NextMember
 
 -- a member whose data and name are known
-abbrev pub member_named : Progress → Extent → Result Shown Cause → Next
+abbrev pub member_named : MemberWalkState → FileRange → Result DisplayedName Cause → NextMember
 member_named p extent (Ok name) = OneMember (record { index = p.index; extent = extent; name = name })
 member_named p extent (Err cause) = Broken (record { at = p.at; cause = cause })
 
-unfoldable pub next_member : List ℕ → ℕ → Progress → Next
+unfoldable pub next_member : List ℕ → ℕ → MemberWalkState → NextMember
 next_member file cap p =
     if nat_lt p.at (length file) then
     elim (member_data file p.at) [
@@ -228,7 +228,7 @@ abbrev pub is_name_table : List ℕ → ℕ → Bool
 is_name_table file at = field file at 8 == 0x2020202020202f2f && field file (at + 8) 8 == 0x2020202020202020
 
 -- the table of names behind a member: the first one decides
-abbrev pub names_behind : List ℕ → Progress → Extent → Option Extent
+abbrev pub names_behind : List ℕ → MemberWalkState → FileRange → Option FileRange
 names_behind file p extent =
     elim p.names [ Some table ↦ Some table | None ↦ if is_name_table file p.at then Some extent else None ]
 
@@ -238,7 +238,7 @@ abbrev pub padded_end : (header end : ℕ) → ℕ
 padded_end header end = end + (end - (header + MEMBER_HEADER_SIZE)) % 2
 
 -- the walk behind a member
-abbrev pub behind : List ℕ → Progress → Member → Progress
+abbrev pub behind : List ℕ → MemberWalkState → Member → MemberWalkState
 behind file p m = record {
   at = padded_end p.at (m.extent.at + m.extent.size);
   index = p.index + 1;
@@ -246,7 +246,7 @@ behind file p m = record {
 }
 
 -- the walk before the first member
-abbrev pub before_members : Progress
+abbrev pub before_members : MemberWalkState
 before_members = record { at = MAGIC_SIZE; index = 0; names = None }
 
 -- members, and the refusal at the offset where none stands, if that is not the file's end
@@ -259,7 +259,7 @@ abbrev pub with_member : Member → Members → Members
 with_member member rest = record { members = member ∷ rest.members; refusal = rest.refusal }
 
 -- the members from where a walk has come to, at most so many
-unfoldable pub members_from : ℕ → List ℕ → ℕ → Progress → Members
+unfoldable pub members_from : ℕ → List ℕ → ℕ → MemberWalkState → Members
 members_from zero file cap p = record { members = []; refusal = None }
 members_from (suc most) file cap p =
     elim (next_member file cap p) [
@@ -279,12 +279,12 @@ member_fields index at size = record {
   fields = Decimal (codes "index") 5 index ∷ Hexadecimal (codes "offset") 16 at ∷ Hexadecimal (codes "size") 16 size ∷ [];
 }
 
-unfoldable pub member_front : Format → ℕ → ℕ → ℕ → LineFront
-member_front format index at size = front format (codes "name") (member_fields index at size)
+unfoldable pub member_prefix : Format → ℕ → ℕ → ℕ → LinePrefix
+member_prefix format index at size = front format (codes "name") (member_fields index at size)
 
 -- the line of a member
 abbrev pub member_line : Format → Member → List ℕ
-member_line format m = named_line (member_front format m.index m.extent.at m.extent.size) m.name
+member_line format m = named_line (member_prefix format m.index m.extent.at m.extent.size) m.name
 
 -- a set of parts has one that a style knows: without one the members' lines stand alone
 abbrev pub lists_members : Style → ℕ → Bool
@@ -292,7 +292,7 @@ lists_members style parts = not (known_parts style parts == 0)
 
 -- a member's data begin as an ELF file
 abbrev pub is_elf : List ℕ → Bool
-is_elf content = nat_le ELF_MAGIC_SIZE (length content) && begins_as_elf content
+is_elf content = nat_le ELF_MAGIC_SIZE (length content) && has_elf_magic content
 
 -- the listing of a member that is an ELF file: that of the file that its data are
 abbrev pub member_listing : List ℕ → ℕ → Style → ℕ → Member → List ListingItem

@@ -1,7 +1,7 @@
 -- How many bytes the listing of an archive asks for at most, and what it never passes.
 use Rattle.std.specs.Prelude.{ℕ, zero, suc, ◌<◌, ◌+◌, ◌*◌, ◌/◌, ◌||◌, nat_le, is_some, if◌then◌else◌, Bool, List, length, Option, None, Some, ◌⊎◌}
 use Rattle.std.specs.List.{list_any}
-use Rattle.elf_model.specs.Archive.{Member, Ends, Broken, OneMember, Progress, MAGIC_SIZE, MEMBER_HEADER_SIZE, archive_checks, archive_items, before_members, behind, bsd_name_size, bytes_in, is_elf, is_refused, lists_members, long_offset, members_of, name_field, next_member}
+use Rattle.elf_model.specs.Archive.{Member, Ends, Broken, OneMember, MemberWalkState, MAGIC_SIZE, MEMBER_HEADER_SIZE, archive_checks, archive_items, before_members, behind, bsd_name_length, bytes_in, is_elf, is_refused, lists_members, long_offset, members_of, name_field, next_member}
 use Rattle.elf_model.specs.Budget.{IsCut, IsReport}
 use Rattle.elf_model.specs.Checks.{pass}
 use Rattle.elf_model.specs.Cost.{cost_where, listing_cost, style_ceiling, suffixes_most}
@@ -16,10 +16,10 @@ long_name_bytes cap = pad64 (cap + 2)
 
 -- a name does not stand in its field, but in the table of names or at the front of the member's data
 unfoldable pub is_elsewhere : List ℕ → Bool
-is_elsewhere bytes = is_some (bsd_name_size bytes) || is_some (long_offset bytes)
+is_elsewhere bytes = is_some (bsd_name_length bytes) || is_some (long_offset bytes)
 
 -- the next member costs its header, where that is within the file, and its name where that stands elsewhere
-unfoldable pub header_cost : List ℕ → ℕ → Progress → ℕ
+unfoldable pub header_cost : List ℕ → ℕ → MemberWalkState → ℕ
 header_cost file cap p =
     cost_where (nat_le (p.at + MEMBER_HEADER_SIZE) (length file))
     (MEMBER_HEADER_SIZE + cost_where (is_elsewhere (name_field file p.at)) (long_name_bytes cap))
@@ -31,7 +31,7 @@ member_cost file headers style parts m =
     cost_where (lists_members style parts) (ELF_MAGIC_SIZE + cost_where (is_elf content) (listing_cost content headers style parts))
 
 -- what the members cost from where a walk has come to, at most so many, and the place where none stands
-unfoldable pub members_cost : ℕ → List ℕ → ℕ → Style → ℕ → Progress → ℕ
+unfoldable pub members_cost : ℕ → List ℕ → ℕ → Style → ℕ → MemberWalkState → ℕ
 members_cost zero file headers style parts p = 0
 members_cost (suc most) file headers style parts p =
     header_cost file style.cap p

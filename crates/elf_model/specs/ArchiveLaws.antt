@@ -1,13 +1,13 @@
 -- Laws of archives.
 use Rattle.std.specs.Prelude.{ℕ, ◌≡◌, ◌+◌, ◌≤◌, List, length}
-use Rattle.elf_model.specs.Archive.{Member, OneMember, Progress, MEMBER_HEADER_SIZE, next_member}
+use Rattle.elf_model.specs.Archive.{Member, OneMember, MemberWalkState, MEMBER_HEADER_SIZE, next_member}
 use Rattle.elf_model.specs.ArchiveCost.{archive_ceiling, archive_cost}
 use Rattle.elf_model.specs.Style.{Style}
 
 -- a member's data stand behind its header and end within the file
 abbrev pub DataLieInTheFile : Type 0
 DataLieInTheFile =
-    (file : List ℕ) (cap : ℕ) (p : Progress) (m : Member)
+    (file : List ℕ) (cap : ℕ) (p : MemberWalkState) (m : Member)
     → next_member file cap p ≡ OneMember m
     → (p.at + MEMBER_HEADER_SIZE ≤ m.extent.at) × (m.extent.at + m.extent.size ≤ length file)
 

@@ -1,21 +1,21 @@
 -- The lines of the symbols that the objects of a program ask others for.
 use Rattle.std.specs.Prelude.{ℕ, [], ◌∷◌, ◌++◌, List, codes, Bool, true, false, Option, None, Some}
-use Rattle.elf_model.specs.Fields.{Field, Fields, LineFront, front}
-use Rattle.elf_model.specs.Fields.Field.{Decimal, NameOrDecimal, Word}
+use Rattle.elf_model.specs.Fields.{Field, Fields, LinePrefix, front}
+use Rattle.elf_model.specs.Fields.Field.{Decimal, NameOrDecimal, ArgSpec}
 use Rattle.elf_model.specs.Lines.{named_line}
 use Rattle.elf_model.specs.Loader.{AT_SIGN}
-use Rattle.elf_model.specs.Names.Shown.{Whole}
+use Rattle.elf_model.specs.Names.DisplayedName.{Whole}
 use Rattle.elf_model.specs.declared.formats.Format.{Format}
 use Rattle.elf_model.specs.declared.states.BindingState.{BindingState}
 use Rattle.elf_model.specs.declared.states.BindingState.TheVariants as state
 
 -- the word of a state
-unfoldable pub binding_word : BindingState → List ℕ
-binding_word (state.Bound object symbol) = codes "bound"
-binding_word state.Weak = codes "weak"
-binding_word state.Unbound = codes "unbound"
-binding_word state.NoVersion = codes "nover"
-binding_word (state.Refused object) = codes "refused"
+unfoldable pub binding_state_name : BindingState → List ℕ
+binding_state_name (state.Bound object symbol) = codes "bound"
+binding_state_name state.Weak = codes "weak"
+binding_state_name state.Unbound = codes "unbound"
+binding_state_name state.NoVersion = codes "nover"
+binding_state_name (state.Refused object) = codes "refused"
 
 -- the state of a symbol that no object defines, where the object of which it asks for a version lacks that one, or not
 abbrev pub unbound_state : (weak lacks : Bool) → BindingState
@@ -48,17 +48,17 @@ definer_fields _ = object_field None ∷ definition_field None ∷ []
 abbrev pub binding_fields : (object symbol : ℕ) → BindingState → Fields
 binding_fields object symbol found = record {
   letter = codes "B";
-  fields = Decimal (codes "object") 5 object ∷ Decimal (codes "symbol") 10 symbol ∷ Word (codes "state") 8 (binding_word found) ∷ definer_fields found;
+  fields = Decimal (codes "object") 5 object ∷ Decimal (codes "symbol") 10 symbol ∷ ArgSpec (codes "state") 8 (binding_state_name found) ∷ definer_fields found;
 }
 
 -- its line up to its name
-unfoldable pub binding_front : Format → (object symbol : ℕ) → BindingState → LineFront
+unfoldable pub binding_front : Format → (object symbol : ℕ) → BindingState → LinePrefix
 binding_front format object symbol found = front format (codes "name") (binding_fields object symbol found)
 
 -- its name, with the version that it asks for
-abbrev pub sought_name : (name : List ℕ) → Option (List ℕ) → List ℕ
-sought_name name None = name
-sought_name name (Some version) = name ++ AT_SIGN ∷ version
+abbrev pub reference_name : (name : List ℕ) → Option (List ℕ) → List ℕ
+reference_name name None = name
+reference_name name (Some version) = name ++ AT_SIGN ∷ version
 
 -- THE LINE OF A SYMBOL that an object asks others for
 abbrev pub binding_line : Format → (object symbol : ℕ) → BindingState → List ℕ → List ℕ

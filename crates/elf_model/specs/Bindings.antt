@@ -3,15 +3,15 @@
 -- Standard Base Core, Symbol Versioning). The files are those that are shown to a lookup: by their program headers, where no
 -- section headers are known.
 use Rattle.std.specs.Prelude.{ℕ, suc, ◌+◌, ◌*◌, ◌==◌, ◌&&◌, nat_lt, not, min, if◌then◌else◌, Bool, true, false, List, [], ◌∷◌, length, Option, None, Some, Result, Ok, Err}
-use Rattle.elf_model.specs.Chains.{Walked}
+use Rattle.elf_model.specs.Chains.{ChainResult}
 use Rattle.elf_model.specs.Checks.{first_refusal}
 use Rattle.elf_model.specs.GnuHash.{gnu_hash, gnu_looked_up}
 use Rattle.elf_model.specs.Hash.{sysv_hash}
-use Rattle.elf_model.specs.Loader.{Asked, NoVersion, Version, Wanted, RecordTable, Symbols, answers, is_among, naming_of, readings, symbol_offset, version_word_at}
-use Rattle.elf_model.specs.LoaderFind.{counts_check, record_cost, wanted_numbers}
-use Rattle.elf_model.specs.LoaderScope.{GnuTable, SysvTable, Scope, scope_of}
+use Rattle.elf_model.specs.Loader.{Asked, NoVersion, Version, Wanted, VersionRecordTable, Symbols, answers, is_among, naming_of, readings, symbol_offset, versym_at}
+use Rattle.elf_model.specs.LoaderFind.{counts_check, record_cost, version_indices}
+use Rattle.elf_model.specs.LoaderScope.{GnuTable, SysvTable, LookupTables, lookup_tables_of}
 use Rattle.elf_model.specs.Names.{pad64, shown}
-use Rattle.elf_model.specs.Names.Shown.{Whole, Cut}
+use Rattle.elf_model.specs.Names.DisplayedName.{Whole, Cut}
 use Rattle.elf_model.specs.Numbers.{SHN_UNDEF, STB_GLOBAL, STB_WEAK, STB_GNU_UNIQUE}
 use Rattle.elf_model.specs.Records.{st_name, st_shndx, st_bind, versym}
 use Rattle.elf_model.specs.SysvWalk.{sysv_walked}
@@ -31,7 +31,7 @@ defines file symbols wanted is_wanted y = elim (answers file symbols wanted is_w
 ]
 
 -- the walk for the symbol that defines it, where the numbers of the version by its name are known
-unfoldable pub definer_walk : List ℕ → Scope → Wanted → (ℕ → Bool) → Walked
+unfoldable pub definer_walk : List ℕ → LookupTables → Wanted → (ℕ → Bool) → ChainResult
 definer_walk file scope wanted is_wanted = elim scope.kind [
   | GnuTable ↦ gnu_looked_up file scope.table (gnu_hash wanted.name) (defines file scope.symbols wanted is_wanted)
   | SysvTable ↦ sysv_walked file scope.table (sysv_hash wanted.name) (defines file scope.symbols wanted is_wanted)
@@ -50,16 +50,16 @@ abbrev pub unwalked : (records : ℕ) → Refusal → DefinerLookup
 unwalked records refusal = record { answer = Err refusal; tried = 0; chain_words = 0; records = records }
 
 -- by the walk, before which so many records are read
-abbrev pub definer_by : (records : ℕ) → Walked → DefinerLookup
+abbrev pub definer_by : (records : ℕ) → ChainResult → DefinerLookup
 definer_by records walked = record { answer = walked.answer; tried = walked.tried; chain_words = walked.read; records = records }
 
 -- once the checks of what a lookup is made in pass: the table's counts, the numbers of the version, the walk. What the symbol's
 -- version is called is not asked, as its line does not have it
-unfoldable pub definer_in : List ℕ → Scope → Wanted → DefinerLookup
-definer_in file scope wanted = elim (first_refusal (counts_check file scope ∷ [])) [
+unfoldable pub definition_in : List ℕ → LookupTables → Wanted → DefinerLookup
+definition_in file scope wanted = elim (first_refusal (counts_check file scope ∷ [])) [
   | Some refusal ↦ unwalked 0 refusal
   | None ↦
-      let compared = wanted_numbers file scope wanted.asked in
+      let compared = version_indices file scope wanted.asked in
       elim compared.refused [
         | Some refusal ↦ unwalked compared.read refusal
         | None ↦ definer_by compared.read (definer_walk file scope wanted (λ number. is_among number compared.numbers))
@@ -67,16 +67,16 @@ definer_in file scope wanted = elim (first_refusal (counts_check file scope ∷ 
 ]
 
 -- in a file, with so many headers permitted
-unfoldable pub definer_looked : List ℕ → ℕ → Wanted → DefinerLookup
-definer_looked file headers wanted = elim (scope_of file headers) [
+unfoldable pub definition_lookup : List ℕ → ℕ → Wanted → DefinerLookup
+definition_lookup file headers wanted = elim (lookup_tables_of file headers) [
   | Err refusal ↦ unwalked 0 refusal
-  | Ok scope ↦ definer_in file scope wanted
+  | Ok scope ↦ definition_in file scope wanted
 ]
 
 -- HOW MANY BYTES IT MAY ASK FOR once what it is made in is known: four counts, a word of a filter and one of a bucket; the chain
 -- words; a symbol, the word of its version and its name for each that is tried; the records of versions
-unfoldable pub definer_asks : Wanted → DefinerLookup → ℕ
-definer_asks wanted looked =
+unfoldable pub definition_cost : Wanted → DefinerLookup → ℕ
+definition_cost wanted looked =
     4 * looked.chain_words
     + looked.tried * (SYMBOL_SIZE + VERSYM_SIZE + pad64 (length wanted.name + 1))
     + looked.records * record_cost wanted.asked
@@ -98,7 +98,7 @@ bound_or index (Err refusal) others = StoppedIn index refusal
 unfoldable pub bound_from : ℕ → (headers : ℕ) → Wanted → List (List ℕ) → Binding
 bound_from index headers wanted [] = BoundToNone
 bound_from index headers wanted (file ∷ files) =
-    bound_or index (definer_looked file headers wanted).answer (bound_from (suc index) headers wanted files)
+    bound_or index (definition_lookup file headers wanted).answer (bound_from (suc index) headers wanted files)
 
 -- in all of them
 abbrev pub bound_in : (headers : ℕ) → Wanted → List (List ℕ) → Binding
@@ -106,8 +106,8 @@ bound_in headers wanted files = bound_from 0 headers wanted files
 
 -- WHAT A SYMBOL ASKS OTHERS FOR. It is undefined, global, weak or unique, and has a name (gABI 4, Symbol Table: an index of 0 is
 -- none)
-unfoldable pub is_sought : List ℕ → ℕ → Bool
-is_sought file at =
+unfoldable pub is_reference : List ℕ → ℕ → Bool
+is_reference file at =
     (st_shndx file at == SHN_UNDEF)
     && is_among (st_bind file at) (STB_GLOBAL ∷ STB_WEAK ∷ STB_GNU_UNIQUE ∷ [])
     && not (st_name file at == 0)
@@ -130,8 +130,8 @@ whole_name strings index at = elim (shown strings index SOUGHT_BYTES) [
 
 -- the version of a number: the name of the first record that has it; a fault of the name is at what holds its index, and where
 -- none has the number at the word
-unfoldable pub sought_by_number : List ℕ → List RecordTable → (number word_at : ℕ) → Result Asked Refusal
-sought_by_number file records number word_at =
+unfoldable pub reference_by_index : List ℕ → List VersionRecordTable → (number word_at : ℕ) → Result Asked Refusal
+reference_by_index file records number word_at =
     let naming = naming_of file number (readings file records) in
     elim naming.found [
       | Some found ↦ elim (whole_name found.0 (name_index file found.1) (named_at file found.1)) [
@@ -145,32 +145,32 @@ sought_by_number file records number word_at =
     ]
 
 -- the version that a symbol asks for: none where there are no words of versions, and by the numbers 0 and 1
-unfoldable pub sought_version : List ℕ → Symbols → ℕ → Result Asked Refusal
-sought_version file symbols y = elim symbols.words [
+unfoldable pub reference_version : List ℕ → Symbols → ℕ → Result Asked Refusal
+reference_version file symbols y = elim symbols.words [
   | None ↦ Ok NoVersion
   | Some words ↦
       if not (nat_lt y words.count) then Err (record { at = words.head; cause = VersionCut })
       else
-      (let number = number_in (versym file (version_word_at words y)) in
+      (let number = number_in (versym file (versym_at words y)) in
       if nat_lt number 2 then Ok NoVersion
-      else sought_by_number file symbols.records number (version_word_at words y))
+      else reference_by_index file symbols.records number (versym_at words y))
 ]
 
 -- nothing; or its name and the version; a fault of the name is at the symbol
-unfoldable pub sought_at : List ℕ → Symbols → ℕ → Result (Option Wanted) Refusal
-sought_at file symbols y =
+unfoldable pub reference_at : List ℕ → Symbols → ℕ → Result (Option Wanted) Refusal
+reference_at file symbols y =
     let at = symbol_offset symbols y in
-    if not (is_sought file at) then Ok None
+    if not (is_reference file at) then Ok None
     else elim (whole_name symbols.strings (st_name file at) at) [
       | Err refusal ↦ Err refusal
-      | Ok name ↦ elim (sought_version file symbols y) [
+      | Ok name ↦ elim (reference_version file symbols y) [
         | Err refusal ↦ Err refusal
         | Ok asked ↦ Ok (Some (record { name = name; asked = asked }))
       ]
     ]
 
 -- HOW MANY SYMBOLS a file has, by its hash table, of those that there is room for; or the refusal of the table's counts
-unfoldable pub symbols_hashed : List ℕ → Scope → Result ℕ Refusal
+unfoldable pub symbols_hashed : List ℕ → LookupTables → Result ℕ Refusal
 symbols_hashed file scope = elim (first_refusal (counts_check file scope ∷ [])) [
   | Some refusal ↦ Err refusal
   | None ↦ Ok (min (hashed_symbol_count file scope) scope.table.symbols)

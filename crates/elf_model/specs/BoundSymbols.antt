@@ -1,13 +1,13 @@
 -- From where the symbols come that the objects of a program ask others for: each object's symbols in order, with what binds each,
 -- as a loader of the GNU system binds them over all objects in order (gABI 5, Shared Object Dependencies), and the lines of these.
 use Rattle.std.specs.Prelude.{ℕ, zero, suc, ◌-◌, ◌==◌, ◌||◌, nat_lt, if◌then◌else◌, Bool, true, false, List, [], ◌∷◌, ◌++◌, length, get_or, position, Option, None, Some, Result, Ok, Err}
-use Rattle.elf_model.specs.BindingLines.{binding_line, is_unbound, sought_name, unbound_state}
-use Rattle.elf_model.specs.Bindings.{Binding, BoundTo, BoundToNone, StoppedIn, bound_in, is_weak, sought_at, symbols_hashed, whole_name}
+use Rattle.elf_model.specs.BindingLines.{binding_line, is_unbound, reference_name, unbound_state}
+use Rattle.elf_model.specs.Bindings.{Binding, BoundTo, BoundToNone, StoppedIn, bound_in, is_weak, reference_at, symbols_hashed, whole_name}
 use Rattle.elf_model.specs.Lines.{refusal_line}
-use Rattle.elf_model.specs.Loader.{Meets, Misses, RecordReading, RecordTable, Refuses, Symbols, Wanted, asked_name, compared_with, readings, symbol_offset, version_word_at}
-use Rattle.elf_model.specs.LoaderScope.{Scope, scope_of}
+use Rattle.elf_model.specs.Loader.{Meets, Misses, VersionRecordRead, VersionRecordTable, Refuses, Symbols, Wanted, asked_name, compared_with, readings, symbol_offset, versym_at}
+use Rattle.elf_model.specs.LoaderScope.{LookupTables, lookup_tables_of}
 use Rattle.elf_model.specs.Records.{versym}
-use Rattle.elf_model.specs.Versions.{Met, name_index, named_at, names_number, number_in}
+use Rattle.elf_model.specs.Versions.{VisitedRecord, name_index, named_at, names_version_index, number_in}
 use Rattle.elf_model.specs.declared.causes.Refusal.{Refusal}
 use Rattle.elf_model.specs.declared.formats.Format.{Format}
 use Rattle.elf_model.specs.declared.states.BindingState.{BindingState}
@@ -32,25 +32,25 @@ place_of objects index = position (λ other. other == index) objects.indexes
 
 -- THE NEEDED FILE of which the version of a number is one: the last that is met before the record of that number, where records
 -- of needed files are met before it
-abbrev pub file_or : Met → Option Met → Option Met
+abbrev pub file_or : VisitedRecord → Option VisitedRecord → Option VisitedRecord
 file_or met before = elim met.kind [ Definition ↦ before | File ↦ Some met | Need ↦ before ]
 
-unfoldable pub file_before : List ℕ → (number : ℕ) → Option Met → List RecordReading → Option Met
+unfoldable pub file_before : List ℕ → (number : ℕ) → Option VisitedRecord → List VersionRecordRead → Option VisitedRecord
 file_before file number before [] = None
 file_before file number before (Misses refusal ∷ others) = None
 file_before file number before (Refuses refusal ∷ others) = None
 file_before file number before (Meets strings met ∷ others) =
-    elim (names_number file number met) [
+    elim (names_version_index file number met) [
       | true ↦ before
       | false ↦ file_before file number (file_or met before) others
     ]
 
 -- that of the version of a symbol, which has a word
-unfoldable pub file_of_version : List ℕ → Symbols → ℕ → Option Met
+unfoldable pub file_of_version : List ℕ → Symbols → ℕ → Option VisitedRecord
 file_of_version file symbols y = elim symbols.words [
   | None ↦ None
   | Some words ↦
-      let number = number_in (versym file (version_word_at words y)) in
+      let number = number_in (versym file (versym_at words y)) in
       if nat_lt number 2 then None else file_before file number None (readings file symbols.records)
 ]
 
@@ -58,7 +58,7 @@ file_of_version file symbols y = elim symbols.words [
 abbrev pub is_definition : VersionKind → Bool
 is_definition kind = elim kind [ Definition ↦ true | File ↦ false | Need ↦ false ]
 
-unfoldable pub definitions_among : List RecordTable → List RecordTable
+unfoldable pub definitions_among : List VersionRecordTable → List VersionRecordTable
 definitions_among [] = []
 definitions_among (table ∷ tables) =
     if is_definition table.kind then table ∷ definitions_among tables else definitions_among tables
@@ -67,7 +67,7 @@ abbrev pub is_none_of : List ℕ → Bool
 is_none_of [] = true
 is_none_of (number ∷ numbers) = false
 
-unfoldable pub lacks_among : List ℕ → (version : List ℕ) → List RecordTable → Result Bool Refusal
+unfoldable pub lacks_among : List ℕ → (version : List ℕ) → List VersionRecordTable → Result Bool Refusal
 lacks_among file version [] = Ok false
 lacks_among file version (table ∷ tables) =
     let compared = compared_with file version (readings file (table ∷ tables)) in
@@ -81,7 +81,7 @@ lacks_version file symbols version = elim symbols.words [
 
 -- the same of the object of a name; it lacks none where there is no such object, or it is not looked in, or is refused
 unfoldable pub file_lacks : (headers : ℕ) → (version : List ℕ) → List ℕ → Bool
-file_lacks headers version file = elim (scope_of file headers) [
+file_lacks headers version file = elim (lookup_tables_of file headers) [
   | Err refusal ↦ false
   | Ok scope ↦ elim (lacks_version file scope.symbols version) [ Err refusal ↦ false | Ok lacks ↦ lacks ]
 ]
@@ -98,9 +98,9 @@ object_lacks objects name version = elim (objects.called name) [
 
 -- whether the object lacks a version of which a symbol asks for it; a weak symbol is not asked about. A fault of that object's name
 -- is at the record of the needed file
-unfoldable pub lacks_asked : BoundObjects → List ℕ → Symbols → ℕ → Option (List ℕ) → Result Bool Refusal
-lacks_asked objects file symbols y None = Ok false
-lacks_asked objects file symbols y (Some version) =
+unfoldable pub missing_version_requested : BoundObjects → List ℕ → Symbols → ℕ → Option (List ℕ) → Result Bool Refusal
+missing_version_requested objects file symbols y None = Ok false
+missing_version_requested objects file symbols y (Some version) =
     if is_weak file (symbol_offset symbols y) then Ok false
     else elim (file_of_version file symbols y) [
       | None ↦ Ok false
@@ -114,7 +114,7 @@ lacks_asked objects file symbols y (Some version) =
 unfoldable pub state_by : BoundObjects → List ℕ → Symbols → ℕ → Wanted → Binding → Result BindingState Refusal
 state_by objects file symbols y wanted (BoundTo place symbol) = Ok (state.Bound (index_at objects place) symbol)
 state_by objects file symbols y wanted (StoppedIn place refusal) = Ok (state.Refused (index_at objects place))
-state_by objects file symbols y wanted BoundToNone = elim (lacks_asked objects file symbols y (asked_name wanted.asked)) [
+state_by objects file symbols y wanted BoundToNone = elim (missing_version_requested objects file symbols y (asked_name wanted.asked)) [
   | Err refusal ↦ Err refusal
   | Ok lacks ↦ Ok (unbound_state (is_weak file (symbol_offset symbols y)) lacks)
 ]
@@ -130,15 +130,15 @@ pub data BoundItem : Type 0 where
   Faulty : Refusal → BoundItem
 
 -- of one symbol of the object at a place: nothing where it asks for nothing
-abbrev pub told_as : (object symbol : ℕ) → Wanted → Result BindingState Refusal → Option BoundItem
-told_as object symbol wanted (Err refusal) = Some (Faulty refusal)
-told_as object symbol wanted (Ok found) = Some (Told object symbol found (sought_name wanted.name (asked_name wanted.asked)))
+abbrev pub reported_as : (object symbol : ℕ) → Wanted → Result BindingState Refusal → Option BoundItem
+reported_as object symbol wanted (Err refusal) = Some (Faulty refusal)
+reported_as object symbol wanted (Ok found) = Some (Told object symbol found (reference_name wanted.name (asked_name wanted.asked)))
 
 unfoldable pub bound_item : BoundObjects → (place : ℕ) → List ℕ → Symbols → ℕ → Option BoundItem
-bound_item objects place file symbols y = elim (sought_at file symbols y) [
+bound_item objects place file symbols y = elim (reference_at file symbols y) [
   | Err refusal ↦ Some (Faulty refusal)
   | Ok None ↦ None
-  | Ok (Some wanted) ↦ told_as (index_at objects place) y wanted (state_in objects file symbols y wanted)
+  | Ok (Some wanted) ↦ reported_as (index_at objects place) y wanted (state_in objects file symbols y wanted)
 ]
 
 -- what comes behind an item, or behind nothing: a fault is the last
@@ -154,12 +154,12 @@ items_from objects place file symbols y (suc count) =
     before_items (bound_item objects place file symbols y) (items_from objects place file symbols (suc y) count)
 
 -- of all symbols of an object, of which the first is none
-unfoldable pub counted_items : BoundObjects → (place : ℕ) → List ℕ → Scope → Result ℕ Refusal → List BoundItem
+unfoldable pub counted_items : BoundObjects → (place : ℕ) → List ℕ → LookupTables → Result ℕ Refusal → List BoundItem
 counted_items objects place file scope (Err refusal) = Faulty refusal ∷ []
 counted_items objects place file scope (Ok count) = items_from objects place file scope.symbols 1 (count - 1)
 
 unfoldable pub object_items : BoundObjects → (place : ℕ) → List ℕ → List BoundItem
-object_items objects place file = elim (scope_of file objects.headers) [
+object_items objects place file = elim (lookup_tables_of file objects.headers) [
   | Err refusal ↦ []
   | Ok scope ↦ counted_items objects place file scope (symbols_hashed file scope)
 ]

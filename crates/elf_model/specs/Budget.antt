@@ -10,8 +10,8 @@ use Rattle.elf_model.specs.declared.formats.Format.{Format}
 use Rattle.elf_model.specs.declared.causes.Cause.TheVariants.{Budget}
 
 -- a refusal is for want of budget
-abbrev pub IsBudget : Refusal → Type 0
-IsBudget refusal = refusal.cause ≡ Budget
+abbrev pub IsBudgetRefusal : Refusal → Type 0
+IsBudgetRefusal refusal = refusal.cause ≡ Budget
 
 -- a text is the whole report of the items, and a fault is their first
 pub record IsReport (format : Format) (items : List ListingItem) (text : List ℕ) (fault : Option Refusal) : Type 0 where
@@ -26,7 +26,7 @@ pub record IsCut (format : Format) (size : ℕ) (items : List ListingItem) (text
   pub split : items ≡ front ++ rest
   pub no_fault : fault_of front ≡ None
   pub refusal : Refusal
-  pub for_budget : IsBudget refusal
+  pub for_budget : IsBudgetRefusal refusal
   pub inside : refusal.at < size
   pub text_is : text ≡ lines_of front ++ refusal_line format refusal
   pub fault_is : fault ≡ Some refusal

@@ -18,22 +18,22 @@ pub data WalkEnd : Type 0 where
   Last : WalkEnd
 
 -- why a walk ends at a symbol that is tried: where it does not answer, as the trial says
-abbrev pub end_of_trial : Result Bool Refusal → Option WalkEnd → Option WalkEnd
-end_of_trial (Err refusal) otherwise = Some (Untried refusal)
-end_of_trial (Ok true) otherwise = Some Answers
-end_of_trial (Ok false) otherwise = otherwise
+abbrev pub end_of_match : Result Bool Refusal → Option WalkEnd → Option WalkEnd
+end_of_match (Err refusal) otherwise = Some (Untried refusal)
+end_of_match (Ok true) otherwise = Some Answers
+end_of_match (Ok false) otherwise = otherwise
 
 -- what a walk gives: the index of the symbol that answers, or that there is none, or a refusal; how many symbols it
 -- tries, and how many chain words it reads
-pub record Walked : Type 0 where
+pub record ChainResult : Type 0 where
   pub answer : Result (Option ℕ) Refusal
   pub tried : ℕ
   pub read : ℕ
 
 -- no symbol answers, and none is tried
-abbrev pub nothing_tried : Walked
+abbrev pub nothing_tried : ChainResult
 nothing_tried = record { answer = Ok None; tried = 0; read = 0 }
 
 -- a walk that is refused, once so many symbols are tried and so many chain words are read
-abbrev pub refused_walk : (tried read : ℕ) → Refusal → Walked
+abbrev pub refused_walk : (tried read : ℕ) → Refusal → ChainResult
 refused_walk tried read refusal = record { answer = Err refusal; tried = tried; read = read }

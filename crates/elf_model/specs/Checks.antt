@@ -1,7 +1,7 @@
 -- Checks in their order: the first one that fails is the answer. Sums are whole numbers.
 use Rattle.std.specs.Prelude.{ℕ, ◌+◌, ◌*◌, ◌%◌, ◌^◌, ◌==◌, ◌&&◌, ◌||◌, nat_lt, not, Bool, true, false, List, [], ◌∷◌, ◌++◌, length, if◌then◌else◌, is_none, Option, None, Some}
 use Rattle.elf_model.specs.Bytes.{field}
-use Rattle.elf_model.specs.Records.{FILE_HEADER_SIZE, SECTION_HEADER_SIZE, PROGRAM_HEADER_SIZE, begins_as_elf, e_phoff, e_shoff, e_phentsize, e_phnum, e_shentsize, e_shnum, e_shstrndx, sh_type, sh_offset, sh_size, sh_link, sh_entsize, section_at}
+use Rattle.elf_model.specs.Records.{FILE_HEADER_SIZE, SECTION_HEADER_SIZE, PROGRAM_HEADER_SIZE, has_elf_magic, e_phoff, e_shoff, e_phentsize, e_phnum, e_shentsize, e_shnum, e_shstrndx, sh_type, sh_offset, sh_size, sh_link, sh_entsize, section_at}
 use Rattle.elf_model.specs.Numbers.{PN_XNUM, SHN_XINDEX, SHT_STRTAB, SHT_SYMTAB, SHT_DYNSYM}
 use Rattle.elf_model.specs.declared.causes.Refusal.{Refusal}
 use Rattle.elf_model.specs.declared.causes.Cause.{Cause}
@@ -39,7 +39,7 @@ length_checks size =
 -- the identification: magic number, class, data encoding, version (gABI 4, ELF Identification)
 abbrev pub ident_checks : List ℕ → List Check
 ident_checks file =
-    refuse (not (begins_as_elf file)) 0 NotElf
+    refuse (not (has_elf_magic file)) 0 NotElf
     ∷ refuse (not (field file 4 1 == 2)) 4 BadClass
     ∷ refuse (not (field file 5 1 == 1)) 5 BadData
     ∷ refuse (not (field file 6 1 == 1)) 6 BadVersion
@@ -58,7 +58,7 @@ abbrev pub is_section_outside : List ℕ → ℕ → Bool
 is_section_outside file at = is_outside (length file) (sh_offset file at) (sh_size file at)
 
 -- the places, sizes and numbers of the headers that a file header has
-pub record Counts : Type 0 where
+pub record HeaderCounts : Type 0 where
   pub phoff : ℕ
   pub shoff : ℕ
   pub phentsize : ℕ
@@ -68,7 +68,7 @@ pub record Counts : Type 0 where
   pub shstrndx : ℕ
 
 -- before the section headers are read, in a file of so many bytes and with so many headers permitted (gABI 4, ELF Header)
-abbrev pub early_checks_of : Counts → ℕ → ℕ → List Check
+abbrev pub early_checks_of : HeaderCounts → ℕ → ℕ → List Check
 early_checks_of e size headers =
     refuse (e.phnum == PN_XNUM) 0x38 ExtendedNumbering
     ∷ refuse (e.shstrndx == SHN_XINDEX) 0x3e ExtendedNumbering
@@ -83,7 +83,7 @@ early_checks_of e size headers =
     ∷ []
 
 -- what a file's header says
-abbrev counts_in : List ℕ → Counts
+abbrev counts_in : List ℕ → HeaderCounts
 counts_in file = record {
   phoff = e_phoff file;
   shoff = e_shoff file;

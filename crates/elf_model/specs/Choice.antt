@@ -2,17 +2,17 @@
 use Rattle.std.specs.Prelude.{ℕ, ◌&&◌, max, if◌then◌else◌, Bool, true, false, List, [], ◌∷◌, length}
 use Rattle.std.specs.List.{list_any}
 use Rattle.std.specs.Str.{bytes_eq}
-use Rattle.elf_model.specs.Loader.{Asked, NoVersion, Version, DefaultVersion, Wanted, wanted_of}
-use Rattle.elf_model.specs.Names.{Shown}
-use Rattle.elf_model.specs.Names.Shown.{Whole, Cut}
+use Rattle.elf_model.specs.Loader.{Asked, NoVersion, Version, DefaultVersion, Wanted, parse_query}
+use Rattle.elf_model.specs.Names.{DisplayedName}
+use Rattle.elf_model.specs.Names.DisplayedName.{Whole, Cut}
 
 -- what stands behind a symbol's name: nothing, or its version, and whether that is the default one of the name
 pub data Suffix : Type 0 where
   NoSuffix : Suffix
-  Suffixed : (is_default : Bool) (version : Shown) → Suffix
+  Suffixed : (is_default : Bool) (version : DisplayedName) → Suffix
 
 -- a name as it is shown is this one: a name that is cut is none
-abbrev pub is_whole : Shown → List ℕ → Bool
+abbrev pub is_whole : DisplayedName → List ℕ → Bool
 is_whole (Whole name) wanted = bytes_eq name wanted
 is_whole (Cut front) wanted = false
 
@@ -25,22 +25,22 @@ suits (DefaultVersion version) NoSuffix = false
 suits (DefaultVersion version) (Suffixed is_default name) = is_default && is_whole name version
 
 -- WHICH ROWS THAT END IN A NAME ARE SHOWN: every one, or those whose name, with its version, is one of some
-pub data RowChoice : Type 0 where
-  EveryRow : RowChoice
-  RowsOf : List Wanted → RowChoice
+pub data RowFilter : Type 0 where
+  EveryRow : RowFilter
+  RowsOf : List Wanted → RowFilter
 
 -- a name with what stands behind it is wanted
-abbrev pub is_named : Shown → Suffix → Wanted → Bool
+abbrev pub is_named : DisplayedName → Suffix → Wanted → Bool
 is_named name suffix wanted = is_whole name wanted.name && suits wanted.asked suffix
 
 -- the row of a name with what stands behind it is shown
-abbrev pub chooses : RowChoice → Shown → Suffix → Bool
+abbrev pub chooses : RowFilter → DisplayedName → Suffix → Bool
 chooses EveryRow _ _ = true
 chooses (RowsOf names) name suffix = list_any (is_named name suffix) names
 
 -- what a text asks for: a name; or where versions stand behind names, a name and perhaps a version
 abbrev pub wanted_text : (versions : Bool) → List ℕ → Wanted
-wanted_text versions text = if versions then wanted_of text else record { name = text; asked = NoVersion }
+wanted_text versions text = if versions then parse_query text else record { name = text; asked = NoVersion }
 
 -- how many bytes the longest of some texts has
 unfoldable pub most_bytes : List (List ℕ) → ℕ

@@ -3,10 +3,10 @@ use Rattle.std.specs.Prelude.{ℕ, ◌≡◌, ◌==◌, ◌&&◌, ◌||◌, not,
 use Rattle.std.specs.List.{list_any}
 use Rattle.std.specs.List.Sorted.{IsPermutation}
 use Rattle.std.specs.Str.{bytes_eq}
-use Rattle.elf_model.specs.Choice.{NoSuffix, RowChoice, RowsOf, Suffix, Suffixed, chooses, wanted_text}
+use Rattle.elf_model.specs.Choice.{NoSuffix, RowFilter, RowsOf, Suffix, Suffixed, chooses, wanted_text}
 use Rattle.elf_model.specs.Loader.{AT_SIGN, Wanted}
-use Rattle.elf_model.specs.Names.{Shown}
-use Rattle.elf_model.specs.Names.Shown.{Whole, Cut}
+use Rattle.elf_model.specs.Names.{DisplayedName}
+use Rattle.elf_model.specs.Names.DisplayedName.{Whole, Cut}
 
 -- without versions the row of a name is shown where it is one of the names, byte for byte, whatever stands behind it
 abbrev pub NamesAreChosen : Type 0
@@ -23,7 +23,7 @@ has_sign_first [] = false
 has_sign_first (byte ∷ _) = byte == AT_SIGN
 
 -- one of some texts is a name with its version behind one sign, or behind two where it is the default one
-abbrev pub has_version : List (List ℕ) → (name : List ℕ) (is_default : Bool) (version : Shown) → Bool
+abbrev pub has_version : List (List ℕ) → (name : List ℕ) (is_default : Bool) (version : DisplayedName) → Bool
 has_version texts name is_default (Cut _) = false
 has_version texts name is_default (Whole version) =
     (not (has_sign_first version) && list_any (bytes_eq (name ++ AT_SIGN ∷ version)) texts)
@@ -38,14 +38,14 @@ NamesAloneAreChosen =
 -- and where a version stands behind it, also where one is the name with that version
 abbrev pub VersionsAreChosen : Type 0
 VersionsAreChosen =
-    (texts : List (List ℕ)) (name : List ℕ) (is_default : Bool) (version : Shown)
+    (texts : List (List ℕ)) (name : List ℕ) (is_default : Bool) (version : DisplayedName)
     → chooses (RowsOf (map (wanted_text true) texts)) (Whole name) (Suffixed is_default version)
     ≡ not (has_sign name) && (list_any (bytes_eq name) texts || has_version texts name is_default version)
 
 -- a row that is shown with nothing behind its name is shown whatever stands there
 abbrev pub NamesFitEveryVersion : Type 0
 NamesFitEveryVersion =
-    (choice : RowChoice) (name : Shown) (suffix : Suffix) → chooses choice name NoSuffix ≡ true → chooses choice name suffix ≡ true
+    (choice : RowFilter) (name : DisplayedName) (suffix : Suffix) → chooses choice name NoSuffix ≡ true → chooses choice name suffix ≡ true
 
 -- a name that is cut is none of them, whatever stands behind it
 abbrev pub CutNamesAreNone : Type 0
@@ -55,4 +55,4 @@ CutNamesAreNone = (names : List Wanted) (front : List ℕ) (suffix : Suffix) →
 abbrev pub OrderChoosesNothing : Type 0
 OrderChoosesNothing =
     (names others : List Wanted) → IsPermutation names others
-    → (name : Shown) (suffix : Suffix) → chooses (RowsOf names) name suffix ≡ chooses (RowsOf others) name suffix
+    → (name : DisplayedName) (suffix : Suffix) → chooses (RowsOf names) name suffix ≡ chooses (RowsOf others) name suffix

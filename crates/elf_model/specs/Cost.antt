@@ -56,8 +56,8 @@ tables_cost file style parts =
     sum_over (λ i. kinds_cost tables.kinds tables.headers i (length file) style.cap parts) 0 tables.headers.count
 
 -- how many bytes are asked for behind the file header at most
-abbrev pub behind_header : List ℕ → ℕ → Style → ℕ → ℕ
-behind_header file headers style parts =
+abbrev pub after_header : List ℕ → ℕ → Style → ℕ → ℕ
+after_header file headers style parts =
     cost_where (has_tables parts && is_loadable file headers)
     (sections_cost file style.cap parts + segments_cost file parts + tables_cost file style parts)
 
@@ -65,7 +65,7 @@ behind_header file headers style parts =
 -- style knows
 unfoldable pub listing_cost : List ℕ → ℕ → Style → ℕ → ℕ
 listing_cost file headers style parts =
-    FILE_HEADER_SIZE + behind_header (viewed style file) headers style (known_parts style parts)
+    FILE_HEADER_SIZE + after_header (viewed style file) headers style (known_parts style parts)
 
 -- that of the listing with so many bytes of a name, in the standards' names, by the section headers where there are some
 abbrev pub cost : List ℕ → ℕ → ℕ → ℕ → ℕ

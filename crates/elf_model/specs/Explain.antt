@@ -4,8 +4,8 @@ use Rattle.elf_model.specs.Apply.{applies_to, symbol_checks}
 use Rattle.elf_model.specs.Checks.{first_refusal, pass}
 use Rattle.elf_model.specs.Find.{first_that}
 use Rattle.elf_model.specs.Hash.{symbol_at}
-use Rattle.elf_model.specs.Names.{Shown, shown}
-use Rattle.elf_model.specs.Names.Shown.{Whole}
+use Rattle.elf_model.specs.Names.{DisplayedName, shown}
+use Rattle.elf_model.specs.Names.DisplayedName.{Whole}
 use Rattle.elf_model.specs.Numbers.{SHN_UNDEF, SHN_LORESERVE, STT_GNU_IFUNC}
 use Rattle.elf_model.specs.Placing.{Layout, address_in}
 use Rattle.elf_model.specs.Records.{e_shnum, sh_offset, st_name, st_shndx, st_type, r_sym, r_type, section_at}
@@ -17,8 +17,8 @@ use Rattle.elf_model.specs.declared.causes.Refusal.{Refusal}
 use Rattle.elf_model.specs.declared.missing.Missing.{Missing}
 use Rattle.elf_model.specs.declared.missing.LayoutAddress.{LayoutAddress}
 use Rattle.elf_model.specs.declared.missing.LayoutAddress.TheVariants.{Place, Named, Entry}
-use Rattle.elf_model.specs.declared.relocation_types.Base.{Base}
-use Rattle.elf_model.specs.declared.relocation_types.Base.TheVariants.{Symbol, Linkage, Table, Thread}
+use Rattle.elf_model.specs.declared.relocation_types.RelocationBase.{RelocationBase}
+use Rattle.elf_model.specs.declared.relocation_types.RelocationBase.TheVariants.{Symbol, Linkage, Table, Thread}
 use Rattle.elf_model.specs.declared.relocation_types.Formula.{Formula}
 use Rattle.elf_model.specs.declared.relocation_types.RelocationType.{RelocationType}
 
@@ -33,25 +33,25 @@ symbol_place layout (Some symbol) =
     if not (symbol.0 == SHN_UNDEF) && nat_lt symbol.0 SHN_LORESERVE && is_unplaced layout symbol.0 then Some (Place symbol.0) else None
 
 -- what a symbol's name wants: nothing where the entry names symbol 0
-unfoldable pub name_wanted : Base → Option (ℕ × ℕ) → Option LayoutAddress
+unfoldable pub name_wanted : RelocationBase → Option (ℕ × ℕ) → Option LayoutAddress
 name_wanted base None = None
 name_wanted base (Some symbol) = Some (Named base)
 
 -- what S of a system-specific type wants: of an indirect function its procedure linkage table entry; nothing helps with another
-unfoldable pub system_wanted : ℕ → Option LayoutAddress
-system_wanted type = if type == STT_GNU_IFUNC then Some Entry else None
+unfoldable pub missing_ifunc_entry : ℕ → Option LayoutAddress
+missing_ifunc_entry type = if type == STT_GNU_IFUNC then Some Entry else None
 
 -- the entry of a symbol that is wanted where the relocation entry is not applied without: that of the base, where S has none
-unfoldable pub entry_wanted : Base → Option (ℕ × ℕ) → Option LayoutAddress
-entry_wanted base None = None
-entry_wanted Symbol (Some symbol) = system_wanted symbol.1
-entry_wanted Linkage (Some symbol) = Some Entry
-entry_wanted Table (Some symbol) = Some (Named Table)
-entry_wanted Thread (Some symbol) = Some (Named Thread)
+unfoldable pub missing_for_type : RelocationBase → Option (ℕ × ℕ) → Option LayoutAddress
+missing_for_type base None = None
+missing_for_type Symbol (Some symbol) = missing_ifunc_entry symbol.1
+missing_for_type Linkage (Some symbol) = Some Entry
+missing_for_type Table (Some symbol) = Some (Named Table)
+missing_for_type Thread (Some symbol) = Some (Named Thread)
 
 -- the section without an address: that which is relocated where the formula takes P, else the symbol's
-unfoldable pub place_wanted : Formula → Layout → ℕ → Option (ℕ × ℕ) → Option LayoutAddress
-place_wanted formula layout section symbol =
+unfoldable pub missing_place : Formula → Layout → ℕ → Option (ℕ × ℕ) → Option LayoutAddress
+missing_place formula layout section symbol =
     elim (takes_place formula && is_unplaced layout section) [ true ↦ Some (Place section) | false ↦ symbol_place layout symbol ]
 
 -- What is wanted where an entry of a type was refused for a cause, by the section index of its symbol and the symbol's type,
@@ -59,9 +59,9 @@ place_wanted formula layout section symbol =
 -- it has none, else that of the symbol's section. For want of a name's: what the type's base gives for it; for want of an
 -- entry: that.
 unfoldable pub wanted : Cause → RelocationType → Layout → ℕ → Option (ℕ × ℕ) → Option LayoutAddress
-wanted Unplaced type layout section symbol = place_wanted type.formula layout section symbol
+wanted Unplaced type layout section symbol = missing_place type.formula layout section symbol
 wanted Undefined type layout section symbol = name_wanted type.base symbol
-wanted Unsupported type layout section symbol = entry_wanted type.base symbol
+wanted Unsupported type layout section symbol = missing_for_type type.base symbol
 wanted _ type layout section symbol = None
 
 -- that, with the number of the type and the symbol's name
@@ -106,26 +106,26 @@ abbrev pub ITEM_NAME_SIZE : ℕ
 ITEM_NAME_SIZE = 255
 
 -- the name of a symbol as it is printed: where st_name is 0 it has none (gABI 4, Symbol Table)
-unfoldable pub told_symbol_name : List ℕ → ℕ → Result Shown Cause
-told_symbol_name strings index = elim (index == 0) [ true ↦ Ok (Whole []) | false ↦ shown strings index ITEM_NAME_SIZE ]
+unfoldable pub resolved_symbol_name : List ℕ → ℕ → Result DisplayedName Cause
+resolved_symbol_name strings index = elim (index == 0) [ true ↦ Ok (Whole []) | false ↦ shown strings index ITEM_NAME_SIZE ]
 
 -- what is missing, and the name of the entry's symbol
-pub record Lack : Type 0 where
+pub record MissingEntry : Type 0 where
   pub missing : Missing
-  pub name : Shown
+  pub name : DisplayedName
 
 -- that, where the name has no fault
-abbrev pub lack_with : Missing → Result Shown Cause → Option Lack
+abbrev pub lack_with : Missing → Result DisplayedName Cause → Option MissingEntry
 lack_with missing (Ok name) = Some (record { missing = missing; name = name })
 lack_with missing (Err cause) = None
 
 -- the same of an entry in a section of entries with this header, where something is missing
-unfoldable pub lack_of : List ℕ → ℕ → Option Missing → Option Lack
+unfoldable pub lack_of : List ℕ → ℕ → Option Missing → Option MissingEntry
 lack_of file header None = None
-lack_of file header (Some missing) = lack_with missing (told_symbol_name (strings_of file (linked_at file header)) missing.name)
+lack_of file header (Some missing) = lack_with missing (resolved_symbol_name (strings_of file (linked_at file header)) missing.name)
 
 -- WHAT A LAYOUT LACKS where a section, by its index, was refused: by the section of entries that the refusal points into
-unfoldable pub explained : List ℕ → ℕ → Layout → Refusal → Option Lack
+unfoldable pub explained : List ℕ → ℕ → Layout → Refusal → Option MissingEntry
 explained file section layout refusal =
     elim (refused_in file section refusal.at) [
       | None ↦ None

@@ -15,7 +15,7 @@ pub data Field : Type 0 where
   Decimal : (key : List ℕ) (width n : ℕ) → Field
   Hexadecimal : (key : List ℕ) (digits n : ℕ) → Field
   Signed : (key : List ℕ) (n : ℤ) → Field
-  Word : (key : List ℕ) (width : ℕ) (text : List ℕ) → Field
+  ArgSpec : (key : List ℕ) (width : ℕ) (text : List ℕ) → Field
   NameOrDecimal : (key : List ℕ) (width : ℕ) (name : Option (List ℕ)) (n : ℕ) → Field
   NameOrHexadecimal : (key : List ℕ) (width digits : ℕ) (name : Option (List ℕ)) (n : ℕ) → Field
   NameOrNumber : (key : List ℕ) (width : ℕ) (name : Option (List ℕ)) (n : ℕ) → Field
@@ -30,7 +30,7 @@ abbrev key_of : Field → List ℕ
 key_of (Decimal key width n) = key
 key_of (Hexadecimal key digits n) = key
 key_of (Signed key n) = key
-key_of (Word key width text) = key
+key_of (ArgSpec key width text) = key
 key_of (NameOrDecimal key width name n) = key
 key_of (NameOrHexadecimal key width digits name n) = key
 key_of (NameOrNumber key width name n) = key
@@ -45,7 +45,7 @@ abbrev pub column : Field → List ℕ
 column (Decimal key width n) = right_decimal width n
 column (Hexadecimal key digits n) = hex digits n
 column (Signed key n) = signed_text n
-column (Word key width text) = left_in width text
+column (ArgSpec key width text) = left_in width text
 column (NameOrDecimal key width name n) = name_or_decimal width name n
 column (NameOrHexadecimal key width digits name n) = left_in width (unwrap_or name (hex digits n))
 column (NameOrNumber key width name n) = left_in width (unwrap_or name (number_sign n))
@@ -77,7 +77,7 @@ abbrev member_value : Field → List ℕ
 member_value (Decimal key width n) = decimal n
 member_value (Hexadecimal key digits n) = decimal n
 member_value (Signed key n) = signed_decimal n
-member_value (Word key width text) = quoted text
+member_value (ArgSpec key width text) = quoted text
 member_value (NameOrDecimal key width name n) = name_or_value name n
 member_value (NameOrHexadecimal key width digits name n) = name_or_value name n
 member_value (NameOrNumber key width name n) = name_or_value name n
@@ -108,12 +108,12 @@ abbrev fields_text : Format → Fields → List ℕ
 fields_text format row = with_fields format (begun format row.letter) row.fields
 
 -- what stands before a line's name, how the line is written, and the key of the name
-pub record LineFront : Type 0 where
+pub record LinePrefix : Type 0 where
   pub format : Format
   pub key : List ℕ
   pub text : List ℕ
 
-abbrev pub front : Format → List ℕ → Fields → LineFront
+abbrev pub front : Format → List ℕ → Fields → LinePrefix
 front format key row = record { format = format; key = key; text = fields_text format row }
 
 -- what ends a line behind its last field

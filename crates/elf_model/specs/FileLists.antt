@@ -3,23 +3,23 @@ use Rattle.std.specs.Prelude.{ℕ, ◌+◌, ◌-◌, ◌^◌, ◌==◌, ◌&&◌
 use Rattle.elf_model.specs.Archive.{ARCHIVE_MAGIC, MAGIC_SIZE, Member, archive_checks, member_listing, members_of}
 use Rattle.elf_model.specs.Bytes.{field}
 use Rattle.elf_model.specs.Checks.{first_refusal}
-use Rattle.elf_model.specs.Choice.{RowChoice, EveryRow, RowsOf}
-use Rattle.elf_model.specs.Fields.{Fields, LineFront, front}
+use Rattle.elf_model.specs.Choice.{RowFilter, EveryRow, RowsOf}
+use Rattle.elf_model.specs.Fields.{Fields, LinePrefix, front}
 use Rattle.elf_model.specs.Lines.{named_line}
 use Rattle.elf_model.specs.Listing.{fault_of}
-use Rattle.elf_model.specs.Names.Shown.{Whole}
-use Rattle.elf_model.specs.Records.{ELF_MAGIC_SIZE, begins_as_elf}
+use Rattle.elf_model.specs.Names.DisplayedName.{Whole}
+use Rattle.elf_model.specs.Records.{ELF_MAGIC_SIZE, has_elf_magic}
 use Rattle.elf_model.specs.Style.{Style}
 use Rattle.elf_model.specs.declared.causes.Refusal.{Refusal}
 use Rattle.elf_model.specs.declared.formats.Format.{Format}
-use Rattle.elf_model.specs.declared.states.FileSort.{FileSort}
-use Rattle.elf_model.specs.declared.states.FileSort.TheVariants as sort
+use Rattle.elf_model.specs.declared.states.FileMagic.{FileMagic}
+use Rattle.elf_model.specs.declared.states.FileMagic.TheVariants as sort
 
 -- the line before what is listed of a file: its path
 abbrev path_fields : Fields
 path_fields = record { letter = codes "@"; fields = [] }
 
-unfoldable pub path_front : Format → LineFront
+unfoldable pub path_front : Format → LinePrefix
 path_front format = front format (codes "path") path_fields
 
 abbrev pub path_line : Format → List ℕ → List ℕ
@@ -27,14 +27,14 @@ path_line format path = named_line (path_front format) (Whole path)
 
 -- WHAT IS WRITTEN OF A FILE: the line of its path, and behind it what is listed of it; where rows are chosen by their names, the
 -- line of the path stands only before something that is listed
-abbrev pub headed : RowChoice → (line text : List ℕ) → List ℕ
+abbrev pub headed : RowFilter → (line text : List ℕ) → List ℕ
 headed EveryRow line text = line ++ text
 headed (RowsOf names) line [] = []
 headed (RowsOf names) line (byte ∷ text) = line ++ (byte ∷ text)
 
 -- in a list of files the lines of an archive's members stand alone where all rows are shown: where rows are chosen by their
 -- names they too stand only before something that is listed
-abbrev pub members_alone : RowChoice → Bool
+abbrev pub members_alone : RowFilter → Bool
 members_alone EveryRow = true
 members_alone (RowsOf names) = false
 
@@ -49,9 +49,9 @@ front_size true size = if nat_lt size MAGIC_SIZE then ELF_MAGIC_SIZE else MAGIC_
 front_size false size = ELF_MAGIC_SIZE
 
 -- a budget has so many bytes
-abbrev pub permits_bytes : Option ℕ → ℕ → Bool
-permits_bytes None n = true
-permits_bytes (Some budget) n = not (nat_lt budget n)
+abbrev pub may_read_bytes : Option ℕ → ℕ → Bool
+may_read_bytes None n = true
+may_read_bytes (Some budget) n = not (nat_lt budget n)
 
 -- a file begins with the magic string of an archive
 abbrev begins_as_archive : List ℕ → Bool
@@ -59,26 +59,26 @@ begins_as_archive file = nat_le MAGIC_SIZE (length file) && field file 0 8 == AR
 
 -- WHAT A FILE IS, by its first bytes. One that has fewer than a magic number is of another kind; one whose first bytes the budget
 -- has no room for is taken as an ELF file, whose listing then says so
-unfoldable pub file_sort : (members : Bool) → Option ℕ → List ℕ → FileSort
-file_sort members budget file =
+unfoldable pub file_magic : (members : Bool) → Option ℕ → List ℕ → FileMagic
+file_magic members budget file =
     if nat_lt (length file) ELF_MAGIC_SIZE then sort.Foreign
-    else if not (permits_bytes budget (front_size members (length file))) then sort.Elf
-    else if begins_as_elf file then sort.Elf
+    else if not (may_read_bytes budget (front_size members (length file))) then sort.Elf
+    else if has_elf_magic file then sort.Elf
     else if members && begins_as_archive file then sort.Archive
     else sort.Foreign
 
 -- what is left of a budget behind those bytes; of one that has no room for them all
-abbrev pub budget_behind : Option ℕ → ℕ → Option ℕ
-budget_behind None n = None
-budget_behind (Some budget) n = Some (if nat_lt budget n then budget else budget - n)
+abbrev pub budget_after : Option ℕ → ℕ → Option ℕ
+budget_after None n = None
+budget_after (Some budget) n = Some (if nat_lt budget n then budget else budget - n)
 
 -- ARCHIVES CHECKED. A refusal of a member whose data begin at an offset, counted from the archive's first byte, as far as 64 bits go
-abbrev pub placed_behind : ℕ → Refusal → Refusal
-placed_behind start refusal = record { at = min (start + refusal.at) (2 ^ 64 - 1); cause = refusal.cause }
+abbrev pub placed_after : ℕ → Refusal → Refusal
+placed_after start refusal = record { at = min (start + refusal.at) (2 ^ 64 - 1); cause = refusal.cause }
 
 -- the fault of a member's listing
 abbrev pub member_fault : List ℕ → ℕ → Style → ℕ → Member → Option Refusal
-member_fault file headers style parts m = option_map (placed_behind m.extent.at) (fault_of (member_listing file headers style parts m))
+member_fault file headers style parts m = option_map (placed_after m.extent.at) (fault_of (member_listing file headers style parts m))
 
 -- the first of members, or that of the walk
 unfoldable pub first_fault : List ℕ → ℕ → Style → ℕ → List Member → Option Refusal → Option Refusal

@@ -18,14 +18,14 @@ unfoldable pub first_hash : List ℕ → Option ℕ
 first_hash file = first_that (λ i. sh_type file (section_at file i) == SHT_HASH) 0 (e_shnum file)
 
 -- a section's hash table of the gABI has words of 8 bytes, as Alpha's files have them and their entry size says, not of 4
-abbrev pub has_wide_words : List ℕ → ℕ → Bool
-has_wide_words file at = e_machine file == EM_ALPHA && (sh_type file at == SHT_HASH && sh_entsize file at == 8)
+abbrev pub has_64_bit_words : List ℕ → ℕ → Bool
+has_64_bit_words file at = e_machine file == EM_ALPHA && (sh_type file at == SHT_HASH && sh_entsize file at == 8)
 
 -- the checks of a section that is a hash table, of so many bytes at least, before its words are read
 abbrev pub hash_checks_from : ℕ → List ℕ → ℕ → List Check
 hash_checks_from least file at =
     range_checks file at
-    ++ (refuse (nat_lt (sh_size file at) least || has_wide_words file at) at HashShape ∷ refuse (sh_link file at == 0 || not (has_symbols file at)) at BadLink ∷ [])
+    ++ (refuse (nat_lt (sh_size file at) least || has_64_bit_words file at) at HashShape ∷ refuse (sh_link file at == 0 || not (has_symbols file at)) at BadLink ∷ [])
     ++ symbol_table_checks file (linked_at file at)
 
 -- those of a HASH section

@@ -2,14 +2,14 @@
 use Rattle.std.specs.Prelude.{ℕ, ◌≡◌, ◌<◌, ◌⊎◌, true, false, List, ◌++◌, Option, None, Some, Result, Ok, Err}
 use Rattle.elf_model.specs.Answer.{Answer}
 use Rattle.elf_model.specs.Apply.{applied}
-use Rattle.elf_model.specs.Budget.{IsBudget}
+use Rattle.elf_model.specs.Budget.{IsBudgetRefusal}
 use Rattle.elf_model.specs.Find.{looked}
 use Rattle.elf_model.specs.Hash.{Outcome, Found, Absent, Refused}
-use Rattle.elf_model.specs.LineFronts.{symbol_front}
+use Rattle.elf_model.specs.LineFronts.{symbol_prefix}
 use Rattle.elf_model.specs.Lines.{named_line, steps_line, refusal_line}
 use Rattle.elf_model.specs.declared.formats.Format.{Format}
 use Rattle.elf_model.specs.declared.formats.Format.TheVariants.{Columns}
-use Rattle.elf_model.specs.Names.Shown.{Whole}
+use Rattle.elf_model.specs.Names.DisplayedName.{Whole}
 use Rattle.elf_model.specs.Placing.{Layout}
 use Rattle.elf_model.specs.Records.{e_machine}
 use Rattle.elf_model.specs.declared.causes.Refusal.{Refusal}
@@ -18,7 +18,7 @@ use Rattle.elf_model.specs.declared.causes.Refusal.{Refusal}
 -- number; the number alone; the refusal
 abbrev pub lookup_text : Format → List ℕ → List ℕ → Outcome → ℕ → List ℕ
 lookup_text format file wanted (Found section index symbol) compared =
-    named_line (symbol_front format false (e_machine file) file symbol section index) (Whole wanted) ++ steps_line format true compared
+    named_line (symbol_prefix format false (e_machine file) file symbol section index) (Whole wanted) ++ steps_line format true compared
 lookup_text format file wanted Absent compared = steps_line format false compared
 lookup_text format file wanted (Refused refusal) compared = refusal_line format refusal
 
@@ -53,7 +53,7 @@ apply_answer file headers section layout =
 -- an answer is the line of a refusal for want of budget alone, whose offset is below the file's length, with status 1
 pub record IsOutOfBudget (format : Format) (size : ℕ) (answer : Answer) : Type 0 where
   pub refusal : Refusal
-  pub for_budget : IsBudget refusal
+  pub for_budget : IsBudgetRefusal refusal
   pub inside : refusal.at < size
   pub answer_is : answer ≡ record { text = refusal_line format refusal; status = 1 }
 

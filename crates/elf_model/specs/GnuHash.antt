@@ -3,7 +3,7 @@
 -- `first` on, words of four bytes. A chain is the symbols from its bucket's on, one behind the other.
 use Rattle.std.specs.Prelude.{ℕ, zero, suc, ◌+◌, ◌-◌, ◌*◌, ◌/◌, ◌%◌, ◌^◌, ◌==◌, ◌&&◌, ◌||◌, ◌≡◌, ◌⊎◌, nat_lt, not, if◌then◌else◌, Bool, true, false, List, fold, Option, None, Some, Result, Ok}
 use Rattle.elf_model.specs.Bytes.{field}
-use Rattle.elf_model.specs.Chains.{HashTable, WalkEnd, NotThere, Untried, Answers, Last, end_of_trial, Walked, nothing_tried, refused_walk}
+use Rattle.elf_model.specs.Chains.{HashTable, WalkEnd, NotThere, Untried, Answers, Last, end_of_match, ChainResult, nothing_tried, refused_walk}
 use Rattle.elf_model.specs.Cost.{sum_over}
 use Rattle.elf_model.specs.Hash.{IsFirst, end_among}
 use Rattle.elf_model.specs.declared.causes.Cause.TheVariants.{HashIndex}
@@ -55,12 +55,12 @@ abbrev pub chain_word : List ℕ → ℕ → ℕ → ℕ
 chain_word file place y = field file (gnu_chain_at file place y) 4
 
 -- the lowest bit of a chain word says that its symbol is the last of the chain
-abbrev pub ends_chain : ℕ → Bool
-ends_chain word = word % 2 == 1
+abbrev pub is_chain_end : ℕ → Bool
+is_chain_end word = word % 2 == 1
 
 -- the other bits are those of the hash of the symbol's name
-abbrev pub is_of_hash : ℕ → ℕ → Bool
-is_of_hash word hash = word / 2 == hash / 2
+abbrev pub hash_bits_match : ℕ → ℕ → Bool
+hash_bits_match word hash = word / 2 == hash / 2
 
 -- a bit of a word is set
 abbrev pub is_set : ℕ → ℕ → Bool
@@ -71,8 +71,8 @@ abbrev filter_word : List ℕ → ℕ → ℕ → ℕ
 filter_word file place hash = field file (bloom_at place (hash / 64 % gnu_nbloom file place)) 8
 
 -- THE FILTER: two bits of that word are set for each hash that the table holds, by the hash and by its upper bits
-unfoldable pub may_hold : List ℕ → ℕ → ℕ → Bool
-may_hold file place hash =
+unfoldable pub filter_may_contain : List ℕ → ℕ → ℕ → Bool
+filter_may_contain file place hash =
     let word = filter_word file place hash in
     is_set word (hash % 64) && is_set word (hash / 2 ^ gnu_shift file place % 64)
 
@@ -85,7 +85,7 @@ gnu_start file place hash = field file (gnu_bucket_of file place hash) 4
 
 -- a table says that it holds no name of a hash: by its filter, or by an empty bucket
 abbrev pub holds_none : List ℕ → ℕ → ℕ → Bool
-holds_none file place hash = not (may_hold file place hash) || gnu_start file place hash == 0
+holds_none file place hash = not (filter_may_contain file place hash) || gnu_start file place hash == 0
 
 -- a symbol index is one from `first` on and below the number of symbols, and its chain word lies within the table
 abbrev pub is_chained : List ℕ → HashTable → ℕ → Bool
@@ -105,7 +105,7 @@ gnu_word_at file place hash (suc i) = gnu_chain_at file place (gnu_symbol file p
 
 -- the end of the chain, where a chain word says so
 abbrev pub end_of_chain : ℕ → Option WalkEnd
-end_of_chain word = if ends_chain word then Some Last else None
+end_of_chain word = if is_chain_end word then Some Last else None
 
 -- why a walk ends at a symbol index, if it does: a symbol whose chain word is of the hash is tried
 unfoldable pub gnu_end : List ℕ → HashTable → ℕ → (ℕ → Result Bool Refusal) → ℕ → Option WalkEnd
@@ -113,8 +113,8 @@ gnu_end file table hash trial y =
     let word = chain_word file table.place y in
     elim (is_chained file table y) [
       | false ↦ Some NotThere
-      | true ↦ elim (is_of_hash word hash) [
-        | true ↦ end_of_trial (trial y) (end_of_chain word)
+      | true ↦ elim (hash_bits_match word hash) [
+        | true ↦ end_of_match (trial y) (end_of_chain word)
         | false ↦ end_of_chain word
       ]
     ]
@@ -122,10 +122,10 @@ gnu_end file table hash trial y =
 -- how many of the first symbols of a walk, so many, are tried
 unfoldable pub gnu_tried : List ℕ → ℕ → ℕ → ℕ → ℕ
 gnu_tried file place hash count =
-    sum_over (λ y. if is_of_hash (chain_word file place y) hash then 1 else 0) (gnu_start file place hash) count
+    sum_over (λ y. if hash_bits_match (chain_word file place y) hash then 1 else 0) (gnu_start file place hash) count
 
 -- what a walk gives that ends at symbol number i
-unfoldable pub gnu_walked_at : List ℕ → ℕ → ℕ → ℕ → WalkEnd → Walked
+unfoldable pub gnu_walked_at : List ℕ → ℕ → ℕ → ℕ → WalkEnd → ChainResult
 gnu_walked_at file place hash i NotThere =
     refused_walk (gnu_tried file place hash i) i (record { at = gnu_word_at file place hash i; cause = HashIndex })
 gnu_walked_at file place hash i (Untried refusal) = refused_walk (gnu_tried file place hash (suc i)) (suc i) refusal
@@ -135,12 +135,12 @@ gnu_walked_at file place hash i Last =
     record { answer = Ok None; tried = gnu_tried file place hash (suc i); read = suc i }
 
 -- a table says that it holds no name of the hash: no symbol is tried
-pub record IsPassedOver (file : List ℕ) (table : HashTable) (hash : ℕ) (walked : Walked) : Type 0 where
+pub record IsPassedOver (file : List ℕ) (table : HashTable) (hash : ℕ) (walked : ChainResult) : Type 0 where
   pub told : holds_none file table.place hash ≡ true
   pub gives : walked ≡ nothing_tried
 
 -- else the first symbol of the chain at which the walk ends says what it gives
-pub record EndsInChain (file : List ℕ) (table : HashTable) (hash : ℕ) (trial : ℕ → Result Bool Refusal) (walked : Walked) : Type 0 where
+pub record EndsInChain (file : List ℕ) (table : HashTable) (hash : ℕ) (trial : ℕ → Result Bool Refusal) (walked : ChainResult) : Type 0 where
   pub told : holds_none file table.place hash ≡ false
   pub number : ℕ
   pub end : WalkEnd
@@ -148,13 +148,13 @@ pub record EndsInChain (file : List ℕ) (table : HashTable) (hash : ℕ) (trial
   pub gives : walked ≡ gnu_walked_at file table.place hash number end
 
 -- WHAT A LOOKUP GIVES in a hash table of the GNU system, for a hash and a trial
-abbrev pub IsGnuLookup : List ℕ → HashTable → ℕ → (ℕ → Result Bool Refusal) → Walked → Type 0
+abbrev pub IsGnuLookup : List ℕ → HashTable → ℕ → (ℕ → Result Bool Refusal) → ChainResult → Type 0
 IsGnuLookup file table hash trial walked = IsPassedOver file table hash walked ⊎ EndsInChain file table hash trial walked
 
 -- The calculation. By the laws `GnuLookupAnswers` and `GnuLookupIsOne` it gives the one lookup that `IsGnuLookup` describes.
 
 -- what a walk gives by its end; by the law it has one
-abbrev pub gnu_walked_by : List ℕ → ℕ → ℕ → Option (ℕ × WalkEnd) → Walked
+abbrev pub gnu_walked_by : List ℕ → ℕ → ℕ → Option (ℕ × WalkEnd) → ChainResult
 gnu_walked_by file place hash None = nothing_tried
 gnu_walked_by file place hash (Some found) = gnu_walked_at file place hash found.0 found.1
 
@@ -164,7 +164,7 @@ gnu_walk_end file table hash trial =
     end_among (gnu_end file table hash trial) (λ y. suc y) (gnu_start file table.place hash) 0 (suc table.symbols)
 
 -- what a lookup gives
-unfoldable pub gnu_looked_up : List ℕ → HashTable → ℕ → (ℕ → Result Bool Refusal) → Walked
+unfoldable pub gnu_looked_up : List ℕ → HashTable → ℕ → (ℕ → Result Bool Refusal) → ChainResult
 gnu_looked_up file table hash trial =
     elim (holds_none file table.place hash) [
       | true ↦ nothing_tried

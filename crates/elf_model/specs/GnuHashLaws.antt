@@ -1,8 +1,8 @@
 -- Laws of lookups in a hash table of the GNU system: what the calculation gives is the one lookup, which reads no more words
 -- than the table has and tries no more symbols than there are.
 use Rattle.std.specs.Prelude.{ℕ, ◌*◌, ◌<◌, ◌≤◌, ◌≡◌, Bool, true, false, None, Some, Result, Ok, List}
-use Rattle.elf_model.specs.Chains.{HashTable, Walked}
-use Rattle.elf_model.specs.GnuHash.{gnu_symbol, holds_none, is_chained, chain_word, ends_chain, is_of_hash, IsGnuLookup, gnu_looked_up}
+use Rattle.elf_model.specs.Chains.{HashTable, ChainResult}
+use Rattle.elf_model.specs.GnuHash.{gnu_symbol, holds_none, is_chained, chain_word, is_chain_end, hash_bits_match, IsGnuLookup, gnu_looked_up}
 use Rattle.elf_model.specs.declared.causes.Refusal.{Refusal}
 
 -- what is calculated is what a lookup gives
@@ -14,12 +14,12 @@ GnuLookupAnswers =
 -- it gives nothing else
 abbrev pub GnuLookupIsOne : Type 0
 GnuLookupIsOne =
-    (file : List ℕ) (table : HashTable) (hash : ℕ) (trial : ℕ → Result Bool Refusal) (first second : Walked)
+    (file : List ℕ) (table : HashTable) (hash : ℕ) (trial : ℕ → Result Bool Refusal) (first second : ChainResult)
     → IsGnuLookup file table hash trial first → IsGnuLookup file table hash trial second → first ≡ second
 
 -- THE BOUND: it reads no more chain words than the table has bytes for, behind its four words, and no more than there are
 -- symbols; each symbol that it tries has such a word
-pub record IsWithinTable (table : HashTable) (walked : Walked) : Type 0 where
+pub record IsWithinTable (table : HashTable) (walked : ChainResult) : Type 0 where
   pub tried_are_read : walked.tried ≤ walked.read
   pub within_symbols : walked.read ≤ table.symbols
   pub within_bytes : 4 * walked.read ≤ table.size
@@ -32,7 +32,7 @@ GnuLookupIsBounded =
 -- a symbol that is found answers; it is one that the table knows, and its chain word is of the hash
 pub record IsFound (file : List ℕ) (table : HashTable) (hash : ℕ) (trial : ℕ → Result Bool Refusal) (y : ℕ) : Type 0 where
   pub chained : is_chained file table y ≡ true
-  pub of_hash : is_of_hash (chain_word file table.place y) hash ≡ true
+  pub of_hash : hash_bits_match (chain_word file table.place y) hash ≡ true
   pub answers : trial y ≡ Ok true
 
 abbrev pub GnuFoundAnswers : Type 0
@@ -47,8 +47,8 @@ pub record IsHeld (file : List ℕ) (table : HashTable) (hash y : ℕ) : Type 0 
   pub told : holds_none file table.place hash ≡ false
   pub number : ℕ
   pub in_chain : y ≡ gnu_symbol file table.place hash number
-  pub goes_on : (i : ℕ) → i < number → ends_chain (chain_word file table.place (gnu_symbol file table.place hash i)) ≡ false
-  pub of_hash : is_of_hash (chain_word file table.place y) hash ≡ true
+  pub goes_on : (i : ℕ) → i < number → is_chain_end (chain_word file table.place (gnu_symbol file table.place hash i)) ≡ false
+  pub of_hash : hash_bits_match (chain_word file table.place y) hash ≡ true
 
 -- where a table holds each symbol that answers, and none is found, none answers
 abbrev pub GnuAbsentMeansNone : Type 0

@@ -1,8 +1,8 @@
 -- The lines with a name, up to the name: the fields of one record, which stands at an offset of some bytes. Whether numbers of
 -- the GNU system have names, and on which machine, it is given before.
 use Rattle.std.specs.Prelude.{ℕ, Bool, List, [], ◌∷◌, codes}
-use Rattle.elf_model.specs.Fields.{Field, Fields, LineFront, front}
-use Rattle.elf_model.specs.Fields.Field.{Decimal, Hexadecimal, Signed, Word, NameOrDecimal, NameOrHexadecimal, NameOrNumber}
+use Rattle.elf_model.specs.Fields.{Field, Fields, LinePrefix, front}
+use Rattle.elf_model.specs.Fields.Field.{Decimal, Hexadecimal, Signed, ArgSpec, NameOrDecimal, NameOrHexadecimal, NameOrNumber}
 use Rattle.elf_model.specs.Text.{name_of}
 use Rattle.elf_model.specs.Records.{sh_type, sh_flags, sh_addr, sh_offset, sh_size, sh_link, sh_info, st_value, st_size, st_type, st_bind, st_visibility, st_shndx, r_offset, r_type, r_sym, r_addend, twos_complement, d_tag, d_un}
 use Rattle.elf_model.specs.NameTables.{section_types, section_flags_text, symbol_types, bindings, visibilities, places, relocation_names, dynamic_tags}
@@ -15,7 +15,7 @@ section_fields gnu machine bytes at index = record {
   fields =
       Decimal (codes "index") 5 index
       ∷ NameOrHexadecimal (codes "type") 13 8 (name_of (section_types gnu machine) (sh_type bytes at)) (sh_type bytes at)
-      ∷ Word (codes "flags") 12 (section_flags_text gnu machine (sh_flags bytes at))
+      ∷ ArgSpec (codes "flags") 12 (section_flags_text gnu machine (sh_flags bytes at))
       ∷ Hexadecimal (codes "address") 16 (sh_addr bytes at)
       ∷ Hexadecimal (codes "offset") 16 (sh_offset bytes at)
       ∷ Hexadecimal (codes "size") 16 (sh_size bytes at)
@@ -24,8 +24,8 @@ section_fields gnu machine bytes at index = record {
       ∷ [];
 }
 
-unfoldable pub section_front : Format → Bool → ℕ → List ℕ → ℕ → ℕ → LineFront
-section_front format gnu machine bytes at index = front format (codes "name") (section_fields gnu machine bytes at index)
+unfoldable pub section_prefix : Format → Bool → ℕ → List ℕ → ℕ → ℕ → LinePrefix
+section_prefix format gnu machine bytes at index = front format (codes "name") (section_fields gnu machine bytes at index)
 
 -- a number by its name in a table of names
 abbrev named_number : List ℕ → ℕ → List (ℕ × List ℕ) → ℕ → Field
@@ -47,8 +47,8 @@ symbol_fields gnu machine bytes at section index = record {
       ∷ [];
 }
 
-unfoldable pub symbol_front : Format → Bool → ℕ → List ℕ → ℕ → ℕ → ℕ → LineFront
-symbol_front format gnu machine bytes at section index = front format (codes "name") (symbol_fields gnu machine bytes at section index)
+unfoldable pub symbol_prefix : Format → Bool → ℕ → List ℕ → ℕ → ℕ → ℕ → LinePrefix
+symbol_prefix format gnu machine bytes at section index = front format (codes "name") (symbol_fields gnu machine bytes at section index)
 
 -- a relocation entry: the index of its section, offset, type, symbol and addend
 abbrev relocation_fields : Bool → ℕ → List ℕ → ℕ → ℕ → Fields
@@ -63,8 +63,8 @@ relocation_fields gnu machine bytes at section = record {
       ∷ [];
 }
 
-unfoldable pub relocation_front : Format → Bool → ℕ → List ℕ → ℕ → ℕ → LineFront
-relocation_front format gnu machine bytes at section = front format (codes "name") (relocation_fields gnu machine bytes at section)
+unfoldable pub relocation_prefix : Format → Bool → ℕ → List ℕ → ℕ → ℕ → LinePrefix
+relocation_prefix format gnu machine bytes at section = front format (codes "name") (relocation_fields gnu machine bytes at section)
 
 -- a note: the index of its section or program header, type, and the sizes of its name and its descriptor
 abbrev note_fields : ℕ → ℕ → ℕ → ℕ → Fields
@@ -78,8 +78,8 @@ note_fields index kind namesz descsz = record {
       ∷ [];
 }
 
-unfoldable pub note_front : Format → ℕ → ℕ → ℕ → ℕ → LineFront
-note_front format index kind namesz descsz = front format (codes "name") (note_fields index kind namesz descsz)
+unfoldable pub note_prefix : Format → ℕ → ℕ → ℕ → ℕ → LinePrefix
+note_prefix format index kind namesz descsz = front format (codes "name") (note_fields index kind namesz descsz)
 
 -- a dynamic entry: its index in its table, tag and value
 abbrev dynamic_fields : Bool → List ℕ → ℕ → ℕ → Fields
@@ -92,5 +92,5 @@ dynamic_fields gnu bytes at index = record {
       ∷ [];
 }
 
-unfoldable pub dynamic_front : Format → Bool → List ℕ → ℕ → ℕ → LineFront
-dynamic_front format gnu bytes at index = front format (codes "string") (dynamic_fields gnu bytes at index)
+unfoldable pub dynamic_prefix : Format → Bool → List ℕ → ℕ → ℕ → LinePrefix
+dynamic_prefix format gnu bytes at index = front format (codes "string") (dynamic_fields gnu bytes at index)

@@ -1,12 +1,12 @@
 -- The lines of a listing. Each is its letter and its fields, and for most lines a name.
 use Rattle.std.specs.Prelude.{ℕ, ◌==◌, ◌&&◌, nat_le, nat_lt, if◌then◌else◌, Bool, List, [], ◌∷◌, ◌++◌, codes, take, length}
-use Rattle.elf_model.specs.Fields.{Fields, LineFront, member_key, quoted, closed_line, closing}
-use Rattle.elf_model.specs.Fields.Field.{Decimal, Hexadecimal, Word, NameOrHexadecimal}
+use Rattle.elf_model.specs.Fields.{Fields, LinePrefix, member_key, quoted, closed_line, closing}
+use Rattle.elf_model.specs.Fields.Field.{Decimal, Hexadecimal, ArgSpec, NameOrHexadecimal}
 use Rattle.elf_model.specs.Text.{hex, space, newline, name_of}
 use Rattle.elf_model.specs.Records.{e_type, e_machine, e_entry, e_phoff, e_shoff, e_flags, e_phnum, e_shnum, e_shstrndx, p_type, p_flags, p_offset, p_vaddr, p_paddr, p_filesz, p_memsz, p_align}
 use Rattle.elf_model.specs.NameTables.{file_types, segment_types, segment_flags_text}
-use Rattle.elf_model.specs.Names.{Shown}
-use Rattle.elf_model.specs.Names.Shown.{Whole, Cut}
+use Rattle.elf_model.specs.Names.{DisplayedName}
+use Rattle.elf_model.specs.Names.DisplayedName.{Whole, Cut}
 use Rattle.elf_model.specs.Causes.{cause_word}
 use Rattle.elf_model.specs.declared.causes.Refusal.{Refusal}
 use Rattle.elf_model.specs.declared.formats.Format.{Format}
@@ -41,7 +41,7 @@ segment_fields gnu bytes at index = record {
   fields =
       Decimal (codes "index") 5 index
       ∷ NameOrHexadecimal (codes "type") 8 8 (name_of (segment_types gnu) (p_type bytes at)) (p_type bytes at)
-      ∷ Word (codes "permissions") 3 (segment_flags_text (p_flags bytes at))
+      ∷ ArgSpec (codes "permissions") 3 (segment_flags_text (p_flags bytes at))
       ∷ Hexadecimal (codes "offset") 16 (p_offset bytes at)
       ∷ Hexadecimal (codes "vaddr") 16 (p_vaddr bytes at)
       ∷ Hexadecimal (codes "paddr") 16 (p_paddr bytes at)
@@ -58,14 +58,14 @@ segment_line format gnu bytes at index =
 -- the line that ends a lookup: whether the name was found, and how many symbols were compared
 unfoldable pub steps_line : Format → Bool → ℕ → List ℕ
 steps_line format found steps =
-    let answer = Word (codes "answer") 6 (if found then codes "found" else codes "absent") in
+    let answer = ArgSpec (codes "answer") 6 (if found then codes "found" else codes "absent") in
     closed_line format (record { letter = codes "F"; fields = answer ∷ [] }) (Decimal (codes "steps") 10 steps)
 
 -- the line of a refusal: the file offset that it points to, and the word of its cause
 unfoldable pub refusal_line : Format → Refusal → List ℕ
 refusal_line format r =
     let place = Hexadecimal (codes "place") 16 r.at in
-    closed_line format (record { letter = codes "!"; fields = place ∷ [] }) (Word (codes "cause") 0 (cause_word r.cause))
+    closed_line format (record { letter = codes "!"; fields = place ∷ [] }) (ArgSpec (codes "cause") 0 (cause_word r.cause))
 
 -- a byte of a name: a backslash is doubled, any other printing ASCII character stands as it is, any other byte
 -- is spelt in two digits
@@ -85,21 +85,21 @@ abbrev pub cut_mark : List ℕ
 cut_mark = codes "\\+"
 
 -- a name as it is shown
-unfoldable pub name_text : Shown → List ℕ
+unfoldable pub name_text : DisplayedName → List ℕ
 name_text (Whole name) = escaped name
 name_text (Cut front) = escaped front ++ cut_mark
 
 -- a name as a member of an object, with its key, and behind it where it is cut that it is
-abbrev pub name_member : List ℕ → Shown → List ℕ
+abbrev pub name_member : List ℕ → DisplayedName → List ℕ
 name_member key (Whole name) = member_key key ++ quoted (escaped name)
 name_member key (Cut front) = member_key key ++ quoted (escaped front) ++ (member_key (codes "cut") ++ codes "true")
 
 -- a line that ends in a name
-unfoldable pub line_named : Format → (key text : List ℕ) → Shown → List ℕ
+unfoldable pub line_named : Format → (key text : List ℕ) → DisplayedName → List ℕ
 line_named Columns key text name = text ++ (name_text name ++ newline)
 line_named Object key text name = text ++ (name_member key name ++ closing Object)
 
-abbrev pub named_line : LineFront → Shown → List ℕ
+abbrev pub named_line : LinePrefix → DisplayedName → List ℕ
 named_line front name = line_named front.format front.key front.text name
 
 -- bytes in hexadecimal, two digits each
@@ -122,12 +122,12 @@ unfoldable pub note_tail : List ℕ → List ℕ
 note_tail descriptor = space ++ descriptor_text descriptor ++ newline
 
 -- a line that ends in a name and a descriptor: in an object the descriptor has the bytes that are shown
-unfoldable pub line_described : Format → (key text : List ℕ) → Shown → List ℕ → List ℕ
+unfoldable pub line_described : Format → (key text : List ℕ) → DisplayedName → List ℕ → List ℕ
 line_described Columns key text name descriptor = text ++ (name_text name ++ note_tail descriptor)
 line_described Object key text name descriptor =
     text ++ (name_member key name
     ++ (member_key (codes "descriptor") ++ quoted (hex_bytes (take SHOWN_DESCRIPTOR descriptor)) ++ closing Object))
 
 -- the line of a note
-abbrev pub note_line : LineFront → Shown → List ℕ → List ℕ
+abbrev pub note_line : LinePrefix → DisplayedName → List ℕ → List ℕ
 note_line front name descriptor = line_described front.format front.key front.text name descriptor

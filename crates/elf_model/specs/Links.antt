@@ -4,10 +4,10 @@
 use Rattle.std.specs.Prelude.{ℕ, zero, suc, ◌+◌, ◌-◌, ◌*◌, ◌/◌, ◌==◌, ◌||◌, nat_lt, Bool, true, false, if◌then◌else◌, List, [], ◌∷◌, ◌++◌, length, Option, None, Some, Result, Ok, Err}
 use Rattle.elf_model.specs.Checks.{first_refusal, header_checks, load_checks}
 use Rattle.elf_model.specs.Dynamic.{dynamic_count, listed_value}
-use Rattle.elf_model.specs.LoaderScope.{dynamic_segment_index, scope_by_segments}
+use Rattle.elf_model.specs.LoaderScope.{dynamic_segment_index, lookup_tables_by_segments}
 use Rattle.elf_model.specs.Mapped.{strings_at}
 use Rattle.elf_model.specs.Names.{name_bytes, shown}
-use Rattle.elf_model.specs.Names.Shown.{Whole, Cut}
+use Rattle.elf_model.specs.Names.DisplayedName.{Whole, Cut}
 use Rattle.elf_model.specs.Numbers.{DT_NEEDED, DT_RPATH, DT_RUNPATH, DT_SONAME, DT_STRSZ, DT_STRTAB}
 use Rattle.elf_model.specs.Records.{FILE_HEADER_SIZE, PROGRAM_HEADER_SIZE, d_tag, d_un, p_filesz, p_offset, segment_at}
 use Rattle.elf_model.specs.Style.{without_sections}
@@ -33,8 +33,8 @@ pub record LinkTexts : Type 0 where
   pub rpath : Option (List ℕ)
   pub runpath : Option (List ℕ)
 
-abbrev pub no_links : LinkTexts
-no_links = record { needed = []; soname = None; rpath = None; runpath = None }
+abbrev pub no_link_info : LinkTexts
+no_link_info = record { needed = []; soname = None; rpath = None; runpath = None }
 
 -- ROOM: for so many texts, of so many bytes together
 pub record TextRoom : Type 0 where
@@ -45,8 +45,8 @@ abbrev pub has_room : TextRoom → List ℕ → Bool
 has_room room text = if nat_lt room.bytes (length text) then false else nat_lt 0 room.texts
 
 -- what is left of it behind a text
-abbrev pub room_behind : TextRoom → List ℕ → TextRoom
-room_behind room text = record { bytes = room.bytes - length text; texts = room.texts - 1 }
+abbrev pub room_after : TextRoom → List ℕ → TextRoom
+room_after room text = record { bytes = room.bytes - length text; texts = room.texts - 1 }
 
 -- entries that have a text, the index of which in their strings is their value
 abbrev pub is_link : ℕ → Bool
@@ -74,14 +74,14 @@ first_text None true text = Some text
 first_text None false text = None
 
 -- a library more, where an entry has that tag
-abbrev pub needed_behind : List NeededName → Bool → NeededName → List NeededName
-needed_behind needed true name = needed ++ name ∷ []
-needed_behind needed false name = needed
+abbrev pub needed_after : List NeededName → Bool → NeededName → List NeededName
+needed_after needed true name = needed ++ name ∷ []
+needed_after needed false name = needed
 
 -- with the text of an entry of a tag, which stands at an offset
 unfoldable pub linked_by : (tag at : ℕ) → List ℕ → LinkTexts → LinkTexts
 linked_by tag at text links = record {
-  needed = needed_behind links.needed (tag == DT_NEEDED) (record { at = at; name = text });
+  needed = needed_after links.needed (tag == DT_NEEDED) (record { at = at; name = text });
   soname = first_text links.soname (tag == DT_SONAME) text;
   rpath = first_text links.rpath (tag == DT_RPATH) text;
   runpath = first_text links.runpath (tag == DT_RUNPATH) text;
@@ -98,7 +98,7 @@ linked_with file address size at linked = elim (is_link (d_tag file at)) [
   | false ↦ Ok linked
   | true ↦ elim (link_text file address size linked.room at) [
     | Err refusal ↦ Err refusal
-    | Ok text ↦ Ok (record { links = linked_by (d_tag file at) at text linked.links; room = room_behind linked.room text })
+    | Ok text ↦ Ok (record { links = linked_by (d_tag file at) at text linked.links; room = room_after linked.room text })
   ]
 ]
 
@@ -114,11 +114,11 @@ linked_from file address size at linked (suc n) = elim (linked_with file address
 unfoldable pub linked_in : List ℕ → (at n : ℕ) → TextRoom → Result LinkState Refusal
 linked_in file at n room =
     linked_from file (listed_value file at n DT_STRTAB) (listed_value file at n DT_STRSZ) at
-    (record { links = no_links; room = room }) (dynamic_count file at n)
+    (record { links = no_link_info; room = room }) (dynamic_count file at n)
 
 -- what a lookup is made in is refused; a file without a hash table has none
 unfoldable pub lookup_refusal : List ℕ → Option Refusal
-lookup_refusal file = elim (scope_by_segments file) [
+lookup_refusal file = elim (lookup_tables_by_segments file) [
   | Ok scope ↦ None
   | Err refusal ↦ elim (has_none refusal.cause) [ true ↦ None | false ↦ Some refusal ]
 ]
@@ -129,7 +129,7 @@ unfoldable pub loaded_links : List ℕ → TextRoom → Result LinkState Refusal
 loaded_links file room = elim (lookup_refusal file) [
   | Some refusal ↦ Err refusal
   | None ↦ elim (dynamic_segment_index file) [
-    | None ↦ Ok (record { links = no_links; room = room })
+    | None ↦ Ok (record { links = no_link_info; room = room })
     | Some i ↦ elim (first_refusal (segment_dynamic_checks file (segment_at file i))) [
       | Some refusal ↦ Err refusal
       | None ↦ linked_in file (p_offset file (segment_at file i)) (p_filesz file (segment_at file i) / DYNAMIC_SIZE) room

@@ -45,8 +45,8 @@ LoadFaultIsListedSecond =
     → report_of style.format (listing file headers style parts) ≡ header_line style.format file ++ refusal_line style.format refusal
 
 -- what stands behind the first fault of a listing is not shown
-abbrev pub NothingBehindTheFault : Type 0
-NothingBehindTheFault =
+abbrev pub NothingAfterTheFault : Type 0
+NothingAfterTheFault =
     (front back : List ListingItem) → (refusal : Refusal) → fault_of front ≡ Some refusal
     → (lines_of (front ++ back) ≡ lines_of front) × (fault_of (front ++ back) ≡ Some refusal)
 

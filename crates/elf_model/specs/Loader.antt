@@ -5,7 +5,7 @@ use Rattle.elf_model.specs.Names.{same}
 use Rattle.elf_model.specs.Numbers.{SHN_UNDEF, SHN_ABS, STB_GLOBAL, STB_WEAK, STB_GNU_UNIQUE, STT_NOTYPE, STT_OBJECT, STT_FUNC, STT_COMMON, STT_TLS, STT_GNU_IFUNC, STV_DEFAULT, STV_PROTECTED}
 use Rattle.elf_model.specs.Records.{st_name, st_shndx, st_value, st_type, st_bind, st_visibility, versym}
 use Rattle.elf_model.specs.Tables.{SYMBOL_SIZE}
-use Rattle.elf_model.specs.Versions.{VERSYM_SIZE, Met, Stand, number_in, number_word, named_at, name_index, names_version, names_number, record_size, most_records, first_stand, next_stand, versions_in}
+use Rattle.elf_model.specs.Versions.{VERSYM_SIZE, VisitedRecord, RecordCursorState, number_in, number_word, named_at, name_index, names_version, names_version_index, record_size, max_records, first_position, next_position, versions_in}
 use Rattle.elf_model.specs.declared.causes.Cause.TheVariants.{VersionCut}
 use Rattle.elf_model.specs.declared.causes.Refusal.{Refusal}
 use Rattle.elf_model.specs.declared.versions.VersionKind.{VersionKind}
@@ -27,15 +27,15 @@ abbrev pub AT_SIGN : ℕ
 AT_SIGN = 0x40
 
 -- the version behind the first such sign: behind a second that follows directly it is to be the default one
-abbrev pub asked_behind : List ℕ → Asked
-asked_behind [] = Version []
-asked_behind (byte ∷ bytes) = if byte == AT_SIGN then DefaultVersion bytes else Version (byte ∷ bytes)
+abbrev pub asked_after : List ℕ → Asked
+asked_after [] = Version []
+asked_after (byte ∷ bytes) = if byte == AT_SIGN then DefaultVersion bytes else Version (byte ∷ bytes)
 
 -- a text NAME, NAME@VERSION or NAME@@VERSION, parted at its first such sign
-unfoldable pub wanted_of : List ℕ → Wanted
-wanted_of text = elim (position (λ byte. byte == AT_SIGN) text) [
+unfoldable pub parse_query : List ℕ → Wanted
+parse_query text = elim (position (λ byte. byte == AT_SIGN) text) [
   | None ↦ record { name = text; asked = NoVersion }
-  | Some place ↦ record { name = take place text; asked = asked_behind (drop (suc place) text) }
+  | Some place ↦ record { name = take place text; asked = asked_after (drop (suc place) text) }
 ]
 
 -- the name of the version that is asked for, if one is
@@ -55,8 +55,8 @@ is_among n numbers = is_some (position (λ other. other == n) numbers)
 
 -- A SYMBOL IS OFFERED to others: it is not undefined and of thread-local storage; it has a value, or it is absolute or of
 -- thread-local storage, where 0 is a value; and its type, its binding and its visibility are those of symbols for others
-unfoldable pub is_offered : List ℕ → ℕ → Bool
-is_offered file at =
+unfoldable pub is_exported : List ℕ → ℕ → Bool
+is_exported file at =
     let is_tls = st_type file at == STT_TLS in
     not (is_tls && (st_shndx file at == SHN_UNDEF))
     && (not (st_value file at == 0) || (st_shndx file at == SHN_ABS) || is_tls)
@@ -84,12 +84,12 @@ pub record VersionWords : Type 0 where
   pub index : ℕ
 
 -- where the word of a symbol stands
-abbrev pub version_word_at : VersionWords → ℕ → ℕ
-version_word_at words y = words.place + VERSYM_SIZE * y
+abbrev pub versym_at : VersionWords → ℕ → ℕ
+versym_at words y = words.place + VERSYM_SIZE * y
 
 -- A TABLE OF DEFINITIONS OR NEEDS of versions: the kind of its first record, the offset of what describes it, where it stands
 -- in the file, how many bytes it has there, and the strings of its names
-pub record RecordTable : Type 0 where
+pub record VersionRecordTable : Type 0 where
   pub kind : VersionKind
   pub head : ℕ
   pub place : ℕ
@@ -104,7 +104,7 @@ pub record Symbols : Type 0 where
   pub strings : List ℕ
   pub strings_at : ℕ
   pub words : Option VersionWords
-  pub records : List RecordTable
+  pub records : List VersionRecordTable
 
 -- where a symbol stands in the file
 abbrev pub symbol_offset : Symbols → ℕ → ℕ
@@ -115,7 +115,7 @@ symbol_offset symbols y = symbols.place + SYMBOL_SIZE * y
 unfoldable pub version_fits : List ℕ → Option VersionWords → Asked → (ℕ → Bool) → ℕ → Result Bool Refusal
 version_fits file None asked is_wanted y = Ok true
 version_fits file (Some words) asked is_wanted y =
-    if nat_lt y words.count then Ok (fits asked is_wanted (versym file (version_word_at words y)))
+    if nat_lt y words.count then Ok (fits asked is_wanted (versym file (versym_at words y)))
     else Err (record { at = words.head; cause = VersionCut })
 
 -- WHETHER A SYMBOL ANSWERS: it has the wanted name, it is offered, and its version fits. It is not known where the name has
@@ -126,7 +126,7 @@ answers file symbols wanted is_wanted y =
     elim (same symbols.strings (st_name file at) wanted.name) [
       | Err cause ↦ Err (record { at = at; cause = cause })
       | Ok false ↦ Ok false
-      | Ok true ↦ elim (is_offered file at) [
+      | Ok true ↦ elim (is_exported file at) [
         | false ↦ Ok false
         | true ↦ version_fits file symbols.words wanted.asked is_wanted y
       ]
@@ -134,42 +134,42 @@ answers file symbols wanted is_wanted y =
 
 -- A RECORD OF VERSIONS THAT A WALK READS: one that is met, with the strings of its name; one that is refused; or that none
 -- stands where one is to come, so that nothing is read
-pub data RecordReading : Type 0 where
-  Meets : List ℕ → Met → RecordReading
-  Refuses : Refusal → RecordReading
-  Misses : Refusal → RecordReading
+pub data VersionRecordRead : Type 0 where
+  Meets : List ℕ → VisitedRecord → VersionRecordRead
+  Refuses : Refusal → VersionRecordRead
+  Misses : Refusal → VersionRecordRead
 
 -- where the walk over a table stands once so many records are met
-unfoldable pub stand_after : List ℕ → RecordTable → ℕ → Option Stand
-stand_after file table zero = first_stand table.kind table.head table.size
-stand_after file table (suc n) = elim (stand_after file table n) [ None ↦ None | Some stand ↦ next_stand file table.place stand ]
+unfoldable pub position_after : List ℕ → VersionRecordTable → ℕ → Option RecordCursorState
+position_after file table zero = first_position table.kind table.head table.size
+position_after file table (suc n) = elim (position_after file table n) [ None ↦ None | Some stand ↦ next_position file table.place stand ]
 
 -- a record stands there: no more are met than there is room for, and its bytes are in the table
-abbrev pub has_record : RecordTable → ℕ → Option Stand → Bool
+abbrev pub has_record : VersionRecordTable → ℕ → Option RecordCursorState → Bool
 has_record table met None = false
 has_record table met (Some stand) =
-    nat_lt met (most_records table.kind table.size) && not (nat_lt table.size (stand.place + record_size stand.kind))
+    nat_lt met (max_records table.kind table.size) && not (nat_lt table.size (stand.place + record_size stand.kind))
 
 -- how the records of a table end, once so many are met: they do, or the next is refused
-abbrev pub end_reading : Bool → Option Refusal → List RecordReading
+abbrev pub end_reading : Bool → Option Refusal → List VersionRecordRead
 end_reading stands None = []
 end_reading stands (Some refusal) = if stands then Refuses refusal ∷ [] else Misses refusal ∷ []
 
 -- met records in front of those behind them
-unfoldable pub meetings : List ℕ → List Met → List RecordReading → List RecordReading
+unfoldable pub meetings : List ℕ → List VisitedRecord → List VersionRecordRead → List VersionRecordRead
 meetings strings [] others = others
 meetings strings (met ∷ more) others = Meets strings met ∷ meetings strings more others
 
 -- the records that a walk over a table reads, in front of others
-unfoldable pub readings_of : List ℕ → RecordTable → List RecordReading → List RecordReading
+unfoldable pub readings_of : List ℕ → VersionRecordTable → List VersionRecordRead → List VersionRecordRead
 readings_of file table others =
     let versions = versions_in table.kind file table.head table.place table.size in
     let count = length versions.met in
     meetings table.strings versions.met
-    (end_reading (has_record table count (stand_after file table count)) versions.cut ++ others)
+    (end_reading (has_record table count (position_after file table count)) versions.cut ++ others)
 
 -- the records that a walk over some tables reads; behind a refusal none is read
-unfoldable pub readings : List ℕ → List RecordTable → List RecordReading
+unfoldable pub readings : List ℕ → List VersionRecordTable → List VersionRecordRead
 readings file [] = []
 readings file (table ∷ tables) = readings_of file table (readings file tables)
 
@@ -194,7 +194,7 @@ abbrev pub compared_until : ℕ → Refusal → Compared
 compared_until read refusal = record { numbers = []; refused = Some refusal; read = read }
 
 -- the records that name a version are compared with the wanted one; a fault of a name is at the record that holds it
-unfoldable pub compared_with : List ℕ → List ℕ → List RecordReading → Compared
+unfoldable pub compared_with : List ℕ → List ℕ → List VersionRecordRead → Compared
 compared_with file wanted [] = record { numbers = []; refused = None; read = 0 }
 compared_with file wanted (Misses refusal ∷ others) = compared_until 0 refusal
 compared_with file wanted (Refuses refusal ∷ others) = compared_until 1 refusal
@@ -210,23 +210,23 @@ compared_with file wanted (Meets strings met ∷ others) =
 
 -- WHAT THE NAME OF A NUMBER IS: the strings and the record of the first that has the number, if one has; else the refusal
 -- that comes before, if there is one; and how many records are read
-pub record Naming : Type 0 where
-  pub found : Option (List ℕ × Met)
+pub record NumberNameSource : Type 0 where
+  pub found : Option (List ℕ × VisitedRecord)
   pub refused : Option Refusal
   pub read : ℕ
 
-abbrev pub one_later : Naming → Naming
+abbrev pub one_later : NumberNameSource → NumberNameSource
 one_later naming = record { found = naming.found; refused = naming.refused; read = suc naming.read }
 
-abbrev named_until : ℕ → Refusal → Naming
+abbrev named_until : ℕ → Refusal → NumberNameSource
 named_until read refusal = record { found = None; refused = Some refusal; read = read }
 
-unfoldable pub naming_of : List ℕ → ℕ → List RecordReading → Naming
+unfoldable pub naming_of : List ℕ → ℕ → List VersionRecordRead → NumberNameSource
 naming_of file number [] = record { found = None; refused = None; read = 0 }
 naming_of file number (Misses refusal ∷ others) = named_until 0 refusal
 naming_of file number (Refuses refusal ∷ others) = named_until 1 refusal
 naming_of file number (Meets strings met ∷ others) =
-    elim (names_number file number met) [
+    elim (names_version_index file number met) [
       | true ↦ record { found = Some (strings, met); refused = None; read = 1 }
       | false ↦ one_later (naming_of file number others)
     ]

@@ -3,25 +3,25 @@ use Rattle.std.specs.Prelude.{ℕ, true, false, List, [], ◌++◌, Option, None
 use Rattle.elf_model.specs.Answer.{Answer}
 use Rattle.elf_model.specs.FindApplyAnswer.{lookup_status}
 use Rattle.elf_model.specs.Hash.{Outcome, Found, Absent, Refused}
-use Rattle.elf_model.specs.LineFronts.{symbol_front}
+use Rattle.elf_model.specs.LineFronts.{symbol_prefix}
 use Rattle.elf_model.specs.Lines.{named_line, steps_line, refusal_line}
-use Rattle.elf_model.specs.Loader.{Wanted, wanted_of}
+use Rattle.elf_model.specs.Loader.{Wanted, parse_query}
 use Rattle.elf_model.specs.LoaderFind.{FoundVersion, loader_looked}
 use Rattle.elf_model.specs.declared.formats.Format.{Format}
-use Rattle.elf_model.specs.Names.Shown.{Whole}
+use Rattle.elf_model.specs.Names.DisplayedName.{Whole}
 use Rattle.elf_model.specs.Records.{e_machine}
-use Rattle.elf_model.specs.VersionRows.{symbol_version_front}
+use Rattle.elf_model.specs.VersionRows.{symbol_version_prefix}
 
 -- the line of the version of the symbol of an index, where it has one
 unfoldable pub found_version_line : Format → ℕ → Option FoundVersion → List ℕ
 found_version_line format index None = []
-found_version_line format index (Some version) = named_line (symbol_version_front format version.index index version.word) version.name
+found_version_line format index (Some version) = named_line (symbol_version_prefix format version.index index version.word) version.name
 
 -- the text of an answer, once so many symbols are tried: the symbol's line, in the names of the GNU system and under the wanted
 -- name, its version's, and the number; the number alone; the refusal
 abbrev pub loader_text : Format → List ℕ → List ℕ → Outcome → Option FoundVersion → ℕ → List ℕ
 loader_text format file name (Found section index symbol) version tried =
-    named_line (symbol_front format true (e_machine file) file symbol section index) (Whole name)
+    named_line (symbol_prefix format true (e_machine file) file symbol section index) (Whole name)
     ++ found_version_line format index version
     ++ steps_line format true tried
 loader_text format file name Absent version tried = steps_line format false tried
@@ -38,4 +38,4 @@ loader_answer_for format file headers wanted =
 
 -- the same of a text NAME, NAME@VERSION or NAME@@VERSION
 abbrev pub loader_answer : Format → List ℕ → ℕ → List ℕ → Answer
-loader_answer format file headers text = loader_answer_for format file headers (wanted_of text)
+loader_answer format file headers text = loader_answer_for format file headers (parse_query text)

@@ -1,25 +1,25 @@
 -- The lookup of a name, with or without a version, as a loader of the GNU system does it in one file: its answer, and how many
 -- bytes it may ask for.
 use Rattle.std.specs.Prelude.{ℕ, ◌+◌, ◌*◌, ◌/◌, ◌==◌, ◌||◌, nat_lt, not, count_ones, Bool, true, false, List, [], ◌∷◌, length, Option, None, Some, Ok, Err}
-use Rattle.elf_model.specs.Chains.{Walked}
+use Rattle.elf_model.specs.Chains.{ChainResult}
 use Rattle.elf_model.specs.Checks.{Check, refuse, first_refusal, before_headers, pass}
 use Rattle.elf_model.specs.Cost.{cost_where}
 use Rattle.elf_model.specs.GnuHash.{gnu_hash, gnu_nbucket, gnu_nbloom, gnu_shift, before_chains, gnu_looked_up}
 use Rattle.elf_model.specs.Hash.{sysv_hash, sysv_nbucket, sysv_nchain, Found, Absent, Refused, Lookup}
-use Rattle.elf_model.specs.Loader.{Wanted, Asked, asked_name, VersionWords, version_word_at, symbol_offset, answers, readings, Compared, compared_with, Naming, naming_of, is_among}
-use Rattle.elf_model.specs.Names.{Shown, shown, pad64}
-use Rattle.elf_model.specs.Names.Shown.{Whole}
+use Rattle.elf_model.specs.Loader.{Wanted, Asked, asked_name, VersionWords, versym_at, symbol_offset, answers, readings, Compared, compared_with, NumberNameSource, naming_of, is_among}
+use Rattle.elf_model.specs.Names.{DisplayedName, shown, pad64}
+use Rattle.elf_model.specs.Names.DisplayedName.{Whole}
 use Rattle.elf_model.specs.Records.{FILE_HEADER_SIZE, SECTION_HEADER_SIZE, PROGRAM_HEADER_SIZE, e_shnum, e_phnum, p_filesz, segment_at, versym}
 use Rattle.elf_model.specs.SysvWalk.{sysv_walked}
 use Rattle.elf_model.specs.Tables.{SYMBOL_SIZE, segment_dynamic_checks}
 use Rattle.elf_model.specs.Versions.{VERSYM_SIZE, DEFINITION_SIZE, DEFINED_NAME_SIZE, number_in, named_at, name_index}
 use Rattle.elf_model.specs.declared.causes.Cause.TheVariants.{HashShape, VersionIndex}
 use Rattle.elf_model.specs.declared.causes.Refusal.{Refusal}
-use Rattle.elf_model.specs.LoaderScope.{GnuTable, SysvTable, Scope, scope_of, dynamic_segment_index}
+use Rattle.elf_model.specs.LoaderScope.{GnuTable, SysvTable, LookupTables, lookup_tables_of, dynamic_segment_index}
 
 -- the check of a hash table's counts against its size. Of the GNU system's: it has a bucket; its filter's words are as many as
 -- a power of two says; its shift leaves bits of a hash
-unfoldable pub counts_check : List ℕ → Scope → Check
+unfoldable pub counts_check : List ℕ → LookupTables → Check
 counts_check file scope =
     let place = scope.table.place in
     elim scope.kind [
@@ -38,7 +38,7 @@ counts_check file scope =
     ]
 
 -- the walk for the symbol that answers, where the numbers of the version by its name are known
-unfoldable pub walk_in : List ℕ → Scope → Wanted → (ℕ → Bool) → Walked
+unfoldable pub walk_in : List ℕ → LookupTables → Wanted → (ℕ → Bool) → ChainResult
 walk_in file scope wanted is_wanted = elim scope.kind [
   | GnuTable ↦ gnu_looked_up file scope.table (gnu_hash wanted.name) (answers file scope.symbols wanted is_wanted)
   | SysvTable ↦ sysv_walked file scope.table (sysv_hash wanted.name) (answers file scope.symbols wanted is_wanted)
@@ -48,7 +48,7 @@ walk_in file scope wanted is_wanted = elim scope.kind [
 pub record FoundVersion : Type 0 where
   pub index : ℕ
   pub word : ℕ
-  pub name : Shown
+  pub name : DisplayedName
 
 -- WHAT A LOOKUP GIVES: its answer, and how many symbols it tries; the version of the symbol, where the file has versions; how
 -- many chain words it reads, and how many records of versions; and whether it reads the name of a version to give it
@@ -74,7 +74,7 @@ abbrev pub TOLD_BYTES : ℕ
 TOLD_BYTES = 256
 
 -- the symbol that is found, where a walk gives it, and its version
-abbrev pub found_lookup : Scope → ℕ → Walked → (records : ℕ) → Bool → Option FoundVersion → LoaderLookup
+abbrev pub found_lookup : LookupTables → ℕ → ChainResult → (records : ℕ) → Bool → Option FoundVersion → LoaderLookup
 found_lookup scope y walked records is_named version = record {
   lookup = record { answer = Found scope.symbols.index y (symbol_offset scope.symbols y); compared = walked.tried };
   version = version;
@@ -85,9 +85,9 @@ found_lookup scope y walked records is_named version = record {
 
 -- the version of a symbol is given by the record that has its number: the record's name; a fault of the name, at the record that
 -- holds it, or the refusal that comes before; or that no record has it, at the symbol's word
-unfoldable pub told_by : List ℕ → Scope → VersionWords → ℕ → Walked → Naming → LoaderLookup
-told_by file scope words y walked naming =
-    let word_at = version_word_at words y in
+unfoldable pub named_by_record : List ℕ → LookupTables → VersionWords → ℕ → ChainResult → NumberNameSource → LoaderLookup
+named_by_record file scope words y walked naming =
+    let word_at = versym_at words y in
     elim naming.found [
       | Some found ↦ elim (shown found.0 (name_index file found.1) TOLD_BYTES) [
         | Ok name ↦
@@ -104,22 +104,22 @@ told_by file scope words y walked naming =
 
 -- the version of a symbol that is found: without words there is none; the wanted one is given as it is wanted; the numbers 0 and
 -- 1 have no name
-unfoldable pub found_in : List ℕ → Scope → Asked → (records : ℕ) → ℕ → Walked → Option VersionWords → LoaderLookup
+unfoldable pub found_in : List ℕ → LookupTables → Asked → (records : ℕ) → ℕ → ChainResult → Option VersionWords → LoaderLookup
 found_in file scope asked records y walked None = found_lookup scope y walked records false None
 found_in file scope asked records y walked (Some words) =
-    let word = versym file (version_word_at words y) in
+    let word = versym file (versym_at words y) in
     elim (asked_name asked) [
       | Some version ↦
           found_lookup scope y walked records false (Some (record { index = words.index; word = word; name = Whole version }))
       | None ↦ elim (nat_lt (number_in word) 2) [
         | true ↦ found_lookup scope y walked records false (Some (record { index = words.index; word = word; name = Whole [] }))
         | false ↦
-            told_by file scope words y walked (naming_of file (number_in word) (readings file scope.symbols.records))
+            named_by_record file scope words y walked (naming_of file (number_in word) (readings file scope.symbols.records))
       ]
     ]
 
 -- what a lookup gives by its walk, before which so many records are read
-unfoldable pub looked_by : List ℕ → Scope → Asked → (records : ℕ) → Walked → LoaderLookup
+unfoldable pub looked_by : List ℕ → LookupTables → Asked → (records : ℕ) → ChainResult → LoaderLookup
 looked_by file scope asked records walked = elim walked.answer [
   | Err refusal ↦ refused_lookup walked.tried walked.read records false refusal
   | Ok None ↦ record {
@@ -133,8 +133,8 @@ looked_by file scope asked records walked = elim walked.answer [
 ]
 
 -- the numbers of the version that is asked for by its name, where one is and the symbols have versions
-unfoldable pub wanted_numbers : List ℕ → Scope → Asked → Compared
-wanted_numbers file scope asked =
+unfoldable pub version_indices : List ℕ → LookupTables → Asked → Compared
+version_indices file scope asked =
     let none : Compared = record { numbers = []; refused = None; read = 0 } in
     elim (asked_name asked) [
       | None ↦ none
@@ -145,11 +145,11 @@ wanted_numbers file scope asked =
     ]
 
 -- a lookup once the checks of its scope pass: the table's counts, the numbers of the version, the walk
-unfoldable pub loaded_in : List ℕ → Scope → Wanted → LoaderLookup
+unfoldable pub loaded_in : List ℕ → LookupTables → Wanted → LoaderLookup
 loaded_in file scope wanted = elim (first_refusal (counts_check file scope ∷ [])) [
   | Some refusal ↦ refused_lookup 0 0 0 false refusal
   | None ↦
-      let compared = wanted_numbers file scope wanted.asked in
+      let compared = version_indices file scope wanted.asked in
       elim compared.refused [
         | Some refusal ↦ refused_lookup 0 0 compared.read false refusal
         | None ↦
@@ -160,7 +160,7 @@ loaded_in file scope wanted = elim (first_refusal (counts_check file scope ∷ [
 
 -- WHAT A LOADER'S LOOKUP GIVES in a file, with so many headers permitted
 unfoldable pub loader_looked : List ℕ → ℕ → Wanted → LoaderLookup
-loader_looked file headers wanted = elim (scope_of file headers) [
+loader_looked file headers wanted = elim (lookup_tables_of file headers) [
   | Err refusal ↦ refused_lookup 0 0 0 false refusal
   | Ok scope ↦ loaded_in file scope wanted
 ]

@@ -5,27 +5,27 @@ use Rattle.elf_model.specs.Checks.{first_refusal}
 use Rattle.elf_model.specs.Dynamic.{listed_value}
 use Rattle.elf_model.specs.Tables.{DYNAMIC_SIZE}
 use Rattle.elf_model.specs.Hash.{Found}
-use Rattle.elf_model.specs.Loader.{Meets, Misses, RecordReading, RecordTable, Refuses, Wanted, compared_with, symbol_offset, is_offered, naming_of, readings, stand_after, version_fits, is_among}
-use Rattle.elf_model.specs.LoaderFind.{wanted_numbers, loader_looked, loader_cost, loader_ceiling}
-use Rattle.elf_model.specs.LoaderScope.{Scope, scope_of, tagged_row}
+use Rattle.elf_model.specs.Loader.{Meets, Misses, VersionRecordRead, VersionRecordTable, Refuses, Wanted, compared_with, symbol_offset, is_exported, naming_of, readings, position_after, version_fits, is_among}
+use Rattle.elf_model.specs.LoaderFind.{version_indices, loader_looked, loader_cost, loader_ceiling}
+use Rattle.elf_model.specs.LoaderScope.{LookupTables, lookup_tables_of, tagged_row}
 use Rattle.elf_model.specs.Names.{same}
 use Rattle.elf_model.specs.Records.{d_un, p_filesz, p_offset, st_name}
-use Rattle.elf_model.specs.Versions.{Met, Stand, Versions, met_at, most_records, name_index, named_at, named_by, names_version, number_in, number_word, record_checks, versions_in}
+use Rattle.elf_model.specs.Versions.{VisitedRecord, RecordCursorState, Versions, visited_at, max_records, name_index, named_at, named_by, names_version, number_in, number_word, record_checks, versions_in}
 use Rattle.elf_model.specs.declared.causes.Cause.{Cause}
 use Rattle.elf_model.specs.declared.causes.Cause.TheVariants.{VersionCut}
 use Rattle.elf_model.specs.declared.causes.Refusal.{Refusal}
 
 -- A SYMBOL IS ONE TO TAKE: by what a file says of its symbols, it has the wanted name, it is offered, and its version fits
 pub record IsTaken (file : List ℕ) (headers : ℕ) (wanted : Wanted) (section index symbol : ℕ) : Type 0 where
-  pub scope : Scope
-  pub is_scope : scope_of file headers ≡ Ok scope
-  pub told_by : section ≡ scope.symbols.index
+  pub scope : LookupTables
+  pub is_scope : lookup_tables_of file headers ≡ Ok scope
+  pub named_by_record : section ≡ scope.symbols.index
   pub place : symbol ≡ symbol_offset scope.symbols index
   pub named : same scope.symbols.strings (st_name file symbol) wanted.name ≡ Ok true
-  pub offered : is_offered file symbol ≡ true
+  pub offered : is_exported file symbol ≡ true
   pub fitting :
       version_fits file scope.symbols.words wanted.asked
-      (λ number. is_among number (wanted_numbers file scope wanted.asked).numbers) index
+      (λ number. is_among number (version_indices file scope wanted.asked).numbers) index
       ≡ Ok true
 
 -- a symbol that is found is one to take
@@ -42,14 +42,14 @@ LoaderCostIsWithinCeiling =
     → loader_cost file headers wanted ≤ loader_ceiling (length file) headers wanted
 
 -- the records of a table of definitions or needs
-abbrev pub records_in : List ℕ → RecordTable → Versions
+abbrev pub records_in : List ℕ → VersionRecordTable → Versions
 records_in file table = versions_in table.kind file table.head table.place table.size
 
 -- ONE RULE IN TWO PLACES: the record that names a number is the same by the records that a lookup reads of definitions and then of
 -- needs, where both walks come to their end, as by those that a listing meets
 abbrev pub NumbersAreNamedAlike : Type 0
 NumbersAreNamedAlike =
-    (file : List ℕ) (number : ℕ) (definitions needs : RecordTable)
+    (file : List ℕ) (number : ℕ) (definitions needs : VersionRecordTable)
     → (records_in file definitions).cut ≡ None → (records_in file needs).cut ≡ None
     → option_map (λ found. found.1) (naming_of file number (readings file (definitions ∷ needs ∷ []))).found
     ≡ named_by file number ((records_in file definitions).met ++ (records_in file needs).met)
@@ -63,26 +63,26 @@ FirstEntriesAreAlike =
 -- where a lookup's walk over a table stands once so many records are met, there stands the record that a listing meets next
 abbrev pub WalksStandAtRecords : Type 0
 WalksStandAtRecords =
-    (file : List ℕ) (table : RecordTable) (before : List Met) (met : Met) (others : List Met)
+    (file : List ℕ) (table : VersionRecordTable) (before : List VisitedRecord) (met : VisitedRecord) (others : List VisitedRecord)
     → (records_in file table).met ≡ before ++ met ∷ others
-    → (stand : Stand) × (stand_after file table (length before) ≡ Some stand) × (met_at table.place stand ≡ met)
+    → (stand : RecordCursorState) × (position_after file table (length before) ≡ Some stand) × (visited_at table.place stand ≡ met)
 
 -- a walk that is refused stands at what fails a check, or at one record more than there is room for; one that is not is at its end
-abbrev pub StandsAtItsEnd : List ℕ → RecordTable → ℕ → Option Refusal → Option Stand → Type 0
+abbrev pub StandsAtItsEnd : List ℕ → VersionRecordTable → ℕ → Option Refusal → Option RecordCursorState → Type 0
 StandsAtItsEnd file table count None stand = stand ≡ None
 StandsAtItsEnd file table count (Some refusal) None = ⊥
 StandsAtItsEnd file table count (Some refusal) (Some stand) =
     (first_refusal (record_checks file table.place table.size stand) ≡ Some refusal)
-    ⊎ ((count ≡ most_records table.kind table.size) × (refusal ≡ record { at = stand.from; cause = VersionCut }))
+    ⊎ ((count ≡ max_records table.kind table.size) × (refusal ≡ record { at = stand.from; cause = VersionCut }))
 
 abbrev pub WalksStandAtTheirEnd : Type 0
 WalksStandAtTheirEnd =
-    (file : List ℕ) (table : RecordTable)
+    (file : List ℕ) (table : VersionRecordTable)
     → let walk = records_in file table in
-    StandsAtItsEnd file table (length walk.met) walk.cut (stand_after file table (length walk.met))
+    StandsAtItsEnd file table (length walk.met) walk.cut (position_after file table (length walk.met))
 
 -- how the records of a walk end that are read: with what is refused, once its bytes are read or before
-abbrev pub EndsReadings : Option Refusal → List RecordReading → Type 0
+abbrev pub EndsReadings : Option Refusal → List VersionRecordRead → Type 0
 EndsReadings None last = last ≡ []
 EndsReadings (Some refusal) last = (last ≡ Refuses refusal ∷ []) ⊎ (last ≡ Misses refusal ∷ [])
 
@@ -92,22 +92,22 @@ abbrev pub ReadingsAreRecords : Type 0
 ReadingsAreRecords =
     (file : List ℕ)
     → (readings file [] ≡ [])
-    × ((table : RecordTable) (others : List RecordTable)
-    → (last : List RecordReading)
+    × ((table : VersionRecordTable) (others : List VersionRecordTable)
+    → (last : List VersionRecordRead)
     × EndsReadings (records_in file table).cut last
     × (readings file (table ∷ others) ≡ map (Meets table.strings) (records_in file table).met ++ (last ++ readings file others)))
 
 -- a name that was compared is the wanted one
-abbrev pub is_same : Result Bool Cause → Bool
-is_same (Ok is_wanted) = is_wanted
-is_same (Err cause) = false
+abbrev pub is_equal_name : Result Bool Cause → Bool
+is_equal_name (Ok is_wanted) = is_wanted
+is_equal_name (Err cause) = false
 
 -- a record names the wanted version
-abbrev pub names_wanted : List ℕ → (wanted strings : List ℕ) → Met → Bool
-names_wanted file wanted strings met = names_version file met && is_same (same strings (name_index file met) wanted)
+abbrev pub names_wanted : List ℕ → (wanted strings : List ℕ) → VisitedRecord → Bool
+names_wanted file wanted strings met = names_version file met && is_equal_name (same strings (name_index file met) wanted)
 
 -- the numbers of met records that name it
-abbrev pub numbers_under : List ℕ → (wanted strings : List ℕ) → List Met → List ℕ
+abbrev pub numbers_under : List ℕ → (wanted strings : List ℕ) → List VisitedRecord → List ℕ
 numbers_under file wanted strings met =
     map (λ one. number_in (number_word file one)) (filter (names_wanted file wanted strings) met)
 
@@ -115,7 +115,7 @@ numbers_under file wanted strings met =
 -- listing meets of definitions and then of needs, and reads each of these once
 abbrev pub ComparedNumbersAreRecords : Type 0
 ComparedNumbersAreRecords =
-    (file wanted : List ℕ) (definitions needs : RecordTable)
+    (file wanted : List ℕ) (definitions needs : VersionRecordTable)
     → let compared = compared_with file wanted (readings file (definitions ∷ needs ∷ [])) in
     compared.refused ≡ None
     → (compared.numbers
@@ -124,7 +124,7 @@ ComparedNumbersAreRecords =
     × (compared.read ≡ length (records_in file definitions).met + length (records_in file needs).met)
 
 -- comparing is refused at a record: it is refused itself, or it names a version and the name has a fault
-abbrev RefusesToCompare : List ℕ → (wanted : List ℕ) → Refusal → RecordReading → Type 0
+abbrev RefusesToCompare : List ℕ → (wanted : List ℕ) → Refusal → VersionRecordRead → Type 0
 RefusesToCompare file wanted refusal (Refuses other) = refusal ≡ other
 RefusesToCompare file wanted refusal (Misses other) = refusal ≡ other
 RefusesToCompare file wanted refusal (Meets strings met) =
@@ -132,19 +132,19 @@ RefusesToCompare file wanted refusal (Meets strings met) =
     × ((cause : Cause) × (same strings (name_index file met) wanted ≡ Err cause) × (refusal ≡ record { at = named_at file met; cause = cause }))
 
 -- and goes on behind others
-abbrev pub IsComparable : List ℕ → (wanted : List ℕ) → RecordReading → Type 0
+abbrev pub IsComparable : List ℕ → (wanted : List ℕ) → VersionRecordRead → Type 0
 IsComparable file wanted reading = (refusal : Refusal) → RefusesToCompare file wanted refusal reading → ⊥
 
 -- how many records are read there: one, but where none stands
-abbrev pub records_read : RecordReading → ℕ
+abbrev pub records_read : VersionRecordRead → ℕ
 records_read (Misses refusal) = 0
 records_read _ = 1
 
 -- the first of some records at which comparing is refused, once so many are read
-pub record IsRefusedAt (file wanted : List ℕ) (refusal : Refusal) (all : List RecordReading) (read : ℕ) : Type 0 where
-  pub before : List RecordReading
-  pub last : RecordReading
-  pub others : List RecordReading
+pub record IsRefusedAt (file wanted : List ℕ) (refusal : Refusal) (all : List VersionRecordRead) (read : ℕ) : Type 0 where
+  pub before : List VersionRecordRead
+  pub last : VersionRecordRead
+  pub others : List VersionRecordRead
   pub parts : all ≡ before ++ last ∷ others
   pub refuses : RefusesToCompare file wanted refusal last
   pub goes_on : All (IsComparable file wanted) before
@@ -153,6 +153,6 @@ pub record IsRefusedAt (file wanted : List ℕ) (refusal : Refusal) (all : List 
 -- comparing that is refused is refused at the first such record
 abbrev pub ComparingEndsAtTheFirst : Type 0
 ComparingEndsAtTheFirst =
-    (file wanted : List ℕ) (all : List RecordReading) (refusal : Refusal)
+    (file wanted : List ℕ) (all : List VersionRecordRead) (refusal : Refusal)
     → (compared_with file wanted all).refused ≡ Some refusal
     → IsRefusedAt file wanted refusal all (compared_with file wanted all).read

@@ -5,7 +5,7 @@ use Rattle.elf_model.specs.Chains.{HashTable}
 use Rattle.elf_model.specs.Checks.{Check, refuse, first_refusal, unless_empty, header_checks, load_checks, table_checks, is_outside}
 use Rattle.elf_model.specs.Dynamic.{dynamic_count, dynamic_at}
 use Rattle.elf_model.specs.Find.{first_that, hash_checks_from}
-use Rattle.elf_model.specs.Loader.{VersionWords, RecordTable, Symbols}
+use Rattle.elf_model.specs.Loader.{VersionWords, VersionRecordTable, Symbols}
 use Rattle.elf_model.specs.Mapped.{mapped_at, mapped_place, mapped_checks, mapped_bytes}
 use Rattle.elf_model.specs.Numbers.{EM_ALPHA, SHT_HASH, SHT_GNU_HASH, SHT_GNU_VERSYM, SHT_GNU_VERDEF, SHT_GNU_VERNEED, PT_DYNAMIC, DT_HASH, DT_GNU_HASH, DT_SYMTAB, DT_STRTAB, DT_STRSZ, DT_VERSYM, DT_VERDEF, DT_VERNEED}
 use Rattle.elf_model.specs.Records.{e_machine, e_shnum, e_phnum, sh_offset, sh_size, sh_link, section_at, p_type, p_offset, p_vaddr, p_filesz, segment_at, d_tag, d_un}
@@ -20,24 +20,24 @@ use Rattle.elf_model.specs.declared.versions.VersionKind.{VersionKind}
 use Rattle.elf_model.specs.declared.versions.VersionKind.TheVariants.{Definition, File}
 
 -- the kinds of hash tables: of the GNU system; of the gABI
-pub data HashKind : Type 0 where
-  GnuTable : HashKind
-  SysvTable : HashKind
+pub data HashStyle : Type 0 where
+  GnuTable : HashStyle
+  SysvTable : HashStyle
 
 -- how many bytes a table has at least: its words before the others
-abbrev pub least_size : HashKind → ℕ
+abbrev pub least_size : HashStyle → ℕ
 least_size GnuTable = 16
 least_size SysvTable = 8
 
 -- WHAT A LOOKUP IS MADE IN: the hash table, its kind and the offset of what describes it, and the symbols
-pub record Scope : Type 0 where
-  pub kind : HashKind
+pub record LookupTables : Type 0 where
+  pub kind : HashStyle
   pub head : ℕ
   pub table : HashTable
   pub symbols : Symbols
 
 -- BY THE SECTION HEADERS. The hash table: the first section of the GNU system's, else the first of the gABI's
-unfoldable pub hash_section : List ℕ → Option (HashKind × ℕ)
+unfoldable pub hash_section : List ℕ → Option (HashStyle × ℕ)
 hash_section file = elim (first_of_type file SHT_GNU_HASH) [
   | Some i ↦ Some (GnuTable, section_at file i)
   | None ↦ elim (first_of_type file SHT_HASH) [ Some i ↦ Some (SysvTable, section_at file i) | None ↦ None ]
@@ -74,11 +74,11 @@ version_checks file at =
     ++ checks_of_type file SHT_GNU_VERNEED (all_checks version_table file))
 
 -- all checks before the table's counts
-abbrev pub section_checks : List ℕ → HashKind → ℕ → List Check
+abbrev pub section_checks : List ℕ → HashStyle → ℕ → List Check
 section_checks file kind at = hash_checks_from (least_size kind) file at ++ version_checks file at
 
 -- the definitions, or the needs, of the first section of a type, in front of others
-abbrev pub records_of_type : List ℕ → ℕ → VersionKind → List RecordTable → List RecordTable
+abbrev pub records_of_type : List ℕ → ℕ → VersionKind → List VersionRecordTable → List VersionRecordTable
 records_of_type file type kind others = elim (first_of_type file type) [
   | None ↦ others
   | Some i ↦
@@ -96,13 +96,13 @@ section_words file = elim (words_section file) [
 ]
 
 -- the records of versions, where there are words of them
-abbrev pub records_with : Option VersionWords → List RecordTable → List RecordTable
+abbrev pub records_with : Option VersionWords → List VersionRecordTable → List VersionRecordTable
 records_with None records = []
 records_with (Some words) records = records
 
 -- what a lookup is made in, once the checks pass
-unfoldable pub section_scope : List ℕ → HashKind → ℕ → Scope
-section_scope file kind at = record {
+unfoldable pub section_lookup_tables : List ℕ → HashStyle → ℕ → LookupTables
+section_lookup_tables file kind at = record {
   kind = kind;
   head = at;
   table = section_table_of file at;
@@ -149,7 +149,7 @@ rest_size file row = elim (mapped_at file (d_un file row) 1) [
 ]
 
 -- the hash table: at the entry of the GNU system's, else at that of the gABI's
-unfoldable pub hash_row : List ℕ → ℕ → Option (HashKind × ℕ)
+unfoldable pub hash_row : List ℕ → ℕ → Option (HashStyle × ℕ)
 hash_row file at = elim (tagged_row file at DT_GNU_HASH) [
   | Some row ↦ Some (GnuTable, row)
   | None ↦ elim (tagged_row file at DT_HASH) [ Some row ↦ Some (SysvTable, row) | None ↦ None ]
@@ -183,12 +183,12 @@ rows_checks file at hash_row =
     ++ checks_of_row (tagged_row file at DT_VERNEED) (rest_checks file))
 
 -- a hash table of a kind has words of 8 bytes: Alpha's of the gABI have, and no entry gives another size
-abbrev pub has_wide_kind : List ℕ → HashKind → Bool
+abbrev pub has_wide_kind : List ℕ → HashStyle → Bool
 has_wide_kind file GnuTable = false
 has_wide_kind file SysvTable = e_machine file == EM_ALPHA
 
 -- all checks before the table's counts
-unfoldable pub segment_checks : List ℕ → HashKind → (at hash_row : ℕ) → List Check
+unfoldable pub segment_checks : List ℕ → HashStyle → (at hash_row : ℕ) → List Check
 segment_checks file kind at hash_row =
     rest_checks file hash_row
     ++ (refuse (nat_lt (rest_size file hash_row) (least_size kind) || has_wide_kind file kind) hash_row HashShape ∷ [])
@@ -222,7 +222,7 @@ segment_words file index at = elim (words_row file at) [
 ]
 
 -- the definitions, or the needs, at the entry of a tag, in front of others
-abbrev pub records_of_tag : List ℕ → (at tag : ℕ) → VersionKind → List RecordTable → List RecordTable
+abbrev pub records_of_tag : List ℕ → (at tag : ℕ) → VersionKind → List VersionRecordTable → List VersionRecordTable
 records_of_tag file at tag kind others = elim (tagged_row file at tag) [
   | None ↦ others
   | Some row ↦
@@ -238,8 +238,8 @@ segment_symbols file at = elim (tagged_row file at DT_SYMTAB) [
 ]
 
 -- what a lookup is made in, once the checks pass
-unfoldable pub segment_scope : List ℕ → HashKind → (index at hash_row : ℕ) → Scope
-segment_scope file kind index at hash_row =
+unfoldable pub segment_lookup_tables : List ℕ → HashStyle → (index at hash_row : ℕ) → LookupTables
+segment_lookup_tables file kind index at hash_row =
     let symbols = segment_symbols file at in
     record {
       kind = kind;
@@ -258,42 +258,42 @@ segment_scope file kind index at hash_row =
     }
 
 -- WHAT A LOOKUP IS MADE IN, or the first refusal: by the section headers, or where a file has none by the program headers
-unfoldable pub scope_by_sections : List ℕ → Result Scope Refusal
+unfoldable pub scope_by_sections : List ℕ → Result LookupTables Refusal
 scope_by_sections file = elim (hash_section file) [
   | None ↦ Err (record { at = 0x28; cause = NoHash })
   | Some found ↦ elim (first_refusal (section_checks file found.0 found.1)) [
     | Some refusal ↦ Err refusal
-    | None ↦ Ok (section_scope file found.0 found.1)
+    | None ↦ Ok (section_lookup_tables file found.0 found.1)
   ]
 ]
 
-unfoldable pub scope_in_segment : List ℕ → (index at : ℕ) → Result Scope Refusal
+unfoldable pub scope_in_segment : List ℕ → (index at : ℕ) → Result LookupTables Refusal
 scope_in_segment file index at = elim (first_refusal (segment_dynamic_checks file at)) [
   | Some refusal ↦ Err refusal
   | None ↦ elim (hash_row file at) [
     | None ↦ Err (record { at = 0x20; cause = NoHash })
     | Some found ↦ elim (first_refusal (segment_checks file found.0 at found.1)) [
       | Some refusal ↦ Err refusal
-      | None ↦ Ok (segment_scope file found.0 index at found.1)
+      | None ↦ Ok (segment_lookup_tables file found.0 index at found.1)
     ]
   ]
 ]
 
-unfoldable pub scope_in_segments : List ℕ → Result Scope Refusal
+unfoldable pub scope_in_segments : List ℕ → Result LookupTables Refusal
 scope_in_segments file = elim (dynamic_segment_index file) [
   | None ↦ Err (record { at = 0x20; cause = NoHash })
   | Some index ↦ scope_in_segment file index (segment_at file index)
 ]
 
 -- behind the check that no LOAD segment lies over another, since an address is looked for in the first that holds it
-unfoldable pub scope_by_segments : List ℕ → Result Scope Refusal
-scope_by_segments file = elim (first_refusal (overlap_checks file)) [
+unfoldable pub lookup_tables_by_segments : List ℕ → Result LookupTables Refusal
+lookup_tables_by_segments file = elim (first_refusal (overlap_checks file)) [
   | Some refusal ↦ Err refusal
   | None ↦ scope_in_segments file
 ]
 
-unfoldable pub scope_of : List ℕ → ℕ → Result Scope Refusal
-scope_of file headers = elim (first_refusal (header_checks file ++ load_checks file headers)) [
+unfoldable pub lookup_tables_of : List ℕ → ℕ → Result LookupTables Refusal
+lookup_tables_of file headers = elim (first_refusal (header_checks file ++ load_checks file headers)) [
   | Some refusal ↦ Err refusal
-  | None ↦ elim (e_shnum file == 0) [ true ↦ scope_by_segments file | false ↦ scope_by_sections file ]
+  | None ↦ elim (e_shnum file == 0) [ true ↦ lookup_tables_by_segments file | false ↦ scope_by_sections file ]
 ]

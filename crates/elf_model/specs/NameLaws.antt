@@ -2,7 +2,7 @@
 use Rattle.std.specs.Prelude.{◌≡◌, ◌≢◌, ℕ, ◌+◌, ◌%◌, ◌<◌, ◌≤◌, true, false, List, [], ◌∷◌, ◌++◌, length, get_or, take, drop, ◌⊎◌, ◌↔◌, None, Ok, Err}
 use Rattle.elf_model.specs.Bytes.{slice}
 use Rattle.elf_model.specs.Names.{nul_in, IsEmptyAtZero, Name, shown, same, pad64}
-use Rattle.elf_model.specs.Names.Shown.{Whole, Cut}
+use Rattle.elf_model.specs.Names.DisplayedName.{Whole, Cut}
 use Rattle.elf_model.specs.declared.causes.Cause.{Cause}
 use Rattle.elf_model.specs.declared.causes.Cause.TheVariants.{NameOutside, NameUnended}
 

@@ -108,12 +108,12 @@ unfoldable pub letters_and_mark : List (ℕ × List ℕ) → ℕ → List ℕ
 letters_and_mark flags n = letters_of flags n ++ (if bit_and n (flags_with_letters flags) == n then [] else flags_mark)
 
 -- a text of letters in twelve columns: of a longer one the first eleven letters, and the mark
-unfoldable pub in_twelve : List ℕ → List ℕ
-in_twelve letters = if nat_lt 12 (length letters) then take 11 letters ++ flags_mark else letters
+unfoldable pub flags_column : List ℕ → List ℕ
+flags_column letters = if nat_lt 12 (length letters) then take 11 letters ++ flags_mark else letters
 
 -- a section's flags
 unfoldable pub section_flags_text : Bool → ℕ → ℕ → List ℕ
-section_flags_text gnu machine n = in_twelve (letters_and_mark (section_flags gnu machine) n)
+section_flags_text gnu machine n = flags_column (letters_and_mark (section_flags gnu machine) n)
 
 -- the segment types (gABI 5, Segment Types)
 unfoldable pub standard_segment_types : List (ℕ × List ℕ)

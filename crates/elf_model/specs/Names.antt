@@ -5,21 +5,21 @@ use Rattle.elf_model.specs.declared.causes.Cause.{Cause}
 use Rattle.elf_model.specs.declared.causes.Cause.TheVariants.{NameOutside, NameUnended}
 
 -- a name as it is shown: whole, or its first bytes
-pub data Shown : Type 0 where
-  Whole : List ℕ → Shown
-  Cut : List ℕ → Shown
+pub data DisplayedName : Type 0 where
+  Whole : List ℕ → DisplayedName
+  Cut : List ℕ → DisplayedName
 
 -- the place of the first NUL
 abbrev pub nul_in : List ℕ → Option ℕ
 nul_in bytes = position (λ b. b == 0) bytes
 
 -- the bytes stand in a table at an index
-abbrev pub StandsAt : List ℕ → ℕ → List ℕ → Type 0
-StandsAt table index bytes = slice table index (length bytes) ≡ bytes
+abbrev pub IsNameBytesAt : List ℕ → ℕ → List ℕ → Type 0
+IsNameBytesAt table index bytes = slice table index (length bytes) ≡ bytes
 
 -- a name has no NUL, and stands at an index with a NUL behind it (gABI 4, String Table)
-abbrev pub IsNamed : List ℕ → ℕ → List ℕ → Type 0
-IsNamed table index name = (nul_in name ≡ None) × StandsAt table index (name ++ 0 ∷ [])
+abbrev pub IsNulTerminatedAt : List ℕ → ℕ → List ℕ → Type 0
+IsNulTerminatedAt table index name = (nul_in name ≡ None) × IsNameBytesAt table index (name ++ 0 ∷ [])
 
 -- an empty string table has the empty name at index 0 (gABI 4, String Table)
 abbrev pub IsEmptyAtZero : List ℕ → ℕ → Type 0
@@ -27,7 +27,7 @@ IsEmptyAtZero table index = (table ≡ []) × (index ≡ 0)
 
 -- a string table has a name at an index
 abbrev pub Name : List ℕ → ℕ → List ℕ → Type 0
-Name table index name = IsNamed table index name ⊎ (IsEmptyAtZero table index × (name ≡ []))
+Name table index name = IsNulTerminatedAt table index name ⊎ (IsEmptyAtZero table index × (name ≡ []))
 
 -- the same as a test
 abbrev pub is_empty_at_zero : List ℕ → ℕ → Bool
@@ -35,12 +35,12 @@ is_empty_at_zero table index = length table == 0 && index == 0
 
 -- what is shown of the cap + 1 bytes at an index, fewer at the table's end, with the place of their first
 -- NUL: the whole name before it; without one the first cap bytes, where there are more
-abbrev pub shown_of : ℕ → List ℕ → Option ℕ → Result Shown Cause
+abbrev pub shown_of : ℕ → List ℕ → Option ℕ → Result DisplayedName Cause
 shown_of cap bytes (Some place) = Ok (Whole (take place bytes))
 shown_of cap bytes None = if nat_lt cap (length bytes) then Ok (Cut (take cap bytes)) else Err NameUnended
 
 -- the name at an index as it is shown with at most cap bytes
-unfoldable pub shown : List ℕ → ℕ → ℕ → Result Shown Cause
+unfoldable pub shown : List ℕ → ℕ → ℕ → Result DisplayedName Cause
 shown table index cap =
     let front = slice table index (cap + 1) in
     if is_empty_at_zero table index then Ok (Whole [])

@@ -2,8 +2,8 @@
 use Rattle.std.specs.Prelude.{◌≡◌, ℕ, ◌+◌, ◌%◌, ◌<◌, ◌≤◌, List, ◌∷◌, ◌++◌, length, take, All, ◌⊎◌, ◌↔◌, None, Some}
 use Rattle.elf_model.specs.Bytes.{slice}
 use Rattle.elf_model.specs.Names.{nul_in}
-use Rattle.elf_model.specs.Names.Shown.{Whole, Cut}
-use Rattle.elf_model.specs.Notes.{Note, Spelt, Notes, CutAt, walked, NoteRow, note_rows, spelt_size, note_align, before_nul, note_shown}
+use Rattle.elf_model.specs.Names.DisplayedName.{Whole, Cut}
+use Rattle.elf_model.specs.Notes.{Note, Spelt, Notes, CutAt, walked, NoteRow, note_rows, escaped_size, note_align, before_nul, note_shown}
 
 -- the notes that are walked to a table's end fit the table
 abbrev pub WalkedFits : Type 0
@@ -35,15 +35,15 @@ FitsOrIsCut =
 
 -- a row's note stands in the table: its spelling at the row's offset, its name behind the head, its descriptor
 -- at the descriptor's offset
-pub record StandsIn (a : ℕ) (table : List ℕ) (row : NoteRow) : Type 0 where
-  pub within : row.at + spelt_size a row.note ≤ length table
-  pub spelt : Spelt a row.note (slice table row.at (spelt_size a row.note))
+pub record IsNoteInTable (a : ℕ) (table : List ℕ) (row : NoteRow) : Type 0 where
+  pub within : row.at + escaped_size a row.note ≤ length table
+  pub spelt : Spelt a row.note (slice table row.at (escaped_size a row.note))
   pub name : slice table (row.at + 12) (length row.note.name) ≡ row.note.name
   pub descriptor : slice table row.descriptor_at (length row.note.descriptor) ≡ row.note.descriptor
 
 -- each note that is walked stands in its table at its row's offset
 abbrev pub RowsStand : Type 0
-RowsStand = (a : ℕ) (table : List ℕ) → All (StandsIn a table) (note_rows a 0 (walked a table).notes)
+RowsStand = (a : ℕ) (table : List ℕ) → All (IsNoteInTable a table) (note_rows a 0 (walked a table).notes)
 
 -- a row starts at a multiple of the alignment, and so does its descriptor where it is not empty
 abbrev pub IsAligned : ℕ → NoteRow → Type 0

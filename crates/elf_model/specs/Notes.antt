@@ -4,8 +4,8 @@ use Rattle.std.specs.Prelude.{◌≡◌, ℕ, zero, suc, ◌+◌, ◌-◌, ◌%�
 use Rattle.std.specs.List.{list_all, before_first}
 use Rattle.elf_model.specs.Bytes.{slice}
 use Rattle.elf_model.specs.Records.{n_namesz, n_descsz, n_type}
-use Rattle.elf_model.specs.Names.{Shown}
-use Rattle.elf_model.specs.Names.Shown.{Whole, Cut}
+use Rattle.elf_model.specs.Names.{DisplayedName}
+use Rattle.elf_model.specs.Names.DisplayedName.{Whole, Cut}
 
 -- a note: its type, the bytes of its name and of its descriptor
 pub record Note : Type 0 where
@@ -18,12 +18,12 @@ abbrev pub note_align : ℕ → ℕ
 note_align align = if align == 8 then 8 else 4
 
 -- how many bytes there are from n to the next multiple of an alignment
-abbrev pub to_next : ℕ → ℕ → ℕ
-to_next a n = (a - n % a) % a
+abbrev pub bytes_to_alignment : ℕ → ℕ → ℕ
+bytes_to_alignment a n = (a - n % a) % a
 
 -- the bytes between a name and its descriptor, for the two sizes: none where the descriptor is empty
-abbrev pub gap_between : ℕ → ℕ → ℕ → ℕ
-gap_between a namesz descsz = if descsz == 0 then 0 else to_next a (12 + namesz)
+abbrev pub alignment_gap : ℕ → ℕ → ℕ → ℕ
+alignment_gap a namesz descsz = if descsz == 0 then 0 else bytes_to_alignment a (12 + namesz)
 
 -- a text spells a note: the head with the two sizes and the type, the name, the gap, the descriptor
 pub record Spelt (a : ℕ) (note : Note) (text : List ℕ) : Type 0 where
@@ -34,7 +34,7 @@ pub record Spelt (a : ℕ) (note : Note) (text : List ℕ) : Type 0 where
   pub namesz : n_namesz head 0 ≡ length note.name
   pub descsz : n_descsz head 0 ≡ length note.descriptor
   pub type : n_type head 0 ≡ note.kind
-  pub gap_size : length gap ≡ gap_between a (length note.name) (length note.descriptor)
+  pub gap_size : length gap ≡ alignment_gap a (length note.name) (length note.descriptor)
 
 -- a text is a note's spelling and any bytes up to the next multiple of the alignment
 pub record Padded (a : ℕ) (note : Note) (text : List ℕ) : Type 0 where
@@ -42,7 +42,7 @@ pub record Padded (a : ℕ) (note : Note) (text : List ℕ) : Type 0 where
   pub padding : List ℕ
   pub parts : text ≡ spelling ++ padding
   pub spelt : Spelt a note spelling
-  pub padding_size : length padding ≡ to_next a (length spelling)
+  pub padding_size : length padding ≡ bytes_to_alignment a (length spelling)
 
 -- a text is one padded text for each note, in order
 abbrev pub AllPadded : ℕ → List Note → List ℕ → Type 0
@@ -74,7 +74,7 @@ pub record EndsInSpelling (a : ℕ) (notes : List Note) (table : List ℕ) : Typ
   pub parts : table ≡ front ++ spelling ++ padding
   pub padded : AllPadded a before front
   pub spelt : Spelt a last spelling
-  pub short : length padding < to_next a (length spelling)
+  pub short : length padding < bytes_to_alignment a (length spelling)
 
 -- a table has these notes
 abbrev pub Notes : ℕ → List Note → List ℕ → Type 0
@@ -89,15 +89,15 @@ pub record CutAt (a : ℕ) (notes : List Note) (offset : ℕ) (table : List ℕ)
 
 -- the bytes from a note's start to its descriptor's start, for the two sizes
 abbrev pub descriptor_start : ℕ → ℕ → ℕ → ℕ
-descriptor_start a namesz descsz = 12 + namesz + gap_between a namesz descsz
+descriptor_start a namesz descsz = 12 + namesz + alignment_gap a namesz descsz
 
 -- a note's size without its padding
-abbrev pub spelt_size : ℕ → Note → ℕ
-spelt_size a note = descriptor_start a (length note.name) (length note.descriptor) + length note.descriptor
+abbrev pub escaped_size : ℕ → Note → ℕ
+escaped_size a note = descriptor_start a (length note.name) (length note.descriptor) + length note.descriptor
 
 -- a note's size with its padding
 abbrev pub padded_size : ℕ → Note → ℕ
-padded_size a note = spelt_size a note + to_next a (spelt_size a note)
+padded_size a note = escaped_size a note + bytes_to_alignment a (escaped_size a note)
 
 -- a note and its offset in its table; the descriptor's, where it is empty the note's end
 pub record NoteRow : Type 0 where
@@ -117,11 +117,11 @@ abbrev pub before_nul : List ℕ → List ℕ
 before_nul name = before_first (λ b. b == 0) name
 
 -- a name whole, or cut to cap bytes where it has more
-abbrev pub capped : ℕ → List ℕ → Shown
+abbrev pub capped : ℕ → List ℕ → DisplayedName
 capped cap name = if nat_lt cap (length name) then Cut (take cap name) else Whole name
 
 -- a note's name as it is shown with at most cap bytes: up to its first NUL, or all of it
-unfoldable pub note_shown : ℕ → Note → Shown
+unfoldable pub note_shown : ℕ → Note → DisplayedName
 note_shown cap note = capped cap (before_nul note.name)
 
 -- The calculation. By the laws `WalkedFits` and `FittingIsWalked` the notes of `walked` are those that `Notes` describes, and by
@@ -153,20 +153,20 @@ unfoldable pub next_note : ℕ → List ℕ → NextNote
 next_note a rest =
     if nat_lt (length rest) 12 then (if are_zeros rest then Ends else Broken)
     else if nat_lt (length rest) (first_end a rest) then Broken
-    else OneNote (first_note a rest) (min (first_end a rest + to_next a (first_end a rest)) (length rest))
+    else OneNote (first_note a rest) (min (first_end a rest + bytes_to_alignment a (first_end a rest)) (length rest))
 
 -- the notes that a table has, up to the offset where it is cut, if it is
-pub record Walk : Type 0 where
+pub record NoteScan : Type 0 where
   pub notes : List Note
   pub cut : Option ℕ
 
 -- a note in front of the notes behind it
-abbrev pub with_note : Note → Walk → Walk
+abbrev pub with_note : Note → NoteScan → NoteScan
 with_note note walk = record { notes = note ∷ walk.notes; cut = walk.cut }
 
 -- the notes of the bytes from an offset on, up to the offset where they are cut: where no note stands, or where so many
 -- steps have not come to the end
-unfoldable pub walk_from : ℕ → ℕ → ℕ → List ℕ → Walk
+unfoldable pub walk_from : ℕ → ℕ → ℕ → List ℕ → NoteScan
 walk_from a zero offset rest = record { notes = []; cut = Some offset }
 walk_from a (suc most) offset rest =
     elim (next_note a rest) [
@@ -176,5 +176,5 @@ walk_from a (suc most) offset rest =
     ]
 
 -- the notes of a table
-unfoldable pub walked : ℕ → List ℕ → Walk
+unfoldable pub walked : ℕ → List ℕ → NoteScan
 walked a table = walk_from a (suc (length table)) 0 table

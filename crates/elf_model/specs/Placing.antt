@@ -7,8 +7,8 @@ use Rattle.elf_model.specs.Records.{st_name, st_shndx, st_value, st_bind, st_typ
 use Rattle.elf_model.specs.declared.causes.Cause.{Cause}
 use Rattle.elf_model.specs.declared.causes.Cause.TheVariants.{Unplaced, Undefined, Unsupported}
 use Rattle.elf_model.specs.declared.causes.Refusal.{Refusal}
-use Rattle.elf_model.specs.declared.relocation_types.Base.{Base}
-use Rattle.elf_model.specs.declared.relocation_types.Base.TheVariants.{Symbol, Linkage, Table, Thread}
+use Rattle.elf_model.specs.declared.relocation_types.RelocationBase.{RelocationBase}
+use Rattle.elf_model.specs.declared.relocation_types.RelocationBase.TheVariants.{Symbol, Linkage, Table, Thread}
 
 -- how a symbol's name is looked for among names of a layout: each of these is compared with it in the file, or as much of it
 -- is read as the longest of them has, and searched for
@@ -90,8 +90,8 @@ system_value file strings layout rela symbol =
 -- S of any other symbol (gABI 4, Symbol Values), by its section index: its own value where it is absolute; the layout's
 -- definition, else `undefined_value`, where it is undefined or common; else its offset from its section's address, and
 -- reserved indices have no address
-unfoldable pub located_value : List ℕ → List ℕ → Layout → ℕ → ℕ → Result ℕ Refusal
-located_value file strings layout rela symbol =
+unfoldable pub section_symbol_value : List ℕ → List ℕ → Layout → ℕ → ℕ → Result ℕ Refusal
+section_symbol_value file strings layout rela symbol =
     let index = st_shndx file symbol in
     if index == SHN_ABS then Ok (st_value file symbol)
     else if index == SHN_UNDEF || index == SHN_COMMON then
@@ -102,29 +102,29 @@ located_value file strings layout rela symbol =
 unfoldable pub symbol_value : List ℕ → List ℕ → Layout → ℕ → ℕ → Result ℕ Refusal
 symbol_value file strings layout rela symbol =
     if is_system_specific file symbol then system_value file strings layout rela symbol
-    else located_value file strings layout rela symbol
+    else section_symbol_value file strings layout rela symbol
 
 -- L, the address of a symbol's procedure linkage table entry, where the layout has one; else S
-unfoldable pub linkage_value : List ℕ → List ℕ → Layout → ℕ → ℕ → Result ℕ Refusal
-linkage_value file strings layout rela symbol =
+unfoldable pub plt_entry_value : List ℕ → List ℕ → Layout → ℕ → ℕ → Result ℕ Refusal
+plt_entry_value file strings layout rela symbol =
     named_or symbol (address_named strings (st_name file symbol) layout.linkage) (symbol_value file strings layout rela symbol)
 
 -- B, the address of a symbol that a base gives
-unfoldable pub base_value : Base → List ℕ → List ℕ → Layout → ℕ → ℕ → Result ℕ Refusal
+unfoldable pub base_value : RelocationBase → List ℕ → List ℕ → Layout → ℕ → ℕ → Result ℕ Refusal
 base_value Symbol file strings layout rela symbol = symbol_value file strings layout rela symbol
-base_value Linkage file strings layout rela symbol = linkage_value file strings layout rela symbol
+base_value Linkage file strings layout rela symbol = plt_entry_value file strings layout rela symbol
 base_value Table file strings layout rela symbol = entry_value layout.table file strings rela symbol
 base_value Thread file strings layout rela symbol = entry_value layout.thread file strings rela symbol
 
 -- B of symbol 0: S and L are 0 (gABI 4, Relocation), and it has no entry
-unfoldable pub unnamed_value : Base → ℕ → Result ℕ Refusal
+unfoldable pub unnamed_value : RelocationBase → ℕ → Result ℕ Refusal
 unnamed_value Symbol rela = Ok 0
 unnamed_value Linkage rela = Ok 0
 unnamed_value Table rela = refusal_at rela Unsupported
 unnamed_value Thread rela = refusal_at rela Unsupported
 
 -- a layout has addresses that a base may give: S and L have a value without any
-unfoldable pub has_base : Layout → Base → Bool
+unfoldable pub has_base : Layout → RelocationBase → Bool
 has_base layout Symbol = true
 has_base layout Linkage = true
 has_base layout Table = not (length layout.table == 0)

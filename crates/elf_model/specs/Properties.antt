@@ -4,7 +4,7 @@ use Rattle.std.specs.Prelude.{ℕ, zero, suc, ◌+◌, ◌==◌, ◌&&◌, min, 
 use Rattle.std.specs.List.{starts_with}
 use Rattle.elf_model.specs.Bytes.{field, number, slice}
 use Rattle.elf_model.specs.Checks.{first_refusal, range_checks_of, unless_empty}
-use Rattle.elf_model.specs.Notes.{Note, NoteRow, before_nul, note_align, note_rows, to_next, walked}
+use Rattle.elf_model.specs.Notes.{Note, NoteRow, before_nul, note_align, note_rows, bytes_to_alignment, walked}
 use Rattle.elf_model.specs.Numbers.{PT_NOTE}
 use Rattle.elf_model.specs.Records.{e_phnum, p_type, p_offset, p_filesz, p_align, segment_at}
 use Rattle.elf_model.specs.declared.causes.Cause.TheVariants.{NoteCut}
@@ -45,7 +45,7 @@ abbrev pub bare_property : ℕ → ℕ
 bare_property datasz = PROPERTY_HEAD_SIZE + datasz
 
 abbrev pub padded_property : ℕ → ℕ
-padded_property datasz = bare_property datasz + to_next 8 datasz
+padded_property datasz = bare_property datasz + bytes_to_alignment 8 datasz
 
 -- what stands at the start of the bytes that are left of a list: its end, nothing that is a property, or a property and how
 -- many bytes it takes
@@ -95,14 +95,14 @@ is_gnu_name name =
     length name == 4 && (length (before_nul name) == 3 && starts_with nat_eq (before_nul name) (codes "GNU"))
 
 -- a note of the GNU system that lists properties: its type, and its name
-abbrev pub lists_properties : Note → Bool
-lists_properties note =
+abbrev pub is_property_note : Note → Bool
+is_property_note note =
     note.kind == NT_GNU_PROPERTY_TYPE_0 && is_gnu_name note.name
 
 -- the first such of some notes
 unfoldable pub first_listing : List NoteRow → Option NoteRow
 first_listing [] = None
-first_listing (row ∷ rows) = elim (lists_properties row.note) [ true ↦ Some row | false ↦ first_listing rows ]
+first_listing (row ∷ rows) = elim (is_property_note row.note) [ true ↦ Some row | false ↦ first_listing rows ]
 
 -- A LIST OF PROPERTIES in a file: where it begins, and its bytes
 pub record PropertyList : Type 0 where

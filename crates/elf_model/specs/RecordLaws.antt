@@ -1,7 +1,7 @@
 -- What holds of records, whatever the bytes are.
 use Rattle.std.specs.Prelude.{◌≡◌, ℕ, ◌+◌, ◌≤◌, Bool, List}
 use Rattle.elf_model.specs.Bytes.{slice, field}
-use Rattle.elf_model.specs.LineFronts.{section_front, symbol_front, relocation_front, dynamic_front}
+use Rattle.elf_model.specs.LineFronts.{section_prefix, symbol_prefix, relocation_prefix, dynamic_prefix}
 use Rattle.elf_model.specs.Lines.{header_line, segment_line}
 use Rattle.elf_model.specs.Records.{FILE_HEADER_SIZE, SECTION_HEADER_SIZE, PROGRAM_HEADER_SIZE}
 use Rattle.elf_model.specs.declared.formats.Format.{Format}
@@ -18,8 +18,8 @@ abbrev pub LinesOfSlices : Type 0
 LinesOfSlices =
     (format : Format) → (file : List ℕ) → (gnu : Bool) → (machine at index section : ℕ)
     → (header_line format (slice file 0 FILE_HEADER_SIZE) ≡ header_line format file)
-    × (section_front format gnu machine (slice file at SECTION_HEADER_SIZE) 0 index ≡ section_front format gnu machine file at index)
+    × (section_prefix format gnu machine (slice file at SECTION_HEADER_SIZE) 0 index ≡ section_prefix format gnu machine file at index)
     × (segment_line format gnu (slice file at PROGRAM_HEADER_SIZE) 0 index ≡ segment_line format gnu file at index)
-    × (symbol_front format gnu machine (slice file at SYMBOL_SIZE) 0 section index ≡ symbol_front format gnu machine file at section index)
-    × (relocation_front format gnu machine (slice file at RELA_SIZE) 0 section ≡ relocation_front format gnu machine file at section)
-    × (dynamic_front format gnu (slice file at DYNAMIC_SIZE) 0 index ≡ dynamic_front format gnu file at index)
+    × (symbol_prefix format gnu machine (slice file at SYMBOL_SIZE) 0 section index ≡ symbol_prefix format gnu machine file at section index)
+    × (relocation_prefix format gnu machine (slice file at RELA_SIZE) 0 section ≡ relocation_prefix format gnu machine file at section)
+    × (dynamic_prefix format gnu (slice file at DYNAMIC_SIZE) 0 index ≡ dynamic_prefix format gnu file at index)

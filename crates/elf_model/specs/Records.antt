@@ -21,8 +21,8 @@ abbrev pub ELF_MAGIC : ℕ
 ELF_MAGIC = 0x464c457f
 
 -- A FILE BEGINS AS AN ELF FILE: with the magic number (gABI 4, ELF Identification)
-abbrev pub begins_as_elf : List ℕ → Bool
-begins_as_elf file = field file 0 ELF_MAGIC_SIZE == ELF_MAGIC
+abbrev pub has_elf_magic : List ℕ → Bool
+has_elf_magic file = field file 0 ELF_MAGIC_SIZE == ELF_MAGIC
 
 -- The file header (gABI 4, ELF Header).
 abbrev pub e_type : List ℕ → ℕ

@@ -1,16 +1,16 @@
 -- The rows of a listing. Each is a line, or the fault of its entry.
 use Rattle.std.specs.Prelude.{ℕ, ◌+◌, ◌==◌, ◌||◌, Bool, true, false, if◌then◌else◌, List, [], ◌∷◌, ◌++◌, length, Option, None, Some, Result, Ok, Err}
-use Rattle.elf_model.specs.Choice.{RowChoice, NoSuffix, chooses}
+use Rattle.elf_model.specs.Choice.{RowFilter, NoSuffix, chooses}
 use Rattle.elf_model.specs.Records.{e_machine, e_shstrndx, sh_name, section_at, segment_at, st_name, r_sym, d_tag, d_un}
 use Rattle.elf_model.specs.Numbers.{DT_NEEDED, DT_SONAME, DT_RPATH, DT_RUNPATH}
-use Rattle.elf_model.specs.Names.{Shown, shown}
-use Rattle.elf_model.specs.Names.Shown.{Whole}
+use Rattle.elf_model.specs.Names.{DisplayedName, shown}
+use Rattle.elf_model.specs.Names.DisplayedName.{Whole}
 use Rattle.elf_model.specs.Style.{Style}
-use Rattle.elf_model.specs.Notes.{Note, Walk, note_shown}
+use Rattle.elf_model.specs.Notes.{Note, NoteScan, note_shown}
 use Rattle.elf_model.specs.Tables.{SYMBOL_SIZE, RELA_SIZE, section_bytes, strings_of, linked_at, entry_at, symbol_checks_of}
 use Rattle.elf_model.specs.Checks.{first_refusal}
-use Rattle.elf_model.specs.Fields.{LineFront}
-use Rattle.elf_model.specs.LineFronts.{section_front, symbol_front, relocation_front, note_front, dynamic_front}
+use Rattle.elf_model.specs.Fields.{LinePrefix}
+use Rattle.elf_model.specs.LineFronts.{section_prefix, symbol_prefix, relocation_prefix, note_prefix, dynamic_prefix}
 use Rattle.elf_model.specs.Lines.{named_line, note_line, segment_line}
 use Rattle.elf_model.specs.Listing.{ListingItem, Line, Fault}
 use Rattle.elf_model.specs.declared.causes.Cause.{Cause}
@@ -22,22 +22,22 @@ abbrev pub refused_row : ℕ → Cause → List ListingItem
 refused_row at cause = Fault (record { at = at; cause = cause }) ∷ []
 
 -- a row that ends in a name: its line, or the name's fault, at the entry that holds the name's index
-abbrev pub named_row : LineFront → ℕ → Result Shown Cause → List ListingItem
+abbrev pub named_row : LinePrefix → ℕ → Result DisplayedName Cause → List ListingItem
 named_row front at (Ok name) = Line (named_line front name) ∷ []
 named_row front at (Err cause) = refused_row at cause
 
 -- a row that ends in the name of a symbol or of a version: its line where it is one of the rows that are shown, or the name's
 -- fault
-abbrev pub chosen_row : RowChoice → LineFront → ℕ → Result Shown Cause → List ListingItem
+abbrev pub chosen_row : RowFilter → LinePrefix → ℕ → Result DisplayedName Cause → List ListingItem
 chosen_row choice front at (Ok name) = if chooses choice name NoSuffix then Line (named_line front name) ∷ [] else []
 chosen_row choice front at (Err cause) = refused_row at cause
 
 -- the empty name
-abbrev pub no_name : Result Shown Cause
+abbrev pub no_name : Result DisplayedName Cause
 no_name = Ok (Whole [])
 
 -- a section's name, which is empty where the file has no section of the section names
-unfoldable pub section_name : List ℕ → ℕ → ℕ → Result Shown Cause
+unfoldable pub section_name : List ℕ → ℕ → ℕ → Result DisplayedName Cause
 section_name file at cap =
     if e_shstrndx file == 0 then no_name
     else shown (section_bytes file (section_at file (e_shstrndx file))) (sh_name file at) cap
@@ -46,7 +46,7 @@ section_name file at cap =
 unfoldable pub section_row : List ℕ → Style → ℕ → List ListingItem
 section_row file style index =
     let at = section_at file index in
-    named_row (section_front style.format style.gnu (e_machine file) file at index) at (section_name file at style.cap)
+    named_row (section_prefix style.format style.gnu (e_machine file) file at index) at (section_name file at style.cap)
 
 -- the row of a program header
 unfoldable pub segment_row : List ℕ → Style → ℕ → List ListingItem
@@ -56,13 +56,13 @@ segment_row file style index = Line (segment_line style.format style.gnu file (s
 unfoldable pub symbol_row : List ℕ → Style → ℕ → ℕ → ℕ → List ListingItem
 symbol_row file style section at index =
     let symbol_at = entry_at file at SYMBOL_SIZE index in
-    let front = symbol_front style.format style.gnu (e_machine file) file symbol_at section index in
+    let front = symbol_prefix style.format style.gnu (e_machine file) file symbol_at section index in
     chosen_row style.choice front symbol_at (shown (strings_of file at) (st_name file symbol_at) style.cap)
 
 -- the offset that a fault names and the name that is shown, for the symbol of an index that a relocation entry names, whose
 -- section's header stands at an offset: symbol 0 has no name; any other is one of the linked table's, else it is a fault at
 -- the entry; a name's own fault is at the symbol
-unfoldable pub symbol_named : List ℕ → ℕ → ℕ → ℕ → ℕ → ℕ × Result Shown Cause
+unfoldable pub symbol_named : List ℕ → ℕ → ℕ → ℕ → ℕ → ℕ × Result DisplayedName Cause
 symbol_named file cap header_at rela_at symbol =
     let table_at = linked_at file header_at in
     let symbol_at = entry_at file table_at SYMBOL_SIZE symbol in
@@ -77,12 +77,12 @@ unfoldable pub relocation_row : List ℕ → Style → ℕ → ℕ → ℕ → L
 relocation_row file style section at index =
     let rela_at = entry_at file at RELA_SIZE index in
     let symbol = symbol_named file style.cap at rela_at (r_sym file rela_at) in
-    chosen_row style.choice (relocation_front style.format style.gnu (e_machine file) file rela_at section) symbol.0 symbol.1
+    chosen_row style.choice (relocation_prefix style.format style.gnu (e_machine file) file rela_at section) symbol.0 symbol.1
 
 -- the row of a note
 unfoldable pub note_row : Style → ℕ → Note → ListingItem
 note_row style index note =
-    let front = note_front style.format index note.kind (length note.name) (length note.descriptor) in
+    let front = note_prefix style.format index note.kind (length note.name) (length note.descriptor) in
     Line (note_line front (note_shown style.cap note) note.descriptor)
 
 -- the rows of notes
@@ -96,7 +96,7 @@ cut_rows table_at None = []
 cut_rows table_at (Some place) = refused_row (table_at + place) NoteCut
 
 -- the rows of a table of notes at an offset, up to the place where it is cut, if it is
-unfoldable pub walk_rows : Style → ℕ → ℕ → Walk → List ListingItem
+unfoldable pub walk_rows : Style → ℕ → ℕ → NoteScan → List ListingItem
 walk_rows style index table_at walk = notes_rows style index walk.notes ++ cut_rows table_at walk.cut
 
 -- the value of an entry with this tag is a string table index (gABI 5, Dynamic Section)
@@ -107,7 +107,7 @@ is_string_tag tag = tag == DT_NEEDED || tag == DT_SONAME || tag == DT_RPATH || t
 -- there the string table is looked for, which may be refused
 unfoldable pub dynamic_row : List ℕ → Style → (ℕ → Result (List ℕ) Refusal) → ℕ → ℕ → List ListingItem
 dynamic_row file style strings dynamic_at index =
-    let front = dynamic_front style.format style.gnu file dynamic_at index in
+    let front = dynamic_prefix style.format style.gnu file dynamic_at index in
     elim (is_string_tag (d_tag file dynamic_at)) [
       | false ↦ named_row front dynamic_at no_name
       | true ↦ elim (strings dynamic_at) [

@@ -1,6 +1,6 @@
 -- How a listing is made, beside how many headers are permitted and which parts it has.
 use Rattle.std.specs.Prelude.{ℕ, suc, ◌&&◌, ◌||◌, nat_le, nat_lt, if◌then◌else◌, Bool, true, false, List, [], ◌∷◌}
-use Rattle.elf_model.specs.Choice.{RowChoice, EveryRow}
+use Rattle.elf_model.specs.Choice.{RowFilter, EveryRow}
 use Rattle.elf_model.specs.declared.formats.Format.{Format}
 use Rattle.elf_model.specs.declared.formats.Format.TheVariants.{Columns}
 
@@ -12,7 +12,7 @@ pub record Style : Type 0 where
   pub gnu : Bool
   pub by_segments : Bool
   pub format : Format
-  pub choice : RowChoice
+  pub choice : RowFilter
   pub versions : Bool
 
 -- so many bytes of a name, with the standards' names alone, by the section headers where there are some, in columns, and every

@@ -15,8 +15,8 @@ ViewIsSeenInSlices =
     (file : List ℕ) (at count : ℕ) → slice (without_sections file) at count ≡ without_sections_from at (slice file at count)
 
 -- behind the file header its bytes are the file's
-abbrev pub ViewIsTheFileBehindTheHeader : Type 0
-ViewIsTheFileBehindTheHeader = (place : ℕ) (bytes : List ℕ) → 64 ≤ place → without_sections_from place bytes ≡ bytes
+abbrev pub ViewIsTheFileAfterTheHeader : Type 0
+ViewIsTheFileAfterTheHeader = (place : ℕ) (bytes : List ℕ) → 64 ≤ place → without_sections_from place bytes ≡ bytes
 
 -- before e_shoff, and between that and e_shnum, its bytes are the file's
 abbrev pub ViewIsTheFileElsewhere : Type 0

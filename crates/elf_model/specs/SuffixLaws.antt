@@ -3,29 +3,29 @@ use Rattle.std.specs.Prelude.{ℕ, ◌≡◌, ◌+◌, ◌≤◌, Bool, true, fa
 use Rattle.elf_model.specs.Choice.{Suffixed}
 use Rattle.elf_model.specs.Cost.{kinds_cost, suffixes_most}
 use Rattle.elf_model.specs.HeaderTables.{HeaderTable}
-use Rattle.elf_model.specs.Names.{Shown}
+use Rattle.elf_model.specs.Names.{DisplayedName}
 use Rattle.elf_model.specs.Numbers.{SHN_UNDEF}
 use Rattle.elf_model.specs.Records.{sh_link, st_shndx}
 use Rattle.elf_model.specs.Style.{Style}
-use Rattle.elf_model.specs.Suffixes.{numbers_of, symbol_suffix}
-use Rattle.elf_model.specs.TableKinds.{relocations, section_kinds, suffixed_relocations, suffixed_symbols, symbols}
+use Rattle.elf_model.specs.Suffixes.{version_numbers_of, symbol_suffix}
+use Rattle.elf_model.specs.TableKinds.{relocations, section_kinds, relocations_with_versions, suffixed_symbols, symbols}
 
 -- the symbols of a table without a section of version numbers are listed as without versions
 abbrev pub UnversionedSymbolsArePlain : Type 0
 UnversionedSymbolsArePlain =
-    (file : List ℕ) (style : Style) (section at : ℕ) → numbers_of file section ≡ None
+    (file : List ℕ) (style : Style) (section at : ℕ) → version_numbers_of file section ≡ None
     → suffixed_symbols.rows file style section at ≡ symbols.rows file style section at
 
 -- and relocation entries whose symbols are of such a table
 abbrev pub UnversionedEntriesArePlain : Type 0
 UnversionedEntriesArePlain =
-    (file : List ℕ) (style : Style) (section at : ℕ) → numbers_of file (sh_link file at) ≡ None
-    → suffixed_relocations.rows file style section at ≡ relocations.rows file style section at
+    (file : List ℕ) (style : Style) (section at : ℕ) → version_numbers_of file (sh_link file at) ≡ None
+    → relocations_with_versions.rows file style section at ≡ relocations.rows file style section at
 
 -- an undefined symbol has no default version
 abbrev pub UndefinedHaveNoDefault : Type 0
 UndefinedHaveNoDefault =
-    (file : List ℕ) (cap table symbol_at index : ℕ) (is_default : Bool) (name : Shown) → st_shndx file symbol_at ≡ SHN_UNDEF
+    (file : List ℕ) (cap table symbol_at index : ℕ) (is_default : Bool) (name : DisplayedName) → st_shndx file symbol_at ≡ SHN_UNDEF
     → symbol_suffix file cap table symbol_at index ≡ Ok (Suffixed is_default name) → is_default ≡ false
 
 -- the versions behind the names of the symbols of a header's tables cost no more than a word and a name for each entry, and one

@@ -1,15 +1,15 @@
 -- The versions behind the names of symbols.
 use Rattle.std.specs.Prelude.{ℕ, ◌==◌, ◌&&◌, nat_lt, not, if◌then◌else◌, Bool, List, [], ◌∷◌, ◌++◌, codes, Option, None, Some, Result, Ok, Err}
 use Rattle.elf_model.specs.Checks.{first_refusal}
-use Rattle.elf_model.specs.Choice.{RowChoice, Suffix, NoSuffix, Suffixed, chooses}
-use Rattle.elf_model.specs.Fields.{LineFront, closing, member_key, quoted}
+use Rattle.elf_model.specs.Choice.{RowFilter, Suffix, NoSuffix, Suffixed, chooses}
+use Rattle.elf_model.specs.Fields.{LinePrefix, closing, member_key, quoted}
 use Rattle.elf_model.specs.Find.{first_that}
 use Rattle.elf_model.specs.HeaderTables.{HeaderTable, file_sections, header_field}
-use Rattle.elf_model.specs.LineFronts.{relocation_front, symbol_front}
+use Rattle.elf_model.specs.LineFronts.{relocation_prefix, symbol_prefix}
 use Rattle.elf_model.specs.Lines.{escaped, name_member, name_text}
 use Rattle.elf_model.specs.Listing.{ListingItem, Line, Fault, each}
-use Rattle.elf_model.specs.Names.{Shown, shown}
-use Rattle.elf_model.specs.Names.Shown.{Whole, Cut}
+use Rattle.elf_model.specs.Names.{DisplayedName, shown}
+use Rattle.elf_model.specs.Names.DisplayedName.{Whole, Cut}
 use Rattle.elf_model.specs.Numbers.{SHN_UNDEF, SHT_GNU_VERDEF, SHT_GNU_VERNEED, SHT_GNU_VERSYM}
 use Rattle.elf_model.specs.Records.{e_machine, r_sym, section_at, sh_link, sh_type, st_name, st_shndx, versym}
 use Rattle.elf_model.specs.Rows.{symbol_named}
@@ -31,8 +31,8 @@ abbrev pub first_numbers : HeaderTable → (table : ℕ) → Option ℕ
 first_numbers headers table =
     first_that (λ i. header_field headers sh_type i == SHT_GNU_VERSYM && header_field headers sh_link i == table) 0 headers.count
 
-abbrev pub numbers_of : List ℕ → (table : ℕ) → Option ℕ
-numbers_of file table = first_numbers (file_sections file) table
+abbrev pub version_numbers_of : List ℕ → (table : ℕ) → Option ℕ
+version_numbers_of file table = first_numbers (file_sections file) table
 
 -- a version is the default one of a symbol's name, where the symbol stands at an offset and its word is this: the symbol is
 -- defined, and the version is not hidden
@@ -40,7 +40,7 @@ abbrev pub is_default : List ℕ → (symbol_at word : ℕ) → Bool
 is_default file symbol_at word = word == number_in word && not (st_shndx file symbol_at == SHN_UNDEF)
 
 -- a version whose name is shown, or the name's fault at the record that holds it
-abbrev pub suffix_of : Bool → ℕ → Result Shown Cause → Result Suffix Refusal
+abbrev pub suffix_of : Bool → ℕ → Result DisplayedName Cause → Result Suffix Refusal
 suffix_of default at (Ok name) = Ok (Suffixed default name)
 suffix_of default at (Err cause) = Err (record { at = at; cause = cause })
 
@@ -65,7 +65,7 @@ suffix_at file cap at symbol_at index =
 -- WHAT STANDS BEHIND THE NAME OF A SYMBOL of an index, which stands at an offset, in the table of a section
 unfoldable pub symbol_suffix : List ℕ → (cap table symbol_at index : ℕ) → Result Suffix Refusal
 symbol_suffix file cap table symbol_at index =
-    elim (numbers_of file table) [ None ↦ Ok NoSuffix | Some i ↦ suffix_at file cap (section_at file i) symbol_at index ]
+    elim (version_numbers_of file table) [ None ↦ Ok NoSuffix | Some i ↦ suffix_at file cap (section_at file i) symbol_at index ]
 
 -- the first refusal, or else another one
 abbrev pub or_refusal : Option Refusal → Option Refusal → Option Refusal
@@ -84,7 +84,7 @@ walk_refusal kind type file = elim (first_of_type file type) [
 unfoldable pub suffixes_refusal : List ℕ → (table : ℕ) → Option Refusal
 suffixes_refusal file table =
     if entry_count file (section_at file table) SYMBOL_SIZE == 0 then None
-    else elim (numbers_of file table) [
+    else elim (version_numbers_of file table) [
       | None ↦ None
       | Some i ↦
           or_refusal (first_refusal (all_checks symbol_versions.checks file (section_at file i)))
@@ -100,7 +100,7 @@ unfoldable pub suffix_text : Suffix → List ℕ
 suffix_text NoSuffix = []
 suffix_text (Suffixed default name) = version_sign default ++ name_text name
 
-unfoldable pub version_member : Shown → List ℕ
+unfoldable pub version_member : DisplayedName → List ℕ
 version_member (Whole name) = member_key (codes "version") ++ quoted (escaped name)
 version_member (Cut front) = member_key (codes "version") ++ quoted (escaped front) ++ (member_key (codes "version_cut") ++ codes "true")
 
@@ -110,53 +110,53 @@ suffix_members (Suffixed default name) =
     version_member name ++ (member_key (codes "default") ++ (if default then codes "true" else codes "false"))
 
 -- a line that ends in a name with its version
-unfoldable pub line_suffixed : Format → (key text : List ℕ) → Shown → Suffix → List ℕ
+unfoldable pub line_suffixed : Format → (key text : List ℕ) → DisplayedName → Suffix → List ℕ
 line_suffixed Columns key text name suffix = text ++ (name_text name ++ suffix_text suffix ++ newline)
 line_suffixed Object key text name suffix = text ++ (name_member key name ++ suffix_members suffix ++ closing Object)
 
-abbrev pub suffixed_line : LineFront → Shown → Suffix → List ℕ
+abbrev pub suffixed_line : LinePrefix → DisplayedName → Suffix → List ℕ
 suffixed_line front name suffix = line_suffixed front.format front.key front.text name suffix
 
 -- a row that ends in the name of a symbol with its version: the line where it is one of those that are shown; a fault of the
 -- name comes before one of the version
-abbrev pub versioned_line : RowChoice → LineFront → Shown → Result Suffix Refusal → List ListingItem
+abbrev pub versioned_line : RowFilter → LinePrefix → DisplayedName → Result Suffix Refusal → List ListingItem
 versioned_line choice front name (Err refusal) = Fault refusal ∷ []
 versioned_line choice front name (Ok suffix) = if chooses choice name suffix then Line (suffixed_line front name suffix) ∷ [] else []
 
-abbrev pub suffixed_row : RowChoice → LineFront → ℕ → Result Shown Cause → Result Suffix Refusal → List ListingItem
+abbrev pub suffixed_row : RowFilter → LinePrefix → ℕ → Result DisplayedName Cause → Result Suffix Refusal → List ListingItem
 suffixed_row choice front at (Err cause) suffix = Fault (record { at = at; cause = cause }) ∷ []
 suffixed_row choice front at (Ok name) suffix = versioned_line choice front name suffix
 
 -- rows behind what refuses their versions
-abbrev pub behind_refusal : Option Refusal → List ListingItem → List ListingItem
-behind_refusal None items = items
-behind_refusal (Some refusal) items = Fault refusal ∷ []
+abbrev pub after_refusal : Option Refusal → List ListingItem → List ListingItem
+after_refusal None items = items
+after_refusal (Some refusal) items = Fault refusal ∷ []
 
 -- the row of a symbol, and those of a symbol table
-unfoldable pub suffixed_symbol_row : List ℕ → Style → ℕ → ℕ → ℕ → List ListingItem
-suffixed_symbol_row file style section at index =
+unfoldable pub symbol_row_with_version : List ℕ → Style → ℕ → ℕ → ℕ → List ListingItem
+symbol_row_with_version file style section at index =
     let symbol_at = entry_at file at SYMBOL_SIZE index in
-    let front = symbol_front style.format style.gnu (e_machine file) file symbol_at section index in
+    let front = symbol_prefix style.format style.gnu (e_machine file) file symbol_at section index in
     suffixed_row style.choice front symbol_at (shown (strings_of file at) (st_name file symbol_at) style.cap) (symbol_suffix file style.cap section symbol_at index)
 
 unfoldable pub suffixed_symbol_rows : List ℕ → Style → ℕ → ℕ → List ListingItem
 suffixed_symbol_rows file style section at =
-    behind_refusal (suffixes_refusal file section)
-    (each (suffixed_symbol_row file style section at) 0 (entry_count file at SYMBOL_SIZE))
+    after_refusal (suffixes_refusal file section)
+    (each (symbol_row_with_version file style section at) 0 (entry_count file at SYMBOL_SIZE))
 
 -- the row of a relocation entry, whose symbol 0 has no version, and those of a table of them
-unfoldable pub suffixed_relocation_row : List ℕ → Style → ℕ → ℕ → ℕ → List ListingItem
-suffixed_relocation_row file style section at index =
+unfoldable pub relocation_row_with_version : List ℕ → Style → ℕ → ℕ → ℕ → List ListingItem
+relocation_row_with_version file style section at index =
     let rela_at = entry_at file at RELA_SIZE index in
     let symbol = r_sym file rela_at in
     let named = symbol_named file style.cap at rela_at symbol in
     let suffix =
     if symbol == 0 then Ok NoSuffix
     else symbol_suffix file style.cap (sh_link file at) (entry_at file (linked_at file at) SYMBOL_SIZE symbol) symbol in
-    suffixed_row style.choice (relocation_front style.format style.gnu (e_machine file) file rela_at section) named.0 named.1 suffix
+    suffixed_row style.choice (relocation_prefix style.format style.gnu (e_machine file) file rela_at section) named.0 named.1 suffix
 
 unfoldable pub suffixed_relocation_rows : List ℕ → Style → ℕ → ℕ → List ListingItem
 suffixed_relocation_rows file style section at =
-    behind_refusal
+    after_refusal
     (if has_symbols file at && not (entry_count file at RELA_SIZE == 0) then suffixes_refusal file (sh_link file at) else None)
-    (each (suffixed_relocation_row file style section at) 0 (entry_count file at RELA_SIZE))
+    (each (relocation_row_with_version file style section at) 0 (entry_count file at RELA_SIZE))

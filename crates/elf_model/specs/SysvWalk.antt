@@ -2,7 +2,7 @@
 -- trial is that a symbol has the wanted name it comes to what a lookup of that name does, `Hash.looked_up`.
 use Rattle.std.specs.Prelude.{ℕ, zero, suc, ◌%◌, ◌&&◌, ◌≡◌, ◌⊎◌, nat_lt, Bool, true, false, List, Option, None, Some, Result, Ok, Err}
 use Rattle.elf_model.specs.Bytes.{field}
-use Rattle.elf_model.specs.Chains.{HashTable, WalkEnd, NotThere, Untried, Answers, Last, end_of_trial, Walked, refused_walk}
+use Rattle.elf_model.specs.Chains.{HashTable, WalkEnd, NotThere, Untried, Answers, Last, end_of_match, ChainResult, refused_walk}
 use Rattle.elf_model.specs.Hash.{sysv_nbucket, sysv_nchain, sysv_bucket_at, sysv_chain_at, symbol_count, symbol_at, same_symbol, walk_word, IsFirst, IsEndless, end_among, Outcome, Found, Absent, Refused, Lookup}
 use Rattle.elf_model.specs.Records.{sh_offset, sh_size, sh_link}
 use Rattle.elf_model.specs.Tables.{linked_at}
@@ -35,10 +35,10 @@ is_sysv_index file table word = nat_lt word (sysv_nchain file table.place) && na
 unfoldable pub sysv_end : List ℕ → HashTable → (ℕ → Result Bool Refusal) → ℕ → Option WalkEnd
 sysv_end file table trial zero = Some Last
 sysv_end file table trial (suc y) =
-    elim (is_sysv_index file table (suc y)) [ true ↦ end_of_trial (trial (suc y)) None | false ↦ Some NotThere ]
+    elim (is_sysv_index file table (suc y)) [ true ↦ end_of_match (trial (suc y)) None | false ↦ Some NotThere ]
 
 -- what a walk gives that ends at word number i: it reads one chain word for each symbol that it tries
-unfoldable pub sysv_walked_at : List ℕ → ℕ → ℕ → ℕ → WalkEnd → Walked
+unfoldable pub sysv_walked_at : List ℕ → ℕ → ℕ → ℕ → WalkEnd → ChainResult
 sysv_walked_at file place hash i Last = record { answer = Ok None; tried = i; read = i }
 sysv_walked_at file place hash i NotThere = refused_walk i i (record { at = sysv_word_at file place hash i; cause = HashIndex })
 sysv_walked_at file place hash i (Untried refusal) = refused_walk (suc i) (suc i) refusal
@@ -46,25 +46,25 @@ sysv_walked_at file place hash i Answers =
     record { answer = Ok (Some (sysv_word file place hash i)); tried = suc i; read = suc i }
 
 -- what a walk gives that never ends: it tries as many symbols as there are chains
-abbrev pub sysv_cycle : List ℕ → ℕ → ℕ → Walked
+abbrev pub sysv_cycle : List ℕ → ℕ → ℕ → ChainResult
 sysv_cycle file place hash =
     let chains = sysv_nchain file place in
     refused_walk chains chains (record { at = sysv_bucket_of file place hash; cause = HashCycle })
 
 -- a walk ends at word number `number`, which says what it gives
-pub record EndsAtWord (file : List ℕ) (table : HashTable) (hash : ℕ) (trial : ℕ → Result Bool Refusal) (walked : Walked) : Type 0 where
+pub record EndsAtWord (file : List ℕ) (table : HashTable) (hash : ℕ) (trial : ℕ → Result Bool Refusal) (walked : ChainResult) : Type 0 where
   pub number : ℕ
   pub end : WalkEnd
   pub first : IsFirst (sysv_end file table trial) (sysv_word file table.place hash) number end
   pub gives : walked ≡ sysv_walked_at file table.place hash number end
 
 -- a walk never ends
-pub record GoesRound (file : List ℕ) (table : HashTable) (hash : ℕ) (trial : ℕ → Result Bool Refusal) (walked : Walked) : Type 0 where
+pub record GoesRound (file : List ℕ) (table : HashTable) (hash : ℕ) (trial : ℕ → Result Bool Refusal) (walked : ChainResult) : Type 0 where
   pub endless : IsEndless (sysv_end file table trial) (sysv_word file table.place hash)
   pub gives : walked ≡ sysv_cycle file table.place hash
 
 -- WHAT A WALK GIVES in a hash table of the gABI, for a hash and a trial
-abbrev pub IsSysvWalk : List ℕ → HashTable → ℕ → (ℕ → Result Bool Refusal) → Walked → Type 0
+abbrev pub IsSysvWalk : List ℕ → HashTable → ℕ → (ℕ → Result Bool Refusal) → ChainResult → Type 0
 IsSysvWalk file table hash trial walked = EndsAtWord file table hash trial walked ⊎ GoesRound file table hash trial walked
 
 -- The calculation. By the laws `SysvWalkAnswers` and `SysvWalkIsOne` it gives the one walk that `IsSysvWalk` describes.
@@ -76,12 +76,12 @@ sysv_walk_end file table hash trial =
     0 (suc (sysv_nchain file table.place))
 
 -- what a walk gives by its end: one that has not ended after one word more than there are chains never ends
-abbrev pub sysv_walked_by : List ℕ → ℕ → ℕ → Option (ℕ × WalkEnd) → Walked
+abbrev pub sysv_walked_by : List ℕ → ℕ → ℕ → Option (ℕ × WalkEnd) → ChainResult
 sysv_walked_by file place hash None = sysv_cycle file place hash
 sysv_walked_by file place hash (Some found) = sysv_walked_at file place hash found.0 found.1
 
 -- what a walk gives
-unfoldable pub sysv_walked : List ℕ → HashTable → ℕ → (ℕ → Result Bool Refusal) → Walked
+unfoldable pub sysv_walked : List ℕ → HashTable → ℕ → (ℕ → Result Bool Refusal) → ChainResult
 sysv_walked file table hash trial = sysv_walked_by file table.place hash (sysv_walk_end file table hash trial)
 
 -- THE LOOKUP OF A NAME as such a walk, in the HASH section whose header stands at an offset: its table; the trial whether a
@@ -101,5 +101,5 @@ lookup_answer file at (Ok (Some y)) = Found (sh_link file at) y (symbol_at file 
 lookup_answer file at (Ok None) = Absent
 lookup_answer file at (Err refusal) = Refused refusal
 
-abbrev pub lookup_of : List ℕ → ℕ → Walked → Lookup
-lookup_of file at walked = record { answer = lookup_answer file at walked.answer; compared = walked.tried }
+abbrev pub parse_lookup : List ℕ → ℕ → ChainResult → Lookup
+parse_lookup file at walked = record { answer = lookup_answer file at walked.answer; compared = walked.tried }

@@ -1,8 +1,8 @@
 -- Laws of walks for a symbol that answers in a hash table of the gABI.
 use Rattle.std.specs.Prelude.{ℕ, ◌≤◌, ◌≡◌, Bool, true, Some, Result, Ok, List}
-use Rattle.elf_model.specs.Chains.{HashTable, Walked}
+use Rattle.elf_model.specs.Chains.{HashTable, ChainResult}
 use Rattle.elf_model.specs.Hash.{sysv_hash, sysv_nchain, looked_up}
-use Rattle.elf_model.specs.SysvWalk.{IsSysvWalk, sysv_walked, section_table_of, has_name, lookup_of}
+use Rattle.elf_model.specs.SysvWalk.{IsSysvWalk, sysv_walked, section_table_of, has_name, parse_lookup}
 use Rattle.elf_model.specs.Tables.{linked_at}
 use Rattle.elf_model.specs.declared.causes.Refusal.{Refusal}
 
@@ -15,7 +15,7 @@ SysvWalkAnswers =
 -- it gives nothing else
 abbrev pub SysvWalkIsOne : Type 0
 SysvWalkIsOne =
-    (file : List ℕ) (table : HashTable) (hash : ℕ) (trial : ℕ → Result Bool Refusal) (first second : Walked)
+    (file : List ℕ) (table : HashTable) (hash : ℕ) (trial : ℕ → Result Bool Refusal) (first second : ChainResult)
     → IsSysvWalk file table hash trial first → IsSysvWalk file table hash trial second → first ≡ second
 
 -- it reads one chain word for each symbol that it tries, and tries no more symbols than there are chains
@@ -36,5 +36,5 @@ SysvFoundAnswers =
 abbrev pub SysvWalkIsLookup : Type 0
 SysvWalkIsLookup =
     (file : List ℕ) (at : ℕ) (wanted : List ℕ)
-    → lookup_of file at (sysv_walked file (section_table_of file at) (sysv_hash wanted) (has_name file (linked_at file at) wanted))
+    → parse_lookup file at (sysv_walked file (section_table_of file at) (sysv_hash wanted) (has_name file (linked_at file at) wanted))
     ≡ looked_up file at wanted

@@ -113,8 +113,8 @@ suffixed_symbols = record {
 }
 
 -- relocation entries with those of their symbols
-unfoldable pub suffixed_relocations : TableKind
-suffixed_relocations = record {
+unfoldable pub relocations_with_versions : TableKind
+relocations_with_versions = record {
   part = RELOCS;
   has_table = λ bytes at. sh_type bytes at == SHT_RELA;
   checks = relocation_table;
@@ -129,7 +129,7 @@ abbrev symbols_kind : Bool → TableKind
 symbols_kind versions = elim versions [ true ↦ suffixed_symbols | false ↦ symbols ]
 
 abbrev relocations_kind : Bool → TableKind
-relocations_kind versions = elim versions [ true ↦ suffixed_relocations | false ↦ relocations ]
+relocations_kind versions = elim versions [ true ↦ relocations_with_versions | false ↦ relocations ]
 
 -- the kinds of tables that section headers describe, with or without versions behind the names of symbols, and those that
 -- program headers do, in their order

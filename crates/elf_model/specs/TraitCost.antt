@@ -5,7 +5,7 @@ use Rattle.elf_model.specs.Cost.{cost_where, sum_over, table_cost}
 use Rattle.elf_model.specs.GnuHash.{gnu_nbucket}
 use Rattle.elf_model.specs.HeaderTables.{file_segments}
 use Rattle.elf_model.specs.LoaderFind.{segments_asked}
-use Rattle.elf_model.specs.LoaderScope.{GnuTable, SysvTable, Scope, dynamic_segment_index}
+use Rattle.elf_model.specs.LoaderScope.{GnuTable, SysvTable, LookupTables, dynamic_segment_index}
 use Rattle.elf_model.specs.Names.{name_bytes}
 use Rattle.elf_model.specs.Numbers.{EM_X86_64}
 use Rattle.elf_model.specs.Properties.{property_list}
@@ -30,7 +30,7 @@ properties_asked file =
     + elim (property_list file) [ Err refusal ↦ 0 | Ok None ↦ 0 | Ok (Some list) ↦ length list.bytes ])
 
 -- the words of a hash table that count the symbols: its counts, the buckets' words, and a chain's
-unfoldable pub hash_words_asked : List ℕ → Scope → ℕ
+unfoldable pub hash_words_asked : List ℕ → LookupTables → ℕ
 hash_words_asked file scope = elim scope.kind [
   | GnuTable ↦ 16 + 4 * gnu_nbucket file scope.table.place + 4 * hashed_symbol_count file scope
   | SysvTable ↦ 8

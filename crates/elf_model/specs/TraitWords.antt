@@ -1,10 +1,10 @@
 -- The words of a file's traits, the line that has them in columns, and what is required of them.
 use Rattle.std.specs.Prelude.{ℕ, ◌==◌, ◌&&◌, nat_eq, Bool, true, false, List, [], ◌∷◌, ◌++◌, length, codes, Option, None, Some}
 use Rattle.std.specs.List.{starts_with}
-use Rattle.elf_model.specs.Fields.{Fields, LineFront, closed_line, front}
-use Rattle.elf_model.specs.Fields.Field.{Word}
+use Rattle.elf_model.specs.Fields.{Fields, LinePrefix, closed_line, front}
+use Rattle.elf_model.specs.Fields.Field.{ArgSpec}
 use Rattle.elf_model.specs.Lines.{named_line}
-use Rattle.elf_model.specs.Names.Shown.{Whole}
+use Rattle.elf_model.specs.Names.DisplayedName.{Whole}
 use Rattle.elf_model.specs.declared.formats.Format.{Format}
 use Rattle.elf_model.specs.declared.traits.ProgramKind.{ProgramKind}
 use Rattle.elf_model.specs.declared.traits.ProgramKind.TheVariants as kind
@@ -18,14 +18,14 @@ use Rattle.elf_model.specs.declared.traits.TraitColumn.TheVariants as column
 use Rattle.elf_model.specs.declared.traits.Traits.{Traits}
 
 -- what a file is
-unfoldable pub kind_word : ProgramKind → List ℕ
-kind_word kind.Exec = codes "exec"
-kind_word kind.Pie = codes "pie"
-kind_word kind.Static = codes "static"
-kind_word kind.Lib = codes "lib"
-kind_word kind.Object = codes "object"
-kind_word kind.Core = codes "core"
-kind_word kind.Other = codes "other"
+unfoldable pub file_kind_name : ProgramKind → List ℕ
+file_kind_name kind.Exec = codes "exec"
+file_kind_name kind.Pie = codes "pie"
+file_kind_name kind.Static = codes "static"
+file_kind_name kind.Lib = codes "lib"
+file_kind_name kind.Object = codes "object"
+file_kind_name kind.Core = codes "core"
+file_kind_name kind.Other = codes "other"
 
 -- what is not known, since the file has no program headers
 abbrev not_told : List ℕ
@@ -81,19 +81,19 @@ abbrev trait_fields : Traits → Fields
 trait_fields t = record {
   letter = codes "T";
   fields =
-      Word (codes "kind") 6 (kind_word t.kind)
-      ∷ Word (codes "relro") 7 (relro_word t.segments)
-      ∷ Word (codes "stack") 5 (stack_word t.segments)
-      ∷ Word (codes "pages") 5 (pages_word t.segments)
-      ∷ Word (codes "text") 5 (text_word t.segments)
-      ∷ Word (codes "cet") 9 (cet_word t.ibt t.shstk)
-      ∷ Word (codes "canary") 6 (canary_word t.canary)
-      ∷ Word (codes "fortify") 7 (fortify_word t.fortify)
-      ∷ Word (codes "rpath") 7 (path_word t.path)
+      ArgSpec (codes "kind") 6 (file_kind_name t.kind)
+      ∷ ArgSpec (codes "relro") 7 (relro_word t.segments)
+      ∷ ArgSpec (codes "stack") 5 (stack_word t.segments)
+      ∷ ArgSpec (codes "pages") 5 (pages_word t.segments)
+      ∷ ArgSpec (codes "text") 5 (text_word t.segments)
+      ∷ ArgSpec (codes "cet") 9 (cet_word t.ibt t.shstk)
+      ∷ ArgSpec (codes "canary") 6 (canary_word t.canary)
+      ∷ ArgSpec (codes "fortify") 7 (fortify_word t.fortify)
+      ∷ ArgSpec (codes "rpath") 7 (path_word t.path)
       ∷ [];
 }
 
-unfoldable pub trait_front : Format → Traits → LineFront
+unfoldable pub trait_front : Format → Traits → LinePrefix
 trait_front format t = front format (codes "path") (trait_fields t)
 
 -- the line of a file: its traits, and its path
@@ -113,7 +113,7 @@ column_name column.Fortify = codes "fortify"
 column_name column.Path = codes "path"
 
 unfoldable pub column_word : Traits → TraitColumn → List ℕ
-column_word t column.Kind = kind_word t.kind
+column_word t column.Kind = file_kind_name t.kind
 column_word t column.Relro = relro_word t.segments
 column_word t column.Stack = stack_word t.segments
 column_word t column.Pages = pages_word t.segments
@@ -160,7 +160,7 @@ lacking_text t its_column = column_name its_column ++ codes "=" ++ column_word t
 
 unfoldable pub lacking_line : Format → Traits → TraitColumn → List ℕ
 lacking_line format t its_column =
-    closed_line format (record { letter = codes "!"; fields = [] }) (Word (codes "trait") 0 (lacking_text t its_column))
+    closed_line format (record { letter = codes "!"; fields = [] }) (ArgSpec (codes "trait") 0 (lacking_text t its_column))
 
 -- the lines of a file
 unfoldable pub traits_text : Format → Traits → List Required → List ℕ → List ℕ

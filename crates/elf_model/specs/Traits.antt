@@ -7,13 +7,13 @@ use Rattle.elf_model.specs.Chains.{HashTable}
 use Rattle.elf_model.specs.Checks.{first_refusal, header_checks, load_checks}
 use Rattle.elf_model.specs.Dynamic.{listed_value}
 use Rattle.elf_model.specs.Find.{first_that}
-use Rattle.elf_model.specs.GnuHash.{chain_word, ends_chain, gnu_bucket_at, gnu_first, gnu_nbucket, is_chained}
+use Rattle.elf_model.specs.GnuHash.{chain_word, is_chain_end, gnu_bucket_at, gnu_first, gnu_nbucket, is_chained}
 use Rattle.elf_model.specs.Hash.{sysv_nchain}
 use Rattle.elf_model.specs.Loader.{Symbols, symbol_offset}
 use Rattle.elf_model.specs.LoaderFind.{counts_check}
-use Rattle.elf_model.specs.LoaderScope.{GnuTable, SysvTable, Scope, dynamic_segment_index, scope_by_segments}
-use Rattle.elf_model.specs.Names.{Shown, shown}
-use Rattle.elf_model.specs.Names.Shown.{Whole, Cut}
+use Rattle.elf_model.specs.LoaderScope.{GnuTable, SysvTable, LookupTables, dynamic_segment_index, lookup_tables_by_segments}
+use Rattle.elf_model.specs.Names.{DisplayedName, shown}
+use Rattle.elf_model.specs.Names.DisplayedName.{Whole, Cut}
 use Rattle.elf_model.specs.Numbers.{EM_X86_64, ET_REL, PT_LOAD, SHN_UNDEF, DT_SONAME, DT_RPATH, DT_RUNPATH}
 use Rattle.elf_model.specs.Properties.{GNU_PROPERTY_X86_FEATURE_1_IBT, GNU_PROPERTY_X86_FEATURE_1_SHSTK, features_in, property_list}
 use Rattle.elf_model.specs.Records.{e_type, e_machine, e_phnum, p_type, p_flags, p_offset, p_filesz, segment_at, st_name, st_shndx}
@@ -53,8 +53,8 @@ is_stack_executable file = elim (segment_of file PT_GNU_STACK) [ None ↦ true |
 abbrev pub is_writable_code : List ℕ → ℕ → Bool
 is_writable_code file i = is_segment file PT_LOAD i && (permits file PF_W i && permits file PF_X i)
 
-unfoldable pub is_code_writable : List ℕ → Bool
-is_code_writable file = is_some (first_that (is_writable_code file) 0 (e_phnum file))
+unfoldable pub has_wx_load : List ℕ → Bool
+has_wx_load file = is_some (first_that (is_writable_code file) 0 (e_phnum file))
 
 -- DYNAMIC ENTRIES. The value of the first with a tag, in the first segment of such, up to and with the first that is DT_NULL
 unfoldable pub dynamic_entry_value : List ℕ → ℕ → Option ℕ
@@ -82,8 +82,8 @@ relro_of file = elim (is_some (segment_of file PT_GNU_RELRO)) [
 ]
 
 -- TEXT: relocations change a segment that is not writable (gABI 5, DT_TEXTREL and DF_TEXTREL)
-unfoldable pub is_text_patched : List ℕ → Bool
-is_text_patched file = has_dynamic_entry file DT_TEXTREL || entry_has file DT_FLAGS DF_TEXTREL
+unfoldable pub has_text_relocations : List ℕ → Bool
+has_text_relocations file = has_dynamic_entry file DT_TEXTREL || entry_has file DT_FLAGS DF_TEXTREL
 
 -- PATH: where libraries are looked for first. A loader passes over DT_RPATH where there is DT_RUNPATH (gABI 5, Shared Object
 -- Dependencies)
@@ -121,14 +121,14 @@ segment_traits file = elim (e_phnum file == 0) [
       Some (record {
         relro = relro_of file;
         stack_executable = is_stack_executable file;
-        pages_writable = is_code_writable file;
-        text_patched = is_text_patched file;
+        pages_writable = has_wx_load file;
+        text_patched = has_text_relocations file;
       })
 ]
 
 -- CONTROL FLOW: the word of features of x86 in the first list of properties; other machines have other words under its number
-unfoldable pub feature_word : List ℕ → Result ℕ Refusal
-feature_word file = elim (e_machine file == EM_X86_64) [
+unfoldable pub x86_feature_word : List ℕ → Result ℕ Refusal
+x86_feature_word file = elim (e_machine file == EM_X86_64) [
   | false ↦ Ok 0
   | true ↦ elim (property_list file) [ Err refusal ↦ Err refusal | Ok None ↦ Ok 0 | Ok (Some list) ↦ features_in list ]
 ]
@@ -138,21 +138,21 @@ abbrev pub has_none : Cause → Bool
 has_none NoHash = true
 has_none _ = false
 
-unfoldable pub known_symbols : List ℕ → Result (Option Scope) Refusal
-known_symbols file = elim (scope_by_segments file) [
+unfoldable pub known_symbols : List ℕ → Result (Option LookupTables) Refusal
+known_symbols file = elim (lookup_tables_by_segments file) [
   | Ok scope ↦ elim (first_refusal (counts_check file scope ∷ [])) [ Some refusal ↦ Err refusal | None ↦ Ok (Some scope) ]
   | Err refusal ↦ elim (has_none refusal.cause) [ true ↦ Ok None | false ↦ Err refusal ]
 ]
 
 -- HOW MANY there are is counted by the hash table alone. In the GNU system's: the symbols before `first`, and those of chains, of
 -- which the highest begins at the highest of the buckets' words
-unfoldable pub highest_start : List ℕ → (place count : ℕ) → ℕ
-highest_start file place zero = 0
-highest_start file place (suc n) = max (highest_start file place n) (field file (gnu_bucket_at file place n) 4)
+unfoldable pub max_bucket : List ℕ → (place count : ℕ) → ℕ
+max_bucket file place zero = 0
+max_bucket file place (suc n) = max (max_bucket file place n) (field file (gnu_bucket_at file place n) 4)
 
 -- a chain ends at a symbol: the last of it, or one that is not there
 abbrev pub is_last_in : List ℕ → HashTable → ℕ → Bool
-is_last_in file table y = not (is_chained file table y) || ends_chain (chain_word file table.place y)
+is_last_in file table y = not (is_chained file table y) || is_chain_end (chain_word file table.place y)
 
 -- how many symbols have room before their strings; none where the hash table stands between, or where there is no room for so
 -- many behind the first
@@ -169,7 +169,7 @@ unfound first before room = if first == 1 then max before (min first room) else 
 -- how many there are, with so many before their strings
 unfoldable pub gnu_symbols : List ℕ → HashTable → ℕ → ℕ
 gnu_symbols file table before =
-    let start = highest_start file table.place (gnu_nbucket file table.place) in
+    let start = max_bucket file table.place (gnu_nbucket file table.place) in
     if nat_lt start (gnu_first file table.place) then unfound (gnu_first file table.place) before table.symbols
     else elim (first_that (is_last_in file table) start (table.symbols - start)) [
       | None ↦ table.symbols
@@ -177,7 +177,7 @@ gnu_symbols file table before =
     ]
 
 -- in the gABI's as many as there are chains (gABI 5, Hash Table); no more than there is room for
-unfoldable pub hashed_symbol_count : List ℕ → Scope → ℕ
+unfoldable pub hashed_symbol_count : List ℕ → LookupTables → ℕ
 hashed_symbol_count file scope = elim scope.kind [
   | GnuTable ↦ gnu_symbols file scope.table (before_strings scope.table scope.symbols.place scope.symbols.strings_at)
   | SysvTable ↦ min (sysv_nchain file scope.table.place) scope.table.symbols
@@ -191,38 +191,38 @@ unfoldable pub is_any_of : List (List ℕ) → List ℕ → Bool
 is_any_of [] name = false
 is_any_of (other ∷ others) name = (length name == length other && starts_with nat_eq name other) || is_any_of others name
 
-abbrev pub is_guard : List ℕ → Bool
-is_guard name = is_any_of guards name
+abbrev pub is_stack_protector : List ℕ → Bool
+is_stack_protector name = is_any_of guards name
 
 -- FORTIFY: the functions of the C library that check the size of what they write, as the GNU system names them
-unfoldable pub is_checked_call : List ℕ → Bool
-is_checked_call name = starts_with nat_eq name (codes "__") && (ends_with nat_eq name (codes "_chk") && not (is_guard name))
+unfoldable pub is_fortify_call : List ℕ → Bool
+is_fortify_call name = starts_with nat_eq name (codes "__") && (ends_with nat_eq name (codes "_chk") && not (is_stack_protector name))
 
 -- how many bytes of a symbol's name are looked at: a longer one is none of those
 abbrev pub TRAIT_NAME_BYTES : ℕ
 TRAIT_NAME_BYTES = 63
 
 -- what symbols say: that one is a guard's, that one that is undefined is a checked call's
-pub record SymbolMarks : Type 0 where
+pub record SymbolTraitFlags : Type 0 where
   pub canary : Bool
   pub fortify : Bool
 
-abbrev pub no_marks : SymbolMarks
-no_marks = record { canary = false; fortify = false }
+abbrev pub no_symbol_traits : SymbolTraitFlags
+no_symbol_traits = record { canary = false; fortify = false }
 
-abbrev pub marked_by : SymbolMarks → List ℕ → Bool → SymbolMarks
+abbrev pub marked_by : SymbolTraitFlags → List ℕ → Bool → SymbolTraitFlags
 marked_by marks name undefined = record {
-  canary = marks.canary || is_guard name;
-  fortify = marks.fortify || (undefined && is_checked_call name);
+  canary = marks.canary || is_stack_protector name;
+  fortify = marks.fortify || (undefined && is_fortify_call name);
 }
 
 -- with one more symbol, which stands at an offset, by what is shown of its name
-abbrev pub marked_with_symbol : List ℕ → ℕ → SymbolMarks → Shown → SymbolMarks
+abbrev pub marked_with_symbol : List ℕ → ℕ → SymbolTraitFlags → DisplayedName → SymbolTraitFlags
 marked_with_symbol file at marks (Whole name) = marked_by marks name (st_shndx file at == SHN_UNDEF)
 marked_with_symbol file at marks (Cut front) = marks
 
 -- what so many symbols from an index on say, beside those before; a fault of a name is at the symbol
-unfoldable pub marks_from : List ℕ → Symbols → SymbolMarks → (index count : ℕ) → Result SymbolMarks Refusal
+unfoldable pub marks_from : List ℕ → Symbols → SymbolTraitFlags → (index count : ℕ) → Result SymbolTraitFlags Refusal
 marks_from file symbols marks index zero = Ok marks
 marks_from file symbols marks index (suc count) =
     let at = symbol_offset symbols index in
@@ -232,12 +232,12 @@ marks_from file symbols marks index (suc count) =
     ]
 
 -- what the symbols of a file say, all but the first, which is none (gABI 4, Symbol Table)
-unfoldable pub symbol_marks : List ℕ → Option Scope → Result SymbolMarks Refusal
-symbol_marks file None = Ok no_marks
-symbol_marks file (Some scope) = marks_from file scope.symbols no_marks 1 (hashed_symbol_count file scope - 1)
+unfoldable pub find_symbol_traits : List ℕ → Option LookupTables → Result SymbolTraitFlags Refusal
+find_symbol_traits file None = Ok no_symbol_traits
+find_symbol_traits file (Some scope) = marks_from file scope.symbols no_symbol_traits 1 (hashed_symbol_count file scope - 1)
 
 -- the traits, by the word of the features and what the symbols say
-unfoldable pub traits_with : List ℕ → ℕ → SymbolMarks → Traits
+unfoldable pub traits_with : List ℕ → ℕ → SymbolTraitFlags → Traits
 traits_with file word marks = record {
   kind = program_kind file;
   segments = segment_traits file;
@@ -253,9 +253,9 @@ traits_with file word marks = record {
 unfoldable pub loaded_traits : List ℕ → Result Traits Refusal
 loaded_traits file = elim (known_symbols file) [
   | Err refusal ↦ Err refusal
-  | Ok scope ↦ elim (feature_word file) [
+  | Ok scope ↦ elim (x86_feature_word file) [
     | Err refusal ↦ Err refusal
-    | Ok word ↦ elim (symbol_marks file scope) [
+    | Ok word ↦ elim (find_symbol_traits file scope) [
       | Err refusal ↦ Err refusal
       | Ok marks ↦ Ok (traits_with file word marks)
     ]

@@ -2,7 +2,7 @@
 -- complement exactly where its low bits, with their sign, are the value.
 use Rattle.std.specs.Prelude.{ℕ, ◌+◌, ◌-◌, ◌%◌, ◌^◌, ◌<◌, ◌≤◌, ◌≡◌, ◌↔◌, nat_lt, true, if◌then◌else◌, ℤ, pos, ◌+ℤ◌, ◌-ℤ◌, List, length, Ok}
 use Rattle.elf_model.specs.Records.{twos_complement}
-use Rattle.elf_model.specs.Values.{Terms, patch_of, modulo_2_64, is_signed}
+use Rattle.elf_model.specs.Values.{FormulaTerms, patch_of, modulo_2_64, is_signed}
 use Rattle.elf_model.specs.declared.relocation_types.RelocationType.{RelocationType}
 
 -- a sum, modulo 2^64
@@ -31,4 +31,4 @@ SignedFits =
 -- a value has as many bytes as its type's width
 abbrev pub PatchHasWidth : Type 0
 PatchHasWidth =
-    (type : RelocationType) (terms : Terms) (bytes : List ℕ) → patch_of type terms ≡ Ok bytes → length bytes ≡ type.width
+    (type : RelocationType) (terms : FormulaTerms) (bytes : List ℕ) → patch_of type terms ≡ Ok bytes → length bytes ≡ type.width

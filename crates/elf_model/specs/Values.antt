@@ -6,8 +6,8 @@ use Rattle.elf_model.specs.Bytes.{little}
 use Rattle.elf_model.specs.Numbers.{R_X86_64_NONE}
 use Rattle.elf_model.specs.declared.causes.Cause.{Cause}
 use Rattle.elf_model.specs.declared.causes.Cause.TheVariants.{Unsupported, Overflow}
-use Rattle.elf_model.specs.declared.relocation_types.Base.{Base}
-use Rattle.elf_model.specs.declared.relocation_types.Base.TheVariants.{Symbol, Linkage, Table, Thread}
+use Rattle.elf_model.specs.declared.relocation_types.RelocationBase.{RelocationBase}
+use Rattle.elf_model.specs.declared.relocation_types.RelocationBase.TheVariants.{Symbol, Linkage, Table, Thread}
 use Rattle.elf_model.specs.declared.relocation_types.Formula.{Formula}
 use Rattle.elf_model.specs.declared.relocation_types.Formula.TheVariants.{Absolute, Relative}
 use Rattle.elf_model.specs.declared.relocation_types.Range.{Range}
@@ -20,13 +20,13 @@ takes_place Absolute = false
 takes_place Relative = true
 
 -- the terms of a formula: B, A and P
-pub record Terms : Type 0 where
+pub record FormulaTerms : Type 0 where
   pub base : ℕ
   pub addend : ℤ
   pub place : ℕ
 
 -- a formula's value, as a whole number
-unfoldable pub whole : Formula → Terms → ℤ
+unfoldable pub whole : Formula → FormulaTerms → ℤ
 whole Absolute terms = pos terms.base +ℤ terms.addend
 whole Relative terms = (pos terms.base +ℤ terms.addend) -ℤ pos terms.place
 
@@ -51,7 +51,7 @@ fits_in_range Signed width value = is_signed (8 * width) value
 fits_in_range Either width value = is_unsigned (8 * width) value || is_signed (8 * width) value
 
 -- a relocation type by its width, base, formula and range
-abbrev pub kind : ℕ → Base → Formula → Range → RelocationType
+abbrev pub kind : ℕ → RelocationBase → Formula → Range → RelocationType
 kind width base formula range = record { width = width; base = base; formula = formula; range = range }
 
 -- the relocation types that store a value: R_X86_64_64, PC32, PLT32, GOTPCREL, 32, 32S, 16, 8, GOTTPOFF, PC64, GOTPCRELX,
@@ -82,27 +82,27 @@ unfoldable pub kind_of : ℕ → Option RelocationType
 kind_of n = kind_in kinds n
 
 -- a relocation type's value modulo 2^64
-abbrev pub value_of : RelocationType → Terms → ℕ
+abbrev pub value_of : RelocationType → FormulaTerms → ℕ
 value_of type terms = modulo_2_64 (whole type.formula terms)
 
 -- the value is outside the type's range
-abbrev pub overflows : RelocationType → Terms → Bool
+abbrev pub overflows : RelocationType → FormulaTerms → Bool
 overflows type terms = not (fits_in_range type.range type.width (value_of type terms))
 
 -- the bytes of the value: its low ones
-abbrev pub low_bytes : RelocationType → Terms → List ℕ
+abbrev pub low_bytes : RelocationType → FormulaTerms → List ℕ
 low_bytes type terms = little type.width (value_of type terms)
 
 -- the bytes that a relocation of a type stores, if its value is in the type's range
-unfoldable pub patch_of : RelocationType → Terms → Result (List ℕ) Cause
+unfoldable pub patch_of : RelocationType → FormulaTerms → Result (List ℕ) Cause
 patch_of type terms = elim (overflows type terms) [ true ↦ Err Overflow | false ↦ Ok (low_bytes type terms) ]
 
 -- L where a base gives it, else the other address of the symbol: S, or that of its entry
-abbrev pub address_by : Base → ℕ → ℕ → ℕ
-address_by Symbol s l = s
-address_by Linkage s l = l
-address_by Table s l = s
-address_by Thread s l = s
+abbrev pub base_address : RelocationBase → ℕ → ℕ → ℕ
+base_address Symbol s l = s
+base_address Linkage s l = l
+base_address Table s l = s
+base_address Thread s l = s
 
 -- the bytes that a relocation stores: its type's number, S or the address of the symbol's global offset table entry where
 -- the type's base gives that, L, A and P
@@ -112,6 +112,6 @@ value n s l a p =
       | true ↦ Ok []
       | false ↦ elim (kind_of n) [
         | None ↦ Err Unsupported
-        | Some type ↦ patch_of type (record { base = address_by type.base s l; addend = a; place = p })
+        | Some type ↦ patch_of type (record { base = base_address type.base s l; addend = a; place = p })
       ]
     ]

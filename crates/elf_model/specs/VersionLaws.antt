@@ -14,7 +14,7 @@ use Rattle.elf_model.specs.Style.{Style}
 use Rattle.elf_model.specs.Tables.{all_checks, entry_count}
 use Rattle.elf_model.specs.VersionCost.{has_symbol_table}
 use Rattle.elf_model.specs.VersionRows.{symbol_version_rows, symbol_versions, version_definitions, version_named, version_needs, version_strings, versioned_symbols}
-use Rattle.elf_model.specs.Versions.{VERSYM_SIZE, Met, Stand, most_records, record_size, record_checks, next_stand, met_at, met_from, name_index, no_versions, with_met, versions_in, names_number, named_by, VERSION_NUMBERS, number_in, number_word}
+use Rattle.elf_model.specs.Versions.{VERSYM_SIZE, VisitedRecord, RecordCursorState, max_records, record_size, record_checks, next_position, visited_at, visited_from, name_index, no_versions, with_visited, versions_in, names_version_index, named_by, VERSION_NUMBERS, number_in, number_word}
 use Rattle.elf_model.specs.declared.causes.Refusal.{Refusal}
 use Rattle.elf_model.specs.declared.versions.VersionKind.{VersionKind}
 
@@ -22,10 +22,10 @@ use Rattle.elf_model.specs.declared.versions.VersionKind.{VersionKind}
 abbrev pub RecordsAreBounded : Type 0
 RecordsAreBounded =
     (kind : VersionKind) (file : List ℕ) (head table size : ℕ)
-    → length (versions_in kind file head table size).met ≤ most_records kind size
+    → length (versions_in kind file head table size).met ≤ max_records kind size
 
 -- a record stands in a table at an offset and of some bytes
-pub record StandsInTable (table size : ℕ) (met : Met) : Type 0 where
+pub record StandsInTable (table size : ℕ) (met : VisitedRecord) : Type 0 where
   pub begins : table ≤ met.at
   pub ends : met.at + record_size met.kind ≤ table + size
 
@@ -42,44 +42,44 @@ NumbersAreSmall =
     → All (λ met. number_in (number_word file met) < VERSION_NUMBERS) (versions_in kind file head table size).met
 
 -- a record whose checks pass is met, and the walk goes on where it leads
-abbrev pub RecordIsMet : Type 0
-RecordIsMet =
-    (file : List ℕ) (table size : ℕ) (stand : Stand) (most : ℕ)
+abbrev pub RecordIsVisited : Type 0
+RecordIsVisited =
+    (file : List ℕ) (table size : ℕ) (stand : RecordCursorState) (most : ℕ)
     → first_refusal (record_checks file table size stand) ≡ None
-    → met_from file table size (Some stand) (suc most)
-    ≡ with_met (met_at table stand) (met_from file table size (next_stand file table stand) most)
+    → visited_from file table size (Some stand) (suc most)
+    ≡ with_visited (visited_at table stand) (visited_from file table size (next_position file table stand) most)
 
 -- at a record of which a check fails it is cut
 abbrev pub RecordIsRefused : Type 0
 RecordIsRefused =
-    (file : List ℕ) (table size : ℕ) (stand : Stand) (most : ℕ) (refusal : Refusal)
+    (file : List ℕ) (table size : ℕ) (stand : RecordCursorState) (most : ℕ) (refusal : Refusal)
     → first_refusal (record_checks file table size stand) ≡ Some refusal
-    → met_from file table size (Some stand) (suc most) ≡ no_versions (Some refusal)
+    → visited_from file table size (Some stand) (suc most) ≡ no_versions (Some refusal)
 
 -- of some records one is the first that names the version of a number
-pub record IsFirstNamed (file : List ℕ) (number : ℕ) (records : List Met) (met : Met) : Type 0 where
-  pub before : List Met
-  pub others : List Met
+pub record IsFirstNamed (file : List ℕ) (number : ℕ) (records : List VisitedRecord) (met : VisitedRecord) : Type 0 where
+  pub before : List VisitedRecord
+  pub others : List VisitedRecord
   pub parts : records ≡ before ++ met ∷ others
-  pub names : names_number file number met ≡ true
-  pub none_before : All (λ other. names_number file number other ≡ false) before
+  pub names : names_version_index file number met ≡ true
+  pub none_before : All (λ other. names_version_index file number other ≡ false) before
 
 -- the record that names the version of a number is the first that does
 abbrev pub NamedIsFirst : Type 0
 NamedIsFirst =
-    (file : List ℕ) (number : ℕ) (records : List Met) (met : Met)
+    (file : List ℕ) (number : ℕ) (records : List VisitedRecord) (met : VisitedRecord)
     → named_by file number records ≡ Some met → IsFirstNamed file number records met
 
 -- where there is none no record names it
 abbrev pub UnnamedHasNone : Type 0
 UnnamedHasNone =
-    (file : List ℕ) (number : ℕ) (records : List Met)
-    → named_by file number records ≡ None → All (λ other. names_number file number other ≡ false) records
+    (file : List ℕ) (number : ℕ) (records : List VisitedRecord)
+    → named_by file number records ≡ None → All (λ other. names_version_index file number other ≡ false) records
 
 -- the record that names a number among those of two lists: that of the first, else that of the second
 abbrev pub FirstListNamesFirst : Type 0
 FirstListNamesFirst =
-    (file : List ℕ) (number : ℕ) (first second : List Met) (met : Met)
+    (file : List ℕ) (number : ℕ) (first second : List VisitedRecord) (met : VisitedRecord)
     → named_by file number first ≡ Some met → named_by file number (first ++ second) ≡ Some met
 
 -- where every row is shown, one row for each symbol, and where these have no entry any more one that says so; entries past the last symbol have none
@@ -98,7 +98,7 @@ records_rows file style =
 -- where they have no fault, the name of each number is shown
 abbrev pub NamesOfNumbersAreShown : Type 0
 NamesOfNumbersAreShown =
-    (file : List ℕ) (style : Style) (number : ℕ) (met : Met) → fault_of (records_rows file style) ≡ None
+    (file : List ℕ) (style : Style) (number : ℕ) (met : VisitedRecord) → fault_of (records_rows file style) ≡ None
     → version_named file number ≡ Some met
     → is_ok (shown (version_strings file met.kind) (name_index file met) style.cap) ≡ true
 

@@ -1,8 +1,8 @@
 -- The rows of symbol versions: of the records of definitions and needs, and of the numbers that symbols have.
 use Rattle.std.specs.Prelude.{ℕ, ◌+◌, ◌/◌, ◌==◌, ◌||◌, min, nat_lt, not, if◌then◌else◌, List, [], ◌∷◌, ◌++◌, codes, Option, None, Some}
 use Rattle.elf_model.specs.Checks.{Check, refuse, range_checks_of, strings_checks}
-use Rattle.elf_model.specs.Fields.{Fields, LineFront, front}
-use Rattle.elf_model.specs.Fields.Field.{Decimal, Hexadecimal, Word}
+use Rattle.elf_model.specs.Fields.{Fields, LinePrefix, front}
+use Rattle.elf_model.specs.Fields.Field.{Decimal, Hexadecimal, ArgSpec}
 use Rattle.elf_model.specs.HeaderTables.{TableKind, each_entry, file_sections, first_typed}
 use Rattle.elf_model.specs.Listing.{ListingItem, Fault, VERSIONS, each}
 use Rattle.elf_model.specs.Names.{shown, name_bytes}
@@ -12,7 +12,7 @@ use Rattle.elf_model.specs.Rows.{chosen_row, no_name, refused_row}
 use Rattle.elf_model.specs.Style.{Style}
 use Rattle.elf_model.specs.Tables.{SYMBOL_SIZE, TableChecks, section_table, linked_at, strings_of, entry_count, entry_at, has_symbols, symbol_table_checks}
 use Rattle.elf_model.specs.VersionCost.{versioned_cost}
-use Rattle.elf_model.specs.Versions.{VERSYM_SIZE, DEFINITION_SIZE, DEFINED_NAME_SIZE, NEED_SIZE, Met, Versions, number_in, number_word, flags_word, hash_word, named_at, name_index, versions_in, version_of}
+use Rattle.elf_model.specs.Versions.{VERSYM_SIZE, DEFINITION_SIZE, DEFINED_NAME_SIZE, NEED_SIZE, VisitedRecord, Versions, number_in, number_word, flags_word, hash_word, named_at, name_index, versions_in, version_of}
 use Rattle.elf_model.specs.declared.causes.Cause.TheVariants.{BadLink, VersionCut, VersionIndex}
 use Rattle.elf_model.specs.declared.causes.Refusal.{Refusal}
 use Rattle.elf_model.specs.declared.formats.Format.{Format}
@@ -31,28 +31,28 @@ version_fields kind section number flags hash = record {
   letter = codes "V";
   fields =
       Decimal (codes "index") 5 section
-      ∷ Word (codes "kind") 4 (kind_text kind)
+      ∷ ArgSpec (codes "kind") 4 (kind_text kind)
       ∷ Decimal (codes "number") 5 number
       ∷ Hexadecimal (codes "flags") 4 flags
       ∷ Hexadecimal (codes "hash") 8 hash
       ∷ [];
 }
 
-unfoldable pub version_front : Format → VersionKind → (section number flags hash : ℕ) → LineFront
-version_front format kind section number flags hash =
+unfoldable pub version_prefix : Format → VersionKind → (section number flags hash : ℕ) → LinePrefix
+version_prefix format kind section number flags hash =
     front format (codes "name") (version_fields kind section number flags hash)
 
 -- the row of a met record, with its name in a string table
-unfoldable pub version_row : List ℕ → Style → (section : ℕ) → (strings : List ℕ) → Met → List ListingItem
+unfoldable pub version_row : List ℕ → Style → (section : ℕ) → (strings : List ℕ) → VisitedRecord → List ListingItem
 version_row file style section strings met =
-    chosen_row style.choice (version_front style.format met.kind section (number_word file met) (flags_word file met) (hash_word file met))
+    chosen_row style.choice (version_prefix style.format met.kind section (number_word file met) (flags_word file met) (hash_word file met))
     (named_at file met) (shown strings (name_index file met) style.cap)
 
 -- the rows of met records
-unfoldable pub met_rows : List ℕ → Style → (section : ℕ) → (strings : List ℕ) → List Met → List ListingItem
-met_rows file style section strings [] = []
-met_rows file style section strings (met ∷ others) =
-    version_row file style section strings met ++ met_rows file style section strings others
+unfoldable pub visited_rows : List ℕ → Style → (section : ℕ) → (strings : List ℕ) → List VisitedRecord → List ListingItem
+visited_rows file style section strings [] = []
+visited_rows file style section strings (met ∷ others) =
+    version_row file style section strings met ++ visited_rows file style section strings others
 
 -- the end of a walk: the refusal of what is no record, if there is one
 abbrev pub end_rows : Option Refusal → List ListingItem
@@ -67,21 +67,21 @@ section_versions kind file at = versions_in kind file at (sh_offset file at) (sh
 unfoldable pub versions_rows : VersionKind → List ℕ → Style → ℕ → ℕ → List ListingItem
 versions_rows kind file style section at =
     let versions = section_versions kind file at in
-    met_rows file style section (strings_of file at) versions.met ++ end_rows versions.cut
+    visited_rows file style section (strings_of file at) versions.met ++ end_rows versions.cut
 
 -- the first section of a type in a file
 abbrev pub first_of_type : List ℕ → ℕ → Option ℕ
 first_of_type file type = first_typed (file_sections file) type
 
 -- the records of the first section of a type, none where there is no such section
-abbrev pub first_versions : VersionKind → ℕ → List ℕ → List Met
+abbrev pub first_versions : VersionKind → ℕ → List ℕ → List VisitedRecord
 first_versions kind type file = elim (first_of_type file type) [
   | None ↦ []
   | Some i ↦ (section_versions kind file (section_at file i)).met
 ]
 
 -- the record that names the version of a number in a file: by the first section of definitions, else by the first of needs
-unfoldable pub version_named : List ℕ → ℕ → Option Met
+unfoldable pub version_named : List ℕ → ℕ → Option VisitedRecord
 version_named file number =
     version_of file (first_versions Definition SHT_GNU_VERDEF file) (first_versions File SHT_GNU_VERNEED file) number
 
@@ -107,16 +107,16 @@ symbol_version_fields section index word = record {
       Decimal (codes "table") 5 section
       ∷ Decimal (codes "index") 10 index
       ∷ Decimal (codes "number") 5 (number_in word)
-      ∷ Word (codes "hidden") 1 (if word == number_in word then codes "-" else codes "H")
+      ∷ ArgSpec (codes "hidden") 1 (if word == number_in word then codes "-" else codes "H")
       ∷ [];
 }
 
-unfoldable pub symbol_version_front : Format → (section index word : ℕ) → LineFront
-symbol_version_front format section index word = front format (codes "name") (symbol_version_fields section index word)
+unfoldable pub symbol_version_prefix : Format → (section index word : ℕ) → LinePrefix
+symbol_version_prefix format section index word = front format (codes "name") (symbol_version_fields section index word)
 
 -- the row of a version of a number, which an entry at an offset holds: a number that a record names has its name, 0 and 1 have
 -- none, and any other is refused at the entry
-unfoldable pub numbered_row : List ℕ → Style → (front : LineFront) → (entry_at number : ℕ) → List ListingItem
+unfoldable pub numbered_row : List ℕ → Style → (front : LinePrefix) → (entry_at number : ℕ) → List ListingItem
 numbered_row file style front entry_at number =
     if nat_lt number 2 then chosen_row style.choice front entry_at no_name
     else elim (version_named file number) [
@@ -129,7 +129,7 @@ unfoldable pub symbol_version_row : List ℕ → Style → (section at : ℕ) �
 symbol_version_row file style section at index =
     let entry_at = entry_at file at VERSYM_SIZE index in
     let word = versym file entry_at in
-    numbered_row file style (symbol_version_front style.format section index word) entry_at (number_in word)
+    numbered_row file style (symbol_version_prefix style.format section index word) entry_at (number_in word)
 
 -- how many symbols the table has to which a section of version numbers links
 abbrev pub versioned_symbols : List ℕ → ℕ → ℕ

@@ -2,7 +2,7 @@
 ghost use Rattle.elf_model.specs.ArchiveLaws.{ArchiveCostIsWithinCeiling, DataLieInTheFile};
 
 /// The data of a member stand behind its header and end within the file.
-#[tactic(auto, using(crate::proofs::ArchiveCosts::data_lie))]
+#[tactic(auto, using(crate::proofs::ArchiveCosts::data_in_bounds))]
 pub fn data_lie_in_the_file()
     ensures { DataLieInTheFile }
 {}

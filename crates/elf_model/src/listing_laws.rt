@@ -1,5 +1,5 @@
 //! The laws of listings.
-ghost use Rattle.elf_model.specs.ListingLaws.{LastRowIsLast, RowsSplit, HeaderAloneIsListed, HeaderFaultIsListedAlone, LoadFaultIsListedSecond, NothingBehindTheFault, ListingsAppend, OtherBitsMeanNothing, AmpleBudgetIsReport};
+ghost use Rattle.elf_model.specs.ListingLaws.{LastRowIsLast, RowsSplit, HeaderAloneIsListed, HeaderFaultIsListedAlone, LoadFaultIsListedSecond, NothingAfterTheFault, ListingsAppend, OtherBitsMeanNothing, AmpleBudgetIsReport};
 
 /// The last row of so many stands behind the others.
 pub fn last_row_is_last()
@@ -27,8 +27,8 @@ pub fn load_fault_is_listed_second()
 {}
 
 /// What stands behind the first fault of a listing is not shown.
-pub fn nothing_behind_the_fault()
-    ensures { NothingBehindTheFault }
+pub fn nothing_after_the_fault()
+    ensures { NothingAfterTheFault }
 {}
 
 /// Two listings one behind the other, the first without a fault.

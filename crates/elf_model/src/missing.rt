@@ -1,5 +1,5 @@
 //! What a layout lacks.
-use crate::relocation_types::Base;
+use crate::relocation_types::RelocationBase;
 
 /// An address that a layout may have.
 #[derive(Clone, Copy)]
@@ -7,7 +7,7 @@ pub enum LayoutAddress {
     /// That of the section of an index.
     Place(u16),
     /// That which a base tells of a symbol's name.
-    Named(Base),
+    Named(RelocationBase),
     /// That of the procedure linkage table entry of a symbol's name, where no definition would do.
     Entry,
 }

@@ -2,7 +2,7 @@
 
 /// Which address of a symbol a relocation type's formula begins with (x86-64 psABI, Relocation).
 #[derive(Clone, Copy)]
-pub enum Base {
+pub enum RelocationBase {
     /// S, the symbol's value.
     Symbol,
     /// L, the address of its procedure linkage table entry.
@@ -42,7 +42,7 @@ pub struct RelocationType {
     /// How many bytes it changes: 1, 2, 4 or 8.
     pub width: u32,
     /// Which address of the symbol its formula begins with.
-    pub base: Base,
+    pub base: RelocationBase,
     /// How its value is calculated.
     pub formula: Formula,
     /// Which values it takes.

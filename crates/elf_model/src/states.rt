@@ -5,7 +5,7 @@ use crate::causes::Refusal;
 ///
 /// Each has a word of its own in a check's line.
 #[derive(Clone, Copy)]
-pub enum FileState {
+pub enum FileStatus {
     /// Its listing has no fault.
     Ok,
     /// Its listing ends in this refusal.
@@ -20,7 +20,7 @@ pub enum FileState {
 
 /// What a file among many is, by its first bytes.
 #[derive(Clone, Copy)]
-pub enum FileSort {
+pub enum FileMagic {
     /// An ELF file.
     Elf,
     /// An archive, where archives are gone into.

@@ -1,5 +1,5 @@
 //! The laws of a file whose header tells of no section headers.
-ghost use Rattle.elf_model.specs.StyleLaws.{ViewIsAsLong, ViewIsSeenInSlices, ViewIsTheFileBehindTheHeader};
+ghost use Rattle.elf_model.specs.StyleLaws.{ViewIsAsLong, ViewIsSeenInSlices, ViewIsTheFileAfterTheHeader};
 ghost use Rattle.elf_model.specs.StyleLaws.{ViewIsTheFileElsewhere, ViewTellsOfNone, ViewIsCheckedAlike, ViewIsItsOwnView};
 
 /// It is as long as the file.
@@ -14,9 +14,9 @@ pub fn view_is_seen_in_slices()
 {}
 
 /// Behind the file header its bytes are the file's.
-#[tactic(auto, using(crate::proofs::StyleLemmas::view_behind))]
-pub fn view_is_the_file_behind_the_header()
-    ensures { ViewIsTheFileBehindTheHeader }
+#[tactic(auto, using(crate::proofs::StyleLemmas::view_after))]
+pub fn view_is_the_file_after_the_header()
+    ensures { ViewIsTheFileAfterTheHeader }
 {}
 
 /// Before e_shoff, and between that and e_shnum, its bytes are the file's.

@@ -1,5 +1,5 @@
 //! The laws of symbol versions.
-ghost use Rattle.elf_model.specs.VersionLaws.{RecordsAreBounded, RecordsStand, NumbersAreSmall, RecordIsMet, RecordIsRefused, NamedIsFirst, UnnamedHasNone, FirstListNamesFirst, RowsAreSymbols, NamesOfNumbersAreShown, CheckedRowsAreCounted};
+ghost use Rattle.elf_model.specs.VersionLaws.{RecordsAreBounded, RecordsStand, NumbersAreSmall, RecordIsVisited, RecordIsRefused, NamedIsFirst, UnnamedHasNone, FirstListNamesFirst, RowsAreSymbols, NamesOfNumbersAreShown, CheckedRowsAreCounted};
 
 /// No more records are met than could stand in the table one behind the other.
 #[tactic(auto, using(crate::proofs::VersionLaws::records_are_bounded))]
@@ -20,9 +20,9 @@ pub fn numbers_are_small()
 {}
 
 /// A record whose checks pass is met, and the walk goes on where it leads.
-#[tactic(auto, using(crate::proofs::VersionSteps::record_is_met))]
-pub fn record_is_met()
-    ensures { RecordIsMet }
+#[tactic(auto, using(crate::proofs::VersionSteps::record_is_visited))]
+pub fn record_is_visited()
+    ensures { RecordIsVisited }
 {}
 
 /// At a record of which a check fails the walk is cut.

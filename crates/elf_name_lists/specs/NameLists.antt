@@ -2,7 +2,7 @@
 use Rattle.std.specs.Prelude.{ℕ, Bool, true, ◌≡◌, ◌≤◌, ◌<◌, ◌+◌, ◌==◌, ⊤, nat_lt, List, [], length, filter, All, Option, None, Some, Result, Ok, Err}
 use Rattle.std.specs.Borrow.{Bor}
 use Rattle.std.specs.List.{slice_split}
-use Rattle.elf_model.specs.Loader.{is_complete, wanted_of}
+use Rattle.elf_model.specs.Loader.{is_complete, parse_query}
 use Rattle.elf_model.specs.NameLaws.{IsWanted}
 use Rattle.elf_name_lists.specs.declared.NamesFault.{NamesFault}
 use Rattle.elf_name_lists.specs.declared.NamesFault.TheVariants.{Read, TooLarge, BadName, Memory}
@@ -21,7 +21,7 @@ listed_names text = line_names (text_lines text)
 
 -- bytes are a name that can be looked for: 1 to 4,096 of them, none NUL; and where a name may have a version, neither is empty
 abbrev pub IsRowName : (versions : Bool) → List ℕ → Type 0
-IsRowName versions bytes = IsWanted bytes × (length bytes ≤ 4096) × (versions ≡ true → is_complete (wanted_of bytes) ≡ true)
+IsRowName versions bytes = IsWanted bytes × (length bytes ≤ 4096) × (versions ≡ true → is_complete (parse_query bytes) ≡ true)
 
 -- the text of a list is the whole file, which has no more than 67,108,864 bytes
 abbrev pub IsListText : (file text : List ℕ) → Result (Unit {0}) NamesFault → Type 0
@@ -38,11 +38,11 @@ IsNoNames versions names Memory = ⊤
 IsNoNames versions names _ = ⊥
 
 -- the lines of what is left of a text; where none is left there is none
-abbrev pub behind_lines : Option (Bor (List ℕ)) → List (List ℕ)
-behind_lines None = []
-behind_lines (Some text) = text_lines text.now
+abbrev pub after_lines : Option (Bor (List ℕ)) → List (List ℕ)
+after_lines None = []
+after_lines (Some text) = text_lines text.now
 
 -- how many bytes are left of a text, with one for its end
-abbrev pub behind_bytes : Option (Bor (List ℕ)) → ℕ
-behind_bytes None = 0
-behind_bytes (Some text) = length text.now + 1
+abbrev pub after_bytes : Option (Bor (List ℕ)) → ℕ
+after_bytes None = 0
+after_bytes (Some text) = length text.now + 1

@@ -3,13 +3,13 @@ ghost use Rattle.std.specs.Prelude.{◌≡◌, ◌++◌, ◌∷◌, [], All, IfE
 ghost use Rattle.std.specs.Prelude.{is_some};
 ghost use Rattle.std.specs.List.Sorted.{IsPermutation};
 ghost use Rattle.elf_model.specs.Names.{nul_in};
-ghost use Rattle.elf_wanted.specs.Names.{NeverFall, texts_of};
+ghost use Rattle.elf_wanted.specs.Names.{NeverDescend, texts_of};
 ghost use Rattle.elf_name_lists.specs.NameLists.{IsNoNames, IsRowName, listed_names, line_names};
 ghost use Rattle.elf_name_lists.specs.declared.NamesFault.TheVariants.{Memory};
 
 use crate::NamesFault;
 use crate::lines::first_line;
-use elf_wanted::{sort_texts, wanted_of};
+use elf_wanted::{parse_query, sort_strings};
 use memchr::memchr;
 use std::alloc::Global;
 
@@ -21,7 +21,7 @@ const MOST_BYTES: usize = 4_096;
 /// carriage return is a byte like others.
 ///
 /// # Errors
-/// `BadName` where a line of the list can't be looked for ([`is_row_name`], by whether a name may have a
+/// `BadName` where a line of the list can't be looked for ([`is_valid_row_name`], by whether a name may have a
 /// version); `Memory` where there is none for the names.
 pub fn gather_names<'a>(
     alloc: Global,
@@ -31,14 +31,14 @@ pub fn gather_names<'a>(
 ) -> Result<Vec<&'a [u8]>, NamesFault>
     ensures names { IfOk result (λ names.
         IsPermutation (texts_of words.now ++ listed_names list.now) (texts_of names.items)) }
-    ensures sorted { IfOk result (λ names. NeverFall names.items) }
+    ensures sorted { IfOk result (λ names. NeverDescend names.items) }
     ensures each { IfOk result (λ _. All (IsRowName versions) (listed_names list.now)) }
     ensures refused { IfErr result (IsNoNames versions (listed_names list.now)) }
 {
     let mut names = Vec::new(alloc);
     push_words(&mut names, words)?;
     push_lines(&mut names, list, versions)?;
-    sort_texts(&mut names);
+    sort_strings(&mut names);
     Ok(names)
 }
 
@@ -99,7 +99,7 @@ fn push_line<'a>(
     if line.is_empty() {
         return Ok(());
     }
-    if !is_row_name(line, versions) {
+    if !is_valid_row_name(line, versions) {
         return Err(NamesFault::BadName);
     }
     match names.push(line) {
@@ -110,14 +110,14 @@ fn push_line<'a>(
 
 /// Whether bytes are a name that can be looked for: 1 to 4,096 of them, none NUL; and where a name may
 /// have a version, as NAME@VERSION or NAME@@VERSION, neither of them empty.
-pub fn is_row_name(bytes: &[u8], versions: bool) -> bool
+pub fn is_valid_row_name(bytes: &[u8], versions: bool) -> bool
     ensures yes { result ≡ true → IsRowName versions bytes.now }
     ensures no { result ≡ false → IsRowName versions bytes.now → ⊥ }
 {
     if bytes.is_empty() || bytes.len() > MOST_BYTES || has_nul(bytes) {
         return false;
     }
-    !versions || wanted_of(bytes).is_complete()
+    !versions || parse_query(bytes).is_complete()
 }
 
 /// Whether one of these bytes is NUL.

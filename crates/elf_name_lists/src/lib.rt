@@ -7,9 +7,9 @@ mod lines;
 mod reading;
 mod styles;
 
-pub use gathering::{gather_names, is_row_name};
+pub use gathering::{gather_names, is_valid_row_name};
 pub use reading::read_names;
-pub use styles::style_by_names;
+pub use styles::style_with_names;
 
 /// Why there are no names.
 #[derive(Clone, Copy, PartialEq)]

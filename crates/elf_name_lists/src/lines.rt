@@ -1,12 +1,12 @@
 //! The lines of a text, which newlines part.
 ghost use Rattle.std.specs.Prelude.{◌≡◌, ◌<◌, ◌+◌, ◌∷◌, length};
-ghost use Rattle.elf_name_lists.specs.NameLists.{behind_bytes, behind_lines, text_lines};
+ghost use Rattle.elf_name_lists.specs.NameLists.{after_bytes, after_lines, text_lines};
 
 use memchr::memchr;
 
 /// A line, and what stands behind the newline that ends it, if one does.
 #[derive(Clone, Copy)]
-pub(crate) struct Line<'a> {
+pub(crate) struct SplitLine<'a> {
     /// The line, without its newline.
     pub text: &'a [u8],
     /// What stands behind it.
@@ -14,15 +14,15 @@ pub(crate) struct Line<'a> {
 }
 
 /// The first line of a text.
-pub(crate) fn first_line(text: &[u8]) -> Line<'_>
-    ensures lines { text_lines text.now ≡ result.text.now ∷ behind_lines result.behind }
-    ensures less { behind_bytes result.behind < length text.now + 1 }
+pub(crate) fn first_line(text: &[u8]) -> SplitLine<'_>
+    ensures lines { text_lines text.now ≡ result.text.now ∷ after_lines result.behind }
+    ensures less { after_bytes result.behind < length text.now + 1 }
 {
     match memchr(b'\n', text) {
-        Some(end) => Line {
+        Some(end) => SplitLine {
             text: &text[..end],
             behind: Some(&text[end + 1..]),
         },
-        None => Line { text, behind: None },
+        None => SplitLine { text, behind: None },
     }
 }

@@ -1,18 +1,18 @@
 //! How rows are shown by names.
 ghost use Rattle.std.specs.Prelude.{◌≡◌};
 ghost use Rattle.elf_headers.specs.Permitted.{style_of};
-ghost use Rattle.elf_wanted.specs.Names.{NeverFall, texts_of};
+ghost use Rattle.elf_wanted.specs.Names.{NeverDescend, texts_of};
 ghost use Rattle.elf_name_lists.specs.NamedRows.{least_cap, named_cap, named_style};
 
-use elf_headers::{Cap, Style};
-use elf_wanted::{RowChoice, SortedTexts};
+use elf_headers::{NameLimit, Style};
+use elf_wanted::{RowFilter, SortedStrings};
 
 /// How rows are shown of which those alone stand whose name, with its version, is what one of these texts
 /// asks for, which are in the rising order of their bytes: as `style` has it, but that as many bytes of a
 /// name are looked at as the longest text has, 1 to 4,096; and where versions stand behind names, no
 /// fewer than `style` shows. Where they do, a text may ask for a version.
-pub fn style_by_names<'n>(style: Style<'_>, names: &'n [&'n [u8]]) -> Style<'n>
-    requires { NeverFall names.now }
+pub fn style_with_names<'n>(style: Style<'_>, names: &'n [&'n [u8]]) -> Style<'n>
+    requires { NeverDescend names.now }
     ensures { style_of result ≡ named_style (texts_of names.now) (style_of style.entry) }
 {
     Style {
@@ -20,26 +20,30 @@ pub fn style_by_names<'n>(style: Style<'_>, names: &'n [&'n [u8]]) -> Style<'n>
         gnu: style.gnu,
         by_segments: style.by_segments,
         format: style.format,
-        choice: RowChoice::rows_of(names, style.versions),
+        choice: RowFilter::rows_of(names, style.versions),
         versions: style.versions,
     }
 }
 
 /// How many bytes of a name are looked at at least.
-fn least_cap(versions: bool, cap: Cap) -> Cap
+fn least_cap(versions: bool, cap: NameLimit) -> NameLimit
     ensures { result.bytes ≡ least_cap versions cap.bytes }
 {
-    if versions { cap } else { Cap { bytes: 1 } }
+    if versions {
+        cap
+    } else {
+        NameLimit { bytes: 1 }
+    }
 }
 
 /// How many bytes of a name are looked at for these texts, and so many at least.
-fn cap_of(names: &[&[u8]], least: Cap) -> Cap
-    requires { NeverFall names.now }
+fn cap_of(names: &[&[u8]], least: NameLimit) -> NameLimit
+    requires { NeverDescend names.now }
     ensures { result.bytes ≡ named_cap (texts_of names.now) least.bytes }
 {
-    let longest = SortedTexts::new(names).longest();
+    let longest = SortedStrings::new(names).longest();
     let bytes = longest.max(usize::from(least.bytes)).min(4_096);
-    Cap {
+    NameLimit {
         bytes: bytes as u16,
     }
 }

@@ -7,12 +7,12 @@ ghost use Rattle.elf_record.specs.Sym.{IsSym};
 ghost use Rattle.elf_table.specs.Cursors.{row_at};
 ghost use Rattle.elf_headers.specs.Faults.{IsOfRead};
 ghost use Rattle.elf_table.specs.NamesRead.{NameRead, Searched};
-ghost use Rattle.elf_table.specs.Tables.{RowsWithin, StringsWithin, strings_in};
+ghost use Rattle.elf_table.specs.Tables.{TableInBounds, StringsInBounds, strings_in};
 ghost use Rattle.elf_names.specs.Ahead.{LosesAt, ReadsAhead, WhereAgrees};
 
 use crate::name_index::NameIndex;
-use crate::stretch::Stretch;
-use elf_headers::{Cap, Fault, refused};
+use crate::stretch::ReadBuffer;
+use elf_headers::{Fault, NameLimit, refused};
 use elf_record::sizes::SYMBOL_BYTES;
 use elf_record::{Cause, Sym};
 use elf_source::{Counted, Source};
@@ -32,15 +32,15 @@ const PIECE: u64 = 64;
 /// for no more than they may.
 #[derive(Drop)]
 pub struct ReadAhead {
-    names: Stretch<NAMES_BYTES>,
-    symbols: Stretch<SYMBOLS_BYTES>,
+    names: ReadBuffer<NAMES_BYTES>,
+    symbols: ReadBuffer<SYMBOLS_BYTES>,
     credit: u64,
 }
 
 impl Model for ReadAhead {
-    ghost use Rattle.elf_names.specs.Ahead.{HeldAhead};
+    ghost use Rattle.elf_names.specs.Ahead.{ReadAheadState};
 
-    ghost Value = { HeldAhead };
+    ghost Value = { ReadAheadState };
 
     ghost view = { λ r. record { names = r.names; symbols = r.symbols; credit = r.credit } };
 }
@@ -51,8 +51,8 @@ impl ReadAhead {
         ensures { (result.names.bytes ≡ []) × (result.symbols.bytes ≡ []) × (result.credit ≡ 0) }
     {
         ReadAhead {
-            names: Stretch::new(PIECE),
-            symbols: Stretch::new(SYMBOL_BYTES),
+            names: ReadBuffer::new(PIECE),
+            symbols: ReadBuffer::new(SYMBOL_BYTES),
             credit: 0,
         }
     }
@@ -73,10 +73,10 @@ impl ReadAhead {
         &mut self,
         src: &mut Counted<S>,
         index: NameIndex,
-        cap: Cap,
+        cap: NameLimit,
         name: &mut NameBuf,
     ) -> Result<NameEnd, Fault>
-        requires { StringsWithin src.old.seen.size index.names }
+        requires { StringsInBounds src.old.seen.size index.names }
         ensures ahead { ReadsAhead src.old src.new self.old self.new result (name_bytes cap.bytes)
             (index.names.size - index.off) }
         ensures forgets { IfErr result (λ fault. IsOfRead fault → self.new.names.bytes ≡ []) }
@@ -117,7 +117,7 @@ impl ReadAhead {
         index: u64,
     ) -> Result<Sym, Fault>
         requires row { (table.now.entry ≡ 24) × (index < table.now.count) }
-        requires within { RowsWithin src.old.seen.size table.now }
+        requires within { TableInBounds src.old.seen.size table.now }
         ensures ahead { ReadsAhead src.old src.new self.old self.new result 24
             ((table.now.count - index) * 24) }
         ensures loses { IfErr result (LosesAt (row_at table.now index) self.new.symbols) }
@@ -139,12 +139,12 @@ impl ReadAhead {
         src: &mut Counted<S>,
         index: NameIndex,
         want: u64,
-        cap: Cap,
+        cap: NameLimit,
         name: &mut NameBuf,
     ) -> Result<bool, Fault>
         requires empty { name.old ≡ [] }
         requires few { (index.off + want ≤ index.names.size) × (want ≤ self.old.credit) }
-        requires within { StringsWithin src.old.seen.size index.names }
+        requires within { StringsInBounds src.old.seen.size index.names }
         ensures ahead { ReadsAhead src.old src.new self.old self.new result 0
             (index.names.size - index.off) }
         ensures loses { IfErr result (λ fault. IsOfRead fault × (self.new.names.bytes ≡ [])) }
@@ -178,7 +178,7 @@ fn whole(bytes: &[u8]) -> &[u8; 24]
 }
 
 // What a name may ask for, in whole pieces of 64 bytes.
-fn name_cost(cap: Cap) -> u64
+fn name_cost(cap: NameLimit) -> u64
     ensures value { result ≡ name_bytes cap.bytes }
     ensures enough { cap.bytes + 1 ≤ result }
 {

@@ -15,7 +15,7 @@ const NEAR: u64 = 64;
 /// there is room, where that one served: where bytes were found in the stretch, or those now wanted
 /// stand right behind it.
 #[derive(Drop)]
-pub(crate) struct Stretch<const N: usize> {
+pub(crate) struct ReadBuffer<const N: usize> {
     at: u64,
     held: u64,
     few: u64,
@@ -24,11 +24,11 @@ pub(crate) struct Stretch<const N: usize> {
     bytes: [u8; N],
 }
 
-impl<const N: usize> Model for Stretch<N> {
+impl<const N: usize> Model for ReadBuffer<N> {
     ghost use Rattle.std.specs.Prelude.{◌+◌, ◌^◌, ◌<◌, ◌≤◌, take};
-    ghost use Rattle.elf_names.specs.Ahead.{HeldStretch};
+    ghost use Rattle.elf_names.specs.Ahead.{BufferedRange};
 
-    ghost Value = { HeldStretch };
+    ghost Value = { BufferedRange };
 
     ghost view = { λ s. record { at = s.at; bytes = take s.held s.bytes } };
 
@@ -36,13 +36,13 @@ impl<const N: usize> Model for Stretch<N> {
         × (s.at + s.held < 2 ^ 64) };
 }
 
-impl<const N: usize> Stretch<N> {
+impl<const N: usize> ReadBuffer<N> {
     /// A stretch of no bytes. A read where bytes are wanted that don't follow takes `few`.
-    pub(crate) fn new(few: u64) -> Stretch<N>
+    pub(crate) fn new(few: u64) -> ReadBuffer<N>
         requires { (few ≤ N) × (N ≤ 4096) }
         ensures { result.bytes ≡ [] }
     {
-        Stretch {
+        ReadBuffer {
             at: 0,
             held: 0,
             few,

@@ -3,41 +3,41 @@ use Rattle.std.proofs.Common.{◌≡◌, ℕ, zero, suc, ◌+◌, ◌<◌, ◌�
 use Rattle.std.proofs.lemmas.Bool.{cases_eq, cases_lt}
 use Rattle.std.proofs.lemmas.List.Sums.{sum_by-set}
 use Rattle.elf_model.specs.Loader.{Wanted}
-use Rattle.elf_source.specs.Source.{Counting}
+use Rattle.elf_source.specs.Source.{CountedState}
 use Rattle.elf_headers.specs.declared.fault.Fault.{Fault}
 use Rattle.elf_headers.specs.declared.fault.Fault.TheVariants.{Refused, Source}
-use Rattle.elf_binding.specs.Binds.{AreObjectsOf, AskedFirst, Binds, asked_of_all, reached}
-use Rattle.elf_binding.specs.Kept.{KeptObject}
-use Rattle.elf_binding.specs.Looks.{FailsIn, FaultLeaves, Pays, Spends}
+use Rattle.elf_binding.specs.Binds.{AreObjectFiles, AskedFirst, BindsAcross, asked_of_all, reached}
+use Rattle.elf_binding.specs.Kept.{LookupObjectState}
+use Rattle.elf_binding.specs.Looks.{FailsIn, FaultLeaves, SpendsBudget, SpendsAtMost}
 use Rattle.elf_binding.proofs.OpenLaws.{pays_then}
-use Rattle.elf_binding.specs.declared.binding.Blame.{Blame}
-use Rattle.elf_binding.specs.declared.binding.BoundName.{BoundName}
+use Rattle.elf_binding.specs.declared.binding.BindFault.{BindFault}
+use Rattle.elf_binding.specs.declared.binding.BindResult.{BindResult}
 use Rattle.elf_needs.specs.Bound.{AsksAll, IsLimited, OnlyLimited, SameObject}
 
-same_none : (o : KeptObject) → SameObject o o
+same_none : (o : LookupObjectState) → SameObject o o
 same_none o = record { same_file = refl; same_headers = refl; grows = omega arith }
 
-same_element : (xs : List KeptObject) (n : ℕ) (d e : KeptObject) → n < length xs → get_or xs n d ≡ get_or xs n e
+same_element : (xs : List LookupObjectState) (n : ℕ) (d e : LookupObjectState) → n < length xs → get_or xs n d ≡ get_or xs n e
 same_element [] n d e less = absurd (omega (arith, less))
 same_element (x ∷ xs) zero d e less = refl
 same_element (x ∷ xs) (suc n) d e less = same_element xs n d e (omega (arith, less))
 
-pays_none : (left : Option ℕ) (asked : ℕ) → Pays left left asked asked
+pays_none : (left : Option ℕ) (asked : ℕ) → SpendsBudget left left asked asked
 pays_none None asked = tt
 pays_none (Some bytes) asked = refl
 
-pays_one : (l0 l1 : Option ℕ) (one more all next : ℕ) → Pays l0 l1 one more → next + one ≡ all + more → Pays l0 l1 all next
+pays_one : (l0 l1 : Option ℕ) (one more all next : ℕ) → SpendsBudget l0 l1 one more → next + one ≡ all + more → SpendsBudget l0 l1 all next
 pays_one None None one more all next p same = tt
 pays_one (Some l0) (Some l1) one more all next p same = omega (arith, p, same)
 pays_one None (Some l1) one more all next p same = absurd p
 pays_one (Some l0) None one more all next p same = absurd p
 
 -- nothing was asked for
-pub asks_none : (objects : List KeptObject) (left : Option ℕ) → AsksAll objects objects left left
+pub asks_none : (objects : List LookupObjectState) (left : Option ℕ) → AsksAll objects objects left left
 asks_none objects left = record { objects = record { same_length = refl; each = λ k d less. same_none (get_or objects k d) }; pays = pays_none left (asked_of_all objects) }
 
 -- and then more
-pub asks_then : {a b c : List KeptObject} {l0 l1 l2 : Option ℕ} → AsksAll a b l0 l1 → AsksAll b c l1 l2 → AsksAll a c l0 l2
+pub asks_then : {a b c : List LookupObjectState} {l0 l1 l2 : Option ℕ} → AsksAll a b l0 l1 → AsksAll b c l1 l2 → AsksAll a c l0 l2
 asks_then {a} {b} {c} {l0} {l1} {l2} p q = record {
   objects = record {
     same_length = q.objects.same_length ∙ p.objects.same_length;
@@ -54,28 +54,28 @@ asks_then {a} {b} {c} {l0} {l1} {l2} p q = record {
 }
 
 -- one object was asked
-module _ (objects : List KeptObject) (n : ℕ) (d new : KeptObject) (less : n < length objects) where
-  one_same : SameObject (get_or objects n d) new → (k : ℕ) (e : KeptObject) → k < length objects → (k ≡ n) ⊎ (k ≡ n → ⊥) → SameObject (get_or objects k e) (get_or (set objects n new) k e)
+module _ (objects : List LookupObjectState) (n : ℕ) (d new : LookupObjectState) (less : n < length objects) where
+  one_same : SameObject (get_or objects n d) new → (k : ℕ) (e : LookupObjectState) → k < length objects → (k ≡ n) ⊎ (k ≡ n → ⊥) → SameObject (get_or objects k e) (get_or (set objects n new) k e)
   one_same same k e low (inl at) = rw (at, get_or-set_same objects n new e less, same_element objects n e d less) same
   one_same same k e low (inr other) = rw (get_or-set_other objects n k new e other) (same_none (get_or objects k e))
 
-  pub asks_one : {l0 l1 : Option ℕ} → SameObject (get_or objects n d) new → Pays l0 l1 (get_or objects n d).src.asked new.src.asked → AsksAll objects (set objects n new) l0 l1
+  pub asks_one : {l0 l1 : Option ℕ} → SameObject (get_or objects n d) new → SpendsBudget l0 l1 (get_or objects n d).src.asked new.src.asked → AsksAll objects (set objects n new) l0 l1
   asks_one {l0} {l1} same pays = record {
     objects = record { same_length = length-set objects n new; each = λ k e low. one_same same k e low (cases_eq k n) };
-    pays = pays_one l0 l1 _ _ _ _ pays (sum_by-set (λ (o : KeptObject). o.src.asked) objects n new d less);
+    pays = pays_one l0 l1 _ _ _ _ pays (sum_by-set (λ (o : LookupObjectState). o.src.asked) objects n new d less);
   }
 
 -- by what it spent
-pub spends_same : {old new : KeptObject} {left : Option ℕ} {stop : Option Fault} {n : ℕ} → Spends old.src new.src left stop n → new.headers ≡ old.headers → SameObject old new
+pub spends_same : {old new : LookupObjectState} {left : Option ℕ} {stop : Option Fault} {n : ℕ} → SpendsAtMost old.src new.src left stop n → new.headers ≡ old.headers → SameObject old new
 spends_same spends headers = record { same_file = spends.keeps.same_file; same_headers = headers; grows = spends.grows }
 
 -- some were looked in
-module _ (wanted : Wanted) (old new : List KeptObject) (n : ℕ) (first : AskedFirst wanted old new n) where
-  first_same : (k : ℕ) (d : KeptObject) → (k < n) ⊎ (n ≤ k) → SameObject (get_or old k d) (get_or new k d)
+module _ (wanted : Wanted) (old new : List LookupObjectState) (n : ℕ) (first : AskedFirst wanted old new n) where
+  first_same : (k : ℕ) (d : LookupObjectState) → (k < n) ⊎ (n ≤ k) → SameObject (get_or old k d) (get_or new k d)
   first_same k d (inl low) = let asked = first.asked k d low in record { same_file = asked.keeps.same_file; same_headers = asked.same_headers; grows = asked.grows }
   first_same k d (inr past) = rw (first.others k d past) (same_none (get_or old k d))
 
-pub asks_bind : {wanted : Wanted} {old new : List KeptObject} {l0 l1 : Option ℕ} {result : Result BoundName Blame} → Binds wanted old new l0 l1 result → AsksAll old new l0 l1
+pub asks_bind : {wanted : Wanted} {old new : List LookupObjectState} {l0 l1 : Option ℕ} {result : Result BindResult BindFault} → BindsAcross wanted old new l0 l1 result → AsksAll old new l0 l1
 asks_bind {wanted} {old} {new} {l0} {l1} {result} binds = record {
   objects = record {
     same_length = binds.asked.same_length;
@@ -88,41 +88,41 @@ asks_bind {wanted} {old} {new} {l0} {l1} {result} binds = record {
 limited_by : (left : Option ℕ) (bytes : ℕ) → left ≡ Some bytes → IsLimited left
 limited_by left bytes is = rw is tt
 
-pub limited_of : (old new : Counting) (left : Option ℕ) (n : ℕ) (fault : Fault) → FaultLeaves old new left n fault → OnlyLimited left fault
+pub limited_of : (old new : CountedState) (left : Option ℕ) (n : ℕ) (fault : Fault) → FaultLeaves old new left n fault → OnlyLimited left fault
 limited_of old new left n (Refused refusal) says = λ budget. let over = (says budget).1 in limited_by left over.bytes over.is_left
 limited_of old new left n (Source fault at) says = tt
 
-limited_back : (l0 l1 : Option ℕ) (a b : ℕ) → Pays l0 l1 a b → IsLimited l1 → IsLimited l0
+limited_back : (l0 l1 : Option ℕ) (a b : ℕ) → SpendsBudget l0 l1 a b → IsLimited l1 → IsLimited l0
 limited_back (Some l0) l1 a b pays limited = tt
 limited_back None None a b pays limited = limited
 limited_back None (Some l1) a b pays limited = pays
 
-limited_on : (l0 l1 : Option ℕ) (a b : ℕ) → Pays l0 l1 a b → IsLimited l0 → IsLimited l1
+limited_on : (l0 l1 : Option ℕ) (a b : ℕ) → SpendsBudget l0 l1 a b → IsLimited l0 → IsLimited l1
 limited_on l0 (Some l1) a b pays limited = tt
 limited_on None None a b pays limited = limited
 limited_on (Some l0) None a b pays limited = pays
 
-pub limited_then : {a b : List KeptObject} {l0 l1 : Option ℕ} (fault : Fault) → AsksAll a b l0 l1 → OnlyLimited l1 fault → OnlyLimited l0 fault
+pub limited_then : {a b : List LookupObjectState} {l0 l1 : Option ℕ} (fault : Fault) → AsksAll a b l0 l1 → OnlyLimited l1 fault → OnlyLimited l0 fault
 limited_then {a} {b} {l0} {l1} (Refused refusal) asks only = λ budget. limited_back l0 l1 _ _ asks.pays (only budget)
 limited_then (Source fault at) asks only = tt
 
-pub limited_from : {a b : List KeptObject} {l0 l1 : Option ℕ} → AsksAll a b l0 l1 → IsLimited l1 → IsLimited l0
+pub limited_from : {a b : List LookupObjectState} {l0 l1 : Option ℕ} → AsksAll a b l0 l1 → IsLimited l1 → IsLimited l0
 limited_from {a} {b} {l0} {l1} asks limited = limited_back l0 l1 _ _ asks.pays limited
 
-failed_limited : (wanted : Wanted) (old new : KeptObject) (l0 l1 : Option ℕ) (fault : Fault) (a b : ℕ) → FailsIn wanted old new l1 fault → Pays l0 l1 a b → OnlyLimited l0 fault
+failed_limited : (wanted : Wanted) (old new : LookupObjectState) (l0 l1 : Option ℕ) (fault : Fault) (a b : ℕ) → FailsIn wanted old new l1 fault → SpendsBudget l0 l1 a b → OnlyLimited l0 fault
 failed_limited wanted old new l0 l1 (Refused refusal) a b fails pays = λ budget.
     limited_back l0 l1 a b pays (limited_on fails.left l1 _ _ fails.pays (limited_of _ _ fails.left _ (Refused refusal) fails.says budget))
 failed_limited wanted old new l0 l1 (Source fault at) a b fails pays = tt
 
-an_object : (objects : List KeptObject) (n : ℕ) → n < length objects → KeptObject
+an_object : (objects : List LookupObjectState) (n : ℕ) → n < length objects → LookupObjectState
 an_object [] n less = absurd (omega (arith, less))
 an_object (one ∷ objects) n less = one
 
-pub limited_bind : {wanted : Wanted} {old new : List KeptObject} {l0 l1 : Option ℕ} (blame : Blame) (n : ℕ) → n < length old → Binds wanted old new l0 l1 (Err blame) → OnlyLimited l0 blame.fault
+pub limited_bind : {wanted : Wanted} {old new : List LookupObjectState} {l0 l1 : Option ℕ} (blame : BindFault) (n : ℕ) → n < length old → BindsAcross wanted old new l0 l1 (Err blame) → OnlyLimited l0 blame.fault
 limited_bind {wanted} {old} {new} {l0} {l1} blame n less binds = failed_limited wanted _ _ l0 l1 blame.fault _ _ (binds.says (an_object old n less)) binds.pays
 
 -- THE FILES of the objects
-pub file_here : (headers n : ℕ) (objects : List KeptObject) (files : List (List ℕ)) (d : KeptObject) → AreObjectsOf headers objects files → n < length objects
+pub file_here : (headers n : ℕ) (objects : List LookupObjectState) (files : List (List ℕ)) (d : LookupObjectState) → AreObjectFiles headers objects files → n < length objects
     → ((get_or objects n d).src.seen.file ≡ Some (get_or files n [])) × ((get_or objects n d).headers ≡ headers)
 file_here headers n [] [] d are less = absurd (omega (arith, less))
 file_here headers n [] (file ∷ files) d are less = absurd are
@@ -130,14 +130,14 @@ file_here headers n (object ∷ objects) [] d are less = absurd are
 file_here headers zero (object ∷ objects) (file ∷ files) d are less = (are.0, are.1)
 file_here headers (suc n) (object ∷ objects) (file ∷ files) d are less = file_here headers n objects files d are.2 (omega (arith, less))
 
-pub as_many : (headers : ℕ) (objects : List KeptObject) (files : List (List ℕ)) → AreObjectsOf headers objects files → length files ≡ length objects
+pub as_many : (headers : ℕ) (objects : List LookupObjectState) (files : List (List ℕ)) → AreObjectFiles headers objects files → length files ≡ length objects
 as_many headers [] [] are = refl
 as_many headers [] (file ∷ files) are = absurd are
 as_many headers (object ∷ objects) [] are = absurd are
 as_many headers (object ∷ objects) (file ∷ files) are = ap suc (as_many headers objects files are.2)
 
-are_still : (headers : ℕ) (old new : List KeptObject) (files : List (List ℕ)) → length new ≡ length old
-    → ((k : ℕ) (d : KeptObject) → k < length old → SameObject (get_or old k d) (get_or new k d)) → AreObjectsOf headers old files → AreObjectsOf headers new files
+are_still : (headers : ℕ) (old new : List LookupObjectState) (files : List (List ℕ)) → length new ≡ length old
+    → ((k : ℕ) (d : LookupObjectState) → k < length old → SameObject (get_or old k d) (get_or new k d)) → AreObjectFiles headers old files → AreObjectFiles headers new files
 are_still headers [] [] files same each are = are
 are_still headers [] (n ∷ new) files same each are = absurd (omega (arith, same))
 are_still headers (o ∷ old) [] files same each are = absurd (omega (arith, same))
@@ -146,5 +146,5 @@ are_still headers (o ∷ old) (n ∷ new) (file ∷ files) same each are =
     let first = each 0 o (omega arith) in
     (first.same_file ∙ are.0, first.same_headers ∙ are.1, are_still headers old new files (omega (arith, same)) (λ k d less. each (suc k) d (omega (arith, less))) are.2)
 
-pub are_kept : {old new : List KeptObject} {l0 l1 : Option ℕ} (headers : ℕ) (files : List (List ℕ)) → AsksAll old new l0 l1 → AreObjectsOf headers old files → AreObjectsOf headers new files
+pub are_kept : {old new : List LookupObjectState} {l0 l1 : Option ℕ} (headers : ℕ) (files : List (List ℕ)) → AsksAll old new l0 l1 → AreObjectFiles headers old files → AreObjectFiles headers new files
 are_kept {old} {new} headers files asks are = are_still headers old new files asks.objects.same_length asks.objects.each are

@@ -1,31 +1,31 @@
 -- The lines of one item after another.
 use Rattle.std.proofs.Common.{◌≡◌, ℕ, zero, suc, ◌+◌, ◌-◌, ◌<◌, ◌≤◌, ◌||◌, ◌⊎◌, min, length, drop, get_or, arith, Bool, true, false, List, [], ◌∷◌, ◌++◌, inl, inr, Option, None, Some, Result, Ok, Err, refl, sym, ap, subst, ◌∙◌, append_assoc, append-nil}
-use Rattle.elf_model.proofs.BudgetLaws.{is_budget}
+use Rattle.elf_model.proofs.BudgetLaws.{is_budget_fault}
 use Rattle.elf_model.specs.BindingLines.{binding_line, is_unbound}
 use Rattle.elf_model.specs.Bindings.{symbols_hashed}
 use Rattle.elf_model.specs.BoundSymbols.{BoundItem, BoundObjects, Faulty, Told, any_unbound, before_items, bound_item, bound_text, counted_items, is_failed, item_line, items_from, object_items, objects_items}
-use Rattle.elf_model.specs.Budget.{IsBudget}
+use Rattle.elf_model.specs.Budget.{IsBudgetRefusal}
 use Rattle.elf_model.specs.Checks.{first_refusal}
 use Rattle.elf_model.specs.Lines.{refusal_line}
 use Rattle.elf_model.specs.Loader.{Symbols}
 use Rattle.elf_model.specs.LoaderFind.{counts_check}
-use Rattle.elf_model.specs.LoaderScope.{Scope as IsScopeOf, scope_of}
+use Rattle.elf_model.specs.LoaderScope.{LookupTables as IsScopeOf, lookup_tables_of}
 use Rattle.elf_model.specs.Traits.{hashed_symbol_count}
-use Rattle.elf_binding.specs.Binds.{AreObjectsOf}
-use Rattle.elf_binding.specs.Kept.{KeptObject}
+use Rattle.elf_binding.specs.Binds.{AreObjectFiles}
+use Rattle.elf_binding.specs.Kept.{LookupObjectState}
 use Rattle.elf_binding.specs.Sought.{CountsHashed, RefusesAs}
 use Rattle.elf_model.specs.declared.causes.Refusal.{Refusal}
 use Rattle.elf_model.specs.declared.formats.Format.{Format}
 use Rattle.elf_model.specs.declared.states.BindingState.{BindingState}
-use Rattle.elf_source.specs.Output.{OutFails, Takes, TakesFront, Written}
-use Rattle.elf_source.proofs.PutsLaws.{Takes-nothing, Takes-then, TakesFront-more, TakesFront-then}
+use Rattle.elf_source.specs.Output.{IsOutFault, SinkTakes, SinkTakesPrefix, OutState}
+use Rattle.elf_source.proofs.PutsLaws.{SinkTakes-nothing, SinkTakes-then, SinkTakesPrefix-more, SinkTakesPrefix-then}
 use Rattle.elf_source.specs.declared.faults.OutFault.{OutFault}
 use Rattle.elf_headers.specs.declared.fault.Fault.{Fault}
 use Rattle.elf_headers.specs.declared.fault.Fault.TheVariants.{Refused, Source}
-use Rattle.elf_needs.specs.Bound.{failing_of, IsCutText, IsLimited, LeadsItems, OnlyLimited, TellsFault, TellsItem, WritesSymbol, WritesLines, WritesSoFar}
+use Rattle.elf_needs.specs.Bound.{failing_of, IsCutText, IsLimited, LeadsItems, OnlyLimited, ReturnsFault, ReturnsItem, WritesSymbol, WritesLines, WritesSoFar}
 use Rattle.elf_needs.proofs.AskLaws.{file_here}
-use Rattle.elf_needs.specs.declared.among.Came.{Came}
-use Rattle.elf_needs.specs.declared.among.Came.TheVariants.{Cut, Ended, Whole}
+use Rattle.elf_needs.specs.declared.among.WriteEnd.{WriteEnd}
+use Rattle.elf_needs.specs.declared.among.WriteEnd.TheVariants.{Cut, Ended, Whole}
 use Rattle.elf_needs.specs.declared.walk.NeedsFault.{NeedsFault}
 use Rattle.elf_needs.specs.declared.walk.NeedsFault.TheVariants.{Out, Read}
 
@@ -57,30 +57,30 @@ or_true true = refl
 or_true false = refl
 
 -- NOTHING IS WRITTEN YET
-pub so_far_none : (format : Format) (all : List BoundItem) (a : Written) → WritesSoFar format all all a a false
-so_far_none format all a = record { front = []; split = refl; takes = Takes-nothing a; fails_is = refl }
+pub so_far_none : (format : Format) (all : List BoundItem) (a : OutState) → WritesSoFar format all all a a false
+so_far_none format all a = record { front = []; split = refl; takes = SinkTakes-nothing a; fails_is = refl }
 
 -- some more are
 pub so_far_more :
-    {format : Format} {all : List BoundItem} (left items rest : List BoundItem) {a b c : Written} {fails : Bool} (more : Bool) → WritesSoFar format all left a b fails → left ≡ items ++ rest
-    → Takes b c (bound_text format items) → more ≡ any_unbound items → WritesSoFar format all rest a c (fails || more)
+    {format : Format} {all : List BoundItem} (left items rest : List BoundItem) {a b c : OutState} {fails : Bool} (more : Bool) → WritesSoFar format all left a b fails → left ≡ items ++ rest
+    → SinkTakes b c (bound_text format items) → more ≡ any_unbound items → WritesSoFar format all rest a c (fails || more)
 so_far_more {format} {all} left items rest {a} {b} {c} {fails} more before parts takes is = record {
   front = before.front ++ items;
   split = before.split ∙ ap (λ (l : List BoundItem). before.front ++ l) parts ∙ sym (append_assoc before.front items rest);
-  takes = subst (λ (text : List ℕ). Takes a c text) (sym (text_then format before.front items)) (Takes-then _ _ before.takes takes);
+  takes = subst (λ (text : List ℕ). SinkTakes a c text) (sym (text_then format before.front items)) (SinkTakes-then _ _ before.takes takes);
   fails_is = rw (before.fails_is, is) (sym (fail_then before.front items));
 }
 
 -- ALL ARE
-pub so_far_all : {format : Format} {all : List BoundItem} {a b : Written} {fails : Bool} (limited : Type 0) → WritesSoFar format all [] a b fails → WritesLines format all limited a b (Ok (Whole fails))
+pub so_far_all : {format : Format} {all : List BoundItem} {a b : OutState} {fails : Bool} (limited : Type 0) → WritesSoFar format all [] a b fails → WritesLines format all limited a b (Ok (Whole fails))
 so_far_all {format} {all} {a} {b} {fails} limited before =
     let whole : all ≡ before.front = before.split ∙ append-nil before.front in
-    (subst (λ (l : List BoundItem). Takes a b (bound_text format l)) (sym whole) before.takes, before.fails_is ∙ ap any_unbound (sym whole))
+    (subst (λ (l : List BoundItem). SinkTakes a b (bound_text format l)) (sym whole) before.takes, before.fails_is ∙ ap any_unbound (sym whole))
 
 -- a text that is cut, behind lines and before others
-cut_behind : {format : Format} {items : List BoundItem} {text : List ℕ} (all front rest : List BoundItem) → all ≡ front ++ (items ++ rest) → IsCutText format items text
+cut_after : {format : Format} {items : List BoundItem} {text : List ℕ} (all front rest : List BoundItem) → all ≡ front ++ (items ++ rest) → IsCutText format items text
     → IsCutText format all (bound_text format front ++ text)
-cut_behind {format} {items} {text} all front rest split cut = record {
+cut_after {format} {items} {text} all front rest split cut = record {
   front = front ++ cut.front;
   rest = cut.rest ++ rest;
   split = split ∙ ap (λ (l : List BoundItem). front ++ (l ++ rest)) cut.split ∙ ap (λ (l : List BoundItem). front ++ l) (append_assoc cut.front cut.rest rest)
@@ -91,14 +91,14 @@ cut_behind {format} {items} {text} all front rest split cut = record {
       ∙ ap (λ (t : List ℕ). t ++ refusal_line format cut.refusal) (sym (text_then format front cut.front));
 }
 
-whole_of : {format : Format} {all left : List BoundItem} {a b : Written} {fails : Bool} (items rest : List BoundItem) (before : WritesSoFar format all left a b fails) → left ≡ items ++ rest → all ≡ before.front ++ (items ++ rest)
+whole_of : {format : Format} {all left : List BoundItem} {a b : OutState} {fails : Bool} (items rest : List BoundItem) (before : WritesSoFar format all left a b fails) → left ≡ items ++ rest → all ≡ before.front ++ (items ++ rest)
 whole_of items rest before parts = before.split ∙ ap (λ (l : List BoundItem). before.front ++ l) parts
 
 -- THEY END where some more come to an end
-module _ {format : Format} {all : List BoundItem} (left items rest : List BoundItem) {a b : Written} (c : Written) {fails : Bool} (inner outer : Type 0) (out_of : inner → outer) (before : WritesSoFar format all left a b fails) (parts : left ≡ items ++ rest) where
+module _ {format : Format} {all : List BoundItem} (left items rest : List BoundItem) {a b : OutState} (c : OutState) {fails : Bool} (inner outer : Type 0) (out_of : inner → outer) (before : WritesSoFar format all left a b fails) (parts : left ≡ items ++ rest) where
   pub ends_cut : WritesLines format items inner b c (Ok Cut) → WritesLines format all outer a c (Ok Cut)
   ends_cut writes =
-      (out_of writes.0, bound_text format before.front ++ writes.1, cut_behind all before.front rest (whole_of items rest before parts) writes.2, Takes-then _ _ before.takes writes.3)
+      (out_of writes.0, bound_text format before.front ++ writes.1, cut_after all before.front rest (whole_of items rest before parts) writes.2, SinkTakes-then _ _ before.takes writes.3)
 
   pub ends_fault : (fault : NeedsFault) → WritesLines format items inner b c (Err fault) → WritesLines format all outer a c (Err fault)
   ends_fault Read writes = record {
@@ -106,7 +106,7 @@ module _ {format : Format} {all : List BoundItem} (left items rest : List BoundI
     rest = writes.rest ++ rest;
     split = whole_of items rest before parts ∙ ap (λ (l : List BoundItem). before.front ++ (l ++ rest)) writes.split ∙ ap (λ (l : List BoundItem). before.front ++ l) (append_assoc writes.front writes.rest rest)
         ∙ sym (append_assoc before.front writes.front (writes.rest ++ rest));
-    takes = subst (λ (text : List ℕ). Takes a c text) (sym (text_then format before.front writes.front)) (Takes-then _ _ before.takes writes.takes);
+    takes = subst (λ (text : List ℕ). SinkTakes a c text) (sym (text_then format before.front writes.front)) (SinkTakes-then _ _ before.takes writes.takes);
   }
   ends_fault (Out fault) writes = go writes.1
     where
@@ -115,104 +115,104 @@ module _ {format : Format} {all : List BoundItem} (left items rest : List BoundI
           let text : bound_text format all ≡ (bound_text format before.front ++ writes.0) ++ bound_text format rest =
           ap (bound_text format) (whole_of items rest before parts) ∙ text_then format before.front (items ++ rest) ∙ ap (λ (t : List ℕ). bound_text format before.front ++ t) (text_then format items rest)
           ∙ sym (append_assoc (bound_text format before.front) (bound_text format items) (bound_text format rest)) ∙ ap (λ (t : List ℕ). (bound_text format before.front ++ t) ++ bound_text format rest) (sym is) in
-          (bound_text format all, inl refl, subst (λ (t : List ℕ). TakesFront a c t) (sym text) (TakesFront-more _ _ (TakesFront-then _ _ before.takes writes.2)), writes.3)
+          (bound_text format all, inl refl, subst (λ (t : List ℕ). SinkTakesPrefix a c t) (sym text) (SinkTakesPrefix-more _ _ (SinkTakesPrefix-then _ _ before.takes writes.2)), writes.3)
       go (inr cut) =
-          (bound_text format before.front ++ writes.0, inr (out_of cut.0, cut_behind all before.front rest (whole_of items rest before parts) cut.1), TakesFront-then _ _ before.takes writes.2, writes.3)
+          (bound_text format before.front ++ writes.0, inr (out_of cut.0, cut_after all before.front rest (whole_of items rest before parts) cut.1), SinkTakesPrefix-then _ _ before.takes writes.2, writes.3)
 
 -- a fault's line is the last of an object, behind which none is left
-pub ends_last : {format : Format} {all : List BoundItem} (left items : List BoundItem) {a b : Written} (c : Written) {fails : Bool} (inner outer : Type 0) → WritesSoFar format all left a b fails → left ≡ items
+pub ends_last : {format : Format} {all : List BoundItem} (left items : List BoundItem) {a b : OutState} (c : OutState) {fails : Bool} (inner outer : Type 0) → WritesSoFar format all left a b fails → left ≡ items
     → WritesLines format items inner b c (Ok Ended) → WritesLines format all outer a c (Ok Ended)
 ends_last {format} {all} left items {a} {b} c {fails} inner outer before same writes =
     let whole : all ≡ before.front ++ items = before.split ∙ ap (λ (l : List BoundItem). before.front ++ l) same in (
-      subst (λ (text : List ℕ). Takes a c text) (sym (ap (bound_text format) whole ∙ text_then format before.front items)) (Takes-then _ _ before.takes writes.0),
+      subst (λ (text : List ℕ). SinkTakes a c text) (sym (ap (bound_text format) whole ∙ text_then format before.front items)) (SinkTakes-then _ _ before.takes writes.0),
       ap any_unbound whole ∙ fail_then before.front items ∙ ap (λ (e : Bool). any_unbound before.front || e) writes.1 ∙ or_true (any_unbound before.front),
     )
 
 -- what lines tell that are all written
-pub failing_some : (format : Format) (items : List BoundItem) (limited : Type 0) (b c : Written) (came : Came) (more : Bool) → WritesLines format items limited b c (Ok came) → failing_of came ≡ Some more
-    → Takes b c (bound_text format items) × (more ≡ any_unbound items)
+pub failing_some : (format : Format) (items : List BoundItem) (limited : Type 0) (b c : OutState) (came : WriteEnd) (more : Bool) → WritesLines format items limited b c (Ok came) → failing_of came ≡ Some more
+    → SinkTakes b c (bound_text format items) × (more ≡ any_unbound items)
 failing_some format items limited b c (Whole fails) more writes e = let same : fails ≡ more = some_is fails more e in (writes.0, sym same ∙ writes.1)
 failing_some format items limited b c Ended more writes e = let same : true ≡ more = some_is true more e in (writes.0, sym same ∙ sym writes.1)
 failing_some format items limited b c Cut more writes e = absurd (none_not more e)
 
-pub failing_none : (came : Came) → failing_of came ≡ None → came ≡ Cut
+pub failing_none : (came : WriteEnd) → failing_of came ≡ None → came ≡ Cut
 failing_none (Whole fails) e = absurd (none_not fails (sym e))
 failing_none Ended e = absurd (none_not true (sym e))
 failing_none Cut e = refl
 
 -- THE LINE OF A FAULT
-pub only_of : (left : Option ℕ) (fault : Fault) → OnlyLimited left fault → (refusal : Refusal) → fault ≡ Refused refusal → IsBudget refusal → IsLimited left
-only_of left (Refused refusal) only other is budget = let same : refusal ≡ other = cc in only (subst IsBudget (sym same) budget)
+pub only_of : (left : Option ℕ) (fault : Fault) → OnlyLimited left fault → (refusal : Refusal) → fault ≡ Refused refusal → IsBudgetRefusal refusal → IsLimited left
+only_of left (Refused refusal) only other is budget = let same : refusal ≡ other = cc in only (subst IsBudgetRefusal (sym same) budget)
 only_of left (Source fault at) only other is budget = absurd (apart is)
   where
     apart : Source fault at ≡ Refused other → ⊥
     apart e = cc
 
 module _ (format : Format) (all : List BoundItem) (limited : Type 0) where
-  cut_first : (refusal : Refusal) → IsBudget refusal → IsCutText format all (refusal_line format refusal)
+  cut_first : (refusal : Refusal) → IsBudgetRefusal refusal → IsCutText format all (refusal_line format refusal)
   cut_first refusal budget = record { front = []; rest = all; split = refl; refusal = refusal; for_budget = budget; text_is = refl }
 
   line_alone : (refusal : Refusal) → all ≡ Faulty refusal ∷ [] → (bound_text format all ≡ refusal_line format refusal) × (any_unbound all ≡ true)
   line_alone refusal is = rw is (append-nil (refusal_line format refusal), refl)
 
-  pub faulted_lines : (fault : Fault) (a b : Written) (result : Result Came NeedsFault) → ((refusal : Refusal) → fault ≡ Refused refusal → (IsBudget refusal → ⊥) → all ≡ Faulty refusal ∷ [])
-      → ((refusal : Refusal) → fault ≡ Refused refusal → IsBudget refusal → limited) → TellsFault format fault a b result → WritesLines format all limited a b result
+  pub faulted_lines : (fault : Fault) (a b : OutState) (result : Result WriteEnd NeedsFault) → ((refusal : Refusal) → fault ≡ Refused refusal → (IsBudgetRefusal refusal → ⊥) → all ≡ Faulty refusal ∷ [])
+      → ((refusal : Refusal) → fault ≡ Refused refusal → IsBudgetRefusal refusal → limited) → ReturnsFault format fault a b result → WritesLines format all limited a b result
   faulted_lines (Refused refusal) a b (Ok (Whole fails)) tells only told = absurd told
   faulted_lines (Refused refusal) a b (Ok Ended) tells only told =
       let line = line_alone refusal (tells refusal refl told.0) in
-      (subst (λ (t : List ℕ). Takes a b t) (sym line.0) told.1, line.1)
+      (subst (λ (t : List ℕ). SinkTakes a b t) (sym line.0) told.1, line.1)
   faulted_lines (Refused refusal) a b (Ok Cut) tells only told = (only refusal refl told.0, refusal_line format refusal, cut_first refusal told.0, told.1)
   faulted_lines (Refused refusal) a b (Err Read) tells only told = absurd told
-  faulted_lines (Refused refusal) a b (Err (Out fault)) tells only told = go (is_budget refusal.cause)
+  faulted_lines (Refused refusal) a b (Err (Out fault)) tells only told = go (is_budget_fault refusal.cause)
     where
-      go : (IsBudget refusal) ⊎ (IsBudget refusal → ⊥) → WritesLines format all limited a b (Err (Out fault))
+      go : (IsBudgetRefusal refusal) ⊎ (IsBudgetRefusal refusal → ⊥) → WritesLines format all limited a b (Err (Out fault))
       go (inl budget) = (refusal_line format refusal, inr (only refusal refl budget, cut_first refusal budget), told.0, told.1)
       go (inr unless) = (refusal_line format refusal, inl (sym (line_alone refusal (tells refusal refl unless)).0), told.0, told.1)
   faulted_lines (Source fault at) a b result tells only told =
-      rw (told.0, told.1) (record { front = []; rest = all; split = refl; takes = Takes-nothing a })
+      rw (told.0, told.1) (record { front = []; rest = all; split = refl; takes = SinkTakes-nothing a })
 
 -- OF A SYMBOL
 module _ (format : Format) (item : Option BoundItem) (object symbol : ℕ) (name : List ℕ) (limited : Type 0) where
-  item_is : (fault : Fault) → TellsItem item object symbol name (Err fault) → (refusal : Refusal) → fault ≡ Refused refusal → (IsBudget refusal → ⊥) → item ≡ Some (Faulty refusal)
-  item_is (Refused refusal) tells other is unless = let same : refusal ≡ other = cc in subst (λ (r : Refusal). item ≡ Some (Faulty r)) same (tells (subst (λ (r : Refusal). IsBudget r → ⊥) (sym same) unless))
+  item_is : (fault : Fault) → ReturnsItem item object symbol name (Err fault) → (refusal : Refusal) → fault ≡ Refused refusal → (IsBudgetRefusal refusal → ⊥) → item ≡ Some (Faulty refusal)
+  item_is (Refused refusal) tells other is unless = let same : refusal ≡ other = cc in subst (λ (r : Refusal). item ≡ Some (Faulty r)) same (tells (subst (λ (r : Refusal). IsBudgetRefusal r → ⊥) (sym same) unless))
   item_is (Source fault at) tells other is unless = absurd (apart is)
     where
       apart : Source fault at ≡ Refused other → ⊥
       apart e = cc
 
-  leads_fault : (fault : Fault) (a b : Written) (result : Result Came NeedsFault) → TellsItem item object symbol name (Err fault) → TellsFault format fault a b result → LeadsItems item result
+  leads_fault : (fault : Fault) (a b : OutState) (result : Result WriteEnd NeedsFault) → ReturnsItem item object symbol name (Err fault) → ReturnsFault format fault a b result → LeadsItems item result
   leads_fault (Refused refusal) a b (Ok (Whole fails)) tells told = absurd told
   leads_fault (Refused refusal) a b (Ok Ended) tells told = let is = tells told.0 in λ rest. rw is refl
   leads_fault (Refused refusal) a b (Ok Cut) tells told = tt
   leads_fault (Refused refusal) a b (Err fault) tells told = tt
   leads_fault (Source fault at) a b result tells told = rw (told.0) tt
 
-  pub symbol_fault : (fault : Fault) (a b : Written) (result : Result Came NeedsFault) → TellsItem item object symbol name (Err fault)
-      → ((refusal : Refusal) → fault ≡ Refused refusal → IsBudget refusal → limited) → TellsFault format fault a b result → WritesSymbol format item limited a b result
+  pub symbol_fault : (fault : Fault) (a b : OutState) (result : Result WriteEnd NeedsFault) → ReturnsItem item object symbol name (Err fault)
+      → ((refusal : Refusal) → fault ≡ Refused refusal → IsBudgetRefusal refusal → limited) → ReturnsFault format fault a b result → WritesSymbol format item limited a b result
   symbol_fault fault a b result tells only told = record {
     writes = faulted_lines format (before_items item []) limited fault a b result
         (λ refusal is unless. ap (λ (i : Option BoundItem). before_items i []) (item_is fault tells refusal is unless)) only told;
     leads = leads_fault fault a b result tells told;
   }
 
-  pub symbol_none : (a : Written) → item ≡ None → WritesSymbol format item limited a a (Ok (Whole false))
-  symbol_none a is = rw is (record { writes = (Takes-nothing a, refl); leads = λ rest. refl })
+  pub symbol_none : (a : OutState) → item ≡ None → WritesSymbol format item limited a a (Ok (Whole false))
+  symbol_none a is = rw is (record { writes = (SinkTakes-nothing a, refl); leads = λ rest. refl })
 
   module _ (found : BindingState) (is : item ≡ Some (Told object symbol found name)) where
-    pub symbol_told : (a b : Written) (fails : Bool) → Takes a b (binding_line format object symbol found name) → fails ≡ is_unbound found → WritesSymbol format item limited a b (Ok (Whole fails))
+    pub symbol_told : (a b : OutState) (fails : Bool) → SinkTakes a b (binding_line format object symbol found name) → fails ≡ is_unbound found → WritesSymbol format item limited a b (Ok (Whole fails))
     symbol_told a b fails takes e = rw is (record {
-      writes = (subst (λ (t : List ℕ). Takes a b t) (sym (append-nil (binding_line format object symbol found name))) takes, e ∙ sym (or_false (is_unbound found)));
+      writes = (subst (λ (t : List ℕ). SinkTakes a b t) (sym (append-nil (binding_line format object symbol found name))) takes, e ∙ sym (or_false (is_unbound found)));
       leads = λ rest. refl;
     })
 
-    pub symbol_out : (a b : Written) (fault : OutFault) → TakesFront a b (binding_line format object symbol found name) → OutFails b fault → WritesSymbol format item limited a b (Err (Out fault))
+    pub symbol_out : (a b : OutState) (fault : OutFault) → SinkTakesPrefix a b (binding_line format object symbol found name) → IsOutFault b fault → WritesSymbol format item limited a b (Err (Out fault))
     symbol_out a b fault takes fails = rw is (record {
       writes = (binding_line format object symbol found name, inl (sym (append-nil (binding_line format object symbol found name))), takes, fails);
       leads = tt;
     })
 
 -- AN OBJECT'S
-module _ (objects : BoundObjects) (place : ℕ) (file : List ℕ) (told : IsScopeOf) (found : scope_of file objects.headers ≡ Ok told) where
+module _ (objects : BoundObjects) (place : ℕ) (file : List ℕ) (told : IsScopeOf) (found : lookup_tables_of file objects.headers ≡ Ok told) where
   pub items_are : (count : ℕ) → symbols_hashed file told ≡ Ok count → object_items objects place file ≡ items_from objects place file told.symbols 1 (count - 1)
   unfolding object_items counted_items
   items_are count e = rw (found, object_items) (rw (e, counted_items) refl)
@@ -221,10 +221,10 @@ module _ (objects : BoundObjects) (place : ℕ) (file : List ℕ) (told : IsScop
   unfolding object_items counted_items
   items_fault refusal e = rw (found, object_items) (rw (e, counted_items) refl)
 
-  pub items_refused : (fault : Fault) → RefusesAs (symbols_hashed file told) fault → (refusal : Refusal) → fault ≡ Refused refusal → (IsBudget refusal → ⊥) → object_items objects place file ≡ Faulty refusal ∷ []
+  pub items_refused : (fault : Fault) → RefusesAs (symbols_hashed file told) fault → (refusal : Refusal) → fault ≡ Refused refusal → (IsBudgetRefusal refusal → ⊥) → object_items objects place file ≡ Faulty refusal ∷ []
   items_refused (Refused refusal) tells other is unless =
       let same : refusal ≡ other = cc in
-      items_fault other (subst (λ (r : Refusal). symbols_hashed file told ≡ Err r) same (tells (subst (λ (r : Refusal). IsBudget r → ⊥) (sym same) unless)))
+      items_fault other (subst (λ (r : Refusal). symbols_hashed file told ≡ Err r) same (tells (subst (λ (r : Refusal). IsBudgetRefusal r → ⊥) (sym same) unless)))
   items_refused (Source fault at) tells other is unless = absurd (apart is)
     where
       apart : Source fault at ≡ Refused other → ⊥
@@ -291,18 +291,18 @@ parts_of (Some (Faulty refusal)) rest = ([], refl)
 parts_of (Some (Told object symbol found name)) rest = (rest, refl)
 
 -- how the lines of an object end, and not those of a symbol alone
-abbrev pub IsEnd : Result Came NeedsFault → Type 0
+abbrev pub IsEnd : Result WriteEnd NeedsFault → Type 0
 IsEnd (Ok (Whole fails)) = ⊥
 IsEnd (Ok Ended) = Unit {0}
 IsEnd (Ok Cut) = Unit {0}
 IsEnd (Err fault) = Unit {0}
 
 -- THE ITEM OF ONE SYMBOL more is written, and others may be left, or it is the end
-module _ {format : Format} {all : List BoundItem} {a b : Written} {fails : Bool} (left : List BoundItem) (item : Option BoundItem) (rest : List BoundItem) (c : Written) (before : WritesSoFar format all left a b fails) (next : left ≡ before_items item rest) where
+module _ {format : Format} {all : List BoundItem} {a b : OutState} {fails : Bool} (left : List BoundItem) (item : Option BoundItem) (rest : List BoundItem) (c : OutState) (before : WritesSoFar format all left a b fails) (next : left ≡ before_items item rest) where
   item_more : (limited : Type 0) (more : Bool) → WritesSymbol format item limited b c (Ok (Whole more)) → WritesSoFar format all rest a c (fails || more)
   item_more limited more wrote = so_far_more left (before_items item []) rest more before (next ∙ wrote.leads rest) wrote.writes.0 wrote.writes.1
 
-  item_ends : (inner outer : Type 0) → (inner → outer) → (result : Result Came NeedsFault) → IsEnd result → WritesSymbol format item inner b c result → WritesLines format all outer a c result
+  item_ends : (inner outer : Type 0) → (inner → outer) → (result : Result WriteEnd NeedsFault) → IsEnd result → WritesSymbol format item inner b c result → WritesLines format all outer a c result
   item_ends inner outer out_of (Ok (Whole more)) end wrote = absurd end
   item_ends inner outer out_of (Ok Ended) end wrote = ends_last left (before_items item []) c inner outer before (next ∙ wrote.leads rest) wrote.writes
   item_ends inner outer out_of (Ok Cut) end wrote = let parts = parts_of item rest in ends_cut left (before_items item []) parts.0 c inner outer out_of before (next ∙ parts.1) wrote.writes
@@ -311,27 +311,27 @@ module _ {format : Format} {all : List BoundItem} {a b : Written} {fails : Bool}
 -- how many symbols an object has, whose scope is found in its file
 pub record SymbolsIn (file : List ℕ) (headers count : ℕ) : Type 0 where
   pub told : IsScopeOf
-  pub scope : scope_of file headers ≡ Ok told
+  pub scope : lookup_tables_of file headers ≡ Ok told
   pub hashed : symbols_hashed file told ≡ Ok count
   pub fits : count ≤ told.table.symbols
 
-pub counted_in : (headers n count : ℕ) (objects : List KeptObject) (files : List (List ℕ)) (d new : KeptObject) {l0 l1 : Option ℕ} (result : Result ℕ Fault) → result ≡ Ok count
-    → CountsHashed (get_or objects n d) new l0 l1 result → AreObjectsOf headers objects files → n < length objects → SymbolsIn (get_or files n []) headers count
+pub counted_in : (headers n count : ℕ) (objects : List LookupObjectState) (files : List (List ℕ)) (d new : LookupObjectState) {l0 l1 : Option ℕ} (result : Result ℕ Fault) → result ≡ Ok count
+    → CountsHashed (get_or objects n d) new l0 l1 result → AreObjectFiles headers objects files → n < length objects → SymbolsIn (get_or files n []) headers count
 counted_in headers n count objects files d new result is counts are less =
     let file = get_or files n [] in
     let here = file_here headers n objects files d are less in
     let counted = counts.known file here.0 in
     let hashed : symbols_hashed file counted.0 ≡ Ok count = rw is at counted.2 in
-    record { told = counted.0; scope = ap (scope_of file) (sym here.1) ∙ counted.1; hashed = hashed; fits = hashed_fits file counted.0 count hashed }
+    record { told = counted.0; scope = ap (lookup_tables_of file) (sym here.1) ∙ counted.1; hashed = hashed; fits = hashed_fits file counted.0 count hashed }
 
 -- THE LINE OF ONE SYMBOL of an object more is written, and it is the last, or others are left
-module _ (objects : BoundObjects) (place : ℕ) (file : List ℕ) (count symbol : ℕ) (has : SymbolsIn file objects.headers count) (less : symbol < count) {format : Format} {a b : Written} {fails : Bool} (c : Written)
+module _ (objects : BoundObjects) (place : ℕ) (file : List ℕ) (count symbol : ℕ) (has : SymbolsIn file objects.headers count) (less : symbol < count) {format : Format} {a b : OutState} {fails : Bool} (c : OutState)
     (before : WritesSoFar format (items_from objects place file has.told.symbols 1 (count - 1)) (items_from objects place file has.told.symbols symbol (count - symbol)) a b fails) where
   pub symbol_more : (limited : Type 0) (more : Bool) → WritesSymbol format (bound_item objects place file has.told.symbols symbol) limited b c (Ok (Whole more))
       → WritesSoFar format (items_from objects place file has.told.symbols 1 (count - 1)) (items_from objects place file has.told.symbols (symbol + 1) (count - (symbol + 1))) a c (fails || more)
   symbol_more limited more wrote = item_more _ _ _ c before (items_next objects place file has.told.symbols symbol count less) limited more wrote
 
-  pub symbol_ends : (inner outer : Type 0) → (inner → outer) → (result : Result Came NeedsFault) → IsEnd result → WritesSymbol format (bound_item objects place file has.told.symbols symbol) inner b c result
+  pub symbol_ends : (inner outer : Type 0) → (inner → outer) → (result : Result WriteEnd NeedsFault) → IsEnd result → WritesSymbol format (bound_item objects place file has.told.symbols symbol) inner b c result
       → WritesLines format (object_items objects place file) outer a c result
   symbol_ends inner outer out_of result end wrote =
       subst (λ (all : List BoundItem). WritesLines format all outer a c result) (sym (items_are objects place file has.told has.scope count has.hashed))

@@ -2,50 +2,50 @@
 use Rattle.std.specs.Prelude.{ℕ, ◌≡◌, ◌<◌, ◌≤◌, ◌⊎◌, Bool, true, false, List, [], ◌++◌, length, get_or, Option, None, Some, Result, Ok, Err}
 use Rattle.elf_model.specs.Bindings.{is_weak}
 use Rattle.elf_model.specs.BoundSymbols.{BoundItem, BoundObjects, Faulty, Told, any_unbound, before_items, bound_text, file_of_version}
-use Rattle.elf_model.specs.Budget.{IsBudget}
+use Rattle.elf_model.specs.Budget.{IsBudgetRefusal}
 use Rattle.elf_model.specs.Lines.{refusal_line}
 use Rattle.elf_model.specs.Loader.{symbol_offset}
-use Rattle.elf_model.specs.LoaderScope.{Scope as IsScopeOf, scope_of}
+use Rattle.elf_model.specs.LoaderScope.{LookupTables as IsScopeOf, lookup_tables_of}
 use Rattle.elf_model.specs.declared.causes.Refusal.{Refusal}
 use Rattle.elf_model.specs.declared.formats.Format.{Format}
 use Rattle.elf_model.specs.declared.states.BindingState.{BindingState}
-use Rattle.elf_source.specs.Output.{OutFails, Takes, TakesFront, Written}
+use Rattle.elf_source.specs.Output.{IsOutFault, SinkTakes, SinkTakesPrefix, OutState}
 use Rattle.elf_headers.specs.declared.fault.Fault.{Fault}
 use Rattle.elf_headers.specs.declared.fault.Fault.TheVariants.{Refused, Source}
-use Rattle.elf_binding.specs.Binds.{AreObjectsOf, asked_of_all}
-use Rattle.elf_binding.specs.Kept.{KeptObject}
-use Rattle.elf_binding.specs.Looks.{Pays}
-use Rattle.elf_binding.specs.declared.sought.SoughtSymbol.{SoughtSymbol}
+use Rattle.elf_binding.specs.Binds.{AreObjectFiles, asked_of_all}
+use Rattle.elf_binding.specs.Kept.{LookupObjectState}
+use Rattle.elf_binding.specs.Looks.{SpendsBudget}
+use Rattle.elf_binding.specs.declared.sought.SymbolReference.{SymbolReference}
 use Rattle.elf_loader.specs.Naming.{IsFileIf}
 use Rattle.elf_needs.specs.Called.{called_by}
-use Rattle.elf_needs.specs.declared.among.Among.{Among}
-use Rattle.elf_needs.specs.declared.among.Came.{Came}
-use Rattle.elf_needs.specs.declared.among.Came.TheVariants.{Cut, Ended, Whole}
-use Rattle.elf_needs.specs.declared.known.Objects.{Objects}
+use Rattle.elf_needs.specs.declared.among.SearchScope.{SearchScope}
+use Rattle.elf_needs.specs.declared.among.WriteEnd.{WriteEnd}
+use Rattle.elf_needs.specs.declared.among.WriteEnd.TheVariants.{Cut, Ended, Whole}
+use Rattle.elf_needs.specs.declared.known.ObjectList.{ObjectList}
 use Rattle.elf_needs.specs.declared.walk.NeedsFault.{NeedsFault}
 use Rattle.elf_needs.specs.declared.walk.NeedsFault.TheVariants.{Out, Read}
 
 -- the objects whose files these are, with so many headers permitted in each, their indexes among all objects, and all objects
-abbrev pub bound_of : (headers : ℕ) → (files : List (List ℕ)) → (indexes : List ℕ) → Objects → BoundObjects
+abbrev pub bound_of : (headers : ℕ) → (files : List (List ℕ)) → (indexes : List ℕ) → ObjectList → BoundObjects
 bound_of headers files indexes known = record { files = files; indexes = indexes; headers = headers; called = called_by known }
 
-abbrev pub bound_among : (headers : ℕ) → List (List ℕ) → Among → BoundObjects
+abbrev pub bound_among : (headers : ℕ) → List (List ℕ) → SearchScope → BoundObjects
 bound_among headers files among = bound_of headers files among.indexes.now among.known.now
 
 -- an object is as it was, but for how many bytes it was asked for; and each of some
-pub record SameObject (old new : KeptObject) : Type 0 where
+pub record SameObject (old new : LookupObjectState) : Type 0 where
   pub same_file : new.src.seen.file ≡ old.src.seen.file
   pub same_headers : new.headers ≡ old.headers
   pub grows : old.src.asked ≤ new.src.asked
 
-pub record SameObjects (old new : List KeptObject) : Type 0 where
+pub record SameObjects (old new : List LookupObjectState) : Type 0 where
   pub same_length : length new ≡ length old
-  pub each : (k : ℕ) (d : KeptObject) → k < length old → SameObject (get_or old k d) (get_or new k d)
+  pub each : (k : ℕ) (d : LookupObjectState) → k < length old → SameObject (get_or old k d) (get_or new k d)
 
 -- WHAT OBJECTS WERE ASKED FOR, for all sources: what is left of the budget falls by what all of them were asked for
-pub record AsksAll (old new : List KeptObject) (left_old left_new : Option ℕ) : Type 0 where
+pub record AsksAll (old new : List LookupObjectState) (left_old left_new : Option ℕ) : Type 0 where
   pub objects : SameObjects old new
-  pub pays : Pays left_old left_new (asked_of_all old) (asked_of_all new)
+  pub pays : SpendsBudget left_old left_new (asked_of_all old) (asked_of_all new)
 
 -- there is a budget
 abbrev pub IsLimited : Option ℕ → Type 0
@@ -54,22 +54,22 @@ IsLimited (Some bytes) = Unit {0}
 
 -- a fault is for want of budget only where there is one
 abbrev pub OnlyLimited : Option ℕ → Fault → Type 0
-OnlyLimited left (Refused refusal) = IsBudget refusal → IsLimited left
+OnlyLimited left (Refused refusal) = IsBudgetRefusal refusal → IsLimited left
 OnlyLimited left (Source fault at) = Unit {0}
 
 -- what is told over known files of a symbol of the object at a place, of which this was read
-abbrev pub OfSought : List KeptObject → (place symbol : ℕ) → SoughtSymbol → (ℕ → List (List ℕ) → IsScopeOf → Type 0) → Type 0
+abbrev pub OfSought : List LookupObjectState → (place symbol : ℕ) → SymbolReference → (ℕ → List (List ℕ) → IsScopeOf → Type 0) → Type 0
 OfSought objects place symbol sought tells =
-    (headers : ℕ) (files : List (List ℕ)) (told : IsScopeOf) → AreObjectsOf headers objects files → scope_of (get_or files place []) headers ≡ Ok told
+    (headers : ℕ) (files : List (List ℕ)) (told : IsScopeOf) → AreObjectFiles headers objects files → lookup_tables_of (get_or files place []) headers ≡ Ok told
     → 0 < told.table.symbols → sought.weak ≡ is_weak (get_or files place []) (symbol_offset told.symbols symbol)
     → IsFileIf (get_or files place []) (file_of_version (get_or files place []) told.symbols symbol) sought.file → tells headers files told
 
 -- what is told of a symbol of an object, under a name
-abbrev pub TellsItem : Option BoundItem → (object symbol : ℕ) → (name : List ℕ) → Result (Option BindingState) Fault → Type 0
-TellsItem told object symbol name (Ok None) = told ≡ None
-TellsItem told object symbol name (Ok (Some found)) = told ≡ Some (Told object symbol found name)
-TellsItem told object symbol name (Err (Refused refusal)) = (IsBudget refusal → ⊥) → told ≡ Some (Faulty refusal)
-TellsItem told object symbol name (Err (Source fault at)) = Unit {0}
+abbrev pub ReturnsItem : Option BoundItem → (object symbol : ℕ) → (name : List ℕ) → Result (Option BindingState) Fault → Type 0
+ReturnsItem told object symbol name (Ok None) = told ≡ None
+ReturnsItem told object symbol name (Ok (Some found)) = told ≡ Some (Told object symbol found name)
+ReturnsItem told object symbol name (Err (Refused refusal)) = (IsBudgetRefusal refusal → ⊥) → told ≡ Some (Faulty refusal)
+ReturnsItem told object symbol name (Err (Source fault at)) = Unit {0}
 
 -- a text is a front of the lines, each whole, and then that of a refusal for want of budget
 pub record IsCutText (format : Format) (all : List BoundItem) (text : List ℕ) : Type 0 where
@@ -77,69 +77,69 @@ pub record IsCutText (format : Format) (all : List BoundItem) (text : List ℕ) 
   pub rest : List BoundItem
   pub split : all ≡ front ++ rest
   pub refusal : Refusal
-  pub for_budget : IsBudget refusal
+  pub for_budget : IsBudgetRefusal refusal
   pub text_is : text ≡ bound_text format front ++ refusal_line format refusal
 
 -- front lines alone were written
-pub record WritesFront (format : Format) (all : List BoundItem) (old new : Written) : Type 0 where
+pub record WritesFront (format : Format) (all : List BoundItem) (old new : OutState) : Type 0 where
   pub front : List BoundItem
   pub rest : List BoundItem
   pub split : all ≡ front ++ rest
-  pub takes : Takes old new (bound_text format front)
+  pub takes : SinkTakes old new (bound_text format front)
 
 -- WHAT WRITING THE LINES DID: all of them are written; or, only within a budget, a front of them and the line that tells so; or a
 -- read failed behind a front; or the output failed in one of these texts
-abbrev pub WritesLines : Format → List BoundItem → (limited : Type 0) → Written → Written → Result Came NeedsFault → Type 0
-WritesLines format all limited old new (Ok (Whole fails)) = Takes old new (bound_text format all) × (fails ≡ any_unbound all)
-WritesLines format all limited old new (Ok Ended) = Takes old new (bound_text format all) × (any_unbound all ≡ true)
-WritesLines format all limited old new (Ok Cut) = limited × (text : List ℕ) × IsCutText format all text × Takes old new text
+abbrev pub WritesLines : Format → List BoundItem → (limited : Type 0) → OutState → OutState → Result WriteEnd NeedsFault → Type 0
+WritesLines format all limited old new (Ok (Whole fails)) = SinkTakes old new (bound_text format all) × (fails ≡ any_unbound all)
+WritesLines format all limited old new (Ok Ended) = SinkTakes old new (bound_text format all) × (any_unbound all ≡ true)
+WritesLines format all limited old new (Ok Cut) = limited × (text : List ℕ) × IsCutText format all text × SinkTakes old new text
 WritesLines format all limited old new (Err Read) = WritesFront format all old new
 WritesLines format all limited old new (Err (Out fault)) =
-    (text : List ℕ) × ((text ≡ bound_text format all) ⊎ (limited × IsCutText format all text)) × TakesFront old new text × OutFails new fault
+    (text : List ℕ) × ((text ≡ bound_text format all) ⊎ (limited × IsCutText format all text)) × SinkTakesPrefix old new text × IsOutFault new fault
 
 -- how the items of an object go on behind those of one symbol: a fault is the last
-abbrev pub LeadsItems : Option BoundItem → Result Came NeedsFault → Type 0
+abbrev pub LeadsItems : Option BoundItem → Result WriteEnd NeedsFault → Type 0
 LeadsItems item (Ok (Whole fails)) = (rest : List BoundItem) → before_items item rest ≡ before_items item [] ++ rest
 LeadsItems item (Ok Ended) = (rest : List BoundItem) → before_items item rest ≡ before_items item []
 LeadsItems item (Ok Cut) = Unit {0}
 LeadsItems item (Err fault) = Unit {0}
 
 -- WHAT WRITING THE LINE OF A SYMBOL DID
-pub record WritesSymbol (format : Format) (item : Option BoundItem) (limited : Type 0) (old new : Written) (result : Result Came NeedsFault) : Type 0 where
+pub record WritesSymbol (format : Format) (item : Option BoundItem) (limited : Type 0) (old new : OutState) (result : Result WriteEnd NeedsFault) : Type 0 where
   pub writes : WritesLines format (before_items item []) limited old new result
   pub leads : LeadsItems item result
 
 -- what writing the line of a fault did: that of a refusal, which ends the lines of an object, or all of them for want of budget
-abbrev pub TellsFault : Format → Fault → Written → Written → Result Came NeedsFault → Type 0
-TellsFault format (Refused refusal) old new (Ok (Whole fails)) = ⊥
-TellsFault format (Refused refusal) old new (Ok Ended) = (IsBudget refusal → ⊥) × Takes old new (refusal_line format refusal)
-TellsFault format (Refused refusal) old new (Ok Cut) = IsBudget refusal × Takes old new (refusal_line format refusal)
-TellsFault format (Refused refusal) old new (Err Read) = ⊥
-TellsFault format (Refused refusal) old new (Err (Out fault)) = TakesFront old new (refusal_line format refusal) × OutFails new fault
-TellsFault format (Source fault at) old new result = (result ≡ Err Read) × (new ≡ old)
+abbrev pub ReturnsFault : Format → Fault → OutState → OutState → Result WriteEnd NeedsFault → Type 0
+ReturnsFault format (Refused refusal) old new (Ok (Whole fails)) = ⊥
+ReturnsFault format (Refused refusal) old new (Ok Ended) = (IsBudgetRefusal refusal → ⊥) × SinkTakes old new (refusal_line format refusal)
+ReturnsFault format (Refused refusal) old new (Ok Cut) = IsBudgetRefusal refusal × SinkTakes old new (refusal_line format refusal)
+ReturnsFault format (Refused refusal) old new (Err Read) = ⊥
+ReturnsFault format (Refused refusal) old new (Err (Out fault)) = SinkTakesPrefix old new (refusal_line format refusal) × IsOutFault new fault
+ReturnsFault format (Source fault at) old new result = (result ≡ Err Read) × (new ≡ old)
 
 -- whether lines tell that something is missing, where all are written
-abbrev pub failing_of : Came → Option Bool
+abbrev pub failing_of : WriteEnd → Option Bool
 failing_of (Whole fails) = Some fails
 failing_of Ended = Some true
 failing_of Cut = None
 
 -- so many of the items are written, and the others are left
-pub record WritesSoFar (format : Format) (all left : List BoundItem) (old new : Written) (fails : Bool) : Type 0 where
+pub record WritesSoFar (format : Format) (all left : List BoundItem) (old new : OutState) (fails : Bool) : Type 0 where
   pub front : List BoundItem
   pub split : all ≡ front ++ left
-  pub takes : Takes old new (bound_text format front)
+  pub takes : SinkTakes old new (bound_text format front)
   pub fails_is : fails ≡ any_unbound front
 
 -- the exit status behind lines: 1 where they tell that a symbol is missing, or cannot be told, or where they are cut; else as before
-abbrev pub status_after : Came → ℕ → ℕ
+abbrev pub status_after : WriteEnd → ℕ → ℕ
 status_after (Whole false) status = status
 status_after (Whole true) status = 1
 status_after Ended status = 1
 status_after Cut status = 1
 
 -- WHAT WRITING THE BINDINGS OF ALL OBJECTS DID
-abbrev pub WritesBindings : Format → List BoundItem → (limited : Type 0) → Written → Written → (status : ℕ) → Result ℕ NeedsFault → Type 0
+abbrev pub WritesBindings : Format → List BoundItem → (limited : Type 0) → OutState → OutState → (status : ℕ) → Result ℕ NeedsFault → Type 0
 WritesBindings format all limited old new before (Ok status) =
-    (came : Came) × WritesLines format all limited old new (Ok came) × (status ≡ status_after came before)
+    (came : WriteEnd) × WritesLines format all limited old new (Ok came) × (status ≡ status_after came before)
 WritesBindings format all limited old new before (Err fault) = WritesLines format all limited old new (Err fault)

@@ -1,8 +1,8 @@
 -- The names of the objects of a program.
 use Rattle.std.specs.Prelude.{ℕ, ◌^◌, ◌||◌, if◌then◌else◌, nat_lt, Bool, false, List, [], option_map, position, slice_index_or, Option, None, Some}
 use Rattle.std.specs.Str.{bytes_eq}
-use Rattle.elf_needs.specs.declared.known.Known.{Known}
-use Rattle.elf_needs.specs.declared.known.Objects.{Objects}
+use Rattle.elf_needs.specs.declared.known.KnownObject.{KnownObject}
+use Rattle.elf_needs.specs.declared.known.ObjectList.{ObjectList}
 
 -- the text of an index, where one is told; and a text that is told is a name
 abbrev pub text_told : List (List ℕ) → Option ℕ → Option (List ℕ)
@@ -13,14 +13,14 @@ is_text None name = false
 is_text (Some text) name = bytes_eq text name
 
 -- an object has a name: it was needed by that, or calls itself so (gABI 5, DT_SONAME)
-abbrev pub is_called : List (List ℕ) → List ℕ → Known → Bool
+abbrev pub is_called : List (List ℕ) → List ℕ → KnownObject → Bool
 is_called texts name known = is_text (text_told texts known.name) name || is_text (text_told texts known.links.soname) name
 
 -- an index of 16 bits, if it is one
-abbrev pub short_index : Option ℕ → Option ℕ
-short_index None = None
-short_index (Some index) = if nat_lt index (2 ^ 16) then Some index else None
+abbrev pub index_by_short_name : Option ℕ → Option ℕ
+index_by_short_name None = None
+index_by_short_name (Some index) = if nat_lt index (2 ^ 16) then Some index else None
 
 -- the index of the first object that has a name
-abbrev pub called_by : Objects → List ℕ → Option ℕ
-called_by objects name = short_index (position (is_called objects.links.held.texts name) objects.known.items)
+abbrev pub called_by : ObjectList → List ℕ → Option ℕ
+called_by objects name = index_by_short_name (position (is_called objects.links.held.texts name) objects.known.items)

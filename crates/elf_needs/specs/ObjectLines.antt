@@ -1,24 +1,24 @@
 -- The lines of the objects that a program needs.
 use Rattle.std.specs.Prelude.{ℕ, [], ◌∷◌, List, codes, Option, None, Some}
 use Rattle.elf_model.specs.Checking.{fault_fields}
-use Rattle.elf_model.specs.Fields.{Field, Fields, LineFront, closed_line, front}
-use Rattle.elf_model.specs.Fields.Field.{Decimal, Hexadecimal, NameOrDecimal, Word}
+use Rattle.elf_model.specs.Fields.{Field, Fields, LinePrefix, closed_line, front}
+use Rattle.elf_model.specs.Fields.Field.{Decimal, Hexadecimal, NameOrDecimal, ArgSpec}
 use Rattle.elf_model.specs.Lines.{named_line}
-use Rattle.elf_model.specs.Names.Shown.{Whole}
+use Rattle.elf_model.specs.Names.DisplayedName.{Whole}
 use Rattle.elf_model.specs.declared.formats.Format.{Format}
-use Rattle.elf_model.specs.declared.states.FileState.{FileState}
-use Rattle.elf_model.specs.declared.states.FileState.TheVariants as file
+use Rattle.elf_model.specs.declared.states.FileStatus.{FileStatus}
+use Rattle.elf_model.specs.declared.states.FileStatus.TheVariants as file
 use Rattle.elf_needs.specs.declared.states.ObjectState.{ObjectState}
 use Rattle.elf_needs.specs.declared.states.ObjectState.TheVariants as state
 
 -- the word of a state
-unfoldable pub object_word : ObjectState → List ℕ
-object_word state.Found = codes "found"
-object_word state.Missing = codes "missing"
-object_word (state.Refused refusal) = codes "refused"
+unfoldable pub object_state_name : ObjectState → List ℕ
+object_state_name state.Found = codes "found"
+object_state_name state.Missing = codes "missing"
+object_state_name (state.Refused refusal) = codes "refused"
 
 -- a file that is at fault where an object is refused
-abbrev pub file_state : ObjectState → FileState
+abbrev pub file_state : ObjectState → FileStatus
 file_state (state.Refused refusal) = file.Refused refusal
 file_state state.Found = file.Ok
 file_state state.Missing = file.Ok
@@ -32,11 +32,11 @@ needer_field (Some index) = NameOrDecimal (codes "needed_by") 5 None index
 abbrev pub object_fields : ℕ → Option ℕ → ObjectState → Fields
 object_fields index needer found = record {
   letter = codes "L";
-  fields = Decimal (codes "index") 5 index ∷ needer_field needer ∷ Word (codes "state") 8 (object_word found) ∷ fault_fields (file_state found);
+  fields = Decimal (codes "index") 5 index ∷ needer_field needer ∷ ArgSpec (codes "state") 8 (object_state_name found) ∷ fault_fields (file_state found);
 }
 
 -- an object's line up to its path
-unfoldable pub object_front : Format → ℕ → Option ℕ → ObjectState → LineFront
+unfoldable pub object_front : Format → ℕ → Option ℕ → ObjectState → LinePrefix
 object_front format index needer found = front format (codes "path") (object_fields index needer found)
 
 -- THE LINE OF AN OBJECT, with its path, or the name of one that is missing
@@ -46,4 +46,4 @@ object_line format index needer found path = named_line (object_front format ind
 -- the line that ends the objects where there are more than are listed: the place of the dynamic entry that needs one more
 unfoldable pub too_many_line : Format → ℕ → List ℕ
 too_many_line format place =
-    closed_line format (record { letter = codes "!"; fields = Hexadecimal (codes "place") 16 place ∷ [] }) (Word (codes "cause") 0 (codes "too-many-objects"))
+    closed_line format (record { letter = codes "!"; fields = Hexadecimal (codes "place") 16 place ∷ [] }) (ArgSpec (codes "cause") 0 (codes "too-many-objects"))

@@ -2,23 +2,23 @@
 ghost use Rattle.std.specs.Prelude.{◌≡◌, ◌==◌, ◌||◌, get_or, position};
 ghost use Rattle.elf_needs.specs.Bound.{failing_of};
 
-use crate::known::Objects;
+use crate::known::ObjectList;
 use elf_model::Format;
 
 /// What names are looked for among.
 #[derive(Clone, Copy)]
-pub(crate) struct Among<'a> {
+pub(crate) struct SearchScope<'a> {
     /// The index of each object that is looked in, among all objects.
     pub indexes: &'a [u16],
     /// All objects.
-    pub known: &'a Objects,
+    pub known: &'a ObjectList,
     /// How a line is written.
     pub format: Format,
 }
 
 /// What writing lines came to.
 #[derive(Clone, Copy)]
-pub(crate) enum Came {
+pub(crate) enum WriteEnd {
     /// All are written.
     Whole {
         /// Whether a symbol is missing, or can't be told.
@@ -48,13 +48,13 @@ pub(crate) fn place_of(indexes: &[u16], index: u16) -> Option<usize>
 }
 
 /// Whether lines that were written tell that something is missing; None where the budget is used up.
-pub(crate) fn failing(came: Came) -> Option<bool>
+pub(crate) fn failing(came: WriteEnd) -> Option<bool>
     ensures { result ≡ failing_of came }
 {
     match came {
-        Came::Whole { fails } => Some(fails),
-        Came::Ended => Some(true),
-        Came::Cut => None,
+        WriteEnd::Whole { fails } => Some(fails),
+        WriteEnd::Ended => Some(true),
+        WriteEnd::Cut => None,
     }
 }
 

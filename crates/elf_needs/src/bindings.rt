@@ -1,20 +1,20 @@
 //! From where the symbols come that the objects of a program ask others for.
 ghost use Rattle.std.specs.Prelude.{◌≡◌, ◌<◌, ℕ, [], List, Ok, get_or, length};
-ghost use Rattle.elf_binding.specs.Binds.{AreObjectsOf};
+ghost use Rattle.elf_binding.specs.Binds.{AreObjectFiles};
 ghost use Rattle.elf_model.specs.BoundSymbols.{before_items, bound_item, bound_items, object_items};
-ghost use Rattle.elf_model.specs.LoaderScope.{Scope as IsScopeOf, scope_of};
-ghost use Rattle.elf_needs.specs.Bound.{AsksAll, IsLimited, TellsFault, WritesSymbol, WritesBindings, WritesLines, bound_among, bound_of, status_after};
+ghost use Rattle.elf_model.specs.LoaderScope.{LookupTables as IsScopeOf, lookup_tables_of};
+ghost use Rattle.elf_needs.specs.Bound.{AsksAll, IsLimited, ReturnsFault, WritesSymbol, WritesBindings, WritesLines, bound_among, bound_of, status_after};
 
-use crate::among::{Among, Came, either, failing, index_at};
-use crate::bound_states::{SymbolAt, item_of};
-use crate::walk::{NeedsFault, ObjectWalk};
-use elf_binding::{Object, OpenObjects, SoughtNames, is_budget, is_unbound, show_binding};
+use crate::among::{SearchScope, WriteEnd, either, failing, index_at};
+use crate::bound_states::{DefinitionAt, item_of};
+use crate::walk::{DependencyWalk, NeedsFault};
+use elf_binding::{Object, OpenObjects, ReferenceNames, is_budget_fault, is_unbound, show_binding};
 use elf_headers::Fault;
 use elf_lines::show_refusal;
 use elf_model::Format;
 use elf_source::{Out, Sink, Source};
 
-impl<W: Sink> ObjectWalk<'_, '_, W> {
+impl<W: Sink> DependencyWalk<'_, '_, W> {
     /// Writes a line for each symbol that the listed objects ask others for, in their order: the object
     /// that defines it is the first, of all in order, in which a loader's lookup by segments finds the name
     /// among its defined symbols. Answers the exit status: 1 where one is missing, or a lookup is refused,
@@ -28,13 +28,13 @@ impl<W: Sink> ObjectWalk<'_, '_, W> {
         ensures asks { AsksAll opened.old.objects.items opened.new.objects.items
             self.old.search.account.left self.new.search.account.left }
         ensures known { (headers : ℕ) (files : List (List ℕ)) →
-            AreObjectsOf headers opened.old.objects.items files →
+            AreObjectFiles headers opened.old.objects.items files →
             WritesBindings self.old.format
             (bound_items (bound_of headers files opened.old.indexes.items self.old.objects))
             (IsLimited self.old.search.account.left) self.old.out self.new.out
             self.old.status result }
     {
-        let among = Among {
+        let among = SearchScope {
             indexes: &opened.indexes,
             known: &self.objects,
             format: self.format,
@@ -47,12 +47,12 @@ impl<W: Sink> ObjectWalk<'_, '_, W> {
 }
 
 /// The exit status behind lines.
-fn status_after(came: Came, status: u8) -> u8
+fn status_after(came: WriteEnd, status: u8) -> u8
     ensures { result ≡ status_after came status }
 {
     match came {
-        Came::Whole { fails: false } => status,
-        Came::Whole { fails: true } | Came::Ended | Came::Cut => 1,
+        WriteEnd::Whole { fails: false } => status,
+        WriteEnd::Whole { fails: true } | WriteEnd::Ended | WriteEnd::Cut => 1,
     }
 }
 
@@ -62,25 +62,25 @@ fn status_after(came: Came, status: u8) -> u8
 /// A read or the output failed.
 fn bind_all<S: Source, W: Sink>(
     objects: &mut [Object<S>],
-    among: &Among<'_>,
+    among: &SearchScope<'_>,
     left: &mut Option<u64>,
     out: &mut Out<W>,
-) -> Result<Came, NeedsFault>
+) -> Result<WriteEnd, NeedsFault>
     ensures asks { AsksAll objects.old objects.new left.old left.new }
-    ensures known { (headers : ℕ) (files : List (List ℕ)) → AreObjectsOf headers objects.old files →
+    ensures known { (headers : ℕ) (files : List (List ℕ)) → AreObjectFiles headers objects.old files →
         WritesLines among.now.format (bound_items (bound_among headers files among.now))
         (IsLimited left.old) out.old out.new result }
 {
-    let mut names = SoughtNames::new();
+    let mut names = ReferenceNames::new();
     let mut fails = false;
     for place in 0..objects.len() {
         let came = bind_object(objects, among, place, &mut names, left, out)?;
         let Some(more) = failing(came) else {
-            return Ok(Came::Cut);
+            return Ok(WriteEnd::Cut);
         };
         fails = either(fails, more);
     }
-    Ok(Came::Whole { fails })
+    Ok(WriteEnd::Whole { fails })
 }
 
 /// Writes the lines of the object at a place.
@@ -89,15 +89,15 @@ fn bind_all<S: Source, W: Sink>(
 /// A read or the output failed.
 fn bind_object<S: Source, W: Sink>(
     objects: &mut [Object<S>],
-    among: &Among<'_>,
+    among: &SearchScope<'_>,
     place: usize,
-    names: &mut SoughtNames,
+    names: &mut ReferenceNames,
     left: &mut Option<u64>,
     out: &mut Out<W>,
-) -> Result<Came, NeedsFault>
+) -> Result<WriteEnd, NeedsFault>
     requires { place < length objects.old }
     ensures asks { AsksAll objects.old objects.new left.old left.new }
-    ensures known { (headers : ℕ) (files : List (List ℕ)) → AreObjectsOf headers objects.old files →
+    ensures known { (headers : ℕ) (files : List (List ℕ)) → AreObjectFiles headers objects.old files →
         WritesLines among.now.format (object_items (bound_among headers files among.now) place
         (get_or files place [])) (IsLimited left.old) out.old out.new result }
 {
@@ -107,15 +107,15 @@ fn bind_object<S: Source, W: Sink>(
     };
     let mut fails = false;
     for symbol in 1..count {
-        let at = SymbolAt { place, symbol };
+        let at = DefinitionAt { place, symbol };
         let more = match bind_symbol(objects, among, at, names, left, out)? {
-            Came::Whole { fails } => fails,
-            Came::Ended => return Ok(Came::Ended),
-            Came::Cut => return Ok(Came::Cut),
+            WriteEnd::Whole { fails } => fails,
+            WriteEnd::Ended => return Ok(WriteEnd::Ended),
+            WriteEnd::Cut => return Ok(WriteEnd::Cut),
         };
         fails = either(fails, more);
     }
-    Ok(Came::Whole { fails })
+    Ok(WriteEnd::Whole { fails })
 }
 
 /// Looks for what a symbol asks for, and writes its line, if it asks for something.
@@ -124,29 +124,29 @@ fn bind_object<S: Source, W: Sink>(
 /// A read or the output failed.
 fn bind_symbol<S: Source, W: Sink>(
     objects: &mut [Object<S>],
-    among: &Among<'_>,
-    at: SymbolAt,
-    names: &mut SoughtNames,
+    among: &SearchScope<'_>,
+    at: DefinitionAt,
+    names: &mut ReferenceNames,
     left: &mut Option<u64>,
     out: &mut Out<W>,
-) -> Result<Came, NeedsFault>
+) -> Result<WriteEnd, NeedsFault>
     requires { at.place < length objects.old }
     ensures asks { AsksAll objects.old objects.new left.old left.new }
     ensures known { (headers : ℕ) (files : List (List ℕ)) (told : IsScopeOf) →
-        AreObjectsOf headers objects.old files →
-        scope_of (get_or files at.place []) headers ≡ Ok told → at.symbol < told.table.symbols →
+        AreObjectFiles headers objects.old files →
+        lookup_tables_of (get_or files at.place []) headers ≡ Ok told → at.symbol < told.table.symbols →
         WritesSymbol among.now.format (bound_item (bound_among headers files among.now) at.place
         (get_or files at.place []) told.symbols at.symbol) (IsLimited left.old) out.old out.new
         result }
 {
     let state = match item_of(objects, among, at, names, left) {
         Ok(Some(state)) => state,
-        Ok(None) => return Ok(Came::Whole { fails: false }),
+        Ok(None) => return Ok(WriteEnd::Whole { fails: false }),
         Err(fault) => return tell(fault, among.format, out),
     };
     let object = index_at(among.indexes, at.place);
     match show_binding(object, at.symbol, state, &names.shown, among.format, out) {
-        Ok(()) => Ok(Came::Whole {
+        Ok(()) => Ok(WriteEnd::Whole {
             fails: is_unbound(state),
         }),
         Err(fault) => Err(NeedsFault::Out(fault)),
@@ -157,15 +157,15 @@ fn bind_symbol<S: Source, W: Sink>(
 ///
 /// # Errors
 /// A read or the output failed.
-fn tell<W: Sink>(fault: Fault, format: Format, out: &mut Out<W>) -> Result<Came, NeedsFault>
-    ensures { TellsFault format fault out.old out.new result }
+fn tell<W: Sink>(fault: Fault, format: Format, out: &mut Out<W>) -> Result<WriteEnd, NeedsFault>
+    ensures { ReturnsFault format fault out.old out.new result }
 {
     let Fault::Refused(refusal) = fault else {
         return Err(NeedsFault::Read);
     };
     show_refusal(refusal, format, out).map_err(NeedsFault::Out)?;
-    if is_budget(refusal) {
-        return Ok(Came::Cut);
+    if is_budget_fault(refusal) {
+        return Ok(WriteEnd::Cut);
     }
-    Ok(Came::Ended)
+    Ok(WriteEnd::Ended)
 }

@@ -1,16 +1,16 @@
 //! What binds a symbol that an object of a program asks others for.
 ghost use Rattle.std.specs.Prelude.{◌≡◌, ◌<◌, ◌≤◌, ℕ, [], List, Option, None, Some, Ok, IfErr, get_or, length};
-ghost use Rattle.elf_binding.specs.Binds.{AreObjectsOf};
-ghost use Rattle.elf_binding.specs.Sought.{TellsAs, asked_if};
-ghost use Rattle.elf_model.specs.BoundSymbols.{bound_item, lacks_asked, object_lacks, state_in};
+ghost use Rattle.elf_binding.specs.Binds.{AreObjectFiles};
+ghost use Rattle.elf_binding.specs.Sought.{ReturnsAs, asked_if};
+ghost use Rattle.elf_model.specs.BoundSymbols.{bound_item, missing_version_requested, object_lacks, state_in};
 ghost use Rattle.elf_model.specs.Loader.{asked_name};
-ghost use Rattle.elf_model.specs.LoaderScope.{Scope as IsScopeOf, scope_of};
-ghost use Rattle.elf_needs.specs.Bound.{AsksAll, OfSought, OnlyLimited, TellsItem, bound_among};
+ghost use Rattle.elf_model.specs.LoaderScope.{LookupTables as IsScopeOf, lookup_tables_of};
+ghost use Rattle.elf_needs.specs.Bound.{AsksAll, OfSought, OnlyLimited, ReturnsItem, bound_among};
 
-use crate::among::{Among, index_at, place_of};
+use crate::among::{SearchScope, index_at, place_of};
 use elf_binding::{
-    Blame, BoundName, Object, SoughtNames, SoughtSymbol, bind, is_told_alone, show_name,
-    unbound_state,
+    BindFault, BindResult, Object, ReferenceNames, SymbolReference, bind, is_reported_alone,
+    show_name, unbound_state,
 };
 use elf_headers::Fault;
 use elf_model::BindingState;
@@ -18,7 +18,7 @@ use elf_source::Source;
 
 /// A symbol of an object that is looked in: the place of the object, and the symbol's index there.
 #[derive(Clone, Copy)]
-pub(crate) struct SymbolAt {
+pub(crate) struct DefinitionAt {
     pub place: usize,
     pub symbol: u64,
 }
@@ -30,18 +30,18 @@ pub(crate) struct SymbolAt {
 /// Those of [`Object::sought`], and of [`state_of`].
 pub(crate) fn item_of<S: Source>(
     objects: &mut [Object<S>],
-    among: &Among<'_>,
-    at: SymbolAt,
-    names: &mut SoughtNames,
+    among: &SearchScope<'_>,
+    at: DefinitionAt,
+    names: &mut ReferenceNames,
     left: &mut Option<u64>,
 ) -> Result<Option<BindingState>, Fault>
     requires { at.place < length objects.old }
     ensures asks { AsksAll objects.old objects.new left.old left.new }
     ensures limited { IfErr result (OnlyLimited left.old) }
     ensures known { (headers : ℕ) (files : List (List ℕ)) (told : IsScopeOf) →
-        AreObjectsOf headers objects.old files →
-        scope_of (get_or files at.place []) headers ≡ Ok told → at.symbol < told.table.symbols →
-        TellsItem (bound_item (bound_among headers files among.now) at.place
+        AreObjectFiles headers objects.old files →
+        lookup_tables_of (get_or files at.place []) headers ≡ Ok told → at.symbol < told.table.symbols →
+        ReturnsItem (bound_item (bound_among headers files among.now) at.place
         (get_or files at.place []) told.symbols at.symbol)
         (get_or among.now.indexes.now at.place 0) at.symbol names.new.shown.items result }
 {
@@ -66,10 +66,10 @@ pub(crate) fn item_of<S: Source>(
 /// A read failed, or the budget is used up; or a fault of the name of the needed file.
 fn state_of<S: Source>(
     objects: &mut [Object<S>],
-    among: &Among<'_>,
-    at: SymbolAt,
-    sought: &SoughtSymbol,
-    names: &mut SoughtNames,
+    among: &SearchScope<'_>,
+    at: DefinitionAt,
+    sought: &SymbolReference,
+    names: &mut ReferenceNames,
     left: &mut Option<u64>,
 ) -> Result<BindingState, Fault>
     requires { at.place < length objects.old }
@@ -77,7 +77,7 @@ fn state_of<S: Source>(
     ensures limited { IfErr result (OnlyLimited left.old) }
     ensures shown { names.new.shown ≡ names.old.shown }
     ensures known { OfSought objects.old at.place at.symbol sought.now (λ headers files told.
-        TellsAs (state_in (bound_among headers files among.now) (get_or files at.place [])
+        ReturnsAs (state_in (bound_among headers files among.now) (get_or files at.place [])
         told.symbols at.symbol (record {
           name = names.old.name;
           asked = asked_if sought.now.versioned names.old.version;
@@ -85,16 +85,16 @@ fn state_of<S: Source>(
 {
     let wanted = names.wanted(sought.versioned);
     match bind(objects, left, &wanted) {
-        Ok(BoundName::Bound { object, symbol }) => Ok(BindingState::Bound {
+        Ok(BindResult::Bound { object, symbol }) => Ok(BindingState::Bound {
             object: index_at(among.indexes, object),
             symbol,
         }),
-        Ok(BoundName::Unbound) => {
+        Ok(BindResult::Unbound) => {
             let lacks = lacks_version(objects, among, at, sought, names, left)?;
             Ok(unbound_state(sought.weak, lacks))
         }
-        Err(Blame { object, fault }) => {
-            if is_told_alone(fault) {
+        Err(BindFault { object, fault }) => {
+            if is_reported_alone(fault) {
                 return Err(fault);
             }
             Ok(BindingState::Refused {
@@ -111,10 +111,10 @@ fn state_of<S: Source>(
 /// A fault of the name of the needed file; a read failed; or the budget is used up.
 fn lacks_version<S: Source>(
     objects: &mut [Object<S>],
-    among: &Among<'_>,
-    at: SymbolAt,
-    sought: &SoughtSymbol,
-    names: &mut SoughtNames,
+    among: &SearchScope<'_>,
+    at: DefinitionAt,
+    sought: &SymbolReference,
+    names: &mut ReferenceNames,
     left: &mut Option<u64>,
 ) -> Result<bool, Fault>
     requires { at.place < length objects.old }
@@ -122,7 +122,7 @@ fn lacks_version<S: Source>(
     ensures limited { IfErr result (OnlyLimited left.old) }
     ensures shown { names.new.shown ≡ names.old.shown }
     ensures known { OfSought objects.old at.place at.symbol sought.now (λ headers files told.
-        TellsAs (lacks_asked (bound_among headers files among.now) (get_or files at.place [])
+        ReturnsAs (missing_version_requested (bound_among headers files among.now) (get_or files at.place [])
         told.symbols at.symbol (asked_name (asked_if sought.now.versioned names.old.version)))
         result) }
 {
@@ -152,7 +152,7 @@ fn lacks_version<S: Source>(
 /// A read failed; or the budget is used up.
 fn lacks_in<S: Source>(
     objects: &mut [Object<S>],
-    among: &Among<'_>,
+    among: &SearchScope<'_>,
     name: &[u8],
     version: &[u8],
     left: &mut Option<u64>,
@@ -160,8 +160,8 @@ fn lacks_in<S: Source>(
     requires { length version.now ≤ 4096 }
     ensures asks { AsksAll objects.old objects.new left.old left.new }
     ensures limited { IfErr result (OnlyLimited left.old) }
-    ensures known { (headers : ℕ) (files : List (List ℕ)) → AreObjectsOf headers objects.old files →
-        TellsAs (Ok (object_lacks (bound_among headers files among.now) name.now version.now))
+    ensures known { (headers : ℕ) (files : List (List ℕ)) → AreObjectFiles headers objects.old files →
+        ReturnsAs (Ok (object_lacks (bound_among headers files among.now) name.now version.now))
         result }
 {
     let Some(index) = among.known.called(name) else {
@@ -175,7 +175,7 @@ fn lacks_in<S: Source>(
     }
     match objects[place].lacks_version(left, version) {
         Ok(lacks) => Ok(lacks),
-        Err(fault) if is_told_alone(fault) => Err(fault),
+        Err(fault) if is_reported_alone(fault) => Err(fault),
         Err(_) => Ok(false),
     }
 }

@@ -2,16 +2,16 @@
 ghost use Rattle.std.specs.Prelude.{◌≡◌, IfOk, IfSome};
 ghost use Rattle.elf_needs.specs.Budget.{AsksFile, AsksFound};
 
-use crate::object_file::{Account, ObjectFile};
+use crate::object_file::{ObjectFile, ReadAccount};
 use crate::walk::NeedsFault;
 use elf_headers::Fault;
-use elf_source::{OffsetReader, Source, StreamSource};
+use elf_source::{FileReader, Source, StreamSource};
 use std::os::unix::fs::FileExt;
 use std::rt::Files;
 use std::{fs, str};
 
 /// A file of the system, read at offsets.
-pub(crate) type FileSource<F> = StreamSource<OffsetReader<F>>;
+pub(crate) type FileSource<F> = StreamSource<FileReader<F>>;
 
 /// Opens the file at a path, if it is a regular one that can be opened, of 64 bits, little-endian and of
 /// this machine. No more is asked for than what is left of the budget, where there is one; what was asked
@@ -23,7 +23,7 @@ pub(crate) fn candidate<R: Files>(
     rt: &R,
     path: &[u8],
     machine: u16,
-    account: &mut Account,
+    account: &mut ReadAccount,
 ) -> Result<Option<ObjectFile<FileSource<R::File>>>, NeedsFault>
 where
     R::File: FileExt,
@@ -51,7 +51,7 @@ where
 fn fits<S: Source>(
     file: &mut ObjectFile<S>,
     machine: u16,
-    account: &mut Account,
+    account: &mut ReadAccount,
 ) -> Result<bool, NeedsFault>
     ensures { AsksFile file.old file.new account.old account.new }
 {
@@ -86,7 +86,7 @@ where
     let Ok(file) = fs::open(rt, path) else {
         return Ok(None);
     };
-    match StreamSource::over(OffsetReader::new(file)) {
+    match StreamSource::over(FileReader::new(file)) {
         Ok(source) => Ok(Some(ObjectFile::new(source))),
         Err(_) => Err(NeedsFault::Read),
     }

@@ -1,8 +1,8 @@
 //! The objects that are known so far.
 ghost use Rattle.std.specs.Prelude.{◌≡◌, is_some, option_map, position};
-ghost use Rattle.elf_needs.specs.Called.{called_by, is_called, is_text, short_index, text_told};
+ghost use Rattle.elf_needs.specs.Called.{called_by, is_called, is_text, index_by_short_name, text_told};
 
-use elf_libraries::{FileLinks, LinkStore, Need, Texts, folder_of_path};
+use elf_libraries::{LinkInfo, LinkInfoStore, Need, StringArena, dir_of_path};
 use std::alloc::{AllocError, Global};
 
 /// The most objects of a program.
@@ -18,7 +18,7 @@ const MOST_TEXTS: u32 = 32_768;
 
 /// An object: where it is, and what it needs.
 #[derive(Clone, Copy)]
-pub(crate) struct Known {
+pub(crate) struct KnownObject {
     /// The index of the object that first needed it.
     pub needer: Option<u16>,
     /// The index of the name that it was first needed by.
@@ -26,7 +26,7 @@ pub(crate) struct Known {
     /// The index of its path, whose folder stands for `$ORIGIN`.
     pub path: Option<u32>,
     /// What its dynamic entries tell.
-    pub links: FileLinks,
+    pub links: LinkInfo,
     /// The first of its needs, and the one behind its last.
     pub needs: usize,
     pub needs_end: usize,
@@ -34,23 +34,23 @@ pub(crate) struct Known {
 
 /// The objects that are known, with their texts, in memory that is taken once.
 #[derive(Drop)]
-pub struct Objects {
+pub struct ObjectList {
     /// What their dynamic entries tell.
-    pub(crate) links: LinkStore,
-    paths: Texts,
-    known: Vec<Known>,
+    pub(crate) links: LinkInfoStore,
+    paths: StringArena,
+    known: Vec<KnownObject>,
 }
 
-impl Objects {
+impl ObjectList {
     /// No object. The memory is taken from `alloc` here: for each of 512 objects 4,096 bytes of paths,
     /// 8,192 of texts, 1,544 for where texts and needs are, and its record.
     ///
     /// # Errors
     /// Where memory is refused.
-    pub(crate) fn new(alloc: Global) -> Result<Objects, AllocError> {
-        Ok(Objects {
-            links: LinkStore::new(alloc, TEXT_ROOM, MOST_TEXTS)?,
-            paths: Texts::new(alloc, PATH_ROOM, MOST_OBJECTS as u32)?,
+    pub(crate) fn new(alloc: Global) -> Result<ObjectList, AllocError> {
+        Ok(ObjectList {
+            links: LinkInfoStore::new(alloc, TEXT_ROOM, MOST_TEXTS)?,
+            paths: StringArena::new(alloc, PATH_ROOM, MOST_OBJECTS as u32)?,
             known: Vec::with_capacity(alloc, MOST_OBJECTS)?,
         })
     }
@@ -61,7 +61,7 @@ impl Objects {
     }
 
     /// The object of an index, if there is one.
-    pub(crate) fn get(&self, index: usize) -> Option<Known> {
+    pub(crate) fn get(&self, index: usize) -> Option<KnownObject> {
         match self.known.get(index) {
             Some(known) => Some(*known),
             None => None,
@@ -74,7 +74,7 @@ impl Objects {
     }
 
     /// Adds an object behind the others. Answers its index; None where there are 512.
-    pub(crate) fn add(&mut self, known: Known) -> Option<u16> {
+    pub(crate) fn add(&mut self, known: KnownObject) -> Option<u16> {
         if self.known.len() >= MOST_OBJECTS {
             return None;
         }
@@ -104,9 +104,9 @@ impl Objects {
     }
 
     /// The folder of an object, which stands for `$ORIGIN`.
-    pub(crate) fn folder(&self, known: &Known) -> &[u8] {
+    pub(crate) fn folder(&self, known: &KnownObject) -> &[u8] {
         match known.path {
-            Some(path) => folder_of_path(self.paths.get(path)),
+            Some(path) => dir_of_path(self.paths.get(path)),
             None => b".",
         }
     }
@@ -124,7 +124,7 @@ impl Objects {
     pub(crate) fn called(&self, name: &[u8]) -> Option<u16>
         ensures { result ≡ called_by self.now name.now }
     {
-        short_index(self.first_called(name))
+        index_by_short_name(self.first_called(name))
     }
 
     /// The place of the first object that has a name.
@@ -138,7 +138,7 @@ impl Objects {
     }
 
     /// Whether one object has a name.
-    fn is_called(&self, known: &Known, name: &[u8]) -> bool
+    fn is_called(&self, known: &KnownObject, name: &[u8]) -> bool
         ensures { result ≡ is_called self.now.links.held.texts name.now known.now }
     {
         is_text(self.text(known.name), name) || is_text(self.text(known.links.soname), name)
@@ -146,8 +146,8 @@ impl Objects {
 }
 
 /// An index of 16 bits, if it is one.
-fn short_index(found: Option<usize>) -> Option<u16>
-    ensures { result ≡ short_index found }
+fn index_by_short_name(found: Option<usize>) -> Option<u16>
+    ensures { result ≡ index_by_short_name found }
 {
     match found {
         Some(index) if index < 1 << 16 => Some(index as u16),

@@ -3,15 +3,15 @@ ghost use Rattle.std.specs.Prelude.{◌≡◌, ◌≤◌};
 ghost use Rattle.elf_needs.specs.Budget.{AsksFile};
 ghost use Rattle.elf_source.specs.Source.{counted};
 
-use elf_binding::take_off;
+use elf_binding::spend_budget;
 use elf_headers::{Fault, HeaderStore};
-use elf_libraries::{FileLinks, LinkStore, machine_of, read_links};
+use elf_libraries::{LinkInfo, LinkInfoStore, machine_of, read_link_info};
 use elf_source::{Counted, Source};
 use std::marker::Model;
 
 /// What files may be asked for, and what they were asked for.
 #[derive(Drop)]
-pub(crate) struct Account {
+pub(crate) struct ReadAccount {
     /// What is left of the budget, where there is one.
     pub left: Option<u64>,
     /// How many bytes the files were asked for that are closed. It stays at 2^128 - 1.
@@ -25,9 +25,9 @@ pub(crate) struct ObjectFile<S: Source> {
 }
 
 impl<S: Source> Model for ObjectFile<S> {
-    ghost use Rattle.elf_source.specs.Source.{Counting};
+    ghost use Rattle.elf_source.specs.Source.{CountedState};
 
-    ghost Value = { Counting };
+    ghost Value = { CountedState };
 
     ghost view = { λ f. f.source };
 }
@@ -48,40 +48,40 @@ impl<S: Source> ObjectFile<S> {
     ///
     /// # Errors
     /// Those of [`machine_of`].
-    pub(crate) fn machine(&mut self, account: &mut Account) -> Result<Option<u16>, Fault>
+    pub(crate) fn machine(&mut self, account: &mut ReadAccount) -> Result<Option<u16>, Fault>
         ensures { AsksFile self.old self.new account.old account.new }
     {
         let asked = self.source.asked();
         self.source.limit(account.left);
         let machine = machine_of(&mut self.source);
         self.source.limit(None);
-        take_off(&mut account.left, self.source.asked() - asked);
+        spend_budget(&mut account.left, self.source.asked() - asked);
         machine
     }
 
-    /// How it is linked, as [`read_links`] tells it. No more is asked for than what is left of the budget,
+    /// How it is linked, as [`read_link_info`] tells it. No more is asked for than what is left of the budget,
     /// where there is one; what was asked for is taken off.
     ///
     /// # Errors
-    /// Those of [`read_links`].
+    /// Those of [`read_link_info`].
     pub(crate) fn links(
         &mut self,
-        account: &mut Account,
+        account: &mut ReadAccount,
         store: &mut HeaderStore,
-        links: &mut LinkStore,
-    ) -> Result<FileLinks, Fault>
+        links: &mut LinkInfoStore,
+    ) -> Result<LinkInfo, Fault>
         ensures { AsksFile self.old self.new account.old account.new }
     {
         let asked = self.source.asked();
         self.source.limit(account.left);
-        let found = read_links(&mut self.source, store, links);
+        let found = read_link_info(&mut self.source, store, links);
         self.source.limit(None);
-        take_off(&mut account.left, self.source.asked() - asked);
+        spend_budget(&mut account.left, self.source.asked() - asked);
         found
     }
 
     /// Gives the source back. What was asked of it is added to what files were asked for.
-    pub(crate) fn close(self, account: &mut Account) -> S
+    pub(crate) fn close(self, account: &mut ReadAccount) -> S
         ensures source { S.seen result ≡ self.source }
         ensures left { account.new.left ≡ account.old.left }
         ensures grows { account.old.spent ≤ account.new.spent }

@@ -1,21 +1,26 @@
 //! The lines of the objects that a program needs.
 ghost use Rattle.std.specs.Prelude.{◌≡◌, ◌≤◌, length};
-ghost use Rattle.elf_source.specs.Output.{Puts};
+ghost use Rattle.elf_source.specs.Output.{OutPuts};
 ghost use Rattle.elf_fields.specs.Fronts.{front_of};
-ghost use Rattle.elf_needs.specs.ObjectLines.{file_state, object_front, object_line, object_word, too_many_line};
+ghost use Rattle.elf_needs.specs.ObjectLines.{file_state, object_front, object_line, object_state_name, too_many_line};
 
 use crate::states::ObjectState;
 use elf_fields::{
-    Columns, Line, LineFront, Object, Render, begin, begin_named, put_closing, put_decimal,
+    Columns, LineBuf, LinePrefix, Object, Render, begin, begin_named, put_closing, put_decimal,
     put_hexadecimal, put_name_or_decimal, put_text, show_named,
 };
 use elf_lines::put_fault;
-use elf_model::{FileState, Format};
+use elf_model::{FileStatus, Format};
 use elf_source::{Out, OutFault, Sink};
 
 /// The `L` line of an object up to its path.
 #[tactic(auto, unfolding(crate::specs::ObjectLines::object_front))]
-fn object_row<R: Render>(front: &mut LineFront, index: u16, needer: Option<u16>, state: ObjectState)
+fn object_row<R: Render>(
+    front: &mut LinePrefix,
+    index: u16,
+    needer: Option<u16>,
+    state: ObjectState,
+)
     ensures front { front_of front.new ≡ object_front R.FORMAT index needer state }
     ensures key { length front.new.key.now ≤ 16 }
 {
@@ -28,24 +33,24 @@ fn object_row<R: Render>(front: &mut LineFront, index: u16, needer: Option<u16>,
             put_name_or_decimal::<R>(line, b"needed_by", 5, None, u64::from(needer));
         }
     }
-    put_text::<R>(line, b"state", 8, object_word(state).as_bytes(), b' ');
+    put_text::<R>(line, b"state", 8, object_state_name(state).as_bytes(), b' ');
     put_fault::<R>(line, file_state(state));
 }
 
 /// The state of a file that is at fault where an object is refused.
-fn file_state(state: ObjectState) -> FileState
+fn file_state(state: ObjectState) -> FileStatus
     ensures { result ≡ file_state state }
 {
     match state {
-        ObjectState::Refused(refusal) => FileState::Refused(refusal),
-        ObjectState::Found | ObjectState::Missing => FileState::Ok,
+        ObjectState::Refused(refusal) => FileStatus::Refused(refusal),
+        ObjectState::Found | ObjectState::Missing => FileStatus::Ok,
     }
 }
 
 /// The word of a state in an object's line.
-#[tactic(auto, unfolding(crate::specs::ObjectLines::object_word))]
-fn object_word(state: ObjectState) -> &'static str
-    ensures word { result.now ≡ object_word state }
+#[tactic(auto, unfolding(crate::specs::ObjectLines::object_state_name))]
+fn object_state_name(state: ObjectState) -> &'static str
+    ensures word { result.now ≡ object_state_name state }
     ensures short { length result.now ≤ 8 }
 {
     match state {
@@ -69,9 +74,9 @@ pub fn show_object<W: Sink>(
     format: Format,
     out: &mut Out<W>,
 ) -> Result<(), OutFault>
-    ensures puts { Puts out.old out.new result (object_line format index needer state path.now) }
+    ensures puts { OutPuts out.old out.new result (object_line format index needer state path.now) }
 {
-    let mut front = LineFront::new();
+    let mut front = LinePrefix::new();
     match format {
         Format::Columns => object_row::<Columns>(&mut front, index, needer, state),
         Format::Object => object_row::<Object>(&mut front, index, needer, state),
@@ -85,7 +90,7 @@ pub fn show_object<W: Sink>(
 /// # Errors
 /// A fault of the output, with a front of the line written.
 pub fn show_too_many<W: Sink>(place: u64, format: Format, out: &mut Out<W>) -> Result<(), OutFault>
-    ensures puts { Puts out.old out.new result (too_many_line format place) }
+    ensures puts { OutPuts out.old out.new result (too_many_line format place) }
 {
     match format {
         Format::Columns => out.put(&too_many_row::<Columns>(place)),
@@ -95,10 +100,10 @@ pub fn show_too_many<W: Sink>(place: u64, format: Format, out: &mut Out<W>) -> R
 
 /// The line that ends the objects.
 #[tactic(auto, unfolding(crate::specs::ObjectLines::too_many_line))]
-fn too_many_row<R: Render>(place: u64) -> Line
+fn too_many_row<R: Render>(place: u64) -> LineBuf
     ensures { result.items ≡ too_many_line R.FORMAT place }
 {
-    let mut line = Line::new();
+    let mut line = LineBuf::new();
     begin::<R>(&mut line, b"!");
     put_hexadecimal::<R>(&mut line, b"place", 16, place, b' ');
     put_text::<R>(&mut line, b"cause", 0, b"too-many-objects", b'\n');

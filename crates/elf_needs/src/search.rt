@@ -3,10 +3,12 @@ ghost use Rattle.std.specs.Prelude.{◌≤◌, length};
 ghost use Rattle.elf_needs.specs.Budget.{AsksFound};
 
 use crate::candidates::{FileSource, candidate};
-use crate::known::{Known, MOST_OBJECTS, Objects};
-use crate::object_file::{Account, ObjectFile};
+use crate::known::{KnownObject, MOST_OBJECTS, ObjectList};
+use crate::object_file::{ObjectFile, ReadAccount};
 use crate::walk::NeedsFault;
-use elf_libraries::{FolderLists, LibrarySearch, Needer, TriedPath, gather_folders, named_path};
+use elf_libraries::{
+    CandidatePath, LibrarySearch, NeedingObject, SearchPaths, gather_dirs, named_path,
+};
 use memchr::memchr;
 use std::os::unix::fs::FileExt;
 use std::rt::Files;
@@ -14,7 +16,7 @@ use std::rt::Files;
 /// The folders that a command line tells, each text parted by colons, and what stands before each folder
 /// that is written with a slash at its front.
 #[derive(Clone, Copy)]
-pub struct SearchedFolders<'a> {
+pub struct SearchDirs<'a> {
     /// Those that come before an object's DT_RUNPATH.
     pub library: &'a [u8],
     /// Those that come last.
@@ -27,13 +29,13 @@ pub struct SearchedFolders<'a> {
 #[derive(Drop)]
 pub(crate) struct Search<'s> {
     /// The folders that are told.
-    pub folders: SearchedFolders<'s>,
+    pub folders: SearchDirs<'s>,
     /// The machine.
     pub machine: u16,
     /// The path that is tried.
-    pub path: TriedPath,
+    pub path: CandidatePath,
     /// What is left of the budget, and what was asked for.
-    pub account: Account,
+    pub account: ReadAccount,
 }
 
 impl Search<'_> {
@@ -46,8 +48,8 @@ impl Search<'_> {
     pub(crate) fn find<R: Files>(
         &mut self,
         rt: &R,
-        objects: &Objects,
-        needer: &Known,
+        objects: &ObjectList,
+        needer: &KnownObject,
         name: &[u8],
     ) -> Result<Option<ObjectFile<FileSource<R::File>>>, NeedsFault>
     where
@@ -87,32 +89,36 @@ impl Search<'_> {
 
 /// No texts of folders. It is not made part of its caller, whose stack would hold them three times.
 #[inline(never)]
-fn no_lists<'a>() -> FolderLists<'a> {
-    FolderLists::new()
+fn no_lists<'a>() -> SearchPaths<'a> {
+    SearchPaths::new()
 }
 
 /// Puts the texts of the folders in which a library is looked for that an object needs. It is not made part
 /// of its caller, whose stack would hold the objects above while paths are tried.
 #[inline(never)]
 fn gather<'a>(
-    objects: &'a Objects,
-    needer: &Known,
-    folders: &SearchedFolders<'a>,
-    lists: &mut FolderLists<'a>,
+    objects: &'a ObjectList,
+    needer: &KnownObject,
+    folders: &SearchDirs<'a>,
+    lists: &mut SearchPaths<'a>,
 ) {
-    let mut chain = [Needer::default(); MOST_OBJECTS];
+    let mut chain = [NeedingObject::default(); MOST_OBJECTS];
     let count = put_chain(objects, needer, &mut chain);
-    gather_folders(&chain[..count], folders.library, folders.default, lists);
+    gather_dirs(&chain[..count], folders.library, folders.default, lists);
 }
 
 /// Puts an object, the one that first needed it, and so on up to the program, as many as there is room for,
 /// at the front of others. Answers how many.
-fn put_chain<'a>(objects: &'a Objects, known: &Known, chain: &mut [Needer<'a>]) -> usize
+fn put_chain<'a>(
+    objects: &'a ObjectList,
+    known: &KnownObject,
+    chain: &mut [NeedingObject<'a>],
+) -> usize
     ensures { result ≤ length chain.new }
 {
     let mut known = *known;
     for place in 0..chain.len() {
-        chain[place] = Needer {
+        chain[place] = NeedingObject {
             rpath: objects.text(known.links.rpath),
             runpath: objects.text(known.links.runpath),
             folder: objects.folder(&known),
@@ -126,7 +132,7 @@ fn put_chain<'a>(objects: &'a Objects, known: &Known, chain: &mut [Needer<'a>]) 
 }
 
 /// The object that first needed another, if one did.
-fn above(objects: &Objects, known: &Known) -> Option<Known> {
+fn above(objects: &ObjectList, known: &KnownObject) -> Option<KnownObject> {
     match known.needer {
         Some(needer) => objects.get(usize::from(needer)),
         None => None,

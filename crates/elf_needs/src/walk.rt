@@ -3,25 +3,25 @@ ghost use Rattle.std.specs.Prelude.{◌≡◌};
 ghost use Rattle.elf_needs.specs.Budget.{AsksFile, AsksFiles};
 
 use crate::candidates::FileSource;
-use crate::known::{Known, MOST_OBJECTS, Objects};
-use crate::object_file::{Account, ObjectFile};
+use crate::known::{KnownObject, MOST_OBJECTS, ObjectList};
+use crate::object_file::{ObjectFile, ReadAccount};
 use crate::object_rows::{show_object, show_too_many};
-use crate::room::NeedsRoom;
-use crate::search::{Search, SearchedFolders};
+use crate::room::NeedsBuffers;
+use crate::search::{Search, SearchDirs};
 use crate::states::ObjectState;
-use elf_binding::{OpenObjects, PagedSource};
+use elf_binding::{CachedSource, OpenObjects};
 use elf_headers::{Fault, HeaderStore};
-use elf_libraries::{FileLinks, Need, TriedPath};
+use elf_libraries::{CandidatePath, LinkInfo, Need};
 use elf_model::Format;
 use elf_source::{Out, OutFault, Sink, Source};
 use std::os::unix::fs::FileExt;
 use std::rt::Files;
 
 /// Objects whose files are kept open, files of the system.
-pub type OpenFiles<F> = OpenObjects<KeptSource<F>>;
+pub type OpenFiles<F> = OpenObjects<CachedFile<F>>;
 
 /// The source of a file of the system that is kept open, with some of its pages.
-type KeptSource<F> = PagedSource<FileSource<F>>;
+type CachedFile<F> = CachedSource<FileSource<F>>;
 
 /// Why a walk came to no end.
 #[derive(Clone, Copy)]
@@ -34,9 +34,9 @@ pub enum NeedsFault {
 
 /// What a walk goes by.
 #[derive(Clone, Copy)]
-pub struct NeedsSettings<'a> {
+pub struct NeedsOptions<'a> {
     /// The folders that are told.
-    pub folders: SearchedFolders<'a>,
+    pub folders: SearchDirs<'a>,
     /// How many bytes may be asked for, of all files together, where that is limited.
     pub budget: Option<u64>,
     /// How a line is written.
@@ -47,7 +47,7 @@ pub struct NeedsSettings<'a> {
 #[derive(Clone, Copy)]
 struct Told {
     state: ObjectState,
-    links: FileLinks,
+    links: LinkInfo,
     needs: usize,
     needs_end: usize,
 }
@@ -72,35 +72,35 @@ enum Onward {
 
 /// A walk over the objects of a program: what it uses for each, and what has come of them so far.
 #[derive(Drop)]
-pub struct ObjectWalk<'w, 's, W: Sink> {
+pub struct DependencyWalk<'w, 's, W: Sink> {
     pub(crate) search: Search<'s>,
-    pub(crate) objects: Objects,
+    pub(crate) objects: ObjectList,
     store: HeaderStore<'w>,
     pub(crate) format: Format,
     pub(crate) out: Out<W>,
     pub(crate) status: u8,
 }
 
-impl<'w, 's, W: Sink> ObjectWalk<'w, 's, W> {
+impl<'w, 's, W: Sink> DependencyWalk<'w, 's, W> {
     /// A walk with no object yet. Headers are loaded into the store, and lines are written to `out`.
     pub fn new(
-        settings: &NeedsSettings<'s>,
+        settings: &NeedsOptions<'s>,
         store: HeaderStore<'w>,
-        room: NeedsRoom,
+        room: NeedsBuffers,
         out: Out<W>,
-    ) -> ObjectWalk<'w, 's, W>
+    ) -> DependencyWalk<'w, 's, W>
         ensures budget { result.search.account.left ≡ settings.now.budget }
         ensures format { result.format ≡ settings.now.format }
         ensures fresh { (result.status ≡ 0) × (result.search.account.spent ≡ 0) }
         ensures out { result.out ≡ out }
     {
-        let NeedsRoom { objects } = room;
-        ObjectWalk {
+        let NeedsBuffers { objects } = room;
+        DependencyWalk {
             search: Search {
                 folders: settings.folders,
                 machine: 0,
-                path: TriedPath::new(),
-                account: Account {
+                path: CandidatePath::new(),
+                account: ReadAccount {
                     left: settings.budget,
                     spent: 0,
                 },
@@ -117,12 +117,12 @@ impl<'w, 's, W: Sink> ObjectWalk<'w, 's, W> {
     pub fn into_out(self) -> Out<W>
         ensures { result ≡ self.entry.out }
     {
-        let ObjectWalk { out, .. } = self;
+        let DependencyWalk { out, .. } = self;
         out
     }
 }
 
-impl<W: Sink> ObjectWalk<'_, '_, W> {
+impl<W: Sink> DependencyWalk<'_, '_, W> {
     /// Lists the objects that a program needs, in a loader's order: the program, then for each object in
     /// order each library that it needs and that is none of those before. A line for each. Answers the exit
     /// status, 1 where one is missing or refused, or there are more than 512, and whether all are listed. No more is asked for, of all
@@ -173,7 +173,7 @@ impl<W: Sink> ObjectWalk<'_, '_, W> {
         source: S,
         path: &[u8],
         real: &[u8],
-        opened: &mut OpenObjects<PagedSource<S>>,
+        opened: &mut OpenObjects<CachedSource<S>>,
     ) -> Result<(), NeedsFault>
         ensures asks { AsksFiles opened.old.objects.items opened.new.objects.items 0
             self.old.search.account self.new.search.account }
@@ -204,7 +204,7 @@ impl<W: Sink> ObjectWalk<'_, '_, W> {
         &mut self,
         rt: &R,
         index: usize,
-        known: &Known,
+        known: &KnownObject,
         opened: &mut OpenFiles<R::File>,
     ) -> Result<Onward, NeedsFault>
     where
@@ -235,7 +235,7 @@ impl<W: Sink> ObjectWalk<'_, '_, W> {
         &mut self,
         rt: &R,
         index: usize,
-        needer: &Known,
+        needer: &KnownObject,
         need: Need,
         opened: &mut OpenFiles<R::File>,
     ) -> Result<(), NeedsFault>
@@ -272,7 +272,7 @@ impl<W: Sink> ObjectWalk<'_, '_, W> {
         by: Option<u16>,
         name: u32,
         file: ObjectFile<S>,
-        opened: &mut OpenObjects<PagedSource<S>>,
+        opened: &mut OpenObjects<CachedSource<S>>,
     ) -> Result<(), NeedsFault>
         ensures asks { AsksFiles opened.old.objects.items opened.new.objects.items file.asked
             self.old.search.account self.new.search.account }
@@ -319,7 +319,7 @@ impl<W: Sink> ObjectWalk<'_, '_, W> {
         &mut self,
         file: ObjectFile<S>,
         told: Result<Told, NeedsFault>,
-        opened: &mut OpenObjects<PagedSource<S>>,
+        opened: &mut OpenObjects<CachedSource<S>>,
     ) -> Result<Told, NeedsFault>
         ensures asks { AsksFiles opened.old.objects.items opened.new.objects.items file.asked
             self.old.search.account self.new.search.account }
@@ -351,7 +351,7 @@ impl<W: Sink> ObjectWalk<'_, '_, W> {
         if !matches!(told.state, ObjectState::Found) {
             self.status = 1;
         }
-        let added = self.objects.add(Known {
+        let added = self.objects.add(KnownObject {
             needer,
             name,
             path,
@@ -367,7 +367,7 @@ impl<W: Sink> ObjectWalk<'_, '_, W> {
 fn told_alone(state: ObjectState) -> Told {
     Told {
         state,
-        links: FileLinks {
+        links: LinkInfo {
             soname: None,
             rpath: None,
             runpath: None,

@@ -7,9 +7,9 @@ use Rattle.elf_model.specs.Numbers.{DT_NULL}
 use Rattle.elf_model.specs.Records.{d_tag, d_un}
 use Rattle.elf_model.proofs.DynamicLaws.{count-zero, count-null, count-more, value-none, value-here, value-more}
 use Rattle.elf_model.proofs.Slices.{field-slice}
-use Rattle.elf_table.specs.Cursors.{Reading, GivesRow, Advances, next_row}
+use Rattle.elf_table.specs.Cursors.{CursorState, GivesRow, Advances, next_row}
 use Rattle.elf_table.specs.Tables.{Rows}
-use Rattle.elf_note.specs.DynCursors.{EntryReading, AdvancesEntries, GivesEntry, EndsEntries, entries_left, first_value, value_here}
+use Rattle.elf_note.specs.DynCursors.{DynCursorState, AdvancesEntries, GivesEntry, EndsEntries, entries_left, first_value, value_here}
 
 is-same : (x y : ℕ) → (x == y) ≡ true → x ≡ y
 is-same x y t = grind (arith, nat_tests)
@@ -18,26 +18,26 @@ is-other : (x y : ℕ) → (x == y) ≡ false → x ≢ y
 is-other x y t = grind (arith, nat_tests)
 
 -- behind the last entry none is left
-pub left-ended : (file : List ℕ) (d : EntryReading) → d.ended ≡ true → entries_left file d ≡ 0
+pub left-ended : (file : List ℕ) (d : DynCursorState) → d.ended ≡ true → entries_left file d ≡ 0
 left-ended file d e = rw e refl
 
 -- else those are left that the table has
-left-more : (file : List ℕ) (d : EntryReading) → d.ended ≡ false → entries_left file d ≡ dynamic_count file (next_row d.cursor) d.cursor.left
+left-more : (file : List ℕ) (d : DynCursorState) → d.ended ≡ false → entries_left file d ≡ dynamic_count file (next_row d.cursor) d.cursor.left
 left-more file d e = rw e refl
 
 -- behind the last row none is left
-left-none : (file : List ℕ) (d : EntryReading) → d.ended ≡ false → d.cursor.left ≡ 0 → entries_left file d ≡ 0
+left-none : (file : List ℕ) (d : DynCursorState) → d.ended ≡ false → d.cursor.left ≡ 0 → entries_left file d ≡ 0
 left-none file d e z = left-more file d e ∙ ap (dynamic_count file (next_row d.cursor)) z ∙ count-zero file (next_row d.cursor)
 
 -- the next entry stands behind the one that a step gives
-pub next-place : (file : Option (List ℕ)) (old new : Reading) → GivesRow file old new → old.table.entry ≡ 16 → next_row new ≡ next_row old + 16
+pub next-place : (file : Option (List ℕ)) (old new : CursorState) → GivesRow file old new → old.table.entry ≡ 16 → next_row new ≡ next_row old + 16
 next-place file old new g e =
     let next = g.next_index in
     let moved : old.table.at + new.index * 16 ≡ old.table.at + old.index * 16 + 16 = omega arith in
     ap (λ (t : Rows). t.at + new.index * t.entry) g.same_table ∙ ap (λ (x : ℕ). old.table.at + new.index * x) e ∙ moved
     ∙ ap (λ (x : ℕ). old.table.at + old.index * x + 16) (sym e)
 
-one-less : (file : List ℕ) (old new : EntryReading) → old.ended ≡ false → new.ended ≡ (d_tag file (next_row old.cursor) == DT_NULL)
+one-less : (file : List ℕ) (old new : DynCursorState) → old.ended ≡ false → new.ended ≡ (d_tag file (next_row old.cursor) == DT_NULL)
     → new.cursor.left + 1 ≡ old.cursor.left → next_row new.cursor ≡ next_row old.cursor + 16 → entries_left file old ≡ suc (entries_left file new)
 one-less file old new e n l p =
     let more : old.cursor.left ≡ suc new.cursor.left = omega arith in
@@ -51,7 +51,7 @@ one-less file old new e n l p =
         ∙ ap suc (ap (λ (x : ℕ). dynamic_count file x new.cursor.left) (sym p) ∙ sym (left-more file new (n ∙ t)))
 
 -- a step over a row gives its entry
-pub gives-entry : (file : Option (List ℕ)) (old new : EntryReading) (b : Bool) → b ≡ true → Advances file old.cursor new.cursor (Ok b) → old.cursor.table.entry ≡ 16
+pub gives-entry : (file : Option (List ℕ)) (old new : DynCursorState) (b : Bool) → b ≡ true → Advances file old.cursor new.cursor (Ok b) → old.cursor.table.entry ≡ 16
     → old.ended ≡ false → new.ended ≡ (d_tag new.cursor.row 0 == DT_NULL) → GivesEntry file old new
 gives-entry file old new false t s size e n = cc
 gives-entry file old new true t s size e n = record {
@@ -67,11 +67,11 @@ gives-entry file old new true t s size e n = record {
 }
 
 -- a step past the last row
-pub ends-entries : (file : Option (List ℕ)) (old : EntryReading) (later : Reading) (b : Bool) → b ≡ false → Advances file old.cursor later (Ok b) → old.ended ≡ false
+pub ends-entries : (file : Option (List ℕ)) (old : DynCursorState) (later : CursorState) (b : Bool) → b ≡ false → Advances file old.cursor later (Ok b) → old.ended ≡ false
     → EndsEntries old (record { cursor = later; ended = old.ended })
 ends-entries file old later true t s e = cc
 ends-entries file old later false t s e = record {
-  unchanged = ap (λ (x : Reading). record { cursor = x; ended = old.ended }) s.unchanged;
+  unchanged = ap (λ (x : CursorState). record { cursor = x; ended = old.ended }) s.unchanged;
   not_failed = s.not_failed;
   behind = inr s.none_left;
   none_left = λ bytes. left-none bytes old e s.none_left;
@@ -92,7 +92,7 @@ value-suc file at n tag = go (d_tag file at == tag) refl
     go false t = ap (λ (x : Option ℕ). first_value x (dynamic_value file (at + 16) n tag)) (here-none file at tag t) ∙ sym (value-more file at n tag (is-other (d_tag file at) tag t))
 
 -- a value that is looked for in the entry that a step gives, and then in those that are left
-pub value-step : (file : List ℕ) (old new : EntryReading) (tag : ℕ) (found : Option ℕ) → entries_left file old ≡ suc (entries_left file new)
+pub value-step : (file : List ℕ) (old new : DynCursorState) (tag : ℕ) (found : Option ℕ) → entries_left file old ≡ suc (entries_left file new)
     → next_row new.cursor ≡ next_row old.cursor + 16
     → first_value (first_value found (value_here file (next_row old.cursor) tag)) (dynamic_value file (next_row new.cursor) (entries_left file new) tag)
     ≡ first_value found (dynamic_value file (next_row old.cursor) (entries_left file old) tag)
@@ -103,17 +103,17 @@ value-step file old new tag None less next =
     ∙ ap (λ (n : ℕ). dynamic_value file (next_row old.cursor) n tag) (sym less)
 
 -- where no entry is left, a value is what was found
-pub value-end : (file : List ℕ) (d : EntryReading) (tag : ℕ) (found : Option ℕ) → entries_left file d ≡ 0
+pub value-end : (file : List ℕ) (d : DynCursorState) (tag : ℕ) (found : Option ℕ) → entries_left file d ≡ 0
     → first_value found (dynamic_value file (next_row d.cursor) (entries_left file d) tag) ≡ found
 value-end file d tag (Some value) z = refl
 value-end file d tag None z = ap (λ (n : ℕ). dynamic_value file (next_row d.cursor) n tag) z ∙ value-none file (next_row d.cursor) tag
 
 -- a step that answered an entry gave it
-pub given : (file : Option (List ℕ)) (old new : EntryReading) (b : Bool) → b ≡ true → AdvancesEntries file old new (Ok b) → GivesEntry file old new
+pub given : (file : Option (List ℕ)) (old new : DynCursorState) (b : Bool) → b ≡ true → AdvancesEntries file old new (Ok b) → GivesEntry file old new
 given file old new true t s = s
 given file old new false t s = cc
 
 -- a step that answered none ended
-pub ended : (file : Option (List ℕ)) (old new : EntryReading) (b : Bool) → b ≡ false → AdvancesEntries file old new (Ok b) → EndsEntries old new
+pub ended : (file : Option (List ℕ)) (old new : DynCursorState) (b : Bool) → b ≡ false → AdvancesEntries file old new (Ok b) → EndsEntries old new
 ended file old new false t s = s
 ended file old new true t s = cc

@@ -1,24 +1,24 @@
 -- A loop over the dynamic entries of a table: what its reads come to, and which entry each step gives.
 use Rattle.std.proofs.Common.{◌≡◌, ℕ, suc, ◌+◌, ◌≤◌, List, None, Some, refl, ap, ◌∙◌, arith}
 use Rattle.elf_model.specs.Bytes.{slice}
-use Rattle.elf_source.specs.Source.{Counting, Reads}
-use Rattle.elf_source.proofs.ReadsLaws.{Reads-none, Reads-then, Reads-to}
+use Rattle.elf_source.specs.Source.{CountedState, ReadsUpTo}
+use Rattle.elf_source.proofs.ReadsLaws.{ReadsUpTo-none, ReadsUpTo-then, ReadsUpTo-to}
 use Rattle.elf_table.specs.Cursors.{HoldsRows, next_row, unread_bytes}
 use Rattle.elf_table.specs.Tables.{Rows, size_of}
-use Rattle.elf_note.specs.DynCursors.{EntryReading, GivesEntry, StartsEntries, entries_left}
+use Rattle.elf_note.specs.DynCursors.{DynCursorState, GivesEntry, StartsEntries, entries_left}
 use Rattle.elf_note.proofs.EntriesLeft.{next-place}
 
 -- where a loop over the entries of a table stands: its cursor did not fail, what was asked for is no longer unread, and what is
 -- held is the file's
-pub record GoesOver (table : Rows) (before after : Counting) (d : EntryReading) : Type 0 where
+pub record GoesOver (table : Rows) (before after : CountedState) (d : DynCursorState) : Type 0 where
   pub same_table : d.cursor.table ≡ table
   pub not_failed : d.cursor.failed ≡ None
-  pub reads : Reads before after (size_of table)
+  pub reads : ReadsUpTo before after (size_of table)
   pub account : after.asked + unread_bytes d.cursor ≤ before.asked + size_of table
   pub agrees : (file : List ℕ) → before.seen.file ≡ Some file → HoldsRows file d.cursor
 
 -- before the first entry
-pub goes-start : {table : Rows} (c : Counting) {d : EntryReading} → StartsEntries table d → GoesOver table c c d
+pub goes-start : {table : Rows} (c : CountedState) {d : DynCursorState} → StartsEntries table d → GoesOver table c c d
 goes-start {table} c {d} s =
     let unread = s.unread in
     let well = s.not_failed in
@@ -26,18 +26,18 @@ goes-start {table} c {d} s =
     record {
       same_table = s.its_table;
       not_failed = well;
-      reads = Reads-none c (size_of table);
+      reads = ReadsUpTo-none c (size_of table);
       account = rw (well, unread) (omega arith);
       agrees = λ file h. rw held refl;
     }
 
 -- what was asked for by a step more
-pub goes-reads : {table : Rows} {a b c : Counting} {old : EntryReading} → GoesOver table a b old → Reads b c (unread_bytes old.cursor) → Reads a c (size_of table)
-goes-reads g reads = Reads-to (Reads-then g.reads reads) (let x = reads.at_most in let y = g.account in omega arith)
+pub goes-reads : {table : Rows} {a b c : CountedState} {old : DynCursorState} → GoesOver table a b old → ReadsUpTo b c (unread_bytes old.cursor) → ReadsUpTo a c (size_of table)
+goes-reads g reads = ReadsUpTo-to (ReadsUpTo-then g.reads reads) (let x = reads.at_most in let y = g.account in omega arith)
 
 -- behind an entry
-module _ {table : Rows} {a b : Counting} {old new : EntryReading} (g : GoesOver table a b old) (s : GivesEntry b.seen.file old new) where
-  pub goes-next : {c : Counting} → Reads b c (unread_bytes old.cursor) → c.asked + unread_bytes new.cursor ≤ b.asked + unread_bytes old.cursor → GoesOver table a c new
+module _ {table : Rows} {a b : CountedState} {old new : DynCursorState} (g : GoesOver table a b old) (s : GivesEntry b.seen.file old new) where
+  pub goes-next : {c : CountedState} → ReadsUpTo b c (unread_bytes old.cursor) → c.asked + unread_bytes new.cursor ≤ b.asked + unread_bytes old.cursor → GoesOver table a c new
   goes-next reads account = record {
     same_table = s.gives.same_table ∙ g.same_table;
     not_failed = s.gives.still_not_failed;

@@ -3,7 +3,7 @@ use Rattle.std.proofs.Common.{◌≡◌, ℕ, ◌+◌, ◌<◌, ◌≤◌, min, 
 use Rattle.std.proofs.lemmas.List.{take_all}
 use Rattle.elf_model.specs.Bytes.{slice}
 use Rattle.elf_model.specs.Names.{nul_in}
-use Rattle.elf_model.specs.Names.Shown.{Whole, Cut}
+use Rattle.elf_model.specs.Names.DisplayedName.{Whole, Cut}
 use Rattle.elf_model.specs.Notes.{Note, note_shown}
 use Rattle.elf_model.proofs.NoteLoops.{note-shown-found, note-shown-all, note-shown-over}
 use Rattle.elf_model.proofs.Nuls.{some-free}

@@ -4,33 +4,33 @@ use Rattle.std.proofs.lemmas.Bool.{cases_lt}
 use Rattle.std.proofs.lemmas.List.{take_all}
 use Rattle.elf_model.specs.Bytes.{slice, field}
 use Rattle.elf_model.specs.Records.{n_namesz, n_descsz, n_type}
-use Rattle.elf_model.specs.Notes.{Note, are_zeros, first_note, first_end, to_next, descriptor_start, OneNote, note_shown, with_note}
+use Rattle.elf_model.specs.Notes.{Note, are_zeros, first_note, first_end, bytes_to_alignment, descriptor_start, OneNote, note_shown, with_note}
 use Rattle.elf_model.proofs.Slices.{slice-size, slice-slice, slice-rest, field-slice}
 use Rattle.elf_model.proofs.Spellings.{next-ends, next-tails, next-past, next-found}
 use Rattle.elf_model.proofs.Walks.{walk, walk-ends, walk-broken, walk-found}
 use Rattle.elf_record.specs.NoteHead.{IsNoteHead}
 use Rattle.elf_record.specs.declared.note_head.NoteHead.{NoteHead}
 use Rattle.elf_table.specs.declared.names.NameEnd.{NameEnd}
-use Rattle.elf_table.specs.Windows.{Ahead, bytes_left, range_end}
+use Rattle.elf_table.specs.Windows.{WindowState, bytes_left, range_end}
 use Rattle.elf_headers.specs.Faults.{IsOfRead}
 use Rattle.elf_headers.specs.declared.fault.Fault.{Fault}
 use Rattle.elf_headers.specs.declared.fault.Fault.TheVariants.{Refused, Source}
-use Rattle.elf_note.specs.NoteCursors.{rest, notes_left, no_notes, cut_at, NameIs, TellsNote, note_cut, note_size}
+use Rattle.elf_note.specs.NoteCursors.{rest, notes_left, no_notes, cut_at, NameIs, ReturnsNote, note_cut, note_size}
 
 -- a fault of a read is no refusal of a table of notes
 pub no-cut : {at : ℕ} (fault : Fault) → IsOfRead fault → fault ≡ note_cut at → ⊥
 no-cut (Refused refusal) budget is = cc
 no-cut (Source fault at) budget is = cc
 
-short : (file : List ℕ) (w : Ahead) → bytes_left w < 12 → length (rest file w) < 12
+short : (file : List ℕ) (w : WindowState) → bytes_left w < 12 → length (rest file w) < 12
 short file w few = omega (arith, length-take (bytes_left w) (drop w.at file))
 
 -- zeros alone are left
-pub left-zeros : (a : ℕ) (file : List ℕ) (w : Ahead) → bytes_left w < 12 → are_zeros (rest file w) ≡ true → notes_left a file w ≡ no_notes
+pub left-zeros : (a : ℕ) (file : List ℕ) (w : WindowState) → bytes_left w < 12 → are_zeros (rest file w) ≡ true → notes_left a file w ≡ no_notes
 left-zeros a file w few z = walk-ends a w.at (rest file w) (next-ends a (rest file w) (short file w few) z)
 
 -- too few bytes are left, and not all are zero
-pub left-few : (a : ℕ) (file : List ℕ) (w : Ahead) → bytes_left w < 12 → are_zeros (rest file w) ≡ false → notes_left a file w ≡ cut_at w.at
+pub left-few : (a : ℕ) (file : List ℕ) (w : WindowState) → bytes_left w < 12 → are_zeros (rest file w) ≡ false → notes_left a file w ≡ cut_at w.at
 left-few a file w few z = walk-broken a w.at (rest file w) (next-tails a (rest file w) (short file w few) z)
 
 -- the head of what is left is the note's
@@ -50,7 +50,7 @@ end-is : (a : ℕ) (bytes : List ℕ) (head : NoteHead) → Heads bytes head →
 end-is a bytes head e = rw (e.name, e.descriptor) refl
 
 -- the note that the head says does not fit
-pub left-short : (a : ℕ) (file : List ℕ) (w : Ahead) (head : NoteHead) → IsNoteHead file w.at head → range_end w ≤ length file → 12 ≤ bytes_left w
+pub left-short : (a : ℕ) (file : List ℕ) (w : WindowState) (head : NoteHead) → IsNoteHead file w.at head → range_end w ≤ length file → 12 ≤ bytes_left w
     → bytes_left w < descriptor_start a head.namesz head.descsz + head.descsz → notes_left a file w ≡ cut_at w.at
 left-short a file w head s ends h few =
     let long : length (rest file w) ≡ bytes_left w = slice-size file w.at (bytes_left w) (omega arith) in
@@ -62,7 +62,7 @@ pub size-parts : (s t n : ℕ) → s ≤ n → min (s + t) n ≡ s + min t (n - 
 size-parts s t n few = omega arith
 
 -- a note stands there
-pub left-found : (a : ℕ) (file : List ℕ) (old new : Ahead) (head : NoteHead) → IsNoteHead file old.at head → range_end old ≤ length file → 12 ≤ bytes_left old
+pub left-found : (a : ℕ) (file : List ℕ) (old new : WindowState) (head : NoteHead) → IsNoteHead file old.at head → range_end old ≤ length file → 12 ≤ bytes_left old
     → descriptor_start a head.namesz head.descsz + head.descsz ≤ bytes_left old → range_end new ≡ range_end old
     → new.at ≡ old.at + note_size a head.namesz head.descsz (bytes_left old)
     → notes_left a file old ≡ with_note (first_note a (rest file old)) (notes_left a file new)
@@ -70,7 +70,7 @@ left-found a file old new head s ends h fits same moved =
     let long : length (rest file old) ≡ bytes_left old = slice-size file old.at (bytes_left old) (omega arith) in
     let e = end-is a (rest file old) head (heads file old.at (bytes_left old) head h s) in
     let size : ℕ = note_size a head.namesz head.descsz (bytes_left old) in
-    let its : min (first_end a (rest file old) + to_next a (first_end a (rest file old))) (length (rest file old)) ≡ size = rw (e, long) refl in
+    let its : min (first_end a (rest file old) + bytes_to_alignment a (first_end a (rest file old))) (length (rest file old)) ≡ size = rw (e, long) refl in
     let next = next-found a (rest file old) (omega arith) (omega arith) ∙ ap (OneNote (first_note a (rest file old))) its in
     let behind : drop size (rest file old) ≡ rest file new =
     slice-rest file old.at (bytes_left old) size (omega arith) ∙ ap (λ (x : ℕ). slice file x (bytes_left old - size)) (sym moved) ∙ ap (slice file new.at) (omega arith) in
@@ -90,13 +90,13 @@ first-bytes file at size shown e = go (cases_lt size 32)
         let most : 32 ≡ shown = omega arith in
         take-take 32 size (drop at file) more ∙ ap (slice file at) most
 
-pub found-tells : (file : List ℕ) (a cap : ℕ) (old new : Ahead) (head : NoteHead) (name_end : NameEnd) (name desc : List ℕ) (place desc_at shown : ℕ)
+pub found-tells : (file : List ℕ) (a cap : ℕ) (old new : WindowState) (head : NoteHead) (name_end : NameEnd) (name desc : List ℕ) (place desc_at shown : ℕ)
     → place ≡ old.at → IsNoteHead file old.at head → range_end old ≤ length file → 12 ≤ bytes_left old
     → descriptor_start a head.namesz head.descsz + head.descsz ≤ bytes_left old → range_end new ≡ range_end old
     → new.at ≡ old.at + note_size a head.namesz head.descsz (bytes_left old)
     → ((note : Note) → note.name ≡ slice file (old.at + 12) head.namesz → length note.name ≡ head.namesz → NameIs name_end name (note_shown cap note))
     → desc_at ≡ old.at + descriptor_start a head.namesz head.descsz → shown ≡ min head.descsz 32 → take shown desc ≡ slice file desc_at shown
-    → TellsNote file a cap old.at name desc (notes_left a file old) (notes_left a file new) (Ok (Some (record { at = place; head = head; name_end = name_end; desc_at = desc_at; shown = shown })))
+    → ReturnsNote file a cap old.at name desc (notes_left a file old) (notes_left a file new) (Ok (Some (record { at = place; head = head; name_end = name_end; desc_at = desc_at; shown = shown })))
 found-tells file a cap old new head name_end name desc place desc_at shown here s ends h fits same moved named da sh db =
     let bytes : List ℕ = rest file old in
     let long : length bytes ≡ bytes_left old = slice-size file old.at (bytes_left old) (omega arith) in
@@ -125,21 +125,21 @@ found-tells file a cap old new head name_end name desc place desc_at shown here 
 -- the places of a note's parts, one behind the other
 pub moved-by : (a at namesz descsz left behind place start moved : ℕ) → place ≡ at + descriptor_start a namesz descsz → start ≡ descriptor_start a namesz descsz
     → descriptor_start a namesz descsz + descsz ≤ left → behind + descriptor_start a namesz descsz ≡ left
-    → moved ≡ place + descsz + min (to_next a (start + descsz)) (behind - descsz) → moved ≡ at + note_size a namesz descsz left
+    → moved ≡ place + descsz + min (bytes_to_alignment a (start + descsz)) (behind - descsz) → moved ≡ at + note_size a namesz descsz left
 moved-by a at namesz descsz left behind place start moved p s fits b m =
     let size : ℕ = descriptor_start a namesz descsz + descsz in
     let e : behind - descsz ≡ left - size = omega arith in
-    m ∙ ap (λ (x : ℕ). x + descsz + min (to_next a (start + descsz)) (behind - descsz)) p
-    ∙ ap (λ (x : ℕ). at + descriptor_start a namesz descsz + descsz + min (to_next a (x + descsz)) (behind - descsz)) s
-    ∙ ap (λ (x : ℕ). at + descriptor_start a namesz descsz + descsz + min (to_next a size) x) e
-    ∙ sum at (descriptor_start a namesz descsz) descsz (min (to_next a size) (left - size))
-    ∙ ap (λ (x : ℕ). at + x) (sym (size-parts size (to_next a size) left fits))
+    m ∙ ap (λ (x : ℕ). x + descsz + min (bytes_to_alignment a (start + descsz)) (behind - descsz)) p
+    ∙ ap (λ (x : ℕ). at + descriptor_start a namesz descsz + descsz + min (bytes_to_alignment a (x + descsz)) (behind - descsz)) s
+    ∙ ap (λ (x : ℕ). at + descriptor_start a namesz descsz + descsz + min (bytes_to_alignment a size) x) e
+    ∙ sum at (descriptor_start a namesz descsz) descsz (min (bytes_to_alignment a size) (left - size))
+    ∙ ap (λ (x : ℕ). at + x) (sym (size-parts size (bytes_to_alignment a size) left fits))
   where
     sum : (x y z w : ℕ) → x + y + z + w ≡ x + (y + z + w)
     sum x y z w = omega arith
 
 -- what is left of a window once it moved over a note
-pub taken-size : (a : ℕ) (head : NoteHead) (old new : Ahead) → range_end new ≡ range_end old
+pub taken-size : (a : ℕ) (head : NoteHead) (old new : WindowState) → range_end new ≡ range_end old
     → new.at ≡ old.at + note_size a head.namesz head.descsz (bytes_left old)
     → bytes_left new + note_size a head.namesz head.descsz (bytes_left old) ≡ bytes_left old
 taken-size a head old new same moved = let size : ℕ = note_size a head.namesz head.descsz (bytes_left old) in omega (arith, same, moved)

@@ -4,24 +4,24 @@ use Rattle.elf_model.specs.Dynamic.{dynamic_count, listed_value}
 use Rattle.elf_model.specs.Numbers.{DT_NULL, DT_STRSZ, DT_STRTAB}
 use Rattle.elf_model.specs.Records.{d_tag, d_un}
 use Rattle.elf_source.specs.Onward.{ReadsOnward}
-use Rattle.elf_source.specs.Source.{Seen, Counting}
-use Rattle.elf_table.specs.Cursors.{Reading, HoldsRows, FailsRows, GivesRow, ShowsRow, asked_to, next_row, unread_bytes}
+use Rattle.elf_source.specs.Source.{SourceState, CountedState}
+use Rattle.elf_table.specs.Cursors.{CursorState, HoldsRows, FailsRows, GivesRow, ShowsRow, asked_to, next_row, unread_bytes}
 use Rattle.elf_table.specs.Tables.{Rows, size_of}
 use Rattle.elf_headers.specs.declared.fault.Fault.{Fault}
 use Rattle.elf_table.specs.declared.row.Row.{Row}
-use Rattle.elf_note.specs.declared.string_values.DynStrings.{DynStrings}
+use Rattle.elf_note.specs.declared.string_values.DynamicStrings.{DynamicStrings}
 
 -- a cursor over the rows of a table, and whether it has given the entry that ends them
-pub record EntryReading : Type 0 where
-  pub cursor : Reading
+pub record DynCursorState : Type 0 where
+  pub cursor : CursorState
   pub ended : Bool
 
 -- how many entries of a file a cursor still gives: those up to and with the first DT_NULL, or all
-abbrev pub entries_left : List ℕ → EntryReading → ℕ
+abbrev pub entries_left : List ℕ → DynCursorState → ℕ
 entries_left file d = if d.ended then 0 else dynamic_count file (next_row d.cursor) d.cursor.left
 
 -- a cursor before the first entry of a table
-pub record StartsEntries (table : Rows) (d : EntryReading) : Type 0 where
+pub record StartsEntries (table : Rows) (d : DynCursorState) : Type 0 where
   pub its_table : d.cursor.table ≡ table
   pub index : d.cursor.index ≡ 0
   pub left : d.cursor.left ≡ table.count
@@ -32,38 +32,38 @@ pub record StartsEntries (table : Rows) (d : EntryReading) : Type 0 where
   pub entries : (file : List ℕ) → entries_left file d ≡ dynamic_count file table.at table.count
 
 -- what every step keeps, fault or not: what was asked for, onward, is no longer unread; a cursor that had failed is as it was
-pub record KeepsEntries (one_read : Seen → ℕ → ℕ → Seen → Type 0) (before after : Counting) (old new : EntryReading) : Type 0 where
+pub record KeepsEntries (one_read : SourceState → ℕ → ℕ → SourceState → Type 0) (before after : CountedState) (old new : DynCursorState) : Type 0 where
   pub account : after.asked + unread_bytes new.cursor ≤ before.asked + unread_bytes old.cursor
   pub onward : ReadsOnward one_read before.source after.source (asked_to old.cursor) (asked_to new.cursor)
   pub unchanged : (fault : Fault) → old.cursor.failed ≡ Some fault → new ≡ old
 
 -- a step that gives the next entry; it is the last where its tag is DT_NULL
-pub record GivesEntry (file : Option (List ℕ)) (old new : EntryReading) : Type 0 where
+pub record GivesEntry (file : Option (List ℕ)) (old new : DynCursorState) : Type 0 where
   pub gives : GivesRow file old.cursor new.cursor
   pub not_ended : old.ended ≡ false
   pub ends_with : new.ended ≡ (d_tag new.cursor.row 0 == DT_NULL)
   pub one_less : (bytes : List ℕ) → file ≡ Some bytes → HoldsRows bytes old.cursor → entries_left bytes old ≡ suc (entries_left bytes new)
 
 -- a step behind the last entry
-pub record EndsEntries (old new : EntryReading) : Type 0 where
+pub record EndsEntries (old new : DynCursorState) : Type 0 where
   pub unchanged : new ≡ old
   pub not_failed : old.cursor.failed ≡ None
   pub behind : (old.ended ≡ true) ⊎ (old.cursor.left ≡ 0)
   pub none_left : (bytes : List ℕ) → entries_left bytes old ≡ 0
 
 -- a step that fails, as that of a cursor over rows does
-pub record FailsEntries (old new : EntryReading) (fault : Fault) : Type 0 where
+pub record FailsEntries (old new : DynCursorState) (fault : Fault) : Type 0 where
   pub fails : FailsRows old.cursor new.cursor fault
   pub same_end : new.ended ≡ old.ended
 
 -- a step of a cursor, where it answers whether it gave an entry
-abbrev pub AdvancesEntries : Option (List ℕ) → EntryReading → EntryReading → Result Bool Fault → Type 0
+abbrev pub AdvancesEntries : Option (List ℕ) → DynCursorState → DynCursorState → Result Bool Fault → Type 0
 AdvancesEntries file old new (Ok true) = GivesEntry file old new
 AdvancesEntries file old new (Ok false) = EndsEntries old new
 AdvancesEntries file old new (Err fault) = FailsEntries old new fault
 
 -- a step of a cursor, where it answers the entry's row
-abbrev pub StepsEntries : Option (List ℕ) → EntryReading → EntryReading → Result (Option Row) Fault → Type 0
+abbrev pub StepsEntries : Option (List ℕ) → DynCursorState → DynCursorState → Result (Option Row) Fault → Type 0
 StepsEntries file old new (Ok (Some row)) = GivesEntry file old new × ShowsRow new.cursor row
 StepsEntries file old new (Ok None) = EndsEntries old new
 StepsEntries file old new (Err fault) = FailsEntries old new fault
@@ -78,6 +78,6 @@ abbrev pub value_here : List ℕ → ℕ → ℕ → Option ℕ
 value_here file at tag = elim (d_tag file at == tag) [ true ↦ Some (d_un file at) | false ↦ None ]
 
 -- the values that locate a string table, of the entries of a table that are listed
-pub record AreStrings (file : List ℕ) (table : Rows) (found : DynStrings) : Type 0 where
+pub record AreStrings (file : List ℕ) (table : Rows) (found : DynamicStrings) : Type 0 where
   pub its_address : found.address ≡ listed_value file table.at table.count DT_STRTAB
   pub its_size : found.size ≡ listed_value file table.at table.count DT_STRSZ

@@ -2,15 +2,15 @@
 use Rattle.std.specs.Prelude.{ℕ, ◌≡◌, ◌+◌, ◌^◌, ◌<◌, ◌≤◌, min, suc, Bool, true, false, List, [], length, take, ◌⊎◌, Option, None, Some, Result, Ok, Err}
 use Rattle.elf_model.specs.Bytes.{slice}
 use Rattle.elf_model.specs.Lines.{SHOWN_DESCRIPTOR}
-use Rattle.elf_model.specs.Names.{Shown}
-use Rattle.elf_model.specs.Names.Shown.{Whole as ShownWhole, Cut as ShownCut}
-use Rattle.elf_model.specs.Notes.{Note, Walk, walk_from, with_note, descriptor_start, to_next, note_align, note_shown}
+use Rattle.elf_model.specs.Names.{DisplayedName}
+use Rattle.elf_model.specs.Names.DisplayedName.{Whole as ShownWhole, Cut as ShownCut}
+use Rattle.elf_model.specs.Notes.{Note, NoteScan, walk_from, with_note, descriptor_start, bytes_to_alignment, note_align, note_shown}
 use Rattle.elf_model.specs.declared.causes.Cause.TheVariants.{NoteCut}
 use Rattle.elf_source.specs.Onward.{ReadsOnward}
-use Rattle.elf_source.specs.Source.{Seen, Counting}
+use Rattle.elf_source.specs.Source.{SourceState, CountedState}
 use Rattle.elf_headers.specs.Faults.{IsOfRead}
 use Rattle.elf_table.specs.Tables.{Rows}
-use Rattle.elf_table.specs.Windows.{Ahead, HoldsBytes, StillHolds, MovesOn, bytes_left, frontier, range_end}
+use Rattle.elf_table.specs.Windows.{WindowState, HoldsBytes, StillHolds, MovesOn, bytes_left, frontier, range_end}
 use Rattle.elf_headers.specs.declared.fault.Fault.{Fault}
 use Rattle.elf_headers.specs.declared.fault.Fault.TheVariants.{Refused}
 use Rattle.elf_table.specs.declared.names.NameEnd.{NameEnd}
@@ -20,39 +20,39 @@ use Rattle.elf_note.specs.declared.row.NoteRow.{NoteRow}
 
 -- a cursor: its table, the alignment of its notes, the bytes of the table that are left, the note that it shows with the
 -- first bytes of its descriptor, and the fault where it failed
-pub record NoteReading : Type 0 where
+pub record NoteCursorState : Type 0 where
   pub table : Rows
   pub align : ℕ
-  pub ahead : Ahead
+  pub ahead : WindowState
   pub found : FoundNote
   pub descriptor : List ℕ
   pub failed : Option Fault
 
 -- a cursor before the first note of a table, of the alignment that its header has
-pub record StartsNotes (table : Rows) (align : ℕ) (c : NoteReading) : Type 0 where
+pub record StartsNotes (table : Rows) (align : ℕ) (c : NoteCursorState) : Type 0 where
   pub its_table : c.table ≡ table
   pub its_align : c.align ≡ note_align align
   pub ahead : c.ahead ≡ record { at = table.at; held = []; unread = table.count; page = 4096 }
   pub not_failed : c.failed ≡ None
 
 -- the bytes of a file that are left
-abbrev pub rest : List ℕ → Ahead → List ℕ
+abbrev pub rest : List ℕ → WindowState → List ℕ
 rest file w = slice file w.at (bytes_left w)
 
 -- the notes of some bytes from an offset on, up to the offset where they are cut, if they are
-abbrev pub notes_from : ℕ → ℕ → List ℕ → Walk
+abbrev pub notes_from : ℕ → ℕ → List ℕ → NoteScan
 notes_from a at bytes = walk_from a (suc (length bytes)) at bytes
 
 -- the notes that are left
-abbrev pub notes_left : ℕ → List ℕ → Ahead → Walk
+abbrev pub notes_left : ℕ → List ℕ → WindowState → NoteScan
 notes_left a file w = notes_from a w.at (rest file w)
 
 -- no note is left
-abbrev pub no_notes : Walk
+abbrev pub no_notes : NoteScan
 no_notes = record { notes = []; cut = None }
 
 -- no note is left, and what is left at an offset is none
-abbrev pub cut_at : ℕ → Walk
+abbrev pub cut_at : ℕ → NoteScan
 cut_at at = record { notes = []; cut = Some at }
 
 -- the fault that refuses a table of notes at an offset
@@ -64,7 +64,7 @@ abbrev pub StopsNote : ℕ → Fault → Type 0
 StopsNote at fault = IsOfRead fault ⊎ (fault ≡ note_cut at)
 
 -- bytes are a name as it is shown
-abbrev pub NameIs : NameEnd → List ℕ → Shown → Type 0
+abbrev pub NameIs : NameEnd → List ℕ → DisplayedName → Type 0
 NameIs Whole bytes shown = shown ≡ ShownWhole bytes
 NameIs Cut bytes shown = shown ≡ ShownCut bytes
 
@@ -72,7 +72,7 @@ NameIs Cut bytes shown = shown ≡ ShownCut bytes
 abbrev pub note_size : ℕ → ℕ → ℕ → ℕ → ℕ
 note_size a namesz descsz left =
     let size = descriptor_start a namesz descsz + descsz in
-    min (size + to_next a size) left
+    min (size + bytes_to_alignment a size) left
 
 -- a note of a file at an offset as it is found, with its name as it is shown and the first bytes of its descriptor, which is
 -- the file's at its place
@@ -87,15 +87,15 @@ pub record IsNoteFound (file : List ℕ) (a cap at : ℕ) (note : Note) (found :
   pub whole : note.descriptor ≡ slice file found.desc_at (length note.descriptor)
 
 -- the notes that were left are a note, as it is found, and those that are left
-abbrev pub GivesNote : List ℕ → ℕ → ℕ → ℕ → List ℕ → List ℕ → Walk → Walk → FoundNote → Type 0
+abbrev pub GivesNote : List ℕ → ℕ → ℕ → ℕ → List ℕ → List ℕ → NoteScan → NoteScan → FoundNote → Type 0
 GivesNote file a cap at name descriptor old new found =
     (note : Note) × (old ≡ with_note note new) × IsNoteFound file a cap at note found name descriptor
 
 -- what a step over the next note says of the notes that were left and are left
-abbrev pub TellsNote : List ℕ → ℕ → ℕ → ℕ → List ℕ → List ℕ → Walk → Walk → Result (Option FoundNote) Fault → Type 0
-TellsNote file a cap at name bytes old new (Ok (Some found)) = GivesNote file a cap at name (take found.shown bytes) old new found
-TellsNote file a cap at name bytes old new (Ok None) = old ≡ no_notes
-TellsNote file a cap at name bytes old new (Err fault) = fault ≡ note_cut at → old ≡ cut_at at
+abbrev pub ReturnsNote : List ℕ → ℕ → ℕ → ℕ → List ℕ → List ℕ → NoteScan → NoteScan → Result (Option FoundNote) Fault → Type 0
+ReturnsNote file a cap at name bytes old new (Ok (Some found)) = GivesNote file a cap at name (take found.shown bytes) old new found
+ReturnsNote file a cap at name bytes old new (Ok None) = old ≡ no_notes
+ReturnsNote file a cap at name bytes old new (Err fault) = fault ≡ note_cut at → old ≡ cut_at at
 
 -- a note takes at least its head, and at the end nothing is left
 abbrev pub PassesNote : ℕ → ℕ → Option FoundNote → Type 0
@@ -103,29 +103,29 @@ PassesNote before after (Some found) = (after + 12 ≤ before) × (found.at + 12
 PassesNote before after None = after ≡ 0
 
 -- a note takes its own bytes of those that are left, with its padding, and its descriptor ends among them
-pub record TakesItsBytes (a : ℕ) (old new : Ahead) (found : FoundNote) : Type 0 where
+pub record TakesItsBytes (a : ℕ) (old new : WindowState) (found : FoundNote) : Type 0 where
   pub size : bytes_left new + note_size a found.head.namesz found.head.descsz (bytes_left old) ≡ bytes_left old
   pub ends : found.desc_at + found.head.descsz ≤ range_end old
 
-abbrev pub TakesNoteBytes : ℕ → Ahead → Ahead → Option FoundNote → Type 0
+abbrev pub TakesNoteBytes : ℕ → WindowState → WindowState → Option FoundNote → Type 0
 TakesNoteBytes a old new (Some found) = TakesItsBytes a old new found
 TakesNoteBytes a old new None = Unit {0}
 
 -- the same of a step of a cursor
-abbrev PassesOverNote : NoteReading → NoteReading → Result Bool Fault → Type 0
+abbrev PassesOverNote : NoteCursorState → NoteCursorState → Result Bool Fault → Type 0
 PassesOverNote old new (Ok true) = TakesItsBytes old.align old.ahead new.ahead new.found
 PassesOverNote old new (Ok false) = Unit {0}
 PassesOverNote old new (Err fault) = Unit {0}
 
 -- where a step leaves a cursor: behind a note, at the end, or failed
-abbrev LeavesNote : NoteReading → NoteReading → Result Bool Fault → Type 0
+abbrev LeavesNote : NoteCursorState → NoteCursorState → Result Bool Fault → Type 0
 LeavesNote old new (Ok true) = (old.failed ≡ None) × (new.failed ≡ None) × (bytes_left new.ahead + 12 ≤ bytes_left old.ahead)
 LeavesNote old new (Ok false) = (old.failed ≡ None) × (new.failed ≡ None) × (bytes_left new.ahead ≡ 0)
 LeavesNote old new (Err fault) = (new.failed ≡ Some fault) × (old.failed ≡ None → StopsNote old.ahead.at fault)
 
 -- what a step of a cursor says of a file's notes: those that were left are the one that it shows now and those that are
 -- left; or none; or they are cut here
-abbrev StepTells : List ℕ → ℕ → NoteReading → NoteReading → List ℕ → Result Bool Fault → Type 0
+abbrev StepTells : List ℕ → ℕ → NoteCursorState → NoteCursorState → List ℕ → Result Bool Fault → Type 0
 StepTells file cap old new name (Ok true) =
     GivesNote file old.align cap old.ahead.at name new.descriptor (notes_left old.align file old.ahead) (notes_left old.align file new.ahead) new.found
 StepTells file cap old new name (Ok false) = notes_left old.align file old.ahead ≡ no_notes
@@ -133,7 +133,7 @@ StepTells file cap old new name (Err fault) = old.failed ≡ None → fault ≡ 
 
 -- what every step keeps, fault or not: the table and the alignment, and no byte is asked for twice; a cursor that had failed
 -- is as it was
-pub record KeepsNotes (one_read : Seen → ℕ → ℕ → Seen → Type 0) (before after : Counting) (old new : NoteReading) : Type 0 where
+pub record KeepsNotes (one_read : SourceState → ℕ → ℕ → SourceState → Type 0) (before after : CountedState) (old new : NoteCursorState) : Type 0 where
   pub same_table : new.table ≡ old.table
   pub same_align : new.align ≡ old.align
   pub moves : MovesOn old.ahead new.ahead before.asked after.asked
@@ -141,14 +141,14 @@ pub record KeepsNotes (one_read : Seen → ℕ → ℕ → Seen → Type 0) (bef
   pub unchanged : (fault : Fault) → old.failed ≡ Some fault → new ≡ old
 
 -- a step of a cursor, where it answers whether it gave a note
-pub record AdvancesNote (file : Option (List ℕ)) (cap : ℕ) (old new : NoteReading) (name : List ℕ) (result : Result Bool Fault) : Type 0 where
+pub record AdvancesNote (file : Option (List ℕ)) (cap : ℕ) (old new : NoteCursorState) (name : List ℕ) (result : Result Bool Fault) : Type 0 where
   pub leaves : LeavesNote old new result
   pub passes : PassesOverNote old new result
   pub agrees : StillHolds file old.ahead new.ahead
   pub tells : (bytes : List ℕ) → file ≡ Some bytes → HoldsBytes bytes old.ahead → StepTells bytes cap old new name result
 
 -- the note that a cursor holds, as it shows it
-pub record ShowsNote (c : NoteReading) (row : NoteRow) : Type 0 where
+pub record ShowsNote (c : NoteCursorState) (row : NoteRow) : Type 0 where
   pub its_place : row.at ≡ c.found.at
   pub its_head : row.head ≡ c.found.head
   pub its_name : row.name_at ≡ c.found.at + 12
@@ -157,7 +157,7 @@ pub record ShowsNote (c : NoteReading) (row : NoteRow) : Type 0 where
   pub its_bytes : row.desc.now ≡ c.descriptor
 
 -- the same, where it answers the note
-abbrev pub StepsNote : Option (List ℕ) → ℕ → NoteReading → NoteReading → List ℕ → Result (Option NoteRow) Fault → Type 0
+abbrev pub StepsNote : Option (List ℕ) → ℕ → NoteCursorState → NoteCursorState → List ℕ → Result (Option NoteRow) Fault → Type 0
 StepsNote file cap old new name (Ok (Some row)) = AdvancesNote file cap old new name (Ok true) × ShowsNote new row
 StepsNote file cap old new name (Ok None) = AdvancesNote file cap old new name (Ok false)
 StepsNote file cap old new name (Err fault) = AdvancesNote file cap old new name (Err fault)

@@ -1,12 +1,12 @@
 -- What a step of a cursor reads.
 use Rattle.std.specs.Prelude.{ℕ, ◌≡◌, Option, None, Some, Result, Err, IfErr}
-use Rattle.elf_source.specs.Source.{Counting, Reads}
-use Rattle.elf_headers.specs.Faults.{Says}
+use Rattle.elf_source.specs.Source.{CountedState, ReadsUpTo}
+use Rattle.elf_headers.specs.Faults.{IsReadFault}
 use Rattle.elf_headers.specs.declared.fault.Fault.{Fault}
 
 -- WHAT A STEP READ, fault or not: it asked for at most n bytes, and the first fault says what is so; a cursor that had failed
 -- answers the same fault, and reads nothing
-pub record StepReads {X : Type 0} (before after : Counting) (n : ℕ) (failed : Option Fault) (result : Result X Fault) : Type 0 where
-  pub reads : Reads before after n
-  pub says : failed ≡ None → IfErr result (Says before after n)
+pub record StepReads {X : Type 0} (before after : CountedState) (n : ℕ) (failed : Option Fault) (result : Result X Fault) : Type 0 where
+  pub reads : ReadsUpTo before after n
+  pub says : failed ≡ None → IfErr result (IsReadFault before after n)
   pub again : (fault : Fault) → failed ≡ Some fault → (result ≡ Err fault) × (after ≡ before)

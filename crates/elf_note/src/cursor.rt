@@ -1,12 +1,12 @@
 //! A cursor over the notes of a table.
 ghost use Rattle.std.specs.Prelude.{◌≡◌, ◌≤◌, length};
-ghost use Rattle.elf_table.specs.Tables.{RowsWithin};
+ghost use Rattle.elf_table.specs.Tables.{TableInBounds};
 ghost use Rattle.elf_note.specs.NoteCursors.{AdvancesNote, KeepsNotes, ShowsNote, StartsNotes};
 ghost use Rattle.elf_note.specs.Steps.{StepReads};
 
 use crate::note::{FoundNote, SHOWN_DESCRIPTOR, next_note};
 use crate::row::NoteRow;
-use elf_headers::{Cap, Fault};
+use elf_headers::{Fault, NameLimit};
 use elf_record::NoteHead;
 use elf_source::{Counted, Source};
 use elf_table::{NameBuf, NameEnd, Table, WINDOW_BYTES, Window};
@@ -28,9 +28,9 @@ pub struct NoteCursor {
 impl Model for NoteCursor {
     ghost use Rattle.std.specs.Prelude.{◌≡◌, ◌+◌, ◌^◌, ◌<◌, ◌≤◌, take};
     ghost use Rattle.elf_table.specs.Windows.{range_end};
-    ghost use Rattle.elf_note.specs.NoteCursors.{NoteReading};
+    ghost use Rattle.elf_note.specs.NoteCursors.{NoteCursorState};
 
-    ghost Value = { NoteReading };
+    ghost Value = { NoteCursorState };
 
     ghost view = { λ c. record {
       table = c.table;
@@ -77,10 +77,10 @@ impl NoteCursor {
     pub fn advance<S: Source>(
         &mut self,
         src: &mut Counted<S>,
-        cap: Cap,
+        cap: NameLimit,
         name: &mut NameBuf,
     ) -> Result<bool, Fault>
-        requires { RowsWithin src.old.seen.size self.old.table }
+        requires { TableInBounds src.old.seen.size self.old.table }
         ensures asks { StepReads src.old src.new self.old.ahead.unread self.old.failed result }
         ensures keeps { KeepsNotes S.one_read src.old src.new self.old self.new }
         ensures steps { AdvancesNote src.old.seen.file cap.bytes self.old self.new name.new result }
@@ -130,7 +130,7 @@ impl NoteCursor {
     ghost use mathlib.Core.Option.{none};
     ghost use denote.Follow.{follows_so};
     ghost use Rattle.std.specs.Borrow.{sem};
-    ghost use Rattle.elf_table.specs.Tables.{RowsWithin};
+    ghost use Rattle.elf_table.specs.Tables.{TableInBounds};
     ghost use Rattle.elf_note.specs.NoteCursors.{KeepsNotes, StepsNote};
     ghost use Rattle.elf_note.specs.Steps.{StepReads};
     ghost use Rattle.elf_note.specs.contracts.cursor.NoteCursor.{the_row};
@@ -143,10 +143,10 @@ impl NoteCursor {
     pub fn next<S: Source>(
         &mut self,
         src: &mut Counted<S>,
-        cap: Cap,
+        cap: NameLimit,
         name: &mut NameBuf,
     ) -> Result<Option<NoteRow<'_>>, Fault>
-        requires { RowsWithin src.old.seen.size self.old.table }
+        requires { TableInBounds src.old.seen.size self.old.table }
         ensures asks { StepReads src.old src.new self.old.ahead.unread self.old.failed result }
         ensures* after { sem 𝓛 (follows_so the_row the_row self.entry.ghost_name none (λ _ _. ⊤)
             (λ new. KeepsNotes S.one_read src.old src.new self.old new

@@ -5,7 +5,7 @@ ghost use Rattle.elf_model.specs.Numbers.{DT_NULL};
 ghost use Rattle.elf_model.specs.Records.{d_tag};
 ghost use Rattle.elf_record.specs.Dyn.{IsDyn};
 ghost use Rattle.elf_table.specs.Cursors.{ShowsRow, unread_bytes};
-ghost use Rattle.elf_table.specs.Tables.{RowsWithin};
+ghost use Rattle.elf_table.specs.Tables.{TableInBounds};
 ghost use Rattle.elf_note.specs.DynCursors.{AdvancesEntries, KeepsEntries, StartsEntries};
 ghost use Rattle.elf_note.specs.Steps.{StepReads};
 
@@ -27,9 +27,9 @@ pub struct DynCursor {
 
 impl Model for DynCursor {
     ghost use Rattle.std.specs.Prelude.{◌≡◌, true, None};
-    ghost use Rattle.elf_note.specs.DynCursors.{EntryReading};
+    ghost use Rattle.elf_note.specs.DynCursors.{DynCursorState};
 
-    ghost Value = { EntryReading };
+    ghost Value = { DynCursorState };
 
     ghost view = { λ d. record { cursor = d.cursor; ended = d.ended } };
 
@@ -57,7 +57,7 @@ impl DynCursor {
     /// A fault of a read, or a refusal for want of budget, at the next entry's offset. From then on
     /// each call answers the same and reads nothing.
     pub fn advance<S: Source>(&mut self, src: &mut Counted<S>) -> Result<bool, Fault>
-        requires { RowsWithin src.old.seen.size self.old.cursor.table }
+        requires { TableInBounds src.old.seen.size self.old.cursor.table }
         ensures asks { StepReads src.old src.new (unread_bytes self.old.cursor)
             self.old.cursor.failed result }
         ensures keeps { KeepsEntries S.one_read src.old src.new self.old self.new }
@@ -89,7 +89,7 @@ impl DynCursor {
     ghost use denote.Follow.{follows_so};
     ghost use Rattle.std.specs.Borrow.{sem};
     ghost use Rattle.elf_table.specs.Cursors.{unread_bytes};
-    ghost use Rattle.elf_table.specs.Tables.{RowsWithin};
+    ghost use Rattle.elf_table.specs.Tables.{TableInBounds};
     ghost use Rattle.elf_note.specs.DynCursors.{KeepsEntries, StepsEntries};
     ghost use Rattle.elf_note.specs.Steps.{StepReads};
     ghost use Rattle.elf_note.specs.contracts.dynamic.DynCursor.{the_row};
@@ -100,7 +100,7 @@ impl DynCursor {
     /// # Errors
     /// As for [`DynCursor::advance`].
     pub fn next<S: Source>(&mut self, src: &mut Counted<S>) -> Result<Option<Row<'_>>, Fault>
-        requires { RowsWithin src.old.seen.size self.old.cursor.table }
+        requires { TableInBounds src.old.seen.size self.old.cursor.table }
         ensures asks { StepReads src.old src.new (unread_bytes self.old.cursor)
             self.old.cursor.failed result }
         ensures* after { sem 𝓛 (follows_so the_row the_row self.entry.ghost_name none (λ _ _. ⊤)

@@ -16,6 +16,6 @@ pub use buffers::NOTES_BUFFER_BYTES;
 pub use cursor::NoteCursor;
 pub use dynamic::{DynCursor, dynamic_rows, entry_in};
 pub use row::NoteRow;
-pub use sizes::{gap_between, padding};
-pub use string_values::{DynStrings, dynamic_strings, first_of};
+pub use sizes::{alignment_gap, padding};
+pub use string_values::{DynamicStrings, dynamic_strings, first_of};
 pub use tail::are_zeros;

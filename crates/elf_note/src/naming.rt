@@ -6,7 +6,7 @@ ghost use Rattle.elf_table.specs.Windows.{HoldsBytes};
 ghost use Rattle.elf_note.specs.NoteCursors.{NameIs};
 ghost use Rattle.elf_table.specs.WindowCalls.{HasLeft, ReadsThrough};
 
-use elf_headers::{Cap, Fault};
+use elf_headers::{Fault, NameLimit};
 use elf_source::{Counted, Source};
 use elf_table::{NameBuf, NameEnd, WINDOW_BYTES, Window, search_name};
 
@@ -19,7 +19,7 @@ pub(crate) fn read_name<S: Source>(
     window: &mut Window<WINDOW_BYTES>,
     src: &mut Counted<S>,
     size: u64,
-    cap: Cap,
+    cap: NameLimit,
     name: &mut NameBuf,
 ) -> Result<NameEnd, Fault>
     requires left { HasLeft src.old.seen.size window.old size }

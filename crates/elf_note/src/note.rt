@@ -2,17 +2,17 @@
 ghost use Rattle.std.specs.Prelude.{◌≡◌, ℕ, ◌+◌, ◌-◌, ◌^◌, ◌<◌, ◌≤◌, List, length, min};
 ghost use Rattle.std.specs.Prelude.{Some, IfErr, OnOk, IfOk};
 ghost use Rattle.elf_model.specs.Bytes.{slice};
-ghost use Rattle.elf_model.specs.Notes.{to_next};
+ghost use Rattle.elf_model.specs.Notes.{bytes_to_alignment};
 ghost use Rattle.elf_table.specs.Windows.{HoldsBytes, RangeWithin, bytes_left};
-ghost use Rattle.elf_note.specs.NoteCursors.{PassesNote, StopsNote, TakesNoteBytes, TellsNote, notes_left};
+ghost use Rattle.elf_note.specs.NoteCursors.{PassesNote, StopsNote, TakesNoteBytes, ReturnsNote, notes_left};
 ghost use Rattle.elf_note.specs.NoteCursors.{note_cut};
-ghost use Rattle.elf_table.specs.WindowCalls.{HasLeft, ReadsThrough, Through};
+ghost use Rattle.elf_table.specs.WindowCalls.{HasLeft, ReadsThrough, ReadsThroughWindow};
 
 use crate::naming::read_name;
-use crate::sizes::{gap_between, padding};
+use crate::sizes::{alignment_gap, padding};
 use crate::tail::ends_in_zeros;
 use crate::taking::take;
-use elf_headers::{Cap, Fault};
+use elf_headers::{Fault, NameLimit};
 use elf_record::{Cause, NoteHead, Refusal};
 use elf_source::{Counted, Source};
 use elf_table::{NameBuf, NameEnd, WINDOW_BYTES, Window};
@@ -46,7 +46,7 @@ pub(crate) fn next_note<S: Source>(
     window: &mut Window<WINDOW_BYTES>,
     src: &mut Counted<S>,
     align: u64,
-    cap: Cap,
+    cap: NameLimit,
     name: &mut NameBuf,
     desc: &mut [u8; SHOWN_DESCRIPTOR],
 ) -> Result<Option<FoundNote>, Fault>
@@ -54,12 +54,12 @@ pub(crate) fn next_note<S: Source>(
     requires small { align ≤ 8 }
     requires page { 32 ≤ window.old.page }
     requires within { RangeWithin src.old.seen.size window.old }
-    ensures went { Through S.one_read src.old src.new window.old window.new result }
+    ensures went { ReadsThroughWindow S.one_read src.old src.new window.old window.new result }
     ensures stops { IfErr result (StopsNote window.old.at) }
     ensures passes { IfOk result (PassesNote (bytes_left window.old) (bytes_left window.new)) }
     ensures sized { IfOk result (TakesNoteBytes align window.old window.new) }
     ensures tells { (file : List ℕ) → src.old.seen.file ≡ Some file → HoldsBytes file window.old →
-        TellsNote file align cap.bytes window.old.at name.new desc.new
+        ReturnsNote file align cap.bytes window.old.at name.new desc.new
         (notes_left align file window.old) (notes_left align file window.new) result }
 {
     let at = window.at();
@@ -72,7 +72,7 @@ pub(crate) fn next_note<S: Source>(
     let mut bytes = [0; HEAD_BYTES];
     take(window, src, &mut bytes)?;
     let head = NoteHead::decode(&bytes);
-    let gap = gap_between(align, head.namesz, head.descsz);
+    let gap = alignment_gap(align, head.namesz, head.descsz);
     if window.left() < u64::from(head.namesz) + gap + u64::from(head.descsz) {
         return Err(cut(at));
     }
@@ -109,7 +109,7 @@ fn read_rest<S: Source>(
     requires ends { start + size < 2 ^ 64 }
     ensures reads { ReadsThrough S.one_read src.old src.new window.old window.new result }
     ensures at { OnOk result (window.new.at ≡ window.old.at + size
-        + min (to_next align (start + size)) (bytes_left window.old - size)) }
+        + min (bytes_to_alignment align (start + size)) (bytes_left window.old - size)) }
     ensures read { (file : List ℕ) → src.old.seen.file ≡ Some file → HoldsBytes file window.old →
         OnOk result (desc.new ≡ slice file window.old.at (length desc.old)) }
 {

@@ -1,11 +1,11 @@
 //! The sizes of a note's parts.
 ghost use Rattle.std.specs.Prelude.{◌≡◌, ◌<◌, min};
-ghost use Rattle.elf_model.specs.Notes.{to_next, gap_between};
+ghost use Rattle.elf_model.specs.Notes.{bytes_to_alignment, alignment_gap};
 
 // How many bytes there are from `place` to the next multiple of `align`.
-fn to_next(align: u64, place: u64) -> u64
+fn bytes_to_alignment(align: u64, place: u64) -> u64
     requires { 0 < align }
-    ensures value { result ≡ to_next align place }
+    ensures value { result ≡ bytes_to_alignment align place }
     ensures less { result < align }
 {
     (align - place % align) % align
@@ -13,22 +13,22 @@ fn to_next(align: u64, place: u64) -> u64
 
 /// How many bytes stand between a note's name and its descriptor, for their sizes: none where the
 /// descriptor is empty.
-pub fn gap_between(align: u64, namesz: u32, descsz: u32) -> u64
+pub fn alignment_gap(align: u64, namesz: u32, descsz: u32) -> u64
     requires { 0 < align }
-    ensures value { result ≡ gap_between align namesz descsz }
+    ensures value { result ≡ alignment_gap align namesz descsz }
     ensures less { result < align }
 {
     if descsz == 0 {
         return 0;
     }
-    to_next(align, 12 + u64::from(namesz))
+    bytes_to_alignment(align, 12 + u64::from(namesz))
 }
 
 /// How many bytes stand behind a note of `size` bytes in its table, of which `left` bytes are left
 /// behind the note: those up to the next multiple of the alignment, or fewer at the table's end.
 pub fn padding(align: u64, size: u64, left: u64) -> u64
     requires { 0 < align }
-    ensures { result ≡ min (to_next align size) left }
+    ensures { result ≡ min (bytes_to_alignment align size) left }
 {
-    to_next(align, size).min(left)
+    bytes_to_alignment(align, size).min(left)
 }

@@ -4,8 +4,8 @@ ghost use Rattle.elf_model.specs.Numbers.{DT_STRSZ, DT_STRTAB};
 ghost use Rattle.elf_model.specs.Records.{d_tag, d_un};
 ghost use Rattle.elf_record.specs.Dyn.{IsDyn};
 ghost use Rattle.elf_headers.specs.Faults.{IsOfRead};
-ghost use Rattle.elf_headers.specs.Ledger.{Did, why_stopped};
-ghost use Rattle.elf_table.specs.Tables.{RowsWithin, size_of};
+ghost use Rattle.elf_headers.specs.Ledger.{CallDid, fault_of_result};
+ghost use Rattle.elf_table.specs.Tables.{TableInBounds, size_of};
 ghost use Rattle.elf_note.specs.DynCursors.{AreStrings, first_value, value_here};
 
 use crate::dynamic::{dynamic_rows, entry_in};
@@ -17,7 +17,7 @@ use elf_table::Table;
 
 /// Where the string table of dynamic entries is in memory, as they say (gABI 5, Dynamic Section).
 #[derive(Clone, Copy)]
-pub struct DynStrings {
+pub struct DynamicStrings {
     /// Its virtual address, the value of the first DT_STRTAB, if there is one.
     pub address: Option<u64>,
     /// Its size in bytes, the value of the first DT_STRSZ, if there is one.
@@ -30,10 +30,13 @@ pub struct DynStrings {
 ///
 /// # Errors
 /// A fault of a read, or a refusal for want of budget, at an entry's offset.
-pub fn dynamic_strings<S: Source>(table: Table, src: &mut Counted<S>) -> Result<DynStrings, Fault>
+pub fn dynamic_strings<S: Source>(
+    table: Table,
+    src: &mut Counted<S>,
+) -> Result<DynamicStrings, Fault>
     requires rows { table.entry ≡ 16 }
-    requires within { RowsWithin src.old.seen.size table }
-    ensures did { Did src.old src.new (why_stopped result) (size_of table)
+    requires within { TableInBounds src.old.seen.size table }
+    ensures did { CallDid src.old src.new (fault_of_result result) (size_of table)
         (λ file. IfOk result (AreStrings file table)) }
     ensures fault { IfErr result IsOfRead }
 {
@@ -45,7 +48,7 @@ pub fn dynamic_strings<S: Source>(table: Table, src: &mut Counted<S>) -> Result<
         address = first_of(address, DT_STRTAB, &entry);
         size = first_of(size, DT_STRSZ, &entry);
     }
-    Ok(DynStrings { address, size })
+    Ok(DynamicStrings { address, size })
 }
 
 /// A value that was found, or that of an entry where it has the tag.

@@ -6,7 +6,7 @@ use Rattle.std.proofs.lemmas.Bool.{cases_lt}
 use Rattle.std.proofs.lemmas.List.{take_at, drop_at, drop-drop, get_or-take, get_or-drop, get_or_past, length-take, length-take-le, take_all}
 use Rattle.elf_model.specs.Bytes.{number, field, slice, little, IsBytes}
 use Rattle.elf_model.proofs.Slices.{field-slice, slice-slice}
-use Rattle.elf_record.specs.Parts.{RecordField, Number, Raw, place, width_of, part_spelling, PartFits, PartStands, spelling, total_width, joined_onto, joined, AllFit, AllStand}
+use Rattle.elf_record.specs.Parts.{RecordField, Number, Raw, place, width_of, part_spelling, PartFits, PartStands, spelling, total_width, joined_onto, joined, AllFit, FieldsAreAt}
 use Rattle.elf_model.proofs.ChangeLaws.{length-little}
 
 -- a number is read back from its bytes
@@ -36,7 +36,7 @@ place-is at zero = omega arith
 place-is at (suc k) = refl
 
 -- parts one behind the other stand where their bytes are
-all_stand : (front : List ℕ) (k : ℕ) (parts : List RecordField) → length front ≡ k → AllFit parts → AllStand (front ++ spelling parts) 0 k parts
+all_stand : (front : List ℕ) (k : ℕ) (parts : List RecordField) → length front ≡ k → AllFit parts → FieldsAreAt (front ++ spelling parts) 0 k parts
 all_stand front k [] here fits = tt
 all_stand front k (part ∷ parts) here fits =
     let width : length (part_spelling part) ≡ width_of part = length-part_spelling part fits.0 in
@@ -73,7 +73,7 @@ part_is file at (Number width value) byte inside stands =
 part_is file at (Raw width bytes) byte inside stands = sym stands
 
 -- where parts stand one behind the other, the bytes are theirs
-all_is : (file : List ℕ) (k : ℕ) (parts : List RecordField) → IsBytes file → k + total_width parts ≤ length file → AllStand file 0 k parts
+all_is : (file : List ℕ) (k : ℕ) (parts : List RecordField) → IsBytes file → k + total_width parts ≤ length file → FieldsAreAt file 0 k parts
     → slice file k (total_width parts) ≡ spelling parts
 all_is file k [] byte inside stands = refl
 all_is file k (part ∷ parts) byte inside stands =
@@ -90,13 +90,13 @@ part_in file at size k (Number width value) inside stands =
 part_in file at size k (Raw width bytes) inside stands =
     stands ∙ (ap (λ p. slice (slice file at size) p width) (place-is 0 k ∙ zero-add k) ∙ (slice-slice file at size k width inside ∙ ap (λ p. slice file p width) (sym (place-is at k))))
 
-all_in : (file : List ℕ) (at size k : ℕ) (parts : List RecordField) → k + total_width parts ≤ size → AllStand (slice file at size) 0 k parts → AllStand file at k parts
+all_in : (file : List ℕ) (at size k : ℕ) (parts : List RecordField) → k + total_width parts ≤ size → FieldsAreAt (slice file at size) 0 k parts → FieldsAreAt file at k parts
 all_in file at size k [] inside stands = tt
 all_in file at size k (part ∷ parts) inside stands =
     (part_in file at size k part (omega arith) stands.0, all_in file at size (k + width_of part) parts (omega arith) stands.1)
 
 -- the parts of some bytes of a file stand in the file
-pub parts_in_file : (file : List ℕ) (at : ℕ) (bytes : List ℕ) (parts : List RecordField) → bytes ≡ slice file at (total_width parts) → AllStand bytes 0 0 parts → AllStand file at 0 parts
+pub parts_in_file : (file : List ℕ) (at : ℕ) (bytes : List ℕ) (parts : List RecordField) → bytes ≡ slice file at (total_width parts) → FieldsAreAt bytes 0 0 parts → FieldsAreAt file at 0 parts
 parts_in_file file at bytes parts is stands = all_in file at (total_width parts) 0 parts (omega arith) (rw is at stands)
 
 joined_onto-is : (front : List ℕ) (parts : List RecordField) → joined_onto front parts ≡ front ++ spelling parts
@@ -107,19 +107,19 @@ pub joined-is : (parts : List RecordField) → joined parts ≡ spelling parts
 joined-is parts = joined_onto-is [] parts
 
 -- the bytes of parts are read back as those parts
-pub spelling_stands : (bytes : List ℕ) (parts : List RecordField) → bytes ≡ spelling parts → AllFit parts → AllStand bytes 0 0 parts
+pub spelling_stands : (bytes : List ℕ) (parts : List RecordField) → bytes ≡ spelling parts → AllFit parts → FieldsAreAt bytes 0 0 parts
 spelling_stands bytes parts is fits = rw is (all_stand [] 0 parts refl fits)
 
 -- and no other bytes are
-pub only_spelling : (bytes : List ℕ) (parts : List RecordField) → IsBytes bytes → length bytes ≡ total_width parts → AllStand bytes 0 0 parts → bytes ≡ spelling parts
+pub only_spelling : (bytes : List ℕ) (parts : List RecordField) → IsBytes bytes → length bytes ≡ total_width parts → FieldsAreAt bytes 0 0 parts → bytes ≡ spelling parts
 only_spelling bytes parts byte size stands =
     sym (take_all (total_width parts) bytes (omega arith)) ∙ all_is bytes 0 parts byte (omega arith) stands
 
 -- what is said of the bytes that some parts are encoded in
 pub record IsEncoding (result : List ℕ) (parts : List RecordField) : Type 0 where
   pub spelled : result ≡ spelling parts
-  pub stands : AllStand result 0 0 parts
-  pub only : (bytes : List ℕ) → IsBytes bytes → length bytes ≡ total_width parts → AllStand bytes 0 0 parts → bytes ≡ result
+  pub stands : FieldsAreAt result 0 0 parts
+  pub only : (bytes : List ℕ) → IsBytes bytes → length bytes ≡ total_width parts → FieldsAreAt bytes 0 0 parts → bytes ≡ result
 
 pub encoding : (result items : List ℕ) (parts : List RecordField) → result ≡ items → items ≡ joined parts → AllFit parts → IsEncoding result parts
 encoding result items parts is joins fit =

@@ -55,6 +55,6 @@ AllFit [] = Unit {0}
 AllFit (part ∷ parts) = PartFits part × AllFit parts
 
 -- parts stand one behind the other in a file, the first of them so far behind an offset
-abbrev pub AllStand : List ℕ → ℕ → ℕ → List RecordField → Type 0
-AllStand file at k [] = Unit {0}
-AllStand file at k (part ∷ parts) = PartStands file (place at k) part × AllStand file at (k + width_of part) parts
+abbrev pub FieldsAreAt : List ℕ → ℕ → ℕ → List RecordField → Type 0
+FieldsAreAt file at k [] = Unit {0}
+FieldsAreAt file at k (part ∷ parts) = PartStands file (place at k) part × FieldsAreAt file at (k + width_of part) parts

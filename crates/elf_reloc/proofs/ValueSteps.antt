@@ -5,14 +5,14 @@ use Rattle.std.proofs.lemmas.Bool.{ne_eqb}
 use Rattle.std.specs.Int.{cast_signed, cast_unsigned, w64}
 use Rattle.elf_model.specs.Bytes.{little}
 use Rattle.elf_model.specs.Numbers.{R_X86_64_NONE}
-use Rattle.elf_model.specs.Values.{Terms, kind_of, fits_in_range, patch_of, value_of, address_by, value}
+use Rattle.elf_model.specs.Values.{FormulaTerms, kind_of, fits_in_range, patch_of, value_of, base_address, value}
 use Rattle.elf_model.specs.declared.causes.Cause.{Cause}
 use Rattle.elf_model.specs.declared.causes.Cause.TheVariants.{Unsupported, Overflow}
 use Rattle.elf_model.specs.declared.relocation_types.RelocationType.{RelocationType}
 use Rattle.elf_reloc.specs.Types.{terms}
 
 abbrev stored_of : ℕ → ℕ → ℤ → ℕ → Option RelocationType → Result (List ℕ) Cause
-stored_of s l a p type = elim type [ None ↦ Err Unsupported | Some type ↦ patch_of type (terms (address_by type.base s l) a p) ]
+stored_of s l a p type = elim type [ None ↦ Err Unsupported | Some type ↦ patch_of type (terms (base_address type.base s l) a p) ]
 
 value_is :
     (n s l : ℕ) (a : ℤ) (p : ℕ) → n ≢ R_X86_64_NONE → stored_of s l a p (kind_of n) ≡ value n s l a p
@@ -23,7 +23,7 @@ value_is n s l a p other = let f : (n == R_X86_64_NONE) ≡ false = ne_eqb n R_X
 abbrev pub patch_in : RelocationType → ℕ → Bool → Result (List ℕ) Cause
 patch_in type number in_range = elim (not in_range) [ true ↦ Err Overflow | false ↦ Ok (little type.width number) ]
 
-patch_is : (type : RelocationType) (given : Terms) → patch_in type (value_of type given) (fits_in_range type.range type.width (value_of type given)) ≡ patch_of type given
+patch_is : (type : RelocationType) (given : FormulaTerms) → patch_in type (value_of type given) (fits_in_range type.range type.width (value_of type given)) ≡ patch_of type given
 unfolding patch_of
 patch_is type given = refl
 
@@ -46,7 +46,7 @@ patch_by b a p type number in_range small same ranged =
 
 pub found :
     (n s l : ℕ) (a : ℤ) (p : ℕ) (type : RelocationType) (b : ℕ) → n ≢ R_X86_64_NONE → SFits w64 a → Some type ≡ kind_of n
-    → b ≡ address_by type.base s l → patch_of type (terms b (cast_signed w64 (cast_unsigned w64 a)) p) ≡ value n s l a p
+    → b ≡ base_address type.base s l → patch_of type (terms b (cast_signed w64 (cast_unsigned w64 a)) p) ≡ value n s l a p
 found n s l a p type b other small is based =
     ap (λ z. patch_of type (terms b z p)) (to_z-of_z small)
     ∙ ap (λ c. patch_of type (terms c a p)) based

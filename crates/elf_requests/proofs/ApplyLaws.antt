@@ -6,7 +6,7 @@ use Rattle.clap.specs.Walk.{Row, Text, first_of, one_of}
 use Rattle.elf_headers.specs.declared.caps.Limits.{Limits}
 use Rattle.elf_model.specs.Placing.{Layout, no_items}
 use Rattle.elf_listing_requests.specs.Options.{AreLimitOptions, HasNumber, is_option_set}
-use Rattle.elf_requests.specs.Asked.{AsksNothing, ComesTo, HasFault, IsApplying, IsFileNamed, IsTask, item_words}
+use Rattle.elf_requests.specs.Asked.{AsksNothing, ResolvesTo, HasFault, IsApplying, IsFileNamed, IsTask, item_words}
 use Rattle.elf_requests.specs.Layouts.{LaysWords}
 use Rattle.elf_requests.specs.declared.requests.Request.{Request}
 use Rattle.elf_listing_requests.specs.declared.faults.RequestFault.{RequestFault}
@@ -50,7 +50,7 @@ pub applied : (rows : List Row) (section : ℕ) (layout : Bor Layout) (explain :
     → IfSome r (λ request. request.task ≡ Apply section layout explain)
     → IfSome r (λ request. IsFileNamed rows request.file) → IfSome r (λ request. AreLimitOptions rows request.limits)
     → (r ≡ None → (file : Option (Bor Text)) (limits : Limits) → IsFileNamed rows file → AreLimitOptions rows limits → ⊥)
-    → ComesTo (Some (codes "apply", rows)) (Ok r)
+    → ResolvesTo (Some (codes "apply", rows)) (Ok r)
 applied rows section layout explain None lays small index told task file limits none = record {
   nothing = λ request asks.
       let is = only_applying rows request.file request.task asks.1 in

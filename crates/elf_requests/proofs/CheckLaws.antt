@@ -9,13 +9,13 @@ use Rattle.elf_requests.specs.Archives.{IsArchiving}
 use Rattle.elf_requests.specs.Asked.{AsksBy, AsksNothing, HasFault, IsTask}
 use Rattle.elf_requests.specs.AskedTraits.{IsTraitsAsked, LacksWord}
 use Rattle.elf_listing_requests.specs.Listings.{NoneAsked}
-use Rattle.elf_listing_requests.specs.RowNames.{asks_names}
+use Rattle.elf_listing_requests.specs.RowNames.{has_name_option}
 use Rattle.elf_requests.specs.AskedNames.{AreBadNames, ChoosesBadly, IsChoosing, takes_names}
 use Rattle.elf_requests.specs.AskedNeeds.{IsNeedsAsked}
 use Rattle.elf_requests.specs.Lists.{IsListAsked}
 use Rattle.elf_requests.specs.Checks.{HasAnyFault, IsAsked, IsChecking, NothingAsked}
-use Rattle.elf_requests.specs.declared.checks.AskedCommand.{AskedCommand}
-use Rattle.elf_requests.specs.declared.checks.AskedCommand.TheVariants.{File, Laid, Chosen, Check, List as Listings, Traits, Needs, Archive, Version}
+use Rattle.elf_requests.specs.declared.checks.ParsedCommand.{ParsedCommand}
+use Rattle.elf_requests.specs.declared.checks.ParsedCommand.TheVariants.{File, Laid, Chosen, Check, List as Listings, Traits, Needs, Archive, Version}
 use Rattle.elf_requests.specs.declared.requests.Request.{Request}
 use Rattle.elf_listing_requests.specs.declared.faults.RequestFault.{RequestFault}
 use Rattle.elf_requests.specs.declared.requests.Task.{Task}
@@ -61,7 +61,7 @@ pub nothing_by_check : (rows : List Row) → NoneAsked IsChecking (Some (codes "
 unfolding is_of_file
 nothing_by_check rows none = record { nothing = nothing; faultless = no_fault (codes "check") rows refl (apart (codes "check") (codes "traits") refl) refl }
   where
-    nothing : (asked : AskedCommand) → IsAsked (Some (codes "check", rows)) asked → ⊥
+    nothing : (asked : ParsedCommand) → IsAsked (Some (codes "check", rows)) asked → ⊥
     nothing (File request) is = no_file (codes "check") rows refl request is.0
     nothing (Laid laying) is = no_file (codes "check") rows refl laying.request is.0
     nothing (Chosen asked) is = apart (codes "check") (codes "show") refl is.show
@@ -77,7 +77,7 @@ pub nothing_by_list : (rows : List Row) → NoneAsked IsListAsked (Some (codes "
 unfolding is_of_file
 nothing_by_list rows none good = record { nothing = nothing; faultless = fault_free (codes "list") rows refl (apart (codes "list") (codes "traits") refl) (λ fault has. good fault has.1) }
   where
-    nothing : (asked : AskedCommand) → IsAsked (Some (codes "list", rows)) asked → ⊥
+    nothing : (asked : ParsedCommand) → IsAsked (Some (codes "list", rows)) asked → ⊥
     nothing (File request) is = no_file (codes "list") rows refl request is.0
     nothing (Laid laying) is = no_file (codes "list") rows refl laying.request is.0
     nothing (Chosen asked) is = apart (codes "list") (codes "show") refl is.show
@@ -93,7 +93,7 @@ pub nothing_by_traits : (rows : List Row) → NoneAsked IsTraitsAsked (Some (cod
 unfolding is_of_file
 nothing_by_traits rows none spelled = record { nothing = nothing; faultless = faultless }
   where
-    nothing : (asked : AskedCommand) → IsAsked (Some (codes "traits", rows)) asked → ⊥
+    nothing : (asked : ParsedCommand) → IsAsked (Some (codes "traits", rows)) asked → ⊥
     nothing (File request) is = no_file (codes "traits") rows refl request is.0
     nothing (Laid laying) is = no_file (codes "traits") rows refl laying.request is.0
     nothing (Chosen asked) is = apart (codes "traits") (codes "show") refl is.show
@@ -114,7 +114,7 @@ pub nothing_by_needs : (rows : List Row) → NoneAsked IsNeedsAsked (Some (codes
 unfolding is_of_file
 nothing_by_needs rows none = record { nothing = nothing; faultless = no_fault (codes "needs") rows refl (apart (codes "needs") (codes "traits") refl) refl }
   where
-    nothing : (asked : AskedCommand) → IsAsked (Some (codes "needs", rows)) asked → ⊥
+    nothing : (asked : ParsedCommand) → IsAsked (Some (codes "needs", rows)) asked → ⊥
     nothing (File request) is = no_file (codes "needs") rows refl request is.0
     nothing (Laid laying) is = no_file (codes "needs") rows refl laying.request is.0
     nothing (Chosen asked) is = apart (codes "needs") (codes "show") refl is.show
@@ -130,7 +130,7 @@ pub nothing_by_archive : (rows : List Row) → NoneAsked IsArchiving (Some (code
 unfolding is_of_file
 nothing_by_archive rows none good = record { nothing = nothing; faultless = fault_free (codes "archive") rows refl (apart (codes "archive") (codes "traits") refl) (λ fault has. good fault has.1) }
   where
-    nothing : (asked : AskedCommand) → IsAsked (Some (codes "archive", rows)) asked → ⊥
+    nothing : (asked : ParsedCommand) → IsAsked (Some (codes "archive", rows)) asked → ⊥
     nothing (File request) is = no_file (codes "archive") rows refl request is.0
     nothing (Laid laying) is = no_file (codes "archive") rows refl laying.request is.0
     nothing (Chosen asked) is = apart (codes "archive") (codes "show") refl is.show
@@ -146,7 +146,7 @@ pub nothing_by_show : (rows : List Row) → ((request : Request) → AsksBy (Som
     → NoneAsked IsChoosing (Some (codes "show", rows)) → ((fault : RequestFault) → AreBadNames rows fault → ⊥) → NothingAsked (Some (codes "show", rows))
 nothing_by_show rows none unchosen good = record { nothing = nothing; faultless = faultless }
   where
-    nothing : (asked : AskedCommand) → IsAsked (Some (codes "show", rows)) asked → ⊥
+    nothing : (asked : ParsedCommand) → IsAsked (Some (codes "show", rows)) asked → ⊥
     nothing (File request) is = none request is.0
     nothing (Laid laying) is = none laying.request is.0
     nothing (Chosen asked) is = unchosen asked is
@@ -164,7 +164,7 @@ nothing_by_show rows none unchosen good = record { nothing = nothing; faultless 
     faultless fault (inr (inr has)) = good fault has.1
 
 -- where rows of names are asked for, every row is not
-pub not_every : (rows : List Row) → asks_names rows ≡ true → (request : Request) → AsksBy (Some (codes "show", rows)) request → ⊥
+pub not_every : (rows : List Row) → has_name_option rows ≡ true → (request : Request) → AsksBy (Some (codes "show", rows)) request → ⊥
 not_every rows named request asks = by_task request.file request.task asks.1
   where
     by_task : (file : Option (Bor Text)) (task : Task) → IsTask (codes "show") rows file task → ⊥
@@ -179,7 +179,7 @@ pub nothing_by_other : (command : Text) (rows : List Row) → command ≢ codes 
     → AsksNothing (Some (command, rows)) → NothingAsked (Some (command, rows))
 nothing_by_other command rows not_show not_check not_list not_traits not_needs not_archive not_version none = record { nothing = nothing; faultless = faultless }
   where
-    nothing : (asked : AskedCommand) → IsAsked (Some (command, rows)) asked → ⊥
+    nothing : (asked : ParsedCommand) → IsAsked (Some (command, rows)) asked → ⊥
     nothing (File request) is = none.nothing request is.0
     nothing (Laid laying) is = none.nothing laying.request is.0
     nothing (Chosen asked) is = not_show is.show

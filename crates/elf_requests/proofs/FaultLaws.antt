@@ -4,7 +4,7 @@ use Rattle.clap.specs.Walk.{Row, Text}
 use Rattle.std.specs.Prelude.{Option, Err}
 use Rattle.elf_listing_requests.specs.Faults.{IsUnasked}
 use Rattle.elf_requests.specs.Answered.{IsRefusal}
-use Rattle.elf_requests.specs.Checks.{Becomes, NothingAsked}
+use Rattle.elf_requests.specs.Checks.{ParsesTo, NothingAsked}
 use Rattle.elf_listing_requests.specs.declared.faults.RequestFault.{RequestFault}
 use Rattle.elf_listing_requests.specs.declared.faults.RequestFault.TheVariants.{Memory, BadName, BadItem, BadTrait, LayoutFull, LayoutRepeat, NamesFull, Words}
 
@@ -20,6 +20,6 @@ unasked_told matches LayoutRepeat is nothing = absurd is
 unasked_told matches BadTrait is nothing = absurd is
 
 -- words that have a fault
-pub faulty : (matches : Option (Text × List Row)) (fault : RequestFault) → Becomes matches (Err fault) → IsRefusal matches fault
+pub faulty : (matches : Option (Text × List Row)) (fault : RequestFault) → ParsesTo matches (Err fault) → IsRefusal matches fault
 faulty matches fault (inl memory) = inl memory
 faulty matches fault (inr has) = inr (inl has)

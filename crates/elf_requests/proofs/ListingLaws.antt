@@ -5,14 +5,14 @@ use Rattle.clap.specs.Walk.{Row, Text}
 use Rattle.elf_headers.specs.declared.caps.Limits.{Limits}
 use Rattle.elf_listing_requests.specs.Listings.{IsListing}
 use Rattle.elf_listing_requests.specs.Options.{AreLimitOptions}
-use Rattle.elf_listing_requests.specs.declared.listings.ListingAsked.{ListingAsked}
+use Rattle.elf_listing_requests.specs.declared.listings.ListingRequest.{ListingRequest}
 use Rattle.elf_requests.specs.Asked.{AsksNothing, HasFault, IsTask}
 use Rattle.elf_listing_requests.specs.declared.faults.RequestFault.{RequestFault}
 use Rattle.elf_requests.specs.declared.requests.Task.{Task}
 use Rattle.elf_requests.specs.declared.requests.Task.TheVariants.{Show, Find, Resolve, Apply, Place}
 
 module _ (command : Text) (rows : List Row) (not_apply : command ≢ codes "apply") (not_find : command ≢ codes "find") where
-  no_task : ((listing : ListingAsked) → IsListing command rows listing → ⊥) → (file : Option (Bor Text)) (limits : Limits) (task : Task)
+  no_task : ((listing : ListingRequest) → IsListing command rows listing → ⊥) → (file : Option (Bor Text)) (limits : Limits) (task : Task)
       → AreLimitOptions rows limits → IsTask command rows file task → ⊥
   no_task none file limits (Show parts style) are (styled, parted, of_file, every) =
       none (record { file = file; limits = limits; parts = parts; style = style }) record { of_file = of_file; limits = are; style = styled; parts = parted; every = every }
@@ -26,5 +26,5 @@ module _ (command : Text) (rows : List Row) (not_apply : command ≢ codes "appl
   no_fault fault (inr badly) = not_apply badly.0
 
   -- where no listing is asked for, nothing is
-  pub nothing_listed : ((listing : ListingAsked) → IsListing command rows listing → ⊥) → AsksNothing (Some (command, rows))
+  pub nothing_listed : ((listing : ListingRequest) → IsListing command rows listing → ⊥) → AsksNothing (Some (command, rows))
   nothing_listed none = record { nothing = λ request asks. no_task none request.file request.limits request.task asks.0 asks.1; faultless = no_fault }

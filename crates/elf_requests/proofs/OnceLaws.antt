@@ -6,7 +6,7 @@ use Rattle.elf_layout.specs.declared.layout.Item.{Item}
 use Rattle.elf_layout.specs.declared.layout.Item.TheVariants.{Section, Define, Entry, Table, Thread}
 use Rattle.elf_layout.specs.declared.layout.LayoutFault.TheVariants.{Full, Repeat}
 use Rattle.elf_model.specs.Placing.{Layout}
-use Rattle.elf_layout.specs.Spelled.{Spells}
+use Rattle.elf_layout.specs.Spelled.{ParsesItem}
 use Rattle.elf_layout.proofs.ItemLaws.{SameItem, one_item}
 use Rattle.elf_requests.specs.Layouts.{LaysWords, RefusesItem}
 use Rattle.elf_listing_requests.specs.declared.faults.RequestFault.{RequestFault}
@@ -78,7 +78,7 @@ is_new (Thread n a) (Thread o b) old new other same p q = lacks_none old.thread 
 is_new _ _ old new other same p q = same
 
 -- a word that is put is not refused
-not_refused : (word : Text) (x : Item) (old new : Layout) (fault : RequestFault) → Spells word x → Pushes {X = Unit {0}} x old new (Ok tt) → RefusesItem word old fault → ⊥
+not_refused : (word : Text) (x : Item) (old new : Layout) (fault : RequestFault) → ParsesItem word x → Pushes {X = Unit {0}} x old new (Ok tt) → RefusesItem word old fault → ⊥
 not_refused word x old new BadItem spells put refuses = refuses x spells
 not_refused word x old new LayoutFull spells put (y, other, is, full) = has_room x y old new other (one_item word x y spells is) put full
 not_refused word x old new LayoutRepeat spells put (y, other, is, there) = is_new x y old new other (one_item word x y spells is) put there

@@ -6,8 +6,8 @@ use Rattle.std.proofs.lemmas.Bool.Decides.{nat_tests}
 use Rattle.clap.specs.Walk.{Text}
 use Rattle.elf_model.specs.TraitWords.{Required}
 use Rattle.elf_wanted.specs.Required.{required_words}
-use Rattle.elf_wanted.specs.Spelled.{spelled_word}
-use Rattle.elf_wanted.specs.declared.required.RequiredWord.{RequiredWord}
+use Rattle.elf_wanted.specs.Spelled.{parsed_trait_word}
+use Rattle.elf_wanted.specs.declared.required.RequiredTrait.{RequiredTrait}
 use Rattle.elf_requests.specs.AskedTraits.{AreRequired, IsWordFault, LacksWord, onto_first, pieces}
 use Rattle.elf_listing_requests.specs.declared.faults.RequestFault.{RequestFault}
 use Rattle.elf_listing_requests.specs.declared.faults.RequestFault.TheVariants.{BadTrait, Memory}
@@ -40,16 +40,16 @@ abbrev no_word : Option Required → Bool
 no_word word = not (is_some word)
 
 -- a word more of the pieces
-pub word_more : (before after : Spelled) (text rest behind piece : Text) → before ++ map spelled_word (pieces rest) ≡ map spelled_word (pieces text)
-    → pieces rest ≡ piece ∷ pieces behind → after ≡ before ++ spelled_word piece ∷ [] → after ++ map spelled_word (pieces behind) ≡ map spelled_word (pieces text)
+pub word_more : (before after : Spelled) (text rest behind piece : Text) → before ++ map parsed_trait_word (pieces rest) ≡ map parsed_trait_word (pieces text)
+    → pieces rest ≡ piece ∷ pieces behind → after ≡ before ++ parsed_trait_word piece ∷ [] → after ++ map parsed_trait_word (pieces behind) ≡ map parsed_trait_word (pieces text)
 word_more before after text rest behind piece so parts put =
-    ap (λ s. s ++ map spelled_word (pieces behind)) put ∙ append_assoc before (spelled_word piece ∷ []) (map spelled_word (pieces behind))
-    ∙ ap (λ p. before ++ map spelled_word p) (sym parts) ∙ so
+    ap (λ s. s ++ map parsed_trait_word (pieces behind)) put ∙ append_assoc before (parsed_trait_word piece ∷ []) (map parsed_trait_word (pieces behind))
+    ∙ ap (λ p. before ++ map parsed_trait_word p) (sym parts) ∙ so
 
 -- the last word
-pub word_last : (before after : Spelled) (text rest : Text) → before ++ map spelled_word (pieces rest) ≡ map spelled_word (pieces text)
-    → pieces rest ≡ rest ∷ [] → after ≡ before ++ spelled_word rest ∷ [] → map spelled_word (pieces text) ≡ after
-word_last before after text rest so parts put = sym so ∙ ap (λ p. before ++ map spelled_word p) parts ∙ sym put
+pub word_last : (before after : Spelled) (text rest : Text) → before ++ map parsed_trait_word (pieces rest) ≡ map parsed_trait_word (pieces text)
+    → pieces rest ≡ rest ∷ [] → after ≡ before ++ parsed_trait_word rest ∷ [] → map parsed_trait_word (pieces text) ≡ after
+word_last before after text rest so parts put = sym so ∙ ap (λ p. before ++ map parsed_trait_word p) parts ∙ sym put
 
 any_at : (before rest : Spelled) → list_any no_word (before ++ None ∷ rest) ≡ true
 any_at [] rest = refl
@@ -60,19 +60,19 @@ any_at (word ∷ before) rest = behind (no_word word) (any_at before rest)
     behind false is = is
 
 -- a piece that spells no word is the fault
-pub word_fault : (before : Spelled) (text rest piece : Text) (more : List Text) (fault : RequestFault) → before ++ map spelled_word (pieces rest) ≡ map spelled_word (pieces text)
-    → pieces rest ≡ piece ∷ more → (fault ≡ Memory) ⊎ ((fault ≡ BadTrait) × (spelled_word piece ≡ None)) → IsWordFault (Some text) fault
+pub word_fault : (before : Spelled) (text rest piece : Text) (more : List Text) (fault : RequestFault) → before ++ map parsed_trait_word (pieces rest) ≡ map parsed_trait_word (pieces text)
+    → pieces rest ≡ piece ∷ more → (fault ≡ Memory) ⊎ ((fault ≡ BadTrait) × (parsed_trait_word piece ≡ None)) → IsWordFault (Some text) fault
 word_fault before text rest piece more fault so parts (inl memory) = inl memory
 word_fault before text rest piece more fault so parts (inr bad) =
-    let here : map spelled_word (pieces text) ≡ before ++ None ∷ map spelled_word more =
-    sym so ∙ ap (λ p. before ++ map spelled_word p) parts ∙ ap (λ w. before ++ w ∷ map spelled_word more) bad.1 in
-    inr (bad.0, ap (list_any no_word) here ∙ any_at before (map spelled_word more))
+    let here : map parsed_trait_word (pieces text) ≡ before ++ None ∷ map parsed_trait_word more =
+    sym so ∙ ap (λ p. before ++ map parsed_trait_word p) parts ∙ ap (λ w. before ++ w ∷ map parsed_trait_word more) bad.1 in
+    inr (bad.0, ap (list_any no_word) here ∙ any_at before (map parsed_trait_word more))
 
 all_some : (words : List Required) → list_any no_word (map Some words) ≡ false
 all_some [] = refl
 all_some (word ∷ words) = all_some words
 
 -- where each piece spells a word none is missing
-pub none_lacking : (text : Option Text) (words : List RequiredWord) → AreRequired text words → LacksWord text → ⊥
+pub none_lacking : (text : Option Text) (words : List RequiredTrait) → AreRequired text words → LacksWord text → ⊥
 none_lacking text words are lacks =
     let e : true ≡ false = sym lacks ∙ ap (list_any no_word) are ∙ all_some (required_words words) in cc

@@ -2,11 +2,11 @@
 use Rattle.std.proofs.Common.{◌≡◌, ◌∙◌, ◌<◌, Bool, true, false, List, [], ◌∷◌, Option, None, Some, arith, codes, is_some, length, refl, sym, inl, inr, unwrap_or}
 use Rattle.std.specs.Prelude.{◌||◌}
 use Rattle.clap.specs.Walk.{Row, Text, all_of}
-use Rattle.elf_listing_requests.specs.Options.{asks_versions}
-use Rattle.elf_listing_requests.specs.RowNames.{AreChosenParts, asks_names, name_words}
+use Rattle.elf_listing_requests.specs.Options.{has_versions_option}
+use Rattle.elf_listing_requests.specs.RowNames.{AreChosenParts, has_name_option, name_words}
 use Rattle.elf_record.specs.declared.parts.Parts.{Parts}
 use Rattle.elf_requests.specs.AskedNames.{AreBadNames, AreNamesIf, AreRows, AreTexts, HasBadText}
-use Rattle.elf_requests.specs.declared.checks.NamesAsked.{NamesAsked}
+use Rattle.elf_requests.specs.declared.checks.NameArgs.{NameArgs}
 use Rattle.elf_listing_requests.specs.declared.faults.RequestFault.{RequestFault}
 
 -- words that are names are not bad
@@ -24,18 +24,18 @@ none_bad versions [] is = ((λ bad. bad), (λ more. absurd (omega (arith, more))
 none_bad versions (word ∷ words) is = cc
 
 -- names that are asked for, or none, have no fault
-pub faultless : (rows : List Row) (names : Option NamesAsked) → AreNamesIf rows names → (fault : RequestFault) → AreBadNames rows fault → ⊥
-faultless rows None none fault (inl bad) = (none_bad (asks_versions rows) (name_words rows) (no_word (all_of (codes "name") rows) _ none)).0 bad.1
-faultless rows None none fault (inr bad) = (none_bad (asks_versions rows) (name_words rows) (no_word (all_of (codes "name") rows) _ none)).1 bad.1
-faultless rows (Some asked) are fault (inl bad) = not_bad (asks_versions rows) (name_words rows) are.each bad.1
+pub faultless : (rows : List Row) (names : Option NameArgs) → AreNamesIf rows names → (fault : RequestFault) → AreBadNames rows fault → ⊥
+faultless rows None none fault (inl bad) = (none_bad (has_versions_option rows) (name_words rows) (no_word (all_of (codes "name") rows) _ none)).0 bad.1
+faultless rows None none fault (inr bad) = (none_bad (has_versions_option rows) (name_words rows) (no_word (all_of (codes "name") rows) _ none)).1 bad.1
+faultless rows (Some asked) are fault (inl bad) = not_bad (has_versions_option rows) (name_words rows) are.each bad.1
 faultless rows (Some asked) are fault (inr bad) = absurd (omega (arith, are.few, bad.1))
 
-asked_and_not : (rows : List Row) → asks_names rows ≡ true → asks_names rows ≡ false → ⊥
+asked_and_not : (rows : List Row) → has_name_option rows ≡ true → has_name_option rows ≡ false → ⊥
 asked_and_not rows is not = let e : true ≡ false = sym is ∙ not in cc
 
 -- where no part is found by the names that are asked for, there is none
-pub nothing_shown : (all : Type 0) (rows : List Row) (parts : Parts) (names asked : Option NamesAsked) → AreNamesIf rows names → AreRows all rows parts asked
-    → (names ≡ None → all → ⊥) → ((some : NamesAsked) → names ≡ Some some → AreChosenParts rows parts → ⊥) → ⊥
+pub nothing_shown : (all : Type 0) (rows : List Row) (parts : Parts) (names asked : Option NameArgs) → AreNamesIf rows names → AreRows all rows parts asked
+    → (names ≡ None → all → ⊥) → ((some : NameArgs) → names ≡ Some some → AreChosenParts rows parts → ⊥) → ⊥
 nothing_shown all rows parts None None are shown no_all no_chosen = no_all refl shown.1
 nothing_shown all rows parts None (Some asked) are shown no_all no_chosen = asked_and_not rows shown.0.some are
 nothing_shown all rows parts (Some names) None are shown no_all no_chosen = asked_and_not rows are.some shown.0

@@ -6,12 +6,12 @@ use Rattle.clap.specs.declared.error.Error.{Error}
 use Rattle.clap.specs.declared.error.kind.ErrorKind.TheVariants as kind
 use Rattle.elf_listing_requests.specs.Reading.{AreRead, AreRefused}
 use Rattle.elf_requests.specs.Checks.{HasAnyFault, IsAsked, NothingAsked}
-use Rattle.elf_requests.specs.declared.checks.AskedCommand.{AskedCommand}
+use Rattle.elf_requests.specs.declared.checks.ParsedCommand.{ParsedCommand}
 use Rattle.elf_listing_requests.specs.declared.faults.RequestFault.{RequestFault}
 use Rattle.elf_listing_requests.specs.declared.faults.RequestFault.TheVariants.{Memory, Words}
 
 -- WHAT IS ASKED FOR: the command line takes the words, and what it makes of them is what is asked for
-abbrev pub WordsAsk : List Text → AskedCommand → Type 0
+abbrev pub WordsAsk : List Text → ParsedCommand → Type 0
 WordsAsk words asked = (matches : Option (Text × List Row)) × AreRead words matches × IsAsked matches asked
 
 -- there was no memory; or nothing is asked for, which is told by the kind `Format`; or what is asked for has this fault

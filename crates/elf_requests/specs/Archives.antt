@@ -5,9 +5,9 @@ use Rattle.clap.specs.Walk.{Row, Text, first_of}
 use Rattle.elf_model.specs.Listing.{all_parts}
 use Rattle.elf_model.specs.Text.{name_of as name_in_table}
 use Rattle.elf_record.specs.declared.parts.Parts.{Parts}
-use Rattle.elf_listing_requests.specs.Options.{AreLimitOptions, IsStyle, asks_gnu, member_part_names}
+use Rattle.elf_listing_requests.specs.Options.{AreLimitOptions, IsStyle, has_gnu_option, member_part_names}
 use Rattle.elf_requests.specs.AskedNames.{AreRows}
-use Rattle.elf_requests.specs.declared.checks.Archiving.{Archiving}
+use Rattle.elf_requests.specs.declared.checks.ArchiveRequest.{ArchiveRequest}
 
 -- whether a text is the name of a part of an archive
 abbrev pub is_member_part : Bool → Text → Bool
@@ -20,10 +20,10 @@ AreMemberPartsOf gnu (Some name) parts = name_in_table (member_part_names gnu) p
 
 -- which parts are listed, by the values of the options
 abbrev pub AreMemberParts : List Row → Parts → Type 0
-AreMemberParts rows = AreMemberPartsOf (asks_gnu rows) (first_of (codes "only") rows)
+AreMemberParts rows = AreMemberPartsOf (has_gnu_option rows) (first_of (codes "only") rows)
 
 -- a listing of the archive whose path stands among the values
-pub record IsArchiving (command : Text) (rows : List Row) (asked : Archiving) : Type 0 where
+pub record IsArchiving (command : Text) (rows : List Row) (asked : ArchiveRequest) : Type 0 where
   pub archive : command ≡ codes "archive"
   pub path : first_of (codes "FILE") rows ≡ Some asked.file.now
   pub limits : AreLimitOptions rows asked.limits

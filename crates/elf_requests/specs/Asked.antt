@@ -2,19 +2,19 @@
 use Rattle.std.specs.Prelude.{Bool, true, false, ◌≡◌, ◌⊎◌, ◌<◌, ◌≤◌, ◌^◌, ℕ, length, unwrap_or, Result, Ok, Err, List, [], codes, Option, None, Some}
 use Rattle.std.specs.Borrow.{Bor}
 use Rattle.clap.specs.Walk.{Row, Text, all_of, first_of, one_of}
-use Rattle.elf_model.specs.Loader.{is_complete, wanted_of}
+use Rattle.elf_model.specs.Loader.{is_complete, parse_query}
 use Rattle.elf_model.specs.declared.formats.Format.{Format}
 use Rattle.elf_model.specs.NameLaws.{IsWanted}
 use Rattle.elf_model.specs.Placing.{Layout, no_items}
 use Rattle.elf_listing_requests.specs.Listings.{IsOfFile}
-use Rattle.elf_listing_requests.specs.Options.{AreLimitOptions, AreParts, HasNumber, IsStyle, asked_format, asks_gnu, is_option_set, lacks_gnu}
-use Rattle.elf_listing_requests.specs.RowNames.{asks_names}
+use Rattle.elf_listing_requests.specs.Options.{AreLimitOptions, AreParts, HasNumber, IsStyle, asked_format, has_gnu_option, is_option_set, gnu_option_is_missing}
+use Rattle.elf_listing_requests.specs.RowNames.{has_name_option}
 use Rattle.elf_requests.specs.Layouts.{LaysWords}
 use Rattle.elf_requests.specs.declared.requests.Request.{Request}
 use Rattle.elf_listing_requests.specs.declared.faults.RequestFault.{RequestFault}
 use Rattle.elf_listing_requests.specs.declared.faults.RequestFault.TheVariants.{BadName}
 use Rattle.elf_requests.specs.declared.requests.Task.{Task}
-use Rattle.elf_requests.specs.declared.requests.WantedSymbol.{WantedSymbol}
+use Rattle.elf_requests.specs.declared.requests.LookupSymbol.{LookupSymbol}
 use Rattle.elf_requests.specs.declared.requests.Task.TheVariants.{Show, Find, Resolve, Apply, Place}
 
 -- the file whose path stands among the values
@@ -27,20 +27,20 @@ IsFileNamed rows (Some path) = first_of (codes "FILE") rows ≡ Some path.now
 pub record IsText (gnu : Bool) (text : Text) : Type 0 where
   pub is_name : IsWanted text
   pub most : length text ≤ 4096
-  pub complete : gnu ≡ true → is_complete (wanted_of text) ≡ true
+  pub complete : gnu ≡ true → is_complete (parse_query text) ≡ true
 
 -- a lookup in the file whose path stands among the values, of the text that stands there too, and by whether it is one of a
 -- loader of the GNU system, as it is where the program headers alone are to be gone by; answered as the options ask for
 pub record AsksLookup (command : Text) (rows : List Row) (file : Option (Bor Text)) (gnu : Bool) (text : Text) (format : Format) : Type 0 where
   pub find : command ≡ codes "find"
-  pub by_gnu : asks_gnu rows ≡ gnu
-  pub allowed : lacks_gnu rows ≡ false
+  pub by_gnu : has_gnu_option rows ≡ gnu
+  pub allowed : gnu_option_is_missing rows ≡ false
   pub path : IsFileNamed rows file
   pub word : first_of (codes "NAME") rows ≡ Some text
   pub written : format ≡ asked_format rows
 
 -- a symbol is looked up as a loader of the GNU system does it, by the program headers alone or not
-pub record IsResolving (command : Text) (rows : List Row) (file : Option (Bor Text)) (wanted : WantedSymbol) (by_segments : Bool) (format : Format) : Type 0 where
+pub record IsResolving (command : Text) (rows : List Row) (file : Option (Bor Text)) (wanted : LookupSymbol) (by_segments : Bool) (format : Format) : Type 0 where
   pub lookup : AsksLookup command rows file true wanted.text.now format
   pub viewed : by_segments ≡ is_option_set (first_of (codes "by-segments") rows)
 
@@ -69,7 +69,7 @@ pub record IsApplying (command : Text) (rows : List Row) (file : Option (Bor Tex
 -- a task with its file, by the values of the options; no words give addresses that are kept otherwise
 abbrev pub IsTask : Text → List Row → Option (Bor Text) → Task → Type 0
 IsTask command rows file (Show parts style) =
-    IsStyle rows style × AreParts rows parts × IsOfFile command rows file × (asks_names rows ≡ false)
+    IsStyle rows style × AreParts rows parts × IsOfFile command rows file × (has_name_option rows ≡ false)
 IsTask command rows file (Find wanted format) = AsksLookup command rows file false wanted.bytes.now format
 IsTask command rows file (Resolve wanted by_segments format) = IsResolving command rows file wanted by_segments format
 IsTask command rows file (Apply section layout explain) = IsApplying command rows file section layout.now explain
@@ -84,7 +84,7 @@ AsksBy (Some (command, rows)) request = AreLimitOptions rows request.limits × I
 abbrev NamesBadly : Text → List Row → Type 0
 NamesBadly command rows =
     (command ≡ codes "find")
-    × ((text : Text) × (lacks_gnu rows ≡ false) × (first_of (codes "NAME") rows ≡ Some text) × (IsText (asks_gnu rows) text → ⊥))
+    × ((text : Text) × (gnu_option_is_missing rows ≡ false) × (first_of (codes "NAME") rows ≡ Some text) × (IsText (has_gnu_option rows) text → ⊥))
 
 -- a command with the values of its arguments asks for something, and has this fault in its words for it: it looks a text up that
 -- can't be, or it applies a section in a layout of which the first word that is refused has this fault
@@ -99,7 +99,7 @@ pub record AsksNothing (matches : Option (Text × List Row)) : Type 0 where
   pub faultless : (fault : RequestFault) → HasFault matches fault → ⊥
 
 -- what a command with the values of its arguments comes to: a request, nothing, or a fault
-abbrev pub ComesTo : Option (Text × List Row) → Result (Option Request) RequestFault → Type 0
-ComesTo matches (Ok (Some request)) = AsksBy matches request
-ComesTo matches (Ok None) = AsksNothing matches
-ComesTo matches (Err fault) = HasFault matches fault
+abbrev pub ResolvesTo : Option (Text × List Row) → Result (Option Request) RequestFault → Type 0
+ResolvesTo matches (Ok (Some request)) = AsksBy matches request
+ResolvesTo matches (Ok None) = AsksNothing matches
+ResolvesTo matches (Err fault) = HasFault matches fault

@@ -2,12 +2,12 @@
 use Rattle.std.specs.Prelude.{◌≡◌, ◌⊎◌, ◌≤◌, ◌<◌, ⊤, Bool, true, false, bytes_eq, length, List, [], ◌∷◌, codes, Option, None, Some, option_map}
 use Rattle.std.specs.List.{list_any}
 use Rattle.clap.specs.Walk.{Row, Text, first_of, texts}
-use Rattle.elf_listing_requests.specs.Options.{AreLimitOptions, IsStyle, asks_versions}
-use Rattle.elf_listing_requests.specs.RowNames.{AreChosenParts, asks_names, name_words}
+use Rattle.elf_listing_requests.specs.Options.{AreLimitOptions, IsStyle, has_versions_option}
+use Rattle.elf_listing_requests.specs.RowNames.{AreChosenParts, has_name_option, name_words}
 use Rattle.elf_record.specs.declared.parts.Parts.{Parts}
 use Rattle.elf_requests.specs.Asked.{IsFileNamed, IsText}
 use Rattle.elf_requests.specs.declared.checks.Choosing.{Choosing}
-use Rattle.elf_requests.specs.declared.checks.NamesAsked.{NamesAsked}
+use Rattle.elf_requests.specs.declared.checks.NameArgs.{NameArgs}
 use Rattle.elf_listing_requests.specs.declared.faults.RequestFault.{RequestFault}
 use Rattle.elf_listing_requests.specs.declared.faults.RequestFault.TheVariants.{BadName, Memory, NamesFull}
 
@@ -22,22 +22,22 @@ HasBadText versions [] = ⊥
 HasBadText versions (word ∷ words) = (IsText versions word → ⊥) ⊎ HasBadText versions words
 
 -- the names that stand among the values, at most 64, and the path of a file that has more; there is a name, or that file
-pub record AreNamesAsked (rows : List Row) (asked : NamesAsked) : Type 0 where
+pub record AreNamesAsked (rows : List Row) (asked : NameArgs) : Type 0 where
   pub names : texts asked.names.items ≡ name_words rows
   pub list : option_map (λ path. path.now) asked.list ≡ first_of (codes "name-list") rows
-  pub some : asks_names rows ≡ true
+  pub some : has_name_option rows ≡ true
   pub few : length (name_words rows) ≤ 64
-  pub each : AreTexts (asks_versions rows) (name_words rows)
-  pub versions : asked.versions ≡ asks_versions rows
+  pub each : AreTexts (has_versions_option rows) (name_words rows)
+  pub versions : asked.versions ≡ has_versions_option rows
 
 -- such names where they are asked for, else none
-abbrev pub AreNamesIf : List Row → Option NamesAsked → Type 0
-AreNamesIf rows None = asks_names rows ≡ false
+abbrev pub AreNamesIf : List Row → Option NameArgs → Type 0
+AreNamesIf rows None = has_name_option rows ≡ false
 AreNamesIf rows (Some asked) = AreNamesAsked rows asked
 
 -- which rows are listed: with names those of them in the part that they choose from, else all of the parts that are asked for
-abbrev pub AreRows : Type 0 → List Row → Parts → Option NamesAsked → Type 0
-AreRows all rows parts None = (asks_names rows ≡ false) × all
+abbrev pub AreRows : Type 0 → List Row → Parts → Option NameArgs → Type 0
+AreRows all rows parts None = (has_name_option rows ≡ false) × all
 AreRows all rows parts (Some asked) = AreNamesAsked rows asked × AreChosenParts rows parts
 
 -- a listing of the file whose path stands among the values, of the rows of names
@@ -54,7 +54,7 @@ abbrev pub AreBadWords : (versions : Bool) → List Text → RequestFault → Ty
 AreBadWords versions words fault = ((fault ≡ BadName) × HasBadText versions words) ⊎ ((fault ≡ NamesFull) × (64 < length words))
 
 abbrev pub AreBadNames : List Row → RequestFault → Type 0
-AreBadNames rows fault = AreBadWords (asks_versions rows) (name_words rows) fault
+AreBadNames rows fault = AreBadWords (has_versions_option rows) (name_words rows) fault
 
 -- why there are none: no memory, or what is wrong with them
 abbrev pub IsNameFault : List Row → RequestFault → Type 0

@@ -2,18 +2,18 @@
 use Rattle.std.specs.Prelude.{◌≡◌, List, [], codes, Some, unwrap_or}
 use Rattle.clap.specs.Walk.{Row, Text, first_of}
 use Rattle.elf_listing_requests.specs.Options.{AreLimitOptions, asked_format, is_option_set}
-use Rattle.elf_requests.specs.declared.checks.NeedsAsked.{NeedsAsked}
+use Rattle.elf_requests.specs.declared.checks.NeedsRequest.{NeedsRequest}
 
 -- the folders that libraries are looked for in last, where no others are given
-abbrev default_folders : Text
-default_folders = codes "/lib/x86_64-linux-gnu:/usr/lib/x86_64-linux-gnu:/lib64:/usr/lib64:/lib:/usr/lib"
+abbrev default_dirs : Text
+default_dirs = codes "/lib/x86_64-linux-gnu:/usr/lib/x86_64-linux-gnu:/lib64:/usr/lib64:/lib:/usr/lib"
 
 -- the needs of the program whose path stands among the values, with the folders that stand there
-pub record IsNeedsAsked (command : Text) (rows : List Row) (asked : NeedsAsked) : Type 0 where
+pub record IsNeedsAsked (command : Text) (rows : List Row) (asked : NeedsRequest) : Type 0 where
   pub needs : command ≡ codes "needs"
   pub path : first_of (codes "FILE") rows ≡ Some asked.file.now
   pub library_path : asked.library_path.now ≡ unwrap_or (first_of (codes "library-path") rows) []
-  pub default : asked.default.now ≡ unwrap_or (first_of (codes "default") rows) default_folders
+  pub default : asked.default.now ≡ unwrap_or (first_of (codes "default") rows) default_dirs
   pub root : asked.root.now ≡ unwrap_or (first_of (codes "root") rows) []
   pub limits : AreLimitOptions rows asked.limits
   pub format : asked.format ≡ asked_format rows

@@ -5,10 +5,10 @@ use Rattle.clap.specs.Walk.{Row, Text, first_of}
 use Rattle.elf_listing_requests.specs.Options.{AreLimitOptions, asked_format}
 use Rattle.elf_model.specs.TraitWords.{Required}
 use Rattle.elf_wanted.specs.Required.{required_words}
-use Rattle.elf_wanted.specs.Spelled.{spelled_word}
-use Rattle.elf_wanted.specs.declared.required.RequiredWord.{RequiredWord}
+use Rattle.elf_wanted.specs.Spelled.{parsed_trait_word}
+use Rattle.elf_wanted.specs.declared.required.RequiredTrait.{RequiredTrait}
 use Rattle.elf_requests.specs.Files.{AreFiles}
-use Rattle.elf_requests.specs.declared.checks.TraitsAsked.{TraitsAsked}
+use Rattle.elf_requests.specs.declared.checks.TraitsRequest.{TraitsRequest}
 use Rattle.elf_listing_requests.specs.declared.faults.RequestFault.{RequestFault}
 use Rattle.elf_listing_requests.specs.declared.faults.RequestFault.TheVariants.{BadTrait, Memory}
 
@@ -23,24 +23,24 @@ pieces [] = [] ∷ []
 pieces (byte ∷ bytes) = elim (byte == 44) [ true ↦ [] ∷ pieces bytes | false ↦ onto_first byte (pieces bytes) ]
 
 -- what each piece of a text spells; without a text nothing is required
-abbrev spelled_in : Option Text → List (Option Required)
-spelled_in None = []
-spelled_in (Some text) = map spelled_word (pieces text)
+abbrev parsed_in : Option Text → List (Option Required)
+parsed_in None = []
+parsed_in (Some text) = map parsed_trait_word (pieces text)
 
 -- a piece spells no word
 abbrev pub LacksWord : Option Text → Type 0
-LacksWord text = list_any (λ word. not (is_some word)) (spelled_in text) ≡ true
+LacksWord text = list_any (λ word. not (is_some word)) (parsed_in text) ≡ true
 
 -- the words that the pieces of a text spell, in order
-abbrev pub AreRequired : Option Text → List RequiredWord → Type 0
-AreRequired text words = spelled_in text ≡ map Some (required_words words)
+abbrev pub AreRequired : Option Text → List RequiredTrait → Type 0
+AreRequired text words = parsed_in text ≡ map Some (required_words words)
 
 -- why there are none: no memory, or a piece that spells no word
 abbrev pub IsWordFault : Option Text → RequestFault → Type 0
 IsWordFault text fault = (fault ≡ Memory) ⊎ ((fault ≡ BadTrait) × LacksWord text)
 
 -- the traits of the files that stand among the values, with the words that are required there
-pub record IsTraitsAsked (command : Text) (rows : List Row) (asked : TraitsAsked) : Type 0 where
+pub record IsTraitsAsked (command : Text) (rows : List Row) (asked : TraitsRequest) : Type 0 where
   pub traits : command ≡ codes "traits"
   pub files : AreFiles rows asked.files
   pub limits : AreLimitOptions rows asked.limits

@@ -9,15 +9,15 @@ use Rattle.elf_requests.specs.AskedNeeds.{IsNeedsAsked}
 use Rattle.elf_requests.specs.AskedTraits.{IsTraitsAsked, RequiresBadly}
 use Rattle.elf_requests.specs.Files.{AreFiles}
 use Rattle.elf_requests.specs.Lists.{IsListAsked}
-use Rattle.elf_requests.specs.declared.checks.AskedCommand.{AskedCommand}
-use Rattle.elf_requests.specs.declared.checks.AskedCommand.TheVariants.{File, Laid, Chosen, Check, List as Listings, Traits, Needs, Archive, Version}
+use Rattle.elf_requests.specs.declared.checks.ParsedCommand.{ParsedCommand}
+use Rattle.elf_requests.specs.declared.checks.ParsedCommand.TheVariants.{File, Laid, Chosen, Check, List as Listings, Traits, Needs, Archive, Version}
 use Rattle.elf_requests.specs.Archives.{IsArchiving}
-use Rattle.elf_requests.specs.declared.checks.Checking.{Checking}
+use Rattle.elf_requests.specs.declared.checks.CheckRequest.{CheckRequest}
 use Rattle.elf_listing_requests.specs.declared.faults.RequestFault.{RequestFault}
 use Rattle.elf_listing_requests.specs.declared.faults.RequestFault.TheVariants.{BadTrait, Memory}
 
 -- a check of the files that stand among the values
-pub record IsChecking (command : Text) (rows : List Row) (asked : Checking) : Type 0 where
+pub record IsChecking (command : Text) (rows : List Row) (asked : CheckRequest) : Type 0 where
   pub check : command ≡ codes "check"
   pub files : AreFiles rows asked.files
   pub limits : AreLimitOptions rows asked.limits
@@ -36,7 +36,7 @@ HasList None list = ⊥
 HasList (Some (command, rows)) list = (command ≡ codes "apply") × (first_of (codes "layout") rows ≡ Some list)
 
 -- a command with the values of its arguments asks for just this
-abbrev pub IsAsked : Option (Text × List Row) → AskedCommand → Type 0
+abbrev pub IsAsked : Option (Text × List Row) → ParsedCommand → Type 0
 IsAsked matches (File request) = AsksBy matches request × LacksList matches
 IsAsked matches (Laid laying) = AsksBy matches laying.request × HasList matches laying.list.now
 IsAsked matches (Chosen asked) = AskedBy IsChoosing matches asked
@@ -53,11 +53,11 @@ HasAnyFault matches fault = HasFault matches fault ⊎ (((fault ≡ BadTrait) ×
 
 -- nothing is asked for, not even with a fault in the words for it
 pub record NothingAsked (matches : Option (Text × List Row)) : Type 0 where
-  pub nothing : (asked : AskedCommand) → IsAsked matches asked → ⊥
+  pub nothing : (asked : ParsedCommand) → IsAsked matches asked → ⊥
   pub faultless : (fault : RequestFault) → HasAnyFault matches fault → ⊥
 
 -- what a command with the values of its arguments comes to: what is asked for, nothing, or a fault
-abbrev pub Becomes : Option (Text × List Row) → Result (Option AskedCommand) RequestFault → Type 0
-Becomes matches (Ok (Some asked)) = IsAsked matches asked
-Becomes matches (Ok None) = NothingAsked matches
-Becomes matches (Err fault) = (fault ≡ Memory) ⊎ HasAnyFault matches fault
+abbrev pub ParsesTo : Option (Text × List Row) → Result (Option ParsedCommand) RequestFault → Type 0
+ParsesTo matches (Ok (Some asked)) = IsAsked matches asked
+ParsesTo matches (Ok None) = NothingAsked matches
+ParsesTo matches (Err fault) = (fault ≡ Memory) ⊎ HasAnyFault matches fault

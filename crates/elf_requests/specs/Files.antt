@@ -1,7 +1,7 @@
 -- The files that the words of a command line ask for, where there are many.
 use Rattle.std.specs.Prelude.{◌≡◌, List, [], codes, None, option_map, unwrap_or}
 use Rattle.clap.specs.Walk.{Row, Text, all_of, first_of, texts}
-use Rattle.elf_requests.specs.declared.checks.ManyFiles.{ManyFiles}
+use Rattle.elf_requests.specs.declared.checks.PathArgs.{PathArgs}
 
 -- the words for the paths of files and folders
 abbrev pub path_words : List Row → List Text
@@ -9,7 +9,7 @@ path_words rows = unwrap_or (all_of (codes "PATH") rows) []
 
 -- the files and folders whose paths stand among the values, and those of which a file has the paths; there is a path, or that
 -- file
-pub record AreFiles (rows : List Row) (files : ManyFiles) : Type 0 where
+pub record AreFiles (rows : List Row) (files : PathArgs) : Type 0 where
   pub paths : texts files.paths.items ≡ path_words rows
   pub list : option_map (λ path. path.now) files.list ≡ first_of (codes "files0-from") rows
   pub some : path_words rows ≡ [] → first_of (codes "files0-from") rows ≡ None → ⊥

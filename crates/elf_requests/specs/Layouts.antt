@@ -5,19 +5,19 @@ use Rattle.elf_layout.specs.Layouts.{Pushes}
 use Rattle.elf_layout.specs.declared.layout.Item.{Item}
 use Rattle.elf_layout.specs.declared.layout.LayoutFault.TheVariants.{Full, Repeat}
 use Rattle.elf_model.specs.Placing.{Layout}
-use Rattle.elf_layout.specs.Spelled.{Spells}
+use Rattle.elf_layout.specs.Spelled.{ParsesItem}
 use Rattle.elf_listing_requests.specs.declared.faults.RequestFault.{RequestFault}
 use Rattle.elf_listing_requests.specs.declared.faults.RequestFault.TheVariants.{BadItem, LayoutFull, LayoutRepeat}
 
 -- a word spells an item, which is put behind those of its sort
 abbrev pub PutsItem : Text → Layout → Layout → Type 0
-PutsItem word old new = (item : Item) × Spells word item × Pushes {X = Unit {0}} item old new (Ok tt)
+PutsItem word old new = (item : Item) × ParsesItem word item × Pushes {X = Unit {0}} item old new (Ok tt)
 
 -- a word spells no item; or one for which there is no room; or one whose index or name is there already
 abbrev pub RefusesItem : Text → Layout → RequestFault → Type 0
-RefusesItem word old BadItem = (item : Item) → Spells word item → ⊥
-RefusesItem word old LayoutFull = (item : Item) × (new : Layout) × Spells word item × Pushes {X = Unit {0}} item old new (Err Full)
-RefusesItem word old LayoutRepeat = (item : Item) × (new : Layout) × Spells word item × Pushes {X = Unit {0}} item old new (Err Repeat)
+RefusesItem word old BadItem = (item : Item) → ParsesItem word item → ⊥
+RefusesItem word old LayoutFull = (item : Item) × (new : Layout) × ParsesItem word item × Pushes {X = Unit {0}} item old new (Err Full)
+RefusesItem word old LayoutRepeat = (item : Item) × (new : Layout) × ParsesItem word item × Pushes {X = Unit {0}} item old new (Err Repeat)
 RefusesItem word old _ = ⊥
 
 -- THE LAYOUT that words give behind the items of another, from the first word to the last; the first word that is refused

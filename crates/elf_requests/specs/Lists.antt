@@ -4,10 +4,10 @@ use Rattle.clap.specs.Walk.{Row, Text, first_of}
 use Rattle.elf_listing_requests.specs.Options.{AreLimitOptions, AreParts, IsStyle, is_option_set}
 use Rattle.elf_requests.specs.AskedNames.{AreRows}
 use Rattle.elf_requests.specs.Files.{AreFiles}
-use Rattle.elf_requests.specs.declared.checks.ListAsked.{ListAsked}
+use Rattle.elf_requests.specs.declared.checks.ListRequest.{ListRequest}
 
 -- listings of the files that stand among the values
-pub record IsListAsked (command : Text) (rows : List Row) (asked : ListAsked) : Type 0 where
+pub record IsListAsked (command : Text) (rows : List Row) (asked : ListRequest) : Type 0 where
   pub list : command ≡ codes "list"
   pub files : AreFiles rows asked.files
   pub limits : AreLimitOptions rows asked.limits

@@ -9,14 +9,14 @@ ghost use Rattle.elf_listing_requests.specs.Listings.{NoneAsked};
 ghost use Rattle.elf_listing_requests.specs.Options.{member_part_names};
 ghost use Rattle.elf_requests.specs.Archives.{is_member_part};
 ghost use Rattle.elf_requests.specs.AskedNames.{AreNamesIf, AreRows};
-ghost use Rattle.elf_requests.specs.Checks.{Becomes};
-ghost use Rattle.elf_requests.specs.declared.checks.NamesAsked.{NamesAsked};
+ghost use Rattle.elf_requests.specs.Checks.{ParsesTo};
+ghost use Rattle.elf_requests.specs.declared.checks.NameArgs.{NameArgs};
 
-use crate::checks::{Archiving, AskedCommand, NamesAsked};
+use crate::checks::{ArchiveRequest, NameArgs, ParsedCommand};
 use crate::name_words::names_of;
 use clap::ArgMatches;
 use elf_listing_requests::{
-    RequestFault, asks_gnu, chosen_parts_of, limits_of, style_of, text_of, whole,
+    RequestFault, chosen_parts_of, has_gnu_option, limits_of, style_of, text_of, whole,
 };
 use elf_record::Parts;
 use std::alloc::Global;
@@ -31,8 +31,8 @@ const NO_PART: Parts = Parts(0);
 pub(crate) fn archive_asked<'a>(
     alloc: Global,
     options: &ArgMatches<'a>,
-) -> Result<Option<AskedCommand<'a>>, RequestFault>
-    ensures { Becomes (Some (codes "archive", rows_of (found_of options.now))) result }
+) -> Result<Option<ParsedCommand<'a>>, RequestFault>
+    ensures { ParsesTo (Some (codes "archive", rows_of (found_of options.now))) result }
 {
     let names = names_of(alloc, options)?;
     Ok(archive_of(options, names))
@@ -41,13 +41,13 @@ pub(crate) fn archive_asked<'a>(
 /// What `archive` asks for, of the rows of these names.
 fn archive_of<'a>(
     options: &ArgMatches<'a>,
-    names: Option<NamesAsked<'a>>,
-) -> Option<AskedCommand<'a>>
+    names: Option<NameArgs<'a>>,
+) -> Option<ParsedCommand<'a>>
     requires { AreNamesIf (rows_of (found_of options.now)) names }
-    ensures { Becomes (Some (codes "archive", rows_of (found_of options.now))) (Ok result) }
+    ensures { ParsesTo (Some (codes "archive", rows_of (found_of options.now))) (Ok result) }
 {
     match archiving_of(options, names) {
-        Some(asked) => Some(AskedCommand::Archive(asked)),
+        Some(asked) => Some(ParsedCommand::Archive(asked)),
         None => None,
     }
 }
@@ -55,8 +55,8 @@ fn archive_of<'a>(
 /// The listing of the archive whose path is among the arguments.
 fn archiving_of<'a>(
     options: &ArgMatches<'a>,
-    names: Option<NamesAsked<'a>>,
-) -> Option<Archiving<'a>>
+    names: Option<NameArgs<'a>>,
+) -> Option<ArchiveRequest<'a>>
     requires { AreNamesIf (rows_of (found_of options.now)) names }
     ensures none { result ≡ None →
         NoneAsked IsArchiving (Some (codes "archive", rows_of (found_of options.now))) }
@@ -66,7 +66,7 @@ fn archiving_of<'a>(
     let file = text_of(options, "FILE")?;
     let limits = limits_of(options)?;
     let style = style_of(options)?;
-    Some(Archiving {
+    Some(ArchiveRequest {
         file,
         limits,
         parts,
@@ -76,12 +76,12 @@ fn archiving_of<'a>(
 }
 
 /// The parts that the options ask for, by whether rows are chosen by names.
-fn archived_parts_of(options: &ArgMatches<'_>, names: &Option<NamesAsked<'_>>) -> Option<Parts>
+fn archived_parts_of(options: &ArgMatches<'_>, names: &Option<NameArgs<'_>>) -> Option<Parts>
     requires { AreNamesIf (rows_of (found_of options.now)) names.now }
     ensures some { IfSome result (λ parts. AreRows
         (AreMemberParts (rows_of (found_of options.now)) parts)
         (rows_of (found_of options.now)) parts names.now) }
-    ensures none { result ≡ None → (parts : Parts) (asked : Option NamesAsked)
+    ensures none { result ≡ None → (parts : Parts) (asked : Option NameArgs)
         → AreRows (AreMemberParts (rows_of (found_of options.now)) parts)
         (rows_of (found_of options.now)) parts asked → ⊥ }
 {
@@ -97,7 +97,7 @@ fn member_parts_of(options: &ArgMatches<'_>) -> Option<Parts>
     ensures none { result ≡ None → (parts : Parts)
         → AreMemberParts (rows_of (found_of options.now)) parts → ⊥ }
 {
-    let gnu = asks_gnu(options);
+    let gnu = has_gnu_option(options);
     match text_of(options, "only") {
         Some(name) => member_part_named(name, gnu),
         None => Some(whole(gnu)),

@@ -3,10 +3,10 @@ ghost use Rattle.std.specs.Prelude.{◌≡◌, IfSome, Some, None, codes};
 ghost use Rattle.clap.specs.Walk.{rows_of};
 ghost use Rattle.clap.specs.Words.{found_of};
 ghost use Rattle.elf_listing_requests.specs.Listings.{NoneAsked};
-ghost use Rattle.elf_requests.specs.Checks.{Becomes, IsChecking};
+ghost use Rattle.elf_requests.specs.Checks.{ParsesTo, IsChecking};
 ghost use Rattle.elf_requests.specs.Files.{AreFiles};
 
-use crate::checks::{AskedCommand, Checking, ManyFiles};
+use crate::checks::{CheckRequest, ParsedCommand, PathArgs};
 use crate::file_words::files_of;
 use clap::ArgMatches;
 use elf_listing_requests::{RequestFault, is_set, limits_of, parts_of, style_of};
@@ -17,11 +17,11 @@ use std::alloc::{AllocError, Global};
 ///
 /// # Errors
 /// There is no memory for the list of paths.
-pub(crate) fn check_asked<'a>(
+pub(crate) fn parse_check<'a>(
     alloc: Global,
     options: &ArgMatches<'a>,
-) -> Result<Option<AskedCommand<'a>>, RequestFault>
-    ensures { Becomes (Some (codes "check", rows_of (found_of options.now))) result }
+) -> Result<Option<ParsedCommand<'a>>, RequestFault>
+    ensures { ParsesTo (Some (codes "check", rows_of (found_of options.now))) result }
 {
     match files_of(alloc, options) {
         Ok(Some(files)) => Ok(check_of(options, files)),
@@ -31,18 +31,18 @@ pub(crate) fn check_asked<'a>(
 }
 
 /// What `check` of these files asks for.
-fn check_of<'a>(options: &ArgMatches<'a>, files: ManyFiles<'a>) -> Option<AskedCommand<'a>>
+fn check_of<'a>(options: &ArgMatches<'a>, files: PathArgs<'a>) -> Option<ParsedCommand<'a>>
     requires { AreFiles (rows_of (found_of options.now)) files }
-    ensures { Becomes (Some (codes "check", rows_of (found_of options.now))) (Ok result) }
+    ensures { ParsesTo (Some (codes "check", rows_of (found_of options.now))) (Ok result) }
 {
     match checking_of(options, files) {
-        Some(asked) => Some(AskedCommand::Check(asked)),
+        Some(asked) => Some(ParsedCommand::Check(asked)),
         None => None,
     }
 }
 
 /// The check of these files.
-fn checking_of<'a>(options: &ArgMatches<'a>, files: ManyFiles<'a>) -> Option<Checking<'a>>
+fn checking_of<'a>(options: &ArgMatches<'a>, files: PathArgs<'a>) -> Option<CheckRequest<'a>>
     requires { AreFiles (rows_of (found_of options.now)) files }
     ensures none { result ≡ None →
         NoneAsked IsChecking (Some (codes "check", rows_of (found_of options.now))) }
@@ -51,7 +51,7 @@ fn checking_of<'a>(options: &ArgMatches<'a>, files: ManyFiles<'a>) -> Option<Che
     let limits = limits_of(options)?;
     let style = style_of(options)?;
     let parts = parts_of(options)?;
-    Some(Checking {
+    Some(CheckRequest {
         files,
         limits,
         parts,

@@ -1,37 +1,37 @@
 //! What can be asked for: of one file, of many, of an archive, or the version.
 use crate::requests::Request;
 use elf_headers::{Limits, Style};
-use elf_listing_requests::ListingAsked;
+use elf_listing_requests::ListingRequest;
 use elf_model::Format;
 use elf_record::Parts;
-use elf_wanted::RequiredWord;
+use elf_wanted::RequiredTrait;
 
 /// What is asked for.
 #[derive(Drop)]
-pub enum AskedCommand<'a> {
+pub enum ParsedCommand<'a> {
     /// Something is done with one file.
     File(Request<'a>),
     /// A section is applied, with the items of a file too.
-    Laid(Laying<'a>),
+    Laid(ApplyWithLayout<'a>),
     /// Those rows of one file are listed that have one of some names.
     Chosen(Choosing<'a>),
     /// Many files are checked.
-    Check(Checking<'a>),
+    Check(CheckRequest<'a>),
     /// Many files are listed.
-    List(ListAsked<'a>),
+    List(ListRequest<'a>),
     /// How each of many files is hardened is printed.
-    Traits(TraitsAsked<'a>),
+    Traits(TraitsRequest<'a>),
     /// The libraries that a program needs are printed.
-    Needs(NeedsAsked<'a>),
+    Needs(NeedsRequest<'a>),
     /// The members of an archive are listed.
-    Archive(Archiving<'a>),
+    Archive(ArchiveRequest<'a>),
     /// The version of the program is printed.
     Version,
 }
 
 /// A section that is applied, with the items of a file behind those of its layout.
 #[derive(Clone, Copy, Drop)]
-pub struct Laying<'a> {
+pub struct ApplyWithLayout<'a> {
     /// What is asked for of the section, with the layout that words give.
     pub request: Request<'a>,
     /// The path of the file, which has one item a line.
@@ -40,7 +40,7 @@ pub struct Laying<'a> {
 
 /// Names of which the rows are asked for. There is one, or a file that has some.
 #[derive(Drop)]
-pub struct NamesAsked<'a> {
+pub struct NameArgs<'a> {
     /// At most 64 names, each of 1 to 4,096 bytes, none of them NUL.
     pub names: Vec<&'a str>,
     /// The path of a file that has more names, one a line.
@@ -53,14 +53,14 @@ pub struct NamesAsked<'a> {
 #[derive(Drop)]
 pub struct Choosing<'a> {
     /// The listing, whose style chooses no rows yet.
-    pub listing: ListingAsked<'a>,
+    pub listing: ListingRequest<'a>,
     /// The names.
-    pub names: NamesAsked<'a>,
+    pub names: NameArgs<'a>,
 }
 
 /// The files that are asked for, where there are many.
 #[derive(Drop)]
-pub struct ManyFiles<'a> {
+pub struct PathArgs<'a> {
     /// The paths of files and folders.
     pub paths: Vec<&'a str>,
     /// The path of a file that has more paths, each ended by NUL; `-` is standard input.
@@ -70,9 +70,9 @@ pub struct ManyFiles<'a> {
 /// A check of many files: which, how much of each may be read, which parts of its listing count, and
 /// whether archives are gone into.
 #[derive(Drop)]
-pub struct Checking<'a> {
+pub struct CheckRequest<'a> {
     /// The files.
-    pub files: ManyFiles<'a>,
+    pub files: PathArgs<'a>,
     /// How many headers are permitted, and how many bytes may be read, of each file.
     pub limits: Limits,
     /// The parts of a listing that count.
@@ -86,9 +86,9 @@ pub struct Checking<'a> {
 /// Listings of many files: which, how much of each may be read, which parts there are, how rows are
 /// shown, and whether archives are gone into.
 #[derive(Drop)]
-pub struct ListAsked<'a> {
+pub struct ListRequest<'a> {
     /// The files.
-    pub files: ManyFiles<'a>,
+    pub files: PathArgs<'a>,
     /// How many headers are permitted, and how many bytes may be read, of each file.
     pub limits: Limits,
     /// The parts of a listing.
@@ -98,27 +98,27 @@ pub struct ListAsked<'a> {
     /// Whether archives are listed too.
     pub members: bool,
     /// The names of which the rows alone are listed, where that is asked for.
-    pub names: Option<NamesAsked<'a>>,
+    pub names: Option<NameArgs<'a>>,
 }
 
 /// How many files are hardened: which files, how much of each may be read, how a line is written, and
 /// what is required.
 #[derive(Drop)]
-pub struct TraitsAsked<'a> {
+pub struct TraitsRequest<'a> {
     /// The files.
-    pub files: ManyFiles<'a>,
+    pub files: PathArgs<'a>,
     /// How many headers are permitted, and how many bytes may be read, of each file.
     pub limits: Limits,
     /// How a line is written.
     pub format: Format,
     /// The words that are required of each program and library, in the order in which they were given.
-    pub required: Vec<RequiredWord<'a>>,
+    pub required: Vec<RequiredTrait<'a>>,
 }
 
 /// A listing of an archive: where it is, how much may be read, how rows are shown, and which parts of
 /// its members' listings there are; without a part its members alone are listed.
 #[derive(Drop)]
-pub struct Archiving<'a> {
+pub struct ArchiveRequest<'a> {
     /// The path of the archive.
     pub file: &'a str,
     /// How many headers of a member are permitted, and how many bytes may be read of the archive.
@@ -128,13 +128,13 @@ pub struct Archiving<'a> {
     /// How rows are shown.
     pub style: Style<'a>,
     /// The names of which the rows alone are listed, where that is asked for.
-    pub names: Option<NamesAsked<'a>>,
+    pub names: Option<NameArgs<'a>>,
 }
 
 /// What a program needs: which program, where its libraries are looked for, how much of each file may be
 /// read, and how a line is written. Folders are separated by colons.
 #[derive(Clone, Copy, Drop)]
-pub struct NeedsAsked<'a> {
+pub struct NeedsRequest<'a> {
     /// The path of the program.
     pub file: &'a str,
     /// The folders that are looked in before those of DT_RUNPATH; empty where none are given.

@@ -3,9 +3,9 @@ ghost use Rattle.std.specs.Prelude.{◌≡◌, IfOk, IfSome, None, Ok, [], codes
 ghost use Rattle.clap.specs.Walk.{all_of, rows_of, texts};
 ghost use Rattle.clap.specs.Words.{found_of};
 ghost use Rattle.elf_requests.specs.Files.{AreFiles, path_words};
-ghost use Rattle.elf_requests.specs.declared.checks.ManyFiles.{ManyFiles};
+ghost use Rattle.elf_requests.specs.declared.checks.PathArgs.{PathArgs};
 
-use crate::checks::ManyFiles;
+use crate::checks::PathArgs;
 use clap::ArgMatches;
 use elf_listing_requests::text_of;
 use std::alloc::{AllocError, Global};
@@ -17,9 +17,9 @@ use std::alloc::{AllocError, Global};
 pub(crate) fn files_of<'a>(
     alloc: Global,
     options: &ArgMatches<'a>,
-) -> Result<Option<ManyFiles<'a>>, AllocError>
+) -> Result<Option<PathArgs<'a>>, AllocError>
     ensures some { IfOk result (λ files. IfSome files (AreFiles (rows_of (found_of options.now)))) }
-    ensures none { result ≡ Ok None → (files : ManyFiles)
+    ensures none { result ≡ Ok None → (files : PathArgs)
         → AreFiles (rows_of (found_of options.now)) files → ⊥ }
 {
     match words_of(alloc, options, "PATH") {
@@ -29,17 +29,17 @@ pub(crate) fn files_of<'a>(
 }
 
 /// The files of these paths, and those in the file that is asked for.
-fn files_with<'a>(options: &ArgMatches<'a>, paths: Vec<&'a str>) -> Option<ManyFiles<'a>>
+fn files_with<'a>(options: &ArgMatches<'a>, paths: Vec<&'a str>) -> Option<PathArgs<'a>>
     requires { texts paths.items ≡ path_words (rows_of (found_of options.now)) }
     ensures some { IfSome result (AreFiles (rows_of (found_of options.now))) }
-    ensures none { result ≡ None → (files : ManyFiles)
+    ensures none { result ≡ None → (files : PathArgs)
         → AreFiles (rows_of (found_of options.now)) files → ⊥ }
 {
     let list = text_of(options, "files0-from");
     if paths.is_empty() && list.is_none() {
         return None;
     }
-    Some(ManyFiles { paths, list })
+    Some(PathArgs { paths, list })
 }
 
 /// The values of an argument.

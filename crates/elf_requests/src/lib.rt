@@ -16,9 +16,9 @@ mod trait_words;
 mod words;
 
 pub use checks::{
-    Archiving, AskedCommand, Checking, Choosing, Laying, ListAsked, ManyFiles, NamesAsked,
-    NeedsAsked, TraitsAsked,
+    ApplyWithLayout, ArchiveRequest, CheckRequest, Choosing, ListRequest, NameArgs, NeedsRequest,
+    ParsedCommand, PathArgs, TraitsRequest,
 };
 pub use names::{checked_name, checked_symbol};
-pub use requests::{Request, Task, WantedName, WantedSymbol};
+pub use requests::{LookupName, LookupSymbol, Request, Task};
 pub use words::request;

@@ -6,12 +6,12 @@ ghost use Rattle.elf_listing_requests.specs.Listings.{NoneAsked};
 ghost use Rattle.elf_listing_requests.specs.Options.{AreParts};
 ghost use Rattle.elf_record.specs.declared.parts.Parts.{Parts};
 ghost use Rattle.elf_requests.specs.AskedNames.{AreNamesIf, AreRows};
-ghost use Rattle.elf_requests.specs.Checks.{Becomes};
+ghost use Rattle.elf_requests.specs.Checks.{ParsesTo};
 ghost use Rattle.elf_requests.specs.Files.{AreFiles};
 ghost use Rattle.elf_requests.specs.Lists.{IsListAsked};
-ghost use Rattle.elf_requests.specs.declared.checks.NamesAsked.{NamesAsked};
+ghost use Rattle.elf_requests.specs.declared.checks.NameArgs.{NameArgs};
 
-use crate::checks::{AskedCommand, ListAsked, ManyFiles, NamesAsked};
+use crate::checks::{ListRequest, NameArgs, ParsedCommand, PathArgs};
 use crate::file_words::files_of;
 use crate::name_words::names_of;
 use clap::ArgMatches;
@@ -28,8 +28,8 @@ use std::alloc::{AllocError, Global};
 pub(crate) fn list_asked<'a>(
     alloc: Global,
     options: &ArgMatches<'a>,
-) -> Result<Option<AskedCommand<'a>>, RequestFault>
-    ensures { Becomes (Some (codes "list", rows_of (found_of options.now))) result }
+) -> Result<Option<ParsedCommand<'a>>, RequestFault>
+    ensures { ParsesTo (Some (codes "list", rows_of (found_of options.now))) result }
 {
     let names = names_of(alloc, options)?;
     list_with(alloc, options, names)
@@ -39,10 +39,10 @@ pub(crate) fn list_asked<'a>(
 fn list_with<'a>(
     alloc: Global,
     options: &ArgMatches<'a>,
-    names: Option<NamesAsked<'a>>,
-) -> Result<Option<AskedCommand<'a>>, RequestFault>
+    names: Option<NameArgs<'a>>,
+) -> Result<Option<ParsedCommand<'a>>, RequestFault>
     requires { AreNamesIf (rows_of (found_of options.now)) names }
-    ensures { Becomes (Some (codes "list", rows_of (found_of options.now))) result }
+    ensures { ParsesTo (Some (codes "list", rows_of (found_of options.now))) result }
 {
     match files_of(alloc, options) {
         Ok(Some(files)) => Ok(list_of(options, files, names)),
@@ -54,15 +54,15 @@ fn list_with<'a>(
 /// What `list` of these files asks for.
 fn list_of<'a>(
     options: &ArgMatches<'a>,
-    files: ManyFiles<'a>,
-    names: Option<NamesAsked<'a>>,
-) -> Option<AskedCommand<'a>>
+    files: PathArgs<'a>,
+    names: Option<NameArgs<'a>>,
+) -> Option<ParsedCommand<'a>>
     requires files { AreFiles (rows_of (found_of options.now)) files }
     requires names { AreNamesIf (rows_of (found_of options.now)) names }
-    ensures { Becomes (Some (codes "list", rows_of (found_of options.now))) (Ok result) }
+    ensures { ParsesTo (Some (codes "list", rows_of (found_of options.now))) (Ok result) }
 {
     match listing_of_files(options, files, names) {
-        Some(asked) => Some(AskedCommand::List(asked)),
+        Some(asked) => Some(ParsedCommand::List(asked)),
         None => None,
     }
 }
@@ -70,9 +70,9 @@ fn list_of<'a>(
 /// The listings of these files.
 fn listing_of_files<'a>(
     options: &ArgMatches<'a>,
-    files: ManyFiles<'a>,
-    names: Option<NamesAsked<'a>>,
-) -> Option<ListAsked<'a>>
+    files: PathArgs<'a>,
+    names: Option<NameArgs<'a>>,
+) -> Option<ListRequest<'a>>
     requires files { AreFiles (rows_of (found_of options.now)) files }
     requires names { AreNamesIf (rows_of (found_of options.now)) names }
     ensures none { result ≡ None →
@@ -82,7 +82,7 @@ fn listing_of_files<'a>(
     let parts = listed_parts_of(options, &names)?;
     let limits = limits_of(options)?;
     let style = style_of(options)?;
-    Some(ListAsked {
+    Some(ListRequest {
         files,
         limits,
         parts,
@@ -93,12 +93,12 @@ fn listing_of_files<'a>(
 }
 
 /// The parts that the options ask for, by whether rows are chosen by names.
-fn listed_parts_of(options: &ArgMatches<'_>, names: &Option<NamesAsked<'_>>) -> Option<Parts>
+fn listed_parts_of(options: &ArgMatches<'_>, names: &Option<NameArgs<'_>>) -> Option<Parts>
     requires { AreNamesIf (rows_of (found_of options.now)) names.now }
     ensures some { IfSome result (λ parts. AreRows
         (AreParts (rows_of (found_of options.now)) parts)
         (rows_of (found_of options.now)) parts names.now) }
-    ensures none { result ≡ None → (parts : Parts) (asked : Option NamesAsked)
+    ensures none { result ≡ None → (parts : Parts) (asked : Option NameArgs)
         → AreRows (AreParts (rows_of (found_of options.now)) parts)
         (rows_of (found_of options.now)) parts asked → ⊥ }
 {

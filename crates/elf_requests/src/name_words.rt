@@ -2,17 +2,17 @@
 ghost use Rattle.std.specs.Prelude.{◌≡◌, ◌≤◌, IfErr, IfOk, length, true, false};
 ghost use Rattle.clap.specs.Walk.{rows_of, texts};
 ghost use Rattle.clap.specs.Words.{found_of};
-ghost use Rattle.elf_listing_requests.specs.Options.{asks_versions};
-ghost use Rattle.elf_listing_requests.specs.RowNames.{asks_names, name_words};
+ghost use Rattle.elf_listing_requests.specs.Options.{has_versions_option};
+ghost use Rattle.elf_listing_requests.specs.RowNames.{has_name_option, name_words};
 ghost use Rattle.elf_requests.specs.AskedNames.{AreBadNames, AreBadWords, AreNamesAsked, AreNamesIf, AreTexts};
 ghost use Rattle.elf_requests.specs.Asked.{IsText};
 ghost use Rattle.elf_requests.specs.AskedNames.{HasBadText, IsNameFault};
 
-use crate::checks::NamesAsked;
+use crate::checks::NameArgs;
 use crate::file_words::words_of;
 use clap::ArgMatches;
-use elf_listing_requests::{RequestFault, asks_names, asks_versions, text_of};
-use elf_name_lists::is_row_name;
+use elf_listing_requests::{RequestFault, has_name_option, has_versions_option, text_of};
+use elf_name_lists::is_valid_row_name;
 use std::alloc::{AllocError, Global};
 
 /// How many names may stand among the words.
@@ -27,11 +27,11 @@ const MOST_NAMES: usize = 64;
 pub(crate) fn names_of<'a>(
     alloc: Global,
     options: &ArgMatches<'a>,
-) -> Result<Option<NamesAsked<'a>>, RequestFault>
+) -> Result<Option<NameArgs<'a>>, RequestFault>
     ensures names { IfOk result (AreNamesIf (rows_of (found_of options.now))) }
     ensures refused { IfErr result (IsNameFault (rows_of (found_of options.now))) }
 {
-    if !asks_names(options) {
+    if !has_name_option(options) {
         return Ok(None);
     }
     check_names(options)?;
@@ -42,19 +42,19 @@ pub(crate) fn names_of<'a>(
 fn names_with<'a>(
     alloc: Global,
     options: &ArgMatches<'a>,
-) -> Result<Option<NamesAsked<'a>>, RequestFault>
-    requires asked { asks_names (rows_of (found_of options.now)) ≡ true }
+) -> Result<Option<NameArgs<'a>>, RequestFault>
+    requires asked { has_name_option (rows_of (found_of options.now)) ≡ true }
     requires few { length (name_words (rows_of (found_of options.now))) ≤ 64 }
-    requires each { AreTexts (asks_versions (rows_of (found_of options.now)))
+    requires each { AreTexts (has_versions_option (rows_of (found_of options.now)))
         (name_words (rows_of (found_of options.now))) }
     ensures names { IfOk result (AreNamesIf (rows_of (found_of options.now))) }
     ensures refused { IfErr result (IsNameFault (rows_of (found_of options.now))) }
 {
     match words_of(alloc, options, "name") {
-        Ok(names) => Ok(Some(NamesAsked {
+        Ok(names) => Ok(Some(NameArgs {
             names,
             list: text_of(options, "name-list"),
-            versions: asks_versions(options),
+            versions: has_versions_option(options),
         })),
         Err(AllocError) => Err(RequestFault::Memory),
     }
@@ -66,11 +66,11 @@ fn names_with<'a>(
 /// Those of [`names_of`], but for memory.
 fn check_names(options: &ArgMatches<'_>) -> Result<(), RequestFault>
     ensures few { IfOk result (λ _. length (name_words (rows_of (found_of options.now))) ≤ 64) }
-    ensures each { IfOk result (λ _. AreTexts (asks_versions (rows_of (found_of options.now)))
+    ensures each { IfOk result (λ _. AreTexts (has_versions_option (rows_of (found_of options.now)))
         (name_words (rows_of (found_of options.now)))) }
     ensures refused { IfErr result (AreBadNames (rows_of (found_of options.now))) }
 {
-    let versions = asks_versions(options);
+    let versions = has_versions_option(options);
     match options.get_strs("name") {
         Some(words) => check_words(words, versions),
         None => check_words(&[], versions),
@@ -115,5 +115,5 @@ fn is_text(word: &str, versions: bool) -> bool
     ensures yes { result ≡ true → IsText versions word.now }
     ensures no { result ≡ false → IsText versions word.now → ⊥ }
 {
-    is_row_name(word.as_bytes(), versions)
+    is_valid_row_name(word.as_bytes(), versions)
 }

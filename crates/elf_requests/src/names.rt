@@ -3,18 +3,18 @@ ghost use Rattle.std.specs.Prelude.{◌≡◌, ◌≤◌, IsNone, IfSome, length
 ghost use Rattle.elf_model.specs.NameLaws.{IsWanted};
 ghost use Rattle.elf_requests.specs.Asked.{IsText};
 
-use crate::requests::{WantedName, WantedSymbol};
-use elf_name_lists::is_row_name;
-use elf_wanted::wanted_of;
+use crate::requests::{LookupName, LookupSymbol};
+use elf_name_lists::is_valid_row_name;
+use elf_wanted::parse_query;
 
 /// A name that can be looked for: a word of 1 to 4,096 bytes, none of them NUL. None for another
 /// word.
-pub fn checked_name(word: &str) -> Option<WantedName<'_>>
+pub fn checked_name(word: &str) -> Option<LookupName<'_>>
     ensures named { IfSome result (λ name. name.bytes.now ≡ word.now) }
     ensures unnamed { IsNone result → IsWanted word.now → length word.now ≤ 4096 → ⊥ }
 {
     match name_bytes(word) {
-        Some(bytes) => Some(WantedName { bytes }),
+        Some(bytes) => Some(LookupName { bytes }),
         None => None,
     }
 }
@@ -22,15 +22,15 @@ pub fn checked_name(word: &str) -> Option<WantedName<'_>>
 /// A symbol that can be looked up as a loader of the GNU system does it: a word NAME, NAME@VERSION
 /// or NAME@@VERSION of 1 to 4,096 bytes, none of them NUL, with no empty name and no empty version.
 /// None for another word.
-pub fn checked_symbol(word: &str) -> Option<WantedSymbol<'_>>
+pub fn checked_symbol(word: &str) -> Option<LookupSymbol<'_>>
     ensures named { IfSome result (λ symbol. symbol.text.now ≡ word.now) }
     ensures unnamed { IsNone result → IsText true word.now → ⊥ }
 {
     let text = name_bytes(word)?;
-    if !wanted_of(text).is_complete() {
+    if !parse_query(text).is_complete() {
         return None;
     }
-    Some(WantedSymbol { text })
+    Some(LookupSymbol { text })
 }
 
 /// The bytes of a word that has 1 to 4,096 of them, none NUL.
@@ -40,7 +40,7 @@ fn name_bytes(word: &str) -> Option<&[u8]>
     ensures unnamed { IsNone result → IsWanted word.now → length word.now ≤ 4096 → ⊥ }
 {
     let name = word.as_bytes();
-    if is_row_name(name, false) {
+    if is_valid_row_name(name, false) {
         return Some(name);
     }
     None

@@ -4,9 +4,9 @@ ghost use Rattle.clap.specs.Walk.{first_of, rows_of};
 ghost use Rattle.clap.specs.Words.{found_of};
 ghost use Rattle.elf_listing_requests.specs.Listings.{NoneAsked};
 ghost use Rattle.elf_requests.specs.AskedNeeds.{IsNeedsAsked};
-ghost use Rattle.elf_requests.specs.Checks.{Becomes};
+ghost use Rattle.elf_requests.specs.Checks.{ParsesTo};
 
-use crate::checks::{AskedCommand, NeedsAsked};
+use crate::checks::{NeedsRequest, ParsedCommand};
 use clap::ArgMatches;
 use elf_listing_requests::{format_of, is_set, limits_of, text_of};
 
@@ -15,24 +15,24 @@ const DEFAULT_FOLDERS: &str =
     "/lib/x86_64-linux-gnu:/usr/lib/x86_64-linux-gnu:/lib64:/usr/lib64:/lib:/usr/lib";
 
 /// What `needs` with these arguments asks for, or None where they ask for nothing.
-pub(crate) fn needs_asked<'a>(options: &ArgMatches<'a>) -> Option<AskedCommand<'a>>
-    ensures { Becomes (Some (codes "needs", rows_of (found_of options.now))) (Ok result) }
+pub(crate) fn needs_asked<'a>(options: &ArgMatches<'a>) -> Option<ParsedCommand<'a>>
+    ensures { ParsesTo (Some (codes "needs", rows_of (found_of options.now))) (Ok result) }
 {
     match needs_of(options) {
-        Some(asked) => Some(AskedCommand::Needs(asked)),
+        Some(asked) => Some(ParsedCommand::Needs(asked)),
         None => None,
     }
 }
 
 /// The program whose path is among the arguments, and where its libraries are looked for.
-fn needs_of<'a>(options: &ArgMatches<'a>) -> Option<NeedsAsked<'a>>
+fn needs_of<'a>(options: &ArgMatches<'a>) -> Option<NeedsRequest<'a>>
     ensures none { result ≡ None →
         NoneAsked IsNeedsAsked (Some (codes "needs", rows_of (found_of options.now))) }
     ensures some { IfSome result (IsNeedsAsked (codes "needs") (rows_of (found_of options.now))) }
 {
     let file = text_of(options, "FILE")?;
     let limits = limits_of(options)?;
-    Some(NeedsAsked {
+    Some(NeedsRequest {
         file,
         library_path: text_or(options, "library-path", ""),
         default: text_or(options, "default", DEFAULT_FOLDERS),

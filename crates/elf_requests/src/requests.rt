@@ -1,6 +1,6 @@
 //! What can be asked for.
 ghost use Rattle.std.specs.Prelude.{◌≡◌, ◌≤◌, length, true};
-ghost use Rattle.elf_model.specs.Loader.{is_complete, wanted_of};
+ghost use Rattle.elf_model.specs.Loader.{is_complete, parse_query};
 ghost use Rattle.elf_model.specs.NameLaws.{IsWanted};
 
 use elf_headers::{Limits, Style};
@@ -32,14 +32,14 @@ pub enum Task<'a> {
     /// A name is looked up in it.
     Find {
         /// The name.
-        wanted: WantedName<'a>,
+        wanted: LookupName<'a>,
         /// How a line is written.
         format: Format,
     },
     /// A symbol is looked up in it as a loader of the GNU system looks it up.
     Resolve {
         /// The symbol.
-        wanted: WantedSymbol<'a>,
+        wanted: LookupSymbol<'a>,
         /// Whether the tables are found by the program headers also where there are section headers.
         by_segments: bool,
         /// How a line is written.
@@ -67,7 +67,7 @@ pub enum Task<'a> {
 
 /// A name that can be looked for, of 1 to 4,096 bytes, none of them NUL.
 #[derive(Clone, Copy)]
-pub struct WantedName<'a> {
+pub struct LookupName<'a> {
     /// The name's bytes.
     pub bytes: &'a [u8],
     pub ghost is_name: { IsWanted bytes.now },
@@ -77,10 +77,10 @@ pub struct WantedName<'a> {
 /// A symbol that can be looked up as a loader of the GNU system does it: a text NAME, NAME@VERSION or
 /// NAME@@VERSION of 1 to 4,096 bytes, none of them NUL, with no empty name and no empty version.
 #[derive(Clone, Copy)]
-pub struct WantedSymbol<'a> {
+pub struct LookupSymbol<'a> {
     /// The bytes of the text.
     pub text: &'a [u8],
     pub ghost is_name: { IsWanted text.now },
     pub ghost most: { length text.now ≤ 4096 },
-    pub ghost complete: { is_complete (wanted_of text.now) ≡ true },
+    pub ghost complete: { is_complete (parse_query text.now) ≡ true },
 }

@@ -3,18 +3,18 @@ ghost use Rattle.std.specs.Prelude.{◌≡◌, IfSome, None, Ok, Some, codes, fa
 ghost use Rattle.clap.specs.Walk.{rows_of};
 ghost use Rattle.clap.specs.Words.{found_of};
 ghost use Rattle.elf_listing_requests.specs.Options.{AreLimitOptions, IsStyle};
-ghost use Rattle.elf_listing_requests.specs.RowNames.{AreChosenParts, asks_names};
-ghost use Rattle.elf_listing_requests.specs.declared.listings.ListingAsked.{ListingAsked};
+ghost use Rattle.elf_listing_requests.specs.RowNames.{AreChosenParts, has_name_option};
+ghost use Rattle.elf_listing_requests.specs.declared.listings.ListingRequest.{ListingRequest};
 ghost use Rattle.elf_requests.specs.Asked.{IsFileNamed};
 ghost use Rattle.elf_requests.specs.AskedNames.{AreNamesAsked};
-ghost use Rattle.elf_requests.specs.Checks.{Becomes};
+ghost use Rattle.elf_requests.specs.Checks.{ParsesTo};
 
-use crate::checks::{AskedCommand, Choosing, NamesAsked};
+use crate::checks::{Choosing, NameArgs, ParsedCommand};
 use crate::name_words::names_of;
-use crate::words::listing_asked;
+use crate::words::parse_listing;
 use clap::ArgMatches;
 use elf_listing_requests::{
-    ListingAsked, RequestFault, chosen_parts_of, limits_of, style_of, text_of,
+    ListingRequest, RequestFault, chosen_parts_of, limits_of, style_of, text_of,
 };
 use std::alloc::Global;
 
@@ -25,8 +25,8 @@ use std::alloc::Global;
 pub(crate) fn show_asked<'a>(
     alloc: Global,
     options: &ArgMatches<'a>,
-) -> Result<Option<AskedCommand<'a>>, RequestFault>
-    ensures { Becomes (Some (codes "show", rows_of (found_of options.now))) result }
+) -> Result<Option<ParsedCommand<'a>>, RequestFault>
+    ensures { ParsesTo (Some (codes "show", rows_of (found_of options.now))) result }
 {
     match names_of(alloc, options)? {
         Some(names) => Ok(chosen_of(options, names)),
@@ -35,29 +35,29 @@ pub(crate) fn show_asked<'a>(
 }
 
 /// What `show` asks for, of every row.
-fn every_row_of<'a>(options: &ArgMatches<'a>) -> Option<AskedCommand<'a>>
-    requires { asks_names (rows_of (found_of options.now)) ≡ false }
-    ensures { Becomes (Some (codes "show", rows_of (found_of options.now))) (Ok result) }
+fn every_row_of<'a>(options: &ArgMatches<'a>) -> Option<ParsedCommand<'a>>
+    requires { has_name_option (rows_of (found_of options.now)) ≡ false }
+    ensures { ParsesTo (Some (codes "show", rows_of (found_of options.now))) (Ok result) }
 {
-    match listing_asked("show", options) {
-        Some(request) => Some(AskedCommand::File(request)),
+    match parse_listing("show", options) {
+        Some(request) => Some(ParsedCommand::File(request)),
         None => None,
     }
 }
 
 /// What `show` asks for, of the rows of these names.
-fn chosen_of<'a>(options: &ArgMatches<'a>, names: NamesAsked<'a>) -> Option<AskedCommand<'a>>
+fn chosen_of<'a>(options: &ArgMatches<'a>, names: NameArgs<'a>) -> Option<ParsedCommand<'a>>
     requires { AreNamesAsked (rows_of (found_of options.now)) names }
-    ensures { Becomes (Some (codes "show", rows_of (found_of options.now))) (Ok result) }
+    ensures { ParsesTo (Some (codes "show", rows_of (found_of options.now))) (Ok result) }
 {
     match chosen_listing_of(options) {
-        Some(listing) => Some(AskedCommand::Chosen(Choosing { listing, names })),
+        Some(listing) => Some(ParsedCommand::Chosen(Choosing { listing, names })),
         None => None,
     }
 }
 
 /// The listing of the file whose path is among the arguments, of parts whose rows are chosen by names.
-fn chosen_listing_of<'a>(options: &ArgMatches<'a>) -> Option<ListingAsked<'a>>
+fn chosen_listing_of<'a>(options: &ArgMatches<'a>) -> Option<ListingRequest<'a>>
     ensures file { IfSome result (λ listing.
         IsFileNamed (rows_of (found_of options.now)) listing.file) }
     ensures limits { IfSome result (λ listing.
@@ -66,7 +66,7 @@ fn chosen_listing_of<'a>(options: &ArgMatches<'a>) -> Option<ListingAsked<'a>>
         IsStyle (rows_of (found_of options.now)) listing.style) }
     ensures parts { IfSome result (λ listing.
         AreChosenParts (rows_of (found_of options.now)) listing.parts) }
-    ensures none { result ≡ None → (listing : ListingAsked)
+    ensures none { result ≡ None → (listing : ListingRequest)
         → IsFileNamed (rows_of (found_of options.now)) listing.file
         → AreLimitOptions (rows_of (found_of options.now)) listing.limits
         → IsStyle (rows_of (found_of options.now)) listing.style
@@ -76,7 +76,7 @@ fn chosen_listing_of<'a>(options: &ArgMatches<'a>) -> Option<ListingAsked<'a>>
     let limits = limits_of(options)?;
     let parts = chosen_parts_of(options)?;
     let style = style_of(options)?;
-    Some(ListingAsked {
+    Some(ListingRequest {
         file,
         limits,
         parts,

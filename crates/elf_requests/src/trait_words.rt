@@ -4,17 +4,17 @@ ghost use Rattle.std.specs.Prelude.{codes, map};
 ghost use Rattle.clap.specs.Walk.{first_of, rows_of};
 ghost use Rattle.clap.specs.Words.{found_of};
 ghost use Rattle.elf_wanted.specs.Required.{required_words};
-ghost use Rattle.elf_wanted.specs.Spelled.{spelled_word};
+ghost use Rattle.elf_wanted.specs.Spelled.{parsed_trait_word};
 ghost use Rattle.elf_requests.specs.AskedTraits.{AreRequired, IsWordFault};
-ghost use Rattle.elf_requests.specs.Checks.{Becomes};
+ghost use Rattle.elf_requests.specs.Checks.{ParsesTo};
 ghost use Rattle.elf_requests.specs.Files.{AreFiles};
 ghost use Rattle.elf_listing_requests.specs.declared.faults.RequestFault.TheVariants.{BadTrait, Memory};
 
-use crate::checks::{AskedCommand, ManyFiles, TraitsAsked};
+use crate::checks::{ParsedCommand, PathArgs, TraitsRequest};
 use crate::file_words::files_of;
 use clap::ArgMatches;
 use elf_listing_requests::{RequestFault, format_of, limits_of, text_of};
-use elf_wanted::{RequiredWord, spelled_word};
+use elf_wanted::{RequiredTrait, parsed_trait_word};
 use std::alloc::{AllocError, Global};
 
 /// What `traits` with these arguments asks for, or None where there is neither a path nor a file with
@@ -26,8 +26,8 @@ use std::alloc::{AllocError, Global};
 pub(crate) fn traits_asked<'a>(
     alloc: Global,
     options: &ArgMatches<'a>,
-) -> Result<Option<AskedCommand<'a>>, RequestFault>
-    ensures { Becomes (Some (codes "traits", rows_of (found_of options.now))) result }
+) -> Result<Option<ParsedCommand<'a>>, RequestFault>
+    ensures { ParsesTo (Some (codes "traits", rows_of (found_of options.now))) result }
 {
     let required = required_of(alloc, options)?;
     traits_with(alloc, options, required)
@@ -37,11 +37,11 @@ pub(crate) fn traits_asked<'a>(
 fn traits_with<'a>(
     alloc: Global,
     options: &ArgMatches<'a>,
-    required: Vec<RequiredWord<'a>>,
-) -> Result<Option<AskedCommand<'a>>, RequestFault>
+    required: Vec<RequiredTrait<'a>>,
+) -> Result<Option<ParsedCommand<'a>>, RequestFault>
     requires { AreRequired (first_of (codes "require") (rows_of (found_of options.now)))
         required.items }
-    ensures { Becomes (Some (codes "traits", rows_of (found_of options.now))) result }
+    ensures { ParsesTo (Some (codes "traits", rows_of (found_of options.now))) result }
 {
     match files_of(alloc, options) {
         Ok(Some(files)) => Ok(traits_of(options, files, required)),
@@ -53,16 +53,16 @@ fn traits_with<'a>(
 /// What `traits` of these files asks for that requires these words.
 fn traits_of<'a>(
     options: &ArgMatches<'a>,
-    files: ManyFiles<'a>,
-    required: Vec<RequiredWord<'a>>,
-) -> Option<AskedCommand<'a>>
+    files: PathArgs<'a>,
+    required: Vec<RequiredTrait<'a>>,
+) -> Option<ParsedCommand<'a>>
     requires files { AreFiles (rows_of (found_of options.now)) files }
     requires required { AreRequired (first_of (codes "require") (rows_of (found_of options.now)))
         required.items }
-    ensures { Becomes (Some (codes "traits", rows_of (found_of options.now))) (Ok result) }
+    ensures { ParsesTo (Some (codes "traits", rows_of (found_of options.now))) (Ok result) }
 {
     match limits_of(options) {
-        Some(limits) => Some(AskedCommand::Traits(TraitsAsked {
+        Some(limits) => Some(ParsedCommand::Traits(TraitsRequest {
             files,
             limits,
             format: format_of(options),
@@ -80,7 +80,7 @@ fn traits_of<'a>(
 fn required_of<'a>(
     alloc: Global,
     options: &ArgMatches<'a>,
-) -> Result<Vec<RequiredWord<'a>>, RequestFault>
+) -> Result<Vec<RequiredTrait<'a>>, RequestFault>
     ensures words { IfOk result (λ words.
         AreRequired (first_of (codes "require") (rows_of (found_of options.now))) words.items) }
     ensures refused { IfErr result
@@ -96,7 +96,7 @@ fn required_of<'a>(
 ///
 /// # Errors
 /// `BadTrait` where a piece spells no word of a column; `Memory` where there is none for them.
-fn required_in<'a>(alloc: Global, text: &'a str) -> Result<Vec<RequiredWord<'a>>, RequestFault>
+fn required_in<'a>(alloc: Global, text: &'a str) -> Result<Vec<RequiredTrait<'a>>, RequestFault>
     ensures words { IfOk result (λ words. AreRequired (Some text.now) words.items) }
     ensures refused { IfErr result (IsWordFault (Some text.now)) }
 {
@@ -119,15 +119,15 @@ fn required_in<'a>(alloc: Global, text: &'a str) -> Result<Vec<RequiredWord<'a>>
 /// # Errors
 /// `BadTrait` where it spells no word of a column; `Memory` where there is none for it.
 fn put_required<'a>(
-    required: &mut Vec<RequiredWord<'a>>,
+    required: &mut Vec<RequiredTrait<'a>>,
     piece: &'a str,
 ) -> Result<(), RequestFault>
     ensures put { IfOk result (λ _. map Some (required_words required.new.items)
-        ≡ map Some (required_words required.old.items) ++ spelled_word piece.now ∷ []) }
+        ≡ map Some (required_words required.old.items) ++ parsed_trait_word piece.now ∷ []) }
     ensures refused { IfErr result (λ fault.
-        (fault ≡ Memory) ⊎ ((fault ≡ BadTrait) × (spelled_word piece.now ≡ None))) }
+        (fault ≡ Memory) ⊎ ((fault ≡ BadTrait) × (parsed_trait_word piece.now ≡ None))) }
 {
-    let Some(word) = spelled_word(piece) else {
+    let Some(word) = parsed_trait_word(piece) else {
         return Err(RequestFault::BadTrait);
     };
     match required.push(word) {

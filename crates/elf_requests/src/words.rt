@@ -5,16 +5,16 @@ ghost use Rattle.std.specs.Borrow.{Bor};
 ghost use Rattle.clap.specs.Walk.{Text, rows_of};
 ghost use Rattle.clap.specs.Words.{found_of, subcommand_rows_of};
 ghost use Rattle.elf_listing_requests.specs.Options.{AreLimitOptions};
-ghost use Rattle.elf_requests.specs.Asked.{AsksBy, ComesTo, IsFileNamed, IsText, IsLookupTask, item_words};
+ghost use Rattle.elf_requests.specs.Asked.{AsksBy, ResolvesTo, IsFileNamed, IsText, IsLookupTask, item_words};
 ghost use Rattle.elf_requests.specs.Answered.{IsRefusal, WordsAsk, WordsRefused};
-ghost use Rattle.elf_requests.specs.Checks.{Becomes, IsAsked};
+ghost use Rattle.elf_requests.specs.Checks.{ParsesTo, IsAsked};
 ghost use Rattle.elf_model.specs.Placing.{no_items};
 ghost use Rattle.elf_requests.specs.Layouts.{LaysWords};
 ghost use Rattle.elf_headers.specs.declared.caps.Limits.{Limits};
 
 use crate::archive_words::archive_asked;
-use crate::check_words::check_asked;
-use crate::checks::{AskedCommand, Laying};
+use crate::check_words::parse_check;
+use crate::checks::{ApplyWithLayout, ParsedCommand};
 use crate::items::lay;
 use crate::list_words::list_asked;
 use crate::names::{checked_name, checked_symbol};
@@ -25,8 +25,8 @@ use crate::trait_words::traits_asked;
 use clap::ArgMatches;
 use elf_layout::Layout;
 use elf_listing_requests::{
-    RequestFault, asks_gnu, find_lacks_gnu, format_of, is_set, limits_of, listing_of, matches_of,
-    small_number_of, text_of, unasked,
+    RequestFault, find_without_gnu, format_of, has_gnu_option, is_set, limits_of, listing_of,
+    parse_arguments, text_of, u16_option_of, unasked,
 };
 use elf_model::Format;
 use std::alloc::Global;
@@ -45,11 +45,11 @@ pub fn request<'a, S: AsStr>(
     alloc: Global,
     words: &'a [S],
     layout: &'a mut Layout,
-) -> Result<AskedCommand<'a>, RequestFault>
+) -> Result<ParsedCommand<'a>, RequestFault>
     ensures asked { IfOk result (WordsAsk (map S.text words.entry.now)) }
     ensures refused { IfErr result (WordsRefused (map S.text words.entry.now)) }
 {
-    let matches = matches_of(alloc, words)?;
+    let matches = parse_arguments(alloc, words)?;
     answered(alloc, &matches, layout)
 }
 
@@ -58,7 +58,7 @@ fn answered<'a>(
     alloc: Global,
     matches: &ArgMatches<'a>,
     layout: &'a mut Layout,
-) -> Result<AskedCommand<'a>, RequestFault>
+) -> Result<ParsedCommand<'a>, RequestFault>
     ensures asked { IfOk result (IsAsked (subcommand_rows_of matches.now)) }
     ensures refused { IfErr result (IsRefusal (subcommand_rows_of matches.now)) }
 {
@@ -73,8 +73,8 @@ fn asked<'a>(
     alloc: Global,
     matches: &ArgMatches<'a>,
     layout: &'a mut Layout,
-) -> Result<Option<AskedCommand<'a>>, RequestFault>
-    ensures { Becomes (subcommand_rows_of matches.now) result }
+) -> Result<Option<ParsedCommand<'a>>, RequestFault>
+    ensures { ParsesTo (subcommand_rows_of matches.now) result }
 {
     match matches.subcommand() {
         Some((command, options)) => asked_by(alloc, command, options, layout),
@@ -88,28 +88,28 @@ fn asked_by<'a>(
     command: &str,
     options: &ArgMatches<'a>,
     layout: &'a mut Layout,
-) -> Result<Option<AskedCommand<'a>>, RequestFault>
-    ensures { Becomes (Some (command.now, rows_of (found_of options.now))) result }
+) -> Result<Option<ParsedCommand<'a>>, RequestFault>
+    ensures { ParsesTo (Some (command.now, rows_of (found_of options.now))) result }
 {
     match command {
         "show" => show_asked(alloc, options),
-        "check" => check_asked(alloc, options),
+        "check" => parse_check(alloc, options),
         "list" => list_asked(alloc, options),
         "traits" => traits_asked(alloc, options),
         "needs" => Ok(needs_asked(options)),
         "archive" => archive_asked(alloc, options),
-        "apply" => apply_asked(options, layout),
-        "version" => Ok(Some(AskedCommand::Version)),
-        _ => file_asked(command, options),
+        "apply" => parse_apply(options, layout),
+        "version" => Ok(Some(ParsedCommand::Version)),
+        _ => parse_file_args(command, options),
     }
 }
 
 /// What `apply` with these arguments asks for: with the items of a file too, where one is named.
-fn apply_asked<'a>(
+fn parse_apply<'a>(
     options: &ArgMatches<'a>,
     layout: &'a mut Layout,
-) -> Result<Option<AskedCommand<'a>>, RequestFault>
-    ensures { Becomes (Some (codes "apply", rows_of (found_of options.now))) result }
+) -> Result<Option<ParsedCommand<'a>>, RequestFault>
+    ensures { ParsesTo (Some (codes "apply", rows_of (found_of options.now))) result }
 {
     match applying(options, layout)? {
         Some(request) => Ok(Some(with_list(options, request))),
@@ -118,30 +118,30 @@ fn apply_asked<'a>(
 }
 
 /// A request to apply, with the file of items that is named, if any.
-fn with_list<'a>(options: &ArgMatches<'a>, request: Request<'a>) -> AskedCommand<'a>
+fn with_list<'a>(options: &ArgMatches<'a>, request: Request<'a>) -> ParsedCommand<'a>
     requires { AsksBy (Some (codes "apply", rows_of (found_of options.now))) request }
     ensures { IsAsked (Some (codes "apply", rows_of (found_of options.now))) result }
 {
     match text_of(options, "layout") {
-        Some(list) => AskedCommand::Laid(Laying { request, list }),
-        None => AskedCommand::File(request),
+        Some(list) => ParsedCommand::Laid(ApplyWithLayout { request, list }),
+        None => ParsedCommand::File(request),
     }
 }
 
 /// What another command with these arguments asks for, which is none of many files, of an archive or
 /// of the version, and not `apply`.
-fn file_asked<'a>(
+fn parse_file_args<'a>(
     command: &str,
     options: &ArgMatches<'a>,
-) -> Result<Option<AskedCommand<'a>>, RequestFault>
+) -> Result<Option<ParsedCommand<'a>>, RequestFault>
     requires { (command.now ≢ codes "show") × (command.now ≢ codes "check")
         × (command.now ≢ codes "list") × (command.now ≢ codes "traits")
         × (command.now ≢ codes "needs") × (command.now ≢ codes "archive")
         × (command.now ≢ codes "version") × (command.now ≢ codes "apply") }
-    ensures { Becomes (Some (command.now, rows_of (found_of options.now))) result }
+    ensures { ParsesTo (Some (command.now, rows_of (found_of options.now))) result }
 {
     match of_file(command, options)? {
-        Some(request) => Ok(Some(AskedCommand::File(request))),
+        Some(request) => Ok(Some(ParsedCommand::File(request))),
         None => Ok(None),
     }
 }
@@ -149,18 +149,18 @@ fn file_asked<'a>(
 /// What another command with these arguments asks for, of one file.
 fn of_file<'a>(command: &str, options: &ArgMatches<'a>) -> Result<Option<Request<'a>>, RequestFault>
     requires { command.now ≢ codes "apply" }
-    ensures { ComesTo (Some (command.now, rows_of (found_of options.now))) result }
+    ensures { ResolvesTo (Some (command.now, rows_of (found_of options.now))) result }
 {
     match command {
         "find" => lookup(options),
-        _ => Ok(listing_asked(command, options)),
+        _ => Ok(parse_listing(command, options)),
     }
 }
 
 /// A listing, which is asked for as the programs that list read it.
-pub(crate) fn listing_asked<'a>(command: &str, options: &ArgMatches<'a>) -> Option<Request<'a>>
+pub(crate) fn parse_listing<'a>(command: &str, options: &ArgMatches<'a>) -> Option<Request<'a>>
     requires { (command.now ≢ codes "apply") × (command.now ≢ codes "find") }
-    ensures { ComesTo (Some (command.now, rows_of (found_of options.now))) (Ok result) }
+    ensures { ResolvesTo (Some (command.now, rows_of (found_of options.now))) (Ok result) }
 {
     match listing_of(command, options) {
         Some(listing) => Some(Request {
@@ -178,16 +178,21 @@ pub(crate) fn listing_asked<'a>(command: &str, options: &ArgMatches<'a>) -> Opti
 /// A lookup in a file, within the limits that are asked for, as a loader of the GNU system does it
 /// where that is asked for. None where only such a lookup is what is asked for, and it is not.
 fn lookup<'a>(options: &ArgMatches<'a>) -> Result<Option<Request<'a>>, RequestFault>
-    ensures { ComesTo (Some (codes "find", rows_of (found_of options.now))) result }
+    ensures { ResolvesTo (Some (codes "find", rows_of (found_of options.now))) result }
 {
-    if find_lacks_gnu(options) {
+    if find_without_gnu(options) {
         return Ok(None);
     }
     let Some(word) = text_of(options, "NAME") else {
         return Ok(None);
     };
     let by_segments = is_set(options, "by-segments");
-    let Some(task) = lookup_of(word, asks_gnu(options), by_segments, format_of(options)) else {
+    let Some(task) = parse_lookup(
+        word,
+        has_gnu_option(options),
+        by_segments,
+        format_of(options),
+    ) else {
         return Err(RequestFault::BadName);
     };
     Ok(in_file(options, task))
@@ -196,7 +201,7 @@ fn lookup<'a>(options: &ArgMatches<'a>) -> Result<Option<Request<'a>>, RequestFa
 /// The lookup of a text, as a loader of the GNU system does it (`gnu`), by the program headers alone
 /// or not, or by the file's SysV hash table, which is answered in this format. None where the text is
 /// none that can be looked up so.
-fn lookup_of(text: &str, gnu: bool, by_segments: bool, format: Format) -> Option<Task<'_>>
+fn parse_lookup(text: &str, gnu: bool, by_segments: bool, format: Format) -> Option<Task<'_>>
     ensures some { IfSome result (IsLookupTask gnu by_segments format text.now) }
     ensures none { result ≡ None → IsText gnu text.now → ⊥ }
 {
@@ -217,10 +222,10 @@ fn applying<'a>(
     options: &ArgMatches<'a>,
     layout: &'a mut Layout,
 ) -> Result<Option<Request<'a>>, RequestFault>
-    ensures { ComesTo (Some (codes "apply", rows_of (found_of options.now))) result }
+    ensures { ResolvesTo (Some (codes "apply", rows_of (found_of options.now))) result }
 {
     let layout = layout_asked(options, layout)?;
-    let Some(section) = small_number_of(options, "SECTION") else {
+    let Some(section) = u16_option_of(options, "SECTION") else {
         return Ok(None);
     };
     let explain = is_set(options, "explain");
@@ -242,12 +247,12 @@ fn layout_asked<'a>(
     ensures refused { IfErr result (λ fault.
         LaysWords no_items (item_words (rows_of (found_of options.now))) (Err fault)) }
 {
-    lay_asked(options, layout)?;
+    layout_requested(options, layout)?;
     Ok(layout)
 }
 
 /// Lays out the items that are asked for, and no other items.
-fn lay_asked(options: &ArgMatches<'_>, layout: &mut Layout) -> Result<(), RequestFault>
+fn layout_requested(options: &ArgMatches<'_>, layout: &mut Layout) -> Result<(), RequestFault>
     ensures laid { IfOk result (λ _.
         LaysWords no_items (item_words (rows_of (found_of options.now))) (Ok layout.new)) }
     ensures refused { IfErr result (λ fault.

@@ -5,7 +5,7 @@ use Rattle.std.proofs.lemmas.List.{take_more_set, drop_more, drop-set-lt}
 use Rattle.elf_model.specs.Style.{tells_of_sections, without_sections, without_sections_from}
 use Rattle.elf_model.proofs.StyleLemmas.{view_in_slices, view_is_its_own}
 use Rattle.std.specs.Prelude.{option_map}
-use Rattle.elf_source.specs.Source.{Counting, Faults, Hides, IsHonest, Keeps, OverLimit, Reads, Seen, file_by, seen_by}
+use Rattle.elf_source.specs.Source.{CountedState, IsSourceFault, MasksSectionHeaders, IsHonest, Keeps, ExceedsBudget, ReadsUpTo, SourceState, file_by, seen_by}
 use Rattle.elf_source.specs.declared.faults.SourceFault.{SourceFault}
 use Rattle.elf_source.specs.declared.faults.SourceFault.TheVariants.{Device, Ended}
 
@@ -65,12 +65,12 @@ view_of true (Some bytes) file is =
     ap Some (sym (view_is_its_own bytes) ∙ ap without_sections same)
 
 -- what is kept of a source is kept of what is seen of it
-keeps_seen : (hides : Bool) (s t : Seen) → Keeps s t → Keeps (seen_by hides s) (seen_by hides t)
+keeps_seen : (hides : Bool) (s t : SourceState) → Keeps s t → Keeps (seen_by hides s) (seen_by hides t)
 keeps_seen hides s t k = record { same_size = k.same_size; no_fewer = k.no_fewer; same_file = ap (file_by hides) k.same_file; same_whole = k.same_whole }
 
 -- reads while something is hidden, which is shown again as before
-pub Reads-hidden : {a b c d : Counting} {n : ℕ} → Hides a b true → Reads b c n → Hides c d a.hides → Reads a d n
-Reads-hidden {a} {b} {c} {d} {n} hide p show =
+pub ReadsUpTo-hidden : {a b c d : CountedState} {n : ℕ} → MasksSectionHeaders a b true → ReadsUpTo b c n → MasksSectionHeaders c d a.hides → ReadsUpTo a d n
+ReadsUpTo-hidden {a} {b} {c} {d} {n} hide p show =
     let kept : Keeps a.source d.source = rw (hide.same_source, ← show.same_source) at p.view.keeps in
     record {
       keeps = rw (a.is_seen, d.is_seen, show.is_hidden) (keeps_seen a.hides a.source d.source kept);
@@ -87,20 +87,20 @@ file_seen first second None file is = elim first as (λ b. file_by b None ≡ So
 file_seen first true (Some bytes) file is = (without_sections bytes, refl)
 file_seen first false (Some bytes) file is = (bytes, refl)
 
-IsHonest-seen : (first second : Bool) (s : Seen) → IsHonest (seen_by first s) → IsHonest (seen_by second s)
+IsHonest-seen : (first second : Bool) (s : SourceState) → IsHonest (seen_by first s) → IsHonest (seen_by second s)
 IsHonest-seen first second s honest =
     let shown = file_seen first second s.file honest.file honest.gives in
     record { file = shown.0; gives = shown.1; not_worn = honest.not_worn }
 
 -- a fault of a read while something is hidden
-pub Faults-hidden : {a b c d : Counting} (fault : SourceFault) → Hides a b true → Hides c d a.hides → Faults b.seen c.seen fault → Faults a.seen d.seen fault
-Faults-hidden Device hide show p = omega (arith, hide.same_failures, show.same_failures, p)
-Faults-hidden {a} {b} {c} {d} Ended hide show p = λ honest.
+pub IsSourceFault-hidden : {a b c d : CountedState} (fault : SourceFault) → MasksSectionHeaders a b true → MasksSectionHeaders c d a.hides → IsSourceFault b.seen c.seen fault → IsSourceFault a.seen d.seen fault
+IsSourceFault-hidden Device hide show p = omega (arith, hide.same_failures, show.same_failures, p)
+IsSourceFault-hidden {a} {b} {c} {d} Ended hide show p = λ honest.
     p (rw (c.is_seen) (IsHonest-seen d.hides c.hides c.source (rw (show.same_source) at (rw (d.is_seen) at honest))))
 
 -- a refusal for want of budget while something is hidden
-pub OverLimit-hidden : {a b c d : Counting} {n : ℕ} → Hides a b true → Hides c d a.hides → OverLimit b c n → OverLimit a d n
-OverLimit-hidden hide show p = record {
+pub ExceedsBudget-hidden : {a b c d : CountedState} {n : ℕ} → MasksSectionHeaders a b true → MasksSectionHeaders c d a.hides → ExceedsBudget b c n → ExceedsBudget a d n
+ExceedsBudget-hidden hide show p = record {
   most = p.most;
   is_set = sym hide.same_limit ∙ p.is_set;
   above = omega (arith, hide.same_asked, p.above);
@@ -108,7 +108,7 @@ OverLimit-hidden hide show p = record {
 }
 
 -- what is shown where something is hidden is a file of which all or as much was shown before
-pub hidden_file : {a b : Counting} → Hides a b true → (viewed : List ℕ) → b.seen.file ≡ Some viewed
+pub hidden_file : {a b : CountedState} → MasksSectionHeaders a b true → (viewed : List ℕ) → b.seen.file ≡ Some viewed
     → (file : List ℕ) × (a.seen.file ≡ Some file) × (viewed ≡ without_sections file)
 hidden_file {a} {b} hide viewed is =
     let under : file_by true a.source.file ≡ Some viewed = rw (hide.is_hidden, hide.same_source) at (rw (b.is_seen) at is) in

@@ -4,7 +4,7 @@ use Rattle.std.specs.Io.KnownBytes.{Appends}
 use Rattle.std.proofs.KnownBytes.{Appends-trans}
 use Rattle.std.proofs.Math.Seq.{take-add}
 use Rattle.std.proofs.lemmas.List.{take-append-drop, length-take-le, take_rest}
-use Rattle.elf_source.specs.Output.{Written, TakesFront}
+use Rattle.elf_source.specs.Output.{OutState, SinkTakesPrefix}
 
 -- the first d bytes, and then n of those that are left
 pub Appends_turn : (a b c : Option (List ℕ)) (bytes : List ℕ) (d n : ℕ) → Appends a b (take d bytes) → Appends b c (take n (take (length bytes - d) (drop d bytes))) → Appends a c (take (d + n) bytes)
@@ -13,9 +13,9 @@ Appends_turn a b c bytes d n p q =
     subst (Appends a c) (sym (take-add d n bytes)) (Appends-trans a b c _ _ p left)
 
 -- a sink that took the first n bytes
-pub TakesFront-some : (old new : Written) (bytes : List ℕ) (n : ℕ) → n ≤ length bytes → Appends old.taken new.taken (take n bytes) → new.written ≡ min (old.written + n) (2 ^ 128 - 1)
-    → (n ≡ 0 → new.held ≡ old.held) → new.room ≡ old.room → TakesFront old new bytes
-TakesFront-some old new bytes n within p count same room = record {
+pub SinkTakesPrefix-some : (old new : OutState) (bytes : List ℕ) (n : ℕ) → n ≤ length bytes → Appends old.taken new.taken (take n bytes) → new.written ≡ min (old.written + n) (2 ^ 128 - 1)
+    → (n ≡ 0 → new.held ≡ old.held) → new.room ≡ old.room → SinkTakesPrefix old new bytes
+SinkTakesPrefix-some old new bytes n within p count same room = record {
   front = take n bytes;
   rest = drop n bytes;
   split = sym (take-append-drop n bytes);

@@ -1,19 +1,19 @@
 -- What is asked for between the call that sets a limit and the call that takes it away.
 use Rattle.std.proofs.Common.{◌≡◌, ℕ, ◌+◌, ◌^◌, ◌<◌, ◌≤◌, Option, None, Some, refl, sym, ◌∙◌, arith}
 use Rattle.std.specs.Prelude.{IfSome}
-use Rattle.elf_source.specs.Source.{Counting, SetsLimit, OverLimit, counted}
+use Rattle.elf_source.specs.Source.{CountedState, SetsLimit, ExceedsBudget, counted}
 
 -- no more is asked for than the budget has, where the limit is not passed
-pub spent_within : (budget : Option ℕ) (s0 s1 s2 : Counting) → SetsLimit s0 s1 budget → ((most : ℕ) → s1.most ≡ Some most → s2.asked ≤ most) → IfSome budget (λ bytes. s2.asked ≤ s0.asked + bytes)
+pub spent_within : (budget : Option ℕ) (s0 s1 s2 : CountedState) → SetsLimit s0 s1 budget → ((most : ℕ) → s1.most ≡ Some most → s2.asked ≤ most) → IfSome budget (λ bytes. s2.asked ≤ s0.asked + bytes)
 spent_within None s0 s1 s2 set within = tt
 spent_within (Some bytes) s0 s1 s2 set within = let below = within (counted s0.asked bytes) set.most in omega (arith, below)
 
 -- and it is not while it is set
-pub within_budget : (budget : Option ℕ) (s0 s1 s2 : Counting) → SetsLimit s0 s1 budget → s2.most ≡ s1.most → IfSome budget (λ bytes. s2.asked ≤ s0.asked + bytes)
+pub within_budget : (budget : Option ℕ) (s0 s1 s2 : CountedState) → SetsLimit s0 s1 budget → s2.most ≡ s1.most → IfSome budget (λ bytes. s2.asked ≤ s0.asked + bytes)
 within_budget budget s0 s1 s2 set same = spent_within budget s0 s1 s2 set (λ most is. (s2.within most (same ∙ is)).0)
 
 -- where the budget is used up fewer than 4,096 bytes of it are left
-pub late_budget : (budget : Option ℕ) (s0 s1 s2 : Counting) (n : ℕ) → s0.asked ≤ 2 ^ 127 → SetsLimit s0 s1 budget → OverLimit s1 s2 n
+pub late_budget : (budget : Option ℕ) (s0 s1 s2 : CountedState) (n : ℕ) → s0.asked ≤ 2 ^ 127 → SetsLimit s0 s1 budget → ExceedsBudget s1 s2 n
     → (bytes : ℕ) × (budget ≡ Some bytes) × (s0.asked + bytes < s2.asked + 4096)
 late_budget None s0 s1 s2 n small set over = let none = set.most in let some = over.is_set in cc
 late_budget (Some bytes) s0 s1 s2 n small set over =

@@ -4,10 +4,10 @@ use Rattle.std.specs.Io.KnownBytes.{Appends, append_known}
 use Rattle.std.proofs.Math.Seq.{take-append_seam}
 use Rattle.std.proofs.KnownBytes.{Appends-nil}
 use Rattle.std.proofs.lemmas.List.{length-append}
-use Rattle.elf_source.specs.Output.{BreaksOff, EndsLine, HeldBack, Takes, TakesFront, Written, before_text}
+use Rattle.elf_source.specs.Output.{FailsOutput, EndsLine, KeepsDeferred, SinkTakes, SinkTakesPrefix, OutState, before_text}
 use Rattle.elf_source.specs.declared.faults.OutFault.{OutFault}
-use Rattle.elf_source.specs.declared.holding_sink.HeldLine.{HeldLine}
-use Rattle.elf_source.proofs.PutsLaws.{Takes-then}
+use Rattle.elf_source.specs.declared.holding_sink.DeferredLine.{DeferredLine}
+use Rattle.elf_source.proofs.PutsLaws.{SinkTakes-then}
 
 -- two lists that end in as many bytes begin alike
 alike : (w x back line : List ℕ) → w ++ back ≡ x ++ line → length back ≡ length line → w ≡ x
@@ -30,7 +30,7 @@ none_of [] none = refl
 none_of (byte ∷ bytes) none = absurd (cc)
 
 -- nothing is held back of an output that was broken off
-pub broken_takes : (old new : Written) (fault : OutFault) → BreaksOff old new fault → Takes old new []
+pub broken_takes : (old new : OutState) (fault : OutFault) → FailsOutput old new fault → SinkTakes old new []
 broken_takes old new fault p = record {
   appends = rw p.taken (Appends-nil old.taken);
   counts = omega (arith, p.written, old.fits);
@@ -38,9 +38,9 @@ broken_takes old new fault p = record {
   room = p.room;
 }
 
-module _ (began mid old : Written) (line : List ℕ) (held : HeldLine) (p : HeldBack began mid line held) where
+module _ (began mid old : OutState) (line : List ℕ) (held : DeferredLine) (p : KeepsDeferred began mid line held) where
   -- the line is taken
-  line_taken : Takes began mid line
+  line_taken : SinkTakes began mid line
   line_taken = record {
     appends = p.appends;
     counts = omega (arith, p.counts, p.start, p.few);
@@ -49,13 +49,13 @@ module _ (began mid old : Written) (line : List ℕ) (held : HeldLine) (p : Held
   }
 
   -- as many bytes are held as it has, where nothing was written behind it
-  pub enough_held : (bytes : List ℕ) → Takes mid old bytes → old.written ≡ held.start → held.start - held.before ≤ old.held
+  pub enough_held : (bytes : List ℕ) → SinkTakes mid old bytes → old.written ≡ held.start → held.start - held.before ≤ old.held
   enough_held bytes q is =
       let none : length bytes ≡ 0 = omega (arith, q.counts, p.counts, p.few, is) in
       omega (arith, q.still none, p.holds, p.start, p.before)
 
   -- it stands before what was written behind it
-  pub line_ends : (new : Written) (bytes : List ℕ) → Takes mid old bytes → EndsLine held old new → Takes began new (before_text line bytes)
+  pub line_ends : (new : OutState) (bytes : List ℕ) → SinkTakes mid old bytes → EndsLine held old new → SinkTakes began new (before_text line bytes)
   line_ends new [] q ends =
       let is : old.written ≡ held.start = omega (arith, q.counts, p.counts, mid.fits) in
       let back = ends.back is in
@@ -68,13 +68,13 @@ module _ (began mid old : Written) (line : List ℕ) (held : HeldLine) (p : Held
       }
   line_ends new (byte ∷ bytes) q ends =
       let more : old.written ≡ held.start → ⊥ = λ is. omega (arith, q.counts, p.counts, p.few, is) in
-      rw (ends.stays more) (Takes-then line (byte ∷ bytes) line_taken q)
+      rw (ends.stays more) (SinkTakes-then line (byte ∷ bytes) line_taken q)
 
   -- a front of a text behind it
-  pub line_front : (new : Written) (text : List ℕ) → TakesFront mid old text → EndsLine held old new → TakesFront began new (before_text line text)
+  pub line_front : (new : OutState) (text : List ℕ) → SinkTakesPrefix mid old text → EndsLine held old new → SinkTakesPrefix began new (before_text line text)
   line_front new text q ends = by_front q.front refl
     where
-      by_front : (front : List ℕ) → q.front ≡ front → TakesFront began new (before_text line text)
+      by_front : (front : List ℕ) → q.front ≡ front → SinkTakesPrefix began new (before_text line text)
       by_front [] is = record {
         front = [];
         rest = before_text line text;
@@ -91,10 +91,10 @@ module _ (began mid old : Written) (line : List ℕ) (held : HeldLine) (p : Held
           })
 
   -- the output failed, or not, as before
-  pub line_fails : (new : Written) (bytes : List ℕ) → Takes mid old bytes → EndsLine held old new → new.failed ≡ old.failed
+  pub line_fails : (new : OutState) (bytes : List ℕ) → SinkTakes mid old bytes → EndsLine held old new → new.failed ≡ old.failed
   line_fails new [] q ends =
       let is : old.written ≡ held.start = omega (arith, q.counts, p.counts, mid.fits) in
       (ends.back is).failed
   line_fails new (byte ∷ bytes) q ends =
       let more : old.written ≡ held.start → ⊥ = λ is. omega (arith, q.counts, p.counts, p.few, is) in
-      ap (λ (w : Written). w.failed) (ends.stays more)
+      ap (λ (w : OutState). w.failed) (ends.stays more)

@@ -1,14 +1,14 @@
 -- Reads one behind the other, and then more of them.
 use Rattle.std.proofs.Common.{◌≡◌, ℕ, ◌+◌, ◌≤◌, List, [], ◌∷◌, ◌++◌, refl, subst, arith}
-use Rattle.elf_source.specs.Source.{Seen}
+use Rattle.elf_source.specs.Source.{SourceState}
 use Rattle.elf_source.specs.Onward.{AreMade, AreOnward, ReadsOnward}
 
 -- nothing was read
-pub onward_none : (one_read : Seen → ℕ → ℕ → Seen → Type 0) (old new : Seen) (low high : ℕ) → new ≡ old → low ≤ high → ReadsOnward one_read old new low high
+pub onward_none : (one_read : SourceState → ℕ → ℕ → SourceState → Type 0) (old new : SourceState) (low high : ℕ) → new ≡ old → low ≤ high → ReadsOnward one_read old new low high
 onward_none one_read old new low high same within = record { reads = []; made = same; onward = within }
 
 -- one read
-pub onward_one : (one_read : Seen → ℕ → ℕ → Seen → Type 0) (old new : Seen) (at n low high : ℕ) → one_read old at n new → low ≤ at → at + n ≤ high
+pub onward_one : (one_read : SourceState → ℕ → ℕ → SourceState → Type 0) (old new : SourceState) (at n low high : ℕ) → one_read old at n new → low ≤ at → at + n ≤ high
     → ReadsOnward one_read old new low high
 onward_one one_read old new at n low high read from to = record { reads = (at, n) ∷ []; made = (new, read, refl); onward = (from, to) }
 
@@ -28,7 +28,7 @@ lists_then low middle next high [] second less p q = onward_lower low next high 
 lists_then low middle next high (read ∷ first) second less p q = (p.0, lists_then (read.0 + read.1) middle next high first second less p.1 q)
 
 -- reads, and then others behind them
-pub onward_then : (one_read : Seen → ℕ → ℕ → Seen → Type 0) (a b c : Seen) (low middle next high : ℕ) → middle ≤ next
+pub onward_then : (one_read : SourceState → ℕ → ℕ → SourceState → Type 0) (a b c : SourceState) (low middle next high : ℕ) → middle ≤ next
     → ReadsOnward one_read a b low middle → ReadsOnward one_read b c next high → ReadsOnward one_read a c low high
 onward_then one_read a b c low middle next high less p q = record {
   reads = p.reads ++ q.reads;
@@ -37,6 +37,6 @@ onward_then one_read a b c low middle next high less p q = record {
 }
 
 -- reads, in a looser bound
-pub onward_more : (one_read : Seen → ℕ → ℕ → Seen → Type 0) (a b : Seen) (low middle high : ℕ) → middle ≤ high → ReadsOnward one_read a b low middle
+pub onward_more : (one_read : SourceState → ℕ → ℕ → SourceState → Type 0) (a b : SourceState) (low middle high : ℕ) → middle ≤ high → ReadsOnward one_read a b low middle
     → ReadsOnward one_read a b low high
 onward_more one_read a b low middle high less p = onward_then one_read a b b low middle high high less p (onward_none one_read b b high high refl (omega arith))

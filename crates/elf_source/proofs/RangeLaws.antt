@@ -3,7 +3,7 @@ use Rattle.std.proofs.Common.{◌≡◌, ℕ, ◌+◌, ◌-◌, ◌≤◌, List,
 use Rattle.std.proofs.lemmas.List.{drop-take}
 use Rattle.std.proofs.Math.Seq.{take-length}
 use Rattle.std.specs.Prelude.{OnOk}
-use Rattle.elf_source.specs.Source.{Seen}
+use Rattle.elf_source.specs.Source.{SourceState}
 use Rattle.elf_source.specs.Ranges.{IsWholeRange, RangeOf, file_within, seen_range}
 
 -- a slice of a slice
@@ -32,7 +32,7 @@ all_of : (file : Option (List ℕ)) (size : ℕ) → ((bytes : List ℕ) → fil
 all_of None size sized = refl
 all_of (Some bytes) size sized = ap Some (ap (λ n. take n bytes) (sym (sized bytes refl)) ∙ take-length bytes)
 
-pub whole_file : (seen : Seen) → file_within seen.file 0 seen.size ≡ seen.file
+pub whole_file : (seen : SourceState) → file_within seen.file 0 seen.size ≡ seen.file
 whole_file seen = all_of seen.file seen.size seen.sized
 
 -- a range that begins at the start and has the size of what it is a range of is whole

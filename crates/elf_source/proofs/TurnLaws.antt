@@ -4,7 +4,7 @@ use Rattle.std.proofs.Math.Seq.{take-add, take-append-add, take-length}
 use Rattle.std.proofs.lemmas.List.{drop-drop, take-append-le}
 use Rattle.elf_source.proofs.OnwardLaws.{made_then}
 use Rattle.elf_source.specs.Reader.{AreRests, Turns, TurnsWithin}
-use Rattle.elf_source.specs.Source.{Seen, IsHonest, Faults}
+use Rattle.elf_source.specs.Source.{SourceState, IsHonest, IsSourceFault}
 use Rattle.elf_source.specs.declared.faults.SourceFault.{SourceFault}
 use Rattle.elf_source.specs.declared.faults.SourceFault.TheVariants.{Device, Ended}
 use borrow.Rule.Slice.PartMut.{put_mid, post_of, mid_of, same_len_mid}
@@ -29,8 +29,8 @@ filled_then file out part at got count room within some before turn =
     ∙ sym (take-add got count (drop at file))
 
 -- a source whose reads fail only at `Device`, where it is honest, isn't honest at any other fault
-pub ended-is_known : (old new : Seen) (result : Result (Unit {0}) SourceFault) → (result ≡ Err Device → ⊥)
-    → (IsHonest new → IfErr result (λ fault. fault ≡ Device)) → IfErr result (Faults old new)
+pub ended-is_known : (old new : SourceState) (result : Result (Unit {0}) SourceFault) → (result ≡ Err Device → ⊥)
+    → (IsHonest new → IfErr result (λ fault. fault ≡ Device)) → IfErr result (IsSourceFault old new)
 ended-is_known old new (Ok x) other fails = tt
 ended-is_known old new (Err Device) other fails = absurd (other refl)
 ended-is_known old new (Err Ended) other fails = λ honest. search fails
@@ -88,11 +88,11 @@ turns_more one_turn a b low here high end some most before less more = record {
 }
 
 -- turns, and one more into what is left of a buffer of n bytes
-pub turn_behind : {R : Type 0} → (one_turn : R → ℕ → ℕ → R → Type 0) (a b c : R) (at got n most high : ℕ) (out : List ℕ)
+pub turn_after : {R : Type 0} → (one_turn : R → ℕ → ℕ → R → Type 0) (a b c : R) (at got n most high : ℕ) (out : List ℕ)
     → got ≤ length out → length out ≡ n → at + got ≤ high
     → Turns one_turn a b at (at + got) (at + n) most → one_turn b (at + got) (length (mid_of got (length out - got) out)) c
     → Turns one_turn a c at high (at + n) (most + 1)
-turn_behind one_turn a b c at got n most high out within same less before turn =
+turn_after one_turn a b c at got n most high out within same less before turn =
     let room : length (mid_of got (length out - got) out) ≡ length out - got = length-take-le (length out - got) (drop got out) (omega (arith, length-drop got out)) in
     turns_then one_turn a b c at (at + got) high (at + n) most (length (mid_of got (length out - got) out)) before turn less (omega (arith, room, within, same))
 
@@ -103,5 +103,5 @@ pub turned_at : {R : Type 0} → (one_turn : R → ℕ → ℕ → R → Type 0)
     → got < n → TurnsWithin one_turn a c at n
 turned_at one_turn a b c at got n interrupted out within same few before turn more =
     turns_more one_turn a c at (at + n) (at + n) (at + n) (got + interrupted + 1) (n + 64)
-    (turn_behind one_turn a b c at got n (got + interrupted) (at + n) out within same (omega (arith, within, same)) before turn)
+    (turn_after one_turn a b c at got n (got + interrupted) (at + n) out within same (omega (arith, within, same)) before turn)
     (omega arith) (omega (arith, few, more))

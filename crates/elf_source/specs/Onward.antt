@@ -1,6 +1,6 @@
 -- Reads one behind the other.
 use Rattle.std.specs.Prelude.{ℕ, ◌≡◌, ◌+◌, ◌≤◌, List, [], ◌∷◌}
-use Rattle.elf_source.specs.Source.{Seen}
+use Rattle.elf_source.specs.Source.{SourceState}
 
 -- reads, each at an offset and of so many bytes, lead from how something stood, or was seen, to how it does
 abbrev pub AreMade : {A : Type 0} → (A → ℕ → ℕ → A → Type 0) → List (ℕ × ℕ) → A → A → Type 0
@@ -13,7 +13,7 @@ AreOnward low high [] = low ≤ high
 AreOnward low high (read ∷ reads) = (low ≤ read.0) × AreOnward (read.0 + read.1) high reads
 
 -- WHAT WAS READ: bytes between two offsets, onward, so that no byte was read twice
-pub record ReadsOnward (one_read : Seen → ℕ → ℕ → Seen → Type 0) (old new : Seen) (low high : ℕ) : Type 0 where
+pub record ReadsOnward (one_read : SourceState → ℕ → ℕ → SourceState → Type 0) (old new : SourceState) (low high : ℕ) : Type 0 where
   pub reads : List (ℕ × ℕ)
   pub made : AreMade one_read reads old new
   pub onward : AreOnward low high reads

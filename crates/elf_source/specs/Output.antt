@@ -2,7 +2,7 @@
 use Rattle.std.specs.Prelude.{◌≡◌, ℕ, ◌+◌, ◌-◌, ◌^◌, ◌<◌, ◌≤◌, ◌==◌, ◌⊎◌, if◌then◌else◌, Bool, true, false, List, [], ◌∷◌, ◌++◌, Option, None, Some, Result, Ok, Err, min, length, take}
 use Rattle.std.specs.Io.KnownBytes.{Appends, append_known}
 use Rattle.elf_source.specs.declared.faults.OutFault.{OutFault}
-use Rattle.elf_source.specs.declared.holding_sink.HeldLine.{HeldLine}
+use Rattle.elf_source.specs.declared.holding_sink.DeferredLine.{DeferredLine}
 
 -- a slice that is written from its front: the bytes written, how many bytes are free, whether a take failed
 pub record FrontSlice : Type 0 where
@@ -16,8 +16,8 @@ pub record Writing (W : Type 0) : Type 0 where
   pub failed : Bool
 
 -- how much of so much room is free for bytes to be held behind others: nothing where some of these went out
-abbrev pub free_behind : (from to room : ℕ) → ℕ
-free_behind from to room = if from == 0 then room - to else 0
+abbrev pub free_after : (from to room : ℕ) → ℕ
+free_after from to room = if from == 0 then room - to else 0
 
 -- a sink that holds no bytes back
 abbrev pub nothing_held : ℕ
@@ -25,7 +25,7 @@ nothing_held = 0
 
 -- a sink that may hold bytes back: what the sink below it took, the bytes that are held, for how many it has room, and of that how
 -- much is free, whether a take failed
-pub record HeldOutput : Type 0 where
+pub record DeferredState : Type 0 where
   pub below : Option (List ℕ)
   pub held : List ℕ
   pub room : ℕ
@@ -33,14 +33,14 @@ pub record HeldOutput : Type 0 where
   pub failed : Bool
 
 -- it holds as many of these bytes, behind those that it held, as there is room for; none exactly where no room is free, and nothing changes
-abbrev pub KeepsSome : HeldOutput → HeldOutput → Option ℕ → List ℕ → Type 0
-KeepsSome old new None bytes = (new ≡ old) × (old.free ≡ 0)
-KeepsSome old new (Some count) bytes =
+abbrev pub KeepsPart : DeferredState → DeferredState → Option ℕ → List ℕ → Type 0
+KeepsPart old new None bytes = (new ≡ old) × (old.free ≡ 0)
+KeepsPart old new (Some count) bytes =
     (0 < count) × (count ≡ min old.free (length bytes)) × (new.below ≡ old.below) × (new.held ≡ old.held ++ take count bytes)
     × (new.room ≡ old.room) × (new.free ≡ old.free - count)
 
 -- it holds a line behind what it holds, with room for a byte more; exactly where there is none nothing changes
-abbrev pub HoldsIf : Bool → HeldOutput → HeldOutput → List ℕ → Type 0
+abbrev pub HoldsIf : Bool → DeferredState → DeferredState → List ℕ → Type 0
 HoldsIf true old new line =
     (length line < old.free) × (new.below ≡ old.below) × (new.held ≡ old.held ++ line) × (new.room ≡ old.room)
     × (new.free ≡ old.free - length line) × (new.failed ≡ old.failed)
@@ -49,7 +49,7 @@ HoldsIf false old new line =
 
 -- what is seen of an output: the bytes that its sink knows, how many it took, whether it has failed, how many of the bytes taken
 -- last are held back, and for how many there is room
-pub record Written : Type 0 where
+pub record OutState : Type 0 where
   pub taken : Option (List ℕ)
   pub written : ℕ
   pub failed : Bool
@@ -59,43 +59,43 @@ pub record Written : Type 0 where
 
 -- the sink took these bytes, and the count rose by as many, or stays at 2^128 - 1 where it would pass it; where there are none, as
 -- many are held back as before
-pub record Takes (old new : Written) (bytes : List ℕ) : Type 0 where
+pub record SinkTakes (old new : OutState) (bytes : List ℕ) : Type 0 where
   pub appends : Appends old.taken new.taken bytes
   pub counts : new.written ≡ min (old.written + length bytes) (2 ^ 128 - 1)
   pub still : length bytes ≡ 0 → new.held ≡ old.held
   pub room : new.room ≡ old.room
 
 -- the sink took a front of these bytes, and no byte of the rest
-pub record TakesFront (old new : Written) (bytes : List ℕ) : Type 0 where
+pub record SinkTakesPrefix (old new : OutState) (bytes : List ℕ) : Type 0 where
   pub front : List ℕ
   pub rest : List ℕ
   pub split : bytes ≡ front ++ rest
-  pub takes : Takes old new front
+  pub takes : SinkTakes old new front
 
 -- what a fault of the output says: the sink has failed, and the fault has the count
-pub record OutFails (new : Written) (fault : OutFault) : Type 0 where
+pub record IsOutFault (new : OutState) (fault : OutFault) : Type 0 where
   pub failed : new.failed ≡ true
   pub tells : fault.written ≡ new.written
 
 -- a put of these bytes: all of them are taken at Ok, and a front of them at a fault
-abbrev pub Puts : {X : Type 0} → Written → Written → Result X OutFault → List ℕ → Type 0
-Puts old new (Ok x) bytes = Takes old new bytes × (new.failed ≡ false)
-Puts old new (Err fault) bytes = TakesFront old new bytes × OutFails new fault
+abbrev pub OutPuts : {X : Type 0} → OutState → OutState → Result X OutFault → List ℕ → Type 0
+OutPuts old new (Ok x) bytes = SinkTakes old new bytes × (new.failed ≡ false)
+OutPuts old new (Err fault) bytes = SinkTakesPrefix old new bytes × IsOutFault new fault
 
 -- the output fails for good, and nothing else changes
-pub record BreaksOff (old new : Written) (fault : OutFault) : Type 0 where
+pub record FailsOutput (old new : OutState) (fault : OutFault) : Type 0 where
   pub taken : new.taken ≡ old.taken
   pub written : new.written ≡ old.written
   pub held : new.held ≡ old.held
   pub room : new.room ≡ old.room
-  pub fails : OutFails new fault
+  pub fails : IsOutFault new fault
 
 -- a line can't be held back: the output has failed, or the line and a byte have no room behind what is held, or the count has none
-abbrev pub LacksRoom : Written → List ℕ → Type 0
+abbrev pub LacksRoom : OutState → List ℕ → Type 0
 LacksRoom old line = (old.failed ≡ true) ⊎ (old.room ≤ old.held + length line) ⊎ (2 ^ 128 - 1 ≤ old.written + length line)
 
 -- a line is held back: it is taken, and counts as written and as held
-pub record HeldBack (old new : Written) (line : List ℕ) (held : HeldLine) : Type 0 where
+pub record KeepsDeferred (old new : OutState) (line : List ℕ) (held : DeferredLine) : Type 0 where
   pub appends : Appends old.taken new.taken line
   pub before : held.before ≡ old.written
   pub start : held.start ≡ old.written + length line
@@ -106,12 +106,12 @@ pub record HeldBack (old new : Written) (line : List ℕ) (held : HeldLine) : Ty
   pub stands : new.failed ≡ false
 
 -- the same, or the output fails for good with nothing of the line
-abbrev pub HoldsLine : Written → Written → Result HeldLine OutFault → List ℕ → Type 0
-HoldsLine old new (Ok held) line = HeldBack old new line held
-HoldsLine old new (Err fault) line = BreaksOff old new fault × LacksRoom old line
+abbrev pub HoldsLine : OutState → OutState → Result DeferredLine OutFault → List ℕ → Type 0
+HoldsLine old new (Ok held) line = KeepsDeferred old new line held
+HoldsLine old new (Err fault) line = FailsOutput old new fault × LacksRoom old line
 
 -- the last so many bytes that were taken and held are taken back, and so many are written
-pub record TakesBack (old new : Written) (count written : ℕ) : Type 0 where
+pub record TakesBack (old new : OutState) (count written : ℕ) : Type 0 where
   pub back : List ℕ
   pub many : length back ≡ count
   pub bytes : old.taken ≡ append_known new.taken back
@@ -121,7 +121,7 @@ pub record TakesBack (old new : Written) (count written : ℕ) : Type 0 where
   pub failed : new.failed ≡ old.failed
 
 -- a line that was held is ended: taken back where no byte more is written, else nothing changes
-pub record EndsLine (line : HeldLine) (old new : Written) : Type 0 where
+pub record EndsLine (line : DeferredLine) (old new : OutState) : Type 0 where
   pub back : old.written ≡ line.start → TakesBack old new (line.start - line.before) line.before
   pub stays : (old.written ≡ line.start → ⊥) → new ≡ old
 

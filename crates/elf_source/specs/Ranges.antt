@@ -1,6 +1,6 @@
 -- What is seen of a range of a source, and of one that was set anew.
 use Rattle.std.specs.Prelude.{◌≡◌, ℕ, ◌+◌, ◌≤◌, false, List, length, take, drop, Option, Some, option_map}
-use Rattle.elf_source.specs.Source.{Counting, Seen, Whole}
+use Rattle.elf_source.specs.Source.{CountedState, SourceState, Whole}
 
 -- the file of so many bytes from an offset of another, where that is known
 abbrev pub file_within : Option (List ℕ) → ℕ → ℕ → Option (List ℕ)
@@ -8,14 +8,14 @@ file_within file start size = option_map (λ bytes. take size (drop start bytes)
 
 -- a range: what is seen of the source that it is a range of, where it starts and how many bytes it has
 pub record RangeOf : Type 0 where
-  pub below : Seen
+  pub below : SourceState
   pub start : ℕ
   pub size : ℕ
   pub within : start + size ≤ below.size
   pub sized : (bytes : List ℕ) → file_within below.file start size ≡ Some bytes → length bytes ≡ size
 
 -- what is seen of it: its own size, and the slice of the other's file; what fails below is a failure of its own
-abbrev pub seen_range : RangeOf → Seen
+abbrev pub seen_range : RangeOf → SourceState
 seen_range r = record {
   size = r.size;
   failures = r.below.failures;
@@ -25,15 +25,15 @@ seen_range r = record {
 }
 
 -- a source is a range of all bytes of another
-abbrev pub IsWholeRange : Seen → Type 0
+abbrev pub IsWholeRange : SourceState → Type 0
 IsWholeRange seen = seen.whole ≡ Some (record { size = seen.size; file = seen.file })
 
 -- so many bytes from an offset on lie within what a source is a range of
-abbrev pub LiesWithin : Seen → ℕ → ℕ → Type 0
+abbrev pub LiesWithin : SourceState → ℕ → ℕ → Type 0
 LiesWithin seen start size = (whole : Whole) × (seen.whole ≡ Some whole) × (start + size ≤ whole.size)
 
 -- a range was set anew, nothing of it is hidden, and of the account nothing changed
-pub record Narrows (old new : Counting) (start size : ℕ) : Type 0 where
+pub record Narrows (old new : CountedState) (start size : ℕ) : Type 0 where
   pub size_is : new.seen.size ≡ size
   pub file_is : (whole : Whole) → old.seen.whole ≡ Some whole → new.seen.file ≡ file_within whole.file start size
   pub same_whole : new.seen.whole ≡ old.seen.whole
@@ -44,7 +44,7 @@ pub record Narrows (old new : Counting) (start size : ℕ) : Type 0 where
   pub shows : new.hides ≡ false
 
 -- a range was set to all bytes of what it is a range of, nothing of it is hidden, and of the account nothing changed
-pub record Widens (old new : Counting) : Type 0 where
+pub record Widens (old new : CountedState) : Type 0 where
   pub is_whole : IsWholeRange new.seen
   pub same_whole : new.seen.whole ≡ old.seen.whole
   pub same_failures : new.seen.failures ≡ old.seen.failures

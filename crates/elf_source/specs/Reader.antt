@@ -3,11 +3,11 @@ use Rattle.std.specs.Prelude.{◌≡◌, ℕ, ◌+◌, ◌≤◌, ◌<◌, List,
 use Rattle.std.specs.Io.KnownBytes.{ReadConsumes}
 use Rattle.std.specs.Io.Seek.{MovesTo}
 use Rattle.elf_source.specs.Onward.{AreMade}
-use Rattle.elf_source.specs.declared.faults.ReaderFault.{ReaderFault}
-use Rattle.elf_source.specs.declared.faults.ReaderFault.TheVariants.{Interrupted, Failed}
+use Rattle.elf_source.specs.declared.faults.ReadAtFault.{ReadAtFault}
+use Rattle.elf_source.specs.declared.faults.ReadAtFault.TheVariants.{Interrupted, Failed}
 
 -- a turn of a reader, by the counts of its interrupted turns before and after
-abbrev pub IsTurn : {X : Type 0} → ℕ → ℕ → Result X ReaderFault → Type 0
+abbrev pub IsTurn : {X : Type 0} → ℕ → ℕ → Result X ReadAtFault → Type 0
 IsTurn old new (Ok x) = new ≤ old
 IsTurn old new (Err Interrupted) = new ≤ old + 1
 IsTurn old new (Err Failed) = new ≤ old
@@ -35,22 +35,22 @@ abbrev pub TurnsWithin : {R : Type 0} → (R → ℕ → ℕ → R → Type 0) �
 TurnsWithin one_turn old new at n = Turns one_turn old new at (at + n) (at + n) (n + 64)
 
 -- a source over a reader: what is seen of it, the reader, and how many of its turns were interrupted
-pub record Stream (Seen R : Type 0) : Type 0 where
-  pub seen : Seen
+pub record Stream (SourceState R : Type 0) : Type 0 where
+  pub seen : SourceState
   pub reader : R
   pub interrupted : ℕ
 
 -- where what reads and seeks stands after a read at an offset, as far as it is known: behind what it gave, or at the
 -- offset if it was interrupted
-abbrev pub StandsAfter : ℕ → Option ℕ → Result ℕ ReaderFault → Type 0
+abbrev pub StandsAfter : ℕ → Option ℕ → Result ℕ ReadAtFault → Type 0
 StandsAfter at place (Ok count) = IfSome place (λ n. (n ≡ at + count) × (0 < count))
 StandsAfter at place (Err Interrupted) = IfSome place (λ n. n ≡ at)
 StandsAfter at place (Err Failed) = place ≡ None
 
 -- a read at an offset of what reads and seeks, by the position and the bytes left, where it knows them: it sought the offset,
 -- unless it stood there, and read
-pub record SeeksAndReads {R : Type 0} (position : R → Option ℕ) (remaining : R → Option (List ℕ)) (place : Option ℕ) (old new : R) (at : ℕ) (out : List ℕ) (result : Result ℕ ReaderFault) : Type 0 where
+pub record SeeksAndReads {R : Type 0} (position : R → Option ℕ) (remaining : R → Option (List ℕ)) (place : Option ℕ) (old new : R) (at : ℕ) (out : List ℕ) (result : Result ℕ ReadAtFault) : Type 0 where
   pub there : R
   pub stays : place ≡ Some at → there ≡ old
-  pub seeks : (place ≡ Some at → ⊥) → (sought : Result (Unit {0}) ReaderFault) × MovesTo (position old) (position there) at sought × IfErr sought (λ fault. (result ≡ Err fault) × (new ≡ there))
+  pub seeks : (place ≡ Some at → ⊥) → (sought : Result (Unit {0}) ReadAtFault) × MovesTo (position old) (position there) at sought × IfErr sought (λ fault. (result ≡ Err fault) × (new ≡ there))
   pub reads : ReadConsumes (remaining there) (remaining new) result out

@@ -15,7 +15,7 @@ pub record Whole : Type 0 where
 
 -- what is seen of a source: its size in bytes, how many of its reads failed, the file whose slices its reads give, where
 -- there is one, and what it is a range of, if it is one
-pub record Seen : Type 0 where
+pub record SourceState : Type 0 where
   pub size : ℕ
   pub failures : ℕ
   pub file : Option (List ℕ)
@@ -23,22 +23,22 @@ pub record Seen : Type 0 where
   pub whole : Option Whole
 
 -- a source is honest: its reads give the slices of a file, and its count of failures may still rise
-pub record IsHonest (seen : Seen) : Type 0 where
+pub record IsHonest (seen : SourceState) : Type 0 where
   pub file : List ℕ
   pub gives : seen.file ≡ Some file
   pub not_worn : seen.failures < 2 ^ 64 - 1
 
 -- what a read keeps, fault or not
-pub record Keeps (old new : Seen) : Type 0 where
+pub record Keeps (old new : SourceState) : Type 0 where
   pub same_size : new.size ≡ old.size
   pub no_fewer : old.failures ≤ new.failures
   pub same_file : new.file ≡ old.file
   pub same_whole : new.whole ≡ old.whole
 
 -- what a fault of the source says: at `Device` its failures rose, at `Ended` it isn't honest
-abbrev pub Faults : Seen → Seen → SourceFault → Type 0
-Faults old new Device = old.failures < new.failures
-Faults old new Ended = IsHonest new → ⊥
+abbrev pub IsSourceFault : SourceState → SourceState → SourceFault → Type 0
+IsSourceFault old new Device = old.failures < new.failures
+IsSourceFault old new Ended = IsHonest new → ⊥
 
 -- no more is asked for than a limit has, and no limit is more than a number of 64 bits above what was asked for
 abbrev pub IsWithin : ℕ → Option ℕ → Type 0
@@ -62,7 +62,7 @@ sized_by true (Some file) size sized =
     each_file (λ bytes. length bytes ≡ size) (Some (without_sections file)) (view_is_as_long file ∙ sized file refl)
 
 -- what is seen of a source of whose file all is shown, or all but the fields of its header that locate section headers
-abbrev pub seen_by : Bool → Seen → Seen
+abbrev pub seen_by : Bool → SourceState → SourceState
 seen_by hides seen = record {
   size = seen.size;
   failures = seen.failures;
@@ -74,9 +74,9 @@ seen_by hides seen = record {
 -- a source whose reads are counted: what is seen of it, what was given to be read, whether the fields of its file
 -- header that locate section headers are hidden, how many bytes were asked for, the count that this may not pass, where a limit is set, and
 -- where the last read was asked for that failed or that the limit had no room for
-pub record Counting : Type 0 where
-  pub seen : Seen
-  pub source : Seen
+pub record CountedState : Type 0 where
+  pub seen : SourceState
+  pub source : SourceState
   pub hides : Bool
   pub is_seen : seen ≡ seen_by hides source
   pub asked : ℕ
@@ -86,7 +86,7 @@ pub record Counting : Type 0 where
   pub fits : asked < 2 ^ 128
 
 -- how many bytes may still be asked for, where a limit is set
-abbrev pub left : Counting → Option ℕ
+abbrev pub left : CountedState → Option ℕ
 left c = option_map (λ n. n - c.asked) c.most
 
 -- a count that stays at 2^128 - 1
@@ -94,7 +94,7 @@ abbrev pub counted : ℕ → ℕ → ℕ
 counted asked n = min (asked + n) (2 ^ 128 - 1)
 
 -- a limit was set or taken away, and nothing else changed
-pub record SetsLimit (old new : Counting) (bytes : Option ℕ) : Type 0 where
+pub record SetsLimit (old new : CountedState) (bytes : Option ℕ) : Type 0 where
   pub seen : new.seen ≡ old.seen
   pub asked : new.asked ≡ old.asked
   pub most : new.most ≡ option_map (counted old.asked) bytes
@@ -104,16 +104,16 @@ pub record SetsLimit (old new : Counting) (bytes : Option ℕ) : Type 0 where
   pub small : (n : ℕ) → bytes ≡ Some n → n < 2 ^ 64
 
 -- so many bytes from an offset on may be asked for in one read
-abbrev pub IsReadable : Counting → ℕ → ℕ → Type 0
+abbrev pub IsReadable : CountedState → ℕ → ℕ → Type 0
 IsReadable c at n = (at + n ≤ c.seen.size) × (n ≤ 4096)
 
 -- what is hidden stays so, and the source but for its failures
-pub record SameView (old new : Counting) : Type 0 where
+pub record SameView (old new : CountedState) : Type 0 where
   pub keeps : Keeps old.source new.source
   pub hides : new.hides ≡ old.hides
 
 -- WHAT READS DO, fault or not: they ask for at most n bytes, and keep the source and the limit
-pub record Reads (old new : Counting) (n : ℕ) : Type 0 where
+pub record ReadsUpTo (old new : CountedState) (n : ℕ) : Type 0 where
   pub keeps : Keeps old.seen new.seen
   pub grows : old.asked ≤ new.asked
   pub at_most : new.asked ≤ old.asked + n
@@ -122,43 +122,43 @@ pub record Reads (old new : Counting) (n : ℕ) : Type 0 where
 
 -- what a refusal for want of budget says, of reads that ask for at most n bytes: a limit was set, they could have passed
 -- it, and fewer than 4,096 bytes were left of it
-pub record OverLimit (old new : Counting) (n : ℕ) : Type 0 where
+pub record ExceedsBudget (old new : CountedState) (n : ℕ) : Type 0 where
   pub most : ℕ
   pub is_set : old.most ≡ Some most
   pub above : most < old.asked + n
   pub late : most < new.asked + 4096
 
 -- what a fault of a read of n bytes says
-abbrev pub Blames : Counting → Counting → ℕ → AskFault → Type 0
-Blames old new n (Source fault) = Faults old.seen new.seen fault
-Blames old new n Budget = OverLimit old new n
+abbrev pub IsAskFault : CountedState → CountedState → ℕ → AskFault → Type 0
+IsAskFault old new n (Source fault) = IsSourceFault old.seen new.seen fault
+IsAskFault old new n Budget = ExceedsBudget old new n
 
 -- what one read asks for, exactly: the bytes are counted where it was made, and it was made unless the limit had fewer left
-abbrev pub Asks : {X : Type 0} → Counting → Counting → ℕ → Result X AskFault → Type 0
-Asks old new n (Ok x) = new.asked ≡ counted old.asked n
-Asks old new n (Err (Source fault)) = new.asked ≡ counted old.asked n
-Asks old new n (Err Budget) = new.asked ≡ old.asked
+abbrev pub CountsRead : {X : Type 0} → CountedState → CountedState → ℕ → Result X AskFault → Type 0
+CountsRead old new n (Ok x) = new.asked ≡ counted old.asked n
+CountsRead old new n (Err (Source fault)) = new.asked ≡ counted old.asked n
+CountsRead old new n (Err Budget) = new.asked ≡ old.asked
 
 -- where a read stops it is remembered where it was asked for, and nowhere else
-abbrev pub Stops : {X E : Type 0} → Counting → Counting → ℕ → Result X E → Type 0
-Stops old new at (Ok x) = new.stopped ≡ old.stopped
-Stops old new at (Err fault) = new.stopped ≡ at
+abbrev pub RecordsStop : {X E : Type 0} → CountedState → CountedState → ℕ → Result X E → Type 0
+RecordsStop old new at (Ok x) = new.stopped ≡ old.stopped
+RecordsStop old new at (Err fault) = new.stopped ≡ at
 
 -- the source was read once, or not at all for want of budget
-abbrev pub AsksOnce : {X : Type 0} → (Seen → ℕ → ℕ → Seen → Type 0) → Counting → Counting → ℕ → ℕ → Result X AskFault → Type 0
-AsksOnce one_read old new at n (Ok x) = one_read old.source at n new.source
-AsksOnce one_read old new at n (Err (Source fault)) = one_read old.source at n new.source
-AsksOnce one_read old new at n (Err Budget) = new.source ≡ old.source
+abbrev pub ReadsSourceOnce : {X : Type 0} → (SourceState → ℕ → ℕ → SourceState → Type 0) → CountedState → CountedState → ℕ → ℕ → Result X AskFault → Type 0
+ReadsSourceOnce one_read old new at n (Ok x) = one_read old.source at n new.source
+ReadsSourceOnce one_read old new at n (Err (Source fault)) = one_read old.source at n new.source
+ReadsSourceOnce one_read old new at n (Err Budget) = new.source ≡ old.source
 
 -- a read outside the limit: it is counted, and what is left of the limit stays
-pub record Fills (old new : Counting) (n : ℕ) : Type 0 where
+pub record FillsUnlimited (old new : CountedState) (n : ℕ) : Type 0 where
   pub keeps : Keeps old.seen new.seen
   pub asks : new.asked ≡ counted old.asked n
   pub same_left : left new ≡ option_map (λ bytes. counted new.asked bytes - new.asked) (left old)
   pub view : SameView old new
 
 -- the fields of a file header that locate section headers were hidden, or shown, and of the account nothing changed
-pub record Hides (old new : Counting) (hides : Bool) : Type 0 where
+pub record MasksSectionHeaders (old new : CountedState) (hides : Bool) : Type 0 where
   pub is_hidden : new.hides ≡ hides
   pub shows : hides ≡ true → (file : List ℕ) → old.seen.file ≡ Some file → new.seen.file ≡ Some (without_sections file)
   pub same_size : new.seen.size ≡ old.seen.size
@@ -169,9 +169,9 @@ pub record Hides (old new : Counting) (hides : Bool) : Type 0 where
   pub same_stopped : new.stopped ≡ old.stopped
 
 -- what is seen of a source that gives these bytes and never fails
-abbrev pub honest : List ℕ → Seen
+abbrev pub honest : List ℕ → SourceState
 honest bytes = record { size = length bytes; failures = 0; file = Some bytes; sized = each_file (λ b. length b ≡ length bytes) (Some bytes) refl; whole = None }
 
 -- what is seen of a source of which no file is known
-abbrev pub unknown : ℕ → ℕ → Seen
+abbrev pub unknown : ℕ → ℕ → SourceState
 unknown size failures = record { size = size; failures = failures; file = None; sized = each_file (λ b. length b ≡ size) None tt; whole = None }

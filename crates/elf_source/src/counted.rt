@@ -1,6 +1,6 @@
 //! A source whose reads are counted.
 ghost use Rattle.std.specs.Prelude.{◌≡◌, ℕ, ◌+◌, ◌-◌, ◌^◌, ◌<◌, ◌≤◌, List, length, take, drop, false, None, Some, IfErr, OnOk};
-ghost use Rattle.elf_source.specs.Source.{Reads, Faults, Blames, Asks, AsksOnce, Stops, Fills, Hides, IsReadable, IsWithin, Keeps, SetsLimit, SameView, left};
+ghost use Rattle.elf_source.specs.Source.{ReadsUpTo, IsSourceFault, IsAskFault, CountsRead, ReadsSourceOnce, RecordsStop, FillsUnlimited, MasksSectionHeaders, IsReadable, IsWithin, Keeps, SetsLimit, SameView, left};
 
 use crate::faults::{AskFault, SourceFault};
 use crate::hiding::hide;
@@ -25,9 +25,9 @@ pub struct Counted<S: Source> {
 
 impl<S: Source> Model for Counted<S> {
     ghost use Rattle.std.specs.Prelude.{refl};
-    ghost use Rattle.elf_source.specs.Source.{Counting, seen_by};
+    ghost use Rattle.elf_source.specs.Source.{CountedState, seen_by};
 
-    ghost Value = { Counting };
+    ghost Value = { CountedState };
 
     ghost view = { λ c. record {
       seen = seen_by c.hides (S.seen c.source);
@@ -71,8 +71,8 @@ impl<S: Source> Counted<S> {
     /// Hides the fields of the file header that locate section headers, or shows them: where they are
     /// hidden, reads give zeros for the bytes 40 to 47 (e_shoff) and 60 to 63 (e_shnum, e_shstrndx) of
     /// the source (gABI 4, ELF Header). Of the account nothing changes.
-    pub fn hide_sections(&mut self, hides: bool)
-        ensures { Hides self.old self.new hides }
+    pub fn mask_section_headers(&mut self, hides: bool)
+        ensures { MasksSectionHeaders self.old self.new hides }
     {
         self.hides = hides;
     }
@@ -131,13 +131,13 @@ impl<S: Source> Counted<S> {
     /// isn't honest. After a fault `out` holds any bytes, and the source may be asked again.
     pub fn ask(&mut self, at: u64, out: &mut [u8]) -> Result<(), AskFault>
         requires { IsReadable self.old at (length out.old) }
-        ensures reads { Reads self.old self.new (length out.old) }
-        ensures blames { IfErr result (Blames self.old self.new (length out.old)) }
+        ensures reads { ReadsUpTo self.old self.new (length out.old) }
+        ensures blames { IfErr result (IsAskFault self.old self.new (length out.old)) }
         ensures slice { (file : List ℕ) → self.old.seen.file ≡ Some file → OnOk result
             (out.new ≡ take (length out.old) (drop at file)) }
-        ensures asks { Asks self.old self.new (length out.old) result }
-        ensures stops { Stops self.old self.new at result }
-        ensures once { AsksOnce S.one_read self.old self.new at (length out.old) result }
+        ensures asks { CountsRead self.old self.new (length out.old) result }
+        ensures stops { RecordsStop self.old self.new at result }
+        ensures once { ReadsSourceOnce S.one_read self.old self.new at (length out.old) result }
     {
         let count = out.len();
         if let Some(left) = self.left() {
@@ -162,9 +162,9 @@ impl<S: Source> Counted<S> {
     /// isn't honest. After either, `out` holds any bytes, and the source may be asked again.
     pub fn fill(&mut self, at: u64, out: &mut [u8]) -> Result<(), SourceFault>
         requires { at + length out.old ≤ self.old.seen.size }
-        ensures fills { Fills self.old self.new (length out.old) }
-        ensures stops { Stops self.old self.new at result }
-        ensures faults { IfErr result (Faults self.old.seen self.new.seen) }
+        ensures fills { FillsUnlimited self.old self.new (length out.old) }
+        ensures stops { RecordsStop self.old self.new at result }
+        ensures faults { IfErr result (IsSourceFault self.old.seen self.new.seen) }
         ensures slice { (file : List ℕ) → self.old.seen.file ≡ Some file → OnOk result
             (out.new ≡ take (length out.old) (drop at file)) }
         ensures once { S.one_read self.old.source at (length out.old) self.new.source }
@@ -185,8 +185,8 @@ impl<S: Source> Counted<S> {
         ensures keeps { Keeps self.old.seen self.new.seen }
         ensures view { SameView self.old self.new }
         ensures length { length out.new ≡ length out.old }
-        ensures stops { Stops self.old self.new at result }
-        ensures faults { IfErr result (Faults self.old.seen self.new.seen) }
+        ensures stops { RecordsStop self.old self.new at result }
+        ensures faults { IfErr result (IsSourceFault self.old.seen self.new.seen) }
         ensures slice { (file : List ℕ) → self.old.seen.file ≡ Some file → OnOk result
             (out.new ≡ take (length out.old) (drop at file)) }
         ensures once { S.one_read self.old.source at (length out.old) self.new.source }

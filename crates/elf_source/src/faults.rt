@@ -18,7 +18,7 @@ pub enum SourceFault {
 
 /// Why a turn of a reader gave nothing.
 #[derive(Clone, Copy, PartialEq, Eq, Debug, Error)]
-pub enum ReaderFault {
+pub enum ReadAtFault {
     /// The turn was interrupted. It may be taken again.
     #[error("the turn was interrupted")]
     Interrupted,

@@ -1,7 +1,7 @@
 //! A sink that holds lines back until more comes.
 ghost use Rattle.std.specs.Prelude.{◌≡◌, ◌-◌, ◌<◌, ◌≤◌, [], false, true, length};
 ghost use Rattle.std.specs.Io.KnownBytes.{Keeps, append_known};
-ghost use Rattle.elf_source.specs.Output.{BreaksOff, EndsLine, HoldsIf, HoldsLine, KeepsSome};
+ghost use Rattle.elf_source.specs.Output.{FailsOutput, EndsLine, HoldsIf, HoldsLine, KeepsPart};
 
 use crate::faults::{OutFault, SinkFault};
 use crate::output::{Out, give};
@@ -11,7 +11,7 @@ use std::marker::Model;
 /// A sink over another that may hold lines back: they count as taken, and the other gets them together with
 /// the next bytes that are taken. Lines that are still held may be taken back.
 #[derive(Drop)]
-pub struct HoldingSink<W: Sink> {
+pub struct DeferredSink<W: Sink> {
     sink: W,
     room: Vec<u8>,
     // Where in the room the bytes stand that are held.
@@ -22,22 +22,22 @@ pub struct HoldingSink<W: Sink> {
 
 /// How many bytes an output had written before a line that it holds, and with it.
 #[derive(Clone, Copy)]
-pub struct HeldLine {
+pub struct DeferredLine {
     before: u128,
     start: u128,
 }
 
-impl<W: Sink> Model for HoldingSink<W> {
+impl<W: Sink> Model for DeferredSink<W> {
     ghost use Rattle.std.specs.Prelude.{◌≡◌, ◌<◌, ◌≤◌, ◌||◌, drop, length, take, true};
-    ghost use Rattle.elf_source.specs.Output.{HeldOutput, free_behind};
+    ghost use Rattle.elf_source.specs.Output.{DeferredState, free_after};
 
-    ghost Value = { HeldOutput };
+    ghost Value = { DeferredState };
 
     ghost view = { λ s. record {
       below = W.taken s.sink;
       held = drop s.from (take s.to s.room.items);
       room = length s.room.items;
-      free = free_behind s.from s.to (length s.room.items);
+      free = free_after s.from s.to (length s.room.items);
       failed = s.broken || W.failed s.sink;
     } };
 
@@ -45,7 +45,7 @@ impl<W: Sink> Model for HoldingSink<W> {
         × (0 < s.from → (s.broken || W.failed s.sink) ≡ true) };
 }
 
-impl<W: Sink> HoldingSink<W> {
+impl<W: Sink> DeferredSink<W> {
     /// A sink over `sink` that has room for bytes, and holds none.
     pub fn new(sink: W, room: Vec<u8>) -> Self
         ensures below { result.below ≡ W.taken sink }
@@ -53,7 +53,7 @@ impl<W: Sink> HoldingSink<W> {
         ensures room { (result.room ≡ length room.items) × (result.free ≡ length room.items) }
         ensures failed { result.failed ≡ W.failed sink }
     {
-        HoldingSink {
+        DeferredSink {
             sink,
             room,
             from: 0,
@@ -68,7 +68,7 @@ impl<W: Sink> HoldingSink<W> {
         ensures none { self.room ≡ 0 → self.held ≡ [] }
         ensures failed { W.failed result ≡ true → self.failed ≡ true }
     {
-        let HoldingSink { sink, .. } = self;
+        let DeferredSink { sink, .. } = self;
         sink
     }
 
@@ -90,7 +90,7 @@ impl<W: Sink> HoldingSink<W> {
     fn keep(&mut self, bytes: &[u8]) -> Option<usize>
         requires { 0 < length bytes.now }
         ensures failed { self.new.failed ≡ self.old.failed }
-        ensures kept { KeepsSome self.old self.new result bytes.now }
+        ensures kept { KeepsPart self.old self.new result bytes.now }
     {
         let count = bytes.len().min(self.room.len() - self.to);
         if self.from > 0 || count == 0 {
@@ -121,7 +121,7 @@ impl<W: Sink> HoldingSink<W> {
     }
 }
 
-impl<W: Sink> Sink for HoldingSink<W> {
+impl<W: Sink> Sink for DeferredSink<W> {
     ghost taken = { λ s. append_known s.below s.held };
 
     ghost failed = { λ s. s.failed };
@@ -160,26 +160,26 @@ impl<W: Sink> Sink for HoldingSink<W> {
     }
 }
 
-impl<W: Sink> Out<HoldingSink<W>> {
+impl<W: Sink> Out<DeferredSink<W>> {
     /// Has a line held back, behind those that are held. It counts as written.
     ///
     /// # Errors
     /// `OutFault` where the output has failed, or the line and a byte have no room behind the lines that
     /// are held: then the output fails for good. Nothing of the line was taken.
-    pub fn hold_line(&mut self, line: &[u8]) -> Result<HeldLine, OutFault>
+    pub fn defer_line(&mut self, line: &[u8]) -> Result<DeferredLine, OutFault>
         ensures { HoldsLine self.old self.new result line.now }
     {
         let before = self.written;
         let start = before.saturating_add(line.len() as u128);
         if self.failed() || start == u128::MAX || !self.sink.hold(line) {
-            return Err(self.break_off());
+            return Err(self.fail_output());
         }
         self.written = start;
-        Ok(HeldLine { before, start })
+        Ok(DeferredLine { before, start })
     }
 
     /// Ends a line that was held: it stays where something was written behind it, else it is taken back.
-    pub fn end_line(&mut self, line: HeldLine)
+    pub fn end_line(&mut self, line: DeferredLine)
         requires { self.old.written ≡ line.start → line.start - line.before ≤ self.old.held }
         ensures { EndsLine line self.old self.new }
     {
@@ -190,8 +190,8 @@ impl<W: Sink> Out<HoldingSink<W>> {
     }
 
     /// Has the output fail for good.
-    pub fn break_off(&mut self) -> OutFault
-        ensures { BreaksOff self.old self.new result }
+    pub fn fail_output(&mut self) -> OutFault
+        ensures { FailsOutput self.old self.new result }
     {
         self.sink.broken = true;
         self.fault()

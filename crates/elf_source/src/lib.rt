@@ -20,11 +20,11 @@ mod stream_source;
 mod write_sink;
 
 pub use counted::{Counted, READ_BYTES};
-pub use faults::{AskFault, OutFault, ReaderFault, SinkFault, SourceFault};
-pub use holding_sink::{HeldLine, HoldingSink};
+pub use faults::{AskFault, OutFault, ReadAtFault, SinkFault, SourceFault};
+pub use holding_sink::{DeferredLine, DeferredSink};
 pub use memory_source::MemorySource;
 pub use null_sink::NullSink;
-pub use offset_reader::OffsetReader;
+pub use offset_reader::FileReader;
 pub use opened::opened_path;
 pub use output::{Out, give};
 pub use range_source::RangeSource;

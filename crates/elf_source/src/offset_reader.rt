@@ -2,7 +2,7 @@
 ghost use Rattle.std.specs.Prelude.{◌≡◌, ◌≤◌, pos, length, IfOk};
 ghost use Rattle.std.specs.Io.Seek.{SeekMoves};
 
-use crate::faults::ReaderFault;
+use crate::faults::ReadAtFault;
 use crate::reader::Reader;
 use crate::seek_reader::why;
 use std::io::{Seek, SeekFrom};
@@ -11,20 +11,20 @@ use std::os::unix::fs::FileExt;
 /// A reader over a file that is read at offsets: each turn is one call of the system, and only the
 /// length is sought. No file of it is known: that it gives what it holds is its user's premise.
 #[derive(Drop)]
-pub struct OffsetReader<F> {
+pub struct FileReader<F> {
     inner: F,
 }
 
-impl<F> OffsetReader<F> {
+impl<F> FileReader<F> {
     /// A reader over `inner`.
     pub fn new(inner: F) -> Self
         ensures { result.inner ≡ inner }
     {
-        OffsetReader { inner }
+        FileReader { inner }
     }
 }
 
-impl<F: FileExt + Seek> Reader for OffsetReader<F> {
+impl<F: FileExt + Seek> Reader for FileReader<F> {
     ghost use Rattle.std.specs.Prelude.{None};
 
     ghost file = { λ _. None };
@@ -37,7 +37,7 @@ impl<F: FileExt + Seek> Reader for OffsetReader<F> {
     ghost one_turn = { λ before _ _ after. after ≡ before };
 
     /// Seeks to the end, by the position that what is below has.
-    fn end(&mut self) -> Result<u64, ReaderFault>
+    fn end(&mut self) -> Result<u64, ReadAtFault>
         ensures moves { let bytes = F.stream_bytes self.old.inner in
             let from = F.stream_position self.old.inner in
             SeekMoves from (F.stream_position self.new.inner) bytes (SeekFrom.End (pos 0)) result }
@@ -46,7 +46,7 @@ impl<F: FileExt + Seek> Reader for OffsetReader<F> {
     }
 
     /// Reads at the offset, once.
-    fn read_at(&mut self, at: u64, out: &mut [u8]) -> Result<usize, ReaderFault>
+    fn read_at(&mut self, at: u64, out: &mut [u8]) -> Result<usize, ReadAtFault>
         ensures within { IfOk result (λ count. count ≤ length out.old) }
         ensures same { self.new ≡ self.old }
     {

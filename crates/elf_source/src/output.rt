@@ -1,7 +1,7 @@
 //! Output that counts what its sink took.
 ghost use Rattle.std.specs.Prelude.{◌≡◌, ◌^◌, ◌<◌, ◌≤◌, false, length, take, IsTrue};
 ghost use Rattle.std.specs.Io.KnownBytes.{Appends};
-ghost use Rattle.elf_source.specs.Output.{Puts};
+ghost use Rattle.elf_source.specs.Output.{OutPuts};
 
 use crate::faults::{OutFault, SinkFault};
 use crate::sink::Sink;
@@ -16,9 +16,9 @@ pub struct Out<W: Sink> {
 }
 
 impl<W: Sink> Model for Out<W> {
-    ghost use Rattle.elf_source.specs.Output.{Written};
+    ghost use Rattle.elf_source.specs.Output.{OutState};
 
-    ghost Value = { Written };
+    ghost Value = { OutState };
 
     ghost view = { λ o. record {
       taken = W.taken o.sink;
@@ -73,7 +73,7 @@ impl<W: Sink> Out<W> {
     /// and the fault has `written` as it is then. Each later call, an empty one too, answers the
     /// same and changes nothing.
     pub fn put(&mut self, bytes: &[u8]) -> Result<(), OutFault>
-        ensures puts { Puts self.old self.new result bytes.now }
+        ensures puts { OutPuts self.old self.new result bytes.now }
         ensures for_good { IsTrue self.old.failed → self.new ≡ self.old }
     {
         if self.failed() {

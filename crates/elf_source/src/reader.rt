@@ -2,7 +2,7 @@
 ghost use Rattle.std.specs.Prelude.{◌≡◌, ℕ, ◌≤◌, List, Option, Some, length, IfOk};
 ghost use Rattle.elf_source.specs.Reader.{IsTurn, GivesFileBytes};
 
-use crate::faults::ReaderFault;
+use crate::faults::ReadAtFault;
 
 /// Bytes that are read at an offset, in turns. A turn may give fewer bytes than there is room for, and
 /// may be interrupted.
@@ -23,7 +23,7 @@ pub trait Reader {
     ///
     /// # Errors
     /// Where the turn was interrupted, or the device failed.
-    fn end(&mut self) -> Result<u64, ReaderFault>
+    fn end(&mut self) -> Result<u64, ReadAtFault>
         ensures same { file self.new ≡ file self.old }
         ensures turn { IsTurn (interrupted self.old) (interrupted self.new) result }
         ensures value { (bytes : List ℕ) → file self.old ≡ Some bytes → IfOk result
@@ -34,7 +34,7 @@ pub trait Reader {
     ///
     /// # Errors
     /// Where the turn was interrupted, or the device failed.
-    fn read_at(&mut self, at: u64, out: &mut [u8]) -> Result<usize, ReaderFault>
+    fn read_at(&mut self, at: u64, out: &mut [u8]) -> Result<usize, ReadAtFault>
         ensures same { file self.new ≡ file self.old }
         ensures turn { IsTurn (interrupted self.old) (interrupted self.new) result }
         ensures once { one_turn self.old at (length out.old) self.new }

@@ -4,7 +4,7 @@ ghost use Rattle.std.specs.IoError.{error_kind};
 ghost use Rattle.std.specs.Io.Seek.{MovesTo, SeekMoves};
 ghost use Rattle.elf_source.specs.Reader.{StandsAfter, SeeksAndReads};
 
-use crate::faults::ReaderFault;
+use crate::faults::ReadAtFault;
 use crate::reader::Reader;
 use std::io::{Error, ErrorKind, Read, Seek, SeekFrom};
 
@@ -30,7 +30,7 @@ impl<R> SeekReader<R> {
 
 impl<R: Seek> SeekReader<R> {
     // Seeks, unless it stands there. Where that fails the place is unknown.
-    fn go(&mut self, at: u64) -> Result<(), ReaderFault>
+    fn go(&mut self, at: u64) -> Result<(), ReadAtFault>
         ensures stays { self.old.place ≡ Some at → (result ≡ Ok tt) × (self.new ≡ self.old) }
         ensures seeks { (self.old.place ≡ Some at → ⊥) →
             MovesTo (R.stream_position self.old.inner)
@@ -58,7 +58,7 @@ impl<R: Read + Seek> Reader for SeekReader<R> {
     ghost one_turn = { λ _ _ _ _. ⊤ };
 
     /// Seeks to the end, by the position that what is below has.
-    fn end(&mut self) -> Result<u64, ReaderFault>
+    fn end(&mut self) -> Result<u64, ReadAtFault>
         ensures moves { let bytes = R.stream_bytes self.old.inner in
             let from = R.stream_position self.old.inner in
             SeekMoves from (R.stream_position self.new.inner) bytes (SeekFrom.End (pos 0)) result }
@@ -70,7 +70,7 @@ impl<R: Read + Seek> Reader for SeekReader<R> {
 
     /// Seeks, unless it stands at the offset, and reads, as what is below tells its position and its
     /// bytes.
-    fn read_at(&mut self, at: u64, out: &mut [u8]) -> Result<usize, ReaderFault>
+    fn read_at(&mut self, at: u64, out: &mut [u8]) -> Result<usize, ReadAtFault>
         ensures within { IfOk result (λ count. count ≤ length out.old) }
         ensures place { StandsAfter at self.new.place result }
         ensures bytes { SeeksAndReads R.stream_position R.remaining self.old.place self.old.inner
@@ -79,20 +79,20 @@ impl<R: Read + Seek> Reader for SeekReader<R> {
         self.go(at)?;
         let answer = self.inner.read(out).map_err(why);
         self.place = match answer {
-            Ok(0) | Err(ReaderFault::Failed) => None,
+            Ok(0) | Err(ReadAtFault::Failed) => None,
             Ok(count) => at.checked_add(count as u64),
-            Err(ReaderFault::Interrupted) => Some(at),
+            Err(ReadAtFault::Interrupted) => Some(at),
         };
         answer
     }
 }
 
 // What an error of the system is to a reader.
-pub(crate) fn why(fault: Error) -> ReaderFault
-    ensures { (result ≡ ReaderFault.Interrupted) ↔ (error_kind fault ≡ ErrorKind.Interrupted) }
+pub(crate) fn why(fault: Error) -> ReadAtFault
+    ensures { (result ≡ ReadAtFault.Interrupted) ↔ (error_kind fault ≡ ErrorKind.Interrupted) }
 {
     if fault.kind() == ErrorKind::Interrupted {
-        return ReaderFault::Interrupted;
+        return ReadAtFault::Interrupted;
     }
-    ReaderFault::Failed
+    ReadAtFault::Failed
 }

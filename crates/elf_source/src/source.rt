@@ -1,6 +1,6 @@
 //! What a source of bytes promises.
 ghost use Rattle.std.specs.Prelude.{◌≡◌, ℕ, ◌+◌, ◌^◌, ◌<◌, ◌≤◌, List, length, take, drop, Some, IfErr, OnOk};
-ghost use Rattle.elf_source.specs.Source.{Seen, Keeps, Faults};
+ghost use Rattle.elf_source.specs.Source.{SourceState, Keeps, IsSourceFault};
 
 use crate::faults::SourceFault;
 
@@ -11,11 +11,11 @@ use crate::faults::SourceFault;
 /// answers `Ended`. Where no file is known, nothing is known of what its reads give.
 pub trait Source {
     /// What is seen of it: its size, how many of its reads failed, and its file where that is known.
-    ghost seen: { Self → Seen };
+    ghost seen: { Self → SourceState };
 
     /// One read at an offset, of so many bytes, leads from what was seen before it to what is seen
     /// after it.
-    ghost one_read: { Seen → ℕ → ℕ → Seen → Type 0 };
+    ghost one_read: { SourceState → ℕ → ℕ → SourceState → Type 0 };
 
     /// The length in bytes.
     fn length(&self) -> u64
@@ -31,7 +31,7 @@ pub trait Source {
         requires { at + length out.old ≤ (seen self.old).size }
         ensures slice { (file : List ℕ) → (seen self.old).file ≡ Some file → OnOk result
             (out.new ≡ take (length out.old) (drop at file)) }
-        ensures faults { IfErr result (Faults (seen self.old) (seen self.new)) }
+        ensures faults { IfErr result (IsSourceFault (seen self.old) (seen self.new)) }
         ensures keeps { Keeps (seen self.old) (seen self.new) }
         ensures once { one_read (seen self.old) at (length out.old) (seen self.new) };
 }

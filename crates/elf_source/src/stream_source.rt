@@ -1,9 +1,9 @@
 //! A source over a reader.
 ghost use Rattle.std.specs.Prelude.{◌≡◌, ◌+◌, ◌-◌, ◌^◌, ◌<◌, ◌≤◌, ℕ, List, Some, length, take, drop, IfOk, IfErr, OnOk, Err};
 ghost use Rattle.elf_source.specs.Reader.{TurnsWithin};
-ghost use Rattle.elf_source.specs.Source.{Keeps, Faults};
+ghost use Rattle.elf_source.specs.Source.{Keeps, IsSourceFault};
 
-use crate::faults::{INTERRUPTED_TURNS, ReaderFault, SourceFault};
+use crate::faults::{INTERRUPTED_TURNS, ReadAtFault, SourceFault};
 use crate::reader::Reader;
 use crate::seek_reader::SeekReader;
 use crate::source::Source;
@@ -23,10 +23,10 @@ pub struct StreamSource<R: Reader> {
 
 impl<R: Reader> Model for StreamSource<R> {
     ghost use Rattle.std.specs.Prelude.{None};
-    ghost use Rattle.elf_source.specs.Source.{Seen};
+    ghost use Rattle.elf_source.specs.Source.{SourceState};
     ghost use Rattle.elf_source.specs.Reader.{Stream};
 
-    ghost Value = { Stream Seen R };
+    ghost Value = { Stream SourceState R };
 
     ghost view = { λ s. record {
       seen = record {
@@ -95,7 +95,7 @@ impl<R: Reader> Source for StreamSource<R> {
         requires { at + length out.old ≤ self.old.seen.size }
         ensures slice { (file : List ℕ) → self.old.seen.file ≡ Some file → OnOk result
             (out.new ≡ take (length out.old) (drop at file)) }
-        ensures faults { IfErr result (Faults self.old.seen self.new.seen) }
+        ensures faults { IfErr result (IsSourceFault self.old.seen self.new.seen) }
         ensures keeps { Keeps self.old.seen self.new.seen }
         ensures once { self.new.seen.failures ≤ self.old.seen.failures + 1 }
         // No more than 64 turns are interrupted.
@@ -127,8 +127,8 @@ fn find_end<R: Reader>(reader: &mut R) -> Result<u64, SourceFault>
     for _turn in 0..INTERRUPTED_TURNS {
         match reader.end() {
             Ok(size) => return Ok(size),
-            Err(ReaderFault::Interrupted) => {}
-            Err(ReaderFault::Failed) => return Err(SourceFault::Device),
+            Err(ReadAtFault::Interrupted) => {}
+            Err(ReadAtFault::Failed) => return Err(SourceFault::Device),
         }
     }
     Err(SourceFault::Device)
@@ -151,7 +151,7 @@ fn read_all<R: Reader>(reader: &mut R, at: u64, out: &mut [u8]) -> Result<(), So
         match reader.read_at(at + got as u64, &mut out[got..]) {
             Ok(0) => return Err(SourceFault::Ended),
             Ok(count) => got += count,
-            Err(ReaderFault::Interrupted) if interrupted + 1 < INTERRUPTED_TURNS => {
+            Err(ReadAtFault::Interrupted) if interrupted + 1 < INTERRUPTED_TURNS => {
                 interrupted += 1;
             }
             Err(_) => return Err(SourceFault::Device),

@@ -1,21 +1,21 @@
 -- What the checks of a section that is a hash table say, one by one, and what its symbols are.
 use Rattle.std.proofs.Common.{◌≡◌, ℕ, ◌+◌, ◌*◌, ◌==◌, ◌||◌, not, Bool, true, false, List, ◌++◌, length, None, Some, Ok, Err, refl, sym, ap, ◌∙◌}
 use Rattle.elf_model.specs.Checks.{first_refusal}
-use Rattle.elf_model.specs.Find.{has_wide_words, hash_checks_from}
+use Rattle.elf_model.specs.Find.{has_64_bit_words, hash_checks_from}
 use Rattle.elf_model.specs.Records.{sh_link, section_at}
 use Rattle.elf_model.specs.Tables.{has_symbols, linked_at, symbol_table_checks}
 use Rattle.elf_model.specs.declared.causes.Refusal.{Refusal}
 use Rattle.elf_model.proofs.CheckSteps.{first_refusal-none, first_refusal-some}
 use Rattle.elf_record.specs.Shdr.{IsShdr}
 use Rattle.elf_record.specs.declared.shdr.Shdr.{Shdr}
-use Rattle.elf_headers.specs.Load.{Belongs, Opened, section_place}
-use Rattle.elf_headers.specs.Store.{Stored}
+use Rattle.elf_headers.specs.Load.{HoldsSectionHeaders, LoadedFile, section_place}
+use Rattle.elf_headers.specs.Store.{StoreState}
 use Rattle.elf_headers.specs.declared.fault.Fault.{Fault}
 use Rattle.elf_headers.specs.declared.fault.Fault.TheVariants.{Refused, Source}
-use Rattle.elf_table.specs.HashSections.{AreHashed, Settles, front_checks}
+use Rattle.elf_table.specs.HashSections.{AreHashed, ChecksThenValue, front_checks}
 use Rattle.elf_table.specs.Relocations.{RefusedBy}
 use Rattle.elf_table.specs.Sections.{symbols_at}
-use Rattle.elf_table.specs.Tables.{Rows, Strings}
+use Rattle.elf_table.specs.Tables.{Rows, StringTableRange}
 use Rattle.elf_table.proofs.RelocationLaws.{symbols-fail, symbols-pass}
 
 not_not : (b : Bool) → not (not b) ≡ b
@@ -23,17 +23,17 @@ not_not true = refl
 not_not false = refl
 
 -- the header of a section that is loaded
-pub place_is : (file : List ℕ) (section : ℕ) (loaded : Opened) (store : Stored) → Belongs file loaded store → section_place loaded.header section ≡ section_at file section
+pub place_is : (file : List ℕ) (section : ℕ) (loaded : LoadedFile) (store : StoreState) → HoldsSectionHeaders file loaded store → section_place loaded.header section ≡ section_at file section
 place_is file section loaded store belongs = ap (λ (n : ℕ). n + 64 * section) belongs.header.e_shoff
 
 -- the checks of the section are those of its header, and then those of the symbols that it links to
 pub checks_are : (least : ℕ) (file : List ℕ) (at size : ℕ) (header : Shdr) (linked wide : Bool) → IsShdr file at header → size ≡ length file
-    → linked ≡ not (sh_link file at == 0 || not (has_symbols file at)) → wide ≡ has_wide_words file at
+    → linked ≡ not (sh_link file at == 0 || not (has_symbols file at)) → wide ≡ has_64_bit_words file at
     → hash_checks_from least file at ≡ front_checks least at size header linked wide ++ symbol_table_checks file (linked_at file at)
 checks_are least file at size header linked wide is same links words = rw (same, links, words, is.sh_offset, is.sh_size, not_not (sh_link file at == 0 || not (has_symbols file at))) refl
 
 module _ (least : ℕ) (file : List ℕ) (at size link : ℕ) (header : Shdr) (linked wide : Bool) (is : IsShdr file at header) (same : size ≡ length file)
-    (links : linked ≡ not (sh_link file at == 0 || not (has_symbols file at))) (words : wide ≡ has_wide_words file at) where
+    (links : linked ≡ not (sh_link file at == 0 || not (has_symbols file at))) (words : wide ≡ has_64_bit_words file at) where
   pub front_refused : (refusal : Refusal) → Some refusal ≡ first_refusal (front_checks least at size header linked wide) → RefusedBy (hash_checks_from least file at) (Refused refusal)
   front_refused refusal fails = ap first_refusal (checks_are least file at size header linked wide is same links words) ∙ first_refusal-some (front_checks least at size header linked wide) (symbol_table_checks file (linked_at file at)) refusal (sym fails)
 
@@ -45,8 +45,8 @@ module _ (least : ℕ) (file : List ℕ) (at size link : ℕ) (header : Shdr) (l
     symbols_refused (Refused refusal) symbols = left ∙ symbols-fail file _ (Refused refusal) (sym (symbols ∙ ap (symbols_at file) here))
     symbols_refused (Source fault offset) symbols = symbols-fail file _ (Source fault offset) (sym (symbols ∙ ap (symbols_at file) here))
 
-    pub symbols_hashed : (index : ℕ) (symbols : Rows × Strings) → index ≡ header.sh_link → Ok symbols ≡ symbols_at file link
-        → Settles (hash_checks_from least file at) (AreHashed file at) (Ok (index, symbols))
+    pub symbols_hashed : (index : ℕ) (symbols : Rows × StringTableRange) → index ≡ header.sh_link → Ok symbols ≡ symbols_at file link
+        → ChecksThenValue (hash_checks_from least file at) (AreHashed file at) (Ok (index, symbols))
     symbols_hashed index symbols to found =
         let are = symbols-pass file (linked_at file at) symbols (sym (found ∙ ap (symbols_at file) here)) in
         (left ∙ are.0, record { link = to ∙ is.sh_link; symbols = are.1 })

@@ -2,19 +2,19 @@
 use Rattle.std.proofs.Common.{◌≡◌, ℕ, ◌+◌, ◌≤◌, ◌<◌, List, [], length, drop, Some, ap, sym, ◌∙◌, refl, arith}
 use Rattle.std.proofs.lemmas.List.{drop_all}
 use Rattle.elf_model.specs.Bytes.{slice}
-use Rattle.elf_source.specs.Source.{Counting, Reads}
-use Rattle.elf_source.proofs.ReadsLaws.{Reads-then, Reads-to}
-use Rattle.elf_table.specs.Windows.{Ahead, StillHolds, HoldsCount, MovesOn, range_end}
+use Rattle.elf_source.specs.Source.{CountedState, ReadsUpTo}
+use Rattle.elf_source.proofs.ReadsLaws.{ReadsUpTo-then, ReadsUpTo-to}
+use Rattle.elf_table.specs.Windows.{WindowState, StillHolds, HoldsCount, MovesOn, range_end}
 
 -- a window over so many bytes from an offset on, between two pieces: some bytes are done, and it holds none
-pub record Between (start want done : ℕ) (w : Ahead) : Type 0 where
+pub record Between (start want done : ℕ) (w : WindowState) : Type 0 where
   pub its_place : w.at ≡ start + done
   pub its_end : range_end w ≡ start + want
   pub some_page : 0 < w.page
   pub none_held : w.held ≡ []
 
 -- the piece that it then holds is the file's
-pub piece-of_file : (file : List ℕ) (start want done : ℕ) (old new : Ahead) (piece : List ℕ) → Between start want done old → HoldsCount old new 1
+pub piece-of_file : (file : List ℕ) (start want done : ℕ) (old new : WindowState) (piece : List ℕ) → Between start want done old → HoldsCount old new 1
     → StillHolds (Some file) old new → piece ≡ new.held → piece ≡ slice file (start + done) (length piece)
 piece-of_file file start want done old new piece s h agrees e =
     let place : new.at ≡ start + done = h.stays ∙ s.its_place in
@@ -22,7 +22,7 @@ piece-of_file file start want done old new piece s h agrees e =
     e ∙ agrees file refl empty ∙ ap (λ (x : ℕ). slice file x (length new.held)) place ∙ ap (λ (x : List ℕ). slice file (start + done) (length x)) (sym e)
 
 -- the piece has a byte, and none behind the end
-pub piece-some : (start want done : ℕ) (old new : Ahead) (piece : List ℕ) (before after : ℕ) → Between start want done old → HoldsCount old new 1
+pub piece-some : (start want done : ℕ) (old new : WindowState) (piece : List ℕ) (before after : ℕ) → Between start want done old → HoldsCount old new 1
     → MovesOn old new before after → piece ≡ new.held → (0 < length piece) × (done + length piece ≤ want)
 piece-some start want done old new piece before after s h m e =
     let long = ap length e in
@@ -33,7 +33,7 @@ piece-some start want done old new piece before after s h m e =
     let same = m.same_end in (omega arith, omega arith)
 
 -- the window behind the piece
-pub Between-next : (start want done : ℕ) (old new next : Ahead) (piece : List ℕ) (before after : ℕ) → Between start want done old → HoldsCount old new 1 → MovesOn old new before after
+pub Between-next : (start want done : ℕ) (old new next : WindowState) (piece : List ℕ) (before after : ℕ) → Between start want done old → HoldsCount old new 1 → MovesOn old new before after
     → piece ≡ new.held → next.at ≡ new.at + length piece → range_end next ≡ range_end new → next.page ≡ new.page → next.held ≡ drop (length piece) new.held
     → Between start want (done + length piece) next
 Between-next start want done old new next piece before after s h m e at end page held = record {
@@ -44,13 +44,13 @@ Between-next start want done old new next piece before after s h m e at end page
 }
 
 -- what was asked for is what is done
-pub Reads-next : (first before after : Counting) (start want done : ℕ) (old new : Ahead) (piece : List ℕ) → Between start want done old → HoldsCount old new 1
-    → MovesOn old new before.asked after.asked → piece ≡ new.held → Reads first before done → Reads before after old.unread → Reads first after (done + length piece)
-Reads-next first before after start want done old new piece s h m e p q =
+pub ReadsUpTo-next : (first before after : CountedState) (start want done : ℕ) (old new : WindowState) (piece : List ℕ) → Between start want done old → HoldsCount old new 1
+    → MovesOn old new before.asked after.asked → piece ≡ new.held → ReadsUpTo first before done → ReadsUpTo before after old.unread → ReadsUpTo first after (done + length piece)
+ReadsUpTo-next first before after start want done old new piece s h m e p q =
     let long = ap length e in
     let stays = h.stays in
     let none = ap length s.none_held in
     let same = m.same_end in
     let account = m.account in
     let so_far = p.at_most in
-    Reads-to (Reads-then p q) (omega arith)
+    ReadsUpTo-to (ReadsUpTo-then p q) (omega arith)

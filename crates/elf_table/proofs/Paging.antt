@@ -5,7 +5,7 @@ use Rattle.std.proofs.lemmas.List.{drop_all}
 use Rattle.elf_model.specs.Bytes.{slice}
 use Rattle.elf_model.proofs.Slices.{slice-rest}
 use Rattle.elf_model.proofs.Searches.{slice-two}
-use Rattle.elf_table.specs.Windows.{Ahead, HoldsBytes}
+use Rattle.elf_table.specs.Windows.{WindowState, HoldsBytes}
 
 -- what was read stands behind what was held
 pub joined : (file window held out : List ℕ) (at n size : ℕ) → window ≡ held ++ out → length held ≡ n → held ≡ slice file at n
@@ -37,7 +37,7 @@ passed-held bytes from held count passed m = go (cases_lt held count)
     go (inr inside) = let p : passed ≡ count = omega arith in rw (drop-slice bytes from held count, p) refl
 
 -- what is left of what was held
-pub Agrees-skip : (file : List ℕ) (old new : Ahead) (count : ℕ) → new.at ≡ old.at + count → new.held ≡ drop count old.held → HoldsBytes file old → HoldsBytes file new
+pub Agrees-skip : (file : List ℕ) (old new : WindowState) (count : ℕ) → new.at ≡ old.at + count → new.held ≡ drop count old.held → HoldsBytes file old → HoldsBytes file new
 Agrees-skip file old new count a h e =
     let gone : length new.held ≡ length old.held - count = ap length h ∙ length-drop count old.held in
     let part : drop count (slice file old.at (length old.held)) ≡ slice file (old.at + count) (length old.held - count) = drop-slice file old.at (length old.held) count in
@@ -60,5 +60,5 @@ Agrees-passed file bytes at from held count passed whole m e = go (cases_lt held
         (sym (slice-rest bytes from held count inside)) e)
 
 -- a front of what is held
-pub held-front : (file : List ℕ) (w : Ahead) (n : ℕ) → n ≤ length w.held → HoldsBytes file w → take n w.held ≡ slice file w.at n
+pub held-front : (file : List ℕ) (w : WindowState) (n : ℕ) → n ≤ length w.held → HoldsBytes file w → take n w.held ≡ slice file w.at n
 held-front file w n few e = ap (take n) e ∙ take-take n (length w.held) (drop w.at file) few

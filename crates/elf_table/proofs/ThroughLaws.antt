@@ -1,24 +1,24 @@
 -- Calls through a window, one behind the other.
 use Rattle.std.proofs.Common.{ℕ, ◌+◌, ◌-◌, ◌≤◌, Some, Result, Ok, Err, IfErr, refl, ◌∙◌, arith}
-use Rattle.elf_source.specs.Source.{Seen, Counting, Reads}
-use Rattle.elf_source.proofs.ReadsLaws.{Reads-none, Reads-then, Reads-to}
+use Rattle.elf_source.specs.Source.{SourceState, CountedState, ReadsUpTo}
+use Rattle.elf_source.proofs.ReadsLaws.{ReadsUpTo-none, ReadsUpTo-then, ReadsUpTo-to}
 use Rattle.elf_source.proofs.OnwardLaws.{onward_none, onward_then, onward_more}
-use Rattle.elf_headers.specs.Faults.{Says}
+use Rattle.elf_headers.specs.Faults.{IsReadFault}
 use Rattle.elf_headers.specs.declared.fault.Fault.{Fault}
-use Rattle.elf_headers.proofs.LedgerLaws.{Charges-then}
-use Rattle.elf_table.specs.Windows.{Ahead, frontier}
-use Rattle.elf_table.specs.WindowCalls.{Skips, Through}
+use Rattle.elf_headers.proofs.LedgerLaws.{CallReads-then}
+use Rattle.elf_table.specs.Windows.{WindowState, frontier}
+use Rattle.elf_table.specs.WindowCalls.{Skips, ReadsThroughWindow}
 
-says_after : {Y : Type 0} {a b c : Counting} (result : Result Y Fault) (n m k : ℕ) → n + m ≤ k → Reads a b n → Reads b c m → IfErr result (Says b c m)
-    → IfErr result (Says a c k)
+says_after : {Y : Type 0} {a b c : CountedState} (result : Result Y Fault) (n m k : ℕ) → n + m ≤ k → ReadsUpTo a b n → ReadsUpTo b c m → IfErr result (IsReadFault b c m)
+    → IfErr result (IsReadFault a c k)
 says_after (Ok y) n m k within p q says = tt
 says_after (Err fault) n m k within p q says =
-    (Charges-then {stop = Some fault} k within (record { reads = p; says = tt }) (record { reads = q; says = says })).says
+    (CallReads-then {stop = Some fault} k within (record { reads = p; says = tt }) (record { reads = q; says = says })).says
 
 -- no read
-pub through_none : {X : Type 0} (one_read : Seen → ℕ → ℕ → Seen → Type 0) (a : Counting) (w : Ahead) (x : X) → Through one_read a a w w (Ok x)
+pub through_none : {X : Type 0} (one_read : SourceState → ℕ → ℕ → SourceState → Type 0) (a : CountedState) (w : WindowState) (x : X) → ReadsThroughWindow one_read a a w w (Ok x)
 through_none one_read a w x = record {
-  reads = Reads-none a w.unread;
+  reads = ReadsUpTo-none a w.unread;
   says = tt;
   moves = record { same_page = refl; same_end = refl; onward = omega arith; account = omega arith };
   onward = onward_none one_read a.source a.source (frontier w) (frontier w) refl (omega arith);
@@ -27,22 +27,22 @@ through_none one_read a w x = record {
 
 -- a call that answered otherwise
 pub through_ok :
-    {X Y : Type 0} {one_read : Seen → ℕ → ℕ → Seen → Type 0} {a b : Counting} {x y : Ahead} {was : X} (now : Y) → Through one_read a b x y (Ok was)
-    → Through one_read a b x y (Ok now)
+    {X Y : Type 0} {one_read : SourceState → ℕ → ℕ → SourceState → Type 0} {a b : CountedState} {x y : WindowState} {was : X} (now : Y) → ReadsThroughWindow one_read a b x y (Ok was)
+    → ReadsThroughWindow one_read a b x y (Ok now)
 through_ok now p = record { reads = p.reads; says = tt; moves = p.moves; onward = p.onward; agrees = p.agrees }
 
 -- a call behind another that answered
 pub through_then :
-    {X Y : Type 0} {one_read : Seen → ℕ → ℕ → Seen → Type 0} {a b c : Counting} {x y z : Ahead} {first : Result X Fault} {result : Result Y Fault}
-    → Through one_read a b x y first → Through one_read b c y z result → Through one_read a c x z result
+    {X Y : Type 0} {one_read : SourceState → ℕ → ℕ → SourceState → Type 0} {a b c : CountedState} {x y z : WindowState} {first : Result X Fault} {result : Result Y Fault}
+    → ReadsThroughWindow one_read a b x y first → ReadsThroughWindow one_read b c y z result → ReadsThroughWindow one_read a c x z result
 through_then {one_read = one_read} {a = a} {b = b} {c = c} {x = x} {y = y} {z = z} {result = result} p q =
     let spent : b.asked + y.unread ≤ a.asked + x.unread = p.moves.account in
     let grows : a.asked ≤ b.asked = p.reads.grows in
     let left : c.asked + z.unread ≤ b.asked + y.unread = q.moves.account in
     let most : c.asked ≤ b.asked + y.unread = q.reads.at_most in
-    let reads : Reads a b (x.unread - y.unread) = Reads-to p.reads (omega (arith, spent, grows)) in
+    let reads : ReadsUpTo a b (x.unread - y.unread) = ReadsUpTo-to p.reads (omega (arith, spent, grows)) in
     record {
-      reads = Reads-to (Reads-then p.reads q.reads) (omega (arith, spent, most));
+      reads = ReadsUpTo-to (ReadsUpTo-then p.reads q.reads) (omega (arith, spent, most));
       says = says_after result (x.unread - y.unread) y.unread x.unread (omega (arith, spent, grows)) reads q.reads q.says;
       moves = record {
         same_page = q.moves.same_page ∙ p.moves.same_page;
@@ -56,8 +56,8 @@ through_then {one_read = one_read} {a = a} {b = b} {c = c} {x = x} {y = y} {z = 
 
 -- bytes that are passed over behind a call
 pub through_skip :
-    {X : Type 0} {one_read : Seen → ℕ → ℕ → Seen → Type 0} {a b : Counting} {x y z : Ahead} {first : Result X Fault} {count : ℕ}
-    → Through one_read a b x y first → Skips y z count → Through one_read a b x z first
+    {X : Type 0} {one_read : SourceState → ℕ → ℕ → SourceState → Type 0} {a b : CountedState} {x y z : WindowState} {first : Result X Fault} {count : ℕ}
+    → ReadsThroughWindow one_read a b x y first → Skips y z count → ReadsThroughWindow one_read a b x z first
 through_skip {one_read = one_read} {a = a} {b = b} {x = x} {y = y} {z = z} p s = record {
   reads = p.reads;
   says = p.says;
@@ -73,6 +73,6 @@ through_skip {one_read = one_read} {a = a} {b = b} {x = x} {y = y} {z = z} p s =
 
 -- a fault that is passed on
 pub through_err :
-    {X Y : Type 0} {one_read : Seen → ℕ → ℕ → Seen → Type 0} {a b : Counting} {x y : Ahead} {fault : Fault} → Through {X = X} one_read a b x y (Err fault)
-    → Through {X = Y} one_read a b x y (Err fault)
+    {X Y : Type 0} {one_read : SourceState → ℕ → ℕ → SourceState → Type 0} {a b : CountedState} {x y : WindowState} {fault : Fault} → ReadsThroughWindow {X = X} one_read a b x y (Err fault)
+    → ReadsThroughWindow {X = Y} one_read a b x y (Err fault)
 through_err p = record { reads = p.reads; says = p.says; moves = p.moves; onward = p.onward; agrees = p.agrees }

@@ -16,12 +16,12 @@ use Rattle.elf_headers.specs.declared.fault.Fault.{Fault}
 use Rattle.elf_headers.specs.declared.fault.Fault.TheVariants.{Refused, Source}
 use Rattle.elf_table.specs.Relocations.{RefusedBy}
 use Rattle.elf_table.specs.Sections.{checked, rows, string_table_of, strings, symbols_at, table_at, table_of}
-use Rattle.elf_table.specs.Tables.{Rows, Strings}
+use Rattle.elf_table.specs.Tables.{Rows, StringTableRange}
 use Rattle.elf_table.specs.Versions.{AreVersioned}
 use Rattle.elf_table.proofs.RelocationLaws.{passed_first, symbols-fail, symbols-pass, table-fails}
 
 -- a section that is answered as a string table is one
-pub strings-are : (bytes : List ℕ) (at size place : ℕ) (names : Strings) → string_table_of bytes at size place ≡ Ok names
+pub strings-are : (bytes : List ℕ) (at size place : ℕ) (names : StringTableRange) → string_table_of bytes at size place ≡ Ok names
     → (sh_type bytes at == SHT_STRTAB && not (is_outside size (sh_offset bytes at) (sh_size bytes at))) ≡ true
 strings-are bytes at size place names h = by_cases (sh_type bytes at == SHT_STRTAB) (is_outside size (sh_offset bytes at) (sh_size bytes at)) h
   where
@@ -52,7 +52,7 @@ module _ (file : List ℕ) (at : ℕ) (some : (sh_size file at == 0) ≡ false) 
       symbols_refused fault h =
           rw some (behind (table_checks file at 2) (symbols_checks file at) fault (own table held).0 (rw linked (symbols-fail file (linked_at file at) fault h)))
 
-      pub versioned : (symbols : Rows × Strings) → symbols_at file (linked_at file at) ≡ Ok symbols → AreVersioned file at table symbols.0.count
+      pub versioned : (symbols : Rows × StringTableRange) → symbols_at file (linked_at file at) ≡ Ok symbols → AreVersioned file at table symbols.0.count
       unfolding symbol_versions
       versioned symbols h =
           let p = symbols-pass file (linked_at file at) symbols h in
@@ -114,7 +114,7 @@ module _ (row : ℕ → List ℕ) (count section link : ℕ) (is : link ≡ sh_l
   pub links_there : links (held_headers count row) section ≡ true
   links_there = rw (← is, lt-ltb link count below, ne_eqb link 0 (λ e. omega arith)) refl
 
-  pub strings_found : (size place : ℕ) (answer : Result Strings Fault) → answer ≡ string_table_of (row link) 0 size place
+  pub strings_found : (size place : ℕ) (answer : Result StringTableRange Fault) → answer ≡ string_table_of (row link) 0 size place
       → IfOk answer (λ names. has_strings (held_headers count row) section size ≡ true)
   strings_found size place (Ok names) h = both-true _ _ links_there (rw (← is) (strings-are (row link) 0 size place names (sym h)))
   strings_found size place (Err fault) h = tt

@@ -2,7 +2,7 @@
 use Rattle.std.specs.Prelude.{ℕ, ◌≡◌, List, Result}
 use Rattle.elf_model.specs.Records.{sh_size, section_at}
 use Rattle.elf_record.specs.declared.ehdr.Ehdr.{Ehdr}
-use Rattle.elf_headers.specs.Load.{Belongs, section_place}
+use Rattle.elf_headers.specs.Load.{HoldsSectionHeaders, section_place}
 use Rattle.elf_table.specs.Sections.{rows, table_of}
 use Rattle.elf_headers.specs.Store.{row}
 use Rattle.elf_table.specs.Tables.{Rows}
@@ -11,7 +11,7 @@ use Rattle.elf_table.specs.declared.file.File.{File}
 
 -- an answer for a section is what the file that was loaded has at its header
 abbrev pub Tells : {A : Type 0} → File → ℕ → A → (List ℕ → ℕ → A) → Type 0
-Tells f section answer has = (file : List ℕ) → Belongs file f.loaded f.store.now → answer ≡ has file (section_at file section)
+Tells f section answer has = (file : List ℕ) → HoldsSectionHeaders file f.loaded f.store.now → answer ≡ has file (section_at file section)
 
 -- the table of a section, by its header in the store
 abbrev pub table_in : File → ℕ → ℕ → Result Rows Fault

@@ -1,8 +1,8 @@
 -- What a read of a name answers.
 use Rattle.std.specs.Prelude.{ℕ, ◌≡◌, ◌<◌, ◌≢◌, Bool, List, length, slice_index, true, false, Result, Ok, Err}
-use Rattle.elf_model.specs.Budget.{IsBudget}
-use Rattle.elf_model.specs.Names.{Shown}
-use Rattle.elf_model.specs.Names.Shown.{Whole as ShownWhole, Cut as ShownCut}
+use Rattle.elf_model.specs.Budget.{IsBudgetRefusal}
+use Rattle.elf_model.specs.Names.{DisplayedName}
+use Rattle.elf_model.specs.Names.DisplayedName.{Whole as ShownWhole, Cut as ShownCut}
 use Rattle.elf_model.specs.Searches.{NulFound}
 use Rattle.elf_model.specs.declared.causes.Cause.{Cause}
 use Rattle.elf_headers.specs.declared.fault.Fault.{Fault}
@@ -12,11 +12,11 @@ use Rattle.elf_table.specs.declared.names.NameEnd.TheVariants.{Whole, Cut}
 
 -- a refusal names the entry that holds the index, and has the cause of the refused answer, unless it is for want of budget
 abbrev pub Refuses : {X : Type 0} → ℕ → Fault → Result X Cause → Type 0
-Refuses at (Refused refusal) answer = (IsBudget refusal → ⊥) → (refusal.at ≡ at) × (answer ≡ Err refusal.cause)
+Refuses at (Refused refusal) answer = (IsBudgetRefusal refusal → ⊥) → (refusal.at ≡ at) × (answer ≡ Err refusal.cause)
 Refuses at (Source fault offset) answer = Unit {0}
 
 -- a read of a name answers what is shown of it, or refuses for its cause
-abbrev pub NameRead : ℕ → Result NameEnd Fault → List ℕ → Result Shown Cause → Type 0
+abbrev pub NameRead : ℕ → Result NameEnd Fault → List ℕ → Result DisplayedName Cause → Type 0
 NameRead at (Ok Whole) bytes answer = answer ≡ Ok (ShownWhole bytes)
 NameRead at (Ok Cut) bytes answer = answer ≡ Ok (ShownCut bytes)
 NameRead at (Err fault) bytes answer = Refuses at fault answer
@@ -46,6 +46,6 @@ Matched front wanted (Ok false) = DifferBelow (length front) front wanted
 Matched front wanted (Err fault) = Unit {0}
 
 -- a name as it is shown, by how its bytes end
-abbrev pub shown_by : NameEnd → List ℕ → Shown
+abbrev pub shown_by : NameEnd → List ℕ → DisplayedName
 shown_by Whole bytes = ShownWhole bytes
 shown_by Cut bytes = ShownCut bytes

@@ -5,7 +5,7 @@ use Rattle.elf_model.specs.Records.{sh_type, sh_offset, sh_size, sh_link, e_shst
 use Rattle.elf_model.specs.Numbers.{SHT_STRTAB}
 use Rattle.elf_model.specs.declared.causes.Refusal.{Refusal}
 use Rattle.elf_model.specs.declared.causes.Cause.TheVariants.{NotStrings, TableOutside}
-use Rattle.elf_table.specs.Tables.{Rows, Strings}
+use Rattle.elf_table.specs.Tables.{Rows, StringTableRange}
 use Rattle.elf_headers.specs.declared.fault.Fault.{Fault}
 use Rattle.elf_headers.specs.declared.fault.Fault.TheVariants.{Refused}
 
@@ -23,7 +23,7 @@ abbrev pub rows : ℕ → ℕ → ℕ → Rows
 rows at count entry = record { at = at; count = count; entry = entry }
 
 -- so many bytes of names from an offset on
-abbrev pub strings : ℕ → ℕ → Strings
+abbrev pub strings : ℕ → ℕ → StringTableRange
 strings at size = record { at = at; size = size }
 
 -- so many bytes from an offset on as rows of one size, in a file of so many bytes; none have no checks, and refusals
@@ -46,21 +46,21 @@ abbrev pub table_at : List ℕ → ℕ → ℕ → Result Rows Fault
 table_at file at entry = table_of file at (length file) at entry
 
 -- the names in a section of the file
-abbrev pub names_at : List ℕ → ℕ → Strings
+abbrev pub names_at : List ℕ → ℕ → StringTableRange
 names_at file at = strings (sh_offset file at) (sh_size file at)
 
 -- a section that is to be a string table, as `table_of` is told of it
-abbrev pub string_table_of : List ℕ → ℕ → ℕ → ℕ → Result Strings Fault
+abbrev pub string_table_of : List ℕ → ℕ → ℕ → ℕ → Result StringTableRange Fault
 string_table_of bytes at file_size place =
     checked (refuse (not (sh_type bytes at == SHT_STRTAB)) place NotStrings ∷ refuse (is_outside file_size (sh_offset bytes at) (sh_size bytes at)) place TableOutside ∷ [])
     (strings (sh_offset bytes at) (sh_size bytes at))
 
 -- the string table that a section of the file refers to
-abbrev pub string_table_at : List ℕ → ℕ → Result Strings Fault
+abbrev pub string_table_at : List ℕ → ℕ → Result StringTableRange Fault
 string_table_at file at = checked (strings_checks file at) (names_at file (section_at file (sh_link file at)))
 
 -- the string table of the section names
-abbrev pub section_names : List ℕ → Option Strings
+abbrev pub section_names : List ℕ → Option StringTableRange
 section_names file = elim (has_section_names file) [ true ↦ Some (names_at file (section_at file (e_shstrndx file))) | false ↦ None ]
 
 -- so many bytes of the file as rows of one byte; none has no check
@@ -72,7 +72,7 @@ byte_rows file_size offset size place =
     ]
 
 -- the symbols of a section of the file with their string table; two empty ones where it is empty
-abbrev pub symbols_at : List ℕ → ℕ → Result (Rows × Strings) Fault
+abbrev pub symbols_at : List ℕ → ℕ → Result (Rows × StringTableRange) Fault
 symbols_at file at =
     elim (sh_size file at == 0) [
       | true ↦ Ok (rows (sh_offset file at) 0 24, strings (sh_offset file at) 0)

@@ -13,12 +13,12 @@ abbrev pub size_of : Rows → ℕ
 size_of table = table.count * table.entry
 
 -- a table that is not empty ends within a source of this size
-abbrev pub RowsWithin : ℕ → Rows → Type 0
-RowsWithin size table = 0 < table.count → table.at + size_of table ≤ size
+abbrev pub TableInBounds : ℕ → Rows → Type 0
+TableInBounds size table = 0 < table.count → table.at + size_of table ≤ size
 
 -- a table of rows of one size, of so many bytes, that ends within a source of this size where it is not empty
 pub record Spans (size width bytes : ℕ) (table : Rows) : Type 0 where
-  pub within : RowsWithin size table
+  pub within : TableInBounds size table
   pub entry : table.entry ≡ width
   pub sized : size_of table ≡ bytes
 
@@ -28,18 +28,18 @@ pub record BytesWithin (size : ℕ) (table : Rows) : Type 0 where
   pub single : table.entry ≡ 1
 
 -- a string table: the offset of its first byte, and how many bytes there are
-pub record Strings : Type 0 where
+pub record StringTableRange : Type 0 where
   pub at : ℕ
   pub size : ℕ
 
 -- the bytes of a string table in a file
-abbrev pub strings_in : List ℕ → Strings → List ℕ
+abbrev pub strings_in : List ℕ → StringTableRange → List ℕ
 strings_in file names = slice file names.at names.size
 
 -- a string table that is not empty ends within a source of this size
-abbrev pub StringsWithin : ℕ → Strings → Type 0
-StringsWithin size names = 0 < names.size → names.at + names.size ≤ size
+abbrev pub StringsInBounds : ℕ → StringTableRange → Type 0
+StringsInBounds size names = 0 < names.size → names.at + names.size ≤ size
 
 -- symbols with their string table lie within a source of this size
-abbrev pub SymbolsWithin : ℕ → Rows × Strings → Type 0
-SymbolsWithin size symbols = (symbols.0.entry ≡ 24) × RowsWithin size symbols.0 × StringsWithin size symbols.1
+abbrev pub SymbolTableInBounds : ℕ → Rows × StringTableRange → Type 0
+SymbolTableInBounds size symbols = (symbols.0.entry ≡ 24) × TableInBounds size symbols.0 × StringsInBounds size symbols.1

@@ -6,19 +6,19 @@ use Rattle.elf_model.specs.Records.{e_phnum, p_type, p_offset, p_vaddr, p_filesz
 use Rattle.elf_model.specs.Mapped.{mapped_at, mapped_checks, mapped_place}
 use Rattle.elf_model.specs.declared.causes.Cause.TheVariants.{TableOutside, Unmapped}
 use Rattle.elf_record.specs.declared.ehdr.Ehdr.{Ehdr}
-use Rattle.elf_headers.specs.Load.{Views}
+use Rattle.elf_headers.specs.Load.{HoldsProgramHeaders}
 use Rattle.elf_table.specs.Relocations.{RefusedBy}
 use Rattle.elf_table.specs.Sections.{byte_rows, checked, rows, rows_of, strings}
 use Rattle.elf_headers.specs.Store.{segment_bytes}
-use Rattle.elf_table.specs.Tables.{Rows, Strings}
+use Rattle.elf_table.specs.Tables.{Rows, StringTableRange}
 use Rattle.elf_headers.specs.declared.fault.Fault.{Fault}
 use Rattle.elf_headers.specs.declared.fault.Fault.TheVariants.{Refused}
-use Rattle.elf_table.specs.declared.segment_view.SegmentView.{SegmentView}
+use Rattle.elf_table.specs.declared.segment_view.ExecutionView.{ExecutionView}
 
 -- an answer for a segment is what the file that is viewed has at its program header
-abbrev pub TellsSegment : {A : Type 0} → SegmentView → ℕ → A → (List ℕ → ℕ → A) → Type 0
-TellsSegment v segment answer has =
-    (file : List ℕ) → Views file v.loaded v.store.now → answer ≡ has file (segment_at file segment)
+abbrev pub ReturnsSegment : {A : Type 0} → ExecutionView → ℕ → A → (List ℕ → ℕ → A) → Type 0
+ReturnsSegment v segment answer has =
+    (file : List ℕ) → HoldsProgramHeaders file v.loaded v.store.now → answer ≡ has file (segment_at file segment)
 
 -- CHECKS ALONE: all pass, or the fault is the first of them that fails
 abbrev pub Decides : List Check → Result (Unit {0}) Fault → Type 0
@@ -43,21 +43,21 @@ abbrev pub byte_table_at : List ℕ → ℕ → Result Rows Fault
 byte_table_at file at = byte_rows (length file) (p_offset file at) (p_filesz file at) at
 
 -- those of a segment, by its program header in the store
-abbrev pub dynamic_in : SegmentView → ℕ → Result Rows Fault
+abbrev pub dynamic_in : ExecutionView → ℕ → Result Rows Fault
 dynamic_in v segment =
     dynamic_of (segment_bytes v.store.now segment) 0 v.loaded.size (segment_place v.loaded.header segment)
 
 -- how many bytes a segment has in the file, by its program header in the store
-abbrev pub filesz_in : SegmentView → ℕ → ℕ
+abbrev pub filesz_in : ExecutionView → ℕ → ℕ
 filesz_in v segment = p_filesz (segment_bytes v.store.now segment) 0
 
 -- a string table of so many bytes at a place of a file of so many bytes; the refusal names a program header
-abbrev pub strings_placed : ℕ → ℕ → ℕ → ℕ → Result Strings Fault
+abbrev pub strings_placed : ℕ → ℕ → ℕ → ℕ → Result StringTableRange Fault
 strings_placed file_size header place size =
     checked (refuse (is_outside file_size place size) header TableOutside ∷ []) (strings place size)
 
 -- the string table of so many bytes at an address, which an entry gives
-abbrev pub strings_mapped : List ℕ → ℕ → ℕ → ℕ → Result Strings Fault
+abbrev pub strings_mapped : List ℕ → ℕ → ℕ → ℕ → Result StringTableRange Fault
 strings_mapped file address size entry =
     checked (mapped_checks file address size entry) (strings (mapped_place file address size) size)
 

@@ -1,18 +1,18 @@
 -- What calls through a window want and do.
 use Rattle.std.specs.Prelude.{ℕ, ◌≡◌, ◌+◌, ◌≤◌, List, drop, Result, IfErr}
 use Rattle.elf_source.specs.Onward.{ReadsOnward}
-use Rattle.elf_source.specs.Source.{Seen, Counting, Reads}
-use Rattle.elf_headers.specs.Faults.{IsOfRead, Says}
+use Rattle.elf_source.specs.Source.{SourceState, CountedState, ReadsUpTo}
+use Rattle.elf_headers.specs.Faults.{IsOfRead, IsReadFault}
 use Rattle.elf_headers.specs.declared.fault.Fault.{Fault}
-use Rattle.elf_table.specs.Windows.{Ahead, HoldsBytes, StillHolds, RangeWithin, MovesOn, bytes_left, frontier, range_end}
+use Rattle.elf_table.specs.Windows.{WindowState, HoldsBytes, StillHolds, RangeWithin, MovesOn, bytes_left, frontier, range_end}
 
 -- a window has so many bytes left, in a range within a source of this size
-pub record HasLeft (size : ℕ) (w : Ahead) (count : ℕ) : Type 0 where
+pub record HasLeft (size : ℕ) (w : WindowState) (count : ℕ) : Type 0 where
   pub enough : count ≤ bytes_left w
   pub within : RangeWithin size w
 
 -- bytes that are passed over: what isn't held of them is never read
-pub record Skips (old new : Ahead) (count : ℕ) : Type 0 where
+pub record Skips (old new : WindowState) (count : ℕ) : Type 0 where
   pub page : new.page ≡ old.page
   pub at : new.at ≡ old.at + count
   pub left : bytes_left new + count ≡ bytes_left old
@@ -23,14 +23,14 @@ pub record Skips (old new : Ahead) (count : ℕ) : Type 0 where
 
 -- WHAT A CALL THROUGH A WINDOW DID, fault or not: it asked for no more than was unread, onward, and its fault says what is
 -- so; the window moved on, and what it holds is still the file's
-pub record Through {X : Type 0} (one_read : Seen → ℕ → ℕ → Seen → Type 0) (before after : Counting) (old new : Ahead) (result : Result X Fault) : Type 0 where
-  pub reads : Reads before after old.unread
-  pub says : IfErr result (Says before after old.unread)
+pub record ReadsThroughWindow {X : Type 0} (one_read : SourceState → ℕ → ℕ → SourceState → Type 0) (before after : CountedState) (old new : WindowState) (result : Result X Fault) : Type 0 where
+  pub reads : ReadsUpTo before after old.unread
+  pub says : IfErr result (IsReadFault before after old.unread)
   pub moves : MovesOn old new before.asked after.asked
   pub onward : ReadsOnward one_read before.source after.source (frontier old) (frontier new)
   pub agrees : StillHolds before.seen.file old new
 
 -- what a read through a window did: its fault is one of a read
-pub record ReadsThrough {X : Type 0} (one_read : Seen → ℕ → ℕ → Seen → Type 0) (before after : Counting) (old new : Ahead) (result : Result X Fault) : Type 0 where
-  pub went : Through one_read before after old new result
+pub record ReadsThrough {X : Type 0} (one_read : SourceState → ℕ → ℕ → SourceState → Type 0) (before after : CountedState) (old new : WindowState) (result : Result X Fault) : Type 0 where
+  pub went : ReadsThroughWindow one_read before after old new result
   pub fault : IfErr result IsOfRead

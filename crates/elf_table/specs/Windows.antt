@@ -6,52 +6,52 @@ use Rattle.elf_headers.specs.Faults.{IsAt}
 
 -- a window: the offset of the next byte, the bytes that it holds from there on, how many bytes of its range behind
 -- those are not asked for yet, and how many it holds at most
-pub record Ahead : Type 0 where
+pub record WindowState : Type 0 where
   pub at : ℕ
   pub held : List ℕ
   pub unread : ℕ
   pub page : ℕ
 
 -- how many bytes of the range are left
-abbrev pub bytes_left : Ahead → ℕ
+abbrev pub bytes_left : WindowState → ℕ
 bytes_left w = length w.held + w.unread
 
 -- the offset of the first byte that was never asked for: no byte below it is asked for again
-abbrev pub frontier : Ahead → ℕ
+abbrev pub frontier : WindowState → ℕ
 frontier w = w.at + length w.held
 
 -- where the range ends
-abbrev pub range_end : Ahead → ℕ
+abbrev pub range_end : WindowState → ℕ
 range_end w = frontier w + w.unread
 
 -- what a window holds is what the file has there
-abbrev pub HoldsBytes : List ℕ → Ahead → Type 0
+abbrev pub HoldsBytes : List ℕ → WindowState → Type 0
 HoldsBytes file w = w.held ≡ slice file w.at (length w.held)
 
 -- what agreed with the source's file before a call agrees with it afterwards
-abbrev pub StillHolds : Option (List ℕ) → Ahead → Ahead → Type 0
+abbrev pub StillHolds : Option (List ℕ) → WindowState → WindowState → Type 0
 StillHolds file old new = (bytes : List ℕ) → file ≡ Some bytes → HoldsBytes bytes old → HoldsBytes bytes new
 
 -- a window that has bytes left ends within a source of this size
-abbrev pub RangeWithin : ℕ → Ahead → Type 0
+abbrev pub RangeWithin : ℕ → WindowState → Type 0
 RangeWithin size w = 0 < bytes_left w → range_end w ≤ size
 
 -- what every call keeps, fault or not: the range ends where it ended, the place goes on, and what was asked for
 -- is no longer unread
-pub record MovesOn (old new : Ahead) (before after : ℕ) : Type 0 where
+pub record MovesOn (old new : WindowState) (before after : ℕ) : Type 0 where
   pub same_page : new.page ≡ old.page
   pub same_end : range_end new ≡ range_end old
   pub onward : old.at ≤ new.at
   pub account : after + new.unread ≤ before + old.unread
 
 -- a window that holds so many bytes: it is as it was where it held them, and else it holds a page, or all that are left
-pub record HoldsCount (old new : Ahead) (count : ℕ) : Type 0 where
+pub record HoldsCount (old new : WindowState) (count : ℕ) : Type 0 where
   pub stays : new.at ≡ old.at
   pub long : count ≤ length new.held
   pub unchanged : count ≤ length old.held → new ≡ old
   pub whole : length old.held < count → length new.held ≡ min old.page (bytes_left old)
 
 -- a window was to hold so many bytes. A fault is of a read of bytes that it did not hold, at the first of them
-abbrev pub Brings : {X : Type 0} → Ahead → Ahead → ℕ → Result X Fault → Type 0
+abbrev pub Brings : {X : Type 0} → WindowState → WindowState → ℕ → Result X Fault → Type 0
 Brings old new count (Ok x) = HoldsCount old new count
 Brings old new count (Err fault) = (length old.held < count) × IsAt (frontier old) fault

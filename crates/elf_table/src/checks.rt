@@ -4,7 +4,7 @@ ghost use Rattle.elf_model.specs.Checks.{is_symbol_table};
 ghost use Rattle.elf_record.specs.Shdr.{IsShdr};
 ghost use Rattle.elf_headers.specs.Faults.{IsOfCheck};
 ghost use Rattle.elf_table.specs.Sections.{byte_rows, rows_of, table_of, string_table_of};
-ghost use Rattle.elf_table.specs.Tables.{Spans, StringsWithin};
+ghost use Rattle.elf_table.specs.Tables.{Spans, StringsInBounds};
 
 use crate::names::Names;
 use crate::table::Table;
@@ -76,7 +76,7 @@ pub(crate) fn checked_bytes(offset: u64, bytes: u64, size: u64, place: u64) -> R
 pub fn checked_strings(header: &Shdr, size: u64, place: u64) -> Result<Names, Fault>
     ensures value { (bytes : List ℕ) (at : ℕ) → IsShdr bytes at header.now →
         result ≡ string_table_of bytes at size place }
-    ensures within { IfOk result (StringsWithin size) }
+    ensures within { IfOk result (StringsInBounds size) }
     ensures refusal { IfErr result IsOfCheck }
 {
     if header.sh_type != SHT_STRTAB {

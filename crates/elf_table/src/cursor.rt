@@ -1,11 +1,11 @@
 //! A cursor over the rows of a table.
 ghost use Rattle.std.specs.Prelude.{◌≡◌, ℕ, ◌+◌, ◌<◌, ◌≤◌, List, [], None, Some, Err, IfErr};
 ghost use Rattle.elf_source.specs.Onward.{ReadsOnward};
-ghost use Rattle.elf_source.specs.Source.{Reads};
+ghost use Rattle.elf_source.specs.Source.{ReadsUpTo};
 ghost use Rattle.elf_table.specs.Cursors.{Advances, ShowsRow, asked_to, unread_bytes};
 ghost use Rattle.elf_headers.specs.declared.fault.Fault.{Fault};
-ghost use Rattle.elf_headers.specs.Faults.{Says};
-ghost use Rattle.elf_table.specs.Tables.{RowsWithin, size_of};
+ghost use Rattle.elf_headers.specs.Faults.{IsReadFault};
+ghost use Rattle.elf_table.specs.Tables.{TableInBounds, size_of};
 
 use crate::row::Row;
 use crate::table::Table;
@@ -27,11 +27,11 @@ pub struct Cursor {
 
 impl Model for Cursor {
     ghost use Rattle.std.specs.Prelude.{◌≡◌, ◌+◌, ◌-◌, ◌≤◌, length, take, drop, None};
-    ghost use Rattle.elf_table.specs.Cursors.{Reading, StandsAtRow, page_of};
+    ghost use Rattle.elf_table.specs.Cursors.{CursorState, IsAtRow, page_of};
     ghost use Rattle.elf_table.specs.Tables.{size_of};
     ghost use Rattle.elf_table.specs.Windows.{range_end};
 
-    ghost Value = { Reading };
+    ghost Value = { CursorState };
 
     ghost view = { λ c. record {
       table = c.table;
@@ -46,7 +46,7 @@ impl Model for Cursor {
     ghost invariant = { λ c. (c.index ≤ c.table.count) × (c.shown ≤ length c.window.held)
         × (c.window.page ≡ page_of c.table.entry)
         × (range_end c.window ≡ c.table.at + size_of c.table)
-        × (c.failed ≡ None → StandsAtRow c.table c.index c.shown c.window) };
+        × (c.failed ≡ None → IsAtRow c.table c.index c.shown c.window) };
 }
 
 impl Cursor {
@@ -78,10 +78,10 @@ impl Cursor {
     /// A fault of a read, or a refusal for want of budget, at the next row's offset. From then on
     /// each call answers the same and reads nothing.
     pub fn advance<S: Source>(&mut self, src: &mut Counted<S>) -> Result<bool, Fault>
-        requires { RowsWithin src.old.seen.size self.old.table }
-        ensures reads { Reads src.old src.new (unread_bytes self.old) }
+        requires { TableInBounds src.old.seen.size self.old.table }
+        ensures reads { ReadsUpTo src.old src.new (unread_bytes self.old) }
         ensures says { self.old.failed ≡ None →
-            IfErr result (Says src.old src.new (unread_bytes self.old)) }
+            IfErr result (IsReadFault src.old src.new (unread_bytes self.old)) }
         ensures account { src.new.asked + unread_bytes self.new
             ≤ src.old.asked + unread_bytes self.old }
         ensures onward { ReadsOnward S.one_read src.old.source src.new.source
@@ -129,10 +129,10 @@ impl Cursor {
     ghost use denote.Follow.{follows_so};
     ghost use Rattle.std.specs.Borrow.{sem};
     ghost use Rattle.elf_source.specs.Onward.{ReadsOnward};
-    ghost use Rattle.elf_source.specs.Source.{Reads};
+    ghost use Rattle.elf_source.specs.Source.{ReadsUpTo};
     ghost use Rattle.elf_table.specs.Cursors.{Steps, asked_to, unread_bytes};
-    ghost use Rattle.elf_headers.specs.Faults.{Says};
-    ghost use Rattle.elf_table.specs.Tables.{RowsWithin};
+    ghost use Rattle.elf_headers.specs.Faults.{IsReadFault};
+    ghost use Rattle.elf_table.specs.Tables.{TableInBounds};
     ghost use Rattle.elf_table.specs.contracts.cursor.Cursor.{the_row};
     ghost use Rattle.elf_headers.specs.declared.fault.Fault.{Fault};
 
@@ -141,10 +141,10 @@ impl Cursor {
     /// # Errors
     /// As for [`Cursor::advance`].
     pub fn next<S: Source>(&mut self, src: &mut Counted<S>) -> Result<Option<Row<'_>>, Fault>
-        requires { RowsWithin src.old.seen.size self.old.table }
-        ensures reads { Reads src.old src.new (unread_bytes self.old) }
+        requires { TableInBounds src.old.seen.size self.old.table }
+        ensures reads { ReadsUpTo src.old src.new (unread_bytes self.old) }
         ensures says { self.old.failed ≡ None →
-            IfErr result (Says src.old src.new (unread_bytes self.old)) }
+            IfErr result (IsReadFault src.old src.new (unread_bytes self.old)) }
         ensures again { (fault : Fault) → self.old.failed ≡ Some fault →
             (result ≡ Err fault) × (src.new ≡ src.old) }
         ensures* after { sem 𝓛 (follows_so the_row the_row self.entry.ghost_name none (λ _ _. ⊤)

@@ -2,14 +2,14 @@
 ghost use Rattle.std.specs.Prelude.{◌≡◌, ◌<◌, ℕ, List};
 ghost use Rattle.std.specs.Prelude.{IfOk, IfErr, MatchOption};
 ghost use Rattle.elf_model.specs.Checks.{first_refusal};
-ghost use Rattle.elf_model.specs.Find.{has_wide_words, hash_checks_from};
+ghost use Rattle.elf_model.specs.Find.{has_64_bit_words, hash_checks_from};
 ghost use Rattle.elf_model.specs.Records.{section_at};
 ghost use Rattle.elf_record.specs.Shdr.{IsShdr};
 ghost use Rattle.elf_headers.specs.Faults.{IsOfCheck};
-ghost use Rattle.elf_headers.specs.Load.{Belongs};
+ghost use Rattle.elf_headers.specs.Load.{HoldsSectionHeaders};
 ghost use Rattle.elf_headers.specs.Store.{row};
-ghost use Rattle.elf_table.specs.HashSections.{AreHashed, HashFits, PassesFront, Settles, front_checks};
-ghost use Rattle.elf_table.specs.Tables.{SymbolsWithin};
+ghost use Rattle.elf_table.specs.HashSections.{AreHashed, HashFits, PassesFront, ChecksThenValue, front_checks};
+ghost use Rattle.elf_table.specs.Tables.{SymbolTableInBounds};
 
 use crate::file::File;
 use crate::names::Names;
@@ -35,10 +35,10 @@ impl File<'_> {
     /// at the linked section.
     pub fn hashed(&self, section: u16, least: u64) -> Result<(u16, (Table, Names)), Fault>
         requires { section < self.now.store.now.loaded }
-        ensures held { (bytes : List ℕ) → Belongs bytes self.now.loaded self.now.store.now →
-            Settles (hash_checks_from least bytes (section_at bytes section))
+        ensures held { (bytes : List ℕ) → HoldsSectionHeaders bytes self.now.loaded self.now.store.now →
+            ChecksThenValue (hash_checks_from least bytes (section_at bytes section))
             (AreHashed bytes (section_at bytes section)) result }
-        ensures within { IfOk result (λ found. SymbolsWithin self.now.loaded.size found.1) }
+        ensures within { IfOk result (λ found. SymbolTableInBounds self.now.loaded.size found.1) }
         ensures fits { IfOk result (λ found.
             HashFits least self.now.loaded.size (row self.now.store.now section) 0) }
         ensures refusal { IfErr result IsOfCheck }
@@ -95,8 +95,8 @@ fn refused_front(
 // Whether a section is a hash table whose words have 8 bytes: a HASH section of a file of Alpha, whose
 // entry size says so.
 fn holds_wide_words(file: &File<'_>, header: &Shdr) -> bool
-    ensures { (bytes : List ℕ) (at : ℕ) → Belongs bytes file.now.loaded file.now.store.now →
-        IsShdr bytes at header.now → result ≡ has_wide_words bytes at }
+    ensures { (bytes : List ℕ) (at : ℕ) → HoldsSectionHeaders bytes file.now.loaded file.now.store.now →
+        IsShdr bytes at header.now → result ≡ has_64_bit_words bytes at }
 {
     let machine = file.loaded.header().e_machine;
     machine == EM_ALPHA && (header.sh_type == SHT_HASH && header.sh_entsize == WIDE_WORD_BYTES)

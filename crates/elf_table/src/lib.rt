@@ -28,6 +28,6 @@ pub use name_buf::NameBuf;
 pub use name_search::{find_nul, search_name};
 pub use names::{NameEnd, Names};
 pub use row::Row;
-pub use segment_view::SegmentView;
+pub use segment_view::ExecutionView;
 pub use table::Table;
 pub use window::{WINDOW_BYTES, Window};

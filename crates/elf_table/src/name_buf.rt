@@ -1,7 +1,7 @@
 //! A buffer for the bytes of a name.
 ghost use Rattle.std.specs.Prelude.{◌≡◌, ◌≤◌, [], ◌++◌, length, take};
 
-use elf_headers::Cap;
+use elf_headers::NameLimit;
 use std::marker::Model;
 
 /// The size of the buffer in bytes.
@@ -52,7 +52,7 @@ impl NameBuf {
 
     /// Adds `bytes` at the end, as far as the name then has no more than `cap` bytes. It has no more
     /// before.
-    pub fn add(&mut self, bytes: &[u8], cap: Cap)
+    pub fn add(&mut self, bytes: &[u8], cap: NameLimit)
         requires { length self.old ≤ cap.bytes }
         ensures { self.new ≡ take cap.bytes (self.old ++ bytes.now) }
     {

@@ -9,7 +9,7 @@ ghost use Rattle.elf_table.specs.Windows.{HoldsBytes};
 
 use crate::name_buf::NameBuf;
 use crate::window::Window;
-use elf_headers::{Cap, Fault};
+use elf_headers::{Fault, NameLimit};
 use elf_source::{Counted, Source};
 use memchr::memchr;
 
@@ -24,7 +24,7 @@ pub fn search_name<S: Source, const N: usize>(
     window: &mut Window<N>,
     src: &mut Counted<S>,
     want: u64,
-    cap: Cap,
+    cap: NameLimit,
     name: &mut NameBuf,
 ) -> Result<bool, Fault>
     requires empty { name.old ≡ [] }

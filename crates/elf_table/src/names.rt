@@ -3,16 +3,16 @@ ghost use Rattle.std.specs.Prelude.{◌≡◌, ◌≢◌, ℕ, ◌+◌, ◌-◌,
 ghost use Rattle.std.specs.Prelude.{slice_index, Some, IfErr, MatchBool};
 ghost use Rattle.elf_model.specs.Bytes.{slice};
 ghost use Rattle.elf_model.specs.Names.{shown, same, pad64, name_bytes};
-ghost use Rattle.elf_source.specs.Source.{Reads};
-ghost use Rattle.elf_headers.specs.Faults.{IsOfRead, Says};
-ghost use Rattle.elf_headers.specs.Ledger.{Did, why_stopped};
+ghost use Rattle.elf_source.specs.Source.{ReadsUpTo};
+ghost use Rattle.elf_headers.specs.Faults.{IsOfRead, IsReadFault};
+ghost use Rattle.elf_headers.specs.Ledger.{CallDid, fault_of_result};
 ghost use Rattle.elf_table.specs.NamesRead.{NameRead, ComparesName, Matched};
-ghost use Rattle.elf_table.specs.Tables.{StringsWithin, strings_in};
+ghost use Rattle.elf_table.specs.Tables.{StringsInBounds, strings_in};
 
 use crate::name_buf::NameBuf;
 use crate::name_search::search_name;
 use crate::window::{WINDOW_BYTES, Window};
-use elf_headers::{Cap, Fault, refused};
+use elf_headers::{Fault, NameLimit, refused};
 use elf_record::Cause;
 use elf_source::{Counted, Source};
 use std::marker::Model;
@@ -38,9 +38,9 @@ pub struct Names {
 
 impl Model for Names {
     ghost use Rattle.std.specs.Prelude.{◌+◌, ◌^◌, ◌<◌};
-    ghost use Rattle.elf_table.specs.Tables.{Strings};
+    ghost use Rattle.elf_table.specs.Tables.{StringTableRange};
 
-    ghost Value = { Strings };
+    ghost Value = { StringTableRange };
 
     ghost view = { λ n. record { at = n.at; size = n.size } };
 
@@ -78,12 +78,12 @@ impl Names {
         src: &mut Counted<S>,
         off: u64,
         at: u64,
-        cap: Cap,
+        cap: NameLimit,
         name: &mut NameBuf,
     ) -> Result<NameEnd, Fault>
-        requires { StringsWithin src.old.seen.size self.now }
-        ensures reads { Reads src.old src.new (name_bytes cap.bytes) }
-        ensures says { IfErr result (Says src.old src.new (name_bytes cap.bytes)) }
+        requires { StringsInBounds src.old.seen.size self.now }
+        ensures reads { ReadsUpTo src.old src.new (name_bytes cap.bytes) }
+        ensures says { IfErr result (IsReadFault src.old src.new (name_bytes cap.bytes)) }
         ensures not_past { src.new.asked ≤ src.old.asked + (self.now.size - off) }
         ensures read { (file : List ℕ) → src.old.seen.file ≡ Some file →
             NameRead at result name.new (shown (strings_in file self.now) off cap.bytes) }
@@ -142,9 +142,9 @@ impl Names {
         wanted: &[u8],
     ) -> Result<bool, Fault>
         requires most { length wanted.now ≤ 4096 }
-        requires within { StringsWithin src.old.seen.size self.now }
-        ensures reads { Reads src.old src.new (pad64 (length wanted.now + 1)) }
-        ensures says { IfErr result (Says src.old src.new (pad64 (length wanted.now + 1))) }
+        requires within { StringsInBounds src.old.seen.size self.now }
+        ensures reads { ReadsUpTo src.old src.new (pad64 (length wanted.now + 1)) }
+        ensures says { IfErr result (IsReadFault src.old src.new (pad64 (length wanted.now + 1))) }
         ensures not_past { src.new.asked ≤ src.old.asked + (self.now.size - off) }
         ensures compared { (file : List ℕ) → src.old.seen.file ≡ Some file →
             ComparesName at result (same (strings_in file self.now) off wanted.now) }
@@ -179,7 +179,7 @@ fn matches<S: Source>(
     requires most { want ≤ length wanted.now + 1 }
     requires ends { start + want < 2 ^ 64 }
     requires within { start + want ≤ src.old.seen.size }
-    ensures did { Did src.old src.new (why_stopped result) want
+    ensures did { CallDid src.old src.new (fault_of_result result) want
         (λ file. Matched (slice file start want) wanted.now result) }
     ensures fault { IfErr result IsOfRead }
 {
@@ -201,7 +201,7 @@ fn match_pieces<S: Source, const N: usize>(
     requires most { want ≤ length wanted.now + 1 }
     requires ends { start + want < 2 ^ 64 }
     requires within { start + want ≤ src.old.seen.size }
-    ensures did { Did src.old src.new (why_stopped result) want
+    ensures did { CallDid src.old src.new (fault_of_result result) want
         (λ file. Matched (slice file start want) wanted.now result) }
     ensures fault { IfErr result IsOfRead }
 {

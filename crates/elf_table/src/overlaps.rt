@@ -3,10 +3,10 @@ ghost use Rattle.std.specs.Prelude.{◌≡◌, ◌&&◌, ℕ, List, IfErr, nat_l
 ghost use Rattle.elf_model.specs.Overlaps.{first_page, overlap_checks, page_behind, takes_memory};
 ghost use Rattle.elf_record.specs.Phdr.{IsPhdr};
 ghost use Rattle.elf_headers.specs.Faults.{IsOfCheck};
-ghost use Rattle.elf_headers.specs.Load.{Views};
+ghost use Rattle.elf_headers.specs.Load.{HoldsProgramHeaders};
 ghost use Rattle.elf_table.specs.Views.{Decides};
 
-use crate::segment_view::SegmentView;
+use crate::segment_view::ExecutionView;
 use elf_headers::{Fault, refused};
 use elf_record::numbers::PT_LOAD;
 use elf_record::{Cause, Phdr};
@@ -14,7 +14,7 @@ use elf_record::{Cause, Phdr};
 /// The size of a page in bytes: the smallest that a loader maps by.
 const PAGE_BYTES: u64 = 4096;
 
-impl SegmentView<'_> {
+impl ExecutionView<'_> {
     /// Checks that no LOAD segment lies over another, of those that take up memory: in the order of
     /// the program headers each begins behind the last page of the one before it, in pages of 4,096
     /// bytes. A loader maps them in this order, and a later one covers an earlier one (gABI 5,
@@ -23,7 +23,7 @@ impl SegmentView<'_> {
     /// # Errors
     /// `LoadOverlap` at the program header of the first that does not.
     pub fn check_overlaps(&self) -> Result<(), Fault>
-        ensures held { (file : List ℕ) → Views file self.now.loaded self.now.store.now →
+        ensures held { (file : List ℕ) → HoldsProgramHeaders file self.now.loaded self.now.store.now →
             Decides (overlap_checks file) result }
         ensures refusal { IfErr result IsOfCheck }
     {

@@ -3,7 +3,7 @@ ghost use Rattle.std.specs.Prelude.{◌≡◌, ℕ, ◌<◌, ◌≤◌, ◌^◌,
 ghost use Rattle.elf_model.specs.Records.{section_at};
 ghost use Rattle.elf_model.specs.Numbers.{SHT_GNU_VERSYM as VERSYM};
 ghost use Rattle.elf_record.specs.Shdr.{IsShdr};
-ghost use Rattle.elf_headers.specs.Load.{Belongs, Passes, section_place};
+ghost use Rattle.elf_headers.specs.Load.{HoldsSectionHeaders, PassesLoadChecks, section_place};
 ghost use Rattle.elf_headers.specs.Faults.{IsOfCheck};
 ghost use Rattle.elf_table.specs.Files.{Tells, program_headers, table_in, size_in};
 ghost use Rattle.elf_table.specs.Sections.{byte_rows, table_at, string_table_at, section_names};
@@ -16,7 +16,7 @@ ghost use Rattle.elf_model.specs.Suffixes.{first_numbers};
 ghost use Rattle.elf_model.specs.Tables.{has_symbols};
 ghost use Rattle.elf_model.specs.VersionCost.{has_strings};
 ghost use Rattle.elf_headers.specs.Store.{row};
-ghost use Rattle.elf_table.specs.Tables.{RowsWithin, Spans, StringsWithin, SymbolsWithin, size_of};
+ghost use Rattle.elf_table.specs.Tables.{TableInBounds, Spans, StringsInBounds, SymbolTableInBounds, size_of};
 
 use crate::checks::{checked_bytes, checked_strings, checked_table, holds_symbols};
 use crate::file::File;
@@ -42,7 +42,7 @@ impl File<'_> {
     pub fn section(&self, section: u16) -> Shdr
         requires { section < self.now.store.now.loaded }
         ensures fields { IsShdr (row self.now.store.now section) 0 result }
-        ensures stands { (file : List ℕ) → Belongs file self.now.loaded self.now.store.now →
+        ensures stands { (file : List ℕ) → HoldsSectionHeaders file self.now.loaded self.now.store.now →
             IsShdr file (section_at file section) result }
     {
         self.store.section(section)
@@ -53,7 +53,7 @@ impl File<'_> {
     pub fn segments(&self) -> Table
         ensures value { result ≡ program_headers self.now.loaded.header }
         ensures few { result.count ≤ 65279 }
-        ensures within { RowsWithin self.now.loaded.size result }
+        ensures within { TableInBounds self.now.loaded.size result }
     {
         Table::new(
             self.loaded.header().e_phoff,
@@ -69,7 +69,7 @@ impl File<'_> {
     /// `TableOutside` at `at` where they end past the end of the file.
     pub fn bytes(&self, offset: u64, size: u64, at: u64) -> Result<Table, Fault>
         ensures value { result ≡ byte_rows self.now.loaded.size offset size at }
-        ensures within { IfOk result (RowsWithin self.now.loaded.size) }
+        ensures within { IfOk result (TableInBounds self.now.loaded.size) }
     {
         checked_bytes(offset, size, self.loaded.size(), at)
     }
@@ -107,7 +107,7 @@ impl File<'_> {
     pub fn strings(&self, section: u16) -> Result<Names, Fault>
         requires below { section < self.now.store.now.loaded }
         ensures held { Tells self.now section result string_table_at }
-        ensures within { IfOk result (StringsWithin self.now.loaded.size) }
+        ensures within { IfOk result (StringsInBounds self.now.loaded.size) }
         ensures found { IfOk result (λ names.
             has_strings (sections_in self.now) section self.now.loaded.size ≡ true) }
         ensures refusal { IfErr result IsOfCheck }
@@ -130,9 +130,9 @@ impl File<'_> {
     /// It lies within the file, as `load` checked. With the headers of another file in the store it
     /// may not, and then the answer is None too.
     pub fn names(&self) -> Option<Names>
-        ensures held { (file : List ℕ) → Belongs file self.now.loaded self.now.store.now →
+        ensures held { (file : List ℕ) → HoldsSectionHeaders file self.now.loaded self.now.store.now →
             result ≡ section_names file }
-        ensures within { IfSome result (StringsWithin self.now.loaded.size) }
+        ensures within { IfSome result (StringsInBounds self.now.loaded.size) }
         ensures none { self.now.loaded.header.e_shnum ≡ 0 → result ≡ None }
         ensures unnamed { self.now.loaded.header.e_shstrndx ≡ 0 → result ≡ None }
     {
@@ -157,7 +157,7 @@ impl File<'_> {
         ensures held { Tells self.now section result symbols_at }
         ensures table { IfOk result (λ symbols. Ok symbols.0 ≡ table_in self.now section 24) }
         ensures sized { IfOk result (λ symbols. size_of symbols.0 ≡ size_in self.now section) }
-        ensures within { IfOk result (SymbolsWithin self.now.loaded.size) }
+        ensures within { IfOk result (SymbolTableInBounds self.now.loaded.size) }
         ensures found { IfOk result (λ symbols.
             has_names (sections_in self.now) section self.now.loaded.size ≡ true) }
         ensures refusal { IfErr result IsOfCheck }
@@ -178,10 +178,10 @@ impl File<'_> {
     /// Those of [`File::symbols`] at the linked section.
     pub fn linked(&self, section: u16) -> Result<Option<(Table, Names)>, Fault>
         requires below { section < self.now.store.now.loaded }
-        ensures held { (file : List ℕ) → Belongs file self.now.loaded self.now.store.now →
+        ensures held { (file : List ℕ) → HoldsSectionHeaders file self.now.loaded self.now.store.now →
             Links file (section_at file section) result }
         ensures within { IfOk result (λ linked.
-            IfSome linked (SymbolsWithin self.now.loaded.size)) }
+            IfSome linked (SymbolTableInBounds self.now.loaded.size)) }
         ensures refusal { IfErr result IsOfCheck }
     {
         let link = self.store.section(section).sh_link;
@@ -204,13 +204,13 @@ impl File<'_> {
     /// The first check that fails: those of [`File::table`], then those of [`File::linked`].
     pub fn relocations(&self, section: u16) -> Result<(Table, Option<(Table, Names)>), Fault>
         requires below { section < self.now.store.now.loaded }
-        ensures held { (file : List ℕ) → Belongs file self.now.loaded self.now.store.now →
+        ensures held { (file : List ℕ) → HoldsSectionHeaders file self.now.loaded self.now.store.now →
             Relocates file (section_at file section) result }
         ensures table { IfOk result (λ found. Ok found.0 ≡ table_in self.now section 24) }
         ensures entry { IfOk result (λ found. found.0.entry ≡ 24) }
-        ensures within { IfOk result (λ found. RowsWithin self.now.loaded.size found.0) }
+        ensures within { IfOk result (λ found. TableInBounds self.now.loaded.size found.0) }
         ensures linked { IfOk result (λ found.
-            IfSome found.1 (SymbolsWithin self.now.loaded.size)) }
+            IfSome found.1 (SymbolTableInBounds self.now.loaded.size)) }
         ensures refusal { IfErr result IsOfCheck }
     {
         let table = self.table(section, RELOCATION_BYTES)?;
@@ -225,7 +225,7 @@ impl File<'_> {
     pub fn first(&self, sh_type: u32) -> Option<u16>
         ensures below { IfSome result (λ section. section < self.now.store.now.loaded) }
         ensures value { result ≡ first_typed (sections_in self.now) sh_type }
-        ensures held { (file : List ℕ) → Belongs file self.now.loaded self.now.store.now →
+        ensures held { (file : List ℕ) → HoldsSectionHeaders file self.now.loaded self.now.store.now →
             result ≡ first_typed (file_sections file) sh_type }
     {
         for section in 0..self.sections() {
@@ -238,10 +238,10 @@ impl File<'_> {
 
     /// The first section of version numbers that links to a section, if there is one (Linux Standard
     /// Base Core, Symbol Versioning).
-    pub fn numbers_of(&self, symbols: u32) -> Option<u16>
+    pub fn version_numbers_of(&self, symbols: u32) -> Option<u16>
         ensures below { IfSome result (λ section. section < self.now.store.now.loaded) }
         ensures value { result ≡ first_numbers (sections_in self.now) symbols }
-        ensures held { (file : List ℕ) → Belongs file self.now.loaded self.now.store.now →
+        ensures held { (file : List ℕ) → HoldsSectionHeaders file self.now.loaded self.now.store.now →
             result ≡ first_numbers (file_sections file) symbols }
     {
         for section in 0..self.sections() {
@@ -262,10 +262,10 @@ impl File<'_> {
     /// section.
     pub fn symbol_versions(&self, section: u16) -> Result<(Table, u64), Fault>
         requires below { section < self.now.store.now.loaded }
-        ensures held { (file : List ℕ) → Belongs file self.now.loaded self.now.store.now →
+        ensures held { (file : List ℕ) → HoldsSectionHeaders file self.now.loaded self.now.store.now →
             Versioned file (section_at file section) result }
         ensures table { IfOk result (λ found. Ok found.0 ≡ table_in self.now section 2) }
-        ensures within { IfOk result (λ found. RowsWithin self.now.loaded.size found.0) }
+        ensures within { IfOk result (λ found. TableInBounds self.now.loaded.size found.0) }
         ensures counts { IfOk result (λ found. CountsVersions self.now section found.0 found.1) }
         ensures refusal { IfErr result IsOfCheck }
     {
@@ -285,7 +285,7 @@ impl File<'_> {
     pub(crate) fn links_to_symbols(&self, section: u16) -> bool
         requires below { section < self.now.store.now.loaded }
         ensures linked { IsTrue result → LinksToSymbols self.now section }
-        ensures held { (file : List ℕ) → Belongs file self.now.loaded self.now.store.now →
+        ensures held { (file : List ℕ) → HoldsSectionHeaders file self.now.loaded self.now.store.now →
             let at = section_at file section in
             result ≡ not (sh_link file at == 0 || not (has_symbols file at)) }
     {

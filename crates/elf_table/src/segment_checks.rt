@@ -3,7 +3,7 @@ ghost use Rattle.std.specs.Prelude.{◌≡◌, ℕ, ◌+◌, ◌≤◌, List, If
 ghost use Rattle.elf_model.specs.Mapped.{is_mapped_by, mapped_offset};
 ghost use Rattle.elf_record.specs.Phdr.{IsPhdr};
 ghost use Rattle.elf_headers.specs.Faults.{IsOfCheck};
-ghost use Rattle.elf_table.specs.Tables.{BytesWithin, StringsWithin};
+ghost use Rattle.elf_table.specs.Tables.{BytesWithin, StringsInBounds};
 ghost use Rattle.elf_table.specs.Views.{rest_of, strings_placed};
 
 use crate::names::Names;
@@ -39,7 +39,7 @@ pub(crate) fn checked_mapped(
     requires { header.now.p_vaddr ≤ address }
     ensures value { (file : List ℕ) (at : ℕ) → IsPhdr file at header.now →
         result ≡ strings_placed size place (mapped_offset file at address) bytes }
-    ensures within { IfOk result (StringsWithin size) }
+    ensures within { IfOk result (StringsInBounds size) }
     ensures sized { IfOk result (λ names. names.size ≡ bytes) }
     ensures refusal { IfErr result IsOfCheck }
 {

@@ -5,7 +5,7 @@ use elf_headers::{HeaderStore, Loaded};
 
 /// A loaded file in the segment view: with the store that holds its program headers.
 #[derive(Clone, Copy)]
-pub struct SegmentView<'a> {
+pub struct ExecutionView<'a> {
     /// The file.
     pub loaded: Loaded,
     /// The program headers.

@@ -5,23 +5,23 @@ ghost use Rattle.elf_model.specs.Records.{segment_at};
 ghost use Rattle.elf_model.specs.Mapped.{mapped_at};
 ghost use Rattle.elf_record.specs.Phdr.{IsPhdr};
 ghost use Rattle.elf_headers.specs.Faults.{IsOfCheck};
-ghost use Rattle.elf_headers.specs.Load.{Views};
+ghost use Rattle.elf_headers.specs.Load.{HoldsProgramHeaders};
 ghost use Rattle.elf_headers.specs.Store.{segment_bytes};
-ghost use Rattle.elf_table.specs.Tables.{BytesWithin, Spans, StringsWithin};
-ghost use Rattle.elf_table.specs.Views.{TellsSegment, byte_table_at, dynamic_table_at, dynamic_in};
+ghost use Rattle.elf_table.specs.Tables.{BytesWithin, Spans, StringsInBounds};
+ghost use Rattle.elf_table.specs.Views.{ReturnsSegment, byte_table_at, dynamic_table_at, dynamic_in};
 ghost use Rattle.elf_table.specs.Views.{HoldsAddresses, filesz_in};
 ghost use Rattle.elf_table.specs.Views.{first_of_kind, rest_mapped, segment_place, strings_mapped};
 
 use crate::checks::{checked_bytes, checked_rows};
 use crate::names::Names;
 use crate::segment_checks::{checked_mapped, checked_rest, maps};
-use crate::segment_view::SegmentView;
+use crate::segment_view::ExecutionView;
 use crate::table::Table;
 use elf_headers::{Fault, refused};
 use elf_record::sizes::{DYNAMIC_BYTES, PROGRAM_HEADER_BYTES};
 use elf_record::{Cause, Phdr};
 
-impl SegmentView<'_> {
+impl ExecutionView<'_> {
     /// How many program headers there are.
     pub fn segments(&self) -> u16
         ensures { result ≡ self.now.store.now.segments }
@@ -29,11 +29,11 @@ impl SegmentView<'_> {
         self.store.segments()
     }
 
-    /// The program header of an index below [`SegmentView::segments`] (gABI 5, Program Header).
+    /// The program header of an index below [`ExecutionView::segments`] (gABI 5, Program Header).
     pub fn segment(&self, segment: u16) -> Phdr
         requires { segment < self.now.store.now.segments }
         ensures fields { IsPhdr (segment_bytes self.now.store.now segment) 0 result }
-        ensures stands { (file : List ℕ) → Views file self.now.loaded self.now.store.now →
+        ensures stands { (file : List ℕ) → HoldsProgramHeaders file self.now.loaded self.now.store.now →
             IsPhdr file (segment_at file segment) result }
     {
         self.store.segment(segment)
@@ -57,7 +57,7 @@ impl SegmentView<'_> {
     pub fn dynamic(&self, segment: u16) -> Result<Table, Fault>
         requires { segment < self.now.store.now.segments }
         ensures value { result ≡ dynamic_in self.now segment }
-        ensures held { TellsSegment self.now segment result dynamic_table_at }
+        ensures held { ReturnsSegment self.now segment result dynamic_table_at }
         ensures lies { MatchResult result
             (Spans self.now.loaded.size 16 (filesz_in self.now segment)) IsOfCheck }
     {
@@ -78,7 +78,7 @@ impl SegmentView<'_> {
     /// `TableOutside` at the program header where the segment ends past the end of the file.
     pub fn bytes(&self, segment: u16) -> Result<Table, Fault>
         requires { segment < self.now.store.now.segments }
-        ensures held { TellsSegment self.now segment result byte_table_at }
+        ensures held { ReturnsSegment self.now segment result byte_table_at }
         ensures lies { MatchResult result
             (Spans self.now.loaded.size 1 (filesz_in self.now segment)) IsOfCheck }
     {
@@ -99,9 +99,9 @@ impl SegmentView<'_> {
     /// `Unmapped` at `at` where no LOAD program header holds them; `TableOutside` at that program
     /// header where they end past the end of the file.
     pub fn mapped(&self, address: u64, size: u64, at: u64) -> Result<Names, Fault>
-        ensures held { (file : List ℕ) → Views file self.now.loaded self.now.store.now →
+        ensures held { (file : List ℕ) → HoldsProgramHeaders file self.now.loaded self.now.store.now →
             result ≡ strings_mapped file address size at }
-        ensures within { IfOk result (StringsWithin self.now.loaded.size) }
+        ensures within { IfOk result (StringsInBounds self.now.loaded.size) }
         ensures sized { IfOk result (λ names. names.size ≡ size) }
         ensures refusal { IfErr result IsOfCheck }
     {
@@ -116,7 +116,7 @@ impl SegmentView<'_> {
     /// The index of the first program header of a type, if there is one (gABI 5, Program Header).
     pub fn first_segment(&self, kind: u32) -> Option<u16>
         ensures below { IfSome result (λ segment. segment < self.now.store.now.segments) }
-        ensures first { (file : List ℕ) → Views file self.now.loaded self.now.store.now →
+        ensures first { (file : List ℕ) → HoldsProgramHeaders file self.now.loaded self.now.store.now →
             result ≡ first_of_kind file kind }
     {
         for index in 0..self.segments() {
@@ -135,7 +135,7 @@ impl SegmentView<'_> {
     /// `Unmapped` at `at` where no LOAD program header holds the byte; `TableOutside` at that program
     /// header where its bytes end past the end of the file.
     pub fn rest(&self, address: u64, at: u64) -> Result<Table, Fault>
-        ensures value { (file : List ℕ) → Views file self.now.loaded self.now.store.now →
+        ensures value { (file : List ℕ) → HoldsProgramHeaders file self.now.loaded self.now.store.now →
             result ≡ rest_mapped file address at }
         ensures lies { MatchResult result (BytesWithin self.now.loaded.size) IsOfCheck }
     {
@@ -149,7 +149,7 @@ impl SegmentView<'_> {
 
     /// The index of the first LOAD program header that holds `size` bytes from an address on.
     fn mapping(&self, address: u64, size: u64) -> Option<u16>
-        ensures held { (file : List ℕ) → Views file self.now.loaded self.now.store.now →
+        ensures held { (file : List ℕ) → HoldsProgramHeaders file self.now.loaded self.now.store.now →
             mapped_at file address size ≡ option_map (segment_at file) result }
         ensures below { IfSome result (λ segment. segment < self.now.store.now.segments) }
         ensures holds { IfSome result (λ segment.

@@ -2,10 +2,10 @@
 ghost use Rattle.std.specs.Prelude.{◌≡◌, ◌↔◌, ℕ, ◌+◌, ◌*◌, ◌^◌, ◌<◌, ◌≤◌};
 ghost use Rattle.std.specs.Prelude.{List, Some, IsTrue, IfOk, IfErr};
 ghost use Rattle.elf_record.specs.Sym.{IsSym};
-ghost use Rattle.elf_source.specs.Source.{Reads};
+ghost use Rattle.elf_source.specs.Source.{ReadsUpTo};
 ghost use Rattle.elf_table.specs.Cursors.{row_at};
-ghost use Rattle.elf_headers.specs.Faults.{Says, IsAt};
-ghost use Rattle.elf_table.specs.Tables.{RowsWithin};
+ghost use Rattle.elf_headers.specs.Faults.{IsReadFault, IsAt};
+ghost use Rattle.elf_table.specs.Tables.{TableInBounds};
 
 use elf_headers::{Fault, fill};
 use elf_record::Sym;
@@ -96,9 +96,9 @@ impl Table {
     /// A fault of the read, or a refusal for want of budget, at the symbol's offset.
     pub fn symbol<S: Source>(&self, src: &mut Counted<S>, index: u64) -> Result<Sym, Fault>
         requires row { (self.now.entry ≡ 24) × (index < self.now.count) }
-        requires within { RowsWithin src.old.seen.size self.now }
-        ensures reads { Reads src.old src.new 24 }
-        ensures says { IfErr result (Says src.old src.new 24) }
+        requires within { TableInBounds src.old.seen.size self.now }
+        ensures reads { ReadsUpTo src.old src.new 24 }
+        ensures says { IfErr result (IsReadFault src.old src.new 24) }
         ensures at { IfErr result (IsAt (row_at self.now index)) }
         ensures read { (file : List ℕ) → src.old.seen.file ≡ Some file →
             IfOk result (IsSym file (row_at self.now index)) }

@@ -3,7 +3,7 @@ ghost use Rattle.std.specs.Prelude.{◌≡◌, ℕ, ◌+◌, ◌^◌, ◌<◌, �
 ghost use Rattle.std.specs.Prelude.{IfErr, OnOk};
 ghost use Rattle.elf_model.specs.Bytes.{slice};
 ghost use Rattle.elf_headers.specs.Faults.{IsAt};
-ghost use Rattle.elf_table.specs.WindowCalls.{HasLeft, Skips, Through};
+ghost use Rattle.elf_table.specs.WindowCalls.{HasLeft, Skips, ReadsThroughWindow};
 ghost use Rattle.elf_table.specs.Windows.{Brings, RangeWithin};
 ghost use Rattle.elf_table.specs.Windows.{bytes_left, frontier};
 
@@ -30,9 +30,9 @@ pub struct Window<const N: usize> {
 impl<const N: usize> Model for Window<N> {
     ghost use Rattle.std.specs.Prelude.{◌+◌, ◌^◌, ◌<◌, ◌≤◌};
     ghost use Rattle.elf_model.specs.Bytes.{slice};
-    ghost use Rattle.elf_table.specs.Windows.{Ahead};
+    ghost use Rattle.elf_table.specs.Windows.{WindowState};
 
-    ghost Value = { Ahead };
+    ghost Value = { WindowState };
 
     ghost view = { λ w. record {
       at = w.at;
@@ -99,7 +99,7 @@ impl<const N: usize> Window<N> {
     pub fn bring<S: Source>(&mut self, src: &mut Counted<S>, count: u64) -> Result<(), Fault>
         requires left { HasLeft src.old.seen.size self.old count }
         requires small { count ≤ self.old.page }
-        ensures went { Through S.one_read src.old src.new self.old self.new result }
+        ensures went { ReadsThroughWindow S.one_read src.old src.new self.old self.new result }
         ensures brings { Brings self.old self.new count result }
     {
         if self.held >= count {
@@ -124,7 +124,7 @@ impl<const N: usize> Window<N> {
     fn read_page<S: Source>(&mut self, src: &mut Counted<S>) -> Result<(), Fault>
         requires room { (length self.old.held < self.old.page) × (0 < self.old.unread) }
         requires within { RangeWithin src.old.seen.size self.old }
-        ensures went { Through S.one_read src.old src.new self.old self.new result }
+        ensures went { ReadsThroughWindow S.one_read src.old src.new self.old self.new result }
         ensures fault { IfErr result (IsAt (frontier self.old)) }
         ensures stays { OnOk result (self.new.at ≡ self.old.at) }
         ensures whole { OnOk result

@@ -4,7 +4,7 @@ use Rattle.elf_model.specs.declared.formats.Format.TheVariants.{Columns}
 use Rattle.elf_model.specs.Records.{e_type, e_machine, e_entry, e_phoff, e_shoff, e_flags, e_phentsize, e_phnum, e_shentsize, e_shnum, e_shstrndx, sh_name, sh_type, sh_flags, sh_addr, sh_offset, sh_size, sh_link, sh_info, sh_addralign, sh_entsize, p_type, p_flags, p_offset, p_vaddr, p_paddr, p_filesz, p_memsz, p_align, st_name, st_info, st_other, st_shndx, st_value, st_size, r_offset, r_info, r_addend, d_tag, d_un, n_namesz, n_descsz, n_type}
 use Rattle.elf_model.specs.NameTables.{file_type_text, section_type_text, section_flags_text, segment_type_text, segment_flags_text, symbol_types, bindings, visibilities, places, name_or_number, relocation_type_text, dynamic_tag_text}
 use Rattle.elf_model.specs.Lines.{header_line, segment_line, escaped}
-use Rattle.elf_model.specs.LineFronts.{section_front, symbol_front, relocation_front, dynamic_front}
+use Rattle.elf_model.specs.LineFronts.{section_prefix, symbol_prefix, relocation_prefix, dynamic_prefix}
 use Rattle.elf_model.specs.Causes.{cause_word}
 use Rattle.elf_model.specs.FixturesTables.{numbers_from}
 use Rattle.elf_model.specs.declared.causes.Cause.TheVariants.{Short, NotElf, BadClass, BadData, BadVersion, ExtendedNumbering, TooManyHeaders, EntrySize, TableOutside, BadLink, NotStrings, SizeNotWhole, NameOutside, NameUnended, NoteCut, NoHash, HashShape, HashIndex, HashCycle, Unsupported, Overflow, NotRel, Unplaced, Undefined, PlaceOutside, SymbolIndex, TooLong, Budget, Unmapped, Thin, NotArchive, MemberCut, VersionCut, VersionIndex}
@@ -24,7 +24,7 @@ HeaderFieldsStand =
 -- the fields of a section header
 abbrev pub SectionFieldsStand : Type 0
 SectionFieldsStand =
-    ((section_front Columns false 0x1312 places_as_bytes 0x40 12345).text
+    ((section_prefix Columns false 0x1312 places_as_bytes 0x40 12345).text
     ≡ codes "S 12345 47464544      IOC?         5756555453525150 5f5e5d5c5b5a5958 6766656463626160 6b6a6968 6f6e6d6c ")
     × (sh_name places_as_bytes 0x40 ≡ 0x43424140)
     × (sh_addralign places_as_bytes 0x40 ≡ 0x7776757473727170)
@@ -39,20 +39,20 @@ SegmentFieldsStand =
 -- the fields of a symbol; its index may be wider than its column
 abbrev pub SymbolFieldsStand : Type 0
 SymbolFieldsStand =
-    ((symbol_front Columns false 0x1312 places_as_bytes 0x40 3 12345678901).text
+    ((symbol_prefix Columns false 0x1312 places_as_bytes 0x40 3 12345678901).text
     ≡ codes "Y     3 12345678901 4f4e4d4c4b4a4948 5756555453525150 FILE         4 INTERNAL  18246 ")
     × (st_name places_as_bytes 0x40 ≡ 0x43424140)
 
 -- the fields of a relocation entry
 abbrev pub RelocationFieldsStand : Type 0
 RelocationFieldsStand =
-    (relocation_front Columns false 62 places_as_bytes 0x40 3).text
+    (relocation_prefix Columns false 62 places_as_bytes 0x40 3).text
     ≡ codes "R     3 4746454443424140 #1263159624 4f4e4d4c +5756555453525150 "
 
 -- the fields of a dynamic entry and of a note's head; an entry's index may be wider than its column
 abbrev pub OtherFieldsStand : Type 0
 OtherFieldsStand =
-    ((dynamic_front Columns false places_as_bytes 0x40 123456).text ≡ codes "D 123456 4746454443424140 4f4e4d4c4b4a4948 ")
+    ((dynamic_prefix Columns false places_as_bytes 0x40 123456).text ≡ codes "D 123456 4746454443424140 4f4e4d4c4b4a4948 ")
     × (n_namesz places_as_bytes 0x40 ≡ 0x43424140)
     × (n_descsz places_as_bytes 0x40 ≡ 0x47464544)
     × (n_type places_as_bytes 0x40 ≡ 0x4b4a4948)
@@ -159,6 +159,6 @@ CausesHaveWords =
     ∷ codes "version-index" ∷ []
 
 -- the first and the last printing character and their neighbours, and those of the backslash
-abbrev pub BytesAreSpelt : Type 0
-BytesAreSpelt =
+abbrev pub BytesAreEscaped : Type 0
+BytesAreEscaped =
     escaped (0 ∷ 0x1f ∷ 0x20 ∷ 0x5b ∷ 0x5c ∷ 0x5d ∷ 0x7e ∷ 0x7f ∷ 0xff ∷ []) ≡ codes "\\x00\\x1f [\\\\]~\\x7f\\xff"

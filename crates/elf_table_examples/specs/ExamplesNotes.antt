@@ -1,7 +1,7 @@
 -- Worked examples of note tables.
 use Rattle.std.specs.Prelude.{◌≡◌, ℕ, List, [], ◌∷◌, ◌++◌, codes, replicate, None, Some}
-use Rattle.elf_model.specs.Notes.{Note, Walk, walked, note_rows, note_shown, note_align}
-use Rattle.elf_model.specs.Names.Shown.{Whole, Cut}
+use Rattle.elf_model.specs.Notes.{Note, NoteScan, walked, note_rows, note_shown, note_align}
+use Rattle.elf_model.specs.Names.DisplayedName.{Whole, Cut}
 use Rattle.elf_model.specs.Fixtures.{zeros}
 use Rattle.elf_model.specs.FixturesTables.{build_note, aligned_note}
 use Rattle.elf_model.specs.Bytes.{little}
@@ -19,10 +19,10 @@ abbrev pub note : ℕ → List ℕ → List ℕ → Note
 note kind name descriptor = record { kind = kind; name = name; descriptor = descriptor }
 
 -- notes to the table's end, and notes up to a place where the table is cut
-abbrev pub uncut : List Note → Walk
+abbrev pub uncut : List Note → NoteScan
 uncut notes = record { notes = notes; cut = None }
 
-abbrev pub cut_note_at : List Note → ℕ → Walk
+abbrev pub cut_note_at : List Note → ℕ → NoteScan
 cut_note_at notes place = record { notes = notes; cut = Some place }
 
 -- a build identifier: the name `GNU` and a NUL, a descriptor of 20 bytes, 36 bytes in all

@@ -10,7 +10,7 @@ use Rattle.elf_model.specs.FixturesTables.{plain_note, program_header, tagged}
 use Rattle.elf_model.specs.TraitCost.{traits_cost}
 use Rattle.elf_model.specs.Traits.{traits_of}
 use Rattle.elf_model.specs.TraitWords.{trait_line}
-use Rattle.elf_model.specs.declared.states.FileState.TheVariants.{Refused}
+use Rattle.elf_model.specs.declared.states.FileStatus.TheVariants.{Refused}
 
 -- its program headers, from 0x40 on: all of it is loaded at address 0; the interpreter; the dynamic entries; the permissions of
 -- the stack; what is read-only once it is relocated; the notes

@@ -1,5 +1,5 @@
 //! Worked records and names, each computed by the prover.
-ghost use Rattle.elf_table_examples.specs.ExamplesFields.{HeaderFieldsStand, SectionFieldsStand, SegmentFieldsStand, SymbolFieldsStand, RelocationFieldsStand, OtherFieldsStand, FieldsHaveWidths, FileTypesHaveNames, SectionTypesHaveNames, SectionFlagsHaveLetters, SegmentTypesHaveNames, PermissionsHaveLetters, SymbolNumbersHaveNames, RelocationTypesHaveNames, DynamicTagsHaveNames, CausesHaveWords, BytesAreSpelt};
+ghost use Rattle.elf_table_examples.specs.ExamplesFields.{HeaderFieldsStand, SectionFieldsStand, SegmentFieldsStand, SymbolFieldsStand, RelocationFieldsStand, OtherFieldsStand, FieldsHaveWidths, FileTypesHaveNames, SectionTypesHaveNames, SectionFlagsHaveLetters, SegmentTypesHaveNames, PermissionsHaveLetters, SymbolNumbersHaveNames, RelocationTypesHaveNames, DynamicTagsHaveNames, CausesHaveWords, BytesAreEscaped};
 
 /// The fields of the file header.
 #[tactic(auto, unfolding(elf_model::proofs::OnLiterals::on_literals, crate::proofs::OnExamples::on_examples))]
@@ -99,6 +99,6 @@ pub fn causes_have_words()
 
 /// The spelling of the bytes of a name.
 #[tactic(auto, unfolding(elf_model::proofs::OnLiterals::on_literals, crate::proofs::OnExamples::on_examples))]
-pub fn bytes_are_spelt()
-    ensures { BytesAreSpelt }
+pub fn bytes_are_escaped()
+    ensures { BytesAreEscaped }
 {}

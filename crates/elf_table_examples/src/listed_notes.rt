@@ -1,5 +1,5 @@
 //! Listings of notes, each computed by the prover.
-ghost use Rattle.elf_table_examples.specs.ListedNotes.{OneNoteLists, ZerosBehindANote, NotesPastTheEnd, NotesAtBothAlignments, LongDescriptorsAreCut, SegmentNotesList, NotesOutsideTheFile, BytesBehindNotes, EmptyNotesAreNotChecked};
+ghost use Rattle.elf_table_examples.specs.ListedNotes.{OneNoteLists, ZerosAfterANote, NotesPastTheEnd, NotesAtBothAlignments, LongDescriptorsAreCut, SegmentNotesList, NotesOutsideTheFile, BytesAfterNotes, EmptyNotesAreNotChecked};
 
 /// One note that fills its table, and with its name cut.
 #[tactic(auto, unfolding(elf_model::proofs::OnLiterals::on_literals))]
@@ -9,8 +9,8 @@ pub fn one_note_lists()
 
 /// Fewer than 12 zero bytes behind a note are the end; with another byte among them the table is cut.
 #[tactic(auto, unfolding(elf_model::proofs::OnLiterals::on_literals))]
-pub fn zeros_behind_a_note()
-    ensures { ZerosBehindANote }
+pub fn zeros_after_a_note()
+    ensures { ZerosAfterANote }
 {}
 
 /// A descriptor that ends past the table.
@@ -45,8 +45,8 @@ pub fn notes_outside_the_file()
 
 /// What stands behind a table of notes.
 #[tactic(auto, unfolding(elf_model::proofs::OnLiterals::on_literals))]
-pub fn bytes_behind_notes()
-    ensures { BytesBehindNotes }
+pub fn bytes_after_notes()
+    ensures { BytesAfterNotes }
 {}
 
 /// Notes of size 0 have no rows and are not checked.

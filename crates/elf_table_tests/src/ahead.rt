@@ -1,6 +1,6 @@
 //! How often a source is read for names and symbols, in order, with gaps, again and scattered.
-use elf_fakes::Planned;
-use elf_headers::{Cap, Fault};
+use elf_fakes::FaultySource;
+use elf_headers::{Fault, NameLimit};
 use elf_names::{NameIndex, ReadAhead};
 use elf_source::Counted;
 use elf_table::{NameBuf, NameEnd, Names, Table};
@@ -21,7 +21,7 @@ fn strings() -> [u8; STRINGS] {
 // Reads the name at an index of that string table, whose entry is at 7.
 fn read_name(
     ahead: &mut ReadAhead,
-    src: &mut Counted<Planned<'_>>,
+    src: &mut Counted<FaultySource<'_>>,
     off: u64,
     rt: &impl Abort,
 ) -> Result<NameEnd, Fault> {
@@ -29,7 +29,7 @@ fn read_name(
     let names = Names::new(0, STRINGS as u64);
     let index = NameIndex { names, off, at: 7 };
     let mut name = NameBuf::new();
-    let end = ahead.name(src, index, Cap { bytes: 256 }, &mut name);
+    let end = ahead.name(src, index, NameLimit { bytes: 256 }, &mut name);
     assert!(rt; end.is_err() || name.bytes() == b"aaaaaaa".as_slice());
     end
 }
@@ -37,7 +37,7 @@ fn read_name(
 #[test]
 fn names_in_order_take_few_reads(rt: HostRuntime) {
     let bytes = strings();
-    let mut src = Counted::new(Planned::new(&bytes, 0));
+    let mut src = Counted::new(FaultySource::new(&bytes, 0));
     let mut ahead = ReadAhead::new();
     for i in 0..2000 {
         let end = read_name(&mut ahead, &mut src, 8 * i, &rt);
@@ -51,7 +51,7 @@ fn names_in_order_take_few_reads(rt: HostRuntime) {
 #[test]
 fn names_with_gaps_take_few_reads(rt: HostRuntime) {
     let bytes = strings();
-    let mut src = Counted::new(Planned::new(&bytes, 0));
+    let mut src = Counted::new(FaultySource::new(&bytes, 0));
     let mut ahead = ReadAhead::new();
     for i in 0..150 {
         let end = read_name(&mut ahead, &mut src, 104 * i, &rt);
@@ -65,7 +65,7 @@ fn names_with_gaps_take_few_reads(rt: HostRuntime) {
 #[test]
 fn scattered_names_behind_a_run_take_one_small_read_each(rt: HostRuntime) {
     let bytes = strings();
-    let mut src = Counted::new(Planned::new(&bytes, 0));
+    let mut src = Counted::new(FaultySource::new(&bytes, 0));
     let mut ahead = ReadAhead::new();
     for i in 0..160 {
         let off = if i < 10 { 8 * i } else { 616 * i % 15_000 };
@@ -83,7 +83,7 @@ const SYMBOLS: u64 = 500;
 // Whether the symbol at an index of a table whose bytes tell it is read.
 fn gives_symbol(
     ahead: &mut ReadAhead,
-    src: &mut Counted<Planned<'_>>,
+    src: &mut Counted<FaultySource<'_>>,
     index: u64,
     rt: &impl Abort,
 ) -> bool {
@@ -95,7 +95,7 @@ fn gives_symbol(
 // The same with what a name leaves of its credit.
 fn read_symbol(
     ahead: &mut ReadAhead,
-    src: &mut Counted<Planned<'_>>,
+    src: &mut Counted<FaultySource<'_>>,
     index: u64,
     rt: &impl Abort,
 ) -> bool {
@@ -106,7 +106,7 @@ fn read_symbol(
         at: 7,
     };
     let mut name = NameBuf::new();
-    let end = ahead.name(src, unnamed, Cap { bytes: 256 }, &mut name);
+    let end = ahead.name(src, unnamed, NameLimit { bytes: 256 }, &mut name);
     end == Ok(NameEnd::Whole) && gives_symbol(ahead, src, index, rt)
 }
 
@@ -123,7 +123,7 @@ fn symbols() -> [u8; 12_000] {
 #[test]
 fn symbols_in_order_take_few_reads(rt: HostRuntime) {
     let bytes = symbols();
-    let mut src = Counted::new(Planned::new(&bytes, 0));
+    let mut src = Counted::new(FaultySource::new(&bytes, 0));
     let mut ahead = ReadAhead::new();
     for i in 0..SYMBOLS {
         assert!(rt; read_symbol(&mut ahead, &mut src, i, &rt), "{i}");
@@ -135,7 +135,7 @@ fn symbols_in_order_take_few_reads(rt: HostRuntime) {
 #[test]
 fn symbols_that_repeat_take_few_reads(rt: HostRuntime) {
     let bytes = symbols();
-    let mut src = Counted::new(Planned::new(&bytes, 0));
+    let mut src = Counted::new(FaultySource::new(&bytes, 0));
     let mut ahead = ReadAhead::new();
     for i in 0..2 * SYMBOLS {
         assert!(rt; gives_symbol(&mut ahead, &mut src, i / 2, &rt), "{i}");
@@ -147,7 +147,7 @@ fn symbols_that_repeat_take_few_reads(rt: HostRuntime) {
 #[test]
 fn scattered_symbols_take_one_small_read_each(rt: HostRuntime) {
     let bytes = symbols();
-    let mut src = Counted::new(Planned::new(&bytes, 0));
+    let mut src = Counted::new(FaultySource::new(&bytes, 0));
     let mut ahead = ReadAhead::new();
     for i in 0..SYMBOLS {
         let index = i * 77 % SYMBOLS;

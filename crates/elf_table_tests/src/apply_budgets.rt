@@ -1,7 +1,7 @@
 //! Where a limit on what may be asked for refuses a section, and how much was asked for by then.
 use elf_apply::{Applied, apply};
 use elf_fixtures::one_call;
-use elf_headers::{HeaderRoom, HeaderStore, Stop};
+use elf_headers::{HeaderBuffer, HeaderStore, RunFault};
 use elf_layout::{Item, Layout};
 use elf_record::{Cause, Refusal};
 use elf_source::{Counted, MemorySource, Out, SliceSink};
@@ -10,7 +10,7 @@ use std::test::Fail;
 
 /// What a request within a limit answers: the answer, how many bytes were asked for, and the bytes
 /// of the output, which are 9 where nothing was written.
-type Limited = (Result<Applied, Stop>, u128, [u8; 128]);
+type Limited = (Result<Applied, RunFault>, u128, [u8; 128]);
 
 /// Applies to section 1 of the file with one call within a limit, of which none is left afterwards.
 fn limited(rt: &impl Abort, layout: &Layout, store: &mut HeaderStore, budget: u64) -> Limited {
@@ -48,7 +48,7 @@ fn check_refused(rt: &impl Abort, layout: &Layout, store: &mut HeaderStore, row:
     let (answer, asked, bytes) = limited(rt, layout, store, budget);
     let cause = Cause::Budget;
     assert!(rt;
-        answer.err() == Some(Stop::Refused(Refusal { at, cause })),
+        answer.err() == Some(RunFault::Refused(Refusal { at, cause })),
         "{budget} bytes"
     );
     assert!(rt; asked == wanted, "{budget} bytes");
@@ -57,7 +57,7 @@ fn check_refused(rt: &impl Abort, layout: &Layout, store: &mut HeaderStore, row:
 
 #[test]
 fn each_entry_may_take_its_symbol_and_all_names(rt: HostRuntime) -> Result<(), Fail> {
-    let mut room = HeaderRoom::new(rt.alloc(), 5)?;
+    let mut room = HeaderBuffer::new(rt.alloc(), 5)?;
     let mut store = room.store();
     let layout = linked(&rt);
     check_refused(&rt, &layout, &mut store, (384, 0x48, 384));

@@ -2,7 +2,7 @@
 
 use elf_apply::apply;
 use elf_fixtures::{falling_relocations, rising_relocations};
-use elf_headers::{HeaderRoom, Stop};
+use elf_headers::{HeaderBuffer, RunFault};
 use elf_layout::Layout;
 use elf_record::{Cause, Refusal};
 use elf_source::{Counted, Out, SliceSink, Source, SourceFault};
@@ -46,7 +46,7 @@ fn an_entry_that_falls_back_is_refused(rt: HostRuntime) -> Result<(), Fail> {
     let second = falling_relocations();
     let mut fell: u8 = 0;
     for turns in 2..12_u32 {
-        let mut room = HeaderRoom::new(rt.alloc(), 3)?;
+        let mut room = HeaderBuffer::new(rt.alloc(), 3)?;
         let mut store = room.store();
         let mut src = Counted::new(Turning {
             first: rising_relocations(),
@@ -62,7 +62,7 @@ fn an_entry_that_falls_back_is_refused(rt: HostRuntime) -> Result<(), Fail> {
                 at: 0x108,
                 cause: Cause::PlaceOutside,
             };
-            assert!(rt; fault == Stop::Refused(last));
+            assert!(rt; fault == RunFault::Refused(last));
             assert!(rt; out.written() == 126);
             assert!(rt; turns == 3, "{turns}");
             fell = fell.saturating_add(1);

@@ -1,9 +1,9 @@
 //! How often the source is read and the writer called for an applied section.
 
 use elf_apply::apply;
-use elf_fakes::{Planned, Printer, Script};
+use elf_fakes::{FaultScript, FaultySource, ShortWriter};
 use elf_fixtures::{rising_relocations, with_bytes};
-use elf_headers::HeaderRoom;
+use elf_headers::HeaderBuffer;
 use elf_layout::Layout;
 use elf_source::{Counted, Out, WriteSink};
 use std::process::Abort;
@@ -27,11 +27,11 @@ fn long_section() -> [u8; 8192] {
 
 /// How often the source is read, and how often the writer is called, where a file is applied.
 fn calls(file: &[u8], rt: &(impl Abort + AllocGlobal)) -> Result<(u32, u32), Fail> {
-    let mut room = HeaderRoom::new(rt.alloc(), 3)?;
+    let mut room = HeaderBuffer::new(rt.alloc(), 3)?;
     let mut store = room.store();
-    let script = Script::new();
-    let mut src = Counted::new(Planned::new(file, 0));
-    let mut out = Out::new(WriteSink::new(Printer::new(9999, &script, rt.alloc())));
+    let script = FaultScript::new();
+    let mut src = Counted::new(FaultySource::new(file, 0));
+    let mut out = Out::new(WriteSink::new(ShortWriter::new(9999, &script, rt.alloc())));
     let answer = apply(&mut src, &mut store, 1, &Layout::new(), &mut out);
     assert!(rt; answer.is_ok());
     Ok((src.into_inner().reads, script.calls()))

@@ -1,9 +1,9 @@
 //! Calls that are there for callers and that no other crate makes.
 ghost use Rattle.std.specs.Prelude.{◌≡◌};
-ghost use Rattle.elf_table.specs.Tables.{RowsWithin};
+ghost use Rattle.elf_table.specs.Tables.{TableInBounds};
 
 use elf_fixtures::{build_note, repeated_tags};
-use elf_headers::{Cap, Caps, Fault};
+use elf_headers::{Caps, Fault, NameLimit};
 use elf_note::{DynCursor, NoteCursor, dynamic_rows};
 use elf_record::numbers::{R_X86_64_32, R_X86_64_COPY, R_X86_64_PC32, R_X86_64_PLT32};
 use elf_reloc::{ValueFault, value};
@@ -19,9 +19,9 @@ fn next_note<S: Source>(
     src: &mut Counted<S>,
     name: &mut NameBuf,
 ) -> Result<Option<(u64, u32, usize, Option<u8>)>, Fault>
-    requires { RowsWithin src.old.seen.size cursor.old.table }
+    requires { TableInBounds src.old.seen.size cursor.old.table }
 {
-    let Some(row) = cursor.next(src, Cap { bytes: 63 }, name)? else {
+    let Some(row) = cursor.next(src, NameLimit { bytes: 63 }, name)? else {
         return Ok(None);
     };
     let last = row.desc.last().copied();
@@ -54,7 +54,7 @@ fn next_entry<S: Source>(
     cursor: &mut DynCursor,
     src: &mut Counted<S>,
 ) -> Result<Option<(u64, u64, Option<u8>)>, Fault>
-    requires { RowsWithin src.old.seen.size cursor.old.cursor.table }
+    requires { TableInBounds src.old.seen.size cursor.old.cursor.table }
 {
     let Some(row) = cursor.next(src)? else {
         return Ok(None);

@@ -1,10 +1,10 @@
 //! How often a source is read for a lookup along a chain of all symbols.
 ghost use Rattle.std.specs.Prelude.{◌<◌};
 
-use elf_fakes::Planned;
+use elf_fakes::FaultySource;
 use elf_fixtures::bare_header;
 use elf_hash::find;
-use elf_headers::HeaderRoom;
+use elf_headers::HeaderBuffer;
 use elf_record::{Ehdr, Shdr, Sym};
 use elf_source::Counted;
 use std::process::Abort;
@@ -84,9 +84,9 @@ fn one_chain(rt: &impl Abort) -> [u8; SIZE] {
 #[test]
 fn a_lookup_reads_word_by_word(rt: HostRuntime) -> Result<(), Fail> {
     let file = one_chain(&rt);
-    let mut room = HeaderRoom::new(rt.alloc(), 4)?;
+    let mut room = HeaderBuffer::new(rt.alloc(), 4)?;
     let mut store = room.store();
-    let mut src = Counted::new(Planned::new(&file, 0));
+    let mut src = Counted::new(FaultySource::new(&file, 0));
     let answer = find(&mut src, &mut store, &name(40));
     assert!(rt; answer.is_ok());
     let source = src.into_inner();

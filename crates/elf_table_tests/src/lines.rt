@@ -1,6 +1,6 @@
 //! How a long name is written.
 use crate::sources::printer_sink;
-use elf_fakes::Script;
+use elf_fakes::FaultScript;
 use elf_lines::show_symbol;
 use elf_model::Format;
 use elf_record::Sym;
@@ -17,7 +17,7 @@ const MAIN: Sym = Sym {
 
 #[test]
 fn a_long_name_is_written_in_pieces(rt: HostRuntime) {
-    let script = Script::new();
+    let script = FaultScript::new();
     let mut out = Out::new(printer_sink(999, &script, rt.alloc()));
     let name = [0x7f; 300];
     assert!(rt; show_symbol(1, 1, &MAIN, &name, Format::Columns, &mut out) == Ok(()));

@@ -1,7 +1,7 @@
 //! What no clause says of a load: that the store can be made, and how much each read takes.
-use elf_fakes::Planned;
+use elf_fakes::FaultySource;
 use elf_fixtures::tables_over_headers;
-use elf_headers::{Fault, HeaderRoom, HeaderStore, Loaded, header, load};
+use elf_headers::{Fault, HeaderBuffer, HeaderStore, Loaded, header, load};
 use elf_source::{Counted, Source, SourceFault};
 use std::test::Fail;
 
@@ -21,7 +21,7 @@ fn three_pages(count: u8) -> [u8; 64 + 64 * 130] {
 
 #[test]
 fn a_fault_in_any_page_names_its_offset(rt: HostRuntime) -> Result<(), Fail> {
-    let mut room = HeaderRoom::new(rt.alloc(), 130)?;
+    let mut room = HeaderBuffer::new(rt.alloc(), 130)?;
     let mut store = room.store();
     for (count, failing, at) in [
         (65, 1, 0),
@@ -32,7 +32,10 @@ fn a_fault_in_any_page_names_its_offset(rt: HostRuntime) -> Result<(), Fail> {
     ] {
         let fault = SourceFault::Device;
         let file = three_pages(count);
-        let answer = open(&mut Counted::new(Planned::new(&file, failing)), &mut store);
+        let answer = open(
+            &mut Counted::new(FaultySource::new(&file, failing)),
+            &mut store,
+        );
         assert!(rt;
             answer.err() == Some(Fault::Source { fault, at }),
             "{count}, {failing}"
@@ -44,7 +47,7 @@ fn a_fault_in_any_page_names_its_offset(rt: HostRuntime) -> Result<(), Fail> {
 #[test]
 fn a_store_of_any_size_can_be_made(rt: HostRuntime) -> Result<(), Fail> {
     for headers in [1, 4, 256, 4_096, 65_279] {
-        let mut room = HeaderRoom::new(rt.alloc(), headers)?;
+        let mut room = HeaderBuffer::new(rt.alloc(), headers)?;
         let store = room.store();
         assert!(rt; store.slots() == headers);
     }

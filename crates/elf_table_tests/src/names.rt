@@ -1,6 +1,6 @@
 //! How often a source is read for a name that is read or compared alone, and which read fails.
-use elf_fakes::Planned;
-use elf_headers::{Cap, Fault};
+use elf_fakes::FaultySource;
+use elf_headers::{Fault, NameLimit};
 use elf_names::{NameIndex, ReadAhead};
 use elf_source::{Counted, SourceFault};
 use elf_table::{NameBuf, NameEnd, Names};
@@ -17,10 +17,10 @@ fn read_and_compare(
     let (off, at) = (10, 7);
     let index = NameIndex { names, off, at };
     let mut name = NameBuf::new();
-    let mut src = Counted::new(Planned::new(&bytes, failing));
+    let mut src = Counted::new(FaultySource::new(&bytes, failing));
     assert!(rt; src.length() == 220);
-    let read = ReadAhead::new().name(&mut src, index, Cap { bytes: 180 }, &mut name);
-    let mut src = Counted::new(Planned::new(&bytes, failing));
+    let read = ReadAhead::new().name(&mut src, index, NameLimit { bytes: 180 }, &mut name);
+    let mut src = Counted::new(FaultySource::new(&bytes, failing));
     assert!(rt; src.length() == 220);
     let compared = names.equals(&mut src, off, at, &[b'a'; 180]);
     (read, compared)
@@ -42,7 +42,7 @@ fn reads_of_a_comparison(count: usize, rt: &impl Abort) -> u32 {
     let mut strings = [b'a'; 4097];
     strings[count] = 0;
     let names = Names::new(0, 4097);
-    let mut src = Counted::new(Planned::new(&strings, 0));
+    let mut src = Counted::new(FaultySource::new(&strings, 0));
     assert!(rt; src.length() == 4097);
     let answer = names.equals(&mut src, 0, 7, &[b'a'; 4096][..count]);
     assert!(rt; answer == Ok(true) && src.asked() == count as u128 + 1);

@@ -1,9 +1,9 @@
 //! How often a source is asked for notes, and for how much of them.
 ghost use Rattle.std.specs.Prelude.{◌≡◌};
-ghost use Rattle.elf_table.specs.Tables.{RowsWithin};
+ghost use Rattle.elf_table.specs.Tables.{TableInBounds};
 
-use elf_fakes::Planned;
-use elf_headers::{Cap, Fault};
+use elf_fakes::FaultySource;
+use elf_headers::{Fault, NameLimit};
 use elf_note::NoteCursor;
 use elf_source::{Counted, Source};
 use elf_table::{NameBuf, Table};
@@ -13,10 +13,10 @@ use std::process::Abort;
 fn notes_given<S: Source>(
     cursor: &mut NoteCursor,
     src: &mut Counted<S>,
-    cap: Cap,
+    cap: NameLimit,
     name: &mut NameBuf,
 ) -> Result<u64, Fault>
-    requires { RowsWithin src.old.seen.size cursor.old.table }
+    requires { TableInBounds src.old.seen.size cursor.old.table }
     ensures table { cursor.new.table ≡ cursor.old.table }
     ensures size { src.new.seen.size ≡ src.old.seen.size }
 {
@@ -32,10 +32,10 @@ fn notes_given<S: Source>(
 fn walk(bytes: &[u8], cap: u16, rt: &impl Abort) -> (Result<u64, Fault>, u32, u128) {
     assert!(rt; cap >= 1 && cap <= 4096);
     let mut name = NameBuf::new();
-    let mut src = Counted::new(Planned::new(bytes, 0));
+    let mut src = Counted::new(FaultySource::new(bytes, 0));
     let mut cursor = NoteCursor::new(Table::new(0, bytes.len() as u64, 1), 4);
     assert!(rt; src.length() == bytes.len() as u64);
-    let given = notes_given(&mut cursor, &mut src, Cap { bytes: cap }, &mut name);
+    let given = notes_given(&mut cursor, &mut src, NameLimit { bytes: cap }, &mut name);
     let asked = src.asked();
     (given, src.into_inner().reads, asked)
 }

@@ -1,7 +1,7 @@
 //! How often a source is read for the program headers of a file without sections.
-use elf_fakes::Planned;
+use elf_fakes::FaultySource;
 use elf_fixtures::library_without_sections;
-use elf_headers::{HeaderRoom, header, load};
+use elf_headers::{HeaderBuffer, header, load};
 use elf_source::Counted;
 use std::process::Abort;
 use std::test::Fail;
@@ -19,9 +19,9 @@ fn two_pages() -> [u8; 64 + 56 * 75] {
 #[test]
 fn program_headers_behind_the_first_page_are_loaded(rt: HostRuntime) -> Result<(), Fail> {
     let file = two_pages();
-    let mut room = HeaderRoom::new(rt.alloc(), 75)?;
+    let mut room = HeaderBuffer::new(rt.alloc(), 75)?;
     let mut store = room.store();
-    let mut src = Counted::new(Planned::new(&file, 0));
+    let mut src = Counted::new(FaultySource::new(&file, 0));
     let header = header(&mut src).expect(&rt, "a header");
     let loaded = load(&mut src, &mut store, &header).expect(&rt, "a file that passes");
     assert!(rt; loaded.header().e_shnum == 0);

@@ -1,7 +1,7 @@
 //! What no clause says: that sources and sinks over a device fail only where it does, and then how.
-use elf_fakes::{Printer, Script, Tape, Trouble};
+use elf_fakes::{EndlessReader, FaultScript, InjectedFault, ShortWriter};
 use elf_source::{
-    OffsetReader, Out, OutFault, SeekReader, Sink, SinkFault, Source, SourceFault, StreamSource,
+    FileReader, Out, OutFault, SeekReader, Sink, SinkFault, Source, SourceFault, StreamSource,
     WriteSink,
 };
 use std::alloc::Global;
@@ -9,7 +9,7 @@ use std::io::ErrorKind;
 use std::process::Abort;
 
 /// A failure, as a device tells it.
-pub(crate) const FAILS: Trouble = Trouble::Fails(ErrorKind::Other);
+pub(crate) const FAILS: InjectedFault = InjectedFault::Fails(ErrorKind::Other);
 
 // Fills `out` from `at` on, which the source's length has to allow.
 pub(crate) fn fill_at<S: Source>(
@@ -35,30 +35,30 @@ fn gives<S: Source>(source: &mut S, at: u64, want: &[u8], rt: &impl Abort) -> bo
 pub(crate) fn stream<'a>(
     length: u64,
     most: usize,
-    script: &'a Script,
+    script: &'a FaultScript,
     rt: &impl Abort,
-) -> StreamSource<SeekReader<Tape<'a>>> {
-    StreamSource::new(Tape::new(length, most, script)).expect(rt, "a stream")
+) -> StreamSource<SeekReader<EndlessReader<'a>>> {
+    StreamSource::new(EndlessReader::new(length, most, script)).expect(rt, "a stream")
 }
 
 /// A stream over the same letters, which are read at offsets as a file of the system is.
 pub(crate) fn file_stream<'a>(
     length: u64,
     most: usize,
-    script: &'a Script,
+    script: &'a FaultScript,
     rt: &impl Abort,
-) -> StreamSource<OffsetReader<Tape<'a>>> {
-    let reader = OffsetReader::new(Tape::new(length, most, script));
+) -> StreamSource<FileReader<EndlessReader<'a>>> {
+    let reader = FileReader::new(EndlessReader::new(length, most, script));
     StreamSource::over(reader).expect(rt, "a stream")
 }
 
 /// A sink over a printer that takes at most `most` bytes at a write.
 pub(crate) fn printer_sink<'a>(
     most: usize,
-    script: &'a Script,
+    script: &'a FaultScript,
     alloc: Global,
-) -> WriteSink<Printer<'a>> {
-    WriteSink::new(Printer::new(most, script, alloc))
+) -> WriteSink<ShortWriter<'a>> {
+    WriteSink::new(ShortWriter::new(most, script, alloc))
 }
 
 // Whether a sink takes nothing of a text, and has failed then.
@@ -76,7 +76,7 @@ fn put_texts<W: Sink>(out: &mut Out<W>) -> Result<(), OutFault> {
 
 #[test]
 fn one_byte_at_each_read_gives_the_slice(rt: HostRuntime) {
-    let script = Script::new();
+    let script = FaultScript::new();
     let mut source = stream(6, 1, &script, &rt);
     assert!(rt; source.length() == 6);
     assert!(rt; gives(&mut source, 1, b"bcd", &rt));
@@ -85,7 +85,7 @@ fn one_byte_at_each_read_gives_the_slice(rt: HostRuntime) {
 
 #[test]
 fn reads_that_follow_one_another_seek_once(rt: HostRuntime) {
-    let script = Script::new();
+    let script = FaultScript::new();
     let mut source = stream(6, 9, &script, &rt);
     assert!(rt; script.seeks() == 1);
     for (at, want, seeks) in [(1, b"bc", 2), (3, b"de", 2), (0, b"ab", 3), (2, b"cd", 3)] {
@@ -99,28 +99,28 @@ fn reads_that_follow_one_another_seek_once(rt: HostRuntime) {
 
 #[test]
 fn a_length_that_is_not_found_is_a_failure(rt: HostRuntime) {
-    let script = Script::new();
+    let script = FaultScript::new();
     script.go_wrong(0, FAILS);
     assert!(rt;
         matches!(
-            &StreamSource::new(Tape::new(3, 1, &script)),
+            &StreamSource::new(EndlessReader::new(3, 1, &script)),
             Err(SourceFault::Device)
         )
     );
     script.interrupt(64, 0, 0);
     assert!(rt;
         matches!(
-            &StreamSource::new(Tape::new(3, 1, &script)),
+            &StreamSource::new(EndlessReader::new(3, 1, &script)),
             Err(SourceFault::Device)
         )
     );
     script.interrupt(63, 0, 0);
-    assert!(rt; matches!(&StreamSource::new(Tape::new(3, 1, &script)), Ok(_)));
+    assert!(rt; matches!(&StreamSource::new(EndlessReader::new(3, 1, &script)), Ok(_)));
 }
 
 #[test]
 fn one_byte_at_each_write_writes_the_texts(rt: HostRuntime) {
-    let script = Script::new();
+    let script = FaultScript::new();
     let mut out = Out::new(printer_sink(1, &script, rt.alloc()));
     assert!(rt; put_texts(&mut out) == Ok(()));
     assert!(rt; out.written() == 8);
@@ -132,7 +132,7 @@ fn one_byte_at_each_write_writes_the_texts(rt: HostRuntime) {
 #[test]
 fn a_writer_fails_its_sink_for_good(rt: HostRuntime) {
     for (most, well, interrupted, calls) in [(0, 1, 0, 1), (9, 0, 0, 1), (9, 0, 64, 64)] {
-        let script = Script::new();
+        let script = FaultScript::new();
         script.go_wrong(well, FAILS);
         script.interrupt(0, interrupted, 0);
         let mut sink = printer_sink(most, &script, rt.alloc());
@@ -146,7 +146,7 @@ fn a_writer_fails_its_sink_for_good(rt: HostRuntime) {
 
 #[test]
 fn a_write_that_is_interrupted_is_tried_again(rt: HostRuntime) {
-    let script = Script::new();
+    let script = FaultScript::new();
     script.interrupt(0, 63, 0);
     let mut sink = printer_sink(2, &script, rt.alloc());
     assert!(rt; sink.take(b"abc") == Ok(2));
@@ -156,7 +156,7 @@ fn a_write_that_is_interrupted_is_tried_again(rt: HostRuntime) {
 
 #[test]
 fn a_long_text_is_written_whole(rt: HostRuntime) {
-    let script = Script::new();
+    let script = FaultScript::new();
     let text = [b'x'; 70_000];
     let mut out = Out::new(printer_sink(999, &script, rt.alloc()));
     assert!(rt; out.put(&text) == Ok(()));

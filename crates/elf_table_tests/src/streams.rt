@@ -2,7 +2,7 @@
 //! asked for; that a fault of the reader is told, and leaves no place behind from which the next read
 //! would go on; and how often the reader is asked.
 use crate::sources::{FAILS, file_stream, fill_at, stream};
-use elf_fakes::{Script, Trouble, stands_at};
+use elf_fakes::{FaultScript, InjectedFault, stands_at};
 use elf_source::{Source, SourceFault};
 use std::alloc::Global;
 use std::io::ErrorKind;
@@ -25,7 +25,7 @@ fn gives_two<S: Source>(source: &mut S, at: u64, rt: &impl Abort) -> bool {
 
 #[test]
 fn long_reads_are_filled_to_their_end(rt: HostRuntime) {
-    let script = Script::new();
+    let script = FaultScript::new();
     for most in [usize::MAX, 64, 7] {
         let mut source = stream(FAR, most, &script, &rt);
         for count in [65, 4_001, 4_096, 70_000] {
@@ -38,7 +38,7 @@ fn long_reads_are_filled_to_their_end(rt: HostRuntime) {
 #[test]
 fn reads_of_any_size_follow_one_another_anywhere(rt: HostRuntime) {
     for start in [0, (1 << 32) - 70, 1 << 33, FAR - 4_288] {
-        let script = Script::new();
+        let script = FaultScript::new();
         let mut source = stream(FAR, usize::MAX, &script, &rt);
         let mut at = start;
         for count in [1, 63, 64, 64, 4_096] {
@@ -54,7 +54,7 @@ fn reads_of_any_size_follow_one_another_anywhere(rt: HostRuntime) {
 #[test]
 fn a_read_asks_for_no_byte_behind_its_last(rt: HostRuntime) {
     for (length, most) in [(15, 9), (15, 2), (FAR, 9), (FAR, 2)] {
-        let script = Script::new();
+        let script = FaultScript::new();
         let mut source = stream(length, most, &script, &rt);
         let given = gives(&mut source, 10, 5, rt.alloc(), &rt);
         assert!(rt; given && script.asked_to() == 15, "{length}, {most}");
@@ -63,7 +63,7 @@ fn a_read_asks_for_no_byte_behind_its_last(rt: HostRuntime) {
 
 #[test]
 fn a_read_of_no_byte_leaves_the_reader_where_it_stands(rt: HostRuntime) {
-    let script = Script::new();
+    let script = FaultScript::new();
     let mut source = stream(FAR, 9, &script, &rt);
     for (at, calls) in [(12, 4), (30, 8)] {
         assert!(rt; gives_two(&mut source, 10, &rt));
@@ -77,12 +77,12 @@ fn a_read_of_no_byte_leaves_the_reader_where_it_stands(rt: HostRuntime) {
 // since a call of it goes wrong; the reader stood at 5.
 fn recovers(
     at: u64,
-    (well, trouble): (u32, Trouble),
+    (well, trouble): (u32, InjectedFault),
     fault: SourceFault,
     next: u64,
     rt: &impl Abort,
 ) -> bool {
-    let script = Script::new();
+    let script = FaultScript::new();
     let mut source = stream(FAR, 1, &script, rt);
     let before = gives_two(&mut source, 3, rt);
     script.go_wrong(well, trouble);
@@ -107,7 +107,7 @@ fn an_end_at_each_read_leaves_no_place_behind(rt: HostRuntime) {
     for (at, first, end) in [(5, 0, 5), (10, 1, 6)] {
         for well in first..end {
             for next in 0..20 {
-                let ends = (well, Trouble::Ends);
+                let ends = (well, InjectedFault::Ends);
                 let well_again = recovers(at, ends, SourceFault::Ended, next, &rt);
                 assert!(rt; well_again, "{well}, {next}");
             }
@@ -124,9 +124,9 @@ fn a_fault_of_any_kind_is_told_at_once(rt: HostRuntime) {
         ErrorKind::InvalidInput,
     ] {
         for (well, calls) in [(0, 2), (1, 3), (2, 4)] {
-            let script = Script::new();
+            let script = FaultScript::new();
             let mut source = stream(FAR, 1, &script, &rt);
-            script.go_wrong(well, Trouble::Fails(kind));
+            script.go_wrong(well, InjectedFault::Fails(kind));
             let answer = fill_at(&mut source, 10, &mut [255; 2], &rt);
             let told = answer == Err(SourceFault::Device) && script.calls() == calls;
             assert!(rt; told, "{well} calls before");
@@ -141,7 +141,7 @@ fn read_interrupted(
     alloc: Global,
     rt: &impl Abort,
 ) -> Result<(), SourceFault> {
-    let script = Script::new();
+    let script = FaultScript::new();
     let mut source = stream(FAR, 1, &script, rt);
     script.interrupt(seeks, reads, then);
     let mut bytes = vec![in alloc; 255u8; count].expect(rt, "memory");
@@ -174,7 +174,7 @@ fn interruptions_of_one_call_are_counted_together(rt: HostRuntime) {
 
 #[test]
 fn a_file_is_read_at_offsets_and_never_sought(rt: HostRuntime) {
-    let script = Script::new();
+    let script = FaultScript::new();
     let mut source = file_stream(FAR, 9, &script, &rt);
     assert!(rt; source.length() == FAR);
     for (at, calls) in [
@@ -193,7 +193,7 @@ fn a_file_is_read_at_offsets_and_never_sought(rt: HostRuntime) {
 #[test]
 fn a_short_turn_of_a_file_goes_on_behind_its_last_byte(rt: HostRuntime) {
     for (most, calls) in [(1, 71), (7, 11), (64, 3), (70, 2)] {
-        let script = Script::new();
+        let script = FaultScript::new();
         let mut source = file_stream(FAR, most, &script, &rt);
         let given = gives(&mut source, 11, 70, rt.alloc(), &rt);
         assert!(rt; given && script.calls() == calls, "{most} bytes");
@@ -205,8 +205,11 @@ fn a_short_turn_of_a_file_goes_on_behind_its_last_byte(rt: HostRuntime) {
 fn a_fault_of_a_file_is_told_and_leaves_the_next_read_alone(rt: HostRuntime) {
     let device = Err(SourceFault::Device);
     for well in 0..3 {
-        for (trouble, want) in [(FAILS, device), (Trouble::Ends, Err(SourceFault::Ended))] {
-            let script = Script::new();
+        for (trouble, want) in [
+            (FAILS, device),
+            (InjectedFault::Ends, Err(SourceFault::Ended)),
+        ] {
+            let script = FaultScript::new();
             let mut source = file_stream(FAR, 1, &script, &rt);
             script.go_wrong(well, trouble);
             let answer = fill_at(&mut source, 10, &mut [255; 3], &rt);
@@ -218,7 +221,7 @@ fn a_fault_of_a_file_is_told_and_leaves_the_next_read_alone(rt: HostRuntime) {
         }
     }
     for (interrupted, want) in [(63, Ok(())), (64, device)] {
-        let script = Script::new();
+        let script = FaultScript::new();
         let mut source = file_stream(FAR, 1, &script, &rt);
         script.interrupt(0, interrupted, 0);
         let answer = fill_at(&mut source, 10, &mut [255; 2], &rt);

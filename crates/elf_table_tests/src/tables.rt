@@ -1,8 +1,8 @@
 //! How often a source is asked for rows.
 ghost use Rattle.std.specs.Prelude.{◌≡◌};
-ghost use Rattle.elf_table.specs.Tables.{RowsWithin};
+ghost use Rattle.elf_table.specs.Tables.{TableInBounds};
 
-use elf_fakes::Planned;
+use elf_fakes::FaultySource;
 use elf_headers::Fault;
 use elf_source::{Counted, Source};
 use elf_table::{Cursor, Table};
@@ -14,7 +14,7 @@ fn rows_given<S: Source>(
     src: &mut Counted<S>,
     rt: &impl Abort,
 ) -> Result<u64, Fault>
-    requires { RowsWithin src.old.seen.size cursor.old.table }
+    requires { TableInBounds src.old.seen.size cursor.old.table }
     ensures table { cursor.new.table ≡ cursor.old.table }
     ensures size { src.new.seen.size ≡ src.old.seen.size }
 {
@@ -33,7 +33,7 @@ fn rows_given<S: Source>(
 fn walk(count: u64, rt: &impl Abort) -> (Result<u64, Fault>, u32, u128) {
     let bytes = [7; 4104];
     assert!(rt; count <= 171);
-    let mut src = Counted::new(Planned::new(&bytes, 0));
+    let mut src = Counted::new(FaultySource::new(&bytes, 0));
     let mut cursor = Cursor::new(Table::new(0, count, 24));
     assert!(rt; src.length() == 4104);
     let answer = rows_given(&mut cursor, &mut src, rt);

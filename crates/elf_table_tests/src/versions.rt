@@ -1,8 +1,8 @@
 //! How often a source is asked for symbol versions, and for how much of them.
 ghost use Rattle.std.specs.Prelude.{◌≡◌};
-ghost use Rattle.elf_table.specs.Tables.{RowsWithin};
+ghost use Rattle.elf_table.specs.Tables.{TableInBounds};
 
-use elf_fakes::Planned;
+use elf_fakes::FaultySource;
 use elf_fixtures::versioned_library;
 use elf_headers::Fault;
 use elf_record::{Cause, Refusal, VersionKind};
@@ -13,7 +13,7 @@ use std::process::Abort;
 
 /// How many records a cursor gives.
 fn records_given<S: Source>(cursor: &mut VersionCursor, src: &mut Counted<S>) -> Result<u64, Fault>
-    requires { RowsWithin src.old.seen.size cursor.old.held.table }
+    requires { TableInBounds src.old.seen.size cursor.old.held.table }
     ensures table { cursor.new.held ≡ cursor.old.held }
     ensures size { src.new.seen.size ≡ src.old.seen.size }
 {
@@ -26,7 +26,7 @@ fn records_given<S: Source>(cursor: &mut VersionCursor, src: &mut Counted<S>) ->
 
 /// What was asked of a source.
 #[derive(Clone, Copy, PartialEq, Eq)]
-struct Asked {
+struct AskedBytes {
     reads: u32,
     bytes: u64,
 }
@@ -38,8 +38,8 @@ fn walk(
     at: u64,
     size: u64,
     rt: &impl Abort,
-) -> (Result<u64, Fault>, Asked) {
-    let mut src = Counted::new(Planned::new(file, 0));
+) -> (Result<u64, Fault>, AskedBytes) {
+    let mut src = Counted::new(FaultySource::new(file, 0));
     assert!(rt; kind != VersionKind::Need);
     assert!(rt; at <= file.len() as u64 && size <= file.len() as u64 - at);
     assert!(rt; src.length() == file.len() as u64);
@@ -52,7 +52,7 @@ fn walk(
     };
     let source = src.into_inner();
     let (reads, bytes) = (source.reads, source.asked);
-    (answer, Asked { reads, bytes })
+    (answer, AskedBytes { reads, bytes })
 }
 
 // A refusal of a record that leads to a place where none is.
@@ -64,8 +64,8 @@ fn cut(at: u64) -> Result<u64, Fault> {
 }
 
 /// So many reads, of so many bytes together.
-fn took(reads: u32, bytes: u64) -> Asked {
-    Asked { reads, bytes }
+fn took(reads: u32, bytes: u64) -> AskedBytes {
+    AskedBytes { reads, bytes }
 }
 
 #[test]

@@ -1,7 +1,7 @@
 -- The refusals of a segment and of its dynamic entries are not that there is no hash table.
 use Rattle.std.proofs.Common.{◌≡◌, ℕ, ◌%◌, ◌==◌, not, nat_lt, Bool, true, false, List, [], ◌∷◌, length, Option, None, Some, Ok, Err, refl, sym, ap, ◌∙◌}
 use Rattle.elf_model.specs.Checks.{Check, first_refusal, is_outside, refuse}
-use Rattle.elf_model.specs.LoaderScope.{Scope as IsScopeOf, dynamic_segment_index, scope_by_segments, scope_in_segment, scope_in_segments}
+use Rattle.elf_model.specs.LoaderScope.{LookupTables as IsScopeOf, dynamic_segment_index, lookup_tables_by_segments, scope_in_segment, scope_in_segments}
 use Rattle.elf_model.specs.Overlaps.{first_page, loads_from, overlap_checks, overlaps_from, page_behind}
 use Rattle.elf_model.specs.Records.{e_phnum, p_offset, p_filesz, segment_at}
 use Rattle.elf_model.specs.Tables.{segment_dynamic_checks}
@@ -49,18 +49,18 @@ entries_others file at refusal e = go (p_filesz file at == 0) refl
 
 -- so where a file's symbols are told, its dynamic entries are not refused
 module _ (file : List ℕ) where
-  fails_known : (refusal : Refusal) → scope_by_segments file ≡ Err refusal → has_none refusal.cause ≡ false → known_symbols file ≡ Err refusal
+  fails_known : (refusal : Refusal) → lookup_tables_by_segments file ≡ Err refusal → has_none refusal.cause ≡ false → known_symbols file ≡ Err refusal
   unfolding known_symbols
   fails_known refusal e isnt = rw (e, isnt, known_symbols) refl
 
-  overlap_fails : (refusal : Refusal) → first_refusal (overlap_checks file) ≡ Some refusal → scope_by_segments file ≡ Err refusal
-  unfolding scope_by_segments
-  overlap_fails refusal e = rw (e, scope_by_segments) refl
+  overlap_fails : (refusal : Refusal) → first_refusal (overlap_checks file) ≡ Some refusal → lookup_tables_by_segments file ≡ Err refusal
+  unfolding lookup_tables_by_segments
+  overlap_fails refusal e = rw (e, lookup_tables_by_segments) refl
 
   segment_fails : first_refusal (overlap_checks file) ≡ None → (index : ℕ) → dynamic_segment_index file ≡ Some index
-      → (refusal : Refusal) → first_refusal (segment_dynamic_checks file (segment_at file index)) ≡ Some refusal → scope_by_segments file ≡ Err refusal
-  unfolding scope_by_segments scope_in_segments scope_in_segment
-  segment_fails apart index first refusal fails = rw (apart, first, fails, scope_by_segments, scope_in_segments, scope_in_segment) refl
+      → (refusal : Refusal) → first_refusal (segment_dynamic_checks file (segment_at file index)) ≡ Some refusal → lookup_tables_by_segments file ≡ Err refusal
+  unfolding lookup_tables_by_segments scope_in_segments scope_in_segment
+  segment_fails apart index first refusal fails = rw (apart, first, fails, lookup_tables_by_segments, scope_in_segments, scope_in_segment) refl
 
   pub entries_pass : (scope : Option IsScopeOf) → known_symbols file ≡ Ok scope → (index : ℕ) → dynamic_segment_index file ≡ Some index
       → (refusal : Refusal) → first_refusal (segment_dynamic_checks file (segment_at file index)) ≡ Some refusal → ⊥

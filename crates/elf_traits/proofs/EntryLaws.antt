@@ -13,11 +13,11 @@ use Rattle.elf_table.specs.Tables.{Rows, size_of}
 use Rattle.elf_table.specs.Views.{dynamic_table_at}
 use Rattle.elf_lookup_tables.proofs.FoundLaws.{dynamic_is}
 use Rattle.elf_lookup_tables.proofs.SettleLaws.{checked_fails}
-use Rattle.elf_traits.specs.Entries.{TellsTraitEntries}
+use Rattle.elf_traits.specs.Entries.{ReturnsTraitEntries}
 
 module _ (file : List ℕ) (i : ℕ) (e : dynamic_segment_index file ≡ Some i) where
   -- its checks fail
-  pub entries_refused : (fault : Fault) → Err fault ≡ dynamic_table_at file (segment_at file i) → TellsTraitEntries file (Err fault)
+  pub entries_refused : (fault : Fault) → Err fault ≡ dynamic_table_at file (segment_at file i) → ReturnsTraitEntries file (Err fault)
   entries_refused (Refused refusal) h = λ other.
       let at = segment_at file i in
       record { index = i; first = e; fails = checked_fails (segment_dynamic_checks file at) (rows (p_offset file at) (p_filesz file at / 16) 16) (Refused refusal) h }
@@ -35,6 +35,6 @@ module _ (file : List ℕ) (i : ℕ) (e : dynamic_segment_index file ≡ Some i)
       omega (arith, asked, size, low)
 
 -- a fault of a read tells nothing
-pub read_entries : (file : List ℕ) (fault : Fault) → IsOfRead fault → TellsTraitEntries file (Err fault)
+pub read_entries : (file : List ℕ) (fault : Fault) → IsOfRead fault → ReturnsTraitEntries file (Err fault)
 read_entries file (Refused refusal) budget = λ other. absurd (other budget)
 read_entries file (Source fault at) budget = tt

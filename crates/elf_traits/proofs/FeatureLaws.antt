@@ -5,14 +5,14 @@ use Rattle.elf_model.specs.Numbers.{EM_X86_64, PT_NOTE}
 use Rattle.elf_model.specs.Properties.{PropertyList, features_in, listed_from, listed_in, property_list}
 use Rattle.elf_model.specs.Records.{e_machine, e_phnum, p_type, segment_at}
 use Rattle.elf_model.specs.TraitCost.{properties_asked}
-use Rattle.elf_model.specs.Traits.{feature_word}
+use Rattle.elf_model.specs.Traits.{x86_feature_word}
 use Rattle.elf_model.specs.declared.causes.Refusal.{Refusal}
 use Rattle.elf_model.proofs.SumLemmas.{last_cost, sums_grow}
 use Rattle.elf_headers.specs.declared.fault.Fault.{Fault}
 use Rattle.elf_headers.specs.declared.fault.Fault.TheVariants.{Refused, Source}
-use Rattle.elf_traits.specs.Features.{TellsValue}
-use Rattle.elf_traits.specs.Lists.{TellsList, all_notes_asked, is_list, list_at, notes_asked}
-use Rattle.elf_traits.specs.declared.notes.PropertyBytes.{PropertyBytes}
+use Rattle.elf_traits.specs.Features.{ReturnsValue}
+use Rattle.elf_traits.specs.Lists.{ReturnsList, all_notes_asked, is_list, list_at, notes_asked}
+use Rattle.elf_traits.specs.declared.notes.PropertyRange.{PropertyRange}
 
 module _ (file : List ℕ) where
   pub list_other : (i : ℕ) → (p_type file (segment_at file i) == PT_NOTE) ≡ false → list_at file i ≡ Ok None
@@ -70,25 +70,25 @@ module _ (file : List ℕ) where
   asked_all i within = sums_grow (notes_asked file) 0 i (e_phnum file) within
 
   -- THE WORD OF FEATURES
-  pub other_machine : (e_machine file == EM_X86_64) ≡ false → feature_word file ≡ Ok 0
-  unfolding feature_word
-  other_machine isnt = rw (isnt, feature_word) refl
+  pub other_machine : (e_machine file == EM_X86_64) ≡ false → x86_feature_word file ≡ Ok 0
+  unfolding x86_feature_word
+  other_machine isnt = rw (isnt, x86_feature_word) refl
 
   module _ (is : (e_machine file == EM_X86_64) ≡ true) where
-    pub word_none : property_list file ≡ Ok None → feature_word file ≡ Ok 0
-    unfolding feature_word
-    word_none e = rw (is, e, feature_word) refl
+    pub word_none : property_list file ≡ Ok None → x86_feature_word file ≡ Ok 0
+    unfolding x86_feature_word
+    word_none e = rw (is, e, x86_feature_word) refl
 
-    pub word_fails : (refusal : Refusal) → property_list file ≡ Err refusal → feature_word file ≡ Err refusal
-    unfolding feature_word
-    word_fails refusal e = rw (is, e, feature_word) refl
+    pub word_fails : (refusal : Refusal) → property_list file ≡ Err refusal → x86_feature_word file ≡ Err refusal
+    unfolding x86_feature_word
+    word_fails refusal e = rw (is, e, x86_feature_word) refl
 
-    pub word_some : (list : PropertyList) → property_list file ≡ Ok (Some list) → feature_word file ≡ features_in list
-    unfolding feature_word
-    word_some list e = rw (is, e, feature_word) refl
+    pub word_some : (list : PropertyList) → property_list file ≡ Ok (Some list) → x86_feature_word file ≡ features_in list
+    unfolding x86_feature_word
+    word_some list e = rw (is, e, x86_feature_word) refl
 
     -- a fault of the list is one of the word
-    pub list_fails : (fault : Fault) → TellsList file (property_list file) (Err fault) → TellsValue {X = ℕ} (feature_word file) (Err fault)
+    pub list_fails : (fault : Fault) → ReturnsList file (property_list file) (Err fault) → ReturnsValue {X = ℕ} (x86_feature_word file) (Err fault)
     list_fails (Refused refusal) tells = λ other. word_fails refusal (tells other)
     list_fails (Source fault at) tells = tt
 
@@ -133,16 +133,16 @@ module _ (file : List ℕ) where
         let same : suc i ≡ next = omega (arith, on) in
         left ∙ (ap (listed_from file i) one_less ∙ (from_more file i (e_phnum file - suc i) e ∙ ap (λ (n : ℕ). listed_from file n (e_phnum file - n)) same))
 
-    pub lists_stop : (fault : Fault) → TellsList file (list_at file i) (Err fault) → TellsList file (property_list file) (Err fault)
+    pub lists_stop : (fault : Fault) → ReturnsList file (list_at file i) (Err fault) → ReturnsList file (property_list file) (Err fault)
     lists_stop (Refused refusal) tells = λ other. lists_fail refusal (tells other)
     lists_stop (Source fault at) tells = tt
 
-    pub lists_here : (list : PropertyBytes) → TellsList file (list_at file i) (Ok (Some list)) → TellsList file (property_list file) (Ok (Some list))
+    pub lists_here : (list : PropertyRange) → ReturnsList file (list_at file i) (Ok (Some list)) → ReturnsList file (property_list file) (Ok (Some list))
     lists_here list tells = lists_some (is_list file list) tells
 
   pub lists_end : (i : ℕ) → e_phnum file ≤ i → property_list file ≡ listed_from file i (e_phnum file - i) → property_list file ≡ Ok None
   lists_end i behind left = let none : e_phnum file - i ≡ 0 = omega arith in left ∙ (ap (listed_from file i) none ∙ from_none file i)
 
 -- what is told of a value, in other words
-pub value_of : {X : Type 0} (told other : Result X Refusal) (result : Result X Fault) → told ≡ other → TellsValue told result → TellsValue other result
-value_of told other result same tells = subst (λ t. TellsValue t result) same tells
+pub value_of : {X : Type 0} (told other : Result X Refusal) (result : Result X Fault) → told ≡ other → ReturnsValue told result → ReturnsValue other result
+value_of told other result same tells = subst (λ t. ReturnsValue t result) same tells

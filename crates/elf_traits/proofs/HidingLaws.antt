@@ -6,11 +6,11 @@ use Rattle.elf_model.specs.TraitCost.{segment_traits_cost, traits_cost}
 use Rattle.elf_model.specs.Traits.{traits_by_segments, traits_of}
 use Rattle.elf_model.specs.declared.traits.Traits.{Traits}
 use Rattle.elf_model.proofs.StyleLemmas.{view_tells_of_none}
-use Rattle.elf_source.specs.Source.{Counting, Hides}
+use Rattle.elf_source.specs.Source.{CountedState, MasksSectionHeaders}
 use Rattle.elf_headers.proofs.FaultLaws.{charges_hidden}
-use Rattle.elf_headers.specs.Ledger.{Charges, Did, why_stopped}
+use Rattle.elf_headers.specs.Ledger.{CallReads, CallDid, fault_of_result}
 use Rattle.elf_headers.specs.declared.fault.Fault.{Fault}
-use Rattle.elf_traits.specs.Features.{TellsValue}
+use Rattle.elf_traits.specs.Features.{ReturnsValue}
 use Rattle.elf_traits.specs.Finding.{FindsShown, FindsTraits}
 
 cost_is : (file : List ℕ) (headers : ℕ) → segment_traits_cost (without_sections file) headers ≡ traits_cost file headers
@@ -21,15 +21,15 @@ traits_are : (file : List ℕ) (headers : ℕ) → traits_by_segments (without_s
 unfolding traits_of
 traits_are file headers = refl
 
-pub found_hidden : {a b c d : Counting} {headers : ℕ} {result : Result Traits Fault} (most : ℕ → ℕ) → Hides a b true → Hides c d a.hides
-    → Did b c (why_stopped result) (most b.seen.size) (λ file. e_shnum file ≡ 0 → FindsShown file headers b c result)
-    → Did a d (why_stopped result) (most a.seen.size) (λ file. FindsTraits file headers a d result)
+pub found_hidden : {a b c d : CountedState} {headers : ℕ} {result : Result Traits Fault} (most : ℕ → ℕ) → MasksSectionHeaders a b true → MasksSectionHeaders c d a.hides
+    → CallDid b c (fault_of_result result) (most b.seen.size) (λ file. e_shnum file ≡ 0 → FindsShown file headers b c result)
+    → CallDid a d (fault_of_result result) (most a.seen.size) (λ file. FindsTraits file headers a d result)
 found_hidden {a} {b} {c} {d} {headers} {result} most hide show did = record {
-  costs = subst (λ (size : ℕ). Charges a d (why_stopped result) (most size)) hide.same_size (charges_hidden _ (why_stopped result) hide show did.costs);
+  costs = subst (λ (size : ℕ). CallReads a d (fault_of_result result) (most size)) hide.same_size (charges_hidden _ (fault_of_result result) hide show did.costs);
   known = λ file held.
       let found = did.known (without_sections file) (hide.shows refl file held) (view_tells_of_none file).1 in
       record {
-        costs = subst (λ n. Charges a d (why_stopped result) n) (cost_is file headers) (charges_hidden _ (why_stopped result) hide show found.costs);
-        finds = subst (λ t. TellsValue t result) (traits_are file headers) found.finds;
+        costs = subst (λ n. CallReads a d (fault_of_result result) n) (cost_is file headers) (charges_hidden _ (fault_of_result result) hide show found.costs);
+        finds = subst (λ t. ReturnsValue t result) (traits_are file headers) found.finds;
       };
 }

@@ -1,37 +1,37 @@
 -- The symbols that a loader knows, by what a lookup is made in and the counts of its hash table.
 use Rattle.std.proofs.Common.{◌≡◌, ℕ, ◌≤◌, Bool, true, false, List, [], ◌∷◌, Option, None, Some, Ok, Err, refl, ap, arith}
-use Rattle.elf_model.specs.Budget.{IsBudget}
+use Rattle.elf_model.specs.Budget.{IsBudgetRefusal}
 use Rattle.elf_model.specs.Checks.{first_refusal}
 use Rattle.elf_model.specs.LoaderFind.{counts_check}
-use Rattle.elf_model.specs.LoaderScope.{GnuTable, SysvTable, HashKind, Scope as IsScopeOf, least_size, scope_by_segments}
+use Rattle.elf_model.specs.LoaderScope.{GnuTable, SysvTable, HashStyle, LookupTables as IsScopeOf, least_size, lookup_tables_by_segments}
 use Rattle.elf_model.specs.Traits.{has_none, known_symbols}
 use Rattle.elf_model.specs.declared.causes.Refusal.{Refusal}
-use Rattle.elf_source.specs.Source.{Counting}
-use Rattle.elf_headers.specs.Ledger.{Charges, Did, why_stopped}
+use Rattle.elf_source.specs.Source.{CountedState}
+use Rattle.elf_headers.specs.Ledger.{CallReads, CallDid, fault_of_result}
 use Rattle.elf_headers.specs.declared.fault.Fault.{Fault}
 use Rattle.elf_headers.specs.declared.fault.Fault.TheVariants.{Refused, Source}
-use Rattle.elf_hash.specs.Kinds.{hash_kind_of}
+use Rattle.elf_hash.specs.Kinds.{hash_style_of}
 use Rattle.elf_hash.specs.Scopes.{HasCounts, IsPlaceIn, counts_bytes}
-use Rattle.elf_hash.specs.declared.kind.HashKind.{HashKind as Kind}
+use Rattle.elf_hash.specs.declared.kind.HashStyle.{HashStyle as Kind}
 use Rattle.elf_hash.specs.declared.table.HashTable.{HashTable}
-use Rattle.elf_lookup_tables.specs.Scopes.{IsScope, IsScopeFound}
-use Rattle.elf_lookup_tables.specs.declared.scope.Scope.{Scope}
-use Rattle.elf_traits.specs.Known.{AreKnown, TellsKnown, counts_asked, passed_over}
+use Rattle.elf_lookup_tables.specs.Scopes.{IsLookupTables, FindsLookupTables}
+use Rattle.elf_lookup_tables.specs.declared.scope.LookupTables.{LookupTables}
+use Rattle.elf_traits.specs.Known.{AreKnown, ReturnsKnown, counts_asked, passed_over}
 
 -- a file without a hash table is passed over: then a call did not stop
-pub passed_did : {a b : Counting} {n : ℕ} {P : List ℕ → Type 0} (fault : Fault) → Did a b (Some fault) n P → Did a b (why_stopped (passed_over fault)) n P
+pub passed_did : {a b : CountedState} {n : ℕ} {P : List ℕ → Type 0} (fault : Fault) → CallDid a b (Some fault) n P → CallDid a b (fault_of_result (passed_over fault)) n P
 passed_did (Source fault at) did = did
 passed_did {a} {b} {n} {P} (Refused refusal) did = go (has_none refusal.cause) refl
   where
-    go : (h : Bool) → has_none refusal.cause ≡ h → Did a b (why_stopped (passed_over (Refused refusal))) n P
+    go : (h : Bool) → has_none refusal.cause ≡ h → CallDid a b (fault_of_result (passed_over (Refused refusal))) n P
     go true is = rw (is, passed_over) (record { costs = record { reads = did.costs.reads; says = tt }; known = did.known })
     go false isnt = rw (isnt, passed_over) did
 
-pub passed_charges : {a b : Counting} {n : ℕ} (fault : Fault) → Charges a b (Some fault) n → Charges a b (why_stopped (passed_over fault)) n
+pub passed_charges : {a b : CountedState} {n : ℕ} (fault : Fault) → CallReads a b (Some fault) n → CallReads a b (fault_of_result (passed_over fault)) n
 passed_charges (Source fault at) costs = costs
 passed_charges {a} {b} {n} (Refused refusal) costs = go (has_none refusal.cause) refl
   where
-    go : (h : Bool) → has_none refusal.cause ≡ h → Charges a b (why_stopped (passed_over (Refused refusal))) n
+    go : (h : Bool) → has_none refusal.cause ≡ h → CallReads a b (fault_of_result (passed_over (Refused refusal))) n
     go true is = rw (is, passed_over) (record { reads = costs.reads; says = tt })
     go false isnt = rw (isnt, passed_over) costs
 
@@ -40,35 +40,35 @@ not_both true t f = cc
 not_both false t f = cc
 
 -- the cause of it is not want of budget
-not_budget : (refusal : Refusal) → has_none refusal.cause ≡ true → IsBudget refusal → ⊥
+not_budget : (refusal : Refusal) → has_none refusal.cause ≡ true → IsBudgetRefusal refusal → ⊥
 not_budget refusal is budget = not_both (has_none refusal.cause) is (ap has_none budget)
 
-least_most : (kind : HashKind) → least_size kind ≤ 16
+least_most : (kind : HashStyle) → least_size kind ≤ 16
 least_most GnuTable = omega arith
 least_most SysvTable = omega arith
 
 -- what counts ask for at most
 pub counts_most : (kind : Kind) → counts_bytes kind ≤ 16
-counts_most kind = least_most (hash_kind_of kind)
+counts_most kind = least_most (hash_style_of kind)
 
 module _ (file : List ℕ) where
-  known_none : (refusal : Refusal) → scope_by_segments file ≡ Err refusal → has_none refusal.cause ≡ true → known_symbols file ≡ Ok None
+  known_none : (refusal : Refusal) → lookup_tables_by_segments file ≡ Err refusal → has_none refusal.cause ≡ true → known_symbols file ≡ Ok None
   unfolding known_symbols
   known_none refusal e is = rw (e, is, known_symbols) refl
 
-  known_fails : (refusal : Refusal) → scope_by_segments file ≡ Err refusal → has_none refusal.cause ≡ false → known_symbols file ≡ Err refusal
+  known_fails : (refusal : Refusal) → lookup_tables_by_segments file ≡ Err refusal → has_none refusal.cause ≡ false → known_symbols file ≡ Err refusal
   unfolding known_symbols
   known_fails refusal e isnt = rw (e, isnt, known_symbols) refl
 
-  pub passed_tells : (fault : Fault) → IsScopeFound file (scope_by_segments file) (Err fault) → TellsKnown file (passed_over fault)
+  pub passed_tells : (fault : Fault) → FindsLookupTables file (lookup_tables_by_segments file) (Err fault) → ReturnsKnown file (passed_over fault)
   passed_tells (Source fault at) finds = tt
   passed_tells (Refused refusal) finds = go (has_none refusal.cause) refl
     where
-      go : (b : Bool) → has_none refusal.cause ≡ b → TellsKnown file (passed_over (Refused refusal))
+      go : (b : Bool) → has_none refusal.cause ≡ b → ReturnsKnown file (passed_over (Refused refusal))
       go true is = rw (is, passed_over) (known_none refusal (finds (not_budget refusal is)) is)
       go false isnt = rw (isnt, passed_over) (λ other. known_fails refusal (finds other) isnt)
 
-  module _ (told : IsScopeOf) (scope : Scope) (found : scope_by_segments file ≡ Ok told) (is : IsScope file told scope) where
+  module _ (told : IsScopeOf) (scope : LookupTables) (found : lookup_tables_by_segments file ≡ Ok told) (is : IsLookupTables file told scope) where
     -- where its hash table is
     pub its_place : IsPlaceIn told scope.hash
     its_place = record { kind = is.kind; head = is.head; table = record { start = is.place; size = is.size; symbols = is.count } }
@@ -85,7 +85,7 @@ module _ (file : List ℕ) where
     pub counted_known : (table : HashTable) → HasCounts file told (Ok table) → AreKnown file (record { symbols = scope.symbols; table = table })
     counted_known table has = record { scope = told; told = known_some has.0; symbols = is.symbols; table = has.1 }
 
-    pub counts_refused : (fault : Fault) → HasCounts file told (Err fault) → TellsKnown file (Err fault)
+    pub counts_refused : (fault : Fault) → HasCounts file told (Err fault) → ReturnsKnown file (Err fault)
     counts_refused (Refused refusal) has = λ other. known_misshapen refusal (has other)
     counts_refused (Source fault at) has = tt
 
@@ -102,5 +102,5 @@ module _ (file : List ℕ) where
         go (Some refusal) fails =
             let e = known_misshapen refusal fails in
             let asked : counts_asked file ≡ 16 = rw (e, counts_asked) refl in
-            let most = least_most (hash_kind_of scope.hash.kind) in
+            let most = least_most (hash_style_of scope.hash.kind) in
             omega (arith, asked, most)

@@ -4,31 +4,31 @@ use Rattle.std.specs.Prelude.{is_none, option_map}
 use Rattle.std.specs.List.{position_or_len, starts_with}
 use Rattle.std.proofs.lemmas.Bool.{cases_Bool, eqb-true, ne_eqb}
 use Rattle.elf_model.specs.Bytes.{slice}
-use Rattle.elf_model.specs.Notes.{Note, NoteRow, Walk, NextNote, before_nul, note_shown, Ends, Broken, OneNote, descriptor_start, next_note, note_align, note_rows, padded_size, walk_from, walked, with_note}
-use Rattle.elf_model.specs.Properties.{PropertyList, first_listing, is_gnu_name, listed_in, lists_properties}
+use Rattle.elf_model.specs.Notes.{Note, NoteRow, NoteScan, NextNote, before_nul, note_shown, Ends, Broken, OneNote, descriptor_start, next_note, note_align, note_rows, padded_size, walk_from, walked, with_note}
+use Rattle.elf_model.specs.Properties.{PropertyList, first_listing, is_gnu_name, listed_in, is_property_note}
 use Rattle.elf_model.specs.Records.{p_type, p_offset, p_filesz, p_align, segment_at}
 use Rattle.elf_model.specs.declared.causes.Cause.TheVariants.{NoteCut}
 use Rattle.elf_model.specs.declared.causes.Refusal.{Refusal}
-use Rattle.elf_model.specs.Names.Shown.{Whole, Cut}
+use Rattle.elf_model.specs.Names.DisplayedName.{Whole, Cut}
 use Rattle.elf_model.proofs.NoteRowLaws.{note_shown_cut, note_shown_whole}
 use Rattle.elf_model.specs.Checks.{Check, first_refusal, pass, range_checks_of, unless_empty}
 use Rattle.elf_model.proofs.NoteLaws.{nothing-ends}
 use Rattle.elf_record.specs.declared.note_head.NoteHead.{NoteHead}
 use Rattle.elf_headers.specs.declared.fault.Fault.{Fault}
 use Rattle.elf_headers.specs.declared.fault.Fault.TheVariants.{Refused, Source as Unread}
-use Rattle.elf_note.specs.NoteCursors.{AdvancesNote, GivesNote, IsNoteFound, NameIs, NoteReading, ShowsNote, StopsNote, TakesItsBytes, cut_at, no_notes, note_cut, notes_left, note_size}
-use Rattle.elf_note.specs.declared.row.NoteRow.{NoteRow as Shows}
+use Rattle.elf_note.specs.NoteCursors.{AdvancesNote, GivesNote, IsNoteFound, NameIs, NoteCursorState, ShowsNote, StopsNote, TakesItsBytes, cut_at, no_notes, note_cut, notes_left, note_size}
+use Rattle.elf_note.specs.declared.row.NoteRow.{NoteRow as ListingWrote}
 use Rattle.elf_table.specs.Relocations.{RefusedBy}
 use Rattle.elf_table.specs.Sections.{rows}
 use Rattle.elf_table.specs.Views.{byte_table_at}
-use Rattle.elf_table.specs.Windows.{Ahead, HoldsBytes, StillHolds, bytes_left, range_end}
+use Rattle.elf_table.specs.Windows.{WindowState, HoldsBytes, StillHolds, bytes_left, range_end}
 use Rattle.elf_table.proofs.RelocationLaws.{table-fails, table-passes}
-use Rattle.elf_table.specs.Tables.{Rows, RowsWithin}
+use Rattle.elf_table.specs.Tables.{Rows, TableInBounds}
 use Rattle.elf_model.specs.Cost.{cost_where, table_cost}
 use Rattle.elf_model.specs.Numbers.{PT_NOTE}
 use Rattle.elf_model.specs.TableKinds.{segment_notes}
-use Rattle.elf_traits.specs.Lists.{TellsList, first_list, is_list, list_among, list_at, notes_asked}
-use Rattle.elf_traits.specs.declared.notes.PropertyBytes.{PropertyBytes}
+use Rattle.elf_traits.specs.Lists.{ReturnsList, first_list, is_list, list_among, list_at, notes_asked}
+use Rattle.elf_traits.specs.declared.notes.PropertyRange.{PropertyRange}
 
 -- the checks of a table of notes by the program header at an offset
 abbrev pub note_checks : List ℕ → ℕ → List Check
@@ -39,11 +39,11 @@ length-take-le-all : (name : List ℕ) → length (before_nul name) ≤ length n
 length-take-le-all name = omega (arith, length-take (position_or_len (λ b. b == 0) name) name)
 
 -- a walk, further on in a file
-abbrev moved : ℕ → Walk → Walk
+abbrev moved : ℕ → NoteScan → NoteScan
 moved base walk = record { notes = walk.notes; cut = option_map (λ place. base + place) walk.cut }
 
 -- one turn of a walk
-abbrev turn : ℕ → List ℕ → (ℕ → List ℕ → Walk) → NextNote → Walk
+abbrev turn : ℕ → List ℕ → (ℕ → List ℕ → NoteScan) → NextNote → NoteScan
 turn place rest more Ends = record { notes = []; cut = None }
 turn place rest more Broken = record { notes = []; cut = Some place }
 turn place rest more (OneNote note size) = with_note note (more (place + size) (drop size rest))
@@ -88,21 +88,21 @@ first_none : (a place : ℕ) → first_listing (note_rows a place []) ≡ None
 unfolding note_rows first_listing
 first_none a place = refl
 
-first_here : (a place : ℕ) (note : Note) (notes : List Note) → lists_properties note ≡ true → first_listing (note_rows a place (note ∷ notes)) ≡ Some (row_of a place note)
+first_here : (a place : ℕ) (note : Note) (notes : List Note) → is_property_note note ≡ true → first_listing (note_rows a place (note ∷ notes)) ≡ Some (row_of a place note)
 unfolding note_rows first_listing
 first_here a place note notes is = rw (is, first_listing) refl
 
-first_more : (a place : ℕ) (note : Note) (notes : List Note) → lists_properties note ≡ false
+first_more : (a place : ℕ) (note : Note) (notes : List Note) → is_property_note note ≡ false
     → first_listing (note_rows a place (note ∷ notes)) ≡ first_listing (note_rows a (place + padded_size a note) notes)
 unfolding note_rows first_listing
 first_more a place note notes isnt = rw (isnt, first_listing) refl
 
 first_moved : (a base place : ℕ) (notes : List Note) → first_listing (note_rows a (base + place) notes) ≡ option_map (row_moved base) (first_listing (note_rows a place notes))
 first_moved a base place [] = first_none a (base + place) ∙ sym (ap (option_map (row_moved base)) (first_none a place))
-first_moved a base place (note ∷ notes) = go (first_moved a base (place + padded_size a note) notes) (lists_properties note) refl
+first_moved a base place (note ∷ notes) = go (first_moved a base (place + padded_size a note) notes) (is_property_note note) refl
   where
     go : first_listing (note_rows a (base + (place + padded_size a note)) notes) ≡ option_map (row_moved base) (first_listing (note_rows a (place + padded_size a note) notes))
-        → (b : Bool) → lists_properties note ≡ b
+        → (b : Bool) → is_property_note note ≡ b
         → first_listing (note_rows a (base + place) (note ∷ notes)) ≡ option_map (row_moved base) (first_listing (note_rows a place (note ∷ notes)))
     go more true is =
         let on : base + place + descriptor_start a (length note.name) (length note.descriptor) ≡ base + (place + descriptor_start a (length note.name) (length note.descriptor)) = omega arith in
@@ -121,7 +121,7 @@ told (Some row) cut = Ok (Some (record { place = row.descriptor_at; bytes = row.
 told None (Some place) = Err (record { at = place; cause = NoteCut })
 told None None = Ok None
 
-among_is : (a at : ℕ) (walk : Walk) → list_among a at walk ≡ told (first_listing (note_rows a at walk.notes)) walk.cut
+among_is : (a at : ℕ) (walk : NoteScan) → list_among a at walk ≡ told (first_listing (note_rows a at walk.notes)) walk.cut
 among_is a at walk = go (first_listing (note_rows a at walk.notes)) walk.cut refl refl
   where
     go : (found : Option NoteRow) (cut : Option ℕ) → first_listing (note_rows a at walk.notes) ≡ found → walk.cut ≡ cut → list_among a at walk ≡ told found cut
@@ -137,20 +137,20 @@ pub among_cut : (a at place : ℕ) → list_among a at (cut_at place) ≡ Err (r
 among_cut a at place = among_is a at (cut_at place) ∙ ap (λ found. told found (Some place)) (first_none a at)
 
 -- a note lists properties
-pub among_here : (a at : ℕ) (note : Note) (walk : Walk) → lists_properties note ≡ true
+pub among_here : (a at : ℕ) (note : Note) (walk : NoteScan) → is_property_note note ≡ true
     → list_among a at (with_note note walk) ≡ Ok (Some (record { place = at + descriptor_start a (length note.name) (length note.descriptor); bytes = note.descriptor }))
 among_here a at note walk is = among_is a at (with_note note walk) ∙ ap (λ found. told found walk.cut) (first_here a at note walk.notes is)
 
 -- or it does not, and those behind it tell
-among_more : (a at : ℕ) (note : Note) (walk : Walk) → lists_properties note ≡ false → list_among a at (with_note note walk) ≡ list_among a (at + padded_size a note) walk
+among_more : (a at : ℕ) (note : Note) (walk : NoteScan) → is_property_note note ≡ false → list_among a at (with_note note walk) ≡ list_among a (at + padded_size a note) walk
 among_more a at note walk isnt =
     among_is a at (with_note note walk) ∙ (ap (λ found. told found walk.cut) (first_more a at note walk.notes isnt) ∙ sym (among_is a (at + padded_size a note) walk))
 
 -- those stand where it ends with its padding, or there is none of them
-pub among_behind : (a at left after next : ℕ) (note : Note) (walk : Walk) → lists_properties note ≡ false
+pub among_after : (a at left after next : ℕ) (note : Note) (walk : NoteScan) → is_property_note note ≡ false
     → after + note_size a (length note.name) (length note.descriptor) left ≡ left → next + after ≡ at + left → (after ≡ 0 → walk ≡ no_notes)
     → list_among a at (with_note note walk) ≡ list_among a next walk
-among_behind a at left after next note walk isnt takes same ends = among_more a at note walk isnt ∙ go after refl
+among_after a at left after next note walk isnt takes same ends = among_more a at note walk isnt ∙ go after refl
   where
     go : (n : ℕ) → after ≡ n → list_among a (at + padded_size a note) walk ≡ list_among a next walk
     go zero none =
@@ -197,7 +197,7 @@ module _ (file : List ℕ) (at : ℕ) (table : Rows) (place : table.at ≡ p_off
   pub listed_first : first_refusal (note_checks file at) ≡ None → listed_in file at ≡ first_list file (p_align file at) table
   listed_first passes =
       let base = p_offset file at in
-      let w : Walk = walk_from a (suc (length bytes)) 0 bytes in
+      let w : NoteScan = walk_from a (suc (length bytes)) 0 bytes in
       let here : base + 0 ≡ base = omega arith in
       let later : walk_from a (suc (length bytes)) base bytes ≡ moved base w =
       ap (λ n. walk_from a (suc (length bytes)) n bytes) (sym here) ∙ walk_moved a base (suc (length bytes)) 0 bytes in
@@ -208,7 +208,7 @@ module _ (file : List ℕ) (at : ℕ) (table : Rows) (place : table.at ≡ p_off
       ∙ (among_is a base (moved base w)
       ∙ (ap (λ found. told found (option_map (λ place. base + place) w.cut)) rows
       ∙ (sym (moved_told (first_listing (note_rows a 0 w.notes)) w.cut)
-      ∙ sym (listed_is passes ∙ ap (λ (v : Walk). from_start (first_listing (note_rows a 0 v.notes)) v.cut) walked_is)))) in
+      ∙ sym (listed_is passes ∙ ap (λ (v : NoteScan). from_start (first_listing (note_rows a 0 v.notes)) v.cut) walked_is)))) in
       let is : first_list file (p_align file at) table ≡ list_among a base (walk_from a (suc (length bytes)) base bytes) = rw (place, count) refl in
       sym (is ∙ tells)
 
@@ -222,12 +222,12 @@ and_false true c e = e
 and_false false c e = refl
 
 pub gnu_whole : (note : Note) (kind namesz : ℕ) (name : List ℕ) → kind ≡ note.kind → namesz ≡ length note.name → note_shown 63 note ≡ Whole name
-    → (kind == 5 && (namesz == 4 && (length name == 3 && starts_with nat_eq name (codes "GNU")))) ≡ lists_properties note
+    → (kind == 5 && (namesz == 4 && (length name == 3 && starts_with nat_eq name (codes "GNU")))) ≡ is_property_note note
 gnu_whole note kind namesz name k n shown =
     let is = ((note_shown_whole 63 note name).0 shown).0 in
     rw (k, n, sym is) refl
 
-pub gnu_cut : (note : Note) (front : List ℕ) → note_shown 63 note ≡ Cut front → false ≡ lists_properties note
+pub gnu_cut : (note : Note) (front : List ℕ) → note_shown 63 note ≡ Cut front → false ≡ is_property_note note
 gnu_cut note front shown =
     let long = ((note_shown_cut 63 note front).0 shown).0 in
     let most : length (before_nul note.name) ≤ length note.name = length-take-le-all note.name in
@@ -236,7 +236,7 @@ gnu_cut note front shown =
     sym (and_false (note.kind == 5) (is_gnu_name note.name) none)
 
 -- A LOOP over the notes of a table. Before the first all are left
-pub notes_begin : (file : List ℕ) (align : ℕ) (table : Rows) (w : Ahead) → w ≡ record { at = table.at; held = []; unread = table.count; page = 4096 }
+pub notes_begin : (file : List ℕ) (align : ℕ) (table : Rows) (w : WindowState) → w ≡ record { at = table.at; held = []; unread = table.count; page = 4096 }
     → first_list file align table ≡ list_among (note_align align) w.at (notes_left (note_align align) file w)
 notes_begin file align table w is =
     let all : table.count ≡ 0 + table.count = omega arith in
@@ -245,7 +245,7 @@ notes_begin file align table w is =
     rw is (ap start all)
 
 -- a step that gave a note
-pub record NoteStep (file : Option (List ℕ)) (a cap : ℕ) (old new : NoteReading) (name : List ℕ) : Type 0 where
+pub record NoteStep (file : Option (List ℕ)) (a cap : ℕ) (old new : NoteCursorState) (name : List ℕ) : Type 0 where
   pub going : new.failed ≡ None
   pub agrees : StillHolds file old.ahead new.ahead
   pub less : bytes_left new.ahead + 12 ≤ bytes_left old.ahead
@@ -253,7 +253,7 @@ pub record NoteStep (file : Option (List ℕ)) (a cap : ℕ) (old new : NoteRead
   pub gives : (bytes : List ℕ) → file ≡ Some bytes → HoldsBytes bytes old.ahead
       → GivesNote bytes a cap old.ahead.at name new.descriptor (notes_left a bytes old.ahead) (notes_left a bytes new.ahead) new.found
 
-pub step_note : (file : Option (List ℕ)) (a cap : ℕ) (old new : NoteReading) (name : List ℕ) (answer : Bool) → answer ≡ true → old.align ≡ a
+pub step_note : (file : Option (List ℕ)) (a cap : ℕ) (old new : NoteCursorState) (name : List ℕ) (answer : Bool) → answer ≡ true → old.align ≡ a
     → AdvancesNote file cap old new name (Ok answer) → NoteStep file a cap old new name
 step_note file a cap old new name answer is same steps =
     let step = rw is at steps in
@@ -266,15 +266,15 @@ step_note file a cap old new name answer is same steps =
     }
 
 -- it failed: a read, or where no note stands
-pub list_stops : (file : List ℕ) (a align : ℕ) (table : Rows) (w : Ahead) (fault : Fault) → first_list file align table ≡ list_among a w.at (notes_left a file w)
-    → StopsNote w.at fault → (fault ≡ note_cut w.at → notes_left a file w ≡ cut_at w.at) → TellsList file (first_list file align table) (Err fault)
+pub list_stops : (file : List ℕ) (a align : ℕ) (table : Rows) (w : WindowState) (fault : Fault) → first_list file align table ≡ list_among a w.at (notes_left a file w)
+    → StopsNote w.at fault → (fault ≡ note_cut w.at → notes_left a file w ≡ cut_at w.at) → ReturnsList file (first_list file align table) (Err fault)
 list_stops file a align table w (Refused refusal) left (inl read) cut = λ other. absurd (other read)
 list_stops file a align table w (Unread fault at) left (inl read) cut = tt
 list_stops file a align table w fault left (inr is) cut =
     rw is (λ other. left ∙ (ap (list_among a w.at) (cut is) ∙ among_cut a w.at w.at))
 
 -- whether a note that is given lists properties, and where its descriptor stands
-module _ (file : List ℕ) (a : ℕ) (old new : NoteReading) (name : List ℕ) (row : Shows) (shows : ShowsNote new row) (note : Note)
+module _ (file : List ℕ) (a : ℕ) (old new : NoteCursorState) (name : List ℕ) (row : ListingWrote) (shows : ShowsNote new row) (note : Note)
     (is : IsNoteFound file a 63 old.ahead.at note new.found name new.descriptor) where
   pub kind_is : row.head.kind ≡ note.kind
   kind_is = ap (λ (h : NoteHead). h.kind) shows.its_head ∙ is.kind
@@ -289,7 +289,7 @@ module _ (file : List ℕ) (a : ℕ) (old new : NoteReading) (name : List ℕ) (
   descsz_is = ap (λ (h : NoteHead). h.descsz) shows.its_head ∙ is.descsz
 
   -- it does
-  pub note_here : (left : Walk) → notes_left a file old.ahead ≡ with_note note left → lists_properties note ≡ true
+  pub note_here : (left : NoteScan) → notes_left a file old.ahead ≡ with_note note left → is_property_note note ≡ true
       → list_among a old.ahead.at (notes_left a file old.ahead) ≡ Ok (Some (is_list file (record { at = row.desc_at; size = row.head.descsz })))
   note_here left walk lists =
       let place : old.ahead.at + descriptor_start a (length note.name) (length note.descriptor) ≡ row.desc_at = sym is.descriptor_at ∙ sym shows.its_descriptor in
@@ -301,7 +301,7 @@ module _ (file : List ℕ) (a : ℕ) (old new : NoteReading) (name : List ℕ) (
       ∙ ap (λ (b : List ℕ). Ok (Some (record { place = row.desc_at; bytes = b }))) bytes))
 
   -- or it does not
-  pub note_gone : notes_left a file old.ahead ≡ with_note note (notes_left a file new.ahead) → lists_properties note ≡ false
+  pub note_gone : notes_left a file old.ahead ≡ with_note note (notes_left a file new.ahead) → is_property_note note ≡ false
       → TakesItsBytes a old.ahead new.ahead new.found → range_end new.ahead ≡ range_end old.ahead
       → list_among a old.ahead.at (notes_left a file old.ahead) ≡ list_among a new.ahead.at (notes_left a file new.ahead)
   note_gone walk isnt takes same =
@@ -309,16 +309,16 @@ module _ (file : List ℕ) (a : ℕ) (old new : NoteReading) (name : List ℕ) (
       ap (λ (n : ℕ). bytes_left new.ahead + note_size a n (length note.descriptor) (bytes_left old.ahead)) (sym is.namesz)
       ∙ (ap (λ (n : ℕ). bytes_left new.ahead + note_size a new.found.head.namesz n (bytes_left old.ahead)) (sym is.descsz) ∙ takes.size) in
       ap (list_among a old.ahead.at) walk
-      ∙ among_behind a old.ahead.at (bytes_left old.ahead) (bytes_left new.ahead) new.ahead.at note (notes_left a file new.ahead) isnt sized (omega (arith, same)) none_left
+      ∙ among_after a old.ahead.at (bytes_left old.ahead) (bytes_left new.ahead) new.ahead.at note (notes_left a file new.ahead) isnt sized (omega (arith, same)) none_left
     where
       none_left : bytes_left new.ahead ≡ 0 → notes_left a file new.ahead ≡ no_notes
       none_left none =
           let bytes : length (slice file new.ahead.at (bytes_left new.ahead)) ≡ 0 = ap (λ (n : ℕ). length (slice file new.ahead.at n)) none in
-          let start : ℕ → Walk = λ n. walk_from a (suc (length (slice file new.ahead.at n))) new.ahead.at (slice file new.ahead.at n) in
+          let start : ℕ → NoteScan = λ n. walk_from a (suc (length (slice file new.ahead.at n))) new.ahead.at (slice file new.ahead.at n) in
           ap start none ∙ nothing-ends a new.ahead.at
 
 -- no list stands there, or one does
-pub list_none : (file : List ℕ) (a align : ℕ) (table : Rows) (w : Ahead) → first_list file align table ≡ list_among a w.at (notes_left a file w)
+pub list_none : (file : List ℕ) (a align : ℕ) (table : Rows) (w : WindowState) → first_list file align table ≡ list_among a w.at (notes_left a file w)
     → notes_left a file w ≡ no_notes → first_list file align table ≡ Ok None
 list_none file a align table w left none = left ∙ (ap (list_among a w.at) none ∙ among_none a w.at)
 
@@ -346,8 +346,8 @@ both : (a b : Bool) (n : ℕ) → a ≡ true → b ≡ true → cost_where (a &&
 both a b n p q = rw (p, q) refl
 
 -- the rows of one byte of a table
-pub count_within : (table : Rows) (size : ℕ) → table.entry ≡ 1 → RowsWithin size table → table.count ≤ size
-count_within table size one within = go table.count refl
+pub count_fitting : (table : Rows) (size : ℕ) → table.entry ≡ 1 → TableInBounds size table → table.count ≤ size
+count_fitting table size one within = go table.count refl
   where
     go : (n : ℕ) → table.count ≡ n → table.count ≤ size
     go zero none = omega (arith, none)
@@ -361,7 +361,7 @@ module _ (file : List ℕ) (i : ℕ) (is : (p_type file (segment_at file i) == P
   list_notes : list_at file i ≡ listed_in file (segment_at file i)
   list_notes = rw (is, list_at) refl
 
-  pub segment_fails : (fault : Fault) → Err fault ≡ byte_table_at file (segment_at file i) → TellsList file (list_at file i) (Err fault)
+  pub segment_fails : (fault : Fault) → Err fault ≡ byte_table_at file (segment_at file i) → ReturnsList file (list_at file i) (Err fault)
   segment_fails (Refused refusal) h = λ other. list_notes ∙ listed_fails file (segment_at file i) (record { at = p_offset file (segment_at file i); count = p_filesz file (segment_at file i); entry = 1 }) refl refl refusal (range_fails file (segment_at file i) (Refused refusal) h)
   segment_fails (Unread fault at) h = tt
 
@@ -369,11 +369,11 @@ module _ (file : List ℕ) (i : ℕ) (is : (p_type file (segment_at file i) == P
     its : (first_refusal (note_checks file (segment_at file i)) ≡ None) × (rows (p_offset file (segment_at file i)) (p_filesz file (segment_at file i)) 1 ≡ table)
     its = range_passes file (segment_at file i) table h
 
-    pub segment_told : (result : Result (Option PropertyBytes) Fault) → TellsList file (first_list file (p_align file (segment_at file i)) table) result → TellsList file (list_at file i) result
+    pub segment_told : (result : Result (Option PropertyRange) Fault) → ReturnsList file (first_list file (p_align file (segment_at file i)) table) result → ReturnsList file (list_at file i) result
     segment_told result tells =
         let at = segment_at file i in
         let same = list_notes ∙ listed_first file at table (sym (ap (λ (t : Rows). t.at) its.1)) (sym (ap (λ (t : Rows). t.count) its.1)) its.0 in
-        subst (λ told. TellsList file told result) (sym same) tells
+        subst (λ told. ReturnsList file told result) (sym same) tells
 
     pub segment_asked : table.count ≤ notes_asked file i
     unfolding table_cost segment_notes

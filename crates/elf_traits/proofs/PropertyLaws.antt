@@ -8,7 +8,7 @@ use Rattle.elf_model.specs.declared.causes.Cause.TheVariants.{NoteCut}
 use Rattle.elf_model.specs.declared.causes.Refusal.{Refusal}
 use Rattle.elf_model.proofs.Slices.{field-slice, slice-rest, slice-size, slice-slice}
 use Rattle.elf_traits.specs.Features.{found_after, property_at}
-use Rattle.elf_traits.specs.declared.property.Head.{Head}
+use Rattle.elf_traits.specs.declared.property.PropertyHeader.{PropertyHeader}
 
 module _ (file : List ℕ) (at left : ℕ) (within : at + left ≤ length file) where
   sized : length (slice file at left) ≡ left
@@ -47,7 +47,7 @@ module _ (file : List ℕ) (at left : ℕ) (within : at + left ≤ length file) 
   same_property k k' c c' s s' n n' a b d e = rw (a, b, d, e) refl
 
   -- a property
-  pub one_stands : (head : Head) → head.kind ≡ field file at 4 → head.datasz ≡ field file (at + 4) 4 → 8 + head.datasz ≤ left
+  pub one_stands : (head : PropertyHeader) → head.kind ≡ field file at 4 → head.datasz ≡ field file (at + 4) 4 → 8 + head.datasz ≤ left
       → next_property (slice file at left) ≡ OneProperty (property_at file at head) (min (padded_property head.datasz) left)
   unfolding next_property
   one_stands head k d fits =

@@ -5,20 +5,20 @@ use Rattle.elf_model.specs.Bytes.{slice}
 use Rattle.elf_model.specs.Properties.{features_in}
 use Rattle.elf_headers.specs.declared.fault.Fault.{Fault}
 use Rattle.elf_headers.specs.declared.fault.Fault.TheVariants.{Refused, Source}
-use Rattle.elf_traits.specs.Features.{ReadsHead, ReadsWord, TellsValue}
-use Rattle.elf_traits.specs.declared.property.Head.{Head}
+use Rattle.elf_traits.specs.Features.{ReadsHead, ReadsWord, ReturnsValue}
+use Rattle.elf_traits.specs.declared.property.PropertyHeader.{PropertyHeader}
 use Rattle.elf_traits.proofs.PropertyLaws.{LeftOf, left_cut}
 
 module _ (file : List ℕ) (at size done : ℕ) (found : Option ℕ) (below : done < size) (left : LeftOf file at size done found) where
   -- no property stands there, or a read failed
   pub head_tells : (fault : Fault) → ReadsHead file (at + done) (size - done) (Err fault)
-      → TellsValue {X = ℕ} (features_in (record { place = at; bytes = slice file at size })) (Err fault)
+      → ReturnsValue {X = ℕ} (features_in (record { place = at; bytes = slice file at size })) (Err fault)
   head_tells (Refused refusal) reads =
       λ budget. let r = reads budget in left_cut file at size done found below left r.1 ∙ ap Err (sym r.0)
   head_tells (Source fault offset) reads = tt
 
 -- a read of a word failed
-pub read_tells : (file : List ℕ) (at : ℕ) (head : Head) (found : Option ℕ) (fault : Fault) (told : Result ℕ Refusal) → ReadsWord file at head found (Err fault)
-    → TellsValue {X = ℕ} told (Err fault)
+pub read_tells : (file : List ℕ) (at : ℕ) (head : PropertyHeader) (found : Option ℕ) (fault : Fault) (told : Result ℕ Refusal) → ReadsWord file at head found (Err fault)
+    → ReturnsValue {X = ℕ} told (Err fault)
 read_tells file at head found (Refused refusal) told reads = λ budget. absurd (budget reads)
 read_tells file at head found (Source fault offset) told reads = tt

@@ -7,14 +7,14 @@ use Rattle.elf_model.specs.TraitCost.{properties_asked, segment_traits_cost, sym
 use Rattle.elf_model.specs.Traits.{loaded_traits, traits_by_segments}
 use Rattle.elf_model.specs.declared.causes.Refusal.{Refusal}
 use Rattle.elf_model.specs.declared.traits.Traits.{Traits}
-use Rattle.elf_headers.specs.Store.{Stored}
+use Rattle.elf_headers.specs.Store.{StoreState}
 use Rattle.elf_headers.specs.declared.fault.Fault.{Fault}
 use Rattle.elf_headers.specs.declared.fault.Fault.TheVariants.{Refused, Source}
 use Rattle.elf_lookup_tables.specs.Loading.{LoadsSegments, segments_load_cost}
 use Rattle.elf_lookup_tables.specs.Segments.{entries_asked}
 use Rattle.elf_lookup_tables.proofs.LoadedLaws.{segments_cost}
 use Rattle.elf_lookup_tables.proofs.LoadingLaws.{cost_passed, early_pass}
-use Rattle.elf_traits.specs.Features.{TellsValue}
+use Rattle.elf_traits.specs.Features.{ReturnsValue}
 
 -- all that is asked for is within what is never passed
 pub ceiling_is : (size headers : ℕ) → traits_ceiling size headers ≡ 64 + (headers * 56 + headers * size) + 4 * size + 16 + size / 24 * 88
@@ -30,7 +30,7 @@ module _ (file : List ℕ) (headers : ℕ) where
   unfolding traits_by_segments
   shown_is e = rw (e, traits_by_segments) refl
 
-  pub load_stops : (fault : Fault) (store : Stored) → LoadsSegments file headers store (Err fault) → TellsValue {X = Traits} (traits_by_segments file headers) (Err fault)
+  pub load_stops : (fault : Fault) (store : StoreState) → LoadsSegments file headers store (Err fault) → ReturnsValue {X = Traits} (traits_by_segments file headers) (Err fault)
   load_stops (Refused refusal) store loads = λ other. refused refusal (loads other)
   load_stops (Source fault at) store loads = tt
 

@@ -8,10 +8,10 @@ use Rattle.elf_headers.specs.Faults.{IsOfRead}
 use Rattle.elf_headers.specs.declared.fault.Fault.{Fault}
 use Rattle.elf_headers.specs.declared.fault.Fault.TheVariants.{Refused, Source}
 use Rattle.elf_traits.specs.Features.{ReadsWord, found_after, property_at}
-use Rattle.elf_traits.specs.declared.property.Head.{Head}
+use Rattle.elf_traits.specs.declared.property.PropertyHeader.{PropertyHeader}
 
 -- it was found before
-pub kept : (file : List ℕ) (at : ℕ) (head : Head) (found : Option ℕ) → is_some found ≡ true → found ≡ found_after found (property_at file at head)
+pub kept : (file : List ℕ) (at : ℕ) (head : PropertyHeader) (found : Option ℕ) → is_some found ≡ true → found ≡ found_after found (property_at file at head)
 kept file at head (Some word) some = refl
 kept file at head None some = absurd (cc some)
 
@@ -22,12 +22,12 @@ other_type property other = let e : (property.kind == GNU_PROPERTY_X86_FEATURE_1
 this_type : (property : Property) → property.kind ≡ GNU_PROPERTY_X86_FEATURE_1_AND → Some (property_word (Some property)) ≡ found_after None property
 this_type property this = let e : (property.kind == GNU_PROPERTY_X86_FEATURE_1_AND) ≡ true = eq-eqb property.kind GNU_PROPERTY_X86_FEATURE_1_AND this in rw (e, found_after) refl
 
-pub missing : (file : List ℕ) (at : ℕ) (head : Head) (found : Option ℕ) → is_some found ≡ false → head.kind ≢ 0xc0000002 → None ≡ found_after found (property_at file at head)
+pub missing : (file : List ℕ) (at : ℕ) (head : PropertyHeader) (found : Option ℕ) → is_some found ≡ false → head.kind ≢ 0xc0000002 → None ≡ found_after found (property_at file at head)
 missing file at head (Some word) none other = absurd (cc none)
 missing file at head None none other = other_type (property_at file at head) other
 
 -- its data has not four bytes
-pub other_size : (file : List ℕ) (at : ℕ) (head : Head) (found : Option ℕ) → at + 8 + head.datasz ≤ length file → is_some found ≡ false → head.kind ≡ 0xc0000002 → head.datasz ≢ 4
+pub other_size : (file : List ℕ) (at : ℕ) (head : PropertyHeader) (found : Option ℕ) → at + 8 + head.datasz ≤ length file → is_some found ≡ false → head.kind ≡ 0xc0000002 → head.datasz ≢ 4
     → Some 0 ≡ found_after found (property_at file at head)
 other_size file at head (Some word) within none this other = absurd (cc none)
 other_size file at head None within none this other =
@@ -37,7 +37,7 @@ other_size file at head None within none this other =
     zero ∙ this_type (property_at file at head) this
 
 -- it is read
-pub read_word_is : (file : List ℕ) (at : ℕ) (head : Head) (found : Option ℕ) (word : ℕ) → at + 8 + head.datasz ≤ length file → is_some found ≡ false → head.kind ≡ 0xc0000002 → head.datasz ≡ 4
+pub read_word_is : (file : List ℕ) (at : ℕ) (head : PropertyHeader) (found : Option ℕ) (word : ℕ) → at + 8 + head.datasz ≤ length file → is_some found ≡ false → head.kind ≡ 0xc0000002 → head.datasz ≡ 4
     → word ≡ field file (at + 8) 4 → Some word ≡ found_after found (property_at file at head)
 unfolding field
 read_word_is file at head (Some old) word within none this four is = absurd (cc none)
@@ -49,6 +49,6 @@ read_word_is file at head None word within none this four is =
     ap Some same ∙ (four_bytes ∙ this_type (property_at file at head) this)
 
 -- a read failed
-pub word_read_stops : (file : List ℕ) (at : ℕ) (head : Head) (found : Option ℕ) (fault : Fault) → IsOfRead fault → ReadsWord file at head found (Err fault)
+pub word_read_stops : (file : List ℕ) (at : ℕ) (head : PropertyHeader) (found : Option ℕ) (fault : Fault) → IsOfRead fault → ReadsWord file at head found (Err fault)
 word_read_stops file at head found (Refused refusal) read = read
 word_read_stops file at head found (Source fault offset) read = tt

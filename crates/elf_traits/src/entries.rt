@@ -1,11 +1,11 @@
 //! The dynamic entries by which a file is hardened.
 ghost use Rattle.std.specs.Prelude.{◌≡◌, ℕ, List, Some, IfErr, IfOk};
 ghost use Rattle.elf_record.specs.Dyn.{IsDyn};
-ghost use Rattle.elf_source.specs.Source.{Reads};
-ghost use Rattle.elf_headers.specs.Faults.{IsOfRead, Says};
-ghost use Rattle.elf_headers.specs.Ledger.{Did, why_stopped};
-ghost use Rattle.elf_headers.specs.Load.{Views};
-ghost use Rattle.elf_table.specs.Tables.{RowsWithin, size_of};
+ghost use Rattle.elf_source.specs.Source.{ReadsUpTo};
+ghost use Rattle.elf_headers.specs.Faults.{IsOfRead, IsReadFault};
+ghost use Rattle.elf_headers.specs.Ledger.{CallDid, fault_of_result};
+ghost use Rattle.elf_headers.specs.Load.{HoldsProgramHeaders};
+ghost use Rattle.elf_table.specs.Tables.{TableInBounds, size_of};
 ghost use Rattle.elf_traits.specs.Entries.{AreListedValues, FindsTraitEntries, TakesValues, no_values};
 
 use elf_headers::Fault;
@@ -15,7 +15,7 @@ use elf_record::numbers::{
     DT_BIND_NOW, DT_FLAGS, DT_RPATH, DT_RUNPATH, DT_SONAME, DT_TEXTREL, PT_DYNAMIC,
 };
 use elf_source::{Counted, Source};
-use elf_table::{SegmentView, Table};
+use elf_table::{ExecutionView, Table};
 
 /// The tag of further flags, of the GNU system.
 const DT_FLAGS_1: u64 = 0x6fff_fffb;
@@ -23,7 +23,7 @@ const DT_FLAGS_1: u64 = 0x6fff_fffb;
 /// The values of the first dynamic entries with some tags, where there are such (gABI 5, Dynamic
 /// Section).
 #[derive(Clone, Copy)]
-pub(crate) struct TraitEntries {
+pub(crate) struct TraitTags {
     /// DT_SONAME: the name of a library.
     pub(crate) soname: Option<u64>,
     /// DT_RPATH: where libraries are looked for.
@@ -44,15 +44,15 @@ pub(crate) struct TraitEntries {
 /// none where there is no such segment. Each of its bytes is asked for at most once.
 ///
 /// # Errors
-/// Those of [`SegmentView::dynamic`]. Else a fault of a read, or a refusal for want of budget, at an
+/// Those of [`ExecutionView::dynamic`]. Else a fault of a read, or a refusal for want of budget, at an
 /// entry's offset.
 pub(crate) fn trait_entries<S: Source>(
     src: &mut Counted<S>,
-    view: &SegmentView<'_>,
-) -> Result<TraitEntries, Fault>
+    view: &ExecutionView<'_>,
+) -> Result<TraitTags, Fault>
     requires { view.now.loaded.size ≡ src.old.seen.size }
-    ensures { Did src.old src.new (why_stopped result) src.old.seen.size
-        (λ file. Views file view.now.loaded view.now.store.now →
+    ensures { CallDid src.old src.new (fault_of_result result) src.old.seen.size
+        (λ file. HoldsProgramHeaders file view.now.loaded view.now.store.now →
         FindsTraitEntries file src.old src.new result) }
 {
     let Some(segment) = view.first_segment(PT_DYNAMIC) else {
@@ -66,11 +66,11 @@ pub(crate) fn trait_entries<S: Source>(
 ///
 /// # Errors
 /// A fault of a read, or a refusal for want of budget, at an entry's offset.
-fn listed_values<S: Source>(src: &mut Counted<S>, table: Table) -> Result<TraitEntries, Fault>
+fn listed_values<S: Source>(src: &mut Counted<S>, table: Table) -> Result<TraitTags, Fault>
     requires rows { table.entry ≡ 16 }
-    requires within { RowsWithin src.old.seen.size table }
-    ensures reads { Reads src.old src.new (size_of table) }
-    ensures says { IfErr result (Says src.old src.new (size_of table)) }
+    requires within { TableInBounds src.old.seen.size table }
+    ensures reads { ReadsUpTo src.old src.new (size_of table) }
+    ensures says { IfErr result (IsReadFault src.old src.new (size_of table)) }
     ensures fault { IfErr result IsOfRead }
     ensures found { (file : List ℕ) → src.old.seen.file ≡ Some file →
         IfOk result (AreListedValues file table) }
@@ -85,10 +85,10 @@ fn listed_values<S: Source>(src: &mut Counted<S>, table: Table) -> Result<TraitE
 }
 
 /// No entry.
-fn nothing() -> TraitEntries
+fn nothing() -> TraitTags
     ensures { result ≡ no_values }
 {
-    TraitEntries {
+    TraitTags {
         soname: None,
         rpath: None,
         runpath: None,
@@ -100,11 +100,11 @@ fn nothing() -> TraitEntries
 }
 
 /// The values, with an entry behind those that they are of.
-fn with_entry(found: &TraitEntries, entry: &Dyn) -> TraitEntries
+fn with_entry(found: &TraitTags, entry: &Dyn) -> TraitTags
     ensures { (file : List ℕ) (at : ℕ) → IsDyn file at entry.now →
         TakesValues file at found.now result }
 {
-    TraitEntries {
+    TraitTags {
         soname: first_of(found.soname, DT_SONAME, entry),
         rpath: first_of(found.rpath, DT_RPATH, entry),
         runpath: first_of(found.runpath, DT_RUNPATH, entry),

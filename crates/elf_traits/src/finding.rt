@@ -1,24 +1,24 @@
 //! The traits of a file.
 ghost use Rattle.std.specs.Prelude.{◌≡◌, ℕ, ◌<◌, ◌^◌, Ok};
-ghost use Rattle.elf_headers.specs.Ledger.{Did, why_stopped};
-ghost use Rattle.elf_headers.specs.Load.{Views};
+ghost use Rattle.elf_headers.specs.Ledger.{CallDid, fault_of_result};
+ghost use Rattle.elf_headers.specs.Load.{HoldsProgramHeaders};
 ghost use Rattle.elf_model.specs.Records.{e_shnum};
 ghost use Rattle.elf_model.specs.TraitCost.{traits_ceiling};
 ghost use Rattle.elf_traits.specs.Finding.{FindsMarks, FindsShown, FindsTraits, FindsViewed};
 ghost use Rattle.elf_traits.specs.Finding.{marks_bytes, view_bytes};
-ghost use Rattle.elf_traits.specs.Known.{KnownLie, TellsKnown};
+ghost use Rattle.elf_traits.specs.Known.{KnownLie, ReturnsKnown};
 
 use crate::entries::trait_entries;
-use crate::known::{KnownSymbols, known_symbols};
-use crate::marks::{Marks, no_marks};
-use crate::notes::feature_word;
-use crate::symbols::symbol_marks;
+use crate::known::{CountedSymbols, known_symbols};
+use crate::marks::{SymbolTraits, no_symbol_traits};
+use crate::notes::x86_feature_word;
+use crate::symbols::find_symbol_traits;
 use crate::traits::traits_with;
 use elf_headers::{Fault, HeaderStore};
 use elf_lookup_tables::load_by_segments;
 use elf_model::Traits;
 use elf_source::{Counted, Source};
-use elf_table::SegmentView;
+use elf_table::ExecutionView;
 
 /// How a file is hardened, as a loader of the GNU system sees it: by its program headers, its first
 /// segment of dynamic entries, the first list of properties in its notes, and its dynamic symbols,
@@ -40,15 +40,15 @@ pub fn find_traits<S: Source>(
     src: &mut Counted<S>,
     store: &mut HeaderStore,
 ) -> Result<Traits, Fault>
-    ensures did { Did src.old src.new (why_stopped result)
+    ensures did { CallDid src.old src.new (fault_of_result result)
         (traits_ceiling src.old.seen.size store.old.slots)
         (λ file. FindsTraits file store.old.slots src.old src.new result) }
     ensures slots { store.new.slots ≡ store.old.slots }
 {
     let hides = src.hides();
-    src.hide_sections(true);
+    src.mask_section_headers(true);
     let found = shown_traits(src, store);
-    src.hide_sections(hides);
+    src.mask_section_headers(hides);
     found
 }
 
@@ -57,47 +57,53 @@ pub fn find_traits<S: Source>(
 /// # Errors
 /// Those of [`find_traits`].
 fn shown_traits<S: Source>(src: &mut Counted<S>, store: &mut HeaderStore) -> Result<Traits, Fault>
-    ensures did { Did src.old src.new (why_stopped result)
+    ensures did { CallDid src.old src.new (fault_of_result result)
         (traits_ceiling src.old.seen.size store.old.slots)
         (λ file. e_shnum file ≡ 0 →
         FindsShown file store.old.slots src.old src.new result) }
     ensures slots { store.new.slots ≡ store.old.slots }
 {
     let loaded = load_by_segments(src, store)?;
-    view_traits(src, &SegmentView { loaded, store })
+    find_traits_by_segments(src, &ExecutionView { loaded, store })
 }
 
 /// The traits of a file whose program headers are loaded.
 ///
 /// # Errors
 /// Those of [`find_traits`] behind the load.
-fn view_traits<S: Source>(src: &mut Counted<S>, view: &SegmentView<'_>) -> Result<Traits, Fault>
+fn find_traits_by_segments<S: Source>(
+    src: &mut Counted<S>,
+    view: &ExecutionView<'_>,
+) -> Result<Traits, Fault>
     requires size { view.now.loaded.size ≡ src.old.seen.size }
     requires small { view.now.loaded.size < 2 ^ 63 }
-    ensures { Did src.old src.new (why_stopped result)
+    ensures { CallDid src.old src.new (fault_of_result result)
         (view_bytes view.now.store.now.segments src.old.seen.size)
-        (λ file. Views file view.now.loaded view.now.store.now →
+        (λ file. HoldsProgramHeaders file view.now.loaded view.now.store.now →
         FindsViewed file src.old src.new result) }
 {
     let known = known_symbols(src, view)?;
     let entries = trait_entries(src, view)?;
-    let word = feature_word(src, view)?;
-    let marks = known_marks(src, known)?;
+    let word = x86_feature_word(src, view)?;
+    let marks = counted_symbol_traits(src, known)?;
     Ok(traits_with(view, &entries, word, marks))
 }
 
 /// The marks of the symbols that a loader knows, if there are such.
 ///
 /// # Errors
-/// Those of [`symbol_marks`]. Else a fault of a read.
-fn known_marks<S: Source>(src: &mut Counted<S>, known: Option<KnownSymbols>) -> Result<Marks, Fault>
+/// Those of [`find_symbol_traits`]. Else a fault of a read.
+fn counted_symbol_traits<S: Source>(
+    src: &mut Counted<S>,
+    known: Option<CountedSymbols>,
+) -> Result<SymbolTraits, Fault>
     requires { KnownLie src.old.seen.size known }
-    ensures { Did src.old src.new (why_stopped result) (marks_bytes src.old.seen.size)
-        (λ file. TellsKnown file (Ok known) → FindsMarks file src.old src.new result) }
+    ensures { CallDid src.old src.new (fault_of_result result) (marks_bytes src.old.seen.size)
+        (λ file. ReturnsKnown file (Ok known) → FindsMarks file src.old src.new result) }
 {
     let Some(known) = known else {
-        return Ok(no_marks());
+        return Ok(no_symbol_traits());
     };
     let count = known.symbols.extent(src, &known.table)?;
-    symbol_marks(src, &known.symbols, count)
+    find_symbol_traits(src, &known.symbols, count)
 }

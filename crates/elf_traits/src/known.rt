@@ -1,7 +1,7 @@
 //! The symbols of a file that a loader knows.
 ghost use Rattle.std.specs.Prelude.{◌≡◌, ℕ, ◌+◌, ◌<◌, ◌^◌, IfOk};
-ghost use Rattle.elf_headers.specs.Ledger.{Did, why_stopped};
-ghost use Rattle.elf_headers.specs.Load.{Views};
+ghost use Rattle.elf_headers.specs.Ledger.{CallDid, fault_of_result};
+ghost use Rattle.elf_headers.specs.Load.{HoldsProgramHeaders};
 ghost use Rattle.elf_traits.specs.Known.{FindsKnown, KnownLie, passed_over};
 
 use elf_hash::{HashTable, counts};
@@ -9,11 +9,11 @@ use elf_headers::Fault;
 use elf_lookup_tables::{Symbols, find_in_segments};
 use elf_record::{Cause, Refusal};
 use elf_source::{Counted, Source};
-use elf_table::SegmentView;
+use elf_table::ExecutionView;
 
 /// The symbols that a loader knows, with the hash table that it looks them up by. It holds no bytes.
 #[derive(Clone, Copy)]
-pub(crate) struct KnownSymbols {
+pub(crate) struct CountedSymbols {
     /// The symbols.
     pub(crate) symbols: Symbols,
     /// The hash table, with its counts.
@@ -26,12 +26,12 @@ pub(crate) struct KnownSymbols {
 /// Those of [`find_in_segments`] but `NoHash`, and those of [`counts`].
 pub(crate) fn known_symbols<S: Source>(
     src: &mut Counted<S>,
-    view: &SegmentView<'_>,
-) -> Result<Option<KnownSymbols>, Fault>
+    view: &ExecutionView<'_>,
+) -> Result<Option<CountedSymbols>, Fault>
     requires size { view.now.loaded.size ≡ src.old.seen.size }
     requires small { view.now.loaded.size < 2 ^ 63 }
-    ensures did { Did src.old src.new (why_stopped result) (src.old.seen.size + 16)
-        (λ file. Views file view.now.loaded view.now.store.now →
+    ensures did { CallDid src.old src.new (fault_of_result result) (src.old.seen.size + 16)
+        (λ file. HoldsProgramHeaders file view.now.loaded view.now.store.now →
         FindsKnown file src.old src.new result) }
     ensures within { IfOk result (KnownLie src.old.seen.size) }
 {
@@ -40,14 +40,14 @@ pub(crate) fn known_symbols<S: Source>(
         Err(fault) => return without_hash(fault),
     };
     let table = counts(src, &scope.hash)?;
-    Ok(Some(KnownSymbols {
+    Ok(Some(CountedSymbols {
         symbols: scope.symbols,
         table,
     }))
 }
 
 /// No symbols where there is no hash table, else the fault.
-fn without_hash(fault: Fault) -> Result<Option<KnownSymbols>, Fault>
+fn without_hash(fault: Fault) -> Result<Option<CountedSymbols>, Fault>
     ensures { result ≡ passed_over fault }
 {
     match fault {

@@ -1,13 +1,13 @@
 //! The marks of hardening that one symbol has.
 ghost use Rattle.std.specs.Prelude.{◌≡◌};
-ghost use Rattle.elf_model.specs.Traits.{marked_by, no_marks};
-ghost use Rattle.elf_traits.specs.Marks.{marks_of};
+ghost use Rattle.elf_model.specs.Traits.{marked_by, no_symbol_traits};
+ghost use Rattle.elf_traits.specs.Marks.{symbol_traits_of};
 
-use crate::names::{is_checked_call, is_guard};
+use crate::names::{is_fortify_call, is_stack_protector};
 
 /// The marks of symbols.
 #[derive(Clone, Copy)]
-pub(crate) struct Marks {
+pub(crate) struct SymbolTraits {
     /// One is a guard's.
     pub(crate) canary: bool,
     /// One that is undefined is a checked call's.
@@ -15,20 +15,20 @@ pub(crate) struct Marks {
 }
 
 /// The marks with those of one more symbol, by its name, and whether it is undefined.
-pub(crate) fn marked_by(marks: Marks, name: &[u8], undefined: bool) -> Marks
-    ensures { marks_of result ≡ marked_by (marks_of marks) name.now undefined }
+pub(crate) fn marked_by(marks: SymbolTraits, name: &[u8], undefined: bool) -> SymbolTraits
+    ensures { symbol_traits_of result ≡ marked_by (symbol_traits_of marks) name.now undefined }
 {
-    Marks {
-        canary: marks.canary || is_guard(name),
-        fortify: marks.fortify || (undefined && is_checked_call(name)),
+    SymbolTraits {
+        canary: marks.canary || is_stack_protector(name),
+        fortify: marks.fortify || (undefined && is_fortify_call(name)),
     }
 }
 
 /// The marks of no symbol.
-pub(crate) fn no_marks() -> Marks
-    ensures { marks_of result ≡ no_marks }
+pub(crate) fn no_symbol_traits() -> SymbolTraits
+    ensures { symbol_traits_of result ≡ no_symbol_traits }
 {
-    Marks {
+    SymbolTraits {
         canary: false,
         fortify: false,
     }

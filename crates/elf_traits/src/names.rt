@@ -1,33 +1,33 @@
 //! The names of symbols that are there where a file is hardened.
 ghost use Rattle.std.specs.List.{starts_with};
 ghost use Rattle.std.specs.Prelude.{◌≡◌, ◌==◌, ◌&&◌, length, nat_eq};
-ghost use Rattle.elf_model.specs.Traits.{is_checked_call, is_guard};
+ghost use Rattle.elf_model.specs.Traits.{is_fortify_call, is_stack_protector};
 
-use elf_headers::Cap;
+use elf_headers::NameLimit;
 
 /// How many bytes of a name are looked at: a longer one is none of those.
-pub(crate) const NAME_CAP: Cap = Cap { bytes: 63 };
+pub(crate) const NAME_CAP: NameLimit = NameLimit { bytes: 63 };
 
 /// Whether a symbol has this name where stacks are guarded: the function that a guard calls, or the
 /// word that it compares with (Linux Standard Base Core, libc).
-#[tactic(auto, unfolding(elf_model::specs::Traits::is_guard, elf_model::specs::Traits::is_any_of))]
-pub(crate) fn is_guard(name: &[u8]) -> bool
-    ensures { result ≡ is_guard name.now }
+#[tactic(auto, unfolding(elf_model::specs::Traits::is_stack_protector, elf_model::specs::Traits::is_any_of))]
+pub(crate) fn is_stack_protector(name: &[u8]) -> bool
+    ensures { result ≡ is_stack_protector name.now }
 {
-    is_same(name, b"__stack_chk_fail") || is_same(name, b"__stack_chk_guard")
+    is_equal_name(name, b"__stack_chk_fail") || is_equal_name(name, b"__stack_chk_guard")
 }
 
 /// Whether a function of the C library has this name that checks the size of what it writes, as the
 /// GNU system names them.
-#[tactic(auto, unfolding(elf_model::specs::Traits::is_checked_call))]
-pub(crate) fn is_checked_call(name: &[u8]) -> bool
-    ensures { result ≡ is_checked_call name.now }
+#[tactic(auto, unfolding(elf_model::specs::Traits::is_fortify_call))]
+pub(crate) fn is_fortify_call(name: &[u8]) -> bool
+    ensures { result ≡ is_fortify_call name.now }
 {
-    name.starts_with(b"__") && name.ends_with(b"_chk") && !is_guard(name)
+    name.starts_with(b"__") && name.ends_with(b"_chk") && !is_stack_protector(name)
 }
 
 /// Whether two names are the same.
-pub(crate) fn is_same(name: &[u8], other: &[u8]) -> bool
+pub(crate) fn is_equal_name(name: &[u8], other: &[u8]) -> bool
     ensures { result ≡ (length name.now == length other.now
         && starts_with nat_eq name.now other.now) }
 {

@@ -2,21 +2,21 @@
 ghost use Rattle.std.specs.Prelude.{◌≡◌, ◌&&◌, ◌==◌, ◌<◌, ◌+◌, ◌*◌, ℕ, List, length, nat_eq, codes, IfOk};
 ghost use Rattle.std.specs.List.{starts_with};
 ghost use Rattle.elf_model.specs.Notes.{Note, note_shown};
-ghost use Rattle.elf_model.specs.Properties.{lists_properties};
-ghost use Rattle.elf_headers.specs.Ledger.{Did, why_stopped};
-ghost use Rattle.elf_headers.specs.Load.{Views};
+ghost use Rattle.elf_model.specs.Properties.{is_property_note};
+ghost use Rattle.elf_headers.specs.Ledger.{CallDid, fault_of_result};
+ghost use Rattle.elf_headers.specs.Load.{HoldsProgramHeaders};
 ghost use Rattle.elf_note.specs.NoteCursors.{NameIs};
-ghost use Rattle.elf_table.specs.Tables.{RowsWithin};
-ghost use Rattle.elf_traits.specs.Lists.{FindsFeatures, FindsList, FindsLists, ListLies, TellsList};
+ghost use Rattle.elf_table.specs.Tables.{TableInBounds};
+ghost use Rattle.elf_traits.specs.Lists.{FindsFeatures, FindsList, FindsLists, ListInBounds, ReturnsList};
 ghost use Rattle.elf_traits.specs.Lists.{first_list};
 
-use crate::names::{NAME_CAP, is_same};
+use crate::names::{NAME_CAP, is_equal_name};
 use crate::properties::features_in;
 use elf_headers::Fault;
 use elf_note::{NoteCursor, NoteRow};
 use elf_record::numbers::{EM_X86_64, PT_NOTE};
 use elf_source::{Counted, Source};
-use elf_table::{NameBuf, NameEnd, SegmentView, Table};
+use elf_table::{ExecutionView, NameBuf, NameEnd, Table};
 
 /// The type of a note of the GNU system that lists properties (Linux Extensions to gABI, Program
 /// Property).
@@ -24,7 +24,7 @@ const NT_GNU_PROPERTY_TYPE_0: u32 = 5;
 
 /// Where a list of properties stands. It holds no bytes.
 #[derive(Clone, Copy)]
-pub(crate) struct PropertyBytes {
+pub(crate) struct PropertyRange {
     /// The file offset of its first byte.
     pub(crate) at: u64,
     /// Its size in bytes.
@@ -37,14 +37,14 @@ pub(crate) struct PropertyBytes {
 /// # Errors
 /// Those of [`segment_list`], for the segments up to the first with a list, and of
 /// [`features_in`].
-pub(crate) fn feature_word<S: Source>(
+pub(crate) fn x86_feature_word<S: Source>(
     src: &mut Counted<S>,
-    view: &SegmentView<'_>,
+    view: &ExecutionView<'_>,
 ) -> Result<u32, Fault>
     requires { view.now.loaded.size ≡ src.old.seen.size }
-    ensures { Did src.old src.new (why_stopped result)
+    ensures { CallDid src.old src.new (fault_of_result result)
         (view.now.store.now.segments * src.old.seen.size + src.old.seen.size)
-        (λ file. Views file view.now.loaded view.now.store.now →
+        (λ file. HoldsProgramHeaders file view.now.loaded view.now.store.now →
         FindsFeatures file src.old src.new result) }
 {
     if view.loaded.header().e_machine != EM_X86_64 {
@@ -62,14 +62,14 @@ pub(crate) fn feature_word<S: Source>(
 /// Those of [`segment_list`], for the segments up to the first with a list.
 fn property_list<S: Source>(
     src: &mut Counted<S>,
-    view: &SegmentView<'_>,
-) -> Result<Option<PropertyBytes>, Fault>
+    view: &ExecutionView<'_>,
+) -> Result<Option<PropertyRange>, Fault>
     requires { view.now.loaded.size ≡ src.old.seen.size }
-    ensures did { Did src.old src.new (why_stopped result)
+    ensures did { CallDid src.old src.new (fault_of_result result)
         (view.now.store.now.segments * src.old.seen.size)
-        (λ file. Views file view.now.loaded view.now.store.now →
+        (λ file. HoldsProgramHeaders file view.now.loaded view.now.store.now →
         FindsLists file src.old src.new result) }
-    ensures within { IfOk result (ListLies src.old.seen.size) }
+    ensures within { IfOk result (ListInBounds src.old.seen.size) }
 {
     let count = view.segments();
     let mut segment = 0;
@@ -89,15 +89,15 @@ fn property_list<S: Source>(
 /// offset where no note stands, before a list. Else a fault of a read.
 fn segment_list<S: Source>(
     src: &mut Counted<S>,
-    view: &SegmentView<'_>,
+    view: &ExecutionView<'_>,
     segment: u16,
-) -> Result<Option<PropertyBytes>, Fault>
+) -> Result<Option<PropertyRange>, Fault>
     requires size { view.now.loaded.size ≡ src.old.seen.size }
     requires below { segment < view.now.store.now.segments }
-    ensures did { Did src.old src.new (why_stopped result) src.old.seen.size
-        (λ file. Views file view.now.loaded view.now.store.now →
+    ensures did { CallDid src.old src.new (fault_of_result result) src.old.seen.size
+        (λ file. HoldsProgramHeaders file view.now.loaded view.now.store.now →
         FindsList file segment src.old src.new result) }
-    ensures within { IfOk result (ListLies src.old.seen.size) }
+    ensures within { IfOk result (ListInBounds src.old.seen.size) }
 {
     let header = view.segment(segment);
     if header.p_type != PT_NOTE {
@@ -115,19 +115,19 @@ fn first_list<S: Source>(
     src: &mut Counted<S>,
     table: Table,
     align: u64,
-) -> Result<Option<PropertyBytes>, Fault>
+) -> Result<Option<PropertyRange>, Fault>
     requires bytes { table.entry ≡ 1 }
-    requires within { RowsWithin src.old.seen.size table }
-    ensures did { Did src.old src.new (why_stopped result) table.count
-        (λ file. TellsList file (first_list file align table) result) }
-    ensures within { IfOk result (ListLies src.old.seen.size) }
+    requires within { TableInBounds src.old.seen.size table }
+    ensures did { CallDid src.old src.new (fault_of_result result) table.count
+        (λ file. ReturnsList file (first_list file align table) result) }
+    ensures within { IfOk result (ListInBounds src.old.seen.size) }
 {
     let mut name = NameBuf::new();
     let mut cursor = NoteCursor::new(table, align);
     'notes: while cursor.advance(src, NAME_CAP, &mut name)? {
         let row = cursor.row();
-        if lists_properties(&row, name.bytes()) {
-            return Ok(Some(PropertyBytes {
+        if is_property_note(&row, name.bytes()) {
+            return Ok(Some(PropertyRange {
                 at: row.desc_at,
                 size: u64::from(row.head.descsz),
             }));
@@ -138,11 +138,11 @@ fn first_list<S: Source>(
 
 /// Whether a note lists properties: its type, and its name, which is `GNU` and a NUL. The name is
 /// given as it is shown.
-fn lists_properties(row: &NoteRow<'_>, name: &[u8]) -> bool
+fn is_property_note(row: &NoteRow<'_>, name: &[u8]) -> bool
     ensures { (note : Note) → row.now.head.kind ≡ note.kind →
         row.now.head.namesz ≡ length note.name →
         NameIs row.now.name_end name.now (note_shown 63 note) →
-        result ≡ lists_properties note }
+        result ≡ is_property_note note }
 {
     match row.name_end {
         NameEnd::Whole => is_gnu_list(row.head.kind, row.head.namesz, name),
@@ -156,5 +156,5 @@ fn is_gnu_list(kind: u32, namesz: u32, name: &[u8]) -> bool
     ensures { result ≡ (kind == 5 && (namesz == 4
         && (length name.now == 3 && starts_with nat_eq name.now (codes "GNU")))) }
 {
-    kind == NT_GNU_PROPERTY_TYPE_0 && namesz == 4 && is_same(name, b"GNU")
+    kind == NT_GNU_PROPERTY_TYPE_0 && namesz == 4 && is_equal_name(name, b"GNU")
 }

@@ -1,10 +1,10 @@
 //! The list of properties of a note of the GNU system.
 ghost use Rattle.std.specs.Prelude.{◌≡◌, ◌+◌, ◌^◌, ◌<◌, ◌≤◌};
-ghost use Rattle.elf_headers.specs.Ledger.{Did, why_stopped};
+ghost use Rattle.elf_headers.specs.Ledger.{CallDid, fault_of_result};
 ghost use Rattle.elf_model.specs.Bytes.{slice};
-ghost use Rattle.elf_model.specs.Notes.{to_next};
+ghost use Rattle.elf_model.specs.Notes.{bytes_to_alignment};
 ghost use Rattle.elf_model.specs.Properties.{features_in};
-ghost use Rattle.elf_traits.specs.Features.{TellsValue};
+ghost use Rattle.elf_traits.specs.Features.{ReturnsValue};
 
 use crate::property::{read_head, word_in};
 use elf_headers::Fault;
@@ -22,8 +22,8 @@ use elf_source::{Counted, Source};
 /// room for a read, at the offset that was asked for.
 pub(crate) fn features_in<S: Source>(src: &mut Counted<S>, at: u64, size: u64) -> Result<u32, Fault>
     requires { at + size ≤ src.old.seen.size }
-    ensures { Did src.old src.new (why_stopped result) size
-        (λ file. TellsValue
+    ensures { CallDid src.old src.new (fault_of_result result) size
+        (λ file. ReturnsValue
         (features_in (record { place = at; bytes = slice file at size })) result) }
 {
     // No source is longer than a number of 64 bits can be.
@@ -41,7 +41,7 @@ pub(crate) fn features_in<S: Source>(src: &mut Counted<S>, at: u64, size: u64) -
 
 /// The size of a property with its padding, for the size of its data.
 fn padded(datasz: u32) -> u64
-    ensures { result ≡ 8 + datasz + to_next 8 (8 + datasz) }
+    ensures { result ≡ 8 + datasz + bytes_to_alignment 8 (8 + datasz) }
 {
     let bare = 8 + u64::from(datasz);
     bare + (8 - bare % 8) % 8

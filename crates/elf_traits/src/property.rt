@@ -1,6 +1,6 @@
 //! One property of a list.
 ghost use Rattle.std.specs.Prelude.{◌≡◌, ◌+◌, ◌^◌, ◌<◌, ◌≤◌, min, IfOk};
-ghost use Rattle.elf_headers.specs.Ledger.{Did, why_stopped};
+ghost use Rattle.elf_headers.specs.Ledger.{CallDid, fault_of_result};
 ghost use Rattle.elf_traits.specs.Features.{ReadsHead, ReadsWord};
 
 use elf_hash::read_word;
@@ -16,7 +16,7 @@ const X86_FEATURE_1_AND: u32 = 0xc000_0002;
 
 /// The head of a property (Linux Extensions to gABI, Program Property).
 #[derive(Clone, Copy)]
-pub(crate) struct Head {
+pub(crate) struct PropertyHeader {
     /// Its type.
     pub(crate) kind: u32,
     /// The size of its data in bytes, without padding.
@@ -29,11 +29,15 @@ pub(crate) struct Head {
 /// # Errors
 /// `NoteCut` at the offset where its head or its data does not fit into what is left. Else a fault of
 /// a read.
-pub(crate) fn read_head<S: Source>(src: &mut Counted<S>, at: u64, left: u64) -> Result<Head, Fault>
+pub(crate) fn read_head<S: Source>(
+    src: &mut Counted<S>,
+    at: u64,
+    left: u64,
+) -> Result<PropertyHeader, Fault>
     requires some { 0 < left }
     requires within { at + left ≤ src.old.seen.size }
     requires ends { at + left < 2 ^ 64 }
-    ensures did { Did src.old src.new (why_stopped result) (min 8 left)
+    ensures did { CallDid src.old src.new (fault_of_result result) (min 8 left)
         (λ file. ReadsHead file at left result) }
     ensures fits { IfOk result (λ head. 8 + head.datasz ≤ left) }
 {
@@ -47,7 +51,7 @@ pub(crate) fn read_head<S: Source>(src: &mut Counted<S>, at: u64, left: u64) -> 
     if room < data {
         return refused(at, Cause::NoteCut);
     }
-    Ok(Head { kind, datasz })
+    Ok(PropertyHeader { kind, datasz })
 }
 
 /// The word of the features of x86, where it was found before or is that of the property with a head
@@ -58,12 +62,12 @@ pub(crate) fn read_head<S: Source>(src: &mut Counted<S>, at: u64, left: u64) -> 
 pub(crate) fn word_in<S: Source>(
     src: &mut Counted<S>,
     at: u64,
-    head: &Head,
+    head: &PropertyHeader,
     found: Option<u32>,
 ) -> Result<Option<u32>, Fault>
     requires within { at + 8 + head.now.datasz ≤ src.old.seen.size }
     requires ends { at + 8 + head.now.datasz < 2 ^ 64 }
-    ensures { Did src.old src.new (why_stopped result) head.now.datasz
+    ensures { CallDid src.old src.new (fault_of_result result) head.now.datasz
         (λ file. ReadsWord file at head.now found result) }
 {
     if found.is_some() {

@@ -2,15 +2,15 @@
 ghost use Rattle.std.specs.Prelude.{◌≡◌, ℕ, List, is_some};
 ghost use Rattle.elf_model.specs.Find.{first_that};
 ghost use Rattle.elf_model.specs.Records.{e_phnum, segment_at};
-ghost use Rattle.elf_model.specs.Traits.{is_code_writable, is_stack_executable, is_writable_code};
+ghost use Rattle.elf_model.specs.Traits.{has_wx_load, is_stack_executable, is_writable_code};
 ghost use Rattle.elf_model.specs.Traits.{segment_of};
 ghost use Rattle.elf_record.specs.Phdr.{IsPhdr};
-ghost use Rattle.elf_headers.specs.Load.{Views};
+ghost use Rattle.elf_headers.specs.Load.{HoldsProgramHeaders};
 
 use crate::flags::has_bits;
 use elf_record::Phdr;
 use elf_record::numbers::PT_LOAD;
-use elf_table::SegmentView;
+use elf_table::ExecutionView;
 
 /// The type of the segment with the permissions of the stack (Linux Standard Base Core, Program
 /// Header).
@@ -21,8 +21,8 @@ const PF_X: u64 = 1;
 const PF_W: u64 = 2;
 
 /// Whether there is a program header of a type.
-pub(crate) fn has_segment(view: &SegmentView<'_>, kind: u32) -> bool
-    ensures { (file : List ℕ) → Views file view.now.loaded view.now.store.now →
+pub(crate) fn has_segment(view: &ExecutionView<'_>, kind: u32) -> bool
+    ensures { (file : List ℕ) → HoldsProgramHeaders file view.now.loaded view.now.store.now →
         result ≡ is_some (segment_of file kind) }
 {
     view.first_segment(kind).is_some()
@@ -31,8 +31,8 @@ pub(crate) fn has_segment(view: &SegmentView<'_>, kind: u32) -> bool
 /// Whether a loader makes the stack executable: by the first segment with its permissions, and where
 /// there is none (Linux Standard Base Core, Program Header).
 #[tactic(auto, unfolding(elf_model::specs::Traits::is_stack_executable))]
-pub(crate) fn is_stack_executable(view: &SegmentView<'_>) -> bool
-    ensures { (file : List ℕ) → Views file view.now.loaded view.now.store.now →
+pub(crate) fn is_stack_executable(view: &ExecutionView<'_>) -> bool
+    ensures { (file : List ℕ) → HoldsProgramHeaders file view.now.loaded view.now.store.now →
         result ≡ is_stack_executable file }
 {
     let Some(segment) = view.first_segment(PT_GNU_STACK) else {
@@ -42,17 +42,17 @@ pub(crate) fn is_stack_executable(view: &SegmentView<'_>) -> bool
 }
 
 /// Whether a LOAD segment may be written and run (gABI 5, Segment Permissions).
-#[tactic(auto, unfolding(elf_model::specs::Traits::is_code_writable))]
-pub(crate) fn is_code_writable(view: &SegmentView<'_>) -> bool
-    ensures { (file : List ℕ) → Views file view.now.loaded view.now.store.now →
-        result ≡ is_code_writable file }
+#[tactic(auto, unfolding(elf_model::specs::Traits::has_wx_load))]
+pub(crate) fn has_wx_load(view: &ExecutionView<'_>) -> bool
+    ensures { (file : List ℕ) → HoldsProgramHeaders file view.now.loaded view.now.store.now →
+        result ≡ has_wx_load file }
 {
     first_writable_code(view).is_some()
 }
 
 /// The index of the first LOAD segment that may be written and run, if there is one.
-fn first_writable_code(view: &SegmentView<'_>) -> Option<u16>
-    ensures { (file : List ℕ) → Views file view.now.loaded view.now.store.now →
+fn first_writable_code(view: &ExecutionView<'_>) -> Option<u16>
+    ensures { (file : List ℕ) → HoldsProgramHeaders file view.now.loaded view.now.store.now →
         result ≡ first_that (is_writable_code file) 0 (e_phnum file) }
 {
     let count = view.segments();

@@ -1,17 +1,17 @@
 //! The marks of hardening that the symbols of a file have.
 ghost use Rattle.std.specs.Prelude.{◌≡◌, ℕ, ◌+◌, ◌-◌, ◌*◌, ◌≤◌, List, length, IfErr};
-ghost use Rattle.elf_headers.specs.Faults.{Says};
-ghost use Rattle.elf_headers.specs.Ledger.{Did, why_stopped};
+ghost use Rattle.elf_headers.specs.Faults.{IsReadFault};
+ghost use Rattle.elf_headers.specs.Ledger.{CallDid, fault_of_result};
 ghost use Rattle.elf_model.specs.Loader.{Symbols as AreSymbolsOf};
-ghost use Rattle.elf_model.specs.Traits.{marks_from, no_marks};
-ghost use Rattle.elf_names.specs.Ahead.{IsAheadOf, SpendsCredit, WhereAgrees};
+ghost use Rattle.elf_model.specs.Traits.{marks_from, no_symbol_traits};
+ghost use Rattle.elf_names.specs.Ahead.{IsAheadOf, ReadsOnCredit, WhereAgrees};
 ghost use Rattle.elf_record.specs.Sym.{IsSym};
-ghost use Rattle.elf_lookup_tables.specs.Symbols.{IsSymbols, SymbolsLie};
-ghost use Rattle.elf_table.specs.Tables.{RowsWithin, StringsWithin, strings_in};
+ghost use Rattle.elf_lookup_tables.specs.Symbols.{IsDynamicSymbols, DynamicSymbolsInBounds};
+ghost use Rattle.elf_table.specs.Tables.{TableInBounds, StringsInBounds, strings_in};
 ghost use Rattle.elf_model.specs.Bytes.{slice};
-ghost use Rattle.elf_traits.specs.Marks.{TellsMarks, marks_in, marks_of, marks_with};
+ghost use Rattle.elf_traits.specs.Marks.{ReturnsMarks, marks_in, symbol_traits_of, marks_with};
 
-use crate::marks::{Marks, marked_by, no_marks};
+use crate::marks::{SymbolTraits, marked_by, no_symbol_traits};
 use crate::names::NAME_CAP;
 use elf_headers::Fault;
 use elf_lookup_tables::Symbols;
@@ -27,26 +27,26 @@ use elf_table::{Cursor, NameBuf, NameEnd, Names, Row, Table};
 ///
 /// # Errors
 /// Those of [`ReadAhead::name`], at the symbol. Else a fault of a read.
-pub(crate) fn symbol_marks<S: Source>(
+pub(crate) fn find_symbol_traits<S: Source>(
     src: &mut Counted<S>,
     symbols: &Symbols,
     count: u64,
-) -> Result<Marks, Fault>
+) -> Result<SymbolTraits, Fault>
     requires few { count ≤ symbols.now.table.count }
-    requires lie { SymbolsLie src.old.seen.size symbols.now }
-    ensures { Did src.old src.new (why_stopped result) ((count - 1) * 88)
-        (λ file. (told : AreSymbolsOf) → IsSymbols file told symbols.now →
-        TellsMarks (marks_from file told no_marks 1 (count - 1)) result) }
+    requires lie { DynamicSymbolsInBounds src.old.seen.size symbols.now }
+    ensures { CallDid src.old src.new (fault_of_result result) ((count - 1) * 88)
+        (λ file. (told : AreSymbolsOf) → IsDynamicSymbols file told symbols.now →
+        ReturnsMarks (marks_from file told no_symbol_traits 1 (count - 1)) result) }
 {
     if count < 2 {
-        return Ok(no_marks());
+        return Ok(no_symbol_traits());
     }
-    let rows = rows_behind_first(&symbols.table, count);
-    marks_of_rows(src, rows, symbols.names, no_marks())
+    let rows = rows_after_first(&symbols.table, count);
+    symbol_traits_of_rows(src, rows, symbols.names, no_symbol_traits())
 }
 
 /// So many rows of a table of symbols but for the first of them; there are two at least.
-fn rows_behind_first(table: &Table, count: u64) -> Table
+fn rows_after_first(table: &Table, count: u64) -> Table
     requires entry { table.now.entry ≡ 24 }
     requires some { 2 ≤ count }
     requires few { count ≤ table.now.count }
@@ -60,17 +60,17 @@ fn rows_behind_first(table: &Table, count: u64) -> Table
 ///
 /// # Errors
 /// Those of [`ReadAhead::name`], at the symbol. Else a fault of a read.
-fn marks_of_rows<S: Source>(
+fn symbol_traits_of_rows<S: Source>(
     src: &mut Counted<S>,
     rows: Table,
     names: Names,
-    before: Marks,
-) -> Result<Marks, Fault>
+    before: SymbolTraits,
+) -> Result<SymbolTraits, Fault>
     requires entry { rows.entry ≡ 24 }
-    requires within { RowsWithin src.old.seen.size rows }
-    requires names { StringsWithin src.old.seen.size names }
-    ensures { Did src.old src.new (why_stopped result) (rows.count * 88)
-        (λ file. TellsMarks (marks_in file rows.at (strings_in file names) (marks_of before)
+    requires within { TableInBounds src.old.seen.size rows }
+    requires names { StringsInBounds src.old.seen.size names }
+    ensures { CallDid src.old src.new (fault_of_result result) (rows.count * 88)
+        (λ file. ReturnsMarks (marks_in file rows.at (strings_in file names) (symbol_traits_of before)
         rows.count) result) }
 {
     let mut ahead = ReadAhead::new();
@@ -93,16 +93,16 @@ fn with_symbol<S: Source>(
     name: &mut NameBuf,
     row: &Row<'_>,
     names: Names,
-    marks: Marks,
-) -> Result<Marks, Fault>
+    marks: SymbolTraits,
+) -> Result<SymbolTraits, Fault>
     requires bytes { length row.now.bytes.now ≡ 24 }
-    requires names { StringsWithin src.old.seen.size names }
-    ensures spends { SpendsCredit src.old src.new ahead.old.credit ahead.new.credit 64 }
-    ensures says { IfErr result (Says src.old src.new (ahead.old.credit + 64)) }
+    requires names { StringsInBounds src.old.seen.size names }
+    ensures spends { ReadsOnCredit src.old src.new ahead.old.credit ahead.new.credit 64 }
+    ensures says { IfErr result (IsReadFault src.old src.new (ahead.old.credit + 64)) }
     ensures agrees { WhereAgrees src.old.seen.file ahead.old (λ file. IsAheadOf file ahead.new) }
     ensures tells { WhereAgrees src.old.seen.file ahead.old (λ file.
         row.now.bytes.now ≡ slice file row.now.at 24 →
-        TellsMarks (marks_with file row.now.at (strings_in file names) (marks_of marks)) result) }
+        ReturnsMarks (marks_with file row.now.at (strings_in file names) (symbol_traits_of marks)) result) }
 {
     let symbol = symbol_in(row);
     let index = NameIndex {

@@ -1,19 +1,19 @@
 //! The traits by what was read of a file.
 ghost use Rattle.std.specs.Prelude.{◌≡◌, ℕ, List, is_some, unwrap_or, Option};
-ghost use Rattle.elf_headers.specs.Load.{Views};
+ghost use Rattle.elf_headers.specs.Load.{HoldsProgramHeaders};
 ghost use Rattle.elf_model.specs.TraitNumbers.{has_bits};
-ghost use Rattle.elf_model.specs.Traits.{binds_now, is_text_patched, kind_of_shared, path_of};
+ghost use Rattle.elf_model.specs.Traits.{binds_now, has_text_relocations, kind_of_shared, path_of};
 ghost use Rattle.elf_model.specs.Traits.{program_kind, relro_of, segment_traits, traits_with};
 ghost use Rattle.elf_traits.specs.Entries.{AreTraitEntries};
-ghost use Rattle.elf_traits.specs.Marks.{marks_of};
+ghost use Rattle.elf_traits.specs.Marks.{symbol_traits_of};
 
-use crate::entries::TraitEntries;
+use crate::entries::TraitTags;
 use crate::flags::has_bits;
-use crate::marks::Marks;
-use crate::segments::{has_segment, is_code_writable, is_stack_executable};
+use crate::marks::SymbolTraits;
+use crate::segments::{has_segment, has_wx_load, is_stack_executable};
 use elf_model::{ProgramKind, Relro, SearchPath, SegmentTraits, Traits};
 use elf_record::numbers::{ET_CORE, ET_DYN, ET_EXEC, ET_REL, PT_INTERP};
-use elf_table::SegmentView;
+use elf_table::ExecutionView;
 
 /// The type of the segment that is read-only once it is relocated (Linux Standard Base Core, Program
 /// Header).
@@ -36,13 +36,13 @@ const FEATURE_SHSTK: u64 = 0x2;
 /// The traits of a file, by the word of its features of x86 and the marks of its symbols.
 #[tactic(auto, unfolding(elf_model::specs::Traits::traits_with))]
 pub(crate) fn traits_with(
-    view: &SegmentView<'_>,
-    entries: &TraitEntries,
+    view: &ExecutionView<'_>,
+    entries: &TraitTags,
     word: u32,
-    marks: Marks,
+    marks: SymbolTraits,
 ) -> Traits
-    ensures { (file : List ℕ) → Views file view.now.loaded view.now.store.now →
-        AreTraitEntries file entries.now → result ≡ traits_with file word (marks_of marks) }
+    ensures { (file : List ℕ) → HoldsProgramHeaders file view.now.loaded view.now.store.now →
+        AreTraitEntries file entries.now → result ≡ traits_with file word (symbol_traits_of marks) }
 {
     Traits {
         kind: program_kind(view, entries),
@@ -57,8 +57,8 @@ pub(crate) fn traits_with(
 
 /// What a file is, by its type (gABI 4, ELF Header).
 #[tactic(auto, unfolding(elf_model::specs::Traits::program_kind))]
-fn program_kind(view: &SegmentView<'_>, entries: &TraitEntries) -> ProgramKind
-    ensures { (file : List ℕ) → Views file view.now.loaded view.now.store.now →
+fn program_kind(view: &ExecutionView<'_>, entries: &TraitTags) -> ProgramKind
+    ensures { (file : List ℕ) → HoldsProgramHeaders file view.now.loaded view.now.store.now →
         AreTraitEntries file entries.now → result ≡ program_kind file }
 {
     let kind = view.loaded.header().e_type;
@@ -82,8 +82,8 @@ fn program_kind(view: &SegmentView<'_>, entries: &TraitEntries) -> ProgramKind
 /// What a file is that may stand at any address: a library where it has a name as one; else a program
 /// where it asks for an interpreter, and where it says so.
 #[tactic(auto, unfolding(elf_model::specs::Traits::kind_of_shared))]
-fn kind_of_shared(view: &SegmentView<'_>, entries: &TraitEntries) -> ProgramKind
-    ensures { (file : List ℕ) → Views file view.now.loaded view.now.store.now →
+fn kind_of_shared(view: &ExecutionView<'_>, entries: &TraitTags) -> ProgramKind
+    ensures { (file : List ℕ) → HoldsProgramHeaders file view.now.loaded view.now.store.now →
         AreTraitEntries file entries.now → result ≡ kind_of_shared file }
 {
     if entries.soname.is_some() {
@@ -100,8 +100,8 @@ fn kind_of_shared(view: &SegmentView<'_>, entries: &TraitEntries) -> ProgramKind
 
 /// The traits by program headers, where there are any.
 #[tactic(auto, unfolding(elf_model::specs::Traits::segment_traits))]
-fn segment_traits(view: &SegmentView<'_>, entries: &TraitEntries) -> Option<SegmentTraits>
-    ensures { (file : List ℕ) → Views file view.now.loaded view.now.store.now →
+fn segment_traits(view: &ExecutionView<'_>, entries: &TraitTags) -> Option<SegmentTraits>
+    ensures { (file : List ℕ) → HoldsProgramHeaders file view.now.loaded view.now.store.now →
         AreTraitEntries file entries.now → result ≡ segment_traits file }
 {
     if view.segments() == 0 {
@@ -110,15 +110,15 @@ fn segment_traits(view: &SegmentView<'_>, entries: &TraitEntries) -> Option<Segm
     Some(SegmentTraits {
         relro: relro_of(view, entries),
         stack_executable: is_stack_executable(view),
-        pages_writable: is_code_writable(view),
-        text_patched: is_text_patched(entries),
+        pages_writable: has_wx_load(view),
+        text_patched: has_text_relocations(entries),
     })
 }
 
 /// How much is read-only once it is relocated.
 #[tactic(auto, unfolding(elf_model::specs::Traits::relro_of))]
-fn relro_of(view: &SegmentView<'_>, entries: &TraitEntries) -> Relro
-    ensures { (file : List ℕ) → Views file view.now.loaded view.now.store.now →
+fn relro_of(view: &ExecutionView<'_>, entries: &TraitTags) -> Relro
+    ensures { (file : List ℕ) → HoldsProgramHeaders file view.now.loaded view.now.store.now →
         AreTraitEntries file entries.now → result ≡ relro_of file }
 {
     if !has_segment(view, PT_GNU_RELRO) {
@@ -132,7 +132,7 @@ fn relro_of(view: &SegmentView<'_>, entries: &TraitEntries) -> Relro
 
 /// Whether all symbols are bound before the program begins.
 #[tactic(auto, unfolding(elf_model::specs::Traits::binds_now))]
-fn binds_now(entries: &TraitEntries) -> bool
+fn binds_now(entries: &TraitTags) -> bool
     ensures { (file : List ℕ) → AreTraitEntries file entries.now → result ≡ binds_now file }
 {
     entries.bind_now.is_some()
@@ -141,17 +141,17 @@ fn binds_now(entries: &TraitEntries) -> bool
 }
 
 /// Whether relocations change a segment that is not writable.
-#[tactic(auto, unfolding(elf_model::specs::Traits::is_text_patched))]
-fn is_text_patched(entries: &TraitEntries) -> bool
+#[tactic(auto, unfolding(elf_model::specs::Traits::has_text_relocations))]
+fn has_text_relocations(entries: &TraitTags) -> bool
     ensures { (file : List ℕ) → AreTraitEntries file entries.now →
-        result ≡ is_text_patched file }
+        result ≡ has_text_relocations file }
 {
     entries.textrel.is_some() || value_has(entries.flags, DF_TEXTREL)
 }
 
 /// Where libraries are looked for first.
 #[tactic(auto, unfolding(elf_model::specs::Traits::path_of))]
-fn path_of(entries: &TraitEntries) -> SearchPath
+fn path_of(entries: &TraitTags) -> SearchPath
     ensures { (file : List ℕ) → AreTraitEntries file entries.now → result ≡ path_of file }
 {
     if entries.runpath.is_some() {

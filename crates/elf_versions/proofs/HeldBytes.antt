@@ -3,7 +3,7 @@ use Rattle.std.proofs.Common.{◌≡◌, ℕ, ◌+◌, ◌≤◌, List, take, If
 use Rattle.elf_model.specs.Bytes.{slice}
 use Rattle.elf_model.proofs.Slices.{slice-slice}
 use Rattle.elf_headers.specs.Faults.{IsAt}
-use Rattle.elf_headers.specs.Ledger.{why_stopped}
+use Rattle.elf_headers.specs.Ledger.{fault_of_result}
 use Rattle.elf_headers.specs.declared.fault.Fault.{Fault}
 use Rattle.elf_headers.specs.declared.fault.Fault.TheVariants.{Refused, Source}
 use Rattle.elf_versions.specs.Reading.{GivesBytes}
@@ -27,6 +27,6 @@ read-gives wanted bytes at (Err (Refused refusal)) fails reads = cc
 read-gives wanted bytes at (Err (Source fault offset)) fails reads = tt
 
 -- what a fault says is what a stop says
-pub stop-says : {X : Type 0} (P : Fault → Type 0) (result : Result X Fault) → IfErr result P → IfSome (why_stopped result) P
+pub stop-says : {X : Type 0} (P : Fault → Type 0) (result : Result X Fault) → IfErr result P → IfSome (fault_of_result result) P
 stop-says P (Ok x) says = tt
 stop-says P (Err fault) says = says

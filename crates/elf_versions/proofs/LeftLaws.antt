@@ -2,18 +2,18 @@
 use Rattle.std.proofs.Common.{◌≡◌, ℕ, zero, suc, ◌+◌, ◌-◌, ◌*◌, ◌<◌, ◌≤◌, nat_lt, Bool, true, false, if◌then◌else◌, List, ◌⊎◌, inl, inr, Option, Some, Err, option_map, refl, arith}
 use Rattle.std.proofs.lemmas.Bool.Decides.{nat_tests}
 use Rattle.elf_model.specs.Checks.{first_refusal}
-use Rattle.elf_model.specs.Versions.{Stand, Versions, met_at, met_from, no_versions, record_checks, record_size, with_met}
+use Rattle.elf_model.specs.Versions.{RecordCursorState, Versions, visited_at, visited_from, no_versions, record_checks, record_size, with_visited}
 use Rattle.elf_model.specs.declared.causes.Cause.TheVariants.{VersionCut}
 use Rattle.elf_model.specs.declared.causes.Refusal.{Refusal}
 use Rattle.elf_model.proofs.VersionSteps.{met-most, met-record, met-refused}
 use Rattle.elf_headers.specs.declared.fault.Fault.{Fault}
 use Rattle.elf_headers.specs.declared.fault.Fault.TheVariants.{Refused, Source}
-use Rattle.elf_versions.specs.Reading.{HeldTable, IsStep, ReadsRecord, TellsMet, stand_of, unheld}
-use Rattle.elf_versions.specs.declared.reading.RecordStep.{RecordStep}
-use Rattle.elf_versions.specs.declared.stepping.Standing.{Standing}
+use Rattle.elf_versions.specs.Reading.{BufferedTable, IsStep, ReadsRecord, ReturnsMet, record_position_of, unheld}
+use Rattle.elf_versions.specs.declared.reading.VersionRecordStep.{VersionRecordStep}
+use Rattle.elf_versions.specs.declared.stepping.RecordPosition.{RecordPosition}
 
 -- a record that is not in the table
-past : (file : List ℕ) (table size : ℕ) (stand : Stand) → size < stand.place + record_size stand.kind
+past : (file : List ℕ) (table size : ℕ) (stand : RecordCursorState) → size < stand.place + record_size stand.kind
     → first_refusal (record_checks file table size stand) ≡ Some (record { at = stand.from; cause = VersionCut })
 unfolding record_checks
 past file table size stand far =
@@ -22,17 +22,17 @@ past file table size stand far =
 
 -- what is left is cut where no record may be met any more, or none is in the table
 pub cut-here :
-    (file : List ℕ) (table size : ℕ) (stand : Stand) (left : ℕ) → (left ≡ 0) ⊎ (size < stand.place + record_size stand.kind)
-    → met_from file table size (Some stand) left ≡ no_versions (Some (record { at = stand.from; cause = VersionCut }))
+    (file : List ℕ) (table size : ℕ) (stand : RecordCursorState) (left : ℕ) → (left ≡ 0) ⊎ (size < stand.place + record_size stand.kind)
+    → visited_from file table size (Some stand) left ≡ no_versions (Some (record { at = stand.from; cause = VersionCut }))
 cut-here file table size stand zero why = met-most file table size stand
 cut-here file table size stand (suc left) (inl none) = absurd (omega arith)
 cut-here file table size stand (suc left) (inr far) = met-refused file table size stand left _ (past file table size stand far)
 
 -- a record that is read is met
 pub step-met :
-    (file : List ℕ) (table size : ℕ) (stand : Stand) (left : ℕ) (step : RecordStep) → 0 < left → IsStep file table size stand step
-    → met_from file table size (Some stand) left
-    ≡ with_met (met_at table stand) (met_from file table size (option_map stand_of step.next) (left - 1))
+    (file : List ℕ) (table size : ℕ) (stand : RecordCursorState) (left : ℕ) (step : VersionRecordStep) → 0 < left → IsStep file table size stand step
+    → visited_from file table size (Some stand) left
+    ≡ with_visited (visited_at table stand) (visited_from file table size (option_map record_position_of step.next) (left - 1))
 step-met file table size stand zero step some is = absurd (omega arith)
 step-met file table size stand (suc left) step some is =
     let less : suc left - 1 ≡ left = omega arith in
@@ -41,23 +41,23 @@ step-met file table size stand (suc left) step some is =
 
 -- one that is refused cuts what is left
 refused-cuts :
-    (file : List ℕ) (table size : ℕ) (stand : Stand) (left : ℕ) (refusal : Refusal) → 0 < left
+    (file : List ℕ) (table size : ℕ) (stand : RecordCursorState) (left : ℕ) (refusal : Refusal) → 0 < left
     → first_refusal (record_checks file table size stand) ≡ Some refusal
-    → met_from file table size (Some stand) left ≡ no_versions (Some refusal)
+    → visited_from file table size (Some stand) left ≡ no_versions (Some refusal)
 refused-cuts file table size stand zero refusal some e = absurd (omega arith)
 refused-cuts file table size stand (suc left) refusal some e = met-refused file table size stand left refusal e
 
 pub step-refused :
-    (file : List ℕ) (table size : ℕ) (standing : Option Standing) (s : Standing) (left : ℕ) (new : Versions) (fault : Fault)
-    → standing ≡ Some s → 0 < left → ReadsRecord file table size (stand_of s) (Err fault)
-    → TellsMet file (met_from file table size (option_map stand_of standing) left) new (Err fault)
+    (file : List ℕ) (table size : ℕ) (standing : Option RecordPosition) (s : RecordPosition) (left : ℕ) (new : Versions) (fault : Fault)
+    → standing ≡ Some s → 0 < left → ReadsRecord file table size (record_position_of s) (Err fault)
+    → ReturnsMet file (visited_from file table size (option_map record_position_of standing) left) new (Err fault)
 step-refused file table size standing s left new (Refused refusal) is some reads =
-    λ other. rw is (refused-cuts file table size (stand_of s) left refusal some (reads other))
+    λ other. rw is (refused-cuts file table size (record_position_of s) left refusal some (reads other))
 step-refused file table size standing s left new (Source fault at) is some reads = tt
 
 -- a step asks for no more than is no longer unread
 pub step-pays :
-    (h : HeldTable) (left each b : ℕ) → 0 < left → b ≤ each
+    (h : BufferedTable) (left each b : ℕ) → 0 < left → b ≤ each
     → unheld h b ≤ unheld h (left * each) - unheld h ((left - 1) * each)
 step-pays h left each b some less = go h.whole left some
   where

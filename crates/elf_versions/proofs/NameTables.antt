@@ -4,19 +4,19 @@ use Rattle.std.proofs.lemmas.Bool.{cases_Bool, cases_eq, cases_lt}
 use Rattle.std.proofs.lemmas.Bool.Decides.{nat_tests}
 use Rattle.std.proofs.lemmas.List.{get_or-replicate, get_or-set_other, get_or-set_same, get_or_past, length-replicate, length-set}
 use Rattle.std.proofs.Math.ListN.{set}
-use Rattle.elf_model.specs.Versions.{Met, named_at, named_by, names_number, names_version, number_in, number_word}
+use Rattle.elf_model.specs.Versions.{VisitedRecord, named_at, named_by, names_version_index, names_version, number_in, number_word}
 use Rattle.elf_model.proofs.VersionLaws.{first_list_names_first, named-here, named-later, named-none}
 use Rattle.elf_versions.specs.NumberNames.{GivesName, NameFits, IsNameOfRecord, IsPlaceOfRecord, NamesNumbers, name_at}
-use Rattle.elf_versions.specs.declared.number_names.NameAt.{NameAt}
-use Rattle.elf_versions.specs.declared.number_names.NameAt.TheVariants.{Nowhere, Defined, Needed}
+use Rattle.elf_versions.specs.declared.number_names.VersionNameRef.{VersionNameRef}
+use Rattle.elf_versions.specs.declared.number_names.VersionNameRef.TheVariants.{Nowhere, Defined, Needed}
 
 -- where none of some records names a number, the others behind them do or do not
 behind-none :
-    (file : List ℕ) (number : ℕ) (first second : List Met) → named_by file number first ≡ None
+    (file : List ℕ) (number : ℕ) (first second : List VisitedRecord) → named_by file number first ≡ None
     → named_by file number (first ++ second) ≡ named_by file number second
 behind-none file number [] second e = refl
 behind-none file number (met ∷ first) second e =
-    elim (cases_Bool (names_number file number met)) [
+    elim (cases_Bool (names_version_index file number met)) [
       | inl here ↦ let h = named-here file number met first here in absurd (cc)
       | inr later ↦
           named-later file number met (first ++ second) later
@@ -25,35 +25,35 @@ behind-none file number (met ∷ first) second e =
 
 -- a record behind others that does not name the number changes nothing
 pub not-named :
-    (file : List ℕ) (number : ℕ) (records : List Met) (met : Met) → names_number file number met ≡ false
+    (file : List ℕ) (number : ℕ) (records : List VisitedRecord) (met : VisitedRecord) → names_version_index file number met ≡ false
     → named_by file number (records ++ met ∷ []) ≡ named_by file number records
 not-named file number records met other = go (named_by file number records) refl
   where
-    go : (o : Option Met) → named_by file number records ≡ o → named_by file number (records ++ met ∷ []) ≡ named_by file number records
+    go : (o : Option VisitedRecord) → named_by file number records ≡ o → named_by file number (records ++ met ∷ []) ≡ named_by file number records
     go None e = behind-none file number records (met ∷ []) e ∙ named-later file number met [] other ∙ named-none file number ∙ sym e
     go (Some first) e = first_list_names_first file number records (met ∷ []) first e ∙ sym e
 
 -- nor does one where another has named it
 pub still-named :
-    (file : List ℕ) (number : ℕ) (records : List Met) (met first : Met) → named_by file number records ≡ Some first
+    (file : List ℕ) (number : ℕ) (records : List VisitedRecord) (met first : VisitedRecord) → named_by file number records ≡ Some first
     → named_by file number (records ++ met ∷ []) ≡ named_by file number records
 still-named file number records met first e = first_list_names_first file number records (met ∷ []) first e ∙ sym e
 
 -- one that does, where none has, names it
 pub now-named :
-    (file : List ℕ) (number : ℕ) (records : List Met) (met : Met) → named_by file number records ≡ None
-    → names_number file number met ≡ true → named_by file number (records ++ met ∷ []) ≡ Some met
+    (file : List ℕ) (number : ℕ) (records : List VisitedRecord) (met : VisitedRecord) → named_by file number records ≡ None
+    → names_version_index file number met ≡ true → named_by file number (records ++ met ∷ []) ≡ Some met
 now-named file number records met none here =
     behind-none file number records (met ∷ []) none ∙ named-here file number met [] here
 
 -- a name that is nowhere is that of no record, and any other is one's
-pub nowhere-none : (file : List ℕ) (o : Option Met) (name : NameAt) → IsNameOfRecord file o name → name ≡ Nowhere → o ≡ None
+pub nowhere-none : (file : List ℕ) (o : Option VisitedRecord) (name : VersionNameRef) → IsNameOfRecord file o name → name ≡ Nowhere → o ≡ None
 nowhere-none file None name is e = refl
 nowhere-none file (Some met) Nowhere is e = absurd is
 nowhere-none file (Some met) (Defined index) is e = cc
 nowhere-none file (Some met) (Needed index) is e = cc
 
-pub somewhere-some : (file : List ℕ) (o : Option Met) (name : NameAt) → IsNameOfRecord file o name → (name ≡ Nowhere → ⊥) → (met : Met) × (o ≡ Some met)
+pub somewhere-some : (file : List ℕ) (o : Option VisitedRecord) (name : VersionNameRef) → IsNameOfRecord file o name → (name ≡ Nowhere → ⊥) → (met : VisitedRecord) × (o ≡ Some met)
 somewhere-some file None Nowhere is other = absurd (other refl)
 somewhere-some file None (Defined index) is other = absurd is
 somewhere-some file None (Needed index) is other = absurd is
@@ -70,7 +70,7 @@ own-number false own number same = refl
 
 -- the name of a number that a record has, where none has named it before
 gives-here :
-    (file : List ℕ) (number : ℕ) (records : List Met) (met : Met) (name : NameAt) (version : Bool) → names_version file met ≡ version
+    (file : List ℕ) (number : ℕ) (records : List VisitedRecord) (met : VisitedRecord) (name : VersionNameRef) (version : Bool) → names_version file met ≡ version
     → number_in (number_word file met) ≡ number → named_by file number records ≡ None → GivesName file met version name
     → IsNameOfRecord file (named_by file number (records ++ met ∷ [])) name
 gives-here file number records met name true is own none gives =
@@ -82,7 +82,7 @@ gives-here file number records met name false is own none gives =
 
 -- a record that is taken in where its number has no name
 new-names :
-    (file : List ℕ) (records : List Met) (met : Met) (names : List NameAt) (own : ℕ) (name : NameAt) → own < length names
+    (file : List ℕ) (records : List VisitedRecord) (met : VisitedRecord) (names : List VersionNameRef) (own : ℕ) (name : VersionNameRef) → own < length names
     → number_in (number_word file met) ≡ own → name_at names own ≡ Nowhere → GivesName file met (names_version file met) name
     → ((number : ℕ) → IsNameOfRecord file (named_by file number records) (name_at names number))
     → (number : ℕ) → IsNameOfRecord file (named_by file number (records ++ met ∷ [])) (name_at (set names own name) number)
@@ -101,7 +101,7 @@ new-names file records met names own name inside is nowhere gives before number 
 
 -- a place that is kept of it
 place-here :
-    (file : List ℕ) (number : ℕ) (records : List Met) (met : Met) (version : Bool) → names_version file met ≡ version
+    (file : List ℕ) (number : ℕ) (records : List VisitedRecord) (met : VisitedRecord) (version : Bool) → names_version file met ≡ version
     → number_in (number_word file met) ≡ number → named_by file number records ≡ None
     → IsPlaceOfRecord file (named_by file number (records ++ met ∷ [])) (named_at file met)
 place-here file number records met true is own none =
@@ -110,7 +110,7 @@ place-here file number records met false is own none =
     rw (not-named file number records met (own-number (names_version file met) _ number own ∙ is) ∙ none) tt
 
 new-places :
-    (file : List ℕ) (records : List Met) (met : Met) (places : List ℕ) (own place : ℕ)
+    (file : List ℕ) (records : List VisitedRecord) (met : VisitedRecord) (places : List ℕ) (own place : ℕ)
     → number_in (number_word file met) ≡ own → named_by file own records ≡ None → place ≡ named_at file met
     → ((number : ℕ) → number < length places → IsPlaceOfRecord file (named_by file number records) (slice_index_or places number 0))
     → (number : ℕ) → number < length (set places own place) → IsPlaceOfRecord file (named_by file number (records ++ met ∷ [])) (slice_index_or (set places own place) number 0)
@@ -128,7 +128,7 @@ new-places file records met places own place is none here before number few =
     ]
 
 pub take-new :
-    (file : List ℕ) (records : List Met) (met : Met) (names : List NameAt) (places : List ℕ) (own place : ℕ) (name : NameAt) → own < length names
+    (file : List ℕ) (records : List VisitedRecord) (met : VisitedRecord) (names : List VersionNameRef) (places : List ℕ) (own place : ℕ) (name : VersionNameRef) → own < length names
     → number_in (number_word file met) ≡ own → name_at names own ≡ Nowhere → GivesName file met (names_version file met) name → place ≡ named_at file met
     → NamesNumbers file records names places → NamesNumbers file (records ++ met ∷ []) (set names own name) (set places own place)
 take-new file records met names places own place name inside is nowhere gives here before =
@@ -140,7 +140,7 @@ take-new file records met names places own place name inside is nowhere gives he
 
 -- and one where it has
 pub take-old :
-    (file : List ℕ) (records : List Met) (met : Met) (names : List NameAt) (places : List ℕ) (own : ℕ)
+    (file : List ℕ) (records : List VisitedRecord) (met : VisitedRecord) (names : List VersionNameRef) (places : List ℕ) (own : ℕ)
     → number_in (number_word file met) ≡ own → (name_at names own ≡ Nowhere → ⊥)
     → NamesNumbers file records names places → NamesNumbers file (records ++ met ∷ []) names places
 take-old file records met names places own is somewhere before = record {
@@ -169,14 +169,14 @@ none-names file count number =
     ]
 
 -- a name of a number that is low enough
-pub name-fits : (number : ℕ) (name : NameAt) → number < 1024 → NameFits number name
+pub name-fits : (number : ℕ) (name : VersionNameRef) → number < 1024 → NameFits number name
 name-fits number Nowhere low = tt
 name-fits number (Defined index) low = low
 name-fits number (Needed index) low = low
 
 -- a number behind the last has no name
 pub behind-last :
-    (file : List ℕ) (o : Option Met) (names : List NameAt) (number : ℕ) → length names ≤ number → IsNameOfRecord file o (name_at names number)
+    (file : List ℕ) (o : Option VisitedRecord) (names : List VersionNameRef) (number : ℕ) → length names ≤ number → IsNameOfRecord file o (name_at names number)
     → IsNameOfRecord file o Nowhere
 behind-last file o names number far is =
     let none : name_at names number ≡ Nowhere = get_or_past names number Nowhere far in

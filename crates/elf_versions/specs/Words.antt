@@ -2,23 +2,23 @@
 use Rattle.std.specs.Prelude.{ℕ, ◌≡◌, ◌+◌, ◌<◌, ◌≤◌, ◌==◌, nat_lt, not, List, [], ◌∷◌}
 use Rattle.elf_model.specs.Checks.{Check, refuse}
 use Rattle.elf_model.specs.Records.{vd_aux, vn_aux, vn_file, vna_name}
-use Rattle.elf_model.specs.Versions.{DEFINED_NAME_SIZE, NEED_SIZE, VERSION_NUMBERS, Met, number_in, version_word, number_word, flags_word, hash_word, next_word}
+use Rattle.elf_model.specs.Versions.{DEFINED_NAME_SIZE, NEED_SIZE, VERSION_NUMBERS, VisitedRecord, number_in, version_word, number_word, flags_word, hash_word, next_word}
 use Rattle.elf_model.specs.declared.causes.Cause.TheVariants.{BadVersion, VersionCut, VersionIndex}
 use Rattle.elf_model.specs.declared.versions.VersionKind.{VersionKind}
 use Rattle.elf_model.specs.declared.versions.VersionKind.TheVariants.{Definition, File, Need}
-use Rattle.elf_versions.specs.declared.stepping.Standing.{Standing}
-use Rattle.elf_versions.specs.declared.words.RecordWords.{RecordWords}
+use Rattle.elf_versions.specs.declared.stepping.RecordPosition.{RecordPosition}
+use Rattle.elf_versions.specs.declared.words.VersionRecordFields.{VersionRecordFields}
 
 -- the distance that a record holds beside that to the next of its kind: to its name, or to its first version
-unfoldable pub aux_word : List ℕ → Met → ℕ
+unfoldable pub aux_word : List ℕ → VisitedRecord → ℕ
 aux_word file met = elim met.kind [ Definition ↦ vd_aux file met.at | File ↦ vn_aux file met.at | Need ↦ 0 ]
 
 -- the index of its name, where the record holds it
-unfoldable pub HoldsName : List ℕ → Met → ℕ → Type 0
+unfoldable pub HoldsName : List ℕ → VisitedRecord → ℕ → Type 0
 HoldsName file met name = elim met.kind as (λ _. Type 0) [ Definition ↦ Unit {0} | File ↦ name ≡ vn_file file met.at | Need ↦ name ≡ vna_name file met.at ]
 
 -- words are those of a record of a file
-pub record HoldsWords (file : List ℕ) (met : Met) (words : RecordWords) : Type 0 where
+pub record HoldsWords (file : List ℕ) (met : VisitedRecord) (words : VersionRecordFields) : Type 0 where
   pub version : words.version ≡ version_word file met
   pub number : words.number ≡ number_word file met
   pub flags : words.flags ≡ flags_word file met
@@ -35,7 +35,7 @@ unfoldable pub end_of_named_record : VersionKind → ℕ → ℕ
 end_of_named_record kind aux = elim kind [ Definition ↦ aux + DEFINED_NAME_SIZE | File ↦ NEED_SIZE | Need ↦ NEED_SIZE ]
 
 -- the checks of words, of a record that stands in the file at an offset and at a place of its table of some bytes
-abbrev pub checks_of : VersionKind → (size place at : ℕ) → RecordWords → List Check
+abbrev pub checks_of : VersionKind → (size place at : ℕ) → VersionRecordFields → List Check
 checks_of kind size place at words =
     refuse (not (words.version == 1)) at BadVersion
     ∷ refuse (not (nat_lt (number_in words.number) VERSION_NUMBERS)) at VersionIndex
@@ -43,6 +43,6 @@ checks_of kind size place at words =
     ∷ []
 
 -- what those checks leave of a record where a walk stands: its name ends in its table of some bytes, and its number is small
-pub record PassesWords (size : ℕ) (s : Standing) (words : RecordWords) : Type 0 where
+pub record PassesWords (size : ℕ) (s : RecordPosition) (words : VersionRecordFields) : Type 0 where
   pub ends : s.place + end_of_named_record s.kind words.aux ≤ size
   pub small : number_in words.number < VERSION_NUMBERS

@@ -1,18 +1,18 @@
 //! A cursor over the records of symbol versions.
 ghost use Rattle.std.specs.Prelude.{◌≡◌, ℕ, ◌+◌, ◌-◌, ◌*◌, ◌^◌, ◌<◌, ◌≤◌, List, false, Some, None, Err, IfOk, IfErr, IfSome};
 ghost use Rattle.elf_headers.specs.Faults.{IsOfRead};
-ghost use Rattle.elf_headers.specs.Ledger.{Did, why_stopped};
+ghost use Rattle.elf_headers.specs.Ledger.{CallDid, fault_of_result};
 ghost use Rattle.elf_headers.specs.declared.fault.Fault.{Fault};
-ghost use Rattle.elf_table.specs.Tables.{RowsWithin};
-ghost use Rattle.elf_model.specs.Versions.{most_records};
+ghost use Rattle.elf_table.specs.Tables.{TableInBounds};
+ghost use Rattle.elf_model.specs.Versions.{max_records};
 ghost use Rattle.elf_model.specs.declared.versions.VersionKind.TheVariants.{Need};
-ghost use Rattle.elf_versions.specs.Reading.{Fits, IsCursorOf, KeepsWalk, LeavesMet, LeavesWalk, MeetsIn};
+ghost use Rattle.elf_versions.specs.Reading.{Fits, IsCursorOf, KeepsWalk, LeavesVisited, LeavesWalk, MeetsIn};
 ghost use Rattle.elf_versions.specs.Reading.{StartsVersions, StepsIn, bytes_each, unread, why_stopped_now};
 
 use crate::reading::read_record;
 use crate::record::VersionRecord;
-use crate::stepping::{Standing, bytes_each, first, record_bytes};
-use crate::table_bytes::TableBytes;
+use crate::stepping::{RecordPosition, bytes_each, first, record_bytes};
+use crate::table_bytes::TableBuffer;
 use elf_headers::{Fault, refused};
 use elf_record::sizes::{VERSION_DEFINITION_BYTES, VERSION_NAME_BYTES};
 use elf_record::{Cause, VersionKind};
@@ -27,8 +27,8 @@ use std::marker::Model;
 /// other. Of any other each record is read alone.
 #[derive(Drop)]
 pub struct VersionCursor {
-    held: TableBytes,
-    standing: Option<Standing>,
+    held: TableBuffer,
+    standing: Option<RecordPosition>,
     left: u64,
     each: u64,
     failed: Option<Fault>,
@@ -36,9 +36,9 @@ pub struct VersionCursor {
 
 impl Model for VersionCursor {
     ghost use Rattle.std.specs.Prelude.{◌≡◌, ◌+◌, ◌^◌, ◌<◌, ◌≤◌, IfSome};
-    ghost use Rattle.elf_versions.specs.Reading.{Fits, Walking};
+    ghost use Rattle.elf_versions.specs.Reading.{Fits, VersionCursorState};
 
-    ghost Value = { Walking };
+    ghost Value = { VersionCursorState };
 
     ghost view = { λ c. record {
       held = c.held;
@@ -68,19 +68,19 @@ impl VersionCursor {
     ) -> Result<VersionCursor, Fault>
         requires bytes { table.entry ≡ 1 }
         requires kind { kind ≡ Need → ⊥ }
-        requires within { RowsWithin src.old.seen.size table }
-        ensures did { Did src.old src.new (why_stopped result)
-            (most_records kind table.count * bytes_each kind)
+        requires within { TableInBounds src.old.seen.size table }
+        ensures did { CallDid src.old src.new (fault_of_result result)
+            (max_records kind table.count * bytes_each kind)
             (λ file. IfOk result (IsCursorOf file)) }
         ensures fault { IfErr result IsOfRead }
         ensures account { IfOk result (λ c. src.new.asked + unread c
-            ≤ src.old.asked + most_records kind table.count * bytes_each kind) }
+            ≤ src.old.asked + max_records kind table.count * bytes_each kind) }
         ensures starts { IfOk result (StartsVersions kind head table) }
     {
         let size = table.len();
         let left = size / record_bytes(kind);
         let each = bytes_each(kind);
-        let held = TableBytes::load(src, table, left.saturating_mul(each))?;
+        let held = TableBuffer::load(src, table, left.saturating_mul(each))?;
         Ok(VersionCursor {
             held,
             standing: first(kind, head, size),
@@ -101,7 +101,7 @@ impl VersionCursor {
     {
         let size = table.len();
         VersionCursor {
-            held: TableBytes::unread(table),
+            held: TableBuffer::unread(table),
             standing: first(kind, head, size),
             left: size / record_bytes(kind),
             each: bytes_each(kind),
@@ -111,7 +111,7 @@ impl VersionCursor {
 
     /// A cursor that reads each record alone, and goes on where another walk stood over `table`, whose
     /// rows are single bytes: no more than `left` records are met.
-    pub fn resumed(table: Table, standing: Option<Standing>, left: u64) -> VersionCursor
+    pub fn resumed(table: Table, standing: Option<RecordPosition>, left: u64) -> VersionCursor
         requires bytes { table.entry ≡ 1 }
         requires fits { IfSome standing (Fits table.count 28) }
         ensures its_table { result.held.table ≡ table }
@@ -121,7 +121,7 @@ impl VersionCursor {
         ensures going { result.failed ≡ None }
     {
         VersionCursor {
-            held: TableBytes::unread(table),
+            held: TableBuffer::unread(table),
             standing,
             left,
             each: VERSION_DEFINITION_BYTES + VERSION_NAME_BYTES,
@@ -130,7 +130,7 @@ impl VersionCursor {
     }
 
     /// Where the walk stands; None behind the last record.
-    pub fn standing(&self) -> Option<Standing>
+    pub fn standing(&self) -> Option<RecordPosition>
         ensures is { result ≡ self.now.standing }
         ensures fits { IfSome result (Fits self.now.held.table.count self.now.each) }
     {
@@ -150,8 +150,8 @@ impl VersionCursor {
         &mut self,
         src: &mut Counted<S>,
     ) -> Result<Option<VersionRecord>, Fault>
-        requires { RowsWithin src.old.seen.size self.old.held.table }
-        ensures did { Did src.old src.new (why_stopped_now self.old.failed result)
+        requires { TableInBounds src.old.seen.size self.old.held.table }
+        ensures did { CallDid src.old src.new (why_stopped_now self.old.failed result)
             (unread self.old - unread self.new)
             (λ file. IsCursorOf file self.old → StepsIn file self.old self.new result) }
         ensures keeps { KeepsWalk self.old self.new }
@@ -176,15 +176,15 @@ impl VersionCursor {
     fn meet<S: Source>(
         &mut self,
         src: &mut Counted<S>,
-        stand: &Standing,
+        stand: &RecordPosition,
     ) -> Result<VersionRecord, Fault>
-        requires within { RowsWithin src.old.seen.size self.old.held.table }
+        requires within { TableInBounds src.old.seen.size self.old.held.table }
         requires stands { self.old.standing ≡ Some stand.now }
         requires going { self.old.failed ≡ None }
-        ensures did { Did src.old src.new (why_stopped result) (unread self.old - unread self.new)
+        ensures did { CallDid src.old src.new (fault_of_result result) (unread self.old - unread self.new)
             (λ file. IsCursorOf file self.old → MeetsIn file self.old self.new result) }
         ensures keeps { KeepsWalk self.old self.new }
-        ensures leaves { LeavesMet self.old self.new result }
+        ensures leaves { LeavesVisited self.old self.new result }
     {
         let size = self.held.table().len();
         let end = stand.place + u128::from(record_bytes(stand.kind));

@@ -11,7 +11,7 @@ mod table_bytes;
 mod words;
 
 pub use cursor::VersionCursor;
-pub use number_names::{ALL_PLACES, NUMBER_NAMES_BYTES, NameAt, NumberNames};
+pub use number_names::{ALL_PLACES, NUMBER_NAMES_BYTES, VersionNameRef, VersionNames};
 pub use record::VersionRecord;
-pub use stepping::{Standing, record_bytes};
+pub use stepping::{RecordPosition, record_bytes};
 pub use table_bytes::VERSIONS_BUFFER_BYTES;

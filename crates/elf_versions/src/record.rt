@@ -1,6 +1,6 @@
 //! A record of symbol versions that a cursor gives.
 ghost use Rattle.std.specs.Prelude.{◌≡◌, ℕ, List};
-ghost use Rattle.elf_model.specs.Versions.{Met, names_version};
+ghost use Rattle.elf_model.specs.Versions.{VisitedRecord, names_version};
 ghost use Rattle.elf_versions.specs.Reading.{IsVersion};
 
 use elf_record::VersionKind;
@@ -34,7 +34,7 @@ impl VersionRecord {
     /// file itself (Linux Standard Base Core, Symbol Versioning).
     #[tactic(auto, unfolding(elf_model::specs::Versions::names_version, elf_model::specs::Versions::flags_word))]
     pub fn names_version(&self) -> bool
-        ensures { (file : List ℕ) (met : Met) → IsVersion file met self.now →
+        ensures { (file : List ℕ) (met : VisitedRecord) → IsVersion file met self.now →
             result ≡ names_version file met }
     {
         match self.kind {

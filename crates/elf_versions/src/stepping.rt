@@ -1,19 +1,19 @@
 //! Where a walk over symbol versions stands, and where a record leads it.
 ghost use Rattle.std.specs.Prelude.{◌≡◌, ℕ, ◌+◌, ◌^◌, ◌<◌, ◌≤◌, List, Some, IfSome, MatchOption, option_map};
-ghost use Rattle.elf_model.specs.Budget.{IsBudget};
+ghost use Rattle.elf_model.specs.Budget.{IsBudgetRefusal};
 ghost use Rattle.elf_model.specs.Checks.{first_refusal};
-ghost use Rattle.elf_model.specs.Versions.{record_size, along, first_stand, met_at, number_in};
+ghost use Rattle.elf_model.specs.Versions.{record_size, along, first_position, visited_at, number_in};
 ghost use Rattle.elf_model.specs.declared.versions.VersionKind.TheVariants.{Need};
-ghost use Rattle.elf_versions.specs.Reading.{Fits, KnowsAhead, KnowsFiles, LeadsTo, bytes_each, stand_of};
+ghost use Rattle.elf_versions.specs.Reading.{Fits, KnowsAhead, KnowsFiles, LeadsTo, bytes_each, record_position_of};
 ghost use Rattle.elf_versions.specs.Words.{HoldsWords, PassesWords, checks_of, distance_of_name, end_of_named_record};
 
-use crate::words::RecordWords;
+use crate::words::VersionRecordFields;
 use elf_record::sizes::{VERSION_DEFINITION_BYTES, VERSION_NAME_BYTES, VERSION_NEED_BYTES};
 use elf_record::{Cause, Refusal, VERSION_NUMBERS, VersionKind, version_number};
 
 /// Where a walk stands.
 #[derive(Clone, Copy)]
-pub struct Standing {
+pub struct RecordPosition {
     /// The kind of the record that is to come.
     pub kind: VersionKind,
     /// Its place in the table, or behind it.
@@ -50,16 +50,16 @@ pub(crate) fn bytes_each(kind: VersionKind) -> u64
 
 /// Where a walk begins over a table of so many bytes, of which something tells at a file offset;
 /// nowhere in one of no bytes.
-pub(crate) fn first(kind: VersionKind, head: u64, size: u64) -> Option<Standing>
+pub(crate) fn first(kind: VersionKind, head: u64, size: u64) -> Option<RecordPosition>
     requires { kind ≡ Need → ⊥ }
-    ensures stands { option_map stand_of result ≡ first_stand kind head size }
+    ensures stands { option_map record_position_of result ≡ first_position kind head size }
     ensures knows { (file : List ℕ) (table : ℕ) → KnowsAhead file table result }
     ensures low { IfSome result (λ s. (s.place ≡ 0) × (s.owner ≡ 0) × (s.kind ≡ kind)) }
 {
     if size == 0 {
         return None;
     }
-    Some(Standing {
+    Some(RecordPosition {
         kind,
         place: 0,
         from: head,
@@ -84,15 +84,15 @@ pub(crate) fn name_distance(kind: VersionKind, aux: u32) -> u64
 /// name, which is in the table.
 pub(crate) fn refused_words(
     size: u64,
-    stand: &Standing,
+    stand: &RecordPosition,
     at: u64,
-    words: &RecordWords,
+    words: &VersionRecordFields,
 ) -> Option<Refusal>
     requires { stand.now.place < 2 ^ 64 }
     ensures is { result
         ≡ first_refusal (checks_of stand.now.kind size stand.now.place at words.now) }
     ensures passes { MatchOption result (PassesWords size stand.now words.now)
-        (λ refusal. IsBudget refusal → ⊥) }
+        (λ refusal. IsBudgetRefusal refusal → ⊥) }
 {
     if words.version != 1 {
         return refused(at, Cause::BadVersion);
@@ -126,12 +126,16 @@ fn refused(at: u64, cause: Cause) -> Option<Refusal>
 }
 
 /// Where a record leads a walk.
-#[tactic(auto, using(crate::proofs::WordLaws::fits_along), unfolding(elf_model::specs::Versions::next_stand, elf_model::specs::Versions::next_word, crate::specs::Words::aux_word))]
-pub(crate) fn behind(table: u64, stand: &Standing, words: &RecordWords) -> Option<Standing>
+#[tactic(auto, using(crate::proofs::WordLaws::fits_along), unfolding(elf_model::specs::Versions::next_position, elf_model::specs::Versions::next_word, crate::specs::Words::aux_word))]
+pub(crate) fn behind(
+    table: u64,
+    stand: &RecordPosition,
+    words: &VersionRecordFields,
+) -> Option<RecordPosition>
     requires { (table + stand.now.place < 2 ^ 64) × (table + stand.now.owner < 2 ^ 64) }
     ensures leads { (file : List ℕ) → KnowsFiles file table stand.now →
-        HoldsWords file (met_at table (stand_of stand.now)) words.now →
-        LeadsTo file table (stand_of stand.now) result }
+        HoldsWords file (visited_at table (record_position_of stand.now)) words.now →
+        LeadsTo file table (record_position_of stand.now) result }
     ensures fits { (size : ℕ) → stand.now.place ≤ size → stand.now.owner ≤ size →
         IfSome result (Fits size (bytes_each stand.now.kind)) }
 {
@@ -139,7 +143,7 @@ pub(crate) fn behind(table: u64, stand: &Standing, words: &RecordWords) -> Optio
     let at = table + place;
     match stand.kind {
         VersionKind::Definition => along(VersionKind::Definition, place, at, words.next),
-        VersionKind::File => Some(Standing {
+        VersionKind::File => Some(RecordPosition {
             kind: VersionKind::Need,
             place: stand.place + u128::from(words.aux),
             from: at,
@@ -155,7 +159,7 @@ pub(crate) fn behind(table: u64, stand: &Standing, words: &RecordWords) -> Optio
                     stand.files,
                 );
             }
-            Some(Standing {
+            Some(RecordPosition {
                 place: stand.place + u128::from(words.next),
                 from: at,
                 ..*stand
@@ -165,16 +169,16 @@ pub(crate) fn behind(table: u64, stand: &Standing, words: &RecordWords) -> Optio
 }
 
 // Where a record leads by the distance from it to the next of its kind, of which 0 is the end.
-fn along(kind: VersionKind, place: u64, from: u64, distance: u32) -> Option<Standing>
+fn along(kind: VersionKind, place: u64, from: u64, distance: u32) -> Option<RecordPosition>
     ensures leads { (table : ℕ) → from ≡ table + place →
-        option_map stand_of result ≡ along table kind place distance 0 }
+        option_map record_position_of result ≡ along table kind place distance 0 }
     ensures near { IfSome result (λ s. (s.place < 2 ^ 64 + 2 ^ 32) × (s.owner ≡ 0)) }
     ensures kind { IfSome result (λ s. s.kind ≡ kind) }
 {
     if distance == 0 {
         return None;
     }
-    Some(Standing {
+    Some(RecordPosition {
         kind,
         place: u128::from(place) + u128::from(distance),
         from,

@@ -2,8 +2,8 @@
 ghost use Rattle.std.specs.Prelude.{◌≡◌, ℕ, ◌+◌, ◌^◌, ◌≤◌, ◌<◌, List, length, false, IfOk, MatchResult, None};
 ghost use Rattle.elf_model.specs.Bytes.{slice};
 ghost use Rattle.elf_headers.specs.Faults.{IsOfRead};
-ghost use Rattle.elf_headers.specs.Ledger.{Did, why_stopped};
-ghost use Rattle.elf_table.specs.Tables.{RowsWithin};
+ghost use Rattle.elf_headers.specs.Ledger.{CallDid, fault_of_result};
+ghost use Rattle.elf_table.specs.Tables.{TableInBounds};
 ghost use Rattle.elf_versions.specs.Reading.{DidHeld, GivesBytes, HasUpTo, IsHeldOf, unheld};
 
 use elf_headers::{Fault, fill};
@@ -16,17 +16,17 @@ pub const VERSIONS_BUFFER_BYTES: usize = 4096;
 
 /// The bytes of a table whose rows are single bytes: all of them are held, or none.
 #[derive(Drop)]
-pub(crate) struct TableBytes {
+pub(crate) struct TableBuffer {
     table: Table,
     whole: bool,
     bytes: [u8; VERSIONS_BUFFER_BYTES],
 }
 
-impl Model for TableBytes {
+impl Model for TableBuffer {
     ghost use Rattle.std.specs.Prelude.{◌≡◌, ◌+◌, ◌^◌, ◌<◌, ◌≤◌, true, take};
-    ghost use Rattle.elf_versions.specs.Reading.{HeldTable};
+    ghost use Rattle.elf_versions.specs.Reading.{BufferedTable};
 
-    ghost Value = { HeldTable };
+    ghost Value = { BufferedTable };
 
     ghost view = { λ t. record {
       table = t.table;
@@ -38,7 +38,7 @@ impl Model for TableBytes {
         × (t.whole ≡ true → t.table.count ≤ 4096) };
 }
 
-impl TableBytes {
+impl TableBuffer {
     /// The bytes of `table`, which ends within the source's length. It reads all at once where they
     /// are no more than `most` and than 4,096, and else nothing.
     ///
@@ -48,10 +48,10 @@ impl TableBytes {
         src: &mut Counted<S>,
         table: Table,
         most: u64,
-    ) -> Result<TableBytes, Fault>
+    ) -> Result<TableBuffer, Fault>
         requires bytes { table.entry ≡ 1 }
-        requires within { RowsWithin src.old.seen.size table }
-        ensures did { Did src.old src.new (why_stopped result) most
+        requires within { TableInBounds src.old.seen.size table }
+        ensures did { CallDid src.old src.new (fault_of_result result) most
             (λ file. IfOk result (IsHeldOf file)) }
         ensures holds { MatchResult result (λ held. (held.table ≡ table)
             × (src.new.asked + unheld held most ≤ src.old.asked + most)) IsOfRead }
@@ -59,13 +59,13 @@ impl TableBytes {
         let _ = table.entry();
         let size = table.len();
         if size > most || size > VERSIONS_BUFFER_BYTES as u64 {
-            return Ok(TableBytes::unread(table));
+            return Ok(TableBuffer::unread(table));
         }
         let mut bytes = [0; VERSIONS_BUFFER_BYTES];
         if size > 0 {
             fill(src, table.at(), &mut bytes[..size as usize])?;
         }
-        Ok(TableBytes {
+        Ok(TableBuffer {
             table,
             whole: true,
             bytes,
@@ -73,13 +73,13 @@ impl TableBytes {
     }
 
     /// The bytes of `table`, none of which are held.
-    pub(crate) fn unread(table: Table) -> TableBytes
+    pub(crate) fn unread(table: Table) -> TableBuffer
         requires { table.entry ≡ 1 }
         ensures its_table { result.table ≡ table }
         ensures none { result.whole ≡ false }
     {
         let _ = table.entry();
-        TableBytes {
+        TableBuffer {
             table,
             whole: false,
             bytes: [0; VERSIONS_BUFFER_BYTES],

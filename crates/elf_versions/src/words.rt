@@ -10,7 +10,7 @@ use elf_record::{Verdef, Vernaux, Verneed};
 
 /// The words of a record. Those that its kind has not are 0, and the version of its layout is 1.
 #[derive(Clone, Copy)]
-pub(crate) struct RecordWords {
+pub(crate) struct VersionRecordFields {
     /// The version of its layout.
     pub(crate) version: u16,
     /// Its number, with the bit that hides it.
@@ -29,11 +29,11 @@ pub(crate) struct RecordWords {
 
 /// The words of a definition.
 #[tactic(auto, unfolding(elf_model::specs::Versions::version_word, elf_model::specs::Versions::number_word, elf_model::specs::Versions::flags_word, elf_model::specs::Versions::hash_word, elf_model::specs::Versions::next_word, crate::specs::Words::aux_word, crate::specs::Words::HoldsName))]
-pub(crate) fn of_definition(entry: &Verdef) -> RecordWords
+pub(crate) fn of_definition(entry: &Verdef) -> VersionRecordFields
     ensures { (file : List ℕ) (at : ℕ) → IsVerdef file at entry.now →
         HoldsWords file (record { kind = Definition; at = at }) result }
 {
-    RecordWords {
+    VersionRecordFields {
         version: entry.vd_version,
         number: entry.vd_ndx,
         flags: entry.vd_flags,
@@ -46,11 +46,11 @@ pub(crate) fn of_definition(entry: &Verdef) -> RecordWords
 
 /// The words of a needed file.
 #[tactic(auto, unfolding(elf_model::specs::Versions::version_word, elf_model::specs::Versions::number_word, elf_model::specs::Versions::flags_word, elf_model::specs::Versions::hash_word, elf_model::specs::Versions::next_word, crate::specs::Words::aux_word, crate::specs::Words::HoldsName))]
-pub(crate) fn of_file(entry: &Verneed) -> RecordWords
+pub(crate) fn of_file(entry: &Verneed) -> VersionRecordFields
     ensures { (file : List ℕ) (at : ℕ) → IsVerneed file at entry.now →
         HoldsWords file (record { kind = File; at = at }) result }
 {
-    RecordWords {
+    VersionRecordFields {
         version: entry.vn_version,
         number: 0,
         flags: 0,
@@ -63,11 +63,11 @@ pub(crate) fn of_file(entry: &Verneed) -> RecordWords
 
 /// The words of a needed version.
 #[tactic(auto, unfolding(elf_model::specs::Versions::version_word, elf_model::specs::Versions::number_word, elf_model::specs::Versions::flags_word, elf_model::specs::Versions::hash_word, elf_model::specs::Versions::next_word, crate::specs::Words::aux_word, crate::specs::Words::HoldsName))]
-pub(crate) fn of_need(entry: &Vernaux) -> RecordWords
+pub(crate) fn of_need(entry: &Vernaux) -> VersionRecordFields
     ensures { (file : List ℕ) (at : ℕ) → IsVernaux file at entry.now →
         HoldsWords file (record { kind = Need; at = at }) result }
 {
-    RecordWords {
+    VersionRecordFields {
         version: 1,
         number: entry.vna_other,
         flags: entry.vna_flags,

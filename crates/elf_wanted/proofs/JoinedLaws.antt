@@ -4,11 +4,11 @@ use Rattle.std.specs.Cmp.Lexicographic.{slice_cmp}
 use Rattle.std.specs.Ordering.{ordering_then}
 
 -- a text against two pieces is its front against the first, then what is behind against the second
-pub compared_behind : (text front behind : List ℕ)
+pub compared_after : (text front behind : List ℕ)
     → slice_cmp nat_cmp text (front ++ behind) ≡ ordering_then (slice_cmp nat_cmp (take (length front) text) front) (slice_cmp nat_cmp (drop (length front) text) behind)
-compared_behind text [] behind = refl
-compared_behind [] (byte ∷ front) behind = refl
-compared_behind (first ∷ text) (byte ∷ front) behind = by (nat_cmp first byte) _ _ (compared_behind text front behind)
+compared_after text [] behind = refl
+compared_after [] (byte ∷ front) behind = refl
+compared_after (first ∷ text) (byte ∷ front) behind = by (nat_cmp first byte) _ _ (compared_after text front behind)
   where
     by : (order : Ordering) {more : Ordering} (one two : Ordering) → more ≡ ordering_then one two → ordering_then order more ≡ ordering_then (ordering_then order one) two
     by Less one two is = refl

@@ -14,7 +14,7 @@ use Rattle.std.proofs.lemmas.List.Folds.{list_any_at, list_any_none}
 use Rattle.std.proofs.lemmas.List.Sorted.{searchable_from_sorted}
 use Rattle.std.proofs.lemmas.Map.Text.{is_eq-slice_cmp}
 use Rattle.elf_model.specs.Choice.{most_bytes}
-use Rattle.elf_wanted.specs.Names.{NeverFall, texts_of}
+use Rattle.elf_wanted.specs.Names.{NeverDescend, texts_of}
 
 -- a test of texts is one of those that are borrowed
 any_text : (test : List ℕ → Bool) (texts : List (Bor (List ℕ))) → list_any test (texts_of texts) ≡ list_any (λ text. test text.now) texts
@@ -26,7 +26,7 @@ same_by : (text wanted : List ℕ) (order : Ordering) → slice_cmp nat_cmp text
 same_by text wanted order is =
     sym (is_eq-slice_cmp wanted text) ∙ ap is_eq (nat_list_cmp_total.antisymm wanted text ∙ ap ordering_reverse is)
 
-module _ (texts : List (Bor (List ℕ))) (wanted : List ℕ) (sorted : NeverFall texts) where
+module _ (texts : List (Bor (List ℕ))) (wanted : List ℕ) (sorted : NeverDescend texts) where
   abbrev Has : Bool → Type 0
   Has answer = list_any (bytes_eq wanted) (texts_of texts) ≡ answer
 

@@ -6,7 +6,7 @@ use Rattle.std.specs.List.{list_any}
 use Rattle.std.proofs.lemmas.Bool.Decides.{nat_tests}
 use Rattle.std.proofs.lemmas.Slice.Eq.{bytes_eq-Decides}
 use Rattle.std.proofs.lemmas.Str.Pattern.{IsSplitOnceResult, split_parts}
-use Rattle.elf_model.specs.TraitWords.{Required, column_name, column_word, either_word, lacking_text, segments_word, kind_word, relro_text, relro_word, stack_word, pages_word, text_word, cet_word, canary_word, fortify_word, path_word}
+use Rattle.elf_model.specs.TraitWords.{Required, column_name, column_word, either_word, lacking_text, segments_word, file_kind_name, relro_text, relro_word, stack_word, pages_word, text_word, cet_word, canary_word, fortify_word, path_word}
 use Rattle.elf_model.specs.declared.traits.ProgramKind.{ProgramKind}
 use Rattle.elf_model.specs.declared.traits.ProgramKind.TheVariants as kind
 use Rattle.elf_model.specs.declared.traits.Relro.{Relro}
@@ -17,43 +17,43 @@ use Rattle.elf_model.specs.declared.traits.SegmentTraits.{SegmentTraits}
 use Rattle.elf_model.specs.declared.traits.TraitColumn.{TraitColumn}
 use Rattle.elf_model.specs.declared.traits.TraitColumn.TheVariants as column
 use Rattle.elf_model.specs.declared.traits.Traits.{Traits}
-use Rattle.elf_wanted.specs.Spelled.{column_named, column_words, parted_at, spelled_word, word_in, word_of_parts, word_under}
+use Rattle.elf_wanted.specs.Spelled.{column_named, column_words, split_at_sign, parsed_trait_word, word_in, word_of_parts, word_under}
 
 -- THE FIRST SIGN parts a text
 not_same : (a b : ℕ) → a ≢ b → (a == b) ≡ false
 not_same a b other = grind (arith, nat_tests, other)
 
-is_same : (a : ℕ) → (a == a) ≡ true
-is_same a = grind (arith, nat_tests)
+is_equal_name : (a : ℕ) → (a == a) ≡ true
+is_equal_name a = grind (arith, nat_tests)
 
 -- what a byte more makes of the parts
 parted_behind : (byte : ℕ) (bytes : List ℕ) → (byte == 61) ≡ false
-    → parted_at 61 (byte ∷ bytes) ≡ option_map {T = List ℕ × List ℕ} {U = List ℕ × List ℕ} (λ parts. (byte ∷ parts.0, parts.1)) (parted_at 61 bytes)
-unfolding parted_at
+    → split_at_sign 61 (byte ∷ bytes) ≡ option_map {T = List ℕ × List ℕ} {U = List ℕ × List ℕ} (λ parts. (byte ∷ parts.0, parts.1)) (split_at_sign 61 bytes)
+unfolding split_at_sign
 parted_behind byte bytes other =
-    let onto = option_map {T = List ℕ × List ℕ} {U = List ℕ × List ℕ} (λ parts. (byte ∷ parts.0, parts.1)) (parted_at 61 bytes) in
+    let onto = option_map {T = List ℕ × List ℕ} {U = List ℕ × List ℕ} (λ parts. (byte ∷ parts.0, parts.1)) (split_at_sign 61 bytes) in
     subst (λ (b : Bool). elim b as (λ _. Option (List ℕ × List ℕ)) [ true ↦ Some ([], bytes) | false ↦ onto ] ≡ onto) (sym other) refl
 
-without : (text : List ℕ) → ((i : ℕ) → i < length text → get_or text i 0 ≢ 61) → parted_at 61 text ≡ None
-unfolding parted_at
+without : (text : List ℕ) → ((i : ℕ) → i < length text → get_or text i 0 ≢ 61) → split_at_sign 61 text ≡ None
+unfolding split_at_sign
 without [] lacks = refl
 without (byte ∷ bytes) lacks =
     let other : (byte == 61) ≡ false = not_same byte 61 (lacks zero (omega arith)) in
     parted_behind byte bytes other ∙ ap (option_map (λ parts. (byte ∷ parts.0, parts.1))) (without bytes (λ i low. lacks (suc i) (omega arith)))
 
-first_at : (front back : List ℕ) → ((i : ℕ) → i < length front → get_or front i 0 ≢ 61) → parted_at 61 (front ++ 61 ∷ back) ≡ Some (front, back)
-unfolding parted_at
+first_at : (front back : List ℕ) → ((i : ℕ) → i < length front → get_or front i 0 ≢ 61) → split_at_sign 61 (front ++ 61 ∷ back) ≡ Some (front, back)
+unfolding split_at_sign
 first_at [] back lacks = refl
 first_at (byte ∷ front) back lacks =
     let other : (byte == 61) ≡ false = not_same byte 61 (lacks zero (omega arith)) in
     parted_behind byte (front ++ 61 ∷ back) other ∙ ap (option_map (λ parts. (byte ∷ parts.0, parts.1))) (first_at front back (λ i low. lacks (suc i) (omega arith)))
 
 pub parted : (text : List ℕ) (r : Option (Bor (List ℕ) × Bor (List ℕ))) → IsSplitOnceResult 61 text r
-    → option_map (λ parts. (parts.0.now, parts.1.now)) r ≡ parted_at 61 text
+    → option_map (λ parts. (parts.0.now, parts.1.now)) r ≡ split_at_sign 61 text
 parted text None h = sym (without text (split_parts 61 text None h (omega arith)))
 parted text (Some x) h =
     let parts = split_parts 61 text (Some x) h (omega arith) in
-    sym (ap (parted_at 61) parts.0 ∙ first_at x.0.now x.1.now parts.1)
+    sym (ap (split_at_sign 61) parts.0 ∙ first_at x.0.now x.1.now parts.1)
 
 -- WHAT A TEXT THAT SPELLS A WORD IS MADE OF. What stands before the sign and behind it makes the text
 abbrev Makes : List ℕ → Option (List ℕ × List ℕ) → Type 0
@@ -64,33 +64,33 @@ made_behind : (byte : ℕ) (bytes : List ℕ) (o : Option (List ℕ × List ℕ)
 made_behind byte bytes None made = tt
 made_behind byte bytes (Some parts) made = ap (λ l. byte ∷ l) made
 
-made_by : (byte : ℕ) (bytes : List ℕ) (same : Bool) → (byte == 61) ≡ same → Makes bytes (parted_at 61 bytes) → Makes (byte ∷ bytes) (parted_at 61 (byte ∷ bytes))
-unfolding parted_at
+made_by : (byte : ℕ) (bytes : List ℕ) (same : Bool) → (byte == 61) ≡ same → Makes bytes (split_at_sign 61 bytes) → Makes (byte ∷ bytes) (split_at_sign 61 (byte ∷ bytes))
+unfolding split_at_sign
 made_by byte bytes true is made =
     let sign : byte ≡ 61 = grind (arith, nat_tests, is) in
-    let onto = option_map {T = List ℕ × List ℕ} {U = List ℕ × List ℕ} (λ parts. (byte ∷ parts.0, parts.1)) (parted_at 61 bytes) in
+    let onto = option_map {T = List ℕ × List ℕ} {U = List ℕ × List ℕ} (λ parts. (byte ∷ parts.0, parts.1)) (split_at_sign 61 bytes) in
     subst (λ (b : Bool). Makes (byte ∷ bytes) (elim b as (λ _. Option (List ℕ × List ℕ)) [ true ↦ Some ([], bytes) | false ↦ onto ])) (sym is) (ap (λ b. b ∷ bytes) sign)
-made_by byte bytes false is made = subst (Makes (byte ∷ bytes)) (sym (parted_behind byte bytes is)) (made_behind byte bytes (parted_at 61 bytes) made)
+made_by byte bytes false is made = subst (Makes (byte ∷ bytes)) (sym (parted_behind byte bytes is)) (made_behind byte bytes (split_at_sign 61 bytes) made)
 
-makes : (text : List ℕ) → Makes text (parted_at 61 text)
-unfolding parted_at
+makes : (text : List ℕ) → Makes text (split_at_sign 61 text)
+unfolding split_at_sign
 makes [] = tt
 makes (byte ∷ bytes) = made_by byte bytes (byte == 61) refl (makes bytes)
 
 -- a name is that of its column
-abbrev IsNamed : List ℕ → Option TraitColumn → Type 0
-IsNamed name None = Unit {0}
-IsNamed name (Some its_column) = name ≡ column_name its_column
+abbrev IsNulTerminatedAt : List ℕ → Option TraitColumn → Type 0
+IsNulTerminatedAt name None = Unit {0}
+IsNulTerminatedAt name (Some its_column) = name ≡ column_name its_column
 
-named_or : (name text : List ℕ) (its_column : TraitColumn) (rest : Option TraitColumn) → text ≡ column_name its_column → IsNamed name rest
-    → IsNamed name (if bytes_eq name text then Some its_column else rest)
+named_or : (name text : List ℕ) (its_column : TraitColumn) (rest : Option TraitColumn) → text ≡ column_name its_column → IsNulTerminatedAt name rest
+    → IsNulTerminatedAt name (if bytes_eq name text then Some its_column else rest)
 named_or name text its_column rest is other = by (bytes_eq name text) refl
   where
-    by : (same : Bool) → bytes_eq name text ≡ same → IsNamed name (if same then Some its_column else rest)
+    by : (same : Bool) → bytes_eq name text ≡ same → IsNulTerminatedAt name (if same then Some its_column else rest)
     by true same = (bytes_eq-Decides name text).0 same ∙ is
     by false same = other
 
-is_named : (name : List ℕ) → IsNamed name (column_named name)
+is_named : (name : List ℕ) → IsNulTerminatedAt name (column_named name)
 unfolding column_named column_name
 is_named name =
     named_or name (codes "kind") column.Kind _ refl (named_or name (codes "relro") column.Relro _ refl (named_or name (codes "stack") column.Stack _ refl
@@ -123,7 +123,7 @@ abbrev Tells : TraitColumn → List ℕ → Type 0
 Tells its_column word = (t : Traits) × (word ≡ column_word t its_column)
 
 each_told : (its_column : TraitColumn) → Each (Tells its_column) (column_words its_column)
-unfolding column_words column_word kind_word relro_text relro_word stack_word pages_word text_word cet_word canary_word fortify_word path_word
+unfolding column_words column_word file_kind_name relro_text relro_word stack_word pages_word text_word cet_word canary_word fortify_word path_word
 each_told column.Kind = ((plain, refl), ((record plain { kind = kind.Pie }, refl), ((record plain { kind = kind.Static }, refl), ((record plain { kind = kind.Lib }, refl), ((record plain { kind = kind.Object }, refl), ((record plain { kind = kind.Core }, refl), ((record plain { kind = kind.Other }, refl), tt)))))))
 each_told column.Relro = ((with_segments segments, refl), ((with_segments (record segments { relro = relro.Partial }), refl), ((with_segments (record segments { relro = relro.Absent }), refl), ((plain, refl), tt))))
 each_told column.Stack = ((with_segments segments, refl), ((with_segments (record segments { stack_executable = true }), refl), ((plain, refl), tt)))
@@ -135,8 +135,8 @@ each_told column.Fortify = ((record plain { fortify = true }, refl), ((plain, re
 each_told column.Path = ((record plain { path = path.Rpath }, refl), ((record plain { path = path.Runpath }, refl), ((plain, refl), tt)))
 
 -- and that of each file is one of them
-kind_listed : (k : ProgramKind) → list_any (bytes_eq (kind_word k)) (column_words column.Kind) ≡ true
-unfolding column_words kind_word
+kind_listed : (k : ProgramKind) → list_any (bytes_eq (file_kind_name k)) (column_words column.Kind) ≡ true
+unfolding column_words file_kind_name
 kind_listed kind.Exec = refl
 kind_listed kind.Pie = refl
 kind_listed kind.Static = refl
@@ -195,8 +195,8 @@ word_listed t column.Fortify = either_listed (column_words column.Fortify) (code
 word_listed t column.Path = path_listed t.path
 
 -- what stands behind the name of a column and the sign is a word of that column
-spelled : (its_column : TraitColumn) (word : List ℕ) → spelled_word (column_name its_column ++ 61 ∷ word) ≡ word_in its_column word
-unfolding spelled_word parted_at column_named column_name
+spelled : (its_column : TraitColumn) (word : List ℕ) → parsed_trait_word (column_name its_column ++ 61 ∷ word) ≡ word_in its_column word
+unfolding parsed_trait_word split_at_sign column_named column_name
 spelled column.Kind word = refl
 spelled column.Relro word = refl
 spelled column.Stack word = refl
@@ -224,31 +224,31 @@ signed column.Path word = refl
 abbrev word_by : Bool → TraitColumn → List ℕ → Option Required
 word_by is its_column word = elim is as (λ _. Option Required) [ true ↦ Some (record { column = its_column; word = word }) | false ↦ None ]
 
-pub told : (t : Traits) (its_column : TraitColumn) → spelled_word (lacking_text t its_column) ≡ Some (record { column = its_column; word = column_word t its_column })
+pub told : (t : Traits) (its_column : TraitColumn) → parsed_trait_word (lacking_text t its_column) ≡ Some (record { column = its_column; word = column_word t its_column })
 told t its_column =
-    ap spelled_word (sym (signed its_column (column_word t its_column))) ∙ spelled its_column (column_word t its_column) ∙ ap (λ b. word_by b its_column (column_word t its_column)) (word_listed t its_column)
+    ap parsed_trait_word (sym (signed its_column (column_word t its_column))) ∙ spelled its_column (column_word t its_column) ∙ ap (λ b. word_by b its_column (column_word t its_column)) (word_listed t its_column)
 
-abbrev IsTold : List ℕ → Required → Type 0
-IsTold text required = (t : Traits) × (text ≡ lacking_text t required.column) × (required.word ≡ column_word t required.column)
+abbrev IsRowReported : List ℕ → Required → Type 0
+IsRowReported text required = (t : Traits) × (text ≡ lacking_text t required.column) × (required.word ≡ column_word t required.column)
 
-told_word : (text word : List ℕ) (its_column : TraitColumn) (required : Required) → text ≡ column_name its_column ++ 61 ∷ word → word_in its_column word ≡ Some required → IsTold text required
+told_word : (text word : List ℕ) (its_column : TraitColumn) (required : Required) → text ≡ column_name its_column ++ 61 ∷ word → word_in its_column word ≡ Some required → IsRowReported text required
 told_word text word its_column required made is = by (list_any (bytes_eq word) (column_words its_column)) refl is
   where
-    by : (b : Bool) → list_any (bytes_eq word) (column_words its_column) ≡ b → word_by b its_column word ≡ Some required → IsTold text required
+    by : (b : Bool) → list_any (bytes_eq word) (column_words its_column) ≡ b → word_by b its_column word ≡ Some required → IsRowReported text required
     by true among e =
         let same : record { column = its_column; word = word } ≡ required = cc in
         let file = listed (Tells its_column) word (column_words its_column) (each_told its_column) among in
-        subst (IsTold text) same (file.0, made ∙ signed its_column word ∙ ap (λ w. column_name its_column ++ codes "=" ++ w) file.1, file.1)
+        subst (IsRowReported text) same (file.0, made ∙ signed its_column word ∙ ap (λ w. column_name its_column ++ codes "=" ++ w) file.1, file.1)
     by false among e = cc
 
-told_under : (text name word : List ℕ) (o : Option TraitColumn) (required : Required) → text ≡ name ++ 61 ∷ word → IsNamed name o → word_under o word ≡ Some required → IsTold text required
+told_under : (text name word : List ℕ) (o : Option TraitColumn) (required : Required) → text ≡ name ++ 61 ∷ word → IsNulTerminatedAt name o → word_under o word ≡ Some required → IsRowReported text required
 told_under text name word None required made named is = cc
 told_under text name word (Some its_column) required made named is = told_word text word its_column required (made ∙ ap (λ n. n ++ 61 ∷ word) named) is
 
-told_parts : (text : List ℕ) (o : Option (List ℕ × List ℕ)) (required : Required) → Makes text o → word_of_parts o ≡ Some required → IsTold text required
+told_parts : (text : List ℕ) (o : Option (List ℕ × List ℕ)) (required : Required) → Makes text o → word_of_parts o ≡ Some required → IsRowReported text required
 told_parts text None required made is = cc
 told_parts text (Some parts) required made is = told_under text parts.0 parts.1 (column_named parts.0) required made (is_named parts.0) is
 
-pub tells : (text : List ℕ) (required : Required) → spelled_word text ≡ Some required → IsTold text required
-unfolding spelled_word
-tells text required is = told_parts text (parted_at 61 text) required (makes text) is
+pub tells : (text : List ℕ) (required : Required) → parsed_trait_word text ≡ Some required → IsRowReported text required
+unfolding parsed_trait_word
+tells text required is = told_parts text (split_at_sign 61 text) required (makes text) is

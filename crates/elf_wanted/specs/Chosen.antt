@@ -1,15 +1,15 @@
 -- Which rows are shown, by texts that are borrowed.
 use Rattle.std.specs.Prelude.{if◌then◌else◌, map}
-use Rattle.elf_model.specs.Choice.{RowChoice as IsChoice, EveryRow, RowsOf, Suffix, Suffixed, wanted_text}
+use Rattle.elf_model.specs.Choice.{RowFilter as IsChoice, EveryRow, RowsOf, Suffix, Suffixed, wanted_text}
 use Rattle.elf_model.specs.ShownNames.{shown_as}
 use Rattle.elf_wanted.specs.Names.{texts_of}
-use Rattle.elf_wanted.specs.declared.choice.RowChoice.{RowChoice}
-use Rattle.elf_wanted.specs.declared.choice.ShownVersion.{ShownVersion}
+use Rattle.elf_wanted.specs.declared.choice.RowFilter.{RowFilter}
+use Rattle.elf_wanted.specs.declared.choice.VersionSuffix.{VersionSuffix}
 
 -- which rows are shown, as the definitions have it: each text is a name, or may ask for a version
-abbrev pub choice_of : RowChoice → IsChoice
+abbrev pub choice_of : RowFilter → IsChoice
 choice_of choice = if choice.by_name then RowsOf (map (wanted_text choice.versions) (texts_of choice.texts.now)) else EveryRow
 
 -- the version behind a name, as the definitions have it
-abbrev pub behind_of : ShownVersion → Suffix
-behind_of version = Suffixed version.is_default (shown_as version.is_cut version.name.now)
+abbrev pub after_of : VersionSuffix → Suffix
+after_of version = Suffixed version.is_default (shown_as version.is_cut version.name.now)

@@ -10,5 +10,5 @@ abbrev pub texts_of : List (Bor (List ℕ)) → List (List ℕ)
 texts_of texts = map (λ text. text.now) texts
 
 -- no text is below the one before it, by their bytes as numbers, from the first on
-abbrev pub NeverFall : List (Bor (List ℕ)) → Type 0
-NeverFall texts = IsSorted (λ text other. slice_cmp nat_cmp text.now other.now) texts
+abbrev pub NeverDescend : List (Bor (List ℕ)) → Type 0
+NeverDescend texts = IsSorted (λ text other. slice_cmp nat_cmp text.now other.now) texts

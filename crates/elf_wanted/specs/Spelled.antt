@@ -7,11 +7,11 @@ use Rattle.elf_model.specs.declared.traits.TraitColumn.TheVariants as column
 use Rattle.elf_model.specs.declared.traits.Traits.{Traits}
 
 -- what stands before and behind the first of the bytes that is this sign
-unfoldable pub parted_at : ℕ → List ℕ → Option (List ℕ × List ℕ)
-parted_at sign [] = None
-parted_at sign (byte ∷ bytes) = elim (byte == sign) [
+unfoldable pub split_at_sign : ℕ → List ℕ → Option (List ℕ × List ℕ)
+split_at_sign sign [] = None
+split_at_sign sign (byte ∷ bytes) = elim (byte == sign) [
   | true ↦ Some ([], bytes)
-  | false ↦ option_map (λ parts. (byte ∷ parts.0, parts.1)) (parted_at sign bytes)
+  | false ↦ option_map (λ parts. (byte ∷ parts.0, parts.1)) (split_at_sign sign bytes)
 ]
 
 -- the column of this name
@@ -57,11 +57,11 @@ word_of_parts None = None
 word_of_parts (Some parts) = word_under (column_named parts.0) parts.1
 
 -- THE WORD THAT A TEXT SPELLS: the name of a column, an equals sign, and a word that a line can have there
-unfoldable pub spelled_word : List ℕ → Option Required
-spelled_word text = word_of_parts (parted_at 61 text)
+unfoldable pub parsed_trait_word : List ℕ → Option Required
+parsed_trait_word text = word_of_parts (split_at_sign 61 text)
 
 -- JUST THOSE texts spell words of what some file has
 pub record SpellsTraits : Type 0 where
-  pub told : (t : Traits) (its_column : TraitColumn) → spelled_word (lacking_text t its_column) ≡ Some (record { column = its_column; word = column_word t its_column })
-  pub tells : (text : List ℕ) (required : Required) → spelled_word text ≡ Some required
+  pub told : (t : Traits) (its_column : TraitColumn) → parsed_trait_word (lacking_text t its_column) ≡ Some (record { column = its_column; word = column_word t its_column })
+  pub tells : (text : List ℕ) (required : Required) → parsed_trait_word text ≡ Some required
       → (t : Traits) × (text ≡ lacking_text t required.column) × (required.word ≡ column_word t required.column)

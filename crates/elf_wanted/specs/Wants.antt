@@ -11,5 +11,5 @@ asked_of (Version version) = AsksVersion version.now
 asked_of (DefaultVersion version) = AsksDefault version.now
 
 -- what is wanted, as the definitions have it
-abbrev pub the_wanted : Wanted → IsWanted
-the_wanted wanted = record { name = wanted.name.now; asked = asked_of wanted.asked }
+abbrev pub query_of : Wanted → IsWanted
+query_of wanted = record { name = wanted.name.now; asked = asked_of wanted.asked }

@@ -1,8 +1,8 @@
 //! Which rows of a listing are shown.
-ghost use Rattle.elf_wanted.specs.Names.{NeverFall};
+ghost use Rattle.elf_wanted.specs.Names.{NeverDescend};
 
-use crate::joined::Joined;
-use crate::names::SortedTexts;
+use crate::joined::VersionedName;
+use crate::names::SortedStrings;
 use crate::wanted::{has_sign, has_sign_first};
 
 /// What stands before a version in a text that asks for it.
@@ -13,19 +13,19 @@ const DEFAULT_SIGN: &[u8] = b"@@";
 /// Which rows of a listing that end in the name of a symbol or of a version are shown: every row, or
 /// those whose name, with its version, is what one of some texts asks for, which a caller lends.
 #[derive(Clone, Copy)]
-pub struct RowChoice<'a> {
+pub struct RowFilter<'a> {
     /// Whether rows are chosen by their names.
     pub by_name: bool,
-    /// Whether a text may ask for a version, as [`crate::wanted_of`] parts it; else each is a name.
+    /// Whether a text may ask for a version, as [`crate::parse_query`] parts it; else each is a name.
     pub versions: bool,
     /// The texts, in the rising order of their bytes.
     pub texts: &'a [&'a [u8]],
-    pub ghost sorted: { NeverFall texts.now },
+    pub ghost sorted: { NeverDescend texts.now },
 }
 
 /// The version behind a name, as it is shown.
 #[derive(Clone, Copy)]
-pub struct ShownVersion<'a> {
+pub struct VersionSuffix<'a> {
     /// Its name, or the front of it.
     pub name: &'a [u8],
     /// Whether more of its name is cut off.
@@ -34,19 +34,19 @@ pub struct ShownVersion<'a> {
     pub is_default: bool,
 }
 
-impl<'a> RowChoice<'a> {
+impl<'a> RowFilter<'a> {
     ghost use Rattle.std.specs.Prelude.{◌≡◌, map};
     ghost use Rattle.elf_model.specs.Choice.{EveryRow, NoSuffix, RowsOf, chooses, wanted_text};
     ghost use Rattle.elf_model.specs.ChoiceLaws.{has_version};
     ghost use Rattle.elf_model.specs.ShownNames.{shown_as};
-    ghost use Rattle.elf_wanted.specs.Chosen.{behind_of, choice_of};
+    ghost use Rattle.elf_wanted.specs.Chosen.{after_of, choice_of};
     ghost use Rattle.elf_wanted.specs.Names.{texts_of};
 
     /// Every row.
-    pub fn every_row() -> RowChoice<'static>
+    pub fn every_row() -> RowFilter<'static>
         ensures { choice_of result ≡ EveryRow }
     {
-        RowChoice {
+        RowFilter {
             by_name: false,
             versions: false,
             texts: &[],
@@ -54,13 +54,13 @@ impl<'a> RowChoice<'a> {
     }
 
     /// Those whose name, with its version, is what one of these texts asks for, byte for byte: a
-    /// name, or with `versions` NAME, NAME@VERSION or NAME@@VERSION. [`crate::sort_texts`] puts them
+    /// name, or with `versions` NAME, NAME@VERSION or NAME@@VERSION. [`crate::sort_strings`] puts them
     /// in order.
-    pub fn rows_of(texts: &'a [&'a [u8]], versions: bool) -> RowChoice<'a>
-        requires { NeverFall texts.now }
+    pub fn rows_of(texts: &'a [&'a [u8]], versions: bool) -> RowFilter<'a>
+        requires { NeverDescend texts.now }
         ensures { choice_of result ≡ RowsOf (map (wanted_text versions) (texts_of texts.now)) }
     {
-        RowChoice {
+        RowFilter {
             by_name: true,
             versions,
             texts,
@@ -80,7 +80,7 @@ impl<'a> RowChoice<'a> {
         if is_cut {
             return false;
         }
-        let is_named = SortedTexts::new(self.texts).has(name);
+        let is_named = SortedStrings::new(self.texts).has(name);
         if !self.versions {
             return is_named;
         }
@@ -89,9 +89,9 @@ impl<'a> RowChoice<'a> {
 
     /// Whether the row of a name with a version behind it is shown, in three such searches.
     #[tactic(auto, using(elf_model::proofs::ChoiceLemmas::names_are_chosen, elf_model::proofs::ChoiceLemmas::names_alone_are_chosen, elf_model::proofs::ChoiceLemmas::versions_are_chosen, elf_model::proofs::ChoiceLemmas::cut_names_are_none))]
-    pub fn shows_version(&self, name: &[u8], is_cut: bool, version: &ShownVersion<'_>) -> bool
+    pub fn shows_version(&self, name: &[u8], is_cut: bool, version: &VersionSuffix<'_>) -> bool
         ensures { result ≡ chooses (choice_of self.now)
-            (shown_as is_cut name.now) (behind_of version.now) }
+            (shown_as is_cut name.now) (after_of version.now) }
     {
         if self.shows(name, is_cut) {
             return true;
@@ -100,15 +100,15 @@ impl<'a> RowChoice<'a> {
     }
 
     /// Whether one of the texts is this name with its version.
-    fn has_version(&self, name: &[u8], version: &ShownVersion<'_>) -> bool
+    fn has_version(&self, name: &[u8], version: &VersionSuffix<'_>) -> bool
         ensures { result ≡ has_version (texts_of self.now.texts.now) name.now
             version.now.is_default (shown_as version.now.is_cut version.now.name.now) }
     {
         if version.is_cut {
             return false;
         }
-        let texts = SortedTexts::new(self.texts);
-        let plain = Joined {
+        let texts = SortedStrings::new(self.texts);
+        let plain = VersionedName {
             name,
             sign: PLAIN_SIGN,
             version: version.name,
@@ -116,7 +116,7 @@ impl<'a> RowChoice<'a> {
         if !has_sign_first(version.name) && texts.has_joined(&plain) {
             return true;
         }
-        let default = Joined {
+        let default = VersionedName {
             name,
             sign: DEFAULT_SIGN,
             version: version.name,

@@ -8,7 +8,7 @@ use std::cmp::Ordering;
 
 /// A name, a sign and a version, which are one text together.
 #[derive(Clone, Copy)]
-pub struct Joined<'a> {
+pub struct VersionedName<'a> {
     /// The name.
     pub name: &'a [u8],
     /// What stands between them.
@@ -17,26 +17,26 @@ pub struct Joined<'a> {
     pub version: &'a [u8],
 }
 
-impl Joined<'_> {
+impl VersionedName<'_> {
     /// How a text stands to this one, by their bytes in order.
-    #[tactic(auto, using(crate::proofs::JoinedLaws::compared_behind))]
+    #[tactic(auto, using(crate::proofs::JoinedLaws::compared_after))]
     pub(crate) fn compare(&self, text: &[u8]) -> Ordering
         ensures { result ≡ slice_cmp nat_cmp text.now (joined_text self.now) }
     {
-        let (front, behind) = parted_at(text, self.name.len());
+        let (front, behind) = split_at_sign(text, self.name.len());
         match front.cmp(self.name) {
-            Ordering::Equal => self.compare_behind(behind),
+            Ordering::Equal => self.compare_after(behind),
             order => order,
         }
     }
 
     /// How what stands behind the name stands to this text's.
-    #[tactic(auto, using(crate::proofs::JoinedLaws::compared_behind))]
-    fn compare_behind(&self, behind: &[u8]) -> Ordering
+    #[tactic(auto, using(crate::proofs::JoinedLaws::compared_after))]
+    fn compare_after(&self, behind: &[u8]) -> Ordering
         ensures { result ≡ slice_cmp nat_cmp behind.now
             (self.now.sign.now ++ self.now.version.now) }
     {
-        let (sign, version) = parted_at(behind, self.sign.len());
+        let (sign, version) = split_at_sign(behind, self.sign.len());
         match sign.cmp(self.sign) {
             Ordering::Equal => version.cmp(self.version),
             order => order,
@@ -45,7 +45,7 @@ impl Joined<'_> {
 }
 
 /// The first bytes of a text, so many or all, and those behind them.
-fn parted_at(text: &[u8], place: usize) -> (&[u8], &[u8])
+fn split_at_sign(text: &[u8], place: usize) -> (&[u8], &[u8])
     ensures front { result.0.now ≡ take place text.now }
     ensures behind { result.1.now ≡ drop place text.now }
 {

@@ -10,8 +10,8 @@ mod required;
 mod spelled;
 mod wanted;
 
-pub use choice::{RowChoice, ShownVersion};
-pub use names::{SortedTexts, sort_texts};
-pub use required::RequiredWord;
-pub use spelled::{spelled_word, spells_traits};
-pub use wanted::{Asked, Wanted, wanted_of};
+pub use choice::{RowFilter, VersionSuffix};
+pub use names::{SortedStrings, sort_strings};
+pub use required::RequiredTrait;
+pub use spelled::{parsed_trait_word, spells_traits};
+pub use wanted::{Asked, Wanted, parse_query};

@@ -4,43 +4,43 @@ ghost use Rattle.std.specs.List.{list_any};
 ghost use Rattle.std.specs.List.Sorted.{IsPermutation};
 ghost use Rattle.elf_model.specs.Choice.{most_bytes};
 ghost use Rattle.elf_wanted.specs.Joins.{joined_text};
-ghost use Rattle.elf_wanted.specs.Names.{NeverFall, texts_of};
+ghost use Rattle.elf_wanted.specs.Names.{NeverDescend, texts_of};
 
-use crate::joined::Joined;
+use crate::joined::VersionedName;
 use std::marker::Model;
 
 /// Texts in the rising order of their bytes, which a caller lends. One may come more than once.
 #[derive(Drop)]
-pub struct SortedTexts<'a> {
+pub struct SortedStrings<'a> {
     texts: &'a [&'a [u8]],
 }
 
-impl<'a> Model for SortedTexts<'a> {
+impl<'a> Model for SortedStrings<'a> {
     ghost use Rattle.std.specs.Prelude.{List, ℕ};
-    ghost use Rattle.elf_wanted.specs.Names.{NeverFall, texts_of};
+    ghost use Rattle.elf_wanted.specs.Names.{NeverDescend, texts_of};
 
     ghost Value = { List (List ℕ) };
 
     ghost view = { λ s. texts_of s.texts.now };
 
-    ghost invariant = { λ s. NeverFall s.texts.now };
+    ghost invariant = { λ s. NeverDescend s.texts.now };
 }
 
 /// Puts texts into the rising order of their bytes.
-pub fn sort_texts(texts: &mut [&[u8]])
+pub fn sort_strings(texts: &mut [&[u8]])
     ensures same { IsPermutation (texts_of texts.old) (texts_of texts.new) }
-    ensures sorted { NeverFall texts.new }
+    ensures sorted { NeverDescend texts.new }
 {
     texts.sort_unstable();
 }
 
-impl<'a> SortedTexts<'a> {
+impl<'a> SortedStrings<'a> {
     /// Sorted texts, to look in.
-    pub fn new(texts: &'a [&'a [u8]]) -> SortedTexts<'a>
-        requires { NeverFall texts.now }
+    pub fn new(texts: &'a [&'a [u8]]) -> SortedStrings<'a>
+        requires { NeverDescend texts.now }
         ensures { result ≡ texts_of texts.now }
     {
-        SortedTexts { texts }
+        SortedStrings { texts }
     }
 
     /// Whether one of the texts has these bytes. It compares as many as the logarithm of their number.
@@ -51,7 +51,7 @@ impl<'a> SortedTexts<'a> {
     }
 
     /// Whether one of the texts is a name with its version.
-    pub(crate) fn has_joined(&self, joined: &Joined<'_>) -> bool
+    pub(crate) fn has_joined(&self, joined: &VersionedName<'_>) -> bool
         ensures { result ≡ list_any (bytes_eq (joined_text joined.now)) self.now }
     {
         self.texts

@@ -3,7 +3,7 @@ use elf_model::TraitColumn;
 
 /// A word that is required of a column.
 #[derive(Clone, Copy)]
-pub struct RequiredWord<'a> {
+pub struct RequiredTrait<'a> {
     /// The column.
     pub column: TraitColumn,
     /// The word that it is to have.

@@ -3,16 +3,16 @@ ghost use Rattle.std.specs.Prelude.{◌≡◌, bytes_eq, map, option_map};
 ghost use Rattle.std.specs.List.{list_any};
 ghost use Rattle.elf_wanted.specs.Required.{required_word};
 ghost use Rattle.elf_wanted.specs.Spelled.{SpellsTraits, column_named, column_words};
-ghost use Rattle.elf_wanted.specs.Spelled.{parted_at, spelled_word, word_in};
+ghost use Rattle.elf_wanted.specs.Spelled.{split_at_sign, parsed_trait_word, word_in};
 
-use crate::required::RequiredWord;
+use crate::required::RequiredTrait;
 use elf_model::TraitColumn;
 
 /// The word that a text spells: the name of a column, `=` and a word that the line of a file can have in
 /// that column, as in `relro=full`. None for another text.
-#[tactic(auto, unfolding(crate::specs::Spelled::spelled_word))]
-pub fn spelled_word(text: &str) -> Option<RequiredWord<'_>>
-    ensures { option_map required_word result ≡ spelled_word text.now }
+#[tactic(auto, unfolding(crate::specs::Spelled::parsed_trait_word))]
+pub fn parsed_trait_word(text: &str) -> Option<RequiredTrait<'_>>
+    ensures { option_map required_word result ≡ parsed_trait_word text.now }
 {
     let (name, word) = parted(text)?;
     word_in(column_named(name)?, word)
@@ -20,7 +20,7 @@ pub fn spelled_word(text: &str) -> Option<RequiredWord<'_>>
 
 /// What stands before and behind the first `=`.
 fn parted(text: &str) -> Option<(&str, &str)>
-    ensures { option_map (λ parts. (parts.0.now, parts.1.now)) result ≡ parted_at 61 text.now }
+    ensures { option_map (λ parts. (parts.0.now, parts.1.now)) result ≡ split_at_sign 61 text.now }
 {
     text.split_once('=')
 }
@@ -45,13 +45,13 @@ fn column_named(name: &str) -> Option<TraitColumn>
 }
 
 /// A word of a column, where the line of a file can have it there.
-fn word_in(column: TraitColumn, word: &str) -> Option<RequiredWord<'_>>
+fn word_in(column: TraitColumn, word: &str) -> Option<RequiredTrait<'_>>
     ensures { option_map required_word result ≡ word_in column word.now }
 {
     if !is_among(word, column_words(column)) {
         return None;
     }
-    Some(RequiredWord { column, word })
+    Some(RequiredTrait { column, word })
 }
 
 /// Whether a word is one of some.

@@ -1,8 +1,8 @@
 //! What is looked up.
 ghost use Rattle.std.specs.Prelude.{◌≡◌, ◌==◌, ◌<◌, length, position, None, Some, IfSome, false, option_map};
 ghost use Rattle.elf_model.specs.ChoiceLaws.{has_sign, has_sign_first};
-ghost use Rattle.elf_model.specs.Loader.{AT_SIGN, asked_behind, asked_name, is_complete, wanted_of};
-ghost use Rattle.elf_wanted.specs.Wants.{asked_of, the_wanted};
+ghost use Rattle.elf_model.specs.Loader.{AT_SIGN, asked_after, asked_name, is_complete, parse_query};
+ghost use Rattle.elf_wanted.specs.Wants.{asked_of, query_of};
 
 /// What stands between a name and its version.
 const AT_SIGN: u8 = b'@';
@@ -31,7 +31,7 @@ impl<'a> Wanted<'a> {
     /// Whether neither the name nor a version that is asked for is empty.
     #[tactic(auto, unfolding(elf_model::specs::Loader::is_complete))]
     pub fn is_complete(&self) -> bool
-        ensures { result ≡ is_complete (the_wanted self.now) }
+        ensures { result ≡ is_complete (query_of self.now) }
     {
         !self.name.is_empty() && !self.asked.has_empty_name()
     }
@@ -65,9 +65,9 @@ impl<'a> Asked<'a> {
 /// What a text NAME, NAME@VERSION or NAME@@VERSION asks for: it is parted at its first `@`, and
 /// behind a second that follows directly the version is to be the default one. A version may hold
 /// further `@`. Each part may be empty.
-#[tactic(auto, unfolding(elf_model::specs::Loader::wanted_of))]
-pub fn wanted_of(text: &[u8]) -> Wanted<'_>
-    ensures { the_wanted result ≡ wanted_of text.now }
+#[tactic(auto, unfolding(elf_model::specs::Loader::parse_query))]
+pub fn parse_query(text: &[u8]) -> Wanted<'_>
+    ensures { query_of result ≡ parse_query text.now }
 {
     match find_sign(text) {
         None => Wanted {
@@ -76,7 +76,7 @@ pub fn wanted_of(text: &[u8]) -> Wanted<'_>
         },
         Some(place) => Wanted {
             name: &text[..place],
-            asked: asked_behind(&text[place + 1..]),
+            asked: asked_after(&text[place + 1..]),
         },
     }
 }
@@ -95,8 +95,8 @@ fn find_sign(text: &[u8]) -> Option<usize>
 }
 
 // The version behind the first sign.
-fn asked_behind(text: &[u8]) -> Asked<'_>
-    ensures { asked_of result ≡ asked_behind text.now }
+fn asked_after(text: &[u8]) -> Asked<'_>
+    ensures { asked_of result ≡ asked_after text.now }
 {
     if has_sign_first(text) {
         return Asked::DefaultVersion(&text[1..]);

@@ -3,24 +3,24 @@ use Rattle.std.proofs.Common.{◌≡◌, ◌≤◌, ◌+◌, ℕ, Bool, true, Li
 use Rattle.std.specs.Prelude.{IfErr, IfOk}
 use Rattle.std.specs.Io.KnownBytes.{append_known}
 use Rattle.elf_model.specs.ArchiveCost.{archive_cost}
-use Rattle.elf_source.specs.Growth.{Grows}
-use Rattle.elf_source.specs.Source.{Counting}
-use Rattle.elf_source.specs.Output.{Written}
+use Rattle.elf_source.specs.Growth.{OutGrows}
+use Rattle.elf_source.specs.Source.{CountedState}
+use Rattle.elf_source.specs.Output.{OutState}
 use Rattle.elf_headers.specs.Permitted.{style_of}
 use Rattle.elf_headers.specs.declared.caps.Caps.{Caps}
-use Rattle.elf_headers.specs.declared.stop.Stop.{Stop}
-use Rattle.elf_listing.specs.Reports.{Leaves}
+use Rattle.elf_headers.specs.declared.stop.RunFault.{RunFault}
+use Rattle.elf_listing.specs.Reports.{KeepsSourceUnlimited}
 use Rattle.elf_archive.specs.Listed.{ArchiveSays, AsksInArchive, ReportsArchive}
 use Rattle.elf_answers.specs.ArchiveAnswers.{refused_by}
 use Rattle.elfsee.specs.Ends.{RunsArchive}
 
 -- what a stop says is so of a status's answer too
-status_says : (P : Stop → Type 0) (answer : Result ℕ Stop) → IfErr (refused_by answer) P → IfErr answer P
+status_says : (P : RunFault → Type 0) (answer : Result ℕ RunFault) → IfErr (refused_by answer) P → IfErr answer P
 status_says P (Ok status) says = tt
 status_says P (Err stop) says = says
 
-pub archive_runs : (caps : Caps) (parts : ℕ) (old new : Counting) (before after : Written) (listed : Result Bool Stop) (answer : Result ℕ Stop)
-    → refused_by answer ≡ listed → IfOk answer (λ status. status ≤ 1) → Grows before after → Leaves old new
+pub archive_runs : (caps : Caps) (parts : ℕ) (old new : CountedState) (before after : OutState) (listed : Result Bool RunFault) (answer : Result ℕ RunFault)
+    → refused_by answer ≡ listed → IfOk answer (λ status. status ≤ 1) → OutGrows before after → KeepsSourceUnlimited old new
     → IfErr listed (ArchiveSays old new after)
     → ((file : List ℕ) → old.seen.file ≡ Some file → ReportsArchive true file caps parts before after listed)
     → ((file : List ℕ) → old.seen.file ≡ Some file → new.asked ≤ old.asked + archive_cost file caps.limits.headers (style_of caps.style) parts)

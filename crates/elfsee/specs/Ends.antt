@@ -4,14 +4,14 @@ use Rattle.std.specs.Io.Buffered.{writer_buffer, writer_contents, writer_inner}
 use Rattle.std.specs.declared.io.buffered.BufWriter.{BufWriter}
 use Rattle.elf_model.specs.ArchiveCost.{archive_cost}
 use Rattle.elf_model.specs.declared.causes.Refusal.{Refusal}
-use Rattle.elf_source.specs.Growth.{Grows}
-use Rattle.elf_source.specs.Source.{Counting, Seen}
-use Rattle.elf_source.specs.Output.{Writing, Written}
+use Rattle.elf_source.specs.Growth.{OutGrows}
+use Rattle.elf_source.specs.Source.{CountedState, SourceState}
+use Rattle.elf_source.specs.Output.{Writing, OutState}
 use Rattle.elf_headers.specs.Permitted.{style_of}
 use Rattle.elf_headers.specs.declared.caps.Caps.{Caps}
-use Rattle.elf_headers.specs.declared.stop.Stop.{Stop}
-use Rattle.elf_headers.specs.declared.stop.Stop.TheVariants.{Refused}
-use Rattle.elf_listing.specs.Reports.{Leaves}
+use Rattle.elf_headers.specs.declared.stop.RunFault.{RunFault}
+use Rattle.elf_headers.specs.declared.stop.RunFault.TheVariants.{Refused}
+use Rattle.elf_listing.specs.Reports.{KeepsSourceUnlimited}
 use Rattle.elf_archive.specs.Listed.{ArchiveSays, AsksInArchive, ReportsArchive}
 use Rattle.elf_many.specs.declared.lists.ListFault.{ListFault}
 use Rattle.elf_many.specs.declared.lists.ListFault.TheVariants as list
@@ -21,25 +21,25 @@ use Rattle.elf_endings.specs.declared.outputs.Ended.TheVariants.{Status, Told, U
 use Rattle.elf_answers.specs.ArchiveAnswers.{refused_by}
 
 -- there was no memory
-abbrev pub LacksMemory : ℕ → List ℕ → Type 0
-LacksMemory status line = (status ≡ 3) × (line ≡ codes "elfsee: out of memory")
+abbrev pub EndsWithoutMemory : ℕ → List ℕ → Type 0
+EndsWithoutMemory status line = (status ≡ 3) × (line ≡ codes "elfsee: out of memory")
 
 -- a file can't be opened or read
-abbrev pub LacksFile : ℕ → List ℕ → Type 0
-LacksFile status line = (status ≡ 3) × ((line ≡ codes "elfsee: cannot open") ⊎ (line ≡ codes "elfsee: read fault"))
+abbrev pub EndsWithoutFile : ℕ → List ℕ → Type 0
+EndsWithoutFile status line = (status ≡ 3) × ((line ≡ codes "elfsee: cannot open") ⊎ (line ≡ codes "elfsee: read fault"))
 
 -- A RUN ENDS THE PROGRAM: over a source that nothing was asked of, and an output, it did what is asked for; by its answer, and
 -- by whether the output failed, the program ends; and what was left of the output went out, as far as its writer took it
-pub record EndsRunOver {W A : Type 0} (contents : W → Option (List ℕ)) (does : Counting → Counting → Written → Written → Result ℕ Stop → Type 0) (seen : Seen)
+pub record EndsRunOver {W A : Type 0} (contents : W → Option (List ℕ)) (does : CountedState → CountedState → OutState → OutState → Result ℕ RunFault → Type 0) (seen : SourceState)
     (output : BufWriter W A) (status : ℕ) (line : List ℕ) (sink : Writing W) : Type 0 where
-  pub old : Counting
-  pub new : Counting
+  pub old : CountedState
+  pub new : CountedState
   pub same_size : old.seen.size ≡ seen.size
   pub same_file : old.seen.file ≡ seen.file
   pub unasked : old.asked ≡ 0
-  pub before : Written
-  pub after : Written
-  pub answer : Result ℕ Stop
+  pub before : OutState
+  pub after : OutState
+  pub answer : Result ℕ RunFault
   pub begins : before.taken ≡ writer_contents contents output
   pub did : does old new before after answer
   pub last : BufWriter W A
@@ -48,14 +48,14 @@ pub record EndsRunOver {W A : Type 0} (contents : W → Option (List ℕ)) (does
   pub rest : PutsRest (wants_rest answer) sink.failed (writer_buffer last) (contents (writer_inner last)) (contents sink.writer)
 
 -- the refusal whose line went out
-abbrev pub told_refusal : Result ℕ Stop → Bool → Option Refusal
+abbrev pub told_refusal : Result ℕ RunFault → Bool → Option Refusal
 told_refusal (Err (Refused refusal)) false = Some refusal
 told_refusal answer failed = None
 
 -- WHAT THE LISTING OF AN ARCHIVE DID, by its caps and parts; the status tells whether the listing of a member was refused
-pub record RunsArchive (caps : Caps) (parts : ℕ) (old new : Counting) (before after : Written) (answer : Result ℕ Stop) : Type 0 where
-  pub grows : Grows before after
-  pub leaves : Leaves old new
+pub record RunsArchive (caps : Caps) (parts : ℕ) (old new : CountedState) (before after : OutState) (answer : Result ℕ RunFault) : Type 0 where
+  pub grows : OutGrows before after
+  pub leaves : KeepsSourceUnlimited old new
   pub says : IfErr answer (ArchiveSays old new after)
   pub text : (file : List ℕ) → old.seen.file ≡ Some file → ReportsArchive true file caps parts before after (refused_by answer)
   pub cost : (file : List ℕ) → old.seen.file ≡ Some file → new.asked ≤ old.asked + archive_cost file caps.limits.headers (style_of caps.style) parts
@@ -72,5 +72,5 @@ EndsList (Err (list.Out fault)) result = result ≡ Err Unwritten
 -- a run stopped before its end: a list can't be opened or read, or the output failed
 abbrev pub StopsCheck : Ended → Type 0
 StopsCheck (Status status) = ⊥
-StopsCheck (Told ending) = LacksFile ending.0 ending.1.now
+StopsCheck (Told ending) = EndsWithoutFile ending.0 ending.1.now
 StopsCheck Unwritten = ⊤

@@ -1,10 +1,10 @@
 -- What is told behind a refusal of a section, and what that asks for.
 use Rattle.std.specs.Prelude.{ℕ, ◌+◌, ◌-◌, ◌≤◌, max, Bool, false, List, Option, None, Result, Ok, Err, IfSome, option_map}
-use Rattle.elf_model.specs.Explain.{Lack, explained}
+use Rattle.elf_model.specs.Explain.{MissingEntry, explained}
 use Rattle.elf_model.specs.declared.causes.Refusal.{Refusal}
-use Rattle.elf_source.specs.Source.{Counting}
-use Rattle.elf_source.specs.Output.{Written, Takes, TakesFront}
-use Rattle.elf_headers.specs.declared.stop.Stop.{Stop}
+use Rattle.elf_source.specs.Source.{CountedState}
+use Rattle.elf_source.specs.Output.{OutState, SinkTakes, SinkTakesPrefix}
+use Rattle.elf_headers.specs.declared.stop.RunFault.{RunFault}
 use Rattle.elf_requests.specs.declared.requests.Task.{Task}
 use Rattle.elf_requests.specs.declared.requests.Task.TheVariants.{Apply, Place}
 
@@ -15,7 +15,7 @@ asks_why (Place section addresses explain) = explain
 asks_why _ = false
 
 -- what the layout of a task lacks where a section was refused in it
-unfoldable pub lack_in : List ℕ → Task → Refusal → Option Lack
+unfoldable pub lack_in : List ℕ → Task → Refusal → Option MissingEntry
 lack_in file (Apply section layout explain) refusal = explained file section layout.now refusal
 lack_in file (Place section addresses explain) refusal = explained file section addresses.now refusal
 lack_in file _ refusal = None
@@ -25,11 +25,11 @@ abbrev pub budget_rest : Option ℕ → ℕ → Option ℕ
 budget_rest budget asked = option_map (λ bytes. bytes - asked) budget
 
 -- WHAT IS ASKED FOR beside what was asked before: no more than n bytes, and within what is left of the budget for all of it
-pub record AsksRest (budget : Option ℕ) (old new : Counting) (n : ℕ) : Type 0 where
+pub record AsksRest (budget : Option ℕ) (old new : CountedState) (n : ℕ) : Type 0 where
   pub most : new.asked ≤ old.asked + n
   pub within : IfSome budget (λ bytes. new.asked ≤ max old.asked bytes)
 
 -- a text was told, or a front of it where the call stopped
-abbrev pub WroteUpTo : {X : Type 0} → Written → Written → Result X Stop → List ℕ → Type 0
-WroteUpTo old new (Ok x) text = Takes old new text
-WroteUpTo old new (Err stop) text = TakesFront old new text
+abbrev pub WroteUpTo : {X : Type 0} → OutState → OutState → Result X RunFault → List ℕ → Type 0
+WroteUpTo old new (Ok x) text = SinkTakes old new text
+WroteUpTo old new (Err stop) text = SinkTakesPrefix old new text

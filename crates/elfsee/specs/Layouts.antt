@@ -1,11 +1,11 @@
 -- A section that is applied with the items of a file.
 use Rattle.std.specs.Prelude.{ℕ, ◌≡◌, ◌⊎◌, Bool, List, [], codes}
 use Rattle.elf_model.specs.Placing.{Layout}
-use Rattle.elf_layout.specs.declared.items.ItemsFault.{ItemsFault}
-use Rattle.elf_layout.specs.declared.items.ItemsFault.TheVariants.{Read, TooLarge, BadItem, Repeats, Memory}
+use Rattle.elf_layout.specs.declared.items.LayoutFileFault.{LayoutFileFault}
+use Rattle.elf_layout.specs.declared.items.LayoutFileFault.TheVariants.{Read, TooLarge, BadItem, Repeats, Memory}
 use Rattle.elf_requests.specs.declared.requests.Task.{Task}
 use Rattle.elf_requests.specs.declared.requests.Task.TheVariants.{Place}
-use Rattle.elfsee.specs.Ends.{LacksMemory}
+use Rattle.elfsee.specs.Ends.{EndsWithoutMemory}
 
 -- a task applies a section in these addresses
 abbrev pub PlacesIn : (section : ℕ) → Layout → (explain : Bool) → Task → Type 0
@@ -14,12 +14,12 @@ PlacesIn section layout explain _ = ⊥
 
 -- what is wrong with a line was told, or there was no memory for it
 abbrev pub EndsBadLine : ℕ → List ℕ → Type 0
-EndsBadLine status line = ((status ≡ 2) × (line ≡ [])) ⊎ LacksMemory status line
+EndsBadLine status line = ((status ≡ 2) × (line ≡ [])) ⊎ EndsWithoutMemory status line
 
 -- how the program ends where a file gives no items: what is wrong with a line is told before
-abbrev pub EndsItems : ItemsFault → ℕ → List ℕ → Type 0
+abbrev pub EndsItems : LayoutFileFault → ℕ → List ℕ → Type 0
 EndsItems Read status line = (status ≡ 2) × (line ≡ codes "elfsee: cannot read layout")
 EndsItems TooLarge status line = (status ≡ 2) × (line ≡ codes "elfsee: layout too large")
 EndsItems (BadItem number) status line = EndsBadLine status line
 EndsItems (Repeats number) status line = EndsBadLine status line
-EndsItems Memory status line = LacksMemory status line
+EndsItems Memory status line = EndsWithoutMemory status line

@@ -8,7 +8,7 @@ use Rattle.elf_headers.specs.declared.caps.Style.{Style}
 use Rattle.elf_record.specs.declared.parts.Parts.{Parts}
 use Rattle.elf_requests.specs.declared.requests.Task.{Task}
 use Rattle.elf_requests.specs.declared.requests.Task.TheVariants.{Show}
-use Rattle.elfsee.specs.Ends.{LacksMemory}
+use Rattle.elfsee.specs.Ends.{EndsWithoutMemory}
 
 -- a task lists these parts, of which the rows of these names alone are shown, in a style that is else this one
 abbrev pub ShowsRowsOf : List (List ℕ) → Parts → Style → Task → Type 0
@@ -20,8 +20,8 @@ abbrev pub EndsNames : NamesFault → ℕ → List ℕ → Type 0
 EndsNames Read status line = (status ≡ 2) × (line ≡ codes "elfsee: cannot read names")
 EndsNames TooLarge status line = (status ≡ 2) × (line ≡ codes "elfsee: names too large")
 EndsNames BadName status line = (status ≡ 2) × (line ≡ codes "elfsee: bad name")
-EndsNames Memory status line = LacksMemory status line
+EndsNames Memory status line = EndsWithoutMemory status line
 
 -- there were no names
-abbrev pub LacksNames : ℕ → List ℕ → Type 0
-LacksNames status line = (fault : NamesFault) × EndsNames fault status line
+abbrev pub EndsWithoutNames : ℕ → List ℕ → Type 0
+EndsWithoutNames status line = (fault : NamesFault) × EndsNames fault status line

@@ -1,20 +1,20 @@
 //! The listing of an archive.
 ghost use Rattle.std.specs.Prelude.{◌≡◌, ◌⊎◌, IfErr, length};
-ghost use Rattle.elfsee.specs.Ends.{EndsRunOver, LacksFile, LacksMemory, RunsArchive};
+ghost use Rattle.elfsee.specs.Ends.{EndsRunOver, EndsWithoutFile, EndsWithoutMemory, RunsArchive};
 ghost use Rattle.elf_headers.specs.Permitted.{style_of};
 ghost use Rattle.elf_name_lists.specs.NamedRows.{named_style};
-ghost use Rattle.elf_wanted.specs.Names.{NeverFall, texts_of};
-ghost use Rattle.elfsee.specs.Naming.{LacksNames};
+ghost use Rattle.elf_wanted.specs.Names.{NeverDescend, texts_of};
+ghost use Rattle.elfsee.specs.Naming.{EndsWithoutNames};
 
 use crate::names::{read_list, sorted_names};
 use elf_answers::archive_status;
 use elf_archive::show_archive;
-use elf_endings::{Ending, OUT_OF_MEMORY, OUTPUT_BYTES, end_answer, open};
-use elf_headers::{Caps, HeaderRoom, HeaderStore, Limits, Style};
-use elf_name_lists::style_by_names;
+use elf_endings::{ExitLine, OUT_OF_MEMORY, OUTPUT_BYTES, end_answer, open};
+use elf_headers::{Caps, HeaderBuffer, HeaderStore, Limits, Style};
+use elf_name_lists::style_with_names;
 use elf_record::Parts;
-use elf_requests::Archiving;
-use elf_source::{Counted, HoldingSink, Out, RangeSource, Source, WriteSink};
+use elf_requests::ArchiveRequest;
+use elf_source::{Counted, DeferredSink, Out, RangeSource, Source, WriteSink};
 use std::io::{self, BufWriter, Write};
 use std::os::unix::fs::FileExt;
 use std::rt::Files;
@@ -27,12 +27,12 @@ use std::rt::Files;
 #[inline(never)]
 pub fn list_archive<R: Files + Print + AllocGlobal>(
     rt: &R,
-    asked: &Archiving<'_>,
-) -> Result<Ending, Ending>
+    asked: &ArchiveRequest<'_>,
+) -> Result<ExitLine, ExitLine>
 where
     R::File: FileExt,
-    ensures { IfErr result (λ ending. LacksNames ending.0 ending.1.now
-        ⊎ (LacksMemory ending.0 ending.1.now ⊎ LacksFile ending.0 ending.1.now)) }
+    ensures { IfErr result (λ ending. EndsWithoutNames ending.0 ending.1.now
+        ⊎ (EndsWithoutMemory ending.0 ending.1.now ⊎ EndsWithoutFile ending.0 ending.1.now)) }
 {
     let Some(names) = &asked.names else {
         return list_with(
@@ -67,14 +67,14 @@ fn caps_of<'a>(limits: Limits, style: Style<'a>) -> Caps<'a>
 /// The caps of these limits, with the rows of these names, which are in the rising order of their
 /// bytes, and else of this style.
 fn caps_by_names<'n>(limits: Limits, style: Style<'_>, names: &'n [&'n [u8]]) -> Caps<'n>
-    requires { NeverFall names.now }
+    requires { NeverDescend names.now }
     ensures limits { result.limits ≡ limits }
     ensures style { style_of result.style
         ≡ named_style (texts_of names.now) (style_of style.entry) }
 {
     Caps {
         limits,
-        style: style_by_names(style, names),
+        style: style_with_names(style, names),
     }
 }
 
@@ -87,13 +87,13 @@ fn list_with<R: Files + Print + AllocGlobal>(
     file: &str,
     parts: Parts,
     caps: &Caps<'_>,
-) -> Result<Ending, Ending>
+) -> Result<ExitLine, ExitLine>
 where
     R::File: FileExt,
     ensures { IfErr result (λ ending.
-        LacksMemory ending.0 ending.1.now ⊎ LacksFile ending.0 ending.1.now) }
+        EndsWithoutMemory ending.0 ending.1.now ⊎ EndsWithoutFile ending.0 ending.1.now) }
 {
-    let Ok(mut room) = HeaderRoom::new(rt.alloc(), caps.limits.headers) else {
+    let Ok(mut room) = HeaderBuffer::new(rt.alloc(), caps.limits.headers) else {
         return Err(OUT_OF_MEMORY);
     };
     let Ok(output) = BufWriter::with_capacity(rt.alloc(), OUTPUT_BYTES, io::writer(rt)) else {
@@ -119,14 +119,14 @@ fn write_archive<S: Source + Drop, W: Write + Drop>(
     mut store: HeaderStore<'_>,
     output: BufWriter<W>,
     held: Vec<u8>,
-) -> (Ending, WriteSink<W>)
+) -> (ExitLine, WriteSink<W>)
     requires slots { store.slots ≡ caps.limits.headers }
     requires none { length held.items ≡ 0 }
     ensures { EndsRunOver W.contents (RunsArchive caps.entry parts.0)
         (S.seen source) output result.0.0 result.0.1.now result.1 }
 {
     let mut src = Counted::new(RangeSource::new(source));
-    let mut out = Out::new(HoldingSink::new(WriteSink::new(output), held));
+    let mut out = Out::new(DeferredSink::new(WriteSink::new(output), held));
     let listed = show_archive(&mut src, &mut store, caps, parts, true, &mut out);
     let sink = out.into_inner().into_inner();
     end_answer(&archive_status(listed), sink.into_inner())

@@ -2,17 +2,17 @@
 ghost use Rattle.std.specs.Prelude.{◌≡◌, ◌≤◌, ◌^◌, ℕ, List, None, Some, IfErr, false};
 ghost use Rattle.elf_model.specs.Explain.{explained};
 ghost use Rattle.elf_model.specs.ExplainLine.{explanation};
-ghost use Rattle.elf_source.specs.Source.{Reads, SetsLimit};
-ghost use Rattle.elf_listing.specs.Reports.{Leaves};
+ghost use Rattle.elf_source.specs.Source.{ReadsUpTo, SetsLimit};
+ghost use Rattle.elf_listing.specs.Reports.{KeepsSourceUnlimited};
 ghost use Rattle.elf_listing.specs.Shows.{StopSays};
-ghost use Rattle.elf_explain.specs.Explained.{explain_bytes, may_lack};
+ghost use Rattle.elf_explain.specs.Explained.{explain_bytes, may_be_missing};
 ghost use Rattle.elfsee.specs.Explaining.{AsksRest, WroteUpTo, asks_why, lack_in, budget_rest};
 
 use elf_endings::{ERROR_LINE_BYTES, write_rest};
 use elf_explain::explain;
-use elf_headers::{HeaderStore, Stop};
+use elf_headers::{HeaderStore, RunFault};
 use elf_layout::Addresses;
-use elf_lines::show_lack;
+use elf_lines::show_missing;
 use elf_record::Refusal;
 use elf_requests::{Request, Task};
 use elf_source::{Counted, Out, Sink, Source, WriteSink};
@@ -23,7 +23,7 @@ use std::io::{BufWriter, Stderr};
 /// Tells what would help where a request to apply was refused, if it asks for that. Where there is no
 /// memory for the line, or it can't be written, the refusal alone tells. The read budget holds for all
 /// that was asked of the source since its count began: where it has no room, nothing is told.
-pub fn tell_why<S: Source>(
+pub fn report_missing_reason<S: Source>(
     alloc: Global,
     request: &Request<'_>,
     refusal: Refusal,
@@ -72,11 +72,11 @@ fn tell_rest<S: Source, W: Sink>(
     src: &mut Counted<S>,
     store: &mut HeaderStore<'_>,
     out: &mut Out<W>,
-) -> Result<(), Stop>
+) -> Result<(), RunFault>
     ensures slots { store.new.slots ≡ store.old.slots }
     ensures asks { AsksRest request.now.limits.budget src.old src.new
         (explain_bytes store.old.slots) }
-    ensures leaves { Leaves src.old src.new }
+    ensures leaves { KeepsSourceUnlimited src.old src.new }
     ensures tells { (file : List ℕ) → src.old.seen.file ≡ Some file →
         WroteUpTo out.old out.new result (explanation (lack_in file request.now.task refusal)) }
 {
@@ -114,7 +114,7 @@ fn asks_why(request: &Request<'_>) -> bool
 /// Writes the line of what the layout of a request lacks, if there is something.
 ///
 /// # Errors
-/// As [`write_lack`].
+/// As [`write_missing`].
 #[tactic(auto, unfolding(crate::specs::Explaining::lack_in))]
 fn tell_lack<S: Source, W: Sink>(
     request: &Request<'_>,
@@ -122,9 +122,9 @@ fn tell_lack<S: Source, W: Sink>(
     src: &mut Counted<S>,
     store: &mut HeaderStore<'_>,
     out: &mut Out<W>,
-) -> Result<(), Stop>
+) -> Result<(), RunFault>
     ensures slots { store.new.slots ≡ store.old.slots }
-    ensures reads { Reads src.old src.new (explain_bytes store.old.slots) }
+    ensures reads { ReadsUpTo src.old src.new (explain_bytes store.old.slots) }
     ensures tells { (file : List ℕ) → src.old.seen.file ≡ Some file →
         WroteUpTo out.old out.new result (explanation (lack_in file request.now.task refusal)) }
 {
@@ -135,13 +135,13 @@ fn tell_lack<S: Source, W: Sink>(
             ..
         } => {
             let addresses = Addresses::fixed(layout);
-            write_lack(src, store, section, &addresses, refusal, out)
+            write_missing(src, store, section, &addresses, refusal, out)
         }
         Task::Place {
             section,
             addresses,
             ..
-        } => write_lack(src, store, section, addresses, refusal, out),
+        } => write_missing(src, store, section, addresses, refusal, out),
         _ => Ok(()),
     }
 }
@@ -151,24 +151,24 @@ fn tell_lack<S: Source, W: Sink>(
 /// # Errors
 /// A refusal of the file, or for want of budget; a fault of the source or of the output. A front of the
 /// line was written.
-fn write_lack<S: Source, W: Sink>(
+fn write_missing<S: Source, W: Sink>(
     src: &mut Counted<S>,
     store: &mut HeaderStore<'_>,
     section: u16,
     layout: &Addresses<'_>,
     refusal: Refusal,
     out: &mut Out<W>,
-) -> Result<(), Stop>
+) -> Result<(), RunFault>
     ensures slots { store.new.slots ≡ store.old.slots }
-    ensures unread { may_lack refusal.cause ≡ false → src.new ≡ src.old }
-    ensures reads { Reads src.old src.new (explain_bytes store.old.slots) }
+    ensures unread { may_be_missing refusal.cause ≡ false → src.new ≡ src.old }
+    ensures reads { ReadsUpTo src.old src.new (explain_bytes store.old.slots) }
     ensures says { IfErr result (StopSays src.old src.new out.new (explain_bytes store.old.slots)) }
     ensures tells { (file : List ℕ) → src.old.seen.file ≡ Some file →
         WroteUpTo out.old out.new result (explanation (explained file section layout.now refusal)) }
 {
     let mut name = NameBuf::new();
     if let Some((missing, end)) = explain(src, store, section, layout, refusal, &mut name)? {
-        show_lack(missing, name.bytes(), end == NameEnd::Cut, out)?;
+        show_missing(missing, name.bytes(), end == NameEnd::Cut, out)?;
     }
     Ok(())
 }

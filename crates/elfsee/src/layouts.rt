@@ -5,9 +5,9 @@ ghost use Rattle.elf_layout.specs.Listed.{AreReordered, AreSorted, Gathers};
 ghost use Rattle.elfsee.specs.Layouts.{EndsItems, EndsBadLine, PlacesIn};
 
 use crate::answer_request;
-use elf_endings::{Ending, OUT_OF_MEMORY};
-use elf_layout::{Addresses, Items, ItemsFault, Layout, LentLayout, TextEnd, read_text};
-use elf_requests::{Laying, Request, Task};
+use elf_endings::{ExitLine, OUT_OF_MEMORY};
+use elf_layout::{Addresses, BorrowedLayout, Items, Layout, LayoutFileFault, TextEnd, read_text};
+use elf_requests::{ApplyWithLayout, Request, Task};
 use std::alloc::Global;
 use std::io::{ErrorKind, Stderr, Write};
 use std::os::unix::fs::FileExt;
@@ -25,9 +25,9 @@ const PIECE_BYTES: usize = 65_536;
 /// standard error tells which line. Else as [`answer_request`].
 pub fn apply_laid<R: Files + Print + AllocGlobal>(
     rt: &R,
-    asked: &Laying<'_>,
+    asked: &ApplyWithLayout<'_>,
     errors: Stderr,
-) -> Result<Ending, Ending>
+) -> Result<ExitLine, ExitLine>
 where
     R::File: FileExt,
 {
@@ -45,7 +45,7 @@ where
         Err(fault) => return Err(told(rt.alloc(), errors, fault)),
     };
     let Ok(text) = str::from_utf8(&bytes) else {
-        return Err(told(rt.alloc(), errors, ItemsFault::Read));
+        return Err(told(rt.alloc(), errors, LayoutFileFault::Read));
     };
     let items = match sorted_items(rt.alloc(), layout, text, end) {
         Ok(items) => items,
@@ -65,16 +65,16 @@ fn read_list<R: Files + AllocGlobal>(
     rt: &R,
     path: &str,
     text: &mut Vec<u8>,
-) -> Result<TextEnd, ItemsFault>
+) -> Result<TextEnd, LayoutFileFault>
     requires { text.old.items ≡ [] }
 {
     let mut file = match fs::open(rt, path) {
         Ok(file) => file,
-        Err(fault) if fault.kind() == ErrorKind::OutOfMemory => return Err(ItemsFault::Memory),
-        Err(_) => return Err(ItemsFault::Read),
+        Err(fault) if fault.kind() == ErrorKind::OutOfMemory => return Err(LayoutFileFault::Memory),
+        Err(_) => return Err(LayoutFileFault::Read),
     };
     let Ok(mut room) = vec![in rt.alloc(); 0u8; PIECE_BYTES] else {
-        return Err(ItemsFault::Memory);
+        return Err(LayoutFileFault::Memory);
     };
     read_text(&mut file, &mut room, text)
 }
@@ -85,7 +85,7 @@ fn sorted_items<'a>(
     layout: &'a Layout,
     text: &'a str,
     end: TextEnd,
-) -> Result<Items<'a>, ItemsFault>
+) -> Result<Items<'a>, LayoutFileFault>
     ensures sorted { IfOk result AreSorted }
     ensures same { IfOk result (λ items. (given : Given)
         × Gathers layout.now text.now end (Ok given) × AreReordered given items) }
@@ -105,9 +105,9 @@ fn apply_lent<R: Files + Print + AllocGlobal>(
     asked: &Request<'_>,
     section: u16,
     explain: bool,
-    lent: &LentLayout<'_>,
+    lent: &BorrowedLayout<'_>,
     errors: Stderr,
-) -> Result<Ending, Ending>
+) -> Result<ExitLine, ExitLine>
 where
     R::File: FileExt,
 {
@@ -141,20 +141,20 @@ fn placed<'a>(
 
 /// How the program ends where the items of a file have a fault. What is wrong with a line is written to
 /// `errors`; where it can't be, the status alone tells.
-fn told(alloc: Global, errors: Stderr, fault: ItemsFault) -> Ending
+fn told(alloc: Global, errors: Stderr, fault: LayoutFileFault) -> ExitLine
     ensures { EndsItems fault result.0 result.1.now }
 {
     match fault {
-        ItemsFault::Read => (2, "elfsee: cannot read layout"),
-        ItemsFault::TooLarge => (2, "elfsee: layout too large"),
-        ItemsFault::BadItem(line) => tell_line(alloc, errors, "bad item", line),
-        ItemsFault::Repeats(line) => tell_line(alloc, errors, "layout-repeat", line),
-        ItemsFault::Memory => OUT_OF_MEMORY,
+        LayoutFileFault::Read => (2, "elfsee: cannot read layout"),
+        LayoutFileFault::TooLarge => (2, "elfsee: layout too large"),
+        LayoutFileFault::BadItem(line) => report_line(alloc, errors, "bad item", line),
+        LayoutFileFault::Repeats(line) => report_line(alloc, errors, "layout-repeat", line),
+        LayoutFileFault::Memory => OUT_OF_MEMORY,
     }
 }
 
 /// Writes what is wrong with a line, and answers how the program ends.
-fn tell_line(alloc: Global, mut errors: Stderr, what: &str, line: u64) -> Ending
+fn report_line(alloc: Global, mut errors: Stderr, what: &str, line: u64) -> ExitLine
     ensures { EndsBadLine result.0 result.1.now }
 {
     let Ok(text) = format!(in alloc; "elfsee: {what} in line {line}\n") else {

@@ -2,17 +2,17 @@
 ghost use Rattle.std.specs.Prelude.{◌≡◌, ◌⊎◌, IfErr};
 ghost use Rattle.elf_headers.specs.Permitted.{style_of};
 ghost use Rattle.elf_name_lists.specs.NamedRows.{named_style};
-ghost use Rattle.elf_wanted.specs.Names.{NeverFall, texts_of};
-ghost use Rattle.elfsee.specs.Ends.{LacksMemory};
-ghost use Rattle.elfsee.specs.Naming.{LacksNames};
+ghost use Rattle.elf_wanted.specs.Names.{NeverDescend, texts_of};
+ghost use Rattle.elfsee.specs.Ends.{EndsWithoutMemory};
+ghost use Rattle.elfsee.specs.Naming.{EndsWithoutNames};
 
 use crate::many::visit_files;
 use crate::names::{read_list, sorted_names};
-use elf_each_file::{FileLists, HELD_BYTES, ListRule};
-use elf_endings::{Ending, OUT_OF_MEMORY};
-use elf_headers::{Caps, HeaderRoom};
-use elf_name_lists::style_by_names;
-use elf_requests::{ListAsked, ManyFiles};
+use elf_each_file::{HELD_BYTES, ListFiles, ListOptions};
+use elf_endings::{ExitLine, OUT_OF_MEMORY};
+use elf_headers::{Caps, HeaderBuffer};
+use elf_name_lists::style_with_names;
+use elf_requests::{ListRequest, PathArgs};
 use std::io::{Input, Stderr};
 use std::os::unix::fs::FileExt;
 use std::rt::Files;
@@ -25,13 +25,13 @@ use std::rt::Files;
 #[inline(never)]
 pub fn list_files<R: Files + Print + Input + AllocGlobal>(
     rt: &R,
-    asked: &ListAsked<'_>,
+    asked: &ListRequest<'_>,
     terminal: Option<Stderr>,
-) -> Result<Ending, Ending>
+) -> Result<ExitLine, ExitLine>
 where
     R::File: FileExt,
-    ensures { IfErr result (λ ending. LacksNames ending.0 ending.1.now
-        ⊎ LacksMemory ending.0 ending.1.now) }
+    ensures { IfErr result (λ ending. EndsWithoutNames ending.0 ending.1.now
+        ⊎ EndsWithoutMemory ending.0 ending.1.now) }
 {
     let Some(names) = &asked.names else {
         return list_with(rt, &asked.files, &rule_of(asked), terminal);
@@ -47,7 +47,7 @@ where
 }
 
 /// The rule of what is asked for.
-fn rule_of<'a>(asked: &ListAsked<'a>) -> ListRule<'a>
+fn rule_of<'a>(asked: &ListRequest<'a>) -> ListOptions<'a>
     ensures caps { result.caps ≡ record { limits = asked.now.limits; style = asked.now.style } }
     ensures parts { result.parts ≡ asked.now.parts }
     ensures members { result.members ≡ asked.now.members }
@@ -56,7 +56,7 @@ fn rule_of<'a>(asked: &ListAsked<'a>) -> ListRule<'a>
         limits: asked.limits,
         style: asked.style,
     };
-    ListRule {
+    ListOptions {
         caps,
         parts: asked.parts,
         members: asked.members,
@@ -64,8 +64,8 @@ fn rule_of<'a>(asked: &ListAsked<'a>) -> ListRule<'a>
 }
 
 /// The rule of what is asked for, of the rows of these names, which are in the rising order of their bytes.
-fn rule_by_names<'n>(asked: &ListAsked<'_>, names: &'n [&'n [u8]]) -> ListRule<'n>
-    requires { NeverFall names.now }
+fn rule_by_names<'n>(asked: &ListRequest<'_>, names: &'n [&'n [u8]]) -> ListOptions<'n>
+    requires { NeverDescend names.now }
     ensures limits { result.caps.limits ≡ asked.now.limits }
     ensures style { style_of result.caps.style
         ≡ named_style (texts_of names.now) (style_of asked.now.style) }
@@ -74,9 +74,9 @@ fn rule_by_names<'n>(asked: &ListAsked<'_>, names: &'n [&'n [u8]]) -> ListRule<'
 {
     let caps = Caps {
         limits: asked.limits,
-        style: style_by_names(asked.style, names),
+        style: style_with_names(asked.style, names),
     };
-    ListRule {
+    ListOptions {
         caps,
         parts: asked.parts,
         members: asked.members,
@@ -89,20 +89,20 @@ fn rule_by_names<'n>(asked: &ListAsked<'_>, names: &'n [&'n [u8]]) -> ListRule<'
 /// There is no memory.
 fn list_with<R: Files + Print + Input + AllocGlobal>(
     rt: &R,
-    files: &ManyFiles<'_>,
-    rule: &ListRule<'_>,
+    files: &PathArgs<'_>,
+    rule: &ListOptions<'_>,
     terminal: Option<Stderr>,
-) -> Result<Ending, Ending>
+) -> Result<ExitLine, ExitLine>
 where
     R::File: FileExt,
-    ensures { IfErr result (λ ending. LacksMemory ending.0 ending.1.now) }
+    ensures { IfErr result (λ ending. EndsWithoutMemory ending.0 ending.1.now) }
 {
-    let Ok(mut room) = HeaderRoom::new(rt.alloc(), rule.caps.limits.headers) else {
+    let Ok(mut room) = HeaderBuffer::new(rt.alloc(), rule.caps.limits.headers) else {
         return Err(OUT_OF_MEMORY);
     };
     let Ok(held) = vec![in rt.alloc(); 0u8; HELD_BYTES] else {
         return Err(OUT_OF_MEMORY);
     };
-    let lists = FileLists::new(room.store(), *rule);
+    let lists = ListFiles::new(room.store(), *rule);
     visit_files(rt, files, lists, held, rule.caps.style.format, terminal)
 }

@@ -13,27 +13,27 @@ ghost use Rattle.std.specs.Prelude.{◌≡◌, ◌⊎◌, IfErr, IfOk, map, stri
 ghost use Rattle.elf_answers.specs.Requests.{RunsTask};
 ghost use Rattle.elf_endings.specs.Endings.{EndsWords};
 ghost use Rattle.elf_requests.specs.Answered.{WordsAsk};
-ghost use Rattle.elfsee.specs.Ends.{EndsRunOver, LacksFile, LacksMemory, told_refusal};
+ghost use Rattle.elfsee.specs.Ends.{EndsRunOver, EndsWithoutFile, EndsWithoutMemory, told_refusal};
 ghost use Rattle.elf_listing_requests.specs.declared.faults.RequestFault.{RequestFault};
 
 use archives::list_archive;
 use elf_answers::run;
 use elf_endings::{
-    Ending, OUT_OF_MEMORY, OUTPUT_BYTES, end_answer, exit, open, read_words, tell_refused,
+    ExitLine, OUT_OF_MEMORY, OUTPUT_BYTES, end_answer, exit, open, read_words, report_refused,
     tell_version,
 };
 use elf_fixtures::sample;
-use elf_headers::{HeaderRoom, HeaderStore, Stop};
+use elf_headers::{HeaderBuffer, HeaderStore, RunFault};
 use elf_layout::Layout;
 use elf_record::Refusal;
-use elf_requests::{AskedCommand, Request, request};
+use elf_requests::{ParsedCommand, Request, request};
 use elf_source::{Counted, MemorySource, Out, Sink, Source, WriteSink};
-use explaining::tell_why;
+use explaining::report_missing_reason;
 use layouts::apply_laid;
 use lists::list_files;
-use many::{check_many, tell_traits};
+use many::{check_many, report_traits};
 use names::show_chosen;
-use needs::tell_needs;
+use needs::report_needs;
 use std::alloc::Global;
 use std::io::{self, BufWriter, Input, IsTerminal, Stderr, Write};
 use std::os::unix::fs::FileExt;
@@ -58,7 +58,7 @@ fn answer<R: Env + Files + Print + Input + AllocGlobal>(
     rt: &R,
     errors: Stderr,
     terminal: Option<Stderr>,
-) -> Result<Ending, Ending>
+) -> Result<ExitLine, ExitLine>
 where
     R::File: FileExt,
 {
@@ -76,29 +76,29 @@ where
 /// Carries out what is asked for.
 fn carry_out<R: Files + Print + Input + AllocGlobal>(
     rt: &R,
-    asked: &AskedCommand<'_>,
+    asked: &ParsedCommand<'_>,
     errors: Stderr,
     terminal: Option<Stderr>,
-) -> Result<Ending, Ending>
+) -> Result<ExitLine, ExitLine>
 where
     R::File: FileExt,
 {
     match asked {
-        AskedCommand::File(request) => answer_request(rt, request, errors),
-        AskedCommand::Laid(laying) => apply_laid(rt, laying, errors),
-        AskedCommand::Chosen(choosing) => show_chosen(rt, choosing, errors),
-        AskedCommand::Check(checking) => check_many(rt, checking, terminal),
-        AskedCommand::List(asked) => list_files(rt, asked, terminal),
-        AskedCommand::Traits(traits) => tell_traits(rt, traits, terminal),
-        AskedCommand::Needs(asked) => tell_needs(rt, asked),
-        AskedCommand::Archive(archiving) => list_archive(rt, archiving),
-        AskedCommand::Version => tell_version(rt),
+        ParsedCommand::File(request) => answer_request(rt, request, errors),
+        ParsedCommand::Laid(laying) => apply_laid(rt, laying, errors),
+        ParsedCommand::Chosen(choosing) => show_chosen(rt, choosing, errors),
+        ParsedCommand::Check(checking) => check_many(rt, checking, terminal),
+        ParsedCommand::List(asked) => list_files(rt, asked, terminal),
+        ParsedCommand::Traits(traits) => report_traits(rt, traits, terminal),
+        ParsedCommand::Needs(asked) => report_needs(rt, asked),
+        ParsedCommand::Archive(archiving) => list_archive(rt, archiving),
+        ParsedCommand::Version => tell_version(rt),
     }
 }
 
 /// Makes a layout without an item, in memory of its own: on the stack it would take a third of it.
-fn make_layout(alloc: Global) -> Result<Box<Layout>, Ending>
-    ensures { IfErr result (λ ending. LacksMemory ending.0 ending.1.now) }
+fn make_layout(alloc: Global) -> Result<Box<Layout>, ExitLine>
+    ensures { IfErr result (λ ending. EndsWithoutMemory ending.0 ending.1.now) }
 {
     match Box::new(alloc, Layout::new()) {
         Ok(layout) => Ok(layout),
@@ -111,13 +111,13 @@ fn answer_request<R: Files + Print + AllocGlobal>(
     rt: &R,
     request: &Request<'_>,
     errors: Stderr,
-) -> Result<Ending, Ending>
+) -> Result<ExitLine, ExitLine>
 where
     R::File: FileExt,
     ensures { IfErr result (λ ending.
-        LacksMemory ending.0 ending.1.now ⊎ LacksFile ending.0 ending.1.now) }
+        EndsWithoutMemory ending.0 ending.1.now ⊎ EndsWithoutFile ending.0 ending.1.now) }
 {
-    let Ok(mut room) = HeaderRoom::new(rt.alloc(), request.limits.headers) else {
+    let Ok(mut room) = HeaderBuffer::new(rt.alloc(), request.limits.headers) else {
         return Err(OUT_OF_MEMORY);
     };
     let Ok(output) = BufWriter::with_capacity(rt.alloc(), OUTPUT_BYTES, io::writer(rt)) else {
@@ -133,11 +133,11 @@ fn answer_into<R: Files + AllocGlobal, W: Write + Drop>(
     store: HeaderStore<'_>,
     output: BufWriter<W>,
     errors: Stderr,
-) -> Result<Ending, Ending>
+) -> Result<ExitLine, ExitLine>
 where
     R::File: FileExt,
     requires { store.slots ≡ request.now.limits.headers }
-    ensures { IfErr result (λ ending. LacksFile ending.0 ending.1.now) }
+    ensures { IfErr result (λ ending. EndsWithoutFile ending.0 ending.1.now) }
 {
     let alloc = rt.alloc();
     let (ending, _output) = match request.file {
@@ -159,14 +159,14 @@ fn read_request<'a>(
     words: &'a [String],
     layout: &'a mut Layout,
     errors: Stderr,
-) -> Result<AskedCommand<'a>, Ending>
+) -> Result<ParsedCommand<'a>, ExitLine>
     ensures asked { IfOk result (WordsAsk (map string_bytes words.now)) }
     ensures refused { IfErr result (λ ending. (fault : RequestFault)
         × EndsWords fault ending.0 ending.1.now) }
 {
     match request(alloc, words, layout) {
         Ok(asked) => Ok(asked),
-        Err(fault) => Err(tell_refused(alloc, &fault, words, errors)),
+        Err(fault) => Err(report_refused(alloc, &fault, words, errors)),
     }
 }
 
@@ -181,7 +181,7 @@ fn write_answer<S: Source + Drop, W: Write + Drop>(
     mut store: HeaderStore<'_>,
     output: BufWriter<W>,
     errors: Stderr,
-) -> (Ending, WriteSink<W>)
+) -> (ExitLine, WriteSink<W>)
     requires { store.slots ≡ request.now.limits.headers }
     ensures { EndsRunOver W.contents (RunsTask request.now.limits request.now.task)
         (S.seen source) output result.0.0 result.0.1.now result.1 }
@@ -191,17 +191,17 @@ fn write_answer<S: Source + Drop, W: Write + Drop>(
     let answer = run(request, &mut src, &mut store, &mut out);
     let (ending, output) = end_answer(&answer, out.into_inner().into_inner());
     if let Some(refusal) = refusal_told(&answer, &output) {
-        tell_why(alloc, request, refusal, &mut src, &mut store, errors);
+        report_missing_reason(alloc, request, refusal, &mut src, &mut store, errors);
     }
     (ending, output)
 }
 
 /// The refusal that a run answered, where its line went out: not after a fault of the output.
-fn refusal_told<W: Write>(answer: &Result<u8, Stop>, output: &WriteSink<W>) -> Option<Refusal>
+fn refusal_told<W: Write>(answer: &Result<u8, RunFault>, output: &WriteSink<W>) -> Option<Refusal>
     ensures { result ≡ told_refusal answer.now output.now.failed }
 {
     match answer {
-        Err(Stop::Refused(refusal)) if !output.failed() => Some(*refusal),
+        Err(RunFault::Refused(refusal)) if !output.failed() => Some(*refusal),
         _ => None,
     }
 }

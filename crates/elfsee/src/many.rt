@@ -1,17 +1,17 @@
 //! What is told of many files: their check, and how they are hardened.
 ghost use Rattle.std.specs.Prelude.{◌≡◌, ◌<◌, IfErr};
-ghost use Rattle.elfsee.specs.Ends.{EndsList, LacksMemory, StopsCheck};
+ghost use Rattle.elfsee.specs.Ends.{EndsList, EndsWithoutMemory, StopsCheck};
 
-use elf_each_file::{CheckRule, Checks, TraitLines, TraitRule};
+use elf_each_file::{CheckFiles, CheckOptions, TraitOptions, TraitReport};
 use elf_endings::{
-    CANNOT_OPEN, Ended, Ending, LineSink, OUT_OF_MEMORY, OUTPUT_BYTES, PIPE_BYTES, READ_FAULT,
+    CANNOT_OPEN, Ended, ExitLine, LineSink, OUT_OF_MEMORY, OUTPUT_BYTES, PIPE_BYTES, READ_FAULT,
     end_lines,
 };
-use elf_headers::{Caps, HeaderRoom, HeaderStore};
-use elf_many::{EachFile, FolderWalk, ListFault, Many, visit_list, visit_path};
+use elf_headers::{Caps, HeaderBuffer, HeaderStore};
+use elf_many::{DirWalk, FileRun, FileVisitor, ListFault, visit_list, visit_path};
 use elf_model::Format;
-use elf_requests::{Checking, ManyFiles, TraitsAsked};
-use elf_source::{HoldingSink, Out, OutFault, Sink, WriteSink};
+use elf_requests::{CheckRequest, PathArgs, TraitsRequest};
+use elf_source::{DeferredSink, Out, OutFault, Sink, WriteSink};
 use std::fs;
 use std::io::{self, Input, Stderr};
 use std::os::unix::fs::{FileExt, FileTypeExt};
@@ -28,14 +28,14 @@ const LIST_BYTES: usize = 65_536;
 #[inline(never)]
 pub fn check_many<R: Files + Print + Input + AllocGlobal>(
     rt: &R,
-    asked: &Checking<'_>,
+    asked: &CheckRequest<'_>,
     terminal: Option<Stderr>,
-) -> Result<Ending, Ending>
+) -> Result<ExitLine, ExitLine>
 where
     R::File: FileExt,
-    ensures { IfErr result (λ ending. LacksMemory ending.0 ending.1.now) }
+    ensures { IfErr result (λ ending. EndsWithoutMemory ending.0 ending.1.now) }
 {
-    let Ok(mut room) = HeaderRoom::new(rt.alloc(), asked.limits.headers) else {
+    let Ok(mut room) = HeaderBuffer::new(rt.alloc(), asked.limits.headers) else {
         return Err(OUT_OF_MEMORY);
     };
     let checks = new_checks(asked, room.store());
@@ -48,16 +48,16 @@ where
 /// # Errors
 /// There is no memory.
 #[inline(never)]
-pub fn tell_traits<R: Files + Print + Input + AllocGlobal>(
+pub fn report_traits<R: Files + Print + Input + AllocGlobal>(
     rt: &R,
-    asked: &TraitsAsked<'_>,
+    asked: &TraitsRequest<'_>,
     terminal: Option<Stderr>,
-) -> Result<Ending, Ending>
+) -> Result<ExitLine, ExitLine>
 where
     R::File: FileExt,
-    ensures { IfErr result (λ ending. LacksMemory ending.0 ending.1.now) }
+    ensures { IfErr result (λ ending. EndsWithoutMemory ending.0 ending.1.now) }
 {
-    let Ok(mut room) = HeaderRoom::new(rt.alloc(), asked.limits.headers) else {
+    let Ok(mut room) = HeaderBuffer::new(rt.alloc(), asked.limits.headers) else {
         return Err(OUT_OF_MEMORY);
     };
     let lines = new_trait_lines(asked, room.store());
@@ -66,13 +66,13 @@ where
 }
 
 /// A check by what is asked for.
-fn new_checks<'a>(asked: &Checking<'_>, store: HeaderStore<'a>) -> Checks<'a>
+fn new_checks<'a>(asked: &CheckRequest<'_>, store: HeaderStore<'a>) -> CheckFiles<'a>
     requires { store.slots ≡ asked.now.limits.headers }
     ensures caps { result.caps ≡ record { limits = asked.now.limits; style = asked.now.style } }
     ensures parts { result.parts ≡ asked.now.parts }
     ensures members { result.members ≡ asked.now.members }
 {
-    let rule = CheckRule {
+    let rule = CheckOptions {
         caps: Caps {
             limits: asked.limits,
             style: asked.style,
@@ -80,22 +80,22 @@ fn new_checks<'a>(asked: &Checking<'_>, store: HeaderStore<'a>) -> Checks<'a>
         parts: asked.parts,
         members: asked.members,
     };
-    Checks::new(store, rule)
+    CheckFiles::new(store, rule)
 }
 
 /// The lines of traits by what is asked for.
-fn new_trait_lines<'a>(asked: &'a TraitsAsked<'a>, store: HeaderStore<'a>) -> TraitLines<'a>
+fn new_trait_lines<'a>(asked: &'a TraitsRequest<'a>, store: HeaderStore<'a>) -> TraitReport<'a>
     requires { store.slots ≡ asked.now.limits.headers }
     ensures limits { result.limits ≡ asked.now.limits }
     ensures format { result.format ≡ asked.now.format }
     ensures required { result.required.now ≡ asked.now.required.items }
 {
-    let rule = TraitRule {
+    let rule = TraitOptions {
         limits: asked.limits,
         format: asked.format,
         required: &asked.required,
     };
-    TraitLines::new(store, rule)
+    TraitReport::new(store, rule)
 }
 
 /// Makes what memory is needed beside that for headers, and tells of all files that are asked for. `held`
@@ -103,19 +103,19 @@ fn new_trait_lines<'a>(asked: &'a TraitsAsked<'a>, store: HeaderStore<'a>) -> Tr
 ///
 /// # Errors
 /// There is no memory.
-pub fn visit_files<R: Files + Print + Input + AllocGlobal, A: EachFile + Drop>(
+pub fn visit_files<R: Files + Print + Input + AllocGlobal, A: FileVisitor + Drop>(
     rt: &R,
-    files: &ManyFiles<'_>,
+    files: &PathArgs<'_>,
     each: A,
     held: Vec<u8>,
     format: Format,
     terminal: Option<Stderr>,
-) -> Result<Ending, Ending>
+) -> Result<ExitLine, ExitLine>
 where
     R::File: FileExt,
-    ensures { IfErr result (λ ending. LacksMemory ending.0 ending.1.now) }
+    ensures { IfErr result (λ ending. EndsWithoutMemory ending.0 ending.1.now) }
 {
-    let Ok(mut walk) = FolderWalk::new(rt.alloc()) else {
+    let Ok(mut walk) = DirWalk::new(rt.alloc()) else {
         return Err(OUT_OF_MEMORY);
     };
     let Ok(mut entries) = vec![in rt.alloc(); 0u8; LIST_BYTES] else {
@@ -125,8 +125,8 @@ where
         return Err(OUT_OF_MEMORY);
     };
     let output = LineSink::new(WriteSink::new(io::writer(rt)), kept);
-    let mut many = Many::new(
-        Out::new(HoldingSink::new(output, held)),
+    let mut many = FileRun::new(
+        Out::new(DeferredSink::new(output, held)),
         each,
         format,
         terminal,
@@ -147,10 +147,10 @@ fn kept_bytes<R: Files>(rt: &R) -> usize
 }
 
 /// Writes what is left of the output, and answers how the program ends.
-fn end_many<W: Sink + Drop, A: EachFile + Drop>(
+fn end_many<W: Sink + Drop, A: FileVisitor + Drop>(
     ended: Result<u8, Ended>,
-    many: Many<LineSink<W>, Stderr, A>,
-) -> Ending {
+    many: FileRun<LineSink<W>, Stderr, A>,
+) -> ExitLine {
     let ended = match ended {
         Ok(status) => Ended::Status(status),
         Err(ended) => ended,
@@ -164,11 +164,11 @@ fn end_many<W: Sink + Drop, A: EachFile + Drop>(
 ///
 /// # Errors
 /// How the run ended where the list or the output failed.
-fn visit_all<R: Files + Input, W: Sink, A: EachFile + Drop>(
+fn visit_all<R: Files + Input, W: Sink, A: FileVisitor + Drop>(
     rt: &R,
-    files: &ManyFiles<'_>,
-    many: &mut Many<W, Stderr, A>,
-    walk: &mut FolderWalk,
+    files: &PathArgs<'_>,
+    many: &mut FileRun<W, Stderr, A>,
+    walk: &mut DirWalk,
     entries: &mut [u8],
 ) -> Result<u8, Ended>
 where
@@ -191,10 +191,10 @@ where
 ///
 /// # Errors
 /// The output failed.
-fn visit_paths<R: Files, W: Sink, A: EachFile + Drop>(
+fn visit_paths<R: Files, W: Sink, A: FileVisitor + Drop>(
     rt: &R,
-    many: &mut Many<W, Stderr, A>,
-    walk: &mut FolderWalk,
+    many: &mut FileRun<W, Stderr, A>,
+    walk: &mut DirWalk,
     paths: &[&str],
 ) -> Result<(), OutFault>
 where
@@ -210,10 +210,10 @@ where
 ///
 /// # Errors
 /// How the run ended where the list or the output failed.
-fn visit_listed<R: Files + Input, W: Sink, A: EachFile + Drop>(
+fn visit_listed<R: Files + Input, W: Sink, A: FileVisitor + Drop>(
     rt: &R,
-    many: &mut Many<W, Stderr, A>,
-    walk: &mut FolderWalk,
+    many: &mut FileRun<W, Stderr, A>,
+    walk: &mut DirWalk,
     list: &str,
     entries: &mut [u8],
 ) -> Result<(), Ended>

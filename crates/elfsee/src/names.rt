@@ -2,14 +2,14 @@
 ghost use Rattle.std.specs.Prelude.{◌≡◌, ◌++◌, [], IfErr, IfOk};
 ghost use Rattle.std.specs.List.Sorted.{IsPermutation};
 ghost use Rattle.elf_name_lists.specs.NameLists.{listed_names};
-ghost use Rattle.elf_wanted.specs.Names.{NeverFall, texts_of};
-ghost use Rattle.elfsee.specs.Naming.{EndsNames, LacksNames, ShowsRowsOf};
+ghost use Rattle.elf_wanted.specs.Names.{NeverDescend, texts_of};
+ghost use Rattle.elfsee.specs.Naming.{EndsNames, EndsWithoutNames, ShowsRowsOf};
 
 use crate::answer_request;
-use elf_endings::{Ending, OUT_OF_MEMORY};
-use elf_listing_requests::ListingAsked;
-use elf_name_lists::{NamesFault, gather_names, read_names, style_by_names};
-use elf_requests::{Choosing, NamesAsked, Request, Task};
+use elf_endings::{ExitLine, OUT_OF_MEMORY};
+use elf_listing_requests::ListingRequest;
+use elf_name_lists::{NamesFault, gather_names, read_names, style_with_names};
+use elf_requests::{Choosing, NameArgs, Request, Task};
 use std::alloc::Global;
 use std::fs;
 use std::io::{ErrorKind, Stderr};
@@ -26,7 +26,7 @@ pub fn show_chosen<R: Files + Print + AllocGlobal>(
     rt: &R,
     asked: &Choosing<'_>,
     errors: Stderr,
-) -> Result<Ending, Ending>
+) -> Result<ExitLine, ExitLine>
 where
     R::File: FileExt,
 {
@@ -44,9 +44,9 @@ where
 ///
 /// # Errors
 /// The list can't be read, is too large, or there is no memory for it.
-pub fn read_list<R: Files>(rt: &R, asked: &NamesAsked<'_>, text: &mut Vec<u8>) -> Result<(), Ending>
+pub fn read_list<R: Files>(rt: &R, asked: &NameArgs<'_>, text: &mut Vec<u8>) -> Result<(), ExitLine>
     requires { text.old.items ≡ [] }
-    ensures { IfErr result (λ ending. LacksNames ending.0 ending.1.now) }
+    ensures { IfErr result (λ ending. EndsWithoutNames ending.0 ending.1.now) }
 {
     let Some(path) = asked.list else {
         return Ok(());
@@ -69,14 +69,14 @@ pub fn read_list<R: Files>(rt: &R, asked: &NamesAsked<'_>, text: &mut Vec<u8>) -
 /// A line of the list can't be looked for, or there is no memory for the names.
 pub fn sorted_names<'a>(
     alloc: Global,
-    asked: &NamesAsked<'a>,
+    asked: &NameArgs<'a>,
     text: &'a [u8],
-) -> Result<Vec<&'a [u8]>, Ending>
+) -> Result<Vec<&'a [u8]>, ExitLine>
     ensures names { IfOk result (λ names.
         IsPermutation (texts_of asked.now.names.items ++ listed_names text.now)
         (texts_of names.items)) }
-    ensures sorted { IfOk result (λ names. NeverFall names.items) }
-    ensures refused { IfErr result (λ ending. LacksNames ending.0 ending.1.now) }
+    ensures sorted { IfOk result (λ names. NeverDescend names.items) }
+    ensures refused { IfErr result (λ ending. EndsWithoutNames ending.0 ending.1.now) }
 {
     match gather_names(alloc, &asked.names, text, asked.versions) {
         Ok(names) => Ok(names),
@@ -86,8 +86,8 @@ pub fn sorted_names<'a>(
 
 /// What is asked for of a file: those rows of a listing that have one of these names, which are in the
 /// rising order of their bytes.
-fn request_by_names<'a>(listing: &ListingAsked<'a>, names: &'a [&'a [u8]]) -> Request<'a>
-    requires { NeverFall names.now }
+fn request_by_names<'a>(listing: &ListingRequest<'a>, names: &'a [&'a [u8]]) -> Request<'a>
+    requires { NeverDescend names.now }
     ensures file { result.file ≡ listing.now.file }
     ensures limits { result.limits ≡ listing.now.limits }
     ensures task { ShowsRowsOf (texts_of names.now) listing.now.parts
@@ -98,13 +98,13 @@ fn request_by_names<'a>(listing: &ListingAsked<'a>, names: &'a [&'a [u8]]) -> Re
         limits: listing.limits,
         task: Task::Show {
             parts: listing.parts,
-            style: style_by_names(listing.style, names),
+            style: style_with_names(listing.style, names),
         },
     }
 }
 
 /// How the program ends where there are no names.
-fn lacking(fault: NamesFault) -> Ending
+fn lacking(fault: NamesFault) -> ExitLine
     ensures { EndsNames fault result.0 result.1.now }
 {
     match fault {

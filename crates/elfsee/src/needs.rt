@@ -1,14 +1,14 @@
 //! What a program needs.
 
 use elf_endings::{
-    CANNOT_OPEN, Ended, Ending, OUT_OF_MEMORY, OUTPUT_BYTES, READ_FAULT, end_run, open,
+    CANNOT_OPEN, Ended, ExitLine, OUT_OF_MEMORY, OUTPUT_BYTES, READ_FAULT, end_run, open,
 };
-use elf_headers::{HeaderRoom, HeaderStore};
+use elf_headers::{HeaderBuffer, HeaderStore};
 use elf_needs::{
-    MOST_OBJECTS, NeedsFault, NeedsRoom, NeedsSettings, ObjectWalk, OpenFiles, OpenObjects,
-    SearchedFolders,
+    DependencyWalk, MOST_OBJECTS, NeedsBuffers, NeedsFault, NeedsOptions, OpenFiles, OpenObjects,
+    SearchDirs,
 };
-use elf_requests::NeedsAsked;
+use elf_requests::NeedsRequest;
 use elf_source::{Out, OutFault, WriteSink, opened_path};
 use std::io::{self, BufWriter, ErrorKind, Write};
 use std::os::unix::fs::FileExt;
@@ -19,17 +19,17 @@ use std::rt::Files;
 /// # Errors
 /// There is no memory, or the program can't be opened.
 #[inline(never)]
-pub fn tell_needs<R: Files + Print + AllocGlobal>(
+pub fn report_needs<R: Files + Print + AllocGlobal>(
     rt: &R,
-    asked: &NeedsAsked<'_>,
-) -> Result<Ending, Ending>
+    asked: &NeedsRequest<'_>,
+) -> Result<ExitLine, ExitLine>
 where
     R::File: FileExt,
 {
-    let Ok(mut headers) = HeaderRoom::new(rt.alloc(), asked.limits.headers) else {
+    let Ok(mut headers) = HeaderBuffer::new(rt.alloc(), asked.limits.headers) else {
         return Err(OUT_OF_MEMORY);
     };
-    let Ok(room) = NeedsRoom::new(rt.alloc()) else {
+    let Ok(room) = NeedsBuffers::new(rt.alloc()) else {
         return Err(OUT_OF_MEMORY);
     };
     let most = if asked.symbols { MOST_OBJECTS } else { 0 };
@@ -49,11 +49,11 @@ where
 /// There is no memory, or the program can't be opened.
 fn needs_into<R: Files + AllocGlobal, W: Write + Drop>(
     rt: &R,
-    asked: &NeedsAsked<'_>,
+    asked: &NeedsRequest<'_>,
     store: HeaderStore<'_>,
-    rooms: (NeedsRoom, OpenFiles<R::File>),
+    rooms: (NeedsBuffers, OpenFiles<R::File>),
     output: BufWriter<W>,
-) -> Result<Ending, Ending>
+) -> Result<ExitLine, ExitLine>
 where
     R::File: FileExt,
 {
@@ -69,7 +69,7 @@ where
         Err(ending) => return Err(ending),
     };
     let out = Out::new(WriteSink::new(output));
-    let mut walk = ObjectWalk::new(&settings(asked), store, room, out);
+    let mut walk = DependencyWalk::new(&settings(asked), store, room, out);
     let listed = walk.list(
         rt,
         source,
@@ -87,9 +87,9 @@ where
 }
 
 /// What a walk goes by.
-fn settings<'a>(asked: &NeedsAsked<'a>) -> NeedsSettings<'a> {
-    NeedsSettings {
-        folders: SearchedFolders {
+fn settings<'a>(asked: &NeedsRequest<'a>) -> NeedsOptions<'a> {
+    NeedsOptions {
+        folders: SearchDirs {
             library: asked.library_path.as_bytes(),
             default: asked.default.as_bytes(),
             root: asked.root.as_bytes(),

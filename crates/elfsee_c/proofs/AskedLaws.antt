@@ -4,7 +4,7 @@ use Rattle.std.specs.Prelude.{IfSome}
 use Rattle.elf_model.specs.Budget.{IsBudgeted}
 use Rattle.elf_model.specs.Cost.{listing_cost}
 use Rattle.elf_model.specs.Style.{Style}
-use Rattle.elf_calls.specs.Asked.{AsksListing, GivesListing, LentTexts, caller_style, parts_in, style_in}
+use Rattle.elf_calls.specs.Asked.{AsksListing, GivesListing, BorrowedTexts, caller_style, parts_in, style_in}
 use Rattle.elf_calls.specs.Limits.{AreCaps, budget_of, headers_of}
 use Rattle.elf_calls.specs.Shown.{FillsMemory, HasStyledListing, ShowsInMemory}
 use Rattle.elf_calls.specs.Told.{IsStatus}
@@ -14,7 +14,7 @@ use Rattle.elf_calls.specs.declared.limits.CallerLimits.{CallerLimits}
 use Rattle.elf_calls.specs.declared.told.Told.{Told}
 use Rattle.elf_calls.specs.declared.told.Told.TheVariants.{Done, Refused, Full, BadCall}
 
-module _ (file : List ℕ) (limits : CallerLimits) (room : ℕ) (asked : List ℕ) (names : Option LentTexts) (listing : CallerListing) (gives : GivesListing asked names (Some listing)) where
+module _ (file : List ℕ) (limits : CallerLimits) (room : ℕ) (asked : List ℕ) (names : Option BorrowedTexts) (listing : CallerListing) (gives : GivesListing asked names (Some listing)) where
   -- what fills the memory
   fills : (out : List ℕ) (written : ℕ) (told : Told)
       → FillsMemory (IsBudgeted (budget_of limits) file (headers_of limits room) (caller_style listing limits.name) listing.parts.0) out written told

@@ -5,7 +5,7 @@ use Rattle.elf_model.specs.ApplyCost.{apply_cost_by_order}
 use Rattle.elf_model.specs.Placing.{Layout}
 use Rattle.elf_explain.specs.Explained.{explain_bytes}
 use Rattle.elf_calls.specs.Applied.{AppliesFor}
-use Rattle.elf_calls.specs.LentLayouts.{ExplainsTold, MayLendLayout, PlacesInMemory, lent_layout}
+use Rattle.elf_calls.specs.LentLayouts.{ExplainsTold, MayBorrowLayout, PlacesInMemory, lent_layout}
 use Rattle.elf_calls.specs.Limits.{AreInRange, budget_of, headers_of}
 use Rattle.elf_memory_rows.specs.declared.end.End.{End}
 use Rattle.elf_calls.specs.declared.lent_layout.CallerLayout.{CallerLayout}
@@ -16,7 +16,7 @@ use Rattle.elf_calls.specs.declared.told.Told.TheVariants.{Done, Refused, Full, 
 
 -- by each answer
 places_by : (file : List ℕ) (limits : CallerLimits) (section : ℕ) (layout : CallerLayout) (room : ℕ) (before out : List ℕ) (end : End) (missing : CallerMissing) (told : Told)
-    → AreInRange limits room → MayLendLayout layout → AppliesFor file (headers_of limits room) (budget_of limits) section (lent_layout layout) out end.written told
+    → AreInRange limits room → MayBorrowLayout layout → AppliesFor file (headers_of limits room) (budget_of limits) section (lent_layout layout) out end.written told
     → ExplainsTold file (headers_of limits room) (budget_of limits) section (lent_layout layout) (apply_cost_by_order file (headers_of limits room) section (lent_layout layout)) told missing
     → end.asked ≤ apply_cost_by_order file (headers_of limits room) section (lent_layout layout) + explain_bytes (headers_of limits room)
     → IfSome (budget_of limits) (λ bytes. end.asked ≤ bytes) → PlacesInMemory file limits section layout room before out end missing told
@@ -30,7 +30,7 @@ places_by file limits section layout room before out end missing BadCall range l
 
 -- WHAT A CALL DID, from what it was made with
 pub places : (file : List ℕ) (limits : CallerLimits) (section : ℕ) (layout : CallerLayout) (room : ℕ) (before out : List ℕ) (end : End) (missing : CallerMissing) (told : Told) (slots : ℕ) (budget : Option ℕ) (given : Layout)
-    → slots ≡ headers_of limits room → budget ≡ budget_of limits → given ≡ lent_layout layout → AreInRange limits room → MayLendLayout layout
+    → slots ≡ headers_of limits room → budget ≡ budget_of limits → given ≡ lent_layout layout → AreInRange limits room → MayBorrowLayout layout
     → AppliesFor file slots budget section given out end.written told → ExplainsTold file slots budget section given (apply_cost_by_order file slots section given) told missing
     → end.asked ≤ apply_cost_by_order file slots section given + explain_bytes slots → IfSome budget (λ bytes. end.asked ≤ bytes)
     → PlacesInMemory file limits section layout room before out end missing told

@@ -3,7 +3,7 @@ ghost use Rattle.std.specs.Prelude.{◌≡◌, ◌≤◌, length};
 ghost use Rattle.elf_calls.specs.Applied.{AppliesInMemory, IsApplied};
 
 use elf_calls::{
-    CallOutcome, CallerLimits, Job, Told, WantedSection, lay_out, limits_of, short, tell_told,
+    ApplyInput, CallOutcome, CallerLimits, Job, Told, layout_from, limits_of, report_status, short,
     write_section,
 };
 use elf_headers::HeaderStore;
@@ -32,7 +32,7 @@ pub extern "C" fn elfsee_apply(
         end.new }
 {
     let told = apply_to(file, limits, job, room, out, end);
-    tell_told(told, end)
+    report_status(told, end)
 }
 
 /// Writes the section, and answers how that ended. The counts are written to `end`.
@@ -54,12 +54,12 @@ fn apply_to(
         return Told::BadCall;
     };
     let mut layout = Layout::new();
-    if job.section > LAST_INDEX || !lay_out(job.items, &mut layout) {
+    if job.section > LAST_INDEX || !layout_from(job.items, &mut layout) {
         return Told::BadCall;
     }
     let mut store = HeaderStore::over(room, limits.headers);
     let addresses = Addresses::fixed(&layout);
-    let wanted = WantedSection {
+    let wanted = ApplyInput {
         section: job.section as u16,
         layout: &addresses,
         budget: limits.budget,

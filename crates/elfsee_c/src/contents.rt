@@ -1,6 +1,6 @@
 //! The export that tells where a section's bytes lie in a file in memory.
 ghost use Rattle.elf_memory.specs.SectionBytes.{ReadsSectionBytes};
-ghost use Rattle.elf_memory_rows.specs.Ends.{TellsRead};
+ghost use Rattle.elf_memory_rows.specs.Ends.{ReturnsRead};
 
 use elf_memory::{ByteRange, section_bytes};
 use elf_memory_rows::{End, tell};
@@ -19,7 +19,7 @@ pub extern "C" fn elfsee_section_bytes(
     range: &mut ByteRange,
     end: &mut End,
 ) -> u32
-    ensures { TellsRead (ReadsSectionBytes file.now section) result range.old range.new end.new }
+    ensures { ReturnsRead (ReadsSectionBytes file.now section) result range.old range.new end.new }
 {
     tell(section_bytes(file, section), range, end)
 }

@@ -4,7 +4,7 @@ ghost use Rattle.elf_model.specs.Find.{find_cost};
 ghost use Rattle.elf_calls.specs.Found.{CallLooks, HasLookup};
 ghost use Rattle.elf_calls.specs.Limits.{budget_of, headers_of};
 
-use elf_calls::{CallerLimits, LookupNumbers, limits_of, look_in, tell_found};
+use elf_calls::{CallerLimits, LookupFields, limits_of, look_in, report_found};
 use elf_hash::Lookup;
 use elf_headers::HeaderStore;
 use elf_memory_rows::End;
@@ -25,7 +25,7 @@ pub extern "C" fn elfsee_find(
     limits: &CallerLimits,
     room: &mut [u8],
     name: &[u8],
-    found: &mut LookupNumbers,
+    found: &mut LookupFields,
     end: &mut End,
 ) -> u32
     ensures { HasLookup file.now limits.now (length room.old) name.now result found.new end.new }
@@ -33,7 +33,7 @@ pub extern "C" fn elfsee_find(
     end.clear();
     found.clear();
     let looked = look_up(file, limits, room, name, end);
-    tell_found(&looked, found, end)
+    report_found(&looked, found, end)
 }
 
 /// Looks the name up; None for a call with a number outside its range. The count of bytes that were asked for is written to `end`.

@@ -6,7 +6,7 @@ ghost use Rattle.elf_calls.specs.Limits.{budget_of, headers_of};
 
 use elf_calls::{CallerLimits, limits_of, open_hashed};
 use elf_headers::HeaderStore;
-use elf_memory_rows::{End, RowsLeft, tell_opened};
+use elf_memory_rows::{End, RowPosition, report_opened};
 use elf_record::Refusal;
 
 /// By the program headers also where there are section headers.
@@ -25,7 +25,7 @@ pub extern "C" fn elfsee_hashed_symbols(
     limits: &CallerLimits,
     flags: u32,
     room: &mut [u8],
-    rows: &mut RowsLeft,
+    rows: &mut RowPosition,
     end: &mut End,
 ) -> u32
     ensures { HasHashed file.now limits.now (length room.old) flags
@@ -33,7 +33,7 @@ pub extern "C" fn elfsee_hashed_symbols(
 {
     let mut asked = 0;
     let opened = open_in(file, limits, flags, room, &mut asked);
-    let status = tell_opened(opened, rows, end);
+    let status = report_opened(opened, rows, end);
     end.asked = asked;
     status
 }
@@ -46,7 +46,7 @@ fn open_in(
     flags: u32,
     room: &mut [u8],
     asked: &mut u64,
-) -> Option<Result<Option<RowsLeft>, Refusal>>
+) -> Option<Result<Option<RowPosition>, Refusal>>
     requires { asked.old ≡ 0 }
     ensures opens { OpensHashed file.now limits.now (length room.old) flags result }
     ensures cost { asked.new ≤ hashed_cost (by_flags flags file.now)

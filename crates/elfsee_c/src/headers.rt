@@ -1,6 +1,6 @@
 //! The exports that read the headers of a file in memory.
 ghost use Rattle.elf_memory.specs.Headers.{ReadsHeader, ReadsSection, ReadsSegment};
-ghost use Rattle.elf_memory_rows.specs.Ends.{TellsRead};
+ghost use Rattle.elf_memory_rows.specs.Ends.{ReturnsRead};
 
 use elf_memory::{Header, Section, Segment, read_header, read_section, read_segment};
 use elf_memory_rows::{End, tell};
@@ -10,7 +10,7 @@ use elf_memory_rows::{End, tell};
 /// Answers 0 where it was read, and 1 where a check of it fails, with the first that does in `end`.
 #[unsafe(no_mangle)]
 pub extern "C" fn elfsee_header(file: &[u8], header: &mut Header, end: &mut End) -> u32
-    ensures { TellsRead (ReadsHeader file.now) result header.old header.new end.new }
+    ensures { ReturnsRead (ReadsHeader file.now) result header.old header.new end.new }
 {
     tell(read_header(file), header, end)
 }
@@ -28,7 +28,7 @@ pub extern "C" fn elfsee_section(
     section: &mut Section,
     end: &mut End,
 ) -> u32
-    ensures { TellsRead (ReadsSection file.now index) result section.old section.new end.new }
+    ensures { ReturnsRead (ReadsSection file.now index) result section.old section.new end.new }
 {
     tell(read_section(file, index), section, end)
 }
@@ -42,7 +42,7 @@ pub extern "C" fn elfsee_segment(
     segment: &mut Segment,
     end: &mut End,
 ) -> u32
-    ensures { TellsRead (ReadsSegment file.now index) result segment.old segment.new end.new }
+    ensures { ReturnsRead (ReadsSegment file.now index) result segment.old segment.new end.new }
 {
     tell(read_segment(file, index), segment, end)
 }

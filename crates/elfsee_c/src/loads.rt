@@ -1,10 +1,10 @@
 //! The exports that go by the program headers of a file in memory, with no section headers.
 ghost use Rattle.elf_memory.specs.MappedBytes.{ReadsMapped};
 ghost use Rattle.elf_memory_rows.specs.SegmentDynamic.{ReadsSegmentDynamic};
-ghost use Rattle.elf_memory_rows.specs.Ends.{TellsRead};
+ghost use Rattle.elf_memory_rows.specs.Ends.{ReturnsRead};
 
 use elf_memory::{ByteRange, find_mapped};
-use elf_memory_rows::{End, RowsLeft, segment_dynamic, tell};
+use elf_memory_rows::{End, RowPosition, segment_dynamic, tell};
 
 /// Checks the dynamic entries of a segment, and sets `rows` before the first: as many as up to and
 /// with the first DT_NULL, without a string table (gABI 5, Dynamic Section).
@@ -16,10 +16,10 @@ use elf_memory_rows::{End, RowsLeft, segment_dynamic, tell};
 pub extern "C" fn elfsee_segment_dynamic(
     file: &[u8],
     segment: u16,
-    rows: &mut RowsLeft,
+    rows: &mut RowPosition,
     end: &mut End,
 ) -> u32
-    ensures { TellsRead (ReadsSegmentDynamic file.now segment) result rows.old rows.new end.new }
+    ensures { ReturnsRead (ReadsSegmentDynamic file.now segment) result rows.old rows.new end.new }
 {
     tell(segment_dynamic(file, segment), rows, end)
 }
@@ -38,7 +38,7 @@ pub extern "C" fn elfsee_mapped(
     range: &mut ByteRange,
     end: &mut End,
 ) -> u32
-    ensures { TellsRead (ReadsMapped file.now address size) result range.old range.new end.new }
+    ensures { ReturnsRead (ReadsMapped file.now address size) result range.old range.new end.new }
 {
     tell(find_mapped(file, address, size), range, end)
 }

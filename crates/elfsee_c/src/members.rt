@@ -1,8 +1,8 @@
 //! The exports that go over the members of an archive in memory.
 ghost use Rattle.elf_archive.specs.MemberRows.{OpensMembers, StepsMember};
-ghost use Rattle.elf_memory_rows.specs.Ends.{TellsRead};
+ghost use Rattle.elf_memory_rows.specs.Ends.{ReturnsRead};
 
-use elf_archive::{MemberRow, MembersLeft, next_member, open_members};
+use elf_archive::{MemberPosition, MemberRow, next_member, open_members};
 use elf_memory_rows::{End, tell};
 
 /// Checks that a file that lies in memory is an archive, and sets `members` before its first member.
@@ -10,8 +10,8 @@ use elf_memory_rows::{End, tell};
 /// Answers 0 where it is, and 1 where it is none, with the first check that fails in `end`: `Short`,
 /// `Thin` or `NotArchive`, at offset 0.
 #[unsafe(no_mangle)]
-pub extern "C" fn elfsee_members(file: &[u8], members: &mut MembersLeft, end: &mut End) -> u32
-    ensures { TellsRead (OpensMembers file.now) result members.old members.new end.new }
+pub extern "C" fn elfsee_members(file: &[u8], members: &mut MemberPosition, end: &mut End) -> u32
+    ensures { ReturnsRead (OpensMembers file.now) result members.old members.new end.new }
 {
     tell(open_members(file), members, end)
 }
@@ -24,11 +24,11 @@ pub extern "C" fn elfsee_members(file: &[u8], members: &mut MembersLeft, end: &m
 #[unsafe(no_mangle)]
 pub extern "C" fn elfsee_next_member(
     file: &[u8],
-    members: &mut MembersLeft,
+    members: &mut MemberPosition,
     member: &mut MemberRow,
     end: &mut End,
 ) -> u32
-    ensures { TellsRead (StepsMember file.now members.old members.new)
+    ensures { ReturnsRead (StepsMember file.now members.old members.new)
         result member.old member.new end.new }
 {
     tell(next_member(file, members), member, end)

@@ -1,12 +1,12 @@
 //! The exports that tell where names in string tables lie.
 ghost use Rattle.std.specs.Prelude.{length};
 ghost use Rattle.elf_memory.specs.Names.{FindsName};
-ghost use Rattle.elf_memory_rows.specs.Ends.{TellsOpened, TellsRead};
+ghost use Rattle.elf_memory_rows.specs.Ends.{ReturnsOpened, ReturnsRead};
 ghost use Rattle.elf_calls.specs.Openings.{OpensNames};
 
 use elf_calls::{CallerLimits, limits_of};
 use elf_memory::{ByteRange, find_name};
-use elf_memory_rows::{End, names_in, tell, tell_opened};
+use elf_memory_rows::{End, names_in, report_opened, tell};
 
 /// Finds where the name at an offset in a string table lies, without its NUL. The string table is
 /// the bytes of `strings`, as far as they lie within the file (gABI 4, String Table).
@@ -22,7 +22,7 @@ pub extern "C" fn elfsee_name(
     name: &mut ByteRange,
     end: &mut End,
 ) -> u32
-    ensures { TellsRead (FindsName file.now strings.now offset) result name.old name.new end.new }
+    ensures { ReturnsRead (FindsName file.now strings.now offset) result name.old name.new end.new }
 {
     tell(find_name(file, *strings, offset), name, end)
 }
@@ -41,10 +41,10 @@ pub extern "C" fn elfsee_section_names(
     strings: &mut ByteRange,
     end: &mut End,
 ) -> u32
-    ensures { TellsOpened (OpensNames file.now limits.now (length room.now))
+    ensures { ReturnsOpened (OpensNames file.now limits.now (length room.now))
         result strings.old strings.new end.new }
 {
-    tell_opened(
+    report_opened(
         limits_of(limits, room.len()).map(|limits| names_in(file, limits.headers)),
         strings,
         end,

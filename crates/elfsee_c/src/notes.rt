@@ -1,8 +1,8 @@
 //! The exports that go over the notes of a file in memory.
 ghost use Rattle.elf_memory.specs.NoteRows.{ReadsSectionNotes, ReadsSegmentNotes, TakesNote};
-ghost use Rattle.elf_memory_rows.specs.Ends.{TellsRead};
+ghost use Rattle.elf_memory_rows.specs.Ends.{ReturnsRead};
 
-use elf_memory::{Note, NotesLeft, next_note, section_notes, segment_notes};
+use elf_memory::{Note, NotePosition, next_note, section_notes, segment_notes};
 use elf_memory_rows::{End, tell};
 
 /// Checks that the notes of a section lie within the file, and sets `notes` before the first. No
@@ -15,10 +15,10 @@ use elf_memory_rows::{End, tell};
 pub extern "C" fn elfsee_notes(
     file: &[u8],
     section: u16,
-    notes: &mut NotesLeft,
+    notes: &mut NotePosition,
     end: &mut End,
 ) -> u32
-    ensures { TellsRead (ReadsSectionNotes file.now section) result notes.old notes.new end.new }
+    ensures { ReturnsRead (ReadsSectionNotes file.now section) result notes.old notes.new end.new }
 {
     tell(section_notes(file, section), notes, end)
 }
@@ -29,10 +29,10 @@ pub extern "C" fn elfsee_notes(
 pub extern "C" fn elfsee_segment_notes(
     file: &[u8],
     segment: u16,
-    notes: &mut NotesLeft,
+    notes: &mut NotePosition,
     end: &mut End,
 ) -> u32
-    ensures { TellsRead (ReadsSegmentNotes file.now segment) result notes.old notes.new end.new }
+    ensures { ReturnsRead (ReadsSegmentNotes file.now segment) result notes.old notes.new end.new }
 {
     tell(segment_notes(file, segment), notes, end)
 }
@@ -44,11 +44,11 @@ pub extern "C" fn elfsee_segment_notes(
 #[unsafe(no_mangle)]
 pub extern "C" fn elfsee_next_note(
     file: &[u8],
-    notes: &mut NotesLeft,
+    notes: &mut NotePosition,
     note: &mut Note,
     end: &mut End,
 ) -> u32
-    ensures { TellsRead (TakesNote file.now notes.old notes.new) result note.old note.new end.new }
+    ensures { ReturnsRead (TakesNote file.now notes.old notes.new) result note.old note.new end.new }
 {
     tell(next_note(file, notes), note, end)
 }

@@ -3,8 +3,8 @@ ghost use Rattle.std.specs.Prelude.{◌≡◌, ◌≤◌, length};
 ghost use Rattle.elf_calls.specs.LentLayouts.{CountsWritten, IsPlaced, PlacesInMemory};
 
 use elf_calls::{
-    CallerLayout, CallerLimits, CallerMissing, Told, WantedSection, limits_of, place_section,
-    tell_told,
+    ApplyInput, CallerLayout, CallerLimits, CallerMissing, Told, limits_of, place_section,
+    report_status,
 };
 use elf_headers::HeaderStore;
 use elf_layout::Addresses;
@@ -36,7 +36,7 @@ pub extern "C" fn elfsee_apply_lent(
         result out.old out.new missing.new end.new }
 {
     let told = place_in(file, limits, section, layout, room, out, missing, end);
-    tell_told(told, end)
+    report_status(told, end)
 }
 
 /// Writes the section, and answers how that ended. The counts are written to `end`.
@@ -66,7 +66,7 @@ fn place_in(
     };
     let addresses = Addresses::lent(&lent);
     let mut store = HeaderStore::over(room, limits.headers);
-    let wanted = WantedSection {
+    let wanted = ApplyInput {
         section,
         layout: &addresses,
         budget: limits.budget,

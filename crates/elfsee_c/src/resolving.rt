@@ -1,12 +1,12 @@
 //! The export that looks a name up in a file in memory as a loader does.
 ghost use Rattle.std.specs.Prelude.{◌≡◌, ◌≤◌, IfSome, length};
 ghost use Rattle.elf_model.specs.LoaderFind.{loader_cost};
-ghost use Rattle.elf_memory_rows.specs.Ends.{TellsNone};
+ghost use Rattle.elf_memory_rows.specs.Ends.{ReturnsNone};
 ghost use Rattle.elf_calls.specs.Limits.{budget_of, headers_of};
 ghost use Rattle.elf_calls.specs.Queries.{IsPermitted, asks_of, wanted_by};
-ghost use Rattle.elf_calls.specs.Resolved.{IsResolved, Resolves, ResolvesIn, TellsResolved, file_of, nothing_resolved};
+ghost use Rattle.elf_calls.specs.Resolved.{IsResolved, Resolves, ResolvesIn, ReturnsResolved, file_of, nothing_resolved};
 
-use elf_calls::{CallerLimits, Query, Resolved, limits_of, resolve_in, tell_resolved};
+use elf_calls::{CallerLimits, Query, Resolved, limits_of, report_resolved, resolve_in};
 use elf_headers::HeaderStore;
 use elf_loader::SymbolLookup;
 use elf_memory_rows::End;
@@ -48,7 +48,7 @@ pub extern "C" fn elfsee_look_up(
     };
     let mut told = NameBuf::new();
     let answer = resolve(file, limits, &query, room, &mut told, end);
-    tell_resolved(&answer, told.bytes().len() as u64, resolved, end)
+    report_resolved(&answer, told.bytes().len() as u64, resolved, end)
 }
 
 /// Looks it up; None for a call with a number outside its range. `told` holds what is told of the name

@@ -1,14 +1,14 @@
 //! The exports that list a file in memory.
 ghost use Rattle.std.specs.Prelude.{◌≡◌, ◌≤◌, ℕ, IfSome, List, None, Option, Some, length};
 ghost use Rattle.elf_model.specs.Cost.{listing_cost};
-ghost use Rattle.elf_calls.specs.Asked.{AsksListing, GivesListing, LentTexts, caller_style};
+ghost use Rattle.elf_calls.specs.Asked.{AsksListing, GivesListing, BorrowedTexts, caller_style};
 ghost use Rattle.elf_calls.specs.Asked.{parts_in, style_in};
 ghost use Rattle.elf_calls.specs.Limits.{AreCaps, budget_of, headers_of};
 ghost use Rattle.elf_calls.specs.Shown.{HasAskedListing, HasListing, ShowsInMemory};
 
 use elf_calls::{
     CallOutcome, CallerLimits, CallerListing, Told, caps_of, list, listing_of, named_listing_of,
-    short, tell_told,
+    report_status, short,
 };
 use elf_headers::HeaderStore;
 use elf_memory_rows::End;
@@ -33,7 +33,7 @@ pub extern "C" fn elfsee_show(
 {
     let listing = CallerListing::standard(Parts(parts));
     let told = show_to(file, limits, listing, room, out, end);
-    tell_told(told, end)
+    report_status(told, end)
 }
 
 /// Lists a file that lies in memory into memory of the caller, as `asked` says: the bytes of a struct
@@ -59,7 +59,7 @@ pub extern "C" fn elfsee_list(
         (length room.old) asked.now None result out.old out.new end.new }
 {
     let told = list_to(file, limits, listing_of(asked), room, out, end);
-    tell_told(told, end)
+    report_status(told, end)
 }
 
 /// Lists a file as [`elfsee_list`] does, of its rows those alone whose name is one of some: `asked` has
@@ -83,7 +83,7 @@ pub extern "C" fn elfsee_list_names(
         (length room.old) asked.now (Some names.now) result out.old out.new end.new }
 {
     let told = list_to(file, limits, named_listing_of(asked, names), room, out, end);
-    tell_told(told, end)
+    report_status(told, end)
 }
 
 /// Lists the file as it is asked for, if it is, and answers how that ended. The counts are written to
@@ -97,11 +97,11 @@ fn list_to(
     end: &mut End,
 ) -> Told
     ensures shows { let room = length room.old in
-        (asked : List ℕ) (names : Option LentTexts) → GivesListing asked names listing.entry →
+        (asked : List ℕ) (names : Option BorrowedTexts) → GivesListing asked names listing.entry →
         ShowsInMemory (AreCaps limits.now room × AsksListing asked names) file.now limits.now room
         (style_in asked names limits.now.name) (parts_in asked) out.old out.new end.new result }
     ensures within { end.new.written ≤ length out.new }
-    ensures cost { (asked : List ℕ) (names : Option LentTexts) →
+    ensures cost { (asked : List ℕ) (names : Option BorrowedTexts) →
         GivesListing asked names listing.entry →
         end.new.asked ≤ listing_cost file.now (headers_of limits.now (length room.old))
         (style_in asked names limits.now.name) (parts_in asked) }

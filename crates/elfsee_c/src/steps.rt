@@ -9,12 +9,16 @@ ghost use Rattle.elf_memory_rows.specs.declared.relocations.Relocation.{Relocati
 ghost use Rattle.elf_memory_rows.specs.declared.symbol.Symbol.{Symbol as OneSymbol};
 ghost use Rattle.elf_memory_rows.specs.declared.version_words.VersionWord.{VersionWord as OneWord};
 
-use elf_memory_rows::{Dynamic, Relocation, RowsLeft, Symbol, VersionWord, next_rows};
+use elf_memory_rows::{Dynamic, Relocation, RowPosition, Symbol, VersionWord, next_rows};
 
 /// Reads the next symbols to the front of `out`, as many as there are and as it has room for, steps
 /// over them, and answers how many (gABI 4, Symbol Table).
 #[unsafe(no_mangle)]
-pub extern "C" fn elfsee_next_symbols(file: &[u8], rows: &mut RowsLeft, out: &mut [Symbol]) -> usize
+pub extern "C" fn elfsee_next_symbols(
+    file: &[u8],
+    rows: &mut RowPosition,
+    out: &mut [Symbol],
+) -> usize
     ensures steps { StepsRows (length file.now) 24 rows.old rows.new (length out.old) result }
     ensures read { (k : ℕ) (none : OneSymbol) → k < result →
         IsSymbol file.now (next_at rows.old 24 k) (slice_index_or out.new k none) }
@@ -26,7 +30,7 @@ pub extern "C" fn elfsee_next_symbols(file: &[u8], rows: &mut RowsLeft, out: &mu
 #[unsafe(no_mangle)]
 pub extern "C" fn elfsee_next_relocations(
     file: &[u8],
-    rows: &mut RowsLeft,
+    rows: &mut RowPosition,
     out: &mut [Relocation],
 ) -> usize
     ensures steps { StepsRows (length file.now) 24 rows.old rows.new (length out.old) result }
@@ -40,7 +44,7 @@ pub extern "C" fn elfsee_next_relocations(
 #[unsafe(no_mangle)]
 pub extern "C" fn elfsee_next_dynamic(
     file: &[u8],
-    rows: &mut RowsLeft,
+    rows: &mut RowPosition,
     out: &mut [Dynamic],
 ) -> usize
     ensures steps { StepsRows (length file.now) 16 rows.old rows.new (length out.old) result }
@@ -55,7 +59,7 @@ pub extern "C" fn elfsee_next_dynamic(
 #[unsafe(no_mangle)]
 pub extern "C" fn elfsee_next_version_words(
     file: &[u8],
-    rows: &mut RowsLeft,
+    rows: &mut RowPosition,
     out: &mut [VersionWord],
 ) -> usize
     ensures steps { StepsRows (length file.now) 2 rows.old rows.new (length out.old) result }

@@ -2,10 +2,10 @@
 ghost use Rattle.std.specs.Prelude.{length};
 ghost use Rattle.elf_memory_rows.specs.declared.kind.RowKind.TheVariants.{Symbols, Relocations, Dynamic, VersionWords};
 ghost use Rattle.elf_calls.specs.Openings.{OpensRows};
-ghost use Rattle.elf_memory_rows.specs.Ends.{TellsOpened};
+ghost use Rattle.elf_memory_rows.specs.Ends.{ReturnsOpened};
 
 use elf_calls::{CallerLimits, limits_of};
-use elf_memory_rows::{End, RowKind, RowsLeft, rows_in, tell_opened};
+use elf_memory_rows::{End, RowKind, RowPosition, report_opened, rows_in};
 
 /// Checks the table of symbols that a section of a file is, and sets `rows` before its first. So many
 /// headers are permitted as the limits say, and as the room has 64 bytes for; no byte of it is looked at.
@@ -21,13 +21,13 @@ pub extern "C" fn elfsee_symbols(
     limits: &CallerLimits,
     section: u16,
     room: &[u8],
-    rows: &mut RowsLeft,
+    rows: &mut RowPosition,
     end: &mut End,
 ) -> u32
-    ensures { TellsOpened (OpensRows Symbols file.now limits.now (length room.now) section)
+    ensures { ReturnsOpened (OpensRows Symbols file.now limits.now (length room.now) section)
         result rows.old rows.new end.new }
 {
-    tell_opened(
+    report_opened(
         limits_of(limits, room.len()).map(|limits| rows_in(
             file,
             limits.headers,
@@ -48,13 +48,13 @@ pub extern "C" fn elfsee_relocations(
     limits: &CallerLimits,
     section: u16,
     room: &[u8],
-    rows: &mut RowsLeft,
+    rows: &mut RowPosition,
     end: &mut End,
 ) -> u32
-    ensures { TellsOpened (OpensRows Relocations file.now limits.now (length room.now) section)
+    ensures { ReturnsOpened (OpensRows Relocations file.now limits.now (length room.now) section)
         result rows.old rows.new end.new }
 {
-    tell_opened(
+    report_opened(
         limits_of(limits, room.len()).map(|limits| rows_in(
             file,
             limits.headers,
@@ -75,13 +75,13 @@ pub extern "C" fn elfsee_dynamic(
     limits: &CallerLimits,
     section: u16,
     room: &[u8],
-    rows: &mut RowsLeft,
+    rows: &mut RowPosition,
     end: &mut End,
 ) -> u32
-    ensures { TellsOpened (OpensRows Dynamic file.now limits.now (length room.now) section)
+    ensures { ReturnsOpened (OpensRows Dynamic file.now limits.now (length room.now) section)
         result rows.old rows.new end.new }
 {
-    tell_opened(
+    report_opened(
         limits_of(limits, room.len()).map(|limits| rows_in(
             file,
             limits.headers,
@@ -102,13 +102,13 @@ pub extern "C" fn elfsee_version_words(
     limits: &CallerLimits,
     section: u16,
     room: &[u8],
-    rows: &mut RowsLeft,
+    rows: &mut RowPosition,
     end: &mut End,
 ) -> u32
-    ensures { TellsOpened (OpensRows VersionWords file.now limits.now (length room.now) section)
+    ensures { ReturnsOpened (OpensRows VersionWords file.now limits.now (length room.now) section)
         result rows.old rows.new end.new }
 {
-    tell_opened(
+    report_opened(
         limits_of(limits, room.len()).map(|limits| rows_in(
             file,
             limits.headers,

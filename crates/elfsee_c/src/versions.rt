@@ -1,11 +1,13 @@
 //! The exports that go over the version definitions and needs of a file in memory.
 ghost use Rattle.std.specs.Prelude.{length};
 ghost use Rattle.elf_memory_rows.specs.VersionRecords.{StepsRecord};
-ghost use Rattle.elf_memory_rows.specs.Ends.{TellsOpened, TellsRead};
+ghost use Rattle.elf_memory_rows.specs.Ends.{ReturnsOpened, ReturnsRead};
 ghost use Rattle.elf_calls.specs.Openings.{OpensRecords};
 
 use elf_calls::{CallerLimits, limits_of};
-use elf_memory_rows::{End, RecordRow, RecordsLeft, next_record, records_in, tell, tell_opened};
+use elf_memory_rows::{
+    End, RecordRow, VersionRecordPosition, next_record, records_in, report_opened, tell,
+};
 
 /// Checks the table of version definitions or needs that a section of a file is, and sets `records`
 /// before its first. So many headers are permitted as the limits say, and as the room has 64 bytes for;
@@ -21,13 +23,13 @@ pub extern "C" fn elfsee_version_records(
     limits: &CallerLimits,
     section: u16,
     room: &[u8],
-    records: &mut RecordsLeft,
+    records: &mut VersionRecordPosition,
     end: &mut End,
 ) -> u32
-    ensures { TellsOpened (OpensRecords file.now limits.now (length room.now) section)
+    ensures { ReturnsOpened (OpensRecords file.now limits.now (length room.now) section)
         result records.old records.new end.new }
 {
-    tell_opened(
+    report_opened(
         limits_of(limits, room.len()).map(|limits| records_in(file, limits.headers, section)),
         records,
         end,
@@ -42,11 +44,11 @@ pub extern "C" fn elfsee_version_records(
 #[unsafe(no_mangle)]
 pub extern "C" fn elfsee_next_version_record(
     file: &[u8],
-    records: &mut RecordsLeft,
+    records: &mut VersionRecordPosition,
     row: &mut RecordRow,
     end: &mut End,
 ) -> u32
-    ensures { TellsRead (StepsRecord file.now records.old records.new)
+    ensures { ReturnsRead (StepsRecord file.now records.old records.new)
         result row.old row.new end.new }
 {
     tell(next_record(file, records), row, end)

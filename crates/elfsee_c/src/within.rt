@@ -12,12 +12,12 @@ ghost use Rattle.elf_memory_rows.specs.declared.symbol.Symbol.{Symbol as OneSymb
 ghost use Rattle.elf_memory_rows.specs.declared.version_words.VersionWord.{VersionWord as OneWord};
 ghost use Rattle.elf_calls.specs.Limits.{budget_of};
 ghost use Rattle.elf_calls.specs.Openings.{OpensRows};
-ghost use Rattle.elf_calls.specs.Within.{OpensAlways, OpensEntries, StepsBudgeted, TellsEntries};
+ghost use Rattle.elf_calls.specs.Within.{OpensAlways, OpensEntries, StepsBudgeted, ReturnsEntries};
 
 use elf_calls::{CallerLimits, count_entries, entries_left, limits_of, next_within};
 use elf_memory_rows::{
-    Dynamic, End, Relocation, RowsLeft, Symbol, VersionWord, dynamic_within,
-    segment_dynamic_within, tell_opened,
+    Dynamic, End, Relocation, RowPosition, Symbol, VersionWord, dynamic_within, report_opened,
+    segment_dynamic_within,
 };
 use elf_record::Refusal;
 
@@ -35,10 +35,10 @@ pub extern "C" fn elfsee_dynamic_within(
     section: u16,
     room: &[u8],
     asked: &mut u64,
-    rows: &mut RowsLeft,
+    rows: &mut RowPosition,
     end: &mut End,
 ) -> u32
-    ensures tells { TellsEntries
+    ensures tells { ReturnsEntries
         (OpensRows DynamicRows file.now limits.now (length room.now) section)
         limits.now asked.old asked.new result rows.old rows.new end.new }
     ensures budget { IfSome (budget_of limits.now)
@@ -47,7 +47,7 @@ pub extern "C" fn elfsee_dynamic_within(
     let most = entries_left(limits, *asked);
     let opened = open_within(file, limits, section, room.len(), most);
     count_entries(&opened, most, asked);
-    tell_opened(opened, rows, end)
+    report_opened(opened, rows, end)
 }
 
 /// Checks the dynamic entries of a segment, as
@@ -59,10 +59,10 @@ pub extern "C" fn elfsee_segment_dynamic_within(
     limits: &CallerLimits,
     segment: u16,
     asked: &mut u64,
-    rows: &mut RowsLeft,
+    rows: &mut RowPosition,
     end: &mut End,
 ) -> u32
-    ensures tells { TellsEntries (OpensAlways (ReadsSegmentDynamic file.now segment))
+    ensures tells { ReturnsEntries (OpensAlways (ReadsSegmentDynamic file.now segment))
         limits.now asked.old asked.new result rows.old rows.new end.new }
     ensures budget { IfSome (budget_of limits.now)
         (λ bytes. asked.old ≤ bytes → asked.new ≤ bytes) }
@@ -70,7 +70,7 @@ pub extern "C" fn elfsee_segment_dynamic_within(
     let most = entries_left(limits, *asked);
     let opened = Some(segment_dynamic_within(file, segment, most));
     count_entries(&opened, most, asked);
-    tell_opened(opened, rows, end)
+    report_opened(opened, rows, end)
 }
 
 /// Reads the next symbols, as [`elfsee_next_symbols`](crate::steps::elfsee_next_symbols) does, and no
@@ -81,7 +81,7 @@ pub extern "C" fn elfsee_next_symbols_within(
     file: &[u8],
     limits: &CallerLimits,
     asked: &mut u64,
-    rows: &mut RowsLeft,
+    rows: &mut RowPosition,
     out: &mut [Symbol],
     end: &mut End,
 ) -> usize
@@ -101,7 +101,7 @@ pub extern "C" fn elfsee_next_relocations_within(
     file: &[u8],
     limits: &CallerLimits,
     asked: &mut u64,
-    rows: &mut RowsLeft,
+    rows: &mut RowPosition,
     out: &mut [Relocation],
     end: &mut End,
 ) -> usize
@@ -121,7 +121,7 @@ pub extern "C" fn elfsee_next_dynamic_within(
     file: &[u8],
     limits: &CallerLimits,
     asked: &mut u64,
-    rows: &mut RowsLeft,
+    rows: &mut RowPosition,
     out: &mut [Dynamic],
     end: &mut End,
 ) -> usize
@@ -144,7 +144,7 @@ pub extern "C" fn elfsee_next_version_words_within(
     file: &[u8],
     limits: &CallerLimits,
     asked: &mut u64,
-    rows: &mut RowsLeft,
+    rows: &mut RowPosition,
     out: &mut [VersionWord],
     end: &mut End,
 ) -> usize
@@ -166,7 +166,7 @@ fn open_within(
     section: u16,
     room: usize,
     most: u64,
-) -> Option<Result<Option<RowsLeft>, Refusal>>
+) -> Option<Result<Option<RowPosition>, Refusal>>
     ensures { OpensEntries (OpensRows DynamicRows file.now limits.now room section) most result }
 {
     let limits = limits_of(limits, room)?;

@@ -5,13 +5,13 @@
 ghost use Rattle.std.specs.Prelude.{◌≡◌};
 
 use elf_endings::{
-    Ending, OUT_OF_MEMORY, OUTPUT_BYTES, end_answer, exit, open, read_words, tell_refused,
+    ExitLine, OUT_OF_MEMORY, OUTPUT_BYTES, end_answer, exit, open, read_words, report_refused,
     tell_version,
 };
 use elf_fixtures::sample;
-use elf_headers::{Caps, HeaderRoom, HeaderStore};
+use elf_headers::{Caps, HeaderBuffer, HeaderStore};
 use elf_listing::show;
-use elf_listing_requests::{ListingAsked, ShowRequest, shown_asked};
+use elf_listing_requests::{ListingRequest, ShowRequest, parse_show};
 use elf_source::{Counted, MemorySource, Out, Source, WriteSink};
 use std::alloc::Global;
 use std::io::{self, BufWriter, Stderr, Write};
@@ -26,27 +26,30 @@ fn main(rt: HostRuntime) -> ExitCode {
 
 /// Reads the words, and lists what they ask for, or tells the version. What is wrong with words, and
 /// help, is written to `errors`.
-fn answer<R: Env + Files + Print + AllocGlobal>(rt: &R, errors: Stderr) -> Result<Ending, Ending>
+fn answer<R: Env + Files + Print + AllocGlobal>(
+    rt: &R,
+    errors: Stderr,
+) -> Result<ExitLine, ExitLine>
 where
     R::File: FileExt,
 {
     let words = read_words(rt)?;
-    match shown_asked(rt.alloc(), words.as_slice()) {
+    match parse_show(rt.alloc(), words.as_slice()) {
         Ok(ShowRequest::Listed(listing)) => list(rt, &listing),
         Ok(ShowRequest::Version) => tell_version(rt),
-        Err(fault) => Err(tell_refused(rt.alloc(), &fault, words.as_slice(), errors)),
+        Err(fault) => Err(report_refused(rt.alloc(), &fault, words.as_slice(), errors)),
     }
 }
 
 /// Makes what memory is needed, opens the file, and lists it.
 fn list<R: Files + Print + AllocGlobal>(
     rt: &R,
-    listing: &ListingAsked<'_>,
-) -> Result<Ending, Ending>
+    listing: &ListingRequest<'_>,
+) -> Result<ExitLine, ExitLine>
 where
     R::File: FileExt,
 {
-    let Ok(mut room) = HeaderRoom::new(rt.alloc(), listing.limits.headers) else {
+    let Ok(mut room) = HeaderBuffer::new(rt.alloc(), listing.limits.headers) else {
         return Err(OUT_OF_MEMORY);
     };
     let Ok(output) = BufWriter::with_capacity(rt.alloc(), OUTPUT_BYTES, io::writer(rt)) else {
@@ -68,11 +71,11 @@ where
 /// would hold the buffers of a listing twice, one for each kind of source.
 #[inline(never)]
 fn write_listing<S: Source + Drop, W: Write + Drop>(
-    listing: &ListingAsked<'_>,
+    listing: &ListingRequest<'_>,
     source: S,
     mut store: HeaderStore<'_>,
     output: BufWriter<W>,
-) -> Ending
+) -> ExitLine
     requires { store.slots ≡ listing.now.limits.headers }
 {
     let mut src = Counted::new(source);

@@ -4,7 +4,7 @@ use Rattle.elf_listing_requests.specs.declared.faults.RequestFault.TheVariants.{
 use Rattle.elfsee.proofs.read_request.Goals as goal
 
 pub returns-in-Err-clause-refused : goal.returns-in-Err-clause-refused
-returns-in-Err-clause-refused c = elim c.tell_refused.ensures [
+returns-in-Err-clause-refused c = elim c.report_refused.ensures [
   | inl told ↦ (c.in-Err.fault, told)
   | inr memory ↦ (Memory, memory)
 ]

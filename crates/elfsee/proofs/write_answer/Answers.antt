@@ -1,7 +1,7 @@
 -- What the run did ends the program.
 use Rattle.std.proofs.Common.{◌∙◌, ap, sym}
 use Rattle.std.specs.Io.Buffered.{writer_contents}
-use Rattle.elf_source.specs.Source.{Seen}
+use Rattle.elf_source.specs.Source.{SourceState}
 use Rattle.elfsee.proofs.write_answer.Goals as goal
 
 pub returns : goal.returns
@@ -10,8 +10,8 @@ returns g c =
     record {
       old = c.new-src.result;
       new = ran.new.src;
-      same_size = ap (λ (s : Seen). s.size) c.new-src.ensures.seen;
-      same_file = ap (λ (s : Seen). s.file) c.new-src.ensures.seen;
+      same_size = ap (λ (s : SourceState). s.size) c.new-src.ensures.seen;
+      same_file = ap (λ (s : SourceState). s.file) c.new-src.ensures.seen;
       unasked = c.new-src.ensures.asked;
       before = c.new-out.result;
       after = ran.new.out;

@@ -1,7 +1,7 @@
 -- The lines are written one behind the other.
 use Rattle.std.proofs.lemmas.Result.{err_from_is_err_and}
 use Rattle.elf_source.proofs.GrowthLaws.{grows_put, grows_then}
-use Rattle.elf_source.proofs.PutsLaws.{TakesFront-more}
+use Rattle.elf_source.proofs.PutsLaws.{SinkTakesPrefix-more}
 use Rattle.elf_answers.proofs.finding.show_lookup.Goals as goal
 
 pub returns-in_err-show_symbol-in-Found-clause-grows : goal.returns-in_err-show_symbol-in-Found-clause-grows
@@ -18,4 +18,4 @@ returns-in_err-show_symbol-in-Found-clause-text g c = λ file looked answers.
     let p = err_from_is_err_and c.from_residual.result c.from_residual.ensures.1 in
     let found = rw c.in-Found.is at answers in
     let puts = rw c.from.ensures at (c.in_err-show_symbol-in-Found.ensures.puts file found.0 found.2) in
-    rw (p.1, p.2, found.1) (TakesFront-more _ _ puts.0)
+    rw (p.1, p.2, found.1) (SinkTakesPrefix-more _ _ puts.0)

@@ -1,7 +1,7 @@
 -- The lines are written one behind the other.
 use Rattle.std.proofs.lemmas.Result.{err_from_is_err_and}
 use Rattle.elf_source.proofs.GrowthLaws.{grows_put, grows_then}
-use Rattle.elf_source.proofs.PutsLaws.{TakesFront-more}
+use Rattle.elf_source.proofs.PutsLaws.{SinkTakesPrefix-more}
 use Rattle.elf_answers.proofs.TaskLaws.{front_then}
 use Rattle.elf_answers.proofs.resolving.show_resolved.Goals as goal
 
@@ -19,7 +19,7 @@ returns-in_err-show_found-in-Found-clause-text g c = λ file looked answers.
     let p = err_from_is_err_and c.from_residual.result c.from_residual.ensures.1 in
     let found = rw c.in-Found.is at answers in
     let puts = c.in_err-show_found-in-Found.ensures.puts file found.0 found.2 found.4 in
-    rw (p.1, p.2, found.1, found.3) (TakesFront-more _ _ puts.0)
+    rw (p.1, p.2, found.1, found.3) (SinkTakesPrefix-more _ _ puts.0)
 
 pub returns-in_err-show_steps-in-Found-clause-text : goal.returns-in_err-show_steps-in-Found-clause-text
 returns-in_err-show_steps-in-Found-clause-text g c = λ file looked answers.

@@ -3,13 +3,13 @@ use Rattle.std.proofs.lemmas.Result.{err_from_is_err_and}
 use Rattle.elf_model.specs.ApplyCost.{apply_cost_by_order, window_passes}
 use Rattle.elf_model.specs.Records.{e_shnum}
 use Rattle.elf_source.proofs.GrowthLaws.{grows_not}
-use Rattle.elf_source.proofs.ReadsLaws.{Reads-then}
+use Rattle.elf_source.proofs.ReadsLaws.{ReadsUpTo-then}
 use Rattle.elf_headers.specs.Load.{load_cost}
-use Rattle.elf_apply.specs.Applied.{apply_ceiling, behind_ceiling}
+use Rattle.elf_apply.specs.Applied.{apply_ceiling, after_ceiling}
 use Rattle.elf_apply.proofs.ApplySteps.{header_failed, load_failed}
 use Rattle.elf_apply.proofs.BudgetSteps.{all_says_after, all_wants_after, fault_applies, fault_wants, spends_reads, spends_then}
 use Rattle.elf_apply.proofs.CostSteps.{cost_least, load_within, order_within}
-use Rattle.elf_apply.proofs.ReadLaws.{Says-then}
+use Rattle.elf_apply.proofs.ReadLaws.{IsReadFault-then}
 use Rattle.elf_headers.proofs.LoadLaws.{load_most, load_slots, header_most}
 use Rattle.elf_apply.proofs.applying.apply_within.Goals as goal
 
@@ -44,7 +44,7 @@ returns-in_err-loaded-clause-applies g c =
     let most = header_most c.args.src.now.seen.size in
     let few = load_slots c.in_ok-header.header size slots in
     let before : c.header.new.src.asked + loads ≤ c.args.src.now.asked + (64 + loads) = omega (arith, most, c.header.ensures.reads.at_most) in
-    let later = Says-then c.args.src.now c.header.new.src c.load.new.src _ loads (64 + loads) c.in_err-loaded.field-0.0 c.header.ensures.reads before c.in_err-loaded.ensures.says in
+    let later = IsReadFault-then c.args.src.now c.header.new.src c.load.new.src _ loads (64 + loads) c.in_err-loaded.field-0.0 c.header.ensures.reads before c.in_err-loaded.ensures.says in
     record {
       says =
           rw (p.1, p.2) (fault_applies c.args.src.now c.load.new.src c.args.out.now (64 + loads) _ c.in_err-loaded.field-0.0 (omega (arith, few)) later);
@@ -64,7 +64,7 @@ returns-in_err-loaded-clause-applies g c =
           let within = order_within file slots c.args.section c.args.layout.now (64 + loads) (λ never. load_within file c.in_ok-header.header size slots c.args.section c.args.layout.now 2 read.1 sized read.0)
           (load_within file c.in_ok-header.header size slots c.args.section c.args.layout.now (window_passes file c.args.section) read.1 sized read.0) in
           omega (arith, within, before, c.load.ensures.reads.at_most);
-      reads = spends_reads _ (Reads-then c.header.ensures.reads c.load.ensures.reads) (omega (arith, before, few, c.load.ensures.reads.at_most));
+      reads = spends_reads _ (ReadsUpTo-then c.header.ensures.reads c.load.ensures.reads) (omega (arith, before, few, c.load.ensures.reads.at_most));
       grows = grows_not _;
       wrote = search rules;
     }
@@ -73,11 +73,11 @@ pub returns-clause-applies : goal.returns-clause-applies
 returns-clause-applies g c =
     let size : ℕ = c.header.new.src.seen.size in
     let slots : ℕ = c.args.store.now.slots in
-    let before = Reads-then c.header.ensures.reads c.load.ensures.reads in
+    let before = ReadsUpTo-then c.header.ensures.reads c.load.ensures.reads in
     let most = header_most c.args.src.now.seen.size in
     let few = load_slots c.in_ok-header.header size slots in
-    let bound : ℕ = behind_ceiling c.load.new.src.seen.size c.load.new.store.slots c.args.layout.now in
-    let same = ap₂ (λ long n. behind_ceiling long n c.args.layout.now) before.keeps.same_size c.load.ensures.slots in
+    let bound : ℕ = after_ceiling c.load.new.src.seen.size c.load.new.store.slots c.args.layout.now in
+    let same = ap₂ (λ long n. after_ceiling long n c.args.layout.now) before.keeps.same_size c.load.ensures.slots in
     let all : c.load.new.src.asked + bound ≤ c.args.src.now.asked + apply_ceiling c.args.src.now.seen.size slots c.args.layout.now = omega (arith, same, most, few, c.header.ensures.reads.at_most, c.load.ensures.reads.at_most) in
     record {
       says = all_says_after c.apply_loaded.result c.apply_loaded.new.src c.apply_loaded.new.out bound _ before all c.apply_loaded.ensures.says;

@@ -4,12 +4,12 @@ use Rattle.elf_model.specs.ApplyCost.{longest}
 use Rattle.elf_model.specs.Bytes.{slice}
 use Rattle.elf_model.proofs.Slices.{slice-size}
 use Rattle.elf_table.specs.Tables.{strings_in}
-use Rattle.elf_apply.proofs.NameSteps.{front_is, Reads-more}
+use Rattle.elf_apply.proofs.NameSteps.{front_is, ReadsUpTo-more}
 use Rattle.elf_apply.proofs.lookup.read_name.Goals as goal
 
 pub returns-in-Ok : goal.returns-in-Ok
 returns-in-Ok g c = record {
-  costs = record { reads = Reads-more c.args.src.now c.fill.new.src (length c.args.front.now) (longest c.args.names.now + 1) (omega (arith, c.requires.count)) c.fill.ensures.reads; says = tt };
+  costs = record { reads = ReadsUpTo-more c.args.src.now c.fill.new.src (length c.args.front.now) (longest c.args.names.now + 1) (omega (arith, c.requires.count)) c.fill.ensures.reads; says = tt };
   known = λ file h.
       let names = c.args.symbol.now.names in
       let index = c.args.symbol.now.fields.st_name in
@@ -23,7 +23,7 @@ returns-in-Ok g c = record {
 
 pub returns-in-Err : goal.returns-in-Err
 returns-in-Err g c = record {
-  costs = record { reads = Reads-more c.args.src.now c.fill.new.src (length c.args.front.now) (longest c.args.names.now + 1) (omega (arith, c.requires.count)) c.fill.ensures.reads; says = search rules };
+  costs = record { reads = ReadsUpTo-more c.args.src.now c.fill.new.src (length c.args.front.now) (longest c.args.names.now + 1) (omega (arith, c.requires.count)) c.fill.ensures.reads; says = search rules };
   known = λ file h.
       let names = c.args.symbol.now.names in
       let index = c.args.symbol.now.fields.st_name in

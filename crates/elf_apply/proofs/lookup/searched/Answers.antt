@@ -1,6 +1,6 @@
 -- A lookup that reads a name once.
 use Rattle.std.proofs.Common.{rules, refl, arith}
-use Rattle.elf_headers.proofs.LedgerLaws.{Charges-more}
+use Rattle.elf_headers.proofs.LedgerLaws.{CallReads-more}
 use Rattle.elf_model.specs.ApplyCost.{lookup_cost}
 use Rattle.elf_model.specs.Placing.{Searched}
 use Rattle.elf_table.specs.Tables.{strings_in}
@@ -36,4 +36,4 @@ returns-then-off-size g c = record {
 pub returns : goal.returns
 returns g c =
     let most = lookup_most c.args.names.now c.if-is_empty.ensures in
-    record { costs = Charges-more (lookup_cost Searched c.args.names.now) most c.read_name.ensures.costs; known = c.read_name.ensures.known }
+    record { costs = CallReads-more (lookup_cost Searched c.args.names.now) most c.read_name.ensures.costs; known = c.read_name.ensures.known }

@@ -1,6 +1,6 @@
 use Rattle.std.proofs.Common.{rules, ◌≡◌, ◌+◌, ap, ◌∙◌, arith, true}
 use Rattle.std.proofs.lemmas.Result.{err_from_is_err_and}
-use Rattle.elf_source.proofs.ReadsLaws.{Reads-none, Reads-then}
+use Rattle.elf_source.proofs.ReadsLaws.{ReadsUpTo-none, ReadsUpTo-then}
 use Rattle.elf_headers.proofs.Absent.{none-of}
 use Rattle.elf_headers.proofs.OpenLaws.{still_open}
 use Rattle.elf_apply.proofs.WalkSteps.{reads-left}
@@ -8,12 +8,12 @@ use Rattle.elf_apply.specs.Walk.{walk_left, entries_from, changes_left}
 use Rattle.elf_apply.specs.Passes.{folded, rising}
 use Rattle.elf_apply.specs.Entries.{patch_as}
 use Rattle.elf_apply.proofs.PassSteps.{folded-some, folded-none, folded-fault, checks_fault}
-use Rattle.elf_apply.proofs.ReadLaws.{Says-then}
+use Rattle.elf_apply.proofs.ReadLaws.{IsReadFault-then}
 use Rattle.elf_apply.proofs.passes.check.Goals as goal
 
 pub entries-init : goal.entries-init
 entries-init g c = record {
-  most = Reads-none _ _;
+  most = ReadsUpTo-none _ _;
   counts = c.new-entries.ensures.none c.args.target.now;
   asked = omega (arith, c.new-entries.ensures.left c.args.target.now);
   still = c.new-entries.ensures.begins _ c.args.target.now;
@@ -28,7 +28,7 @@ entries-preserved g c =
     let counted = c.in_ok-placed.ensures.went.counts in
     let counts : c.next.new.self.count + entries_from c.args.target.now c.next.new.self.next ≡ entries_from c.args.target.now 0 = omega (arith, known.counts, counted) in
     record {
-      most = reads-left _ (walk_left c.args.target.now c.next.new.self) (Reads-then known.most c.next.ensures.asks.reads) (omega (arith, known.asked, c.next.ensures.asks.account));
+      most = reads-left _ (walk_left c.args.target.now c.next.new.self) (ReadsUpTo-then known.most c.next.ensures.asks.reads) (omega (arith, known.asked, c.next.ensures.asks.account));
       counts = counts;
       asked = omega (arith, known.asked, c.next.ensures.asks.account);
       still = rw known.most.keeps.same_size at now;
@@ -45,7 +45,7 @@ returns-clause-did g c =
     let known = c.entries.invariant in
     let none = none-of _ c.in_default.not-Some in
     record {
-      costs = record { reads = reads-left _ (walk_left c.args.target.now c.next.new.self) (Reads-then known.most c.next.ensures.asks.reads) (omega (arith, known.asked, c.next.ensures.asks.account)); says = tt };
+      costs = record { reads = reads-left _ (walk_left c.args.target.now c.next.new.self) (ReadsUpTo-then known.most c.next.ensures.asks.reads) (omega (arith, known.asked, c.next.ensures.asks.account)); says = tt };
       known = λ file held.
           let finds = rw none at c.in_ok-placed.ensures.known file (known.most.keeps.same_file ∙ held) (known.reads file held) in
           folded-none rising (c.entries.rises, c.entries.low) _ _ finds (known.left file held);
@@ -59,8 +59,8 @@ returns-in_err-placed-clause-did g c =
     rw (p.1, p.2)
     (record {
       costs = record {
-        reads = reads-left _ (walk_left c.args.target.now c.next.new.self) (Reads-then known.most c.next.ensures.asks.reads) (omega (arith, known.asked, c.next.ensures.asks.account));
-        says = Says-then c.args.src.now c.entries.src c.next.new.src _ _ _ _ known.most (omega (arith, known.asked)) e.says;
+        reads = reads-left _ (walk_left c.args.target.now c.next.new.self) (ReadsUpTo-then known.most c.next.ensures.asks.reads) (omega (arith, known.asked, c.next.ensures.asks.account));
+        says = IsReadFault-then c.args.src.now c.entries.src c.next.new.src _ _ _ _ known.most (omega (arith, known.asked)) e.says;
       };
       known = λ file held.
           checks_fault _ _ (folded-fault rising (c.entries.rises, c.entries.low) file c.args.target.now c.entries.entries c.next.new.self _ _

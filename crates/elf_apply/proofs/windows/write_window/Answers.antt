@@ -1,7 +1,7 @@
 use Rattle.std.proofs.Common.{rules, ap, ◌∙◌, ◌+◌, ◌≤◌, arith, length, Err}
 use Rattle.std.proofs.lemmas.Result.{err_from_is_err_and}
 use Rattle.elf_source.proofs.GrowthLaws.{grows_not, grows_put}
-use Rattle.elf_source.proofs.ReadsLaws.{Reads-then, Reads-to}
+use Rattle.elf_source.proofs.ReadsLaws.{ReadsUpTo-then, ReadsUpTo-to}
 use Rattle.elf_headers.proofs.OpenLaws.{still_open}
 use Rattle.elf_apply.specs.Walk.{changes_all}
 use Rattle.elf_apply.proofs.ReadLaws.{not_over}
@@ -11,7 +11,7 @@ use Rattle.elf_apply.proofs.windows.write_window.Goals as goal
 pub returns-in_err-fill-clause-did : goal.returns-in_err-fill-clause-did
 returns-in_err-fill-clause-did g c = record {
   says = search (rules, stopping);
-  reads = Reads-to c.fill.ensures.reads (omega (arith, c.fill.ensures.reads.at_most));
+  reads = ReadsUpTo-to c.fill.ensures.reads (omega (arith, c.fill.ensures.reads.at_most));
   grows = grows_not _;
   wrote = search (rules, stopping);
 }
@@ -21,7 +21,7 @@ returns-in_err-patch_window-clause-did g c =
     let pass = c.patch_window.ensures.costs.reads in
     record {
       says = search (rules, stopping);
-      reads = Reads-to (Reads-then c.fill.ensures.reads pass) (omega (arith, c.fill.ensures.reads.at_most, pass.at_most));
+      reads = ReadsUpTo-to (ReadsUpTo-then c.fill.ensures.reads pass) (omega (arith, c.fill.ensures.reads.at_most, pass.at_most));
       grows = grows_not _;
       wrote = search (rules, stopping);
     }
@@ -32,7 +32,7 @@ returns-in_err-put-clause-did g c =
     let pass = c.patch_window.ensures.costs.reads in
     record {
       says = rw (p.1, p.2) c.in_err-put.ensures.puts.1;
-      reads = Reads-to (Reads-then c.fill.ensures.reads pass) (omega (arith, c.fill.ensures.reads.at_most, pass.at_most));
+      reads = ReadsUpTo-to (ReadsUpTo-then c.fill.ensures.reads pass) (omega (arith, c.fill.ensures.reads.at_most, pass.at_most));
       grows = grows_put _ _ c.put.ensures.puts;
       wrote = rw p.1 (omega (arith, front_written _ _ _ c.in_err-put.ensures.puts.0));
     }
@@ -42,7 +42,7 @@ returns-clause-did g c =
     let pass = c.patch_window.ensures.costs.reads in
     record {
       says = tt;
-      reads = Reads-to (Reads-then c.fill.ensures.reads pass) (omega (arith, c.fill.ensures.reads.at_most, pass.at_most));
+      reads = ReadsUpTo-to (ReadsUpTo-then c.fill.ensures.reads pass) (omega (arith, c.fill.ensures.reads.at_most, pass.at_most));
       grows = grows_put _ _ c.put.ensures.puts;
       wrote = omega (arith, c.in_ok-put.ensures.puts.0.counts);
     }

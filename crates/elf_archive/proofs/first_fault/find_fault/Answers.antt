@@ -1,7 +1,7 @@
 -- The fault is found within the limit that is set.
 use Rattle.std.proofs.Common.{rules, ◌≡◌, ℕ, false, ap, sym, ◌∙◌}
 use Rattle.elf_model.specs.ArchiveCost.{archive_ceiling}
-use Rattle.elf_source.specs.Source.{Seen}
+use Rattle.elf_source.specs.Source.{SourceState}
 use Rattle.elf_headers.specs.Permitted.{style_of}
 use Rattle.elf_archive.proofs.FaultLaws.{found_first, found_late, found_tells}
 use Rattle.elf_archive.proofs.ReportLaws.{asked_limited, asks_in_archive, leaves_limited}
@@ -9,7 +9,7 @@ use Rattle.elf_archive.proofs.first_fault.find_fault.Goals as goal
 
 pub returns-clause-finds : goal.returns-clause-finds
 returns-clause-finds g c = λ file held.
-    let now = ap (λ (seen : Seen). seen.file) c.limit.ensures.seen ∙ held in
+    let now = ap (λ (seen : SourceState). seen.file) c.limit.ensures.seen ∙ held in
     let did = c.find_in_archive-found.ensures.finds in
     let well : c.find_in_archive-found.new.out.failed ≡ false = search rules in
     let finds = rw (c.requires.small.0) at (did.shows file now) in
@@ -38,5 +38,5 @@ returns-clause-leaves g c = leaves_limited _ _ _ _ _ _ c.limit.ensures c.find_in
 
 pub returns-clause-cost : goal.returns-clause-cost
 returns-clause-cost g c = λ file held.
-    let now = ap (λ (seen : Seen). seen.file) c.limit.ensures.seen ∙ held in
+    let now = ap (λ (seen : SourceState). seen.file) c.limit.ensures.seen ∙ held in
     asked_limited _ _ _ _ _ _ c.limit.ensures (rw (c.requires.small.0) at (c.find_in_archive-found.ensures.finds.cost file now).0) c.limit-2.ensures

@@ -5,13 +5,13 @@ use Rattle.elf_model.specs.Archive.{Member, before_members, next_member}
 use Rattle.elf_model.specs.ArchiveCost.{header_cost, member_cost}
 use Rattle.elf_model.specs.Cost.{style_ceiling}
 use Rattle.elf_source.proofs.GrowthLaws.{grows_not, grows_then}
-use Rattle.elf_source.proofs.ReadsLaws.{Reads-none, Reads-then, Reads-to}
-use Rattle.elf_source.specs.Source.{Reads}
-use Rattle.elf_headers.specs.declared.stop.Stop.TheVariants.{Refused}
+use Rattle.elf_source.proofs.ReadsLaws.{ReadsUpTo-none, ReadsUpTo-then, ReadsUpTo-to}
+use Rattle.elf_source.specs.Source.{ReadsUpTo}
+use Rattle.elf_headers.specs.declared.stop.RunFault.TheVariants.{Refused}
 use Rattle.elf_headers.specs.Permitted.{style_of}
 use Rattle.elf_headers.specs.Stops.{stop_of}
 use Rattle.elf_archive.specs.Listed.{Consumes}
-use Rattle.elf_archive.specs.Members.{WalkStandsIn, member_of, step_cost}
+use Rattle.elf_archive.specs.Members.{IsMemberWalkInBounds, member_of, step_cost}
 use Rattle.elf_archive.proofs.ConsumeLaws.{Consumes-fault, Consumes-then, still_whole}
 use Rattle.elf_archive.proofs.FaultLaws.{check_begins, check_ends, check_more, fault_of_member, fault_takes, sound_member, step_cost_left, stop_of_member, walk_fault}
 use Rattle.elf_archive.proofs.ListingLaws.{cost_of_data, header_first, member_allowed, step_allowed, step_ends, step_within}
@@ -24,7 +24,7 @@ members-init g c = rw c.new-cursor.ensures (record {
   grows = grows_not _;
   bytes = 0;
   within = omega arith;
-  reads = Reads-none _ 0;
+  reads = ReadsUpTo-none _ 0;
   walks = λ file held. check_begins file c.args.store.now.slots (style_of c.args.style) c.args.parts.0 (length file) before_members _ (omega arith);
 })
 
@@ -32,7 +32,7 @@ pub advance-requires-clause-size : goal.advance-requires-clause-size
 advance-requires-clause-size g c = rw c.members.invariant.reads.keeps.same_size c.requires.size.1
 
 pub advance-requires-clause-stands : goal.advance-requires-clause-stands
-advance-requires-clause-stands g c = subst (λ (n : ℕ). WalkStandsIn n c.members.cursor) (sym c.members.invariant.reads.keeps.same_size) c.members.invariant.stands
+advance-requires-clause-stands g c = subst (λ (n : ℕ). IsMemberWalkInBounds n c.members.cursor) (sym c.members.invariant.reads.keeps.same_size) c.members.invariant.stands
 
 pub returns-in_err-member : goal.returns-in_err-member
 returns-in_err-member g c =
@@ -68,7 +68,7 @@ list_member-requires g c =
     let reads = c.in_ok-member.ensures.asks.0 in
     let passes = rw c.in-Some.is at c.in_ok-member.ensures.steps in
     record {
-      whole = still_whole _ _ _ c.requires.whole (Reads-then known.reads reads);
+      whole = still_whole _ _ _ c.requires.whole (ReadsUpTo-then known.reads reads);
       size = rw (reads.keeps.same_size, known.reads.keeps.same_size) c.requires.size.1;
       lies = rw reads.keeps.same_size passes.lies;
     }
@@ -130,13 +130,13 @@ returns-in-Some-2 g c =
     (omega (arith, passes.begins, passes.lies)) (omega (arith, passes.begins, passes.ends)) in
     let within = step_ends c.args.src.now.seen.size size headers slots style known.bytes (first + second) _ c.members.cursor known.reads.keeps.same_size known.slots known.within (omega (arith, most)) in
     let own = rw c.in-Some-2.is at c.in_ok-refusal.ensures.own in
-    let takes : (n : ℕ) → Reads c.args.src.now c.list_member.new.src n → Consumes {X = Unit {0}} c.args.src.now c.list_member.new.src c.list_member.new.out (Err (Refused c.placed.result)) n =
+    let takes : (n : ℕ) → ReadsUpTo c.args.src.now c.list_member.new.src n → Consumes {X = Unit {0}} c.args.src.now c.list_member.new.src c.list_member.new.out (Err (Refused c.placed.result)) n =
     λ n. fault_takes _ _ c.list_member.new.out n _ c.in-Some-2.refusal c.placed.result own c.placed.ensures in
-    let all = Reads-then known.reads (Reads-then c.in_ok-member.ensures.asks.0 did.ceiling.0) in
+    let all = ReadsUpTo-then known.reads (ReadsUpTo-then c.in_ok-member.ensures.asks.0 did.ceiling.0) in
     record {
       slots = did.slots ∙ known.slots;
       grows = grows_then known.grows did.grows;
-      ceiling = takes _ (Reads-to all (omega (arith, all.at_most, within)));
+      ceiling = takes _ (ReadsUpTo-to all (omega (arith, all.at_most, within)));
       cost = λ file held.
           let now = known.reads.keeps.same_file ∙ held in
           let walks = known.walks file held in
@@ -145,8 +145,8 @@ returns-in-Some-2 g c =
           let listed = (rw known.slots at (did.cost file (header.keeps.same_file ∙ now))).0 in
           let same = cost_of_data file headers style parts m in
           let most = rw tells.0 at (step_cost_left file headers style parts (length file) before_members c.members.cursor _ _ walks) in
-          let spent = Reads-then walks.reads (Reads-then header listed) in
-          takes _ (Reads-to spent (omega (arith, spent.at_most, most, same)));
+          let spent = ReadsUpTo-then walks.reads (ReadsUpTo-then header listed) in
+          takes _ (ReadsUpTo-to spent (omega (arith, spent.at_most, most, same)));
       shows = λ file held.
           let now = known.reads.keeps.same_file ∙ held in
           let tells = rw c.in-Some.is at (c.in_ok-member.ensures.tells file now) in
@@ -171,13 +171,13 @@ members-preserved g c =
     let most = member_allowed size slots style c.in-Some.member.extent.size c.members.cursor c.advance.new.self
     (omega (arith, passes.begins, passes.lies)) (omega (arith, passes.begins, passes.ends)) in
     record {
-      stands = subst (λ (n : ℕ). WalkStandsIn n c.advance.new.self) known.reads.keeps.same_size passes.stands;
+      stands = subst (λ (n : ℕ). IsMemberWalkInBounds n c.advance.new.self) known.reads.keeps.same_size passes.stands;
       slots = did.slots ∙ known.slots;
       grows = grows_then known.grows did.grows;
       bytes = known.bytes + (first + second);
       within = step_within c.args.src.now.seen.size size headers slots style known.bytes (first + second) _ c.members.cursor c.advance.new.self
           known.reads.keeps.same_size known.slots known.within most;
-      reads = Reads-then known.reads (Reads-then c.in_ok-member.ensures.asks.0 did.ceiling.0);
+      reads = ReadsUpTo-then known.reads (ReadsUpTo-then c.in_ok-member.ensures.asks.0 did.ceiling.0);
       walks = λ file held.
           let now = known.reads.keeps.same_file ∙ held in
           let tells = rw c.in-Some.is at (c.in_ok-member.ensures.tells file now) in
@@ -185,7 +185,7 @@ members-preserved g c =
           let listed = (rw known.slots at (did.cost file (header.keeps.same_file ∙ now))).0 in
           let lists = rw (known.slots, none) at (did.shows file (header.keeps.same_file ∙ now)) in
           check_more file headers style parts (length file) before_members c.members.cursor c.advance.new.self _ _ _ _ m (omega (arith, passes.begins, passes.ends))
-          (known.walks file held) tells.0 tells.1 header (Reads-to listed (omega (arith, listed.at_most, cost_of_data file headers style parts m))) (sound_member file headers style parts m lists);
+          (known.walks file held) tells.0 tells.1 header (ReadsUpTo-to listed (omega (arith, listed.at_most, cost_of_data file headers style parts m))) (sound_member file headers style parts m lists);
     }
 
 pub members-smaller : goal.members-smaller

@@ -2,10 +2,10 @@
 use Rattle.std.proofs.Common.{◌≡◌, ℕ, ◌+◌, ◌-◌, ◌≤◌, List, length, Some}
 use Rattle.elf_model.specs.Archive.{before_members}
 use Rattle.elf_model.specs.ArchiveCost.{allowance}
-use Rattle.elf_source.specs.Growth.{Grows}
-use Rattle.elf_source.specs.Source.{Reads}
+use Rattle.elf_source.specs.Growth.{OutGrows}
+use Rattle.elf_source.specs.Source.{ReadsUpTo}
 use Rattle.elf_headers.specs.Permitted.{style_of}
-use Rattle.elf_archive.specs.Members.{WalkStandsIn}
+use Rattle.elf_archive.specs.Members.{IsMemberWalkInBounds}
 use Rattle.elf_archive.proofs.FaultLaws.{CheckedSoFar}
 use Rattle.elf_archive.proofs.first_fault.find_in_members.Given as goal
 
@@ -15,12 +15,12 @@ invariant-members g l =
     let headers = l.fn.store.slots in
     let style = style_of l.fn.style in
     record {
-      stands : WalkStandsIn size l.cursor;
+      stands : IsMemberWalkInBounds size l.cursor;
       slots : l.store.slots ≡ headers;
-      grows : Grows l.fn.out l.out;
+      grows : OutGrows l.fn.out l.out;
       bytes : ℕ;
       within : bytes + allowance (size - l.cursor.at) headers style ≤ allowance (size - 8) headers style;
-      reads : Reads l.fn.src l.src bytes;
+      reads : ReadsUpTo l.fn.src l.src bytes;
       walks : (file : List ℕ) → l.fn.src.seen.file ≡ Some file
           → CheckedSoFar file headers (style_of l.fn.style) l.fn.parts.0 (length file) before_members l.cursor l.fn.src l.src;
     }

@@ -6,7 +6,7 @@ use Rattle.elf_model.specs.ArchiveCost.{allowance, members_cost}
 use Rattle.elf_model.proofs.AllowanceLaws.{allowance_within}
 use Rattle.elf_source.proofs.GrowthLaws.{grows_not}
 use Rattle.elf_headers.specs.Permitted.{style_of}
-use Rattle.elf_listing.proofs.RowLaws.{Stopped-first, Writes-as}
+use Rattle.elf_listing.proofs.RowLaws.{WroteUntilStop-first, WroteSome-as}
 use Rattle.elf_archive.proofs.ArchiveLaws.{magic_within, magic_cost, magic_alone, passed_cost, passed_items}
 use Rattle.elf_archive.proofs.ConsumeLaws.{Consumes-fault, Consumes-then}
 use Rattle.elf_archive.proofs.listing.list_archive.Goals as goal
@@ -23,7 +23,7 @@ returns-in_err-magic-clause-lists g c =
       ceiling = rw (p.1, p.2) (Consumes-fault _ _ c.args.out.now _ 8 _ (magic_within c.args.src.now.seen.size headers style) fails.asks.0 fails.asks.1);
       cost = λ file held. rw (p.1, p.2) (Consumes-fault _ _ c.args.out.now _ 8 _ (magic_cost file headers style c.args.choice.parts.0) fails.asks.0 fails.asks.1);
       shows = λ file held.
-          rw (p.1, p.2) (Stopped-first _ _ _ (magic_alone c.args.choice.alone file headers style c.args.choice.parts.0 _ (fails.read file held)), tt);
+          rw (p.1, p.2) (WroteUntilStop-first _ _ _ (magic_alone c.args.choice.alone file headers style c.args.choice.parts.0 _ (fails.read file held)), tt);
     }
 
 pub returns-clause-lists : goal.returns-clause-lists
@@ -44,5 +44,5 @@ returns-clause-lists g c =
           Consumes-then _ _ _ _ _ 8 (members_cost (length file) file headers style parts before_members) _ (omega (arith, cost)) reads (did.cost file (reads.keeps.same_file ∙ held));
       shows = λ file held.
           let shown = did.shows file (reads.keeps.same_file ∙ held) in
-          (Writes-as _ _ _ (passed_items c.args.choice.alone file headers style parts (c.in_ok-magic.ensures.read file held)) shown.0, shown.1);
+          (WroteSome-as _ _ _ (passed_items c.args.choice.alone file headers style parts (c.in_ok-magic.ensures.read file held)) shown.0, shown.1);
     }

@@ -3,9 +3,9 @@ use Rattle.std.proofs.Common.{rules, ◌≡◌, ℕ, ◌+◌, ◌||◌, List, le
 use Rattle.std.proofs.lemmas.Result.{err_from_is_err_and}
 use Rattle.elf_model.specs.Archive.{before_members}
 use Rattle.elf_source.proofs.GrowthLaws.{grows_not, grows_then}
-use Rattle.elf_source.proofs.ReadsLaws.{Reads-none, Reads-then}
+use Rattle.elf_source.proofs.ReadsLaws.{ReadsUpTo-none, ReadsUpTo-then}
 use Rattle.elf_headers.specs.Permitted.{style_of}
-use Rattle.elf_archive.specs.Members.{WalkStandsIn}
+use Rattle.elf_archive.specs.Members.{IsMemberWalkInBounds}
 use Rattle.elf_archive.proofs.ConsumeLaws.{Consumes-then, still_whole}
 use Rattle.elf_archive.proofs.ListingLaws.{step_ends, step_within}
 use Rattle.elf_archive.proofs.WalkLaws.{WalksMembers, of_members, walk_begins, walk_ends, walk_more, walk_stops}
@@ -18,7 +18,7 @@ members-init g c = rw c.new-cursor.ensures (record {
   grows = grows_not _;
   bytes = 0;
   within = omega arith;
-  reads = Reads-none _ 0;
+  reads = ReadsUpTo-none _ 0;
   walks = λ file held. walk_begins c.args.choice.alone file c.args.store.now.slots (style_of c.args.choice.style) c.args.choice.parts.0 (length file) before_members _ _ (omega arith);
 })
 
@@ -53,13 +53,13 @@ members-preserved-then-any g c =
     let stands = rw c.in-Some.is at c.in_ok-refused.ensures.stands in
     let step = rw c.in-Some.is at c.in_ok-refused.ensures.within in
     record {
-      stands = subst (λ (n : ℕ). WalkStandsIn n c.list_next.new.cursor) known.reads.keeps.same_size stands.0;
+      stands = subst (λ (n : ℕ). IsMemberWalkInBounds n c.list_next.new.cursor) known.reads.keeps.same_size stands.0;
       slots = c.in_ok-refused.ensures.slots ∙ known.slots;
       grows = grows_then known.grows c.in_ok-refused.ensures.grows;
       bytes = known.bytes + step.bytes;
       within = step_within c.args.src.now.seen.size c.members.src.seen.size c.args.store.now.slots c.members.store.slots (style_of c.args.choice.style) known.bytes step.bytes _ c.members.cursor c.list_next.new.cursor
           known.reads.keeps.same_size known.slots known.within step.within;
-      reads = Reads-then known.reads step.takes.0;
+      reads = ReadsUpTo-then known.reads step.takes.0;
       walks = λ file held.
           let now = known.reads.keeps.same_file ∙ held in
           let takes = rw known.slots at (c.in_ok-refused.ensures.cost file now) in
@@ -75,13 +75,13 @@ members-preserved g c =
     let stands = rw c.in-Some.is at c.in_ok-refused.ensures.stands in
     let step = rw c.in-Some.is at c.in_ok-refused.ensures.within in
     record {
-      stands = subst (λ (n : ℕ). WalkStandsIn n c.list_next.new.cursor) known.reads.keeps.same_size stands.0;
+      stands = subst (λ (n : ℕ). IsMemberWalkInBounds n c.list_next.new.cursor) known.reads.keeps.same_size stands.0;
       slots = c.in_ok-refused.ensures.slots ∙ known.slots;
       grows = grows_then known.grows c.in_ok-refused.ensures.grows;
       bytes = known.bytes + step.bytes;
       within = step_within c.args.src.now.seen.size c.members.src.seen.size c.args.store.now.slots c.members.store.slots (style_of c.args.choice.style) known.bytes step.bytes _ c.members.cursor c.list_next.new.cursor
           known.reads.keeps.same_size known.slots known.within step.within;
-      reads = Reads-then known.reads step.takes.0;
+      reads = ReadsUpTo-then known.reads step.takes.0;
       walks = λ file held.
           let now = known.reads.keeps.same_file ∙ held in
           let takes = rw known.slots at (c.in_ok-refused.ensures.cost file now) in
@@ -121,7 +121,7 @@ pub list_next-requires-clause-whole : goal.list_next-requires-clause-whole
 list_next-requires-clause-whole g c = still_whole _ _ _ c.requires.whole c.members.invariant.reads
 
 pub list_next-requires-clause-stands : goal.list_next-requires-clause-stands
-list_next-requires-clause-stands g c = subst (λ (n : ℕ). WalkStandsIn n c.members.cursor) (sym c.members.invariant.reads.keeps.same_size) c.members.invariant.stands
+list_next-requires-clause-stands g c = subst (λ (n : ℕ). IsMemberWalkInBounds n c.members.cursor) (sym c.members.invariant.reads.keeps.same_size) c.members.invariant.stands
 
 pub members-smaller-then-any : goal.members-smaller-then-any
 members-smaller-then-any g c =

@@ -1,11 +1,11 @@
 -- What was listed so far are the members before the cursor's, and what may still be asked for is left for those behind.
 use Rattle.std.proofs.Common.{◌≡◌, ℕ, ◌+◌, ◌-◌, ◌≤◌, List, length, Some}
 use Rattle.elf_model.specs.Archive.{before_members}
-use Rattle.elf_source.specs.Growth.{Grows}
-use Rattle.elf_source.specs.Source.{Reads}
+use Rattle.elf_source.specs.Growth.{OutGrows}
+use Rattle.elf_source.specs.Source.{ReadsUpTo}
 use Rattle.elf_headers.specs.Permitted.{style_of}
 use Rattle.elf_model.specs.ArchiveCost.{allowance}
-use Rattle.elf_archive.specs.Members.{WalkStandsIn}
+use Rattle.elf_archive.specs.Members.{IsMemberWalkInBounds}
 use Rattle.elf_archive.proofs.WalkLaws.{WalkSoFar}
 use Rattle.elf_archive.proofs.listing.list_members.Given as goal
 
@@ -15,12 +15,12 @@ invariant-members g l =
     let headers = l.fn.store.slots in
     let style = style_of l.fn.choice.style in
     record {
-      stands : WalkStandsIn size l.cursor;
+      stands : IsMemberWalkInBounds size l.cursor;
       slots : l.store.slots ≡ headers;
-      grows : Grows l.fn.out l.out;
+      grows : OutGrows l.fn.out l.out;
       bytes : ℕ;
       within : bytes + allowance (size - l.cursor.at) headers style ≤ allowance (size - 8) headers style;
-      reads : Reads l.fn.src l.src bytes;
+      reads : ReadsUpTo l.fn.src l.src bytes;
       walks : (file : List ℕ) → l.fn.src.seen.file ≡ Some file
           → WalkSoFar l.fn.choice.alone file headers style l.fn.choice.parts.0 (length file) before_members l.cursor l.fn.src l.src l.fn.out l.out l.any;
     }

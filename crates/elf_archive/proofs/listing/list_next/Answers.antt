@@ -5,10 +5,10 @@ use Rattle.elf_model.specs.Archive.{Member}
 use Rattle.elf_model.specs.ArchiveCost.{header_cost, member_cost}
 use Rattle.elf_model.specs.Cost.{style_ceiling}
 use Rattle.elf_source.proofs.GrowthLaws.{grows_not}
-use Rattle.elf_source.proofs.PutsLaws.{Takes-nothing}
+use Rattle.elf_source.proofs.PutsLaws.{SinkTakes-nothing}
 use Rattle.elf_headers.specs.Permitted.{style_of}
-use Rattle.elf_listing.proofs.RowLaws.{Stopped-first}
-use Rattle.elf_source.specs.Source.{Reads}
+use Rattle.elf_listing.proofs.RowLaws.{WroteUntilStop-first}
+use Rattle.elf_source.specs.Source.{ReadsUpTo}
 use Rattle.elf_archive.specs.Listed.{Consumes}
 use Rattle.elf_archive.specs.Members.{member_of, step_cost}
 use Rattle.elf_archive.proofs.ConsumeLaws.{Consumes-fault, Consumes-then, still_whole}
@@ -41,7 +41,7 @@ returns-in_err-member g c =
           let asks = c.in_err-member.ensures.cost file held in
           rw (p.1, p.2) (Consumes-fault _ _ c.args.out.now _ _ _ (header_first file headers style c.args.choice.parts.0 c.args.cursor.now _) asks.0 asks.1);
       text = λ file held.
-          rw (p.1, p.2) (Stopped-first _ _ _
+          rw (p.1, p.2) (WroteUntilStop-first _ _ _
           (unread_next c.args.choice.alone file headers style c.args.choice.parts.0 c.args.cursor.now c.advance.new.self c.advance.new.name _ (c.in_err-member.ensures.tells file held)));
       steps = λ file held. rw p.1 tt;
     }
@@ -66,7 +66,7 @@ returns-in_default g c =
           rw ends ((c.in_ok-member.ensures.cost file held).0, tt);
       text = λ file held.
           let ends = rw none at (c.in_ok-member.ensures.tells file held) in
-          rw ends (record { takes = Takes-nothing _; no_fault = refl });
+          rw ends (record { takes = SinkTakes-nothing _; no_fault = refl });
       steps = λ file held. rw none at (c.in_ok-member.ensures.tells file held);
     }
 
@@ -140,7 +140,7 @@ returns g c =
           let tells = rw c.in-Some.is at (c.in_ok-member.ensures.tells file held) in
           let now = c.in_ok-member.ensures.asks.0.keeps.same_file ∙ held in
           rw (tells.0) (Consumes-then {X = Unit {0}} _ _ _ c.list_with_line.new.out (Ok tt) (header_cost file c.args.choice.style.cap.bytes c.args.cursor.now) (member_cost file headers style c.args.choice.parts.0 m) _ (omega arith)
-          (c.in_ok-member.ensures.cost file held).0 (subst (λ (n : ℕ). Reads c.advance.new.src c.list_with_line.new.src n) (cost_of_data file headers style c.args.choice.parts.0 m) (did.cost file now).0, tt));
+          (c.in_ok-member.ensures.cost file held).0 (subst (λ (n : ℕ). ReadsUpTo c.advance.new.src c.list_with_line.new.src n) (cost_of_data file headers style c.args.choice.parts.0 m) (did.cost file now).0, tt));
       text = λ file held.
           let tells = rw c.in-Some.is at (c.in_ok-member.ensures.tells file held) in
           let now = c.in_ok-member.ensures.asks.0.keeps.same_file ∙ held in

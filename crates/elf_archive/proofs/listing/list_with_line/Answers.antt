@@ -4,7 +4,7 @@ use Rattle.std.proofs.lemmas.Result.{err_from_is_err_and}
 use Rattle.elf_model.specs.Archive.{Member, is_refused, member_items, member_line, member_listing, told}
 use Rattle.elf_source.proofs.GrowthLaws.{grows_front, grows_then}
 use Rattle.elf_source.proofs.LineLaws.{broken_takes}
-use Rattle.elf_source.proofs.ReadsLaws.{Reads-none}
+use Rattle.elf_source.proofs.ReadsLaws.{ReadsUpTo-none}
 use Rattle.elf_headers.specs.Permitted.{style_of}
 use Rattle.elf_archive.specs.Listed.{Consumes}
 use Rattle.elf_archive.specs.Members.{member_of}
@@ -18,8 +18,8 @@ returns-in_err-show_member g c =
     record {
       slots = refl;
       grows = grows_front puts.0;
-      ceiling = rw (p.1, p.2) (Reads-none c.args.src.now _, puts.1);
-      cost = λ file held. rw (p.1, p.2) (Reads-none c.args.src.now _, puts.1);
+      ceiling = rw (p.1, p.2) (ReadsUpTo-none c.args.src.now _, puts.1);
+      cost = λ file held. rw (p.1, p.2) (ReadsUpTo-none c.args.src.now _, puts.1);
       shows = λ file held.
           let m : Member = member_of c.args.member.now c.args.name.now in
           rw (c.if-choice.true, p.1, p.2) (line_fails_first _ _ (member_line c.args.choice.style.format m) (told c.args.choice.style.format (member_listing file c.args.store.now.slots (style_of c.args.choice.style) c.args.choice.parts.0 m)) c.in_err-show_member.field-0.0 puts.0, tt);
@@ -28,7 +28,7 @@ returns-in_err-show_member g c =
 pub returns-then-choice : goal.returns-then-choice
 returns-then-choice g c =
     let m : Member = member_of c.args.member.now c.args.name.now in
-    let did = c.list_told.ensures in
+    let did = c.list_reported.ensures in
     record {
       slots = did.slots;
       grows = grows_then (record { bytes = _; takes = c.in_ok-show_member.ensures.puts.0 }) did.grows;
@@ -36,7 +36,7 @@ returns-then-choice g c =
       cost = did.cost;
       shows = λ file held.
           let shown = did.shows file held in
-          rw c.if-choice.true (line_writes _ _ _ (member_line c.args.choice.style.format m) _ c.list_told.result c.in_ok-show_member.ensures.puts.0 shown.0, shown.1);
+          rw c.if-choice.true (line_writes _ _ _ (member_line c.args.choice.style.format m) _ c.list_reported.result c.in_ok-show_member.ensures.puts.0 shown.0, shown.1);
     }
 
 pub returns-in_err-line : goal.returns-in_err-line
@@ -46,25 +46,25 @@ returns-in_err-line g c =
     record {
       slots = refl;
       grows = record { bytes = _; takes = broken_takes _ _ c.in_err-line.field-0.0 breaks };
-      ceiling = rw (p.1, p.2) (Reads-none c.args.src.now _, breaks.fails);
-      cost = λ file held. rw (p.1, p.2) (Reads-none c.args.src.now _, breaks.fails);
+      ceiling = rw (p.1, p.2) (ReadsUpTo-none c.args.src.now _, breaks.fails);
+      cost = λ file held. rw (p.1, p.2) (ReadsUpTo-none c.args.src.now _, breaks.fails);
       shows = λ file held.
           let m : Member = member_of c.args.member.now c.args.name.now in
           let items = member_items c.args.choice.alone file c.args.store.now.slots (style_of c.args.choice.style) c.args.choice.parts.0 m in
-          rw (p.1, p.2) (broken_stops c.args.out.now c.hold_member.new.out c.in_err-line.field-0.0 items breaks, tt);
+          rw (p.1, p.2) (broken_stops c.args.out.now c.defer_member_line.new.out c.in_err-line.field-0.0 items breaks, tt);
     }
 
 pub returns : goal.returns
 returns g c =
     let m : Member = member_of c.args.member.now c.args.name.now in
-    let did = c.list_told-listed.ensures in
+    let did = c.list_reported-listed.ensures in
     let line = member_line c.args.choice.style.format m in
     let began = c.args.out.now in
-    let mid = c.hold_member.new.out in
-    let old = c.list_told-listed.new.out in
+    let mid = c.defer_member_line.new.out in
+    let old = c.list_reported-listed.new.out in
     let new = c.end_listed.new.out in
-    let takes : (n : ℕ) → Consumes c.args.src.now c.list_told-listed.new.src old c.list_told-listed.result n → Consumes c.args.src.now c.list_told-listed.new.src new c.end_listed.result n =
-    λ n. held_consumes began mid old new line c.in_ok-line.line c.in_ok-line.ensures.holds c.end_listed.ensures.line _ _ n c.list_told-listed.result c.end_listed.result did.grows c.end_listed.ensures.listed in
+    let takes : (n : ℕ) → Consumes c.args.src.now c.list_reported-listed.new.src old c.list_reported-listed.result n → Consumes c.args.src.now c.list_reported-listed.new.src new c.end_listed.result n =
+    λ n. held_consumes began mid old new line c.in_ok-line.line c.in_ok-line.ensures.holds c.end_listed.ensures.line _ _ n c.list_reported-listed.result c.end_listed.result did.grows c.end_listed.ensures.listed in
     record {
       slots = did.slots;
       grows = held_grows began mid old new line c.in_ok-line.line c.in_ok-line.ensures.holds c.end_listed.ensures.line did.grows;
@@ -76,7 +76,7 @@ returns g c =
           let items = told c.args.choice.style.format inside in
           rw c.if-choice.false (
             held_writes began mid old new line c.in_ok-line.line c.in_ok-line.ensures.holds c.end_listed.ensures.line
-                c.list_told-listed.result c.end_listed.result items (told_clean c.args.choice.style.format inside) c.end_listed.ensures.listed shown.0,
-            held_refused c.list_told-listed.result c.end_listed.result new (is_refused file c.args.store.now.slots (style_of c.args.choice.style) c.args.choice.parts.0 m) c.end_listed.ensures.listed shown.1,
+                c.list_reported-listed.result c.end_listed.result items (told_clean c.args.choice.style.format inside) c.end_listed.ensures.listed shown.0,
+            held_refused c.list_reported-listed.result c.end_listed.result new (is_refused file c.args.store.now.slots (style_of c.args.choice.style) c.args.choice.parts.0 m) c.end_listed.ensures.listed shown.1,
           );
     }

@@ -1,6 +1,6 @@
 use Rattle.std.proofs.Common.{Err, length, ◌∙◌, arith}
 use Rattle.std.proofs.lemmas.Result.{err_from_is_err_and}
-use Rattle.elf_archive.proofs.AskLaws.{Asks-then, Asks-to}
+use Rattle.elf_archive.proofs.AskLaws.{CountsRead-then, CountsRead-to}
 use Rattle.elf_archive.proofs.NameLaws.{two_reads}
 use Rattle.elf_archive.proofs.names.read_front.Goals as goal
 
@@ -14,9 +14,9 @@ pub returns-in_err-fill-clause-asks : goal.returns-in_err-fill-clause-asks
 returns-in_err-fill-clause-asks g c =
     let p = err_from_is_err_and c.from_residual.result c.from_residual.ensures.1 in
     let sizes = c.split_at_mut-first.ensures in
-    rw (p.1, p.2) (Asks-to {X = Unit {0}} _ _ (Err c.in_err-fill.field-0.0) _ (length c.args.out.now) (omega (arith, sizes.front_len, sizes.back_len)) (c.in_err-fill.ensures.reads, c.in_err-fill.ensures.says))
+    rw (p.1, p.2) (CountsRead-to {X = Unit {0}} _ _ (Err c.in_err-fill.field-0.0) _ (length c.args.out.now) (omega (arith, sizes.front_len, sizes.back_len)) (c.in_err-fill.ensures.reads, c.in_err-fill.ensures.says))
 
 pub returns-clause-asks : goal.returns-clause-asks
 returns-clause-asks g c =
     let sizes = c.split_at_mut-first.ensures in
-    Asks-then _ _ _ c.fill-3.result _ _ (length c.args.out.now) (omega (arith, sizes.front_len, sizes.back_len)) c.in_ok-fill.ensures.reads (c.fill-3.ensures.reads, c.fill-3.ensures.says)
+    CountsRead-then _ _ _ c.fill-3.result _ _ (length c.args.out.now) (omega (arith, sizes.front_len, sizes.back_len)) c.in_ok-fill.ensures.reads (c.fill-3.ensures.reads, c.fill-3.ensures.says)

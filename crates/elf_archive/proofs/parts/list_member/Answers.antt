@@ -4,11 +4,11 @@ use Rattle.std.proofs.lemmas.Result.{err_from_is_err_and}
 use Rattle.elf_model.specs.Archive.{bytes_in, is_elf, lists_members}
 use Rattle.elf_model.specs.Cost.{listing_cost, style_ceiling}
 use Rattle.elf_source.proofs.GrowthLaws.{grows_not}
-use Rattle.elf_source.proofs.PutsLaws.{Takes-nothing}
-use Rattle.elf_source.proofs.ReadsLaws.{Reads-none, Reads-to}
+use Rattle.elf_source.proofs.PutsLaws.{SinkTakes-nothing}
+use Rattle.elf_source.proofs.ReadsLaws.{ReadsUpTo-none, ReadsUpTo-to}
 use Rattle.elf_headers.specs.Permitted.{style_of}
 use Rattle.elf_archive.specs.Listed.{IsAll, member_at}
-use Rattle.elf_archive.specs.Members.{LiesIn, extent_of}
+use Rattle.elf_archive.specs.Members.{IsInBounds, extent_of}
 use Rattle.elf_archive.proofs.ConsumeLaws.{Consumes-fault, Consumes-then, lies_within, still_whole}
 use Rattle.elf_archive.proofs.ListingLaws.{member_listed, member_elf}
 use Rattle.elf_archive.proofs.NarrowLaws.{part_consumes, part_file}
@@ -19,11 +19,11 @@ pub returns-then-known-eq0-clause-lists : goal.returns-then-known-eq0-clause-lis
 returns-then-known-eq0-clause-lists g c = record {
   slots = refl;
   grows = grows_not _;
-  ceiling = (Reads-none c.args.src.now _, tt);
-  cost = λ file held. (Reads-none c.args.src.now _, tt);
+  ceiling = (ReadsUpTo-none c.args.src.now _, tt);
+  cost = λ file held. (ReadsUpTo-none c.args.src.now _, tt);
   shows = λ file held.
       let none : lists_members (style_of c.args.style) c.args.parts.0 ≡ false = search rules in
-      rw none (record { takes = Takes-nothing c.args.out.now; no_fault = refl });
+      rw none (record { takes = SinkTakes-nothing c.args.out.now; no_fault = refl });
 }
 
 pub returns-in_err-begins_elf-clause-lists : goal.returns-in_err-begins_elf-clause-lists
@@ -48,27 +48,27 @@ returns-then-not-branch-clause-lists g c =
     record {
       slots = refl;
       grows = grows_not _;
-      ceiling = (Reads-to reads (omega (arith, reads.at_most)), tt);
+      ceiling = (ReadsUpTo-to reads (omega (arith, reads.at_most)), tt);
       cost = λ file held.
           let cost = member_listed file c.args.store.now.slots (style_of c.args.style) c.args.parts.0 (member_at (extent_of c.args.extent)) asked in
-          (Reads-to reads (omega (arith, cost, reads.at_most)), tt);
+          (ReadsUpTo-to reads (omega (arith, cost, reads.at_most)), tt);
       shows = λ file held.
           let told = c.in_ok-begins_elf.ensures.read file held in
           let none : is_elf (bytes_in file (extent_of c.args.extent)) ≡ false = search rules in
-          rw (asked, none) (record { takes = Takes-nothing c.args.out.now; no_fault = refl });
+          rw (asked, none) (record { takes = SinkTakes-nothing c.args.out.now; no_fault = refl });
     }
 
 pub narrow-requires : goal.narrow-requires
 narrow-requires g c =
     let reads = c.in_ok-begins_elf.ensures.asks.0 in
-    let lies : LiesIn c.begins_elf.new.src.seen.size (extent_of c.args.extent) = rw reads.keeps.same_size c.requires.lies in
+    let lies : IsInBounds c.begins_elf.new.src.seen.size (extent_of c.args.extent) = rw reads.keeps.same_size c.requires.lies in
     lies_within _ _ _ (still_whole _ _ _ c.requires.whole reads) lies
 
 pub returns-clause-lists : goal.returns-clause-lists
 returns-clause-lists g c =
     let reads = c.in_ok-begins_elf.ensures.asks.0 in
     let whole : IsAll c.begins_elf.new.src = still_whole _ _ _ c.requires.whole reads in
-    let lies : LiesIn c.begins_elf.new.src.seen.size (extent_of c.args.extent) = rw reads.keeps.same_size c.requires.lies in
+    let lies : IsInBounds c.begins_elf.new.src.seen.size (extent_of c.args.extent) = rw reads.keeps.same_size c.requires.lies in
     let asked : lists_members (style_of c.args.style) c.args.parts.0 ≡ true = search rules in
     let same = ap (λ size. style_ceiling size c.args.store.now.slots (style_of c.args.style)) c.narrow.ensures.size_is in
     record {

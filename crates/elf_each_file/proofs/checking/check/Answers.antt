@@ -1,14 +1,14 @@
 -- The state is that of the fault that the listing answers.
 use Rattle.std.proofs.Common.{rules, arith, ◌≡◌, false, refl, Err}
 use Rattle.elf_headers.specs.Permitted.{style_of}
-use Rattle.elf_headers.specs.declared.stop.Stop.TheVariants.{Refused, Source, Out}
+use Rattle.elf_headers.specs.declared.stop.RunFault.TheVariants.{Refused, Source, Out}
 use Rattle.elf_each_file.proofs.ListingToldLaws.{fault_fails}
 use Rattle.elf_each_file.proofs.StateLaws.{asks_long, cost_long, cost_short, ended, finds, most_short, refused, refused_read, short_found}
 use Rattle.elf_each_file.proofs.checking.check.Goals as goal
 
 pub returns-then-length-lt-HEADER_BYTES : goal.returns-then-length-lt-HEADER_BYTES
 returns-then-length-lt-HEADER_BYTES g c =
-    let did = c.short_state.ensures in
+    let did = c.short_file_status.ensures in
     let caps = c.args.caps in
     record {
       slots = refl;

@@ -20,4 +20,4 @@ returns g c =
     ∙ sym (append_assoc line (take n name) rest)
     ∙ ap (λ xs. xs ++ rest) (sym c.put.ensures.items) in
     let all = take_all (length name - n) (drop n name) (omega (arith, length-drop n name)) in
-    record { puts = rw whole (rw all at c.put_spelt.ensures.puts) }
+    record { puts = rw whole (rw all at c.put_escaped.ensures.puts) }

@@ -1,6 +1,6 @@
 -- The pieces that are put are the line's front, what stands before the name, the name, and what ends it.
 use Rattle.std.proofs.lemmas.Result.{err_from_is_err_and}
-use Rattle.elf_source.proofs.PutsLaws.{TakesFront-more}
+use Rattle.elf_source.proofs.PutsLaws.{SinkTakesPrefix-more}
 use Rattle.elf_fields.specs.Pieces.{spelt, name_closing}
 use Rattle.elf_fields.proofs.NameText.{named-pieces}
 use Rattle.elf_fields.proofs.Pieces.{PutsBefore-then, TakesBefore-more, TakesBefore-then, TakesBefore-front}
@@ -12,7 +12,7 @@ returns-in_err-begin_name-clause-puts g c =
     let front = c.args.front.now in
     let stopped = c.in_err-begin_name.ensures.puts in
     let same = named-pieces front.format front.key.now front.line.items c.args.name.now c.args.is_cut in
-    rw same (TakesFront-more _ _ (TakesFront-more _ _ stopped.0), stopped.1))
+    rw same (SinkTakesPrefix-more _ _ (SinkTakesPrefix-more _ _ stopped.0), stopped.1))
 
 pub returns-in_err-put_name-clause-puts : goal.returns-in_err-put_name-clause-puts
 returns-in_err-put_name-clause-puts g c =
@@ -22,7 +22,7 @@ returns-in_err-put_name-clause-puts g c =
     let stopped = c.in_err-put_name.ensures.puts in
     let same = named-pieces front.format front.key.now front.line.items c.args.name.now c.args.is_cut in
     let before = TakesBefore-more (spelt front.format c.args.name.now) c.in_ok-begin_name.ensures.puts in
-    rw same (TakesFront-more _ _ (TakesBefore-front before stopped.0), stopped.1))
+    rw same (SinkTakesPrefix-more _ _ (TakesBefore-front before stopped.0), stopped.1))
 
 pub returns-clause-puts : goal.returns-clause-puts
 returns-clause-puts g c =

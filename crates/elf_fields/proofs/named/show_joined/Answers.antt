@@ -1,10 +1,10 @@
 -- The pieces are put one behind the other: the line with the first name, what stands between, the next name, and the tail.
 use Rattle.std.proofs.lemmas.Result.{err_from_is_err_and}
-use Rattle.elf_source.proofs.PutsLaws.{TakesFront-more}
+use Rattle.elf_source.proofs.PutsLaws.{SinkTakesPrefix-more}
 use Rattle.elf_fields.specs.Named.{shown_as}
 use Rattle.elf_fields.specs.Pieces.{spelt}
 use Rattle.elf_fields.proofs.NameText.{joined-pieces}
-use Rattle.elf_fields.proofs.Pieces.{TakesBefore-more, TakesBefore-then, TakesBefore-front, Puts-rest}
+use Rattle.elf_fields.proofs.Pieces.{TakesBefore-more, TakesBefore-then, TakesBefore-front, OutPuts-rest}
 use Rattle.elf_fields.proofs.named.show_joined.Goals as goal
 
 pub returns-in_err-put_named : goal.returns-in_err-put_named
@@ -14,7 +14,7 @@ returns-in_err-put_named g c =
     let next = c.args.next.now in
     let stopped = c.in_err-put_named.ensures.puts in
     let same = joined-pieces front.format front.key.now front.line.items (shown_as c.args.is_cut c.args.name.now) next.between.now next.name.now next.tail.now in
-    record { puts = rw same (TakesFront-more _ _ (TakesFront-more _ _ (TakesFront-more _ _ stopped.0)), stopped.1) })
+    record { puts = rw same (SinkTakesPrefix-more _ _ (SinkTakesPrefix-more _ _ (SinkTakesPrefix-more _ _ stopped.0)), stopped.1) })
 
 pub returns-in_err-put_piece : goal.returns-in_err-put_piece
 returns-in_err-put_piece g c =
@@ -25,7 +25,7 @@ returns-in_err-put_piece g c =
     let stopped = c.in_err-put_piece.ensures.puts in
     let same = joined-pieces front.format front.key.now front.line.items (shown_as c.args.is_cut c.args.name.now) next.between.now next.name.now next.tail.now in
     let before = TakesBefore-more next.between.now c.in_ok-put_named.ensures.puts in
-    record { puts = rw same (TakesFront-more _ _ (TakesFront-more _ _ (TakesBefore-front before stopped.0)), stopped.1) })
+    record { puts = rw same (SinkTakesPrefix-more _ _ (SinkTakesPrefix-more _ _ (TakesBefore-front before stopped.0)), stopped.1) })
 
 pub returns-in_err-put_name : goal.returns-in_err-put_name
 returns-in_err-put_name g c =
@@ -37,7 +37,7 @@ returns-in_err-put_name g c =
     let same = joined-pieces front.format front.key.now front.line.items (shown_as c.args.is_cut c.args.name.now) next.between.now next.name.now next.tail.now in
     let first = TakesBefore-more next.between.now c.in_ok-put_named.ensures.puts in
     let before = TakesBefore-more (spelt front.format next.name.now) (TakesBefore-then first c.in_ok-put_piece.ensures.puts) in
-    record { puts = rw same (TakesFront-more _ _ (TakesBefore-front before stopped.0), stopped.1) })
+    record { puts = rw same (SinkTakesPrefix-more _ _ (TakesBefore-front before stopped.0), stopped.1) })
 
 pub returns : goal.returns
 returns g c =
@@ -47,4 +47,4 @@ returns g c =
     let first = TakesBefore-more next.between.now c.in_ok-put_named.ensures.puts in
     let second = TakesBefore-more (spelt front.format next.name.now) (TakesBefore-then first c.in_ok-put_piece.ensures.puts) in
     let third = TakesBefore-more next.tail.now (TakesBefore-then second c.in_ok-put_name.ensures.puts) in
-    record { puts = rw same (Puts-rest _ c.show_last.result third c.show_last.ensures.puts) }
+    record { puts = rw same (OutPuts-rest _ c.show_last.result third c.show_last.ensures.puts) }

@@ -1,6 +1,6 @@
 -- The chain is gone along up to a symbol index, and its end is what is told from there on.
 use Rattle.std.proofs.Common.{◌≡◌, ◌+◌, ◌-◌, ◌*◌, ◌≤◌, None}
-use Rattle.elf_headers.specs.Ledger.{Did}
+use Rattle.elf_headers.specs.Ledger.{CallDid}
 use Rattle.elf_hash.specs.Counts.{IsGnu}
 use Rattle.elf_hash.specs.Extents.{last_in}
 use Rattle.elf_model.specs.Chains.{HashTable as Place}
@@ -11,7 +11,7 @@ invariant-chain g l = record {
   rises : l.fn.start ≤ l.index;
   within : l.index - l.fn.start ≤ l.fn.table.place.symbols - l.fn.start;
   fits : 4 * l.fn.table.nbucket + 4 * (l.index - l.fn.start) ≤ l.fn.table.place.size;
-  so_far : Did l.fn.src l.src None (4 * (l.index - l.fn.start))
+  so_far : CallDid l.fn.src l.src None (4 * (l.index - l.fn.start))
       (λ file. (at : Place) → IsGnu file at l.fn.table → last_in file at l.fn.start ≡ last_in file at l.index);
 }
 

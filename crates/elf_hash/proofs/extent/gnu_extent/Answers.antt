@@ -1,17 +1,17 @@
 -- The highest of the buckets' words, and the end of the chain that begins there.
 use Rattle.std.proofs.Common.{ℕ, sym, ap, ◌∙◌, arith}
 use Rattle.elf_model.specs.GnuHash.{gnu_first}
-use Rattle.elf_model.specs.Traits.{highest_start, unfound}
-use Rattle.elf_headers.proofs.LedgerLaws.{Charges-then, Did-as, Did-then}
+use Rattle.elf_model.specs.Traits.{max_bucket, unfound}
+use Rattle.elf_headers.proofs.LedgerLaws.{CallReads-then, CallDid-as, CallDid-then}
 use Rattle.elf_hash.proofs.ExtentLaws.{none_chained, read_of, some_chained}
 use Rattle.elf_hash.proofs.extent.gnu_extent.Goals as goal
 
 pub returns-then-start-table-clause-did : goal.returns-then-start-table-clause-did
 returns-then-start-table-clause-did g c =
     let fits = c.args.table.now.fits in
-    Did-as _ (omega (arith, fits)) c.in_ok-start.ensures.did
+    CallDid-as _ (omega (arith, fits)) c.in_ok-start.ensures.did
     (λ file told costs at is.
-    let start = told at is ∙ ap (highest_start file at.place) is.buckets in
+    let start = told at is ∙ ap (max_bucket file at.place) is.buckets in
     let none = none_chained file at c.in_ok-start.start c.args.before start (omega (arith, c.if-start-table.true, is.first)) in
     record {
       costs = costs _ (omega arith);
@@ -24,13 +24,13 @@ returns-then-start-table-clause-did g c =
 pub returns-clause-did : goal.returns-clause-did
 returns-clause-did g c =
     let fits = c.args.table.now.fits in
-    Did-as _ (omega (arith, fits)) (Did-then c.in_ok-start.ensures.did c.chain_end.ensures.did)
+    CallDid-as _ (omega (arith, fits)) (CallDid-then c.in_ok-start.ensures.did c.chain_end.ensures.did)
     (λ file told costs at is.
     let from = c.from.ensures in
-    let start = told.0 at is ∙ ap (highest_start file at.place) is.buckets in
+    let start = told.0 at is ∙ ap (max_bucket file at.place) is.buckets in
     let some = some_chained file at c.from.result c.args.before (from ∙ start) (omega (arith, c.if-start-table.false, is.first)) in
     let ends = told.1 at is in
     record {
-      costs = Charges-then _ (omega (arith, some, from)) c.in_ok-start.ensures.did.costs ends.costs;
+      costs = CallReads-then _ (omega (arith, some, from)) c.in_ok-start.ensures.did.costs ends.costs;
       tells = read_of c.chain_end.result _ _ (sym some) ends.tells;
     })

@@ -2,7 +2,7 @@
 use Rattle.std.proofs.Common.{ℕ, ◌+◌, ◌/◌, false, sym, ap, ◌∙◌, arith}
 use Rattle.std.proofs.lemmas.Result.{err_from_is_err_and}
 use Rattle.elf_model.specs.Bytes.{field}
-use Rattle.elf_headers.proofs.LedgerLaws.{Did-as, Did-none, Did-stop, Did-then}
+use Rattle.elf_headers.proofs.LedgerLaws.{CallDid-as, CallDid-none, CallDid-stop, CallDid-then}
 use Rattle.elf_hash.proofs.GnuSteps.{There, along_next, along_start, bucket_is, chain_is, bytes_next, chained_is, meets_found, meets_last, meets_not_there, meets_unread, meets_untried_here, one_most, room_for, spent_most}
 use Rattle.elf_hash.proofs.WalkLaws.{bytes_most, walks}
 use Rattle.elf_hash.proofs.gnu_walk.along_chain.Goals as goal
@@ -13,7 +13,7 @@ loop-at-init g c = record {
   rises = omega (arith, c.from-index.ensures);
   begins = λ some. absurd (omega arith);
   fits = omega arith;
-  so_far = Did-as _ (omega arith) (Did-none c.args.src.now)
+  so_far = CallDid-as _ (omega arith) (CallDid-none c.args.src.now)
       (λ file none costs at says is of holds.
       rw (c.from-index.ensures) (along_start file at c.args.hash says _ _ holds (c.bucket_at-at.ensures.value ∙ bucket_is file at _ _ is)));
 }
@@ -24,10 +24,10 @@ returns-in_err-word g c =
     let known = c.loop-at.invariant in
     let lies = c.has.ensures.lies c.loop-at-test.true in
     let room = room_for _ _ _ _ _ _ known.rises known.begins lies.0 lies.2 in
-    let most = spent_most _ _ (g.T.Trial.cost c.args.trial.now) _ false known.few room.1 in
+    let most = spent_most _ _ (g.T.Matcher.cost c.args.trial.now) _ false known.few room.1 in
     rw (p.1, p.2)
     (record {
-      did = Did-as _ (omega (arith, most)) (Did-then known.so_far c.in_err-word.ensures)
+      did = CallDid-as _ (omega (arith, most)) (CallDid-then known.so_far c.in_err-word.ensures)
           (λ file told costs at says is of holds.
           let chained = sym (c.has.ensures.is ∙ chained_is file at _ _ is) ∙ c.loop-at-test.true in
           walks _ 0 _ _ _ _ costs (meets_unread file at c.args.hash says _ _ _ _ _ _ (told.0 at says is of holds) chained _ told.1));
@@ -39,15 +39,15 @@ returns-in_err-answer g c =
     let known = c.loop-at.invariant in
     let lies = c.has.ensures.lies c.loop-at-test.true in
     let room = room_for _ _ _ _ _ _ known.rises known.begins lies.0 lies.2 in
-    let most = spent_most _ _ (g.T.Trial.cost c.args.trial.now) _ c.is_of_hash-is_wanted.result known.few room.1 in
+    let most = spent_most _ _ (g.T.Matcher.cost c.args.trial.now) _ c.hash_bits_match-is_wanted.result known.few room.1 in
     rw (p.1, p.2)
     (record {
-      did = Did-as _ (omega (arith, most)) (Did-then (Did-then known.so_far c.in_ok-word.ensures) c.in_err-answer.ensures)
+      did = CallDid-as _ (omega (arith, most)) (CallDid-then (CallDid-then known.so_far c.in_ok-word.ensures) c.in_err-answer.ensures)
           (λ file told costs at says is of holds.
           let chained = sym (c.has.ensures.is ∙ chained_is file at _ _ is) ∙ c.loop-at-test.true in
           let word = told.0.1 ∙ ap (λ (p : ℕ). field file p 4) (c.chain_at-at.ensures.value ∙ chain_is file at _ _ is) in
-          let t : There file at c.args.hash says c.loop-at.read c.loop-at.tried c.loop-at.index c.in_ok-word.word c.is_of_hash-is_wanted.result
-          = record { place = _; along = told.0.0 at says is of holds; is = chained; word_is = word; of_hash = c.is_of_hash-is_wanted.ensures } in
+          let t : There file at c.args.hash says c.loop-at.read c.loop-at.tried c.loop-at.index c.in_ok-word.word c.hash_bits_match-is_wanted.result
+          = record { place = _; along = told.0.0 at says is of holds; is = chained; word_is = word; of_hash = c.hash_bits_match-is_wanted.ensures } in
           walks _ 0 _ _ _ _ costs (meets_untried_here file at c.args.hash says _ _ _ _ _ _ _ t _ (told.1 says of)));
     })
 
@@ -56,32 +56,32 @@ returns-in-Some g c =
     let known = c.loop-at.invariant in
     let lies = c.has.ensures.lies c.loop-at-test.true in
     let room = room_for _ _ _ _ _ _ known.rises known.begins lies.0 lies.2 in
-    let most = spent_most _ _ (g.T.Trial.cost c.args.trial.now) _ c.is_of_hash-is_wanted.result known.few room.1 in
+    let most = spent_most _ _ (g.T.Matcher.cost c.args.trial.now) _ c.hash_bits_match-is_wanted.result known.few room.1 in
     record {
-      did = Did-as _ (omega (arith, most)) (Did-then (Did-then known.so_far c.in_ok-word.ensures) (rw c.in-Some.is at c.in_ok-answer.ensures))
+      did = CallDid-as _ (omega (arith, most)) (CallDid-then (CallDid-then known.so_far c.in_ok-word.ensures) (rw c.in-Some.is at c.in_ok-answer.ensures))
           (λ file told costs at says is of holds.
           let chained = sym (c.has.ensures.is ∙ chained_is file at _ _ is) ∙ c.loop-at-test.true in
           let word = told.0.1 ∙ ap (λ (p : ℕ). field file p 4) (c.chain_at-at.ensures.value ∙ chain_is file at _ _ is) in
-          let t : There file at c.args.hash says c.loop-at.read c.loop-at.tried c.loop-at.index c.in_ok-word.word c.is_of_hash-is_wanted.result
-          = record { place = _; along = told.0.0 at says is of holds; is = chained; word_is = word; of_hash = c.is_of_hash-is_wanted.ensures } in
+          let t : There file at c.args.hash says c.loop-at.read c.loop-at.tried c.loop-at.index c.in_ok-word.word c.hash_bits_match-is_wanted.result
+          = record { place = _; along = told.0.0 at says is of holds; is = chained; word_is = word; of_hash = c.hash_bits_match-is_wanted.ensures } in
           walks _ 0 _ _ _ _ costs (meets_found file at c.args.hash says _ _ _ _ _ _ _ t _ _ (told.1 says of) (ap (λ (n : ℕ). c.loop-at.tried + n) c.one_where-tried.ensures)));
     }
 
-pub returns-then-ends_chain : goal.returns-then-ends_chain
-returns-then-ends_chain g c =
+pub returns-then-is_chain_end : goal.returns-then-is_chain_end
+returns-then-is_chain_end g c =
     let known = c.loop-at.invariant in
     let lies = c.has.ensures.lies c.loop-at-test.true in
     let room = room_for _ _ _ _ _ _ known.rises known.begins lies.0 lies.2 in
-    let most = spent_most _ _ (g.T.Trial.cost c.args.trial.now) _ c.is_of_hash-is_wanted.result known.few room.1 in
+    let most = spent_most _ _ (g.T.Matcher.cost c.args.trial.now) _ c.hash_bits_match-is_wanted.result known.few room.1 in
     record {
-      did = Did-as _ (omega (arith, most)) (Did-then (Did-then known.so_far c.in_ok-word.ensures) c.in_ok-answer.ensures)
+      did = CallDid-as _ (omega (arith, most)) (CallDid-then (CallDid-then known.so_far c.in_ok-word.ensures) c.in_ok-answer.ensures)
           (λ file told costs at says is of holds.
           let chained = sym (c.has.ensures.is ∙ chained_is file at _ _ is) ∙ c.loop-at-test.true in
           let word = told.0.1 ∙ ap (λ (p : ℕ). field file p 4) (c.chain_at-at.ensures.value ∙ chain_is file at _ _ is) in
-          let t : There file at c.args.hash says c.loop-at.read c.loop-at.tried c.loop-at.index c.in_ok-word.word c.is_of_hash-is_wanted.result
-          = record { place = _; along = told.0.0 at says is of holds; is = chained; word_is = word; of_hash = c.is_of_hash-is_wanted.ensures } in
+          let t : There file at c.args.hash says c.loop-at.read c.loop-at.tried c.loop-at.index c.in_ok-word.word c.hash_bits_match-is_wanted.result
+          = record { place = _; along = told.0.0 at says is of holds; is = chained; word_is = word; of_hash = c.hash_bits_match-is_wanted.ensures } in
           walks _ 0 _ _ _ _ costs
-          (meets_last file at c.args.hash says _ _ _ _ _ _ _ t _ _ (told.1 says of) c.in_default.not-Some (sym c.ends_chain.ensures ∙ c.if-ends_chain.true) (ap (λ (n : ℕ). c.loop-at.tried + n) c.one_where-tried.ensures)));
+          (meets_last file at c.args.hash says _ _ _ _ _ _ _ t _ _ (told.1 says of) c.in_default.not-Some (sym c.is_chain_end.ensures ∙ c.if-is_chain_end.true) (ap (λ (n : ℕ). c.loop-at.tried + n) c.one_where-tried.ensures)));
     }
 
 pub loop-at-preserved : goal.loop-at-preserved
@@ -89,8 +89,8 @@ loop-at-preserved g c =
     let known = c.loop-at.invariant in
     let lies = c.has.ensures.lies c.loop-at-test.true in
     let room = room_for _ _ _ _ _ _ known.rises known.begins lies.0 lies.2 in
-    let most = spent_most _ _ (g.T.Trial.cost c.args.trial.now) _ c.is_of_hash-is_wanted.result known.few room.1 in
-    let one = one_most c.is_of_hash-is_wanted.result in
+    let most = spent_most _ _ (g.T.Matcher.cost c.args.trial.now) _ c.hash_bits_match-is_wanted.result known.few room.1 in
+    let one = one_most c.hash_bits_match-is_wanted.result in
     let few = known.few in
     let rises = known.rises in
     let count = ap (λ (n : ℕ). c.loop-at.tried + n) c.one_where-tried.ensures in
@@ -99,14 +99,14 @@ loop-at-preserved g c =
       rises = omega (arith, rises);
       begins = λ some. room.0;
       fits = room.1;
-      so_far = Did-as _ (bytes_next 0 _ _ (g.T.Trial.cost c.args.trial.now) _ c.is_of_hash-is_wanted.result count) (Did-then (Did-then known.so_far c.in_ok-word.ensures) c.in_ok-answer.ensures)
+      so_far = CallDid-as _ (bytes_next 0 _ _ (g.T.Matcher.cost c.args.trial.now) _ c.hash_bits_match-is_wanted.result count) (CallDid-then (CallDid-then known.so_far c.in_ok-word.ensures) c.in_ok-answer.ensures)
           (λ file told costs at says is of holds.
           let chained = sym (c.has.ensures.is ∙ chained_is file at _ _ is) ∙ c.loop-at-test.true in
           let word = told.0.1 ∙ ap (λ (p : ℕ). field file p 4) (c.chain_at-at.ensures.value ∙ chain_is file at _ _ is) in
-          let t : There file at c.args.hash says c.loop-at.read c.loop-at.tried c.loop-at.index c.in_ok-word.word c.is_of_hash-is_wanted.result
-          = record { place = _; along = told.0.0 at says is of holds; is = chained; word_is = word; of_hash = c.is_of_hash-is_wanted.ensures } in
-          along_next file at c.args.hash says (g.T.Trial.stands c.args.trial.now file) (g.T.Trial.cost c.args.trial.now) _ _ _ _ _ t _ _ _ (told.1 says of) c.in_default.not-Some
-          (sym c.ends_chain.ensures ∙ c.if-ends_chain.false) count (c.chain_at-at.ensures.value ∙ chain_is file at _ _ is));
+          let t : There file at c.args.hash says c.loop-at.read c.loop-at.tried c.loop-at.index c.in_ok-word.word c.hash_bits_match-is_wanted.result
+          = record { place = _; along = told.0.0 at says is of holds; is = chained; word_is = word; of_hash = c.hash_bits_match-is_wanted.ensures } in
+          along_next file at c.args.hash says (g.T.Matcher.stands c.args.trial.now file) (g.T.Matcher.cost c.args.trial.now) _ _ _ _ _ t _ _ _ (told.1 says of) c.in_default.not-Some
+          (sym c.is_chain_end.ensures ∙ c.if-is_chain_end.false) count (c.chain_at-at.ensures.value ∙ chain_is file at _ _ is));
     }
 
 pub returns : goal.returns
@@ -114,10 +114,10 @@ returns g c =
     let known = c.loop-at.invariant in
     let few = known.few in
     let fits = known.fits in
-    let most = bytes_most 0 c.loop-at.read c.loop-at.tried (c.args.table.now.place.size / 4) (c.args.table.now.place.size / 4) (g.T.Trial.cost c.args.trial.now) (omega (arith, fits)) (omega (arith, few, fits)) in
+    let most = bytes_most 0 c.loop-at.read c.loop-at.tried (c.args.table.now.place.size / 4) (c.args.table.now.place.size / 4) (g.T.Matcher.cost c.args.trial.now) (omega (arith, fits)) (omega (arith, few, fits)) in
     rw c.refused.ensures
     (record {
-      did = Did-as _ most (Did-stop _ (λ budget. cc) known.so_far)
+      did = CallDid-as _ most (CallDid-stop _ (λ budget. cc) known.so_far)
           (λ file along costs at says is of holds.
           let chained = sym (c.has.ensures.is ∙ chained_is file at _ _ is) ∙ c.loop-at-test.false in
           walks _ 0 _ _ _ _ costs (meets_not_there file at c.args.hash says _ _ _ _ _ _ (along at says is of holds) chained));

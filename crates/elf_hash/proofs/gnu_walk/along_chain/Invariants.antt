@@ -2,7 +2,7 @@
 use Rattle.std.proofs.Common.{◌≡◌, ℕ, ◌+◌, ◌-◌, ◌*◌, ◌<◌, ◌≤◌, Bool, Result, None}
 use Rattle.elf_model.specs.Chains.{HashTable as Place}
 use Rattle.elf_model.specs.declared.causes.Refusal.{Refusal}
-use Rattle.elf_headers.specs.Ledger.{Did}
+use Rattle.elf_headers.specs.Ledger.{CallDid}
 use Rattle.elf_hash.specs.Counts.{IsGnu}
 use Rattle.elf_hash.specs.Walks.{HoldsHash, walk_bytes}
 use Rattle.elf_hash.proofs.GnuSteps.{Along}
@@ -14,8 +14,8 @@ invariant-loop-at g l = record {
   rises : l.index ≡ l.start + l.read;
   begins : 0 < l.read → l.table.first ≤ l.start;
   fits : 4 * l.read ≤ l.table.place.size;
-  so_far : Did l.fn.src l.src None (walk_bytes 0 l.read l.tried (g.T.Trial.cost l.trial))
-      (λ file. (at : Place) (says : ℕ → Result Bool Refusal) → IsGnu file at l.table → g.T.Trial.is_of l.trial file says
+  so_far : CallDid l.fn.src l.src None (walk_bytes 0 l.read l.tried (g.T.Matcher.cost l.trial))
+      (λ file. (at : Place) (says : ℕ → Result Bool Refusal) → IsGnu file at l.table → g.T.Matcher.is_of l.trial file says
       → HoldsHash file at.place l.hash l.start → Along file at l.hash says l.read l.tried l.index l.at);
 }
 

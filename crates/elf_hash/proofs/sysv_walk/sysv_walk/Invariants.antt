@@ -2,7 +2,7 @@
 use Rattle.std.proofs.Common.{ℕ, ◌-◌, ◌≤◌, Bool, Result, None}
 use Rattle.elf_model.specs.Chains.{HashTable as Place}
 use Rattle.elf_model.specs.declared.causes.Refusal.{Refusal}
-use Rattle.elf_headers.specs.Ledger.{Did}
+use Rattle.elf_headers.specs.Ledger.{CallDid}
 use Rattle.elf_hash.specs.Counts.{IsSysv}
 use Rattle.elf_hash.specs.Walks.{walk_bytes}
 use Rattle.elf_hash.proofs.SysvSteps.{Along}
@@ -11,8 +11,8 @@ use Rattle.elf_hash.proofs.sysv_walk.sysv_walk.Given as goal
 abbrev pub invariant-loop-index : goal.invariant-loop-index
 invariant-loop-index g l = record {
   few : l.tried ≤ l.table.nchain;
-  so_far : Did l.fn.src l.src None (walk_bytes 4 l.tried l.tried (g.T.Trial.cost l.trial))
-      (λ file. (at : Place) (says : ℕ → Result Bool Refusal) → IsSysv file at l.table → g.T.Trial.is_of l.trial file says
+  so_far : CallDid l.fn.src l.src None (walk_bytes 4 l.tried l.tried (g.T.Matcher.cost l.trial))
+      (λ file. (at : Place) (says : ℕ → Result Bool Refusal) → IsSysv file at l.table → g.T.Matcher.is_of l.trial file says
       → Along file at l.hash says l.tried l.index l.at);
 }
 

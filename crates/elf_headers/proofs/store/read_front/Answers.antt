@@ -1,8 +1,8 @@
 -- Another page is read behind those before it.
 use Rattle.std.proofs.Common.{ℕ, ◌+◌, ap, subst, ◌∙◌, arith}
 use Rattle.elf_model.specs.Bytes.{slice}
-use Rattle.elf_source.specs.Source.{Reads}
-use Rattle.elf_source.proofs.ReadsLaws.{Reads-then}
+use Rattle.elf_source.specs.Source.{ReadsUpTo}
+use Rattle.elf_source.proofs.ReadsLaws.{ReadsUpTo-then}
 use Rattle.elf_headers.proofs.PagesRead.{page-size, page-added}
 use borrow.Rule.Slice.PartMut.{same_len_mid}
 use Rattle.elf_headers.proofs.store.read_front.Goals as goal
@@ -18,7 +18,7 @@ loop-done-preserved g c =
     record {
       within = omega (arith, few, below);
       room = omega (arith, i.room, same_len_mid l.done _ l.bytes c.fill.new.out same);
-      reads = subst (λ (n : ℕ). Reads c.args.src.now c.fill.new.src (l.done + n)) size (Reads-then i.reads c.fill.ensures.reads);
+      reads = subst (λ (n : ℕ). ReadsUpTo c.args.src.now c.fill.new.src (l.done + n)) size (ReadsUpTo-then i.reads c.fill.ensures.reads);
       read = λ file held.
           let page = c.in_ok-fill.ensures.read file (i.reads.keeps.same_file ∙ held) ∙ ap (slice file (c.args.from + l.done)) size in
           page-added file l.bytes c.fill.new.out c.args.from l.done c.min-count.result _ (omega (arith, i.within, i.room)) (same ∙ size) (i.read file held) page;

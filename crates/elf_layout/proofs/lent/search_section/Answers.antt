@@ -1,12 +1,12 @@
 use Rattle.std.proofs.Common.{rules}
 use Rattle.std.proofs.lemmas.Cmp.{nat_cmp_total}
 use Rattle.std.proofs.lemmas.List.Sorted.{answers_always}
-use Rattle.elf_layout.specs.Lent.{lent_index}
+use Rattle.elf_layout.specs.Lent.{borrowed_index}
 use Rattle.elf_layout.proofs.LentSteps.{searched}
 use Rattle.elf_layout.proofs.lent.search_section.Goals as goal
 
 pub returns : goal.returns
 returns c =
     let facts = c.binary_search_by_key.ensures in
-    let by_key = facts.position lent_index (answers_always _ _ _ (λ f a r g called. search rules)) in
-    searched nat_cmp_total lent_index c.args.items.now c.requires c.args.section _ facts.bound by_key
+    let by_key = facts.position borrowed_index (answers_always _ _ _ (λ f a r g called. search rules)) in
+    searched nat_cmp_total borrowed_index c.args.items.now c.requires c.args.section _ facts.bound by_key

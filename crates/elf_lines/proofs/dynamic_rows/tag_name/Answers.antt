@@ -6,6 +6,6 @@ use Rattle.elf_lines.proofs.dynamic_rows.tag_name.Goals as goal
 pub returns : goal.returns
 unfolding dynamic_tags gnu_dynamic_tags standard_dynamic_tags
 returns c = record {
-  name = c.name_of_either.ensures.name;
-  short = c.name_of_either.ensures.short 16 refl refl;
+  name = c.name_in_either_table.ensures.name;
+  short = c.name_in_either_table.ensures.short 16 refl refl;
 }

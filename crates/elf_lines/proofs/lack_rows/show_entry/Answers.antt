@@ -8,7 +8,7 @@ pub returns-then-not-is_cut : goal.returns-then-not-is_cut
 returns-then-not-is_cut g c =
     let none : (length c.args.name.now == 0) ≡ true = search rules in
     let whole : c.args.is_cut ≡ false = search rules in
-    let all = c.deref.ensures.0 ∙ (c.put.ensures.items ∙ ap (λ xs. xs ++ codes ": ") c.type_front-line.ensures.text) in
+    let all = c.deref.ensures.0 ∙ (c.put.ensures.items ∙ ap (λ xs. xs ++ codes ": ") c.type_prefix-line.ensures.text) in
     record { puts = rw (entry_unnamed c.args.kind c.args.name.now c.args.is_cut whole none) (rw all at c.put-then-not-is_cut.ensures.puts) }
 
 pub returns : goal.returns
@@ -18,5 +18,5 @@ returns g c =
       | else-is_empty-via-then-is_empty+else-not-is_cut w ↦ λ whole. search rules
       | else-is_empty-via-else-is_empty w ↦ λ whole. search rules
     ] in
-    let front = c.put-2.ensures.items ∙ ap (λ xs. xs ++ codes " to ") c.type_front-line.ensures.text in
+    let front = c.put-2.ensures.items ∙ ap (λ xs. xs ++ codes " to ") c.type_prefix-line.ensures.text in
     record { puts = rw (entry_named c.args.kind c.args.name.now c.args.is_cut some) (rw front at c.show_around.ensures.puts) }

@@ -1,7 +1,7 @@
 -- Each base has its items.
 use Rattle.std.proofs.lemmas.Result.{err_from_is_err_and}
 use Rattle.elf_model.specs.ExplainLine.{items_text}
-use Rattle.elf_source.proofs.PutsLaws.{TakesFront-more}
+use Rattle.elf_source.proofs.PutsLaws.{SinkTakesPrefix-more}
 use Rattle.elf_lines.proofs.PutsSteps.{puts_then}
 use Rattle.elf_lines.proofs.lack_rows.show_items.Goals as goal
 
@@ -10,7 +10,7 @@ unfolding items_text
 returns-in_err-show_item-in-Linkage g c =
     let p = err_from_is_err_and c.from_residual.result c.from_residual.ensures.1 in
     let stopped = c.in_err-show_item-in-Linkage.ensures.puts in
-    rw (p.1, p.2, c.in-Linkage.is) (record { puts = (TakesFront-more _ _ stopped.0, stopped.1) })
+    rw (p.1, p.2, c.in-Linkage.is) (record { puts = (SinkTakesPrefix-more _ _ stopped.0, stopped.1) })
 
 pub returns-in_ok-show_item-in-Linkage : goal.returns-in_ok-show_item-in-Linkage
 unfolding items_text

@@ -20,7 +20,7 @@ unfolding section_flags_text letters_and_mark section_flags standard_section_fla
 returns-clause-text c =
     let naming = c.args.naming in
     rw (
-      c.in_twelve.ensures.text,
+      c.flags_column.ensures.text,
       c.put_where.ensures.items,
       c.put_letters-4.ensures.items,
       c.put_letters-3.ensures.items,

@@ -10,7 +10,7 @@ returns c =
     let naming = c.args.naming in
     record {
       name =
-          rw (c.or.ensures, copied_or, c.name_of_either.ensures.name, c.name_of_either-unwind.ensures.name, c.is_gnu_on_x86_64.ensures)
+          rw (c.or.ensures, copied_or, c.name_in_either_table.ensures.name, c.name_in_either_table-unwind.ensures.name, c.is_gnu_on_x86_64.ensures)
           (sym (name_of_three standard_section_types (names_where naming.gnu gnu_section_types) (names_on_x86_64 naming.gnu naming.machine x86_64_section_types) c.args.kind));
-      short = rw c.or.ensures (short_or 13 _ _ (c.name_of_either.ensures.short 13 refl refl) (c.name_of_either-unwind.ensures.short 13 refl refl));
+      short = rw c.or.ensures (short_or 13 _ _ (c.name_in_either_table.ensures.short 13 refl refl) (c.name_in_either_table-unwind.ensures.short 13 refl refl));
     }

@@ -6,6 +6,6 @@ use Rattle.elf_lines.proofs.segment_rows.segment_type_name.Goals as goal
 pub returns : goal.returns
 unfolding gnu_segment_types segment_types standard_segment_types
 returns c = record {
-  name = c.name_of_either.ensures.name;
-  short = c.name_of_either.ensures.short 8 refl refl;
+  name = c.name_in_either_table.ensures.name;
+  short = c.name_in_either_table.ensures.short 8 refl refl;
 }

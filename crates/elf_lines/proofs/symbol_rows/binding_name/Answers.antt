@@ -6,6 +6,6 @@ use Rattle.elf_lines.proofs.symbol_rows.binding_name.Goals as goal
 pub returns : goal.returns
 unfolding bindings gnu_bindings standard_bindings
 returns c = record {
-  name = c.name_of_either.ensures.name;
-  short = c.name_of_either.ensures.short 6 refl refl;
+  name = c.name_in_either_table.ensures.name;
+  short = c.name_in_either_table.ensures.short 6 refl refl;
 }

@@ -6,6 +6,6 @@ use Rattle.elf_lines.proofs.symbol_rows.place_name.Goals as goal
 pub returns : goal.returns
 unfolding places standard_places x86_64_places
 returns c = record {
-  name = rw c.is_gnu_on_x86_64-further.ensures at c.name_of_either.ensures.name;
-  short = c.name_of_either.ensures.short 5 refl refl;
+  name = rw c.is_gnu_on_x86_64-further.ensures at c.name_in_either_table.ensures.name;
+  short = c.name_in_either_table.ensures.short 5 refl refl;
 }

@@ -6,6 +6,6 @@ use Rattle.elf_lines.proofs.symbol_rows.symbol_type_name.Goals as goal
 pub returns : goal.returns
 unfolding gnu_symbol_types standard_symbol_types symbol_types
 returns c = record {
-  name = c.name_of_either.ensures.name;
-  short = c.name_of_either.ensures.short 7 refl refl;
+  name = c.name_in_either_table.ensures.name;
+  short = c.name_in_either_table.ensures.short 7 refl refl;
 }

@@ -9,5 +9,5 @@ use Rattle.elf_listing_requests.proofs.options.parts_of.Goals as goal
 pub returns-in-Some-clause-none : goal.returns-in-Some-clause-none
 returns-in-Some-clause-none c = λ failed parts are.
     let word = first_of (codes "only") (rows_of (found_of c.args.options.now)) in
-    let named = subst (λ gnu. ArePartsOf gnu word parts) (sym c.asks_gnu-gnu.ensures) are in
-    no_part c.asks_gnu-gnu.result c.in-Some.name.now parts.0 (c.part_named.ensures.none failed) (subst (λ o. ArePartsOf c.asks_gnu-gnu.result o parts) (sym c.in-Some.ensures) named)
+    let named = subst (λ gnu. ArePartsOf gnu word parts) (sym c.has_gnu_option-gnu.ensures) are in
+    no_part c.has_gnu_option-gnu.result c.in-Some.name.now parts.0 (c.part_named.ensures.none failed) (subst (λ o. ArePartsOf c.has_gnu_option-gnu.result o parts) (sym c.in-Some.ensures) named)

@@ -1,11 +1,11 @@
 -- The definitions, and then the needs.
 use Rattle.std.proofs.Common.{◌+◌, [], length, ap, arith}
 use Rattle.std.proofs.lemmas.Result.{err_from_is_err_and}
-use Rattle.elf_headers.proofs.LedgerLaws.{Did-as, Did-then}
+use Rattle.elf_headers.proofs.LedgerLaws.{CallDid-as, CallDid-then}
 use Rattle.elf_model.specs.Loader.{compared_with, readings}
 use Rattle.elf_model.specs.Names.{pad64}
 use Rattle.elf_lookup_tables.specs.Symbols.{table_if_any}
-use Rattle.elf_loader.specs.Tables.{most_of, readings_before}
+use Rattle.elf_loader.specs.Tables.{max_records_of, readings_before}
 use Rattle.elf_loader.proofs.TablesLaws.{compares-fault, compares-then, part, read-parted, sum-pays}
 use Rattle.elf_loader.proofs.collecting.compare_all.Goals as goal
 
@@ -13,9 +13,9 @@ pub returns-in_err-compare_any : goal.returns-in_err-compare_any
 returns-in_err-compare_any g c =
     let p = err_from_is_err_and c.from_residual.result c.from_residual.ensures.1 in
     let each = 28 + pad64 (length c.args.version.now + 1) in
-    let pays = sum-pays (most_of c.args.symbols.now.definitions) (most_of c.args.symbols.now.needs) each in
+    let pays = sum-pays (max_records_of c.args.symbols.now.definitions) (max_records_of c.args.symbols.now.needs) each in
     rw (p.1, p.2)
-    (Did-as _ (omega (arith, pays)) c.in_err-compare_any.ensures
+    (CallDid-as _ (omega (arith, pays)) c.in_err-compare_any.ensures
     (λ file read costs told are.
     let parts = part file told (table_if_any c.args.symbols.now.definitions) (table_if_any c.args.symbols.now.needs) are in
     let e = read-parted file told (table_if_any c.args.symbols.now.definitions) (table_if_any c.args.symbols.now.needs) parts in
@@ -26,8 +26,8 @@ returns-in_err-compare_any g c =
 pub returns : goal.returns
 returns g c =
     let each = 28 + pad64 (length c.args.version.now + 1) in
-    let pays = sum-pays (most_of c.args.symbols.now.definitions) (most_of c.args.symbols.now.needs) each in
-    Did-as _ (omega (arith, pays)) (Did-then c.in_ok-compare_any.ensures c.compare_any-2.ensures)
+    let pays = sum-pays (max_records_of c.args.symbols.now.definitions) (max_records_of c.args.symbols.now.needs) each in
+    CallDid-as _ (omega (arith, pays)) (CallDid-then c.in_ok-compare_any.ensures c.compare_any-2.ensures)
     (λ file read costs told are.
     let parts = part file told (table_if_any c.args.symbols.now.definitions) (table_if_any c.args.symbols.now.needs) are in
     let e = read-parted file told (table_if_any c.args.symbols.now.definitions) (table_if_any c.args.symbols.now.needs) parts in

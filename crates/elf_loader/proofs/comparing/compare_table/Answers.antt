@@ -2,7 +2,7 @@
 use Rattle.std.proofs.Common.{◌≡◌, ◌+◌, ◌-◌, ◌*◌, length, arith}
 use Rattle.std.proofs.lemmas.Result.{err_from_is_err_and}
 use Rattle.elf_headers.proofs.Absent.{none-of}
-use Rattle.elf_headers.proofs.LedgerLaws.{Did-as, Did-none, Did-then}
+use Rattle.elf_headers.proofs.LedgerLaws.{CallDid-as, CallDid-none, CallDid-then}
 use Rattle.elf_model.specs.Loader.{compared_with}
 use Rattle.elf_model.specs.Names.{pad64}
 use Rattle.elf_table.specs.Tables.{strings_in}
@@ -18,7 +18,7 @@ records-init g c =
     let starts = c.one_by_one-cursor.ensures.starts in
     record {
       walks = walk-starts starts c.one_by_one-cursor.ensures.alone;
-      so_far = Did-as _ (omega (arith, starts.left)) (Did-none c.args.src.now)
+      so_far = CallDid-as _ (omega (arith, starts.left)) (CallDid-none c.args.src.now)
           (λ file told costs. (
             c.one_by_one-cursor.ensures.agrees file,
             λ t others is.
@@ -39,7 +39,7 @@ returns-in_err-given g c =
     let pad = pad64 (length c.args.version.now + 1) in
     let pays = walk-spends i.walks a.keeps pad a.leaves in
     rw (p.1, p.2)
-    (Did-as _ (omega (arith, pays.0, pays.1)) (Did-then i.so_far (going-did l.cursor.failed _ i.walks.going a.did))
+    (CallDid-as _ (omega (arith, pays.0, pays.1)) (CallDid-then i.so_far (going-did l.cursor.failed _ i.walks.going a.did))
     (λ file told costs t others is.
     let before = told.0 in
     let step = told.1 before.0 in
@@ -58,7 +58,7 @@ returns-in_err-compare_record g c =
     let pays = walk-pays i.walks a.keeps c.in-Some.given pad leaves in
     let read : gone_by c.args.records.now l.cursor + 1 ≡ gone_by c.args.records.now new = omega (arith, leaves.2, i.walks.fewer) in
     rw (p.1, p.2)
-    (Did-as _ (omega (arith, pays, gone-most c.args.records.now new (28 + pad))) (Did-then (Did-then i.so_far (going-did l.cursor.failed _ i.walks.going (rw c.in-Some.is at a.did))) c.in_err-compare_record.ensures)
+    (CallDid-as _ (omega (arith, pays, gone-most c.args.records.now new (28 + pad))) (CallDid-then (CallDid-then i.so_far (going-did l.cursor.failed _ i.walks.going (rw c.in-Some.is at a.did))) c.in_err-compare_record.ensures)
     (λ file told costs t others is.
     let before = told.0.0 in
     let step = told.0.1 before.0 in
@@ -78,8 +78,8 @@ records-preserved g c =
     let leaves = rw c.in-Some.is at a.leaves in
     record {
       walks = walk-next i.walks a.keeps c.in-Some.given leaves;
-      so_far = Did-as _ (walk-pays i.walks a.keeps c.in-Some.given (pad64 (length c.args.version.now + 1)) leaves)
-          (Did-then (Did-then i.so_far (going-did l.cursor.failed _ i.walks.going (rw c.in-Some.is at a.did))) c.in_ok-compare_record.ensures)
+      so_far = CallDid-as _ (walk-pays i.walks a.keeps c.in-Some.given (pad64 (length c.args.version.now + 1)) leaves)
+          (CallDid-then (CallDid-then i.so_far (going-did l.cursor.failed _ i.walks.going (rw c.in-Some.is at a.did))) c.in_ok-compare_record.ensures)
           (λ file told costs.
           let before = told.0.0 in
           let step = told.0.1 before.0 in
@@ -102,7 +102,7 @@ returns g c =
     let pad = pad64 (length c.args.version.now + 1) in
     let same = (rw none at a.leaves).1 in
     let spent : unread l.cursor - unread new ≡ 0 = rw same (omega arith) in
-    Did-as _ (omega (arith, spent, gone-most c.args.records.now l.cursor (28 + pad))) (Did-then i.so_far (going-did l.cursor.failed _ i.walks.going (rw none at a.did)))
+    CallDid-as _ (omega (arith, spent, gone-most c.args.records.now l.cursor (28 + pad))) (CallDid-then i.so_far (going-did l.cursor.failed _ i.walks.going (rw none at a.did)))
     (λ file told costs t others is.
     let before = told.0 in
     let step = told.1 before.0 in (

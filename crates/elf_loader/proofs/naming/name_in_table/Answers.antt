@@ -2,7 +2,7 @@
 use Rattle.std.proofs.Common.{◌≡◌, ◌-◌, sym, ◌∙◌, arith}
 use Rattle.std.proofs.lemmas.Result.{err_from_is_err_and}
 use Rattle.elf_headers.proofs.Absent.{none-of}
-use Rattle.elf_headers.proofs.LedgerLaws.{Did-as, Did-none, Did-then}
+use Rattle.elf_headers.proofs.LedgerLaws.{CallDid-as, CallDid-none, CallDid-then}
 use Rattle.elf_model.specs.BoundSymbols.{file_or}
 use Rattle.elf_model.specs.Loader.{naming_of}
 use Rattle.elf_table.specs.Tables.{strings_in}
@@ -18,7 +18,7 @@ records-init g c =
     let starts = c.one_by_one-cursor.ensures.starts in
     record {
       walks = walk-starts starts c.one_by_one-cursor.ensures.alone;
-      so_far = Did-as _ (omega (arith, starts.left)) (Did-none c.args.src.now)
+      so_far = CallDid-as _ (omega (arith, starts.left)) (CallDid-none c.args.src.now)
           (λ file told costs. (
             c.one_by_one-cursor.ensures.agrees file,
             λ t others is. start-as file c.args.number t c.args.records.now others c.one_by_one-cursor.result _ (omega (arith, starts.left)) starts is,
@@ -38,28 +38,28 @@ returns-in_err-given-clause-did g c =
     let p = err_from_is_err_and c.from_residual.result c.from_residual.ensures.1 in
     let pays = walk-spends i.walks a.keeps 0 a.leaves in
     rw (p.1, p.2)
-    (Did-as _ (omega (arith, pays.0, pays.1)) (Did-then i.so_far (going-did l.cursor.failed _ i.walks.going a.did))
+    (CallDid-as _ (omega (arith, pays.0, pays.1)) (CallDid-then i.so_far (going-did l.cursor.failed _ i.walks.going a.did))
     (λ file told costs t others is.
     let before = told.0 in
     let step = told.1 before.0 in
     fault-names file (gone_by c.args.records.now l.cursor) (l.cursor.left - new.left) _ _ (naming_of file c.args.number others) _ (before.1 t others is)
     (costs _ (omega arith)) pays.0 (spent-read file t.strings c.args.number others l.cursor new a.leaves.1) (fault-left file t.strings c.args.number others l.cursor new _ (step.tells i.walks.going))))
 
-pub returns-then-names_number-clause-did : goal.returns-then-names_number-clause-did
-returns-then-names_number-clause-did g c =
+pub returns-then-names_version_index-clause-did : goal.returns-then-names_version_index-clause-did
+returns-then-names_version_index-clause-did g c =
     let l = c.records in
     let i = l.invariant in
     let a = c.in_ok-given.ensures in
     let new = c.advance.new.self in
     let leaves = rw c.in-Some.is at a.leaves in
     let pays = walk-pays i.walks a.keeps c.in-Some.given 0 leaves in
-    Did-as _ (omega (arith, pays, gone-most c.args.records.now new 28)) (Did-then i.so_far (going-did l.cursor.failed _ i.walks.going (rw c.in-Some.is at a.did)))
+    CallDid-as _ (omega (arith, pays, gone-most c.args.records.now new 28)) (CallDid-then i.so_far (going-did l.cursor.failed _ i.walks.going (rw c.in-Some.is at a.did)))
     (λ file told costs t others is.
     let before = told.0 in
     let step = told.1 before.0 in
     let gives = step.tells i.walks.going in
     let found = here-as file (strings_in file c.args.records.now.names) c.args.number gives.met (left_of file t.strings others l.cursor) (left_of file t.strings others new) _ _
-    (walk-gives i.walks a.keeps file t others is leaves gives step.leads) (sym (c.names_number.ensures file gives.met gives.is) ∙ c.if-names_number.true) (before.1 t others is) in
+    (walk-gives i.walks a.keeps file t others is leaves gives step.leads) (sym (c.names_version_index.ensures file gives.met gives.is) ∙ c.if-names_version_index.true) (before.1 t others is) in
     (gives.met, found.0, gives.is, costs _ (omega (arith, pays, found.1, leaves.2, i.walks.fewer))))
 
 pub records-preserved : goal.records-preserved
@@ -72,7 +72,7 @@ records-preserved g c =
     let pays = walk-pays i.walks a.keeps c.in-Some.given 0 leaves in
     record {
       walks = walk-next i.walks a.keeps c.in-Some.given leaves;
-      so_far = Did-as _ (omega (arith, pays)) (Did-then i.so_far (going-did l.cursor.failed _ i.walks.going (rw c.in-Some.is at a.did)))
+      so_far = CallDid-as _ (omega (arith, pays)) (CallDid-then i.so_far (going-did l.cursor.failed _ i.walks.going (rw c.in-Some.is at a.did)))
           (λ file told costs.
           let before = told.0 in
           let step = told.1 before.0 in
@@ -80,10 +80,10 @@ records-preserved g c =
             step.agrees,
             λ t others is.
                 later-as file (strings_in file c.args.records.now.names) c.args.number gives.met (left_of file t.strings others l.cursor) (left_of file t.strings others new) _ _ _ (omega (arith, leaves.2, i.walks.fewer))
-                (walk-gives i.walks a.keeps file t others is leaves gives step.leads) (sym (c.names_number.ensures file gives.met gives.is) ∙ c.if-names_number.false) (before.1 t others is),
+                (walk-gives i.walks a.keeps file t others is leaves gives step.leads) (sym (c.names_version_index.ensures file gives.met gives.is) ∙ c.if-names_version_index.false) (before.1 t others is),
           ));
       last = λ file held t others is met was.
-          let told = (Did-then i.so_far (going-did l.cursor.failed _ i.walks.going (rw c.in-Some.is at a.did))).known file held in
+          let told = (CallDid-then i.so_far (going-did l.cursor.failed _ i.walks.going (rw c.in-Some.is at a.did))).known file held in
           let step = told.1 told.0.0 in
           let gives = step.tells i.walks.going in
           let before = i.last file held t others is met was in (
@@ -91,7 +91,7 @@ records-preserved g c =
             c.file_of.ensures file gives.met before.0 gives.is before.1,
             before.2
                 ∙ file-later file c.args.number (strings_in file c.args.records.now.names) gives.met (left_of file t.strings others l.cursor) (left_of file t.strings others new) before.0
-                (walk-gives i.walks a.keeps file t others is leaves gives step.leads) (sym (c.names_number.ensures file gives.met gives.is) ∙ c.if-names_number.false),
+                (walk-gives i.walks a.keeps file t others is leaves gives step.leads) (sym (c.names_version_index.ensures file gives.met gives.is) ∙ c.if-names_version_index.false),
           );
     }
 
@@ -104,7 +104,7 @@ returns-clause-did g c =
     let none = none-of c.in_ok-given.field-0 c.in_default.not-Some in
     let same = (rw none at a.leaves).1 in
     let spent : unread l.cursor - unread new ≡ 0 = rw same (omega arith) in
-    Did-as _ (omega (arith, spent, gone-most c.args.records.now l.cursor 28)) (Did-then i.so_far (going-did l.cursor.failed _ i.walks.going (rw none at a.did)))
+    CallDid-as _ (omega (arith, spent, gone-most c.args.records.now l.cursor 28)) (CallDid-then i.so_far (going-did l.cursor.failed _ i.walks.going (rw none at a.did)))
     (λ file told costs t others is.
     let before = told.0 in
     let step = told.1 before.0 in (
@@ -113,20 +113,20 @@ returns-clause-did g c =
       ended-as file t.strings c.args.number others l.cursor new _ _ (step.tells i.walks.going) (before.1 t others is),
     ))
 
-pub returns-then-names_number-clause-file : goal.returns-then-names_number-clause-file
-returns-then-names_number-clause-file g c =
+pub returns-then-names_version_index-clause-file : goal.returns-then-names_version_index-clause-file
+returns-then-names_version_index-clause-file g c =
     let l = c.records in
     let i = l.invariant in
     let a = c.in_ok-given.ensures in
     let new = c.advance.new.self in
     let leaves = rw c.in-Some.is at a.leaves in
     λ file held t others is met was.
-    let told = (Did-then i.so_far (going-did l.cursor.failed _ i.walks.going (rw c.in-Some.is at a.did))).known file held in
+    let told = (CallDid-then i.so_far (going-did l.cursor.failed _ i.walks.going (rw c.in-Some.is at a.did))).known file held in
     let step = told.1 told.0.0 in
     let gives = step.tells i.walks.going in
     let before = i.last file held t others is met was in
     let here = file-here file c.args.number (strings_in file c.args.records.now.names) gives.met (left_of file t.strings others l.cursor) (left_of file t.strings others new) before.0
-    (walk-gives i.walks a.keeps file t others is leaves gives step.leads) (sym (c.names_number.ensures file gives.met gives.is) ∙ c.if-names_number.true) in
+    (walk-gives i.walks a.keeps file t others is leaves gives step.leads) (sym (c.names_version_index.ensures file gives.met gives.is) ∙ c.if-names_version_index.true) in
     rw (before.2, here) before.1
 
 pub returns-clause-file : goal.returns-clause-file
@@ -137,7 +137,7 @@ returns-clause-file g c =
     let new = c.advance.new.self in
     let none = none-of c.in_ok-given.field-0 c.in_default.not-Some in
     λ file held t others is met was.
-    let told = (Did-then i.so_far (going-did l.cursor.failed _ i.walks.going (rw none at a.did))).known file held in
+    let told = (CallDid-then i.so_far (going-did l.cursor.failed _ i.walks.going (rw none at a.did))).known file held in
     let step = told.1 told.0.0 in
     let before = i.last file held t others is met was in
     (before.0, before.1, before.2 ∙ file-ended file c.args.number t.strings others l.cursor new before.0 (step.tells i.walks.going))

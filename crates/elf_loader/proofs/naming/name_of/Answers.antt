@@ -1,11 +1,11 @@
 -- The definitions, and then the needs.
 use Rattle.std.proofs.Common.{[], ap, ◌∙◌, arith}
 use Rattle.std.proofs.lemmas.Result.{err_from_is_err_and}
-use Rattle.elf_headers.proofs.LedgerLaws.{Did-as, Did-then}
+use Rattle.elf_headers.proofs.LedgerLaws.{CallDid-as, CallDid-then}
 use Rattle.elf_model.specs.Loader.{naming_of}
 use Rattle.elf_lookup_tables.specs.Symbols.{table_if_any}
 use Rattle.elf_headers.proofs.Absent.{none-of}
-use Rattle.elf_loader.specs.Tables.{most_of, readings_before}
+use Rattle.elf_loader.specs.Tables.{max_records_of, readings_before}
 use Rattle.elf_loader.proofs.NamingLaws.{fault-of, file-some, file-then, names-then, some-of}
 use Rattle.elf_loader.proofs.TablesLaws.{part, read-parted, sum-pays}
 use Rattle.elf_loader.proofs.naming.name_of.Goals as goal
@@ -13,9 +13,9 @@ use Rattle.elf_loader.proofs.naming.name_of.Goals as goal
 pub returns-in_err-named-clause-did : goal.returns-in_err-named-clause-did
 returns-in_err-named-clause-did g c =
     let p = err_from_is_err_and c.from_residual.result c.from_residual.ensures.1 in
-    let pays = sum-pays (most_of c.args.symbols.now.definitions) (most_of c.args.symbols.now.needs) 28 in
+    let pays = sum-pays (max_records_of c.args.symbols.now.definitions) (max_records_of c.args.symbols.now.needs) 28 in
     rw (p.1, p.2)
-    (Did-as _ (omega (arith, pays)) c.in_err-named.ensures.did
+    (CallDid-as _ (omega (arith, pays)) c.in_err-named.ensures.did
     (λ file read costs told are.
     let parts = part file told (table_if_any c.args.symbols.now.definitions) (table_if_any c.args.symbols.now.needs) are in
     let e = read-parted file told (table_if_any c.args.symbols.now.definitions) (table_if_any c.args.symbols.now.needs) parts in
@@ -24,8 +24,8 @@ returns-in_err-named-clause-did g c =
 
 pub returns-in-Some-clause-did : goal.returns-in-Some-clause-did
 returns-in-Some-clause-did g c =
-    let pays = sum-pays (most_of c.args.symbols.now.definitions) (most_of c.args.symbols.now.needs) 28 in
-    Did-as _ (omega (arith, pays)) (rw c.in-Some.is at c.in_ok-named.ensures.did)
+    let pays = sum-pays (max_records_of c.args.symbols.now.definitions) (max_records_of c.args.symbols.now.needs) 28 in
+    CallDid-as _ (omega (arith, pays)) (rw c.in-Some.is at c.in_ok-named.ensures.did)
     (λ file read costs told are.
     let parts = part file told (table_if_any c.args.symbols.now.definitions) (table_if_any c.args.symbols.now.needs) are in
     let e = read-parted file told (table_if_any c.args.symbols.now.definitions) (table_if_any c.args.symbols.now.needs) parts in
@@ -35,8 +35,8 @@ returns-in-Some-clause-did g c =
 pub returns-clause-did : goal.returns-clause-did
 returns-clause-did g c =
     let none = none-of c.in_ok-named.field-0 c.in_default.not-Some in
-    let pays = sum-pays (most_of c.args.symbols.now.definitions) (most_of c.args.symbols.now.needs) 28 in
-    Did-as _ (omega (arith, pays)) (Did-then (rw none at c.in_ok-named.ensures.did) c.name_in_any-2.ensures.did)
+    let pays = sum-pays (max_records_of c.args.symbols.now.definitions) (max_records_of c.args.symbols.now.needs) 28 in
+    CallDid-as _ (omega (arith, pays)) (CallDid-then (rw none at c.in_ok-named.ensures.did) c.name_in_any-2.ensures.did)
     (λ file read costs told are.
     let parts = part file told (table_if_any c.args.symbols.now.definitions) (table_if_any c.args.symbols.now.needs) are in
     let e = read-parted file told (table_if_any c.args.symbols.now.definitions) (table_if_any c.args.symbols.now.needs) parts in

@@ -17,7 +17,7 @@ pub returns : goal.returns
 returns c = record {
   held = λ bytes belongs.
       sections_find bytes (found_at bytes (c.in-Some.kind, c.in-Some.section)) (c.hash_section.ensures.held bytes belongs ∙ ap (option_map (found_at bytes)) c.in-Some.is) _
-      (c.section_scope.ensures.held bytes belongs);
-  within = c.section_scope.ensures.within;
-  refusal = c.section_scope.ensures.refusal;
+      (c.section_lookup_tables.ensures.held bytes belongs);
+  within = c.section_lookup_tables.ensures.within;
+  refusal = c.section_lookup_tables.ensures.refusal;
 }

@@ -1,5 +1,5 @@
 -- The entry of the hash table decides.
-use Rattle.elf_hash.specs.Kinds.{hash_kind_of}
+use Rattle.elf_hash.specs.Kinds.{hash_style_of}
 use Rattle.elf_lookup_tables.proofs.ScopeLaws.{entries_find, entries_none}
 use Rattle.elf_headers.proofs.Absent.{none-of}
 use Rattle.elf_model.specs.Records.{segment_at}
@@ -20,7 +20,7 @@ returns c = record {
       let at = segment_at bytes c.args.segment in
       let all = c.hash_entry.ensures bytes at are in
       let told = rw c.in-Some.is at all in
-      entries_find bytes c.args.segment at (hash_kind_of c.in-Some.kind, c.in-Some.row.at) told.0 _ (c.segment_scope.ensures.held bytes views are told.1);
-  within = c.segment_scope.ensures.within;
-  refusal = c.segment_scope.ensures.refusal;
+      entries_find bytes c.args.segment at (hash_style_of c.in-Some.kind, c.in-Some.row.at) told.0 _ (c.segment_lookup_tables.ensures.held bytes views are told.1);
+  within = c.segment_lookup_tables.ensures.within;
+  refusal = c.segment_lookup_tables.ensures.refusal;
 }

@@ -1,7 +1,7 @@
 -- No LOAD segment lies over another, and then what the entries tell.
 use Rattle.std.proofs.Common.{arith}
 use Rattle.std.proofs.lemmas.Result.{err_from_is_err_and}
-use Rattle.elf_headers.proofs.LedgerLaws.{Did-as, Did-none, Did-stop}
+use Rattle.elf_headers.proofs.LedgerLaws.{CallDid-as, CallDid-none, CallDid-stop}
 use Rattle.elf_lookup_tables.proofs.FoundLaws.{apart_finds, overlap_refused}
 use Rattle.elf_lookup_tables.proofs.by_segments.find_in_segments.Goals as goal
 
@@ -11,7 +11,7 @@ returns-in_err-check_overlaps g c =
     record {
       did =
           rw (p.1, p.2)
-          (Did-as _ (omega arith) (Did-stop _ c.in_err-check_overlaps.ensures.refusal (Did-none c.args.src.now))
+          (CallDid-as _ (omega arith) (CallDid-stop _ c.in_err-check_overlaps.ensures.refusal (CallDid-none c.args.src.now))
           (λ file told costs views. (costs _ (omega arith), overlap_refused file _ (c.in_err-check_overlaps.ensures.held file views))));
       within = rw p.1 tt;
     }
@@ -19,7 +19,7 @@ returns-in_err-check_overlaps g c =
 pub returns : goal.returns
 returns g c = record {
   did =
-      Did-as _ (omega arith) c.in_segments.ensures.did
+      CallDid-as _ (omega arith) c.in_segments.ensures.did
       (λ file told costs views.
       let found = told views in (found.0, apart_finds file (c.in_ok-check_overlaps.ensures.held file views) _ found.1));
   within = c.in_segments.ensures.within;

@@ -2,7 +2,7 @@
 use Rattle.std.proofs.Common.{ap, sym, ◌∙◌, arith}
 use Rattle.std.proofs.lemmas.Result.{err_from_is_err_and}
 use Rattle.elf_table.specs.Tables.{Rows}
-use Rattle.elf_headers.proofs.LedgerLaws.{Did-as, Did-none, Did-stop}
+use Rattle.elf_headers.proofs.LedgerLaws.{CallDid-as, CallDid-none, CallDid-stop}
 use Rattle.elf_lookup_tables.proofs.EntryLaws.{entries_are}
 use Rattle.elf_lookup_tables.proofs.FoundLaws.{asked_within, did_check, dynamic_is, dynamic_refused, index_is, read_finds, segment_finds, segments_none, size_within}
 use Rattle.elf_headers.proofs.Absent.{none-of}
@@ -12,7 +12,7 @@ pub returns-in_default : goal.returns-in_default
 returns-in_default g c = record {
   did =
       rw c.refused.ensures
-      (Did-as _ (omega arith) (Did-stop _ (λ budget. cc) (Did-none c.args.src.now))
+      (CallDid-as _ (omega arith) (CallDid-stop _ (λ budget. cc) (CallDid-none c.args.src.now))
       (λ file told costs views.
       let none = index_is file ∙ (sym (c.first_segment.ensures.first file views) ∙ none-of c.first_segment.result c.in_default.not-Some) in
       (costs _ (omega arith), λ other. segments_none file none)));
@@ -25,7 +25,7 @@ returns-in_err-table g c =
     record {
       did =
           rw (p.1, p.2)
-          (Did-as _ (omega arith) (Did-stop _ c.in_err-table.ensures.lies (Did-none c.args.src.now))
+          (CallDid-as _ (omega arith) (CallDid-stop _ c.in_err-table.ensures.lies (CallDid-none c.args.src.now))
           (λ file told costs views.
           let some = index_is file ∙ (sym (c.first_segment.ensures.first file views) ∙ c.in-Some.is) in
           (costs _ (omega arith), dynamic_refused file _ some _ (c.in_err-table.ensures.held file views))));
@@ -39,7 +39,7 @@ returns-in_err-found g c =
     record {
       did =
           rw (p.1, p.2)
-          (Did-as _ (omega (arith, fits, c.requires.size)) c.in_err-found.ensures.did
+          (CallDid-as _ (omega (arith, fits, c.requires.size)) c.in_err-found.ensures.did
           (λ file told costs views.
           let some = index_is file ∙ (sym (c.first_segment.ensures.first file views) ∙ c.in-Some.is) in
           (costs _ (asked_within file _ some _ (c.in_ok-table.ensures.held file views)), read_finds file _ c.in_err-found.ensures.fault)));
@@ -51,7 +51,7 @@ returns g c =
     let fits = size_within _ _ c.in_ok-table.ensures.lies.within in
     record {
       did =
-          Did-as _ (omega (arith, fits, c.requires.size)) (did_check c.by_entries.result c.by_entries.ensures.refusal c.in_ok-found.ensures.did)
+          CallDid-as _ (omega (arith, fits, c.requires.size)) (did_check c.by_entries.result c.by_entries.ensures.refusal c.in_ok-found.ensures.did)
           (λ file listed costs views.
           let some = index_is file ∙ (sym (c.first_segment.ensures.first file views) ∙ c.in-Some.is) in
           let held = c.in_ok-table.ensures.held file views in

@@ -1,7 +1,7 @@
 -- An entry more is taken in, and no other behind the last.
 use Rattle.std.proofs.Common.{◌≡◌, ℕ, List, Some, ap, ◌∙◌, arith, rules}
 use Rattle.elf_record.specs.Dyn.{IsDyn}
-use Rattle.elf_headers.proofs.LedgerLaws.{Did-of}
+use Rattle.elf_headers.proofs.LedgerLaws.{CallDid-of}
 use Rattle.elf_table.specs.Cursors.{next_row, row_at}
 use Rattle.elf_table.specs.Tables.{Rows}
 use Rattle.elf_note.proofs.EntriesLeft.{given, ended}
@@ -36,6 +36,6 @@ returns-clause-did g c =
     let l = c.entries in
     let i = l.invariant in
     let a = c.in_ok-advance.ensures in
-    Did-of (goes-reads i.goes a.asks.reads) tt (λ file h.
+    CallDid-of (goes-reads i.goes a.asks.reads) tt (λ file h.
     let none = (ended l.src.seen.file l.cursor c.advance.new.self c.in_ok-advance.field-0 c.if-branch.false a.steps).none_left file in
     each_end file c.args.table _ _ l.found none (i.found file h))

@@ -1,7 +1,7 @@
 -- A step is that of the notes that are left.
 use Rattle.std.proofs.Common.{◌≡◌, ℕ, ◌+◌, ◌-◌, ◌<◌, ◌≤◌, min, length, drop, refl, ap, sym, ◌∙◌, arith, length-take}
 use Rattle.elf_model.specs.Bytes.{slice}
-use Rattle.elf_model.specs.Notes.{first_note, note_align, gap_between, descriptor_start, to_next}
+use Rattle.elf_model.specs.Notes.{first_note, note_align, alignment_gap, descriptor_start, bytes_to_alignment}
 use Rattle.elf_record.specs.NoteHead.{IsNoteHead}
 use Rattle.elf_memory.proofs.NoteSteps.{ends, tails, past, found, tells, end-of, sized}
 use Rattle.elf_memory.proofs.notes.next_note.Goals as goal
@@ -28,10 +28,10 @@ returns-then-len-end c =
     let b = c.bytes_of-table.ensures.bytes in
     let table = c.bytes_of-table.result.now in
     let head = c.decode-head.result in
-    let gp = c.gap_between-gap.result in
+    let gp = c.alignment_gap-gap.result in
     let many : 12 ≤ length table = omega (arith, c.if-table-lt12.false) in
     let stands : IsNoteHead table 0 head = c.decode-head.ensures.stands table 0 c.chunk_at.ensures in
-    let gap : gp ≡ gap_between (note_align old.align) head.namesz head.descsz = c.gap_between-gap.ensures.value ∙ ap (λ (x : ℕ). gap_between x head.namesz head.descsz) c.note_align-align.ensures.value in
+    let gap : gp ≡ alignment_gap (note_align old.align) head.namesz head.descsz = c.alignment_gap-gap.ensures.value ∙ ap (λ (x : ℕ). alignment_gap x head.namesz head.descsz) c.note_align-align.ensures.value in
     let f1 : c.from.result ≡ head.namesz = c.from.ensures in
     let f2 : c.from-2.result ≡ head.descsz = c.from-2.ensures in
     let test = c.if-len-end.true in
@@ -47,20 +47,20 @@ returns c =
     let b = c.bytes_of-table.ensures.bytes in
     let table = c.bytes_of-table.result.now in
     let head = c.decode-head.result in
-    let gp = c.gap_between-gap.result in
+    let gp = c.alignment_gap-gap.result in
     let pad = c.padding.result in
     let a : ℕ = note_align old.align in
     let many : 12 ≤ length table = omega (arith, c.if-table-lt12.false) in
     let stands : IsNoteHead table 0 head = c.decode-head.ensures.stands table 0 c.chunk_at.ensures in
     let aligned = c.note_align-align.ensures.value in
-    let gap : gp ≡ gap_between a head.namesz head.descsz = c.gap_between-gap.ensures.value ∙ ap (λ (x : ℕ). gap_between x head.namesz head.descsz) aligned in
+    let gap : gp ≡ alignment_gap a head.namesz head.descsz = c.alignment_gap-gap.ensures.value ∙ ap (λ (x : ℕ). alignment_gap x head.namesz head.descsz) aligned in
     let f1 : c.from.result ≡ head.namesz = c.from.ensures in
     let f2 : c.from-2.result ≡ head.descsz = c.from-2.ensures in
     let test = c.if-len-end.false in
     let end : ℕ = 12 + c.from.result + gp + c.from-2.result in
     let parts : end ≡ 12 + head.namesz + gp + head.descsz = omega (arith, f1, f2) in
     let fits : end ≤ length table = omega (arith, test) in
-    let padded : pad ≡ min (to_next a end) (length table - end) = c.padding.ensures ∙ ap (λ (x : ℕ). min (to_next x end) (length table - end)) aligned in
+    let padded : pad ≡ min (bytes_to_alignment a end) (length table - end) = c.padding.ensures ∙ ap (λ (x : ℕ). min (bytes_to_alignment x end) (length table - end)) aligned in
     let ends : end ≡ descriptor_start a head.namesz head.descsz + head.descsz = end-of a head.namesz head.descsz gp end gap parts in
     let size : end + pad ≡ _ = sized a head.namesz head.descsz (length table) gp pad end gap parts padded fits in
     let whole : length (slice file old.at old.left) ≤ old.left = omega (arith, length-take old.left (drop old.at file)) in

@@ -2,9 +2,9 @@
 use Rattle.std.proofs.Common.{Ok, Err, [], get_or, sym, ap, ◌∙◌, arith}
 use Rattle.std.proofs.lemmas.Result.{err_from_is_err_and}
 use Rattle.elf_model.specs.BoundSymbols.{object_items}
-use Rattle.elf_model.specs.LoaderScope.{scope_of}
+use Rattle.elf_model.specs.LoaderScope.{lookup_tables_of}
 use Rattle.elf_needs.specs.Bound.{IsLimited, bound_among}
-use Rattle.elf_needs.specs.declared.among.Came.TheVariants.{Cut, Ended}
+use Rattle.elf_needs.specs.declared.among.WriteEnd.TheVariants.{Cut, Ended}
 use Rattle.elf_needs.proofs.AskLaws.{are_kept, asks_one, asks_then, file_here, limited_from, limited_of, spends_same}
 use Rattle.elf_needs.proofs.WriteLaws.{SymbolsIn, counted_in, faulted_lines, hashed_fits, items_are, items_none, items_refused, only_of, so_far_all, so_far_none, symbol_ends, symbol_more}
 use Rattle.elf_needs.proofs.bindings.bind_object.Goals as goal
@@ -20,7 +20,7 @@ returns-in-Err-clause-known g c =
     let objects = bound_among headers files c.args.among.now in
     let here = file_here headers c.args.place c.args.objects.now files c.index-objects-place.result are c.requires in
     let told = c.symbol_count.ensures.known (get_or files c.args.place []) here.0 in
-    let scope = ap (scope_of (get_or files c.args.place [])) (sym here.1) ∙ told.1 in
+    let scope = ap (lookup_tables_of (get_or files c.args.place [])) (sym here.1) ∙ told.1 in
     faulted_lines c.args.among.now.format (object_items objects c.args.place (get_or files c.args.place [])) (IsLimited c.args.left.now) c.in-Err.fault c.args.out.now c.tell.new.out c.tell.result
     (items_refused objects c.args.place (get_or files c.args.place []) told.0 scope c.in-Err.fault (rw c.in-Err.is at told.2))
     (only_of c.args.left.now c.in-Err.fault (limited_of _ _ c.args.left.now _ c.in-Err.fault (rw c.in-Err.is at c.symbol_count.ensures.costs.says))) c.tell.ensures

@@ -2,16 +2,16 @@
 use Rattle.std.proofs.Common.{◌≡◌, ℕ, ◌-◌, List, [], get_or, Ok}
 use Rattle.elf_model.specs.Bindings.{symbols_hashed}
 use Rattle.elf_model.specs.BoundSymbols.{items_from}
-use Rattle.elf_model.specs.LoaderScope.{Scope as IsScopeOf, scope_of}
-use Rattle.elf_binding.specs.Binds.{AreObjectsOf}
+use Rattle.elf_model.specs.LoaderScope.{LookupTables as IsScopeOf, lookup_tables_of}
+use Rattle.elf_binding.specs.Binds.{AreObjectFiles}
 use Rattle.elf_needs.specs.Bound.{AsksAll, WritesSoFar, bound_among}
 use Rattle.elf_needs.proofs.bindings.bind_object.Given as goal
 
 abbrev pub invariant-loop-symbol : goal.invariant-loop-symbol
 invariant-loop-symbol g l = record {
   asks : AsksAll l.fn.objects l.objects l.fn.left l.left;
-  known : (headers : ℕ) (files : List (List ℕ)) → AreObjectsOf headers l.fn.objects files → (told : IsScopeOf)
-      → scope_of (get_or files l.place []) headers ≡ Ok told → symbols_hashed (get_or files l.place []) told ≡ Ok l.count
+  known : (headers : ℕ) (files : List (List ℕ)) → AreObjectFiles headers l.fn.objects files → (told : IsScopeOf)
+      → lookup_tables_of (get_or files l.place []) headers ≡ Ok told → symbols_hashed (get_or files l.place []) told ≡ Ok l.count
       → WritesSoFar l.among.format
       (items_from (bound_among headers files l.among) l.place (get_or files l.place []) told.symbols 1 (l.count - 1))
       (items_from (bound_among headers files l.among) l.place (get_or files l.place []) told.symbols l.symbol (l.count - l.symbol))

@@ -2,7 +2,7 @@
 use Rattle.std.proofs.Common.{true, [], get_or, ap, ◌∙◌, arith}
 use Rattle.std.proofs.lemmas.Result.{err_from_is_err_and}
 use Rattle.elf_headers.proofs.Absent.{none-of}
-use Rattle.elf_model.specs.LoaderScope.{scope_of}
+use Rattle.elf_model.specs.LoaderScope.{lookup_tables_of}
 use Rattle.elf_needs.specs.Bound.{bound_among}
 use Rattle.elf_needs.proofs.AskLaws.{are_kept, asks_one, asks_then, file_here, spends_same}
 use Rattle.elf_needs.proofs.StateLaws.{item_fault, item_none, item_state, item_stopped}
@@ -19,7 +19,7 @@ returns-in_err-sought-clause-known g c =
     rw (p.1, p.2)
     (λ headers files told are found below.
     let here = file_here headers c.args.at.place c.args.objects.now files c.index-objects-at.result are c.requires in
-    let tells = c.in_err-sought.ensures.known (get_or files c.args.at.place []) told here.0 (ap (scope_of (get_or files c.args.at.place [])) here.1 ∙ found) below in
+    let tells = c.in_err-sought.ensures.known (get_or files c.args.at.place []) told here.0 (ap (lookup_tables_of (get_or files c.args.at.place [])) here.1 ∙ found) below in
     item_fault (bound_among headers files c.args.among.now) c.args.at.place (get_or files c.args.at.place []) told.symbols c.args.at.symbol true [] [] [] 0 _ tells)
 
 pub returns-in_default-clause-asks : goal.returns-in_default-clause-asks
@@ -32,7 +32,7 @@ returns-in_default-clause-known g c =
     let none = none-of c.in_ok-sought.sought c.in_default.not-Some in
     λ headers files told are found below.
     let here = file_here headers c.args.at.place c.args.objects.now files c.index-objects-at.result are c.requires in
-    let tells = c.in_ok-sought.ensures.known (get_or files c.args.at.place []) told here.0 (ap (scope_of (get_or files c.args.at.place [])) here.1 ∙ found) below in
+    let tells = c.in_ok-sought.ensures.known (get_or files c.args.at.place []) told here.0 (ap (lookup_tables_of (get_or files c.args.at.place [])) here.1 ∙ found) below in
     item_none (bound_among headers files c.args.among.now) c.args.at.place (get_or files c.args.at.place []) told.symbols c.args.at.symbol (rw none at tells)
 
 pub returns-in_err-state-clause-asks : goal.returns-in_err-state-clause-asks
@@ -48,7 +48,7 @@ returns-in_err-state-clause-known g c =
     rw (p.1, p.2)
     (λ headers files told are found below.
     let here = file_here headers c.args.at.place c.args.objects.now files c.index-objects-at.result are c.requires in
-    let scope = ap (scope_of (get_or files c.args.at.place [])) here.1 ∙ found in
+    let scope = ap (lookup_tables_of (get_or files c.args.at.place [])) here.1 ∙ found in
     let tells = rw c.in-Some.is at (c.in_ok-sought.ensures.known (get_or files c.args.at.place []) told here.0 scope below) in
     let of = rw c.in-Some.is at (c.in_ok-sought.ensures.of_file (get_or files c.args.at.place []) told here.0 scope below) in
     item_stopped (bound_among headers files c.args.among.now) c.args.at.place (get_or files c.args.at.place []) told.symbols c.args.at.symbol c.sought.new.name c.sought.new.version c.in-Some.sought.versioned tells.0 [] 0 _
@@ -65,7 +65,7 @@ returns-clause-known g c =
     let asks = asks_one c.args.objects.now c.args.at.place c.index-objects-at.result c.sought.new.self c.requires (spends_same e.costs e.same_headers) e.pays in
     λ headers files told are found below.
     let here = file_here headers c.args.at.place c.args.objects.now files c.index-objects-at.result are c.requires in
-    let scope = ap (scope_of (get_or files c.args.at.place [])) here.1 ∙ found in
+    let scope = ap (lookup_tables_of (get_or files c.args.at.place [])) here.1 ∙ found in
     let tells = rw c.in-Some.is at (c.in_ok-sought.ensures.known (get_or files c.args.at.place []) told here.0 scope below) in
     let of = rw c.in-Some.is at (c.in_ok-sought.ensures.of_file (get_or files c.args.at.place []) told here.0 scope below) in
     let same = c.state_of.ensures.shown in

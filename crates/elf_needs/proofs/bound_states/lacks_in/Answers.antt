@@ -1,7 +1,7 @@
 -- The object of a name is found or not, and looked in.
 use Rattle.std.proofs.Common.{◌<◌, [], length, get_or, Ok, sym, ap, ◌∙◌, arith}
 use Rattle.elf_headers.proofs.Absent.{none-of}
-use Rattle.elf_model.specs.LoaderScope.{scope_of}
+use Rattle.elf_model.specs.LoaderScope.{lookup_tables_of}
 use Rattle.elf_needs.specs.Bound.{bound_among}
 use Rattle.elf_needs.proofs.AskLaws.{as_many, asks_one, file_here, limited_of, spends_same}
 use Rattle.elf_needs.proofs.StateLaws.{lacks_it, lacks_refused, not_called, not_placed, not_there}
@@ -37,7 +37,7 @@ returns-in-Ok-clause-known g c =
     let told = c.lacks_version.ensures.known (get_or files c.in-Some-place_of.place []) here.0 in
     ap Ok (lacks_it (bound_among headers files c.args.among.now) c.args.name.now c.args.version.now c.in-Some.index (sym c.called.ensures ∙ c.in-Some.is) c.in-Some-place_of.place
     (sym c.place_of.ensures ∙ c.in-Some-place_of.is) (omega (arith, less, as_many headers c.args.objects.now files are)) told.0
-    (ap (scope_of (get_or files c.in-Some-place_of.place [])) (sym here.1) ∙ told.1) c.in-Ok.lacks (rw c.in-Ok.is at told.2))
+    (ap (lookup_tables_of (get_or files c.in-Some-place_of.place [])) (sym here.1) ∙ told.1) c.in-Ok.lacks (rw c.in-Ok.is at told.2))
 
 pub returns-in-Err-clause-asks : goal.returns-in-Err-clause-asks
 returns-in-Err-clause-asks g c =
@@ -60,4 +60,4 @@ returns-in-Err-2-clause-known g c =
     let told = c.lacks_version.ensures.known (get_or files c.in-Some-place_of.place []) here.0 in
     ap Ok (lacks_refused (bound_among headers files c.args.among.now) c.args.name.now c.args.version.now c.in-Some.index (sym c.called.ensures ∙ c.in-Some.is) c.in-Some-place_of.place
     (sym c.place_of.ensures ∙ c.in-Some-place_of.is) (omega (arith, less, as_many headers c.args.objects.now files are)) told.0
-    (ap (scope_of (get_or files c.in-Some-place_of.place [])) (sym here.1) ∙ told.1) c.in-Err.fault (rw c.if-is_told_alone.false at c.is_told_alone.ensures) (rw c.in-Err.is at told.2))
+    (ap (lookup_tables_of (get_or files c.in-Some-place_of.place [])) (sym here.1) ∙ told.1) c.in-Err.fault (rw c.if-is_reported_alone.false at c.is_reported_alone.ensures) (rw c.in-Err.is at told.2))

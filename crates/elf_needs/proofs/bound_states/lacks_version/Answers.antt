@@ -2,7 +2,7 @@
 use Rattle.std.proofs.Common.{[], get_or, ap, ◌∙◌, arith}
 use Rattle.std.proofs.lemmas.Result.{err_from_is_err_and}
 use Rattle.elf_headers.proofs.Absent.{none-of}
-use Rattle.elf_model.specs.LoaderScope.{scope_of}
+use Rattle.elf_model.specs.LoaderScope.{lookup_tables_of}
 use Rattle.elf_needs.specs.Bound.{bound_among}
 use Rattle.elf_needs.proofs.AskLaws.{are_kept, asks_one, asks_then, file_here, spends_same}
 use Rattle.elf_needs.proofs.StateLaws.{lacks_fileless, lacks_named, lacks_unnamed, lacks_unversioned, lacks_weak}
@@ -37,7 +37,7 @@ returns-in_err-needed_file-clause-known g c =
     rw (p.1, p.2)
     (λ headers files told are found some weak is.
     let here = file_here headers c.args.at.place c.args.objects.now files c.index-objects-at.result are c.requires in
-    let tells = c.in_err-needed_file.ensures.known (get_or files c.args.at.place []) told here.0 (ap (scope_of (get_or files c.args.at.place [])) here.1 ∙ found) some in
+    let tells = c.in_err-needed_file.ensures.known (get_or files c.args.at.place []) told here.0 (ap (lookup_tables_of (get_or files c.args.at.place [])) here.1 ∙ found) some in
     lacks_unnamed (bound_among headers files c.args.among.now) (get_or files c.args.at.place []) told.symbols c.args.at.symbol c.args.names.now.version c.args.sought.now.versioned c.args.sought.now.weak
     c.if-not-sought.false weak c.if-sought.false c.in-Some.file c.args.sought.now.file is c.in-Some.is c.needed_file.new.name _ tells)
 
@@ -52,7 +52,7 @@ returns-clause-known g c =
     let e = c.needed_file.ensures in
     let asks = asks_one c.args.objects.now c.args.at.place c.index-objects-at.result c.needed_file.new.self c.requires (spends_same e.costs e.same_headers) e.pays in
     let here = file_here headers c.args.at.place c.args.objects.now files c.index-objects-at.result are c.requires in
-    let tells = c.in_ok-needed_file.ensures.known (get_or files c.args.at.place []) told here.0 (ap (scope_of (get_or files c.args.at.place [])) here.1 ∙ found) some in
+    let tells = c.in_ok-needed_file.ensures.known (get_or files c.args.at.place []) told here.0 (ap (lookup_tables_of (get_or files c.args.at.place [])) here.1 ∙ found) some in
     let named = lacks_named (bound_among headers files c.args.among.now) (get_or files c.args.at.place []) told.symbols c.args.at.symbol c.args.names.now.version c.args.sought.now.versioned c.args.sought.now.weak
     c.if-not-sought.false weak c.if-sought.false c.in-Some.file c.args.sought.now.file is c.in-Some.is c.needed_file.new.name tells in
     rw named (rw (c.bytes.ensures.value, c.bytes-2.ensures.value) at (c.lacks_in.ensures.known headers files (are_kept headers files asks are)))

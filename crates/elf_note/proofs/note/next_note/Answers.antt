@@ -2,7 +2,7 @@ use Rattle.std.proofs.Common.{◌≡◌, ℕ, ◌+◌, ◌-◌, ◌<◌, ◌≤�
 use Rattle.std.proofs.lemmas.List.{take_at}
 use Rattle.std.proofs.lemmas.Result.{err_from_is_err_and}
 use Rattle.elf_model.specs.Bytes.{slice}
-use Rattle.elf_model.specs.Notes.{descriptor_start, to_next}
+use Rattle.elf_model.specs.Notes.{descriptor_start, bytes_to_alignment}
 use Rattle.elf_record.specs.NoteHead.{IsNoteHead}
 use Rattle.elf_table.specs.Windows.{bytes_left, range_end}
 use Rattle.elf_note.specs.NoteCursors.{note_size}
@@ -32,11 +32,11 @@ returns-then-left-from-clause-tells g c = λ file h a f.
     let tm = c.in_ok-take.ensures.reads.went.moves.same_end in
     let ta = c.in_ok-take.ensures.at in
     let lf = c.left-2.ensures.value in
-    let gap = c.gap_between-gap.ensures.value in
+    let gap = c.alignment_gap-gap.ensures.value in
     let f1 = c.from.ensures in
     let f2 = c.from-2.ensures in
     let test = c.if-left-from.true in
-    let few : bytes_left w < 12 + head.namesz + c.gap_between-gap.result + head.descsz = omega arith in
+    let few : bytes_left w < 12 + head.namesz + c.alignment_gap-gap.result + head.descsz = omega arith in
     left-short c.args.align file w head stands ends many (rw gap at few)
 
 -- where the parts of a note stand that is read, and the window behind it
@@ -49,8 +49,8 @@ laid : (g : Over) (c : In_ok-read_rest g)
 laid g c =
     let w = c.args.window.now in
     let head = c.decode-head.result in
-    let gp = c.gap_between-gap.result in
-    let gap = c.gap_between-gap.ensures.value in
+    let gp = c.alignment_gap-gap.result in
+    let gap = c.alignment_gap-gap.ensures.value in
     let ta : c.take.new.window.at ≡ w.at + 12 = c.in_ok-take.ensures.at in
     let te : range_end c.take.new.window ≡ range_end w = c.in_ok-take.ensures.reads.went.moves.same_end in
     let lf : c.left-2.result ≡ bytes_left c.take.new.window = c.left-2.ensures.value in
@@ -73,7 +73,7 @@ laid g c =
       c.in_ok-read_rest.ensures.reads.went.moves.same_end ∙ se ∙ ne ∙ te,
       moved-by c.args.align w.at head.namesz head.descsz (bytes_left w) (bytes_left c.skip.new.self) c.at-desc_at.result (c.at-desc_at.result - c.at-at.result) c.read_rest.new.window.at
           (rw gap at place) (rw gap at start) (rw gap at fit) (rw gap at behind)
-          (c.in_ok-read_rest.ensures.at ∙ ap (λ (x : ℕ). x + head.descsz + min (to_next c.args.align (c.at-desc_at.result - c.at-at.result + head.descsz)) (bytes_left c.skip.new.self - head.descsz)) (sym da)),
+          (c.in_ok-read_rest.ensures.at ∙ ap (λ (x : ℕ). x + head.descsz + min (bytes_to_alignment c.args.align (c.at-desc_at.result - c.at-at.result + head.descsz)) (bytes_left c.skip.new.self - head.descsz)) (sym da)),
     )
 
 pub returns-clause-tells : goal.returns-clause-tells

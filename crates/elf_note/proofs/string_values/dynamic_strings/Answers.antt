@@ -2,7 +2,7 @@ use Rattle.std.proofs.Common.{◌≡◌, List, ℕ, Some, Option, ap, sym, ◌�
 use Rattle.elf_model.specs.Dynamic.{dynamic_value}
 use Rattle.elf_model.specs.Numbers.{DT_STRSZ, DT_STRTAB}
 use Rattle.elf_record.specs.Dyn.{IsDyn}
-use Rattle.elf_headers.proofs.LedgerLaws.{Did-of}
+use Rattle.elf_headers.proofs.LedgerLaws.{CallDid-of}
 use Rattle.elf_table.specs.Cursors.{next_row}
 use Rattle.elf_note.specs.DynCursors.{entries_left, first_value}
 use Rattle.elf_note.proofs.EntriesLeft.{given, ended, value-step, value-end}
@@ -36,7 +36,7 @@ returns-clause-did g c =
     let l = c.entries in
     let i = l.invariant in
     let a = c.in_ok-advance.ensures in
-    Did-of (goes-reads i.goes a.asks.reads) tt (λ file h.
+    CallDid-of (goes-reads i.goes a.asks.reads) tt (λ file h.
     let none = (ended l.src.seen.file l.cursor c.advance.new.self c.in_ok-advance.field-0 c.if-branch.false a.steps).none_left file in
     record {
       its_address = sym (value-end file l.cursor DT_STRTAB l.address none) ∙ i.address file h;

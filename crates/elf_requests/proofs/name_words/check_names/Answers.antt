@@ -16,15 +16,15 @@ pub returns-in-Some-clause-each : goal.returns-in-Some-clause-each
 returns-in-Some-clause-each c =
     let rows = rows_of (found_of c.args.options.now) in
     let words = ap (λ o. unwrap_or o []) (c.in-Some.ensures ∙ raw_values-rows (found_of c.args.options.now) (codes "name")) in
-    let each = subst (λ given. IfOk c.check_words.result (λ _. AreTexts c.asks_versions-versions.result given)) words c.check_words.ensures.each in
-    subst (λ versions. IfOk c.check_words.result (λ _. AreTexts versions (name_words rows))) c.asks_versions-versions.ensures each
+    let each = subst (λ given. IfOk c.check_words.result (λ _. AreTexts c.has_versions_option-versions.result given)) words c.check_words.ensures.each in
+    subst (λ versions. IfOk c.check_words.result (λ _. AreTexts versions (name_words rows))) c.has_versions_option-versions.ensures each
 
 pub returns-in-Some-clause-refused : goal.returns-in-Some-clause-refused
 returns-in-Some-clause-refused c =
     let rows = rows_of (found_of c.args.options.now) in
     let words = ap (λ o. unwrap_or o []) (c.in-Some.ensures ∙ raw_values-rows (found_of c.args.options.now) (codes "name")) in
-    let bad = subst (λ given. IfErr c.check_words.result (AreBadWords c.asks_versions-versions.result given)) words c.check_words.ensures.refused in
-    subst (λ versions. IfErr c.check_words.result (AreBadWords versions (name_words rows))) c.asks_versions-versions.ensures bad
+    let bad = subst (λ given. IfErr c.check_words.result (AreBadWords c.has_versions_option-versions.result given)) words c.check_words.ensures.refused in
+    subst (λ versions. IfErr c.check_words.result (AreBadWords versions (name_words rows))) c.has_versions_option-versions.ensures bad
 
 pub returns-in-None-clause-few : goal.returns-in-None-clause-few
 returns-in-None-clause-few c =
@@ -35,5 +35,5 @@ pub returns-in-None-clause-each : goal.returns-in-None-clause-each
 returns-in-None-clause-each c =
     let rows = rows_of (found_of c.args.options.now) in
     let words = ap (λ o. unwrap_or o []) (c.in-None.ensures ∙ raw_values-rows (found_of c.args.options.now) (codes "name")) in
-    let each = subst (λ given. IfOk c.check_words-in-None.result (λ _. AreTexts c.asks_versions-versions.result given)) words c.check_words-in-None.ensures.each in
-    subst (λ versions. IfOk c.check_words-in-None.result (λ _. AreTexts versions (name_words rows))) c.asks_versions-versions.ensures each
+    let each = subst (λ given. IfOk c.check_words-in-None.result (λ _. AreTexts c.has_versions_option-versions.result given)) words c.check_words-in-None.ensures.each in
+    subst (λ versions. IfOk c.check_words-in-None.result (λ _. AreTexts versions (name_words rows))) c.has_versions_option-versions.ensures each

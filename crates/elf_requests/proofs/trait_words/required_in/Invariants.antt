@@ -1,13 +1,13 @@
 use Rattle.std.proofs.Common.{◌≡◌, ◌++◌, length, map, Some, IsUtf8}
 use Rattle.elf_wanted.specs.Required.{required_words}
-use Rattle.elf_wanted.specs.Spelled.{spelled_word}
+use Rattle.elf_wanted.specs.Spelled.{parsed_trait_word}
 use Rattle.elf_requests.specs.AskedTraits.{pieces}
 use Rattle.elf_requests.proofs.trait_words.required_in.Given as goal
 
 -- the words so far, and what the pieces of the rest spell, are what all pieces spell
 abbrev pub invariant-loop-piece : goal.invariant-loop-piece
 invariant-loop-piece l =
-    (map Some (required_words l.required.items) ++ map spelled_word (pieces l.rest) ≡ map spelled_word (pieces l.fn.text)) × IsUtf8 l.rest
+    (map Some (required_words l.required.items) ++ map parsed_trait_word (pieces l.rest) ≡ map parsed_trait_word (pieces l.fn.text)) × IsUtf8 l.rest
 
 abbrev pub decreases-loop-piece : goal.decreases-loop-piece
 decreases-loop-piece l = length l.rest

@@ -2,7 +2,7 @@ use Rattle.std.proofs.Common.{rules, refl, ap, sym, subst, ◌∙◌, codes, Som
 use Rattle.std.proofs.lemmas.Result.{err_from_is_err_and}
 use Rattle.clap.specs.Walk.{rows_of}
 use Rattle.clap.specs.Words.{found_of}
-use Rattle.elf_requests.specs.Asked.{ComesTo}
+use Rattle.elf_requests.specs.Asked.{ResolvesTo}
 use Rattle.elf_requests.proofs.ApplyLaws.{applied, no_section, refused}
 use Rattle.elf_requests.proofs.words.applying.Goals as goal
 
@@ -10,7 +10,7 @@ pub returns-in_err-layout : goal.returns-in_err-layout
 returns-in_err-layout c =
     let told = err_from_is_err_and c.from_residual.result c.from_residual.ensures.1 in
     let rows = rows_of (found_of c.args.options.now) in
-    subst (ComesTo (Some (codes "apply", rows))) (sym (told.1 ∙ ap (λ fault. Err fault) told.2))
+    subst (ResolvesTo (Some (codes "apply", rows))) (sym (told.1 ∙ ap (λ fault. Err fault) told.2))
     (refused rows c.in_err-layout.field-0.0 c.in_err-layout.ensures.refused)
 
 pub returns-in_default : goal.returns-in_default

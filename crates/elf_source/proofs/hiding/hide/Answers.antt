@@ -1,10 +1,10 @@
 use Rattle.std.proofs.Common.{sym, arith}
-use Rattle.elf_model.proofs.StyleLemmas.{view_behind}
+use Rattle.elf_model.proofs.StyleLemmas.{view_after}
 use Rattle.elf_source.proofs.HidingLaws.{one_more, all_done}
 use Rattle.elf_source.proofs.hiding.hide.Goals as goal
 
 pub returns-then-at-ge-HEADER_BYTES : goal.returns-then-at-ge-HEADER_BYTES
-returns-then-at-ge-HEADER_BYTES c = sym (view_behind c.args.at c.args.bytes.now (omega (arith, c.if-at-ge-HEADER_BYTES)))
+returns-then-at-ge-HEADER_BYTES c = sym (view_after c.args.at c.args.bytes.now (omega (arith, c.if-at-ge-HEADER_BYTES)))
 
 pub loop-index-preserved : goal.loop-index-preserved
 loop-index-preserved c =

@@ -1,7 +1,7 @@
 -- A turn reads some bytes behind those before it, or is interrupted.
 use Rattle.std.proofs.Common.{◌+◌, length, ◌∙◌, arith}
 use Rattle.std.proofs.lemmas.Slice.{take-put_mid_below}
-use Rattle.elf_source.proofs.TurnLaws.{filled_then, filled_all, turn_within, turn_behind, turned_at, turns_more}
+use Rattle.elf_source.proofs.TurnLaws.{filled_then, filled_all, turn_within, turn_after, turned_at, turns_more}
 use borrow.Rule.Slice.PartMut.{same_len_mid}
 use Rattle.elf_source.proofs.stream_source.read_all.Goals as goal
 
@@ -18,7 +18,7 @@ loop-got-preserved-in-Ok g c =
       counted = omega (arith, e.turn, i.counted);
       turned =
           turns_more g.R.Reader.one_turn c.args.reader.now c.read_at.new.self c.args.at (c.args.at + l.got) (c.args.at + (l.got + c.in-Ok.count)) (c.args.at + length c.args.out.now) _ _
-          (turn_behind g.R.Reader.one_turn c.args.reader.now l.reader c.read_at.new.self c.args.at l.got (length c.args.out.now) (l.got + l.interrupted) (c.args.at + l.got) l.out i.within l.auto.out (omega arith) i.turned e.once)
+          (turn_after g.R.Reader.one_turn c.args.reader.now l.reader c.read_at.new.self c.args.at l.got (length c.args.out.now) (l.got + l.interrupted) (c.args.at + l.got) l.out i.within l.auto.out (omega arith) i.turned e.once)
           (omega arith) (omega (arith, c.in-Ok.count-test.1));
       filled = λ file held.
           filled_then file l.out c.read_at.new.out c.args.at l.got c.in-Ok.count _ i.within (omega (arith, e.within, same)) (i.filled file held) (e.gives file (i.same ∙ held)).bytes;
@@ -37,7 +37,7 @@ loop-got-preserved g c =
       counted = omega (arith, turn, i.counted);
       turned =
           turns_more g.R.Reader.one_turn c.args.reader.now c.read_at.new.self c.args.at (c.args.at + l.got) (c.args.at + l.got) (c.args.at + length c.args.out.now) _ _
-          (turn_behind g.R.Reader.one_turn c.args.reader.now l.reader c.read_at.new.self c.args.at l.got (length c.args.out.now) (l.got + l.interrupted) (c.args.at + l.got) l.out i.within l.auto.out (omega arith) i.turned e.ensures.once)
+          (turn_after g.R.Reader.one_turn c.args.reader.now l.reader c.read_at.new.self c.args.at l.got (length c.args.out.now) (l.got + l.interrupted) (c.args.at + l.got) l.out i.within l.auto.out (omega arith) i.turned e.ensures.once)
           (omega arith) (omega arith);
       filled = λ file held. take-put_mid_below l.got _ l.out c.read_at.new.out l.got (omega arith) i.within ∙ i.filled file held;
     }

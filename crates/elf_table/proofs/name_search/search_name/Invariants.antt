@@ -1,7 +1,7 @@
 use Rattle.std.proofs.Common.{◌≡◌, ℕ, ◌+◌, ◌-◌, ◌≤◌, List, length, take, None, Some, Ok}
 use Rattle.elf_model.specs.Bytes.{slice}
 use Rattle.elf_model.specs.Names.{nul_in}
-use Rattle.elf_table.specs.WindowCalls.{Through}
+use Rattle.elf_table.specs.WindowCalls.{ReadsThroughWindow}
 use Rattle.elf_table.specs.Windows.{HoldsBytes}
 use Rattle.elf_table.proofs.name_search.search_name.Given as goal
 
@@ -10,7 +10,7 @@ invariant-loop-done g l = record {
   in_range : l.done ≤ l.want;
   few : length l.name ≤ l.cap.bytes;
   place : l.window.at ≡ l.fn.window.at + l.done;
-  went : Through {X = Unit {0}} g.S.Source.one_read l.fn.src l.src l.fn.window l.window (Ok tt);
+  went : ReadsThroughWindow {X = Unit {0}} g.S.Source.one_read l.fn.src l.src l.fn.window l.window (Ok tt);
   no_nul : (file : List ℕ) → l.fn.src.seen.file ≡ Some file → HoldsBytes file l.fn.window → nul_in (slice file l.fn.window.at l.done) ≡ None;
   name : (file : List ℕ) → l.fn.src.seen.file ≡ Some file → HoldsBytes file l.fn.window → l.name ≡ take l.cap.bytes (slice file l.fn.window.at l.done);
 }

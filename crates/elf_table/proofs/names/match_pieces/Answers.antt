@@ -1,7 +1,7 @@
 use Rattle.std.proofs.Common.{◌≡◌, ℕ, ◌+◌, List, Some, length, refl, ◌∙◌, arith, rules}
 use Rattle.elf_model.specs.Bytes.{slice}
-use Rattle.elf_headers.proofs.LedgerLaws.{Did-of}
-use Rattle.elf_table.proofs.NameWindows.{piece-of_file, piece-some, Between-next, Reads-next}
+use Rattle.elf_headers.proofs.LedgerLaws.{CallDid-of}
+use Rattle.elf_table.proofs.NameWindows.{piece-of_file, piece-some, Between-next, ReadsUpTo-next}
 use Rattle.elf_table.proofs.Pieces.{alike-more, differ-here}
 use Rattle.elf_table.proofs.names.match_pieces.Goals as goal
 
@@ -11,7 +11,7 @@ returns-then-not-agrees-clause-did g c =
     let i = l.invariant in
     let b = c.in_ok-bring.ensures in
     let p = c.front-piece.result.now in
-    Did-of (search rules) tt (λ file h.
+    CallDid-of (search rules) tt (λ file h.
     let piece = piece-of_file file c.args.start c.args.want l.done l.window c.bring.new.self p i.stands b.brings
     (λ bytes e. b.went.agrees bytes (i.reads.keeps.same_file ∙ h ∙ e)) c.front-piece.ensures in
     let some = piece-some c.args.start c.args.want l.done l.window c.bring.new.self p _ _ i.stands b.brings b.went.moves c.front-piece.ensures in
@@ -34,6 +34,6 @@ loop-done-preserved g c =
     record {
       in_range = some.1;
       stands = Between-next c.args.start c.args.want l.done l.window c.bring.new.self c.skip.new.self p _ _ i.stands b.brings b.went.moves c.front-piece.ensures s.at s.end s.page s.held;
-      reads = Reads-next c.args.src.now l.src c.bring.new.src c.args.start c.args.want l.done l.window c.bring.new.self p i.stands b.brings b.went.moves c.front-piece.ensures i.reads b.went.reads;
+      reads = ReadsUpTo-next c.args.src.now l.src c.bring.new.src c.args.start c.args.want l.done l.window c.bring.new.self p i.stands b.brings b.went.moves c.front-piece.ensures i.reads b.went.reads;
       alike = λ file h. alike-more file p c.args.wanted.now c.args.start l.done (length p) (piece file h) refl (i.alike file h) c.if-not-agrees.ensures;
     }

@@ -1,5 +1,5 @@
 use Rattle.std.proofs.Common.{◌≡◌, ℕ, ◌+◌, ◌-◌, ◌<◌, ◌≤◌, List, get_or, Some}
-use Rattle.elf_source.specs.Source.{Reads}
+use Rattle.elf_source.specs.Source.{ReadsUpTo}
 use Rattle.elf_table.proofs.NameWindows.{Between}
 use Rattle.elf_table.proofs.names.match_pieces.Given as goal
 
@@ -7,7 +7,7 @@ abbrev pub invariant-loop-done : goal.invariant-loop-done
 invariant-loop-done g l = record {
   in_range : l.done ≤ l.want;
   stands : Between l.start l.want l.done l.window;
-  reads : Reads l.fn.src l.src l.done;
+  reads : ReadsUpTo l.fn.src l.src l.done;
   alike : (file : List ℕ) → l.fn.src.seen.file ≡ Some file → (k : ℕ) → k < l.done → get_or file (l.start + k) 0 ≡ get_or l.wanted k 0;
 }
 

@@ -3,10 +3,10 @@ use Rattle.std.proofs.Common.{◌≡◌, ℕ, ◌+◌, ◌*◌, ◌<◌, ◌≤�
 use Rattle.std.proofs.lemmas.Result.{err_from_is_err_and}
 use Rattle.elf_model.specs.Notes.{note_align}
 use Rattle.elf_record.specs.declared.note_head.NoteHead.{NoteHead}
-use Rattle.elf_source.proofs.ReadsLaws.{Reads-none, Reads-then, Reads-to}
+use Rattle.elf_source.proofs.ReadsLaws.{ReadsUpTo-none, ReadsUpTo-then, ReadsUpTo-to}
 use Rattle.elf_traits.specs.Lists.{is_list}
 use Rattle.elf_traits.proofs.ListLaws.{kind_is, list_none, list_stops, named_is, namesz_is, note_gone, note_here, notes_begin, step_note}
-use Rattle.elf_traits.proofs.SpendLaws.{charges_behind}
+use Rattle.elf_traits.proofs.SpendLaws.{charges_after}
 use Rattle.elf_traits.proofs.notes.first_list.Goals as goal
 
 pub notes-init : goal.notes-init
@@ -17,7 +17,7 @@ notes-init g c =
       same_table = n.its_table;
       same_align = n.its_align;
       not_failed = n.not_failed;
-      reads = Reads-none c.args.src.now _;
+      reads = ReadsUpTo-none c.args.src.now _;
       account = omega (arith, unread);
       ends = rw n.ahead (omega arith);
       onward = rw n.ahead (omega arith);
@@ -34,7 +34,7 @@ returns-in_err-advance g c =
     rw (p.1, p.2)
     (record {
       did = record {
-        costs = charges_behind _ i.reads (omega (arith, account)) (record { reads = e.asks.reads; says = e.asks.says i.not_failed });
+        costs = charges_after _ i.reads (omega (arith, account)) (record { reads = e.asks.reads; says = e.asks.says i.not_failed });
         known = λ file held.
             let now = i.reads.keeps.same_file ∙ held in
             let align = note_align c.args.align in
@@ -44,8 +44,8 @@ returns-in_err-advance g c =
       within = tt;
     })
 
-pub returns-then-lists_properties : goal.returns-then-lists_properties
-returns-then-lists_properties g c =
+pub returns-then-is_property_note : goal.returns-then-is_property_note
+returns-then-is_property_note g c =
     let i = c.notes.invariant in
     let a = c.in_ok-advance.ensures in
     let old = c.notes.cursor in
@@ -59,11 +59,11 @@ returns-then-lists_properties g c =
     let all = ap (λ (n : ℕ). c.args.table.count * n) c.requires.bytes in
     record {
       did = record {
-        costs = charges_behind _ i.reads (omega (arith, account)) (record { reads = asks; says = tt });
+        costs = charges_after _ i.reads (omega (arith, account)) (record { reads = asks; says = tt });
         known = λ file held.
             let now = i.reads.keeps.same_file ∙ held in
             let gives = step.gives file now (i.agrees file held) in
-            let lists = sym (c.lists_properties.ensures gives.0 (kind_is file align old new _ _ shows gives.0 gives.2) (namesz_is file align old new _ _ shows gives.0 gives.2) (named_is file align old new _ _ shows gives.0 gives.2 _ c.bytes.ensures.value)) ∙ c.if-lists_properties.true in
+            let lists = sym (c.is_property_note.ensures gives.0 (kind_is file align old new _ _ shows gives.0 gives.2) (namesz_is file align old new _ _ shows gives.0 gives.2) (named_is file align old new _ _ shows gives.0 gives.2 _ c.bytes.ensures.value)) ∙ c.if-is_property_note.true in
             let size : c.row-row.result.head.descsz ≡ c.from.result = sym c.from.ensures in
             i.left file held ∙ (note_here file align old new _ c.row-row.result shows gives.0 gives.2 _ gives.1 lists
             ∙ ap (λ (n : ℕ). Ok (Some (is_list file (record { at = c.row-row.result.desc_at; size = n })))) size);
@@ -94,7 +94,7 @@ notes-preserved g c =
       same_table = a.keeps.same_table ∙ i.same_table;
       same_align = a.keeps.same_align ∙ i.same_align;
       not_failed = step.going;
-      reads = Reads-to (Reads-then i.reads a.asks.reads) (omega (arith, account, more));
+      reads = ReadsUpTo-to (ReadsUpTo-then i.reads a.asks.reads) (omega (arith, account, more));
       account = omega (arith, account, more);
       ends = a.keeps.moves.same_end ∙ i.ends;
       onward = omega (arith, i.onward, a.keeps.moves.onward);
@@ -102,7 +102,7 @@ notes-preserved g c =
       left = λ file held.
           let now = i.reads.keeps.same_file ∙ held in
           let gives = step.gives file now (i.agrees file held) in
-          let isnt = sym (c.lists_properties.ensures gives.0 (kind_is file align old new _ _ shows gives.0 gives.2) (namesz_is file align old new _ _ shows gives.0 gives.2) (named_is file align old new _ _ shows gives.0 gives.2 _ c.bytes.ensures.value)) ∙ c.if-lists_properties.false in
+          let isnt = sym (c.is_property_note.ensures gives.0 (kind_is file align old new _ _ shows gives.0 gives.2) (namesz_is file align old new _ _ shows gives.0 gives.2) (named_is file align old new _ _ shows gives.0 gives.2 _ c.bytes.ensures.value)) ∙ c.if-is_property_note.false in
           i.left file held ∙ note_gone file align old new _ c.row-row.result shows gives.0 gives.2 gives.1 isnt step.takes a.keeps.moves.same_end;
     }
 
@@ -113,7 +113,7 @@ returns g c =
     let account = i.account in
     record {
       did = record {
-        costs = charges_behind _ i.reads (omega (arith, account)) (record { reads = a.asks.reads; says = tt });
+        costs = charges_after _ i.reads (omega (arith, account)) (record { reads = a.asks.reads; says = tt });
         known = λ file held.
             let now = i.reads.keeps.same_file ∙ held in
             let align = note_align c.args.align in

@@ -3,17 +3,17 @@ use Rattle.std.proofs.Common.{◌≡◌, ◌-◌, ◌*◌, ◌≤◌, None}
 use Rattle.elf_model.specs.Cost.{sum_over}
 use Rattle.elf_model.specs.Properties.{listed_from, property_list}
 use Rattle.elf_model.specs.Records.{e_phnum}
-use Rattle.elf_headers.specs.Ledger.{Charges, Did}
-use Rattle.elf_headers.specs.Load.{Views}
+use Rattle.elf_headers.specs.Ledger.{CallReads, CallDid}
+use Rattle.elf_headers.specs.Load.{HoldsProgramHeaders}
 use Rattle.elf_traits.specs.Lists.{notes_asked}
 use Rattle.elf_traits.proofs.notes.property_list.Given as goal
 
 abbrev pub invariant-segments : goal.invariant-segments
 invariant-segments g l = record {
   below : l.segment ≤ l.fn.view.store.now.segments;
-  so_far : Did l.fn.src l.src None (l.segment * l.fn.src.seen.size)
-      (λ file. Views file l.fn.view.loaded l.fn.view.store.now →
-      Charges l.fn.src l.src None (sum_over (notes_asked file) 0 l.segment)
+  so_far : CallDid l.fn.src l.src None (l.segment * l.fn.src.seen.size)
+      (λ file. HoldsProgramHeaders file l.fn.view.loaded l.fn.view.store.now →
+      CallReads l.fn.src l.src None (sum_over (notes_asked file) 0 l.segment)
       × (property_list file ≡ listed_from file l.segment (e_phnum file - l.segment)));
 }
 

@@ -1,13 +1,13 @@
 -- So many bytes of the list are gone through, and what is left of it tells the rest.
 use Rattle.std.proofs.Common.{◌-◌, ◌≤◌, None}
-use Rattle.elf_headers.specs.Ledger.{Did}
+use Rattle.elf_headers.specs.Ledger.{CallDid}
 use Rattle.elf_traits.proofs.PropertyLaws.{LeftOf}
 use Rattle.elf_traits.proofs.properties.features_in.Given as goal
 
 abbrev pub invariant-properties : goal.invariant-properties
 invariant-properties g l = record {
   within : l.done ≤ l.fn.size;
-  so_far : Did l.fn.src l.src None l.done (λ file. LeftOf file l.fn.at l.fn.size l.done l.found);
+  so_far : CallDid l.fn.src l.src None l.done (λ file. LeftOf file l.fn.at l.fn.size l.done l.found);
 }
 
 abbrev pub decreases-properties : goal.decreases-properties

@@ -2,7 +2,7 @@
 use Rattle.std.proofs.Common.{◌≡◌, ℕ, ◌+◌, ap, ◌∙◌, arith}
 use Rattle.std.proofs.lemmas.Result.{err_from_is_err_and}
 use Rattle.elf_model.specs.Bytes.{field}
-use Rattle.elf_headers.proofs.LedgerLaws.{Did-as, Did-none}
+use Rattle.elf_headers.proofs.LedgerLaws.{CallDid-as, CallDid-none}
 use Rattle.elf_versions.specs.Words.{end_of_named_record}
 use Rattle.elf_versions.proofs.WordLaws.{definition-index, own-index}
 use Rattle.elf_versions.proofs.reading.read_name.Goals as goal
@@ -21,7 +21,7 @@ returns-in_ok-read-in-Definition g c =
     let place = c.args.stand.now.place in
     rw c.in-Definition.is
     (record {
-      did = Did-as _ (omega arith) c.in_ok-read-in-Definition.ensures.did
+      did = CallDid-as _ (omega arith) c.in_ok-read-in-Definition.ensures.did
           (λ file told costs held words.
           let there : table + (place + c.from.result) ≡ table + place + c.args.words.now.aux = omega (arith, c.from.ensures) in
           c.word.ensures.stands file (table + (place + c.from.result)) (told held)
@@ -31,7 +31,7 @@ returns-in_ok-read-in-Definition g c =
 pub returns-in-File : goal.returns-in-File
 returns-in-File g c =
     record {
-      did = Did-as _ (omega arith) (Did-none c.args.src.now)
+      did = CallDid-as _ (omega arith) (CallDid-none c.args.src.now)
           (λ file told costs held words.
           own-index file c.args.stand.now.kind (c.args.held.now.table.at + c.args.stand.now.place) c.args.words.now c.in-File.is words);
     }
@@ -39,4 +39,4 @@ returns-in-File g c =
 pub returns-in_err-read-in-Definition : goal.returns-in_err-read-in-Definition
 returns-in_err-read-in-Definition g c =
     let p = err_from_is_err_and c.from_residual.result c.from_residual.ensures.1 in
-    rw (p.1, p.2, c.in-Definition.is) (record { did = Did-as _ (omega arith) c.in_err-read-in-Definition.ensures.did (λ file told costs held words. told held) })
+    rw (p.1, p.2, c.in-Definition.is) (record { did = CallDid-as _ (omega arith) c.in_err-read-in-Definition.ensures.did (λ file told costs held words. told held) })

@@ -2,9 +2,9 @@
 use Rattle.std.proofs.Common.{◌≡◌, ℕ, ◌+◌, ap, sym, ◌∙◌, arith}
 use Rattle.std.proofs.lemmas.Result.{err_from_is_err_and}
 use Rattle.elf_headers.specs.declared.fault.Fault.TheVariants.{Refused}
-use Rattle.elf_headers.proofs.LedgerLaws.{Did-as, Did-stop, Did-then}
+use Rattle.elf_headers.proofs.LedgerLaws.{CallDid-as, CallDid-stop, CallDid-then}
 use Rattle.elf_table.specs.Tables.{Rows}
-use Rattle.elf_versions.specs.Reading.{stand_of}
+use Rattle.elf_versions.specs.Reading.{record_position_of}
 use Rattle.elf_headers.proofs.Absent.{none-of}
 use Rattle.elf_versions.proofs.WordLaws.{asks-words, asks-name, distance-inside, read-fails, record-checked}
 use Rattle.elf_versions.proofs.reading.read_record.Goals as goal
@@ -17,7 +17,7 @@ returns-in-Some-clause-did g c =
     let size : c.len.result ≡ h.table.count = c.len.ensures ∙ ap (λ (t : Rows). t.count) c.table-table.ensures.is in
     let passes = rw c.in-Some.is at c.refused_words.ensures.passes in
     let checked = rw (at, size) at c.refused_words.ensures.is in
-    Did-as _ (asks-words h s.kind) (Did-stop (Refused c.in-Some.refusal) passes c.in_ok-words.ensures.did)
+    CallDid-as _ (asks-words h s.kind) (CallDid-stop (Refused c.in-Some.refusal) passes c.in_ok-words.ensures.did)
     (λ file told costs held knows other.
     record-checked file h.table.at h.table.count s c.in_ok-words.words c.requires.has.inside (told held) ∙ sym checked ∙ c.in-Some.is)
 
@@ -43,7 +43,7 @@ returns-clause-did g c =
     let checked = rw (at, size) at c.refused_words.ensures.is in
     let passes = none-of c.refused_words.result c.in_default.not-Some in
     let leads = rw same at c.behind.ensures.leads in
-    Did-as _ (asks-name h s.kind) (Did-then c.in_ok-words.ensures.did c.in_ok-name.ensures.did)
+    CallDid-as _ (asks-name h s.kind) (CallDid-then c.in_ok-words.ensures.did c.in_ok-name.ensures.did)
     (λ file told costs held knows.
     let stands = told.0 held in
     let there = leads file knows stands in
@@ -71,8 +71,8 @@ returns-in_err-words g c =
     let p = err_from_is_err_and c.from_residual.result c.from_residual.ensures.1 in
     rw (p.1, p.2)
     (record {
-      did = Did-as _ (asks-words h s.kind) c.in_err-words.ensures.did
-          (λ file told costs held knows. read-fails file h.table.at h.table.count (stand_of s) _ (told held));
+      did = CallDid-as _ (asks-words h s.kind) c.in_err-words.ensures.did
+          (λ file told costs held knows. read-fails file h.table.at h.table.count (record_position_of s) _ (told held));
       fits = tt;
     })
 
@@ -83,8 +83,8 @@ returns-in_err-name g c =
     let p = err_from_is_err_and c.from_residual-in_err-name.result c.from_residual-in_err-name.ensures.1 in
     rw (p.1, p.2)
     (record {
-      did = Did-as _ (asks-name h s.kind) (Did-then c.in_ok-words.ensures.did c.in_err-name.ensures.did)
-          (λ file told costs held knows. read-fails file h.table.at h.table.count (stand_of s) _ (told.1 held (told.0 held)));
+      did = CallDid-as _ (asks-name h s.kind) (CallDid-then c.in_ok-words.ensures.did c.in_err-name.ensures.did)
+          (λ file told costs held knows. read-fails file h.table.at h.table.count (record_position_of s) _ (told.1 held (told.0 held)));
       fits = tt;
     })
 

@@ -12,5 +12,5 @@ returns c =
     let asked = c.args.asked.now in
     let did = c.list_to-told.ensures in
     let gives = c.named_listing_of.ensures in
-    told_listing (AreCaps limits room × AsksListing asked (Some c.args.names.now)) c.args.file.now limits room (style_in asked (Some c.args.names.now) limits.name) (parts_in asked) c.tell_told.result c.args.out.now c.list_to-told.new.out
-    c.list_to-told.new.end c.tell_told.new.end c.list_to-told.result (did.shows asked (Some c.args.names.now) gives) did.within (did.cost asked (Some c.args.names.now) gives) did.budget c.tell_told.ensures.written c.tell_told.ensures.asked c.tell_told.ensures.status
+    told_listing (AreCaps limits room × AsksListing asked (Some c.args.names.now)) c.args.file.now limits room (style_in asked (Some c.args.names.now) limits.name) (parts_in asked) c.report_status.result c.args.out.now c.list_to-told.new.out
+    c.list_to-told.new.end c.report_status.new.end c.list_to-told.result (did.shows asked (Some c.args.names.now) gives) did.within (did.cost asked (Some c.args.names.now) gives) did.budget c.report_status.ensures.written c.report_status.ensures.asked c.report_status.ensures.status

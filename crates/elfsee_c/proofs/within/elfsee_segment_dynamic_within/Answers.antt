@@ -9,6 +9,6 @@ returns-clause-tells c =
     record {
       opened = opened;
       is_opened = rw (c.entries_left-most.ensures) at c.segment_dynamic_within.ensures;
-      tells = c.tell_opened.ensures;
+      tells = c.report_opened.ensures;
       counts = c.count_entries.ensures ∙ ap (λ most. asked_more c.args.asked.now (16 * entries_looked most opened)) c.entries_left-most.ensures;
     }

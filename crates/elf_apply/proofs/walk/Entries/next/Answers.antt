@@ -1,6 +1,6 @@
 use Rattle.std.proofs.Common.{rules, refl, ◌∙◌, arith}
 use Rattle.std.proofs.lemmas.Result.{err_from_is_err_and}
-use Rattle.elf_apply.proofs.ReadLaws.{Says-then}
+use Rattle.elf_apply.proofs.ReadLaws.{IsReadFault-then}
 use Rattle.elf_apply.proofs.WalkSteps.{asks-none, asks-then, finds-fault}
 use Rattle.elf_headers.proofs.OpenLaws.{still_open}
 use Rattle.elf_apply.proofs.walk.Entries.next.Goals as goal
@@ -82,7 +82,7 @@ returns-in_err-placed g c =
     rw (p.1, p.2)
     (record {
       asks = asks-then known.asks c.step.ensures.asks;
-      says = Says-then c.args.src.now c.steps.src c.step.new.src _ _ _ _ known.asks.reads known.asks.account e.says;
+      says = IsReadFault-then c.args.src.now c.steps.src c.step.new.src _ _ _ _ known.asks.reads known.asks.account e.says;
       went = tt;
       known = λ file held reads.
           let way = known.reads file held reads in

@@ -4,8 +4,8 @@ use Rattle.std.proofs.lemmas.Result.{err_from_is_err_and}
 use Rattle.elf_model.specs.Records.{section_at, sh_offset}
 use Rattle.elf_apply.proofs.Opened.{gave, given_row}
 use Rattle.elf_apply.specs.Entries.{beside_entry_cost}
-use Rattle.elf_apply.specs.Walk.{Goes, StepGives, WentOn}
-use Rattle.elf_apply.proofs.ReadLaws.{check_says, Says-more, Says-then}
+use Rattle.elf_apply.specs.Walk.{IsWalkAlive, StepGives, WentOn}
+use Rattle.elf_apply.proofs.ReadLaws.{check_says, IsReadFault-more, IsReadFault-then}
 use Rattle.elf_apply.proofs.WalkSteps.{unread-left, cost-row, row-asks, row-goes, goes-same, steps-row, fault-asks, end-asks, row-stores, row-nothing, row-fails, reads-row, same-walked}
 use Rattle.elf_apply.specs.declared.walk.Entries.{Entries}
 use Rattle.elf_apply.specs.declared.walk.WalkStep.{WalkStep}
@@ -79,7 +79,7 @@ returns-in_err-placed g c =
       says =
           let own : ℕ = beside_entry_cost c.args.target.now in
           let cost = cost-row c.args.target.now c.args.self.now now _ _ (c.advance.new.src.asked + own) refl gives.not_failed gives.still_not_failed gives.one_less c.in_ok-advance.ensures.account (omega arith) in
-          Says-then c.args.src.now c.advance.new.src c.entry_change.new.src _ own _ _ c.in_ok-advance.ensures.reads (omega (arith, cost)) did.costs.says;
+          IsReadFault-then c.args.src.now c.advance.new.src c.entry_change.new.src _ own _ _ c.in_ok-advance.ensures.reads (omega (arith, cost)) did.costs.says;
       went = tt;
       known = λ file held reads.
           let row = given_row _ _ _ c.row-row.result file c.args.self.now.cursor.table 24 (sh_offset file (section_at file c.args.self.now.current)) gives c.row-row.ensures held reads.agrees refl c.requires.goes.entry (reads.placed (omega (arith, gives.one_less))) in
@@ -108,7 +108,7 @@ returns-in_err-advance g c =
     rw (p.1, p.2)
     (record {
       asks = fault-asks c.args.target.now c.args.self.now _ _ _ _ refl e.steps.failed e.reads e.account;
-      says = Says-more c.args.src.now c.advance.new.src _ _ _ (unread-left c.args.target.now c.args.self.now) (e.says c.requires.goes.not_failed);
+      says = IsReadFault-more c.args.src.now c.advance.new.src _ _ _ (unread-left c.args.target.now c.args.self.now) (e.says c.requires.goes.not_failed);
       went = tt;
       known = λ file held reads. search rules;
     })

@@ -1,6 +1,6 @@
 -- The look for a version, between a limit that is set and taken away.
 use Rattle.std.proofs.Common.{◌*◌, ◌/◌, refl, arith, mul-le-mul_right}
-use Rattle.elf_headers.proofs.LedgerLaws.{Charges-more}
+use Rattle.elf_headers.proofs.LedgerLaws.{CallReads-more}
 use Rattle.elf_loader.proofs.ReadLaws.{most_all}
 use Rattle.elf_model.specs.Loader.{Version}
 use Rattle.elf_model.specs.LoaderFind.{record_cost}
@@ -15,8 +15,8 @@ returns g c =
     let set = c.limit.ensures in
     let did = c.lacks_version-lacks.ensures in
     let few = mul-le-mul_right (record_cost (Version c.args.version.now)) (most_all scope.symbols source.seen.size kept.lies.symbols) in
-    let spent = spent_off c.args.left.now c.take_off.new.left set (Charges-more (source.seen.size / 8 * record_cost (Version c.args.version.now)) (omega (arith, few)) did.costs) c.limit-2.ensures
-    (rw (c.asked.ensures, c.asked-asked.ensures) at c.take_off.ensures) in
+    let spent = spent_off c.args.left.now c.spend_budget.new.left set (CallReads-more (source.seen.size / 8 * record_cost (Version c.args.version.now)) (omega (arith, few)) did.costs) c.limit-2.ensures
+    (rw (c.asked.ensures, c.asked-asked.ensures) at c.spend_budget.ensures) in
     rw (← c.self.view_is)
     (record {
       costs = spent.0;

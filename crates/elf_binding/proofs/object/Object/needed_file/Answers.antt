@@ -10,7 +10,7 @@ returns g c =
     let kept = c.self.invariant in
     let set = c.limit.ensures in
     let did = c.whole_name-read.ensures in
-    let spent = spent_off c.args.left.now c.take_off.new.left set did.costs c.limit-2.ensures (rw (c.asked.ensures, c.asked-asked.ensures) at c.take_off.ensures) in
+    let spent = spent_off c.args.left.now c.spend_budget.new.left set did.costs c.limit-2.ensures (rw (c.asked.ensures, c.asked-asked.ensures) at c.spend_budget.ensures) in
     let off = c.from-off.ensures in
     rw (← c.self.view_is)
     (record {

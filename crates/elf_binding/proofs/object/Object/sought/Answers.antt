@@ -1,8 +1,8 @@
 -- What a symbol asks for, between a limit that is set and taken away.
 use Rattle.std.proofs.Common.{◌≡◌, refl, arith, mul-le-mul_right}
-use Rattle.elf_headers.proofs.LedgerLaws.{Charges-more}
+use Rattle.elf_headers.proofs.LedgerLaws.{CallReads-more}
 use Rattle.elf_loader.proofs.ReadLaws.{most_all}
-use Rattle.elf_binding.specs.Sought.{sought_bytes}
+use Rattle.elf_binding.specs.Sought.{reference_bytes}
 use Rattle.elf_binding.proofs.SpendLaws.{spent_off}
 use Rattle.elf_binding.proofs.object.Object.sought.Goals as goal
 
@@ -12,10 +12,10 @@ returns g c =
     let scope = c.self.inside.scope in
     let kept = c.self.invariant in
     let set = c.limit.ensures in
-    let did = c.sought_of-sought.ensures.did in
+    let did = c.reference_of-sought.ensures.did in
     let few = mul-le-mul_right 28 (most_all scope.symbols source.seen.size kept.lies.symbols) in
-    let spent = spent_off c.args.left.now c.take_off.new.left set (Charges-more (sought_bytes source.seen.size) (omega (arith, few)) did.costs) c.limit-2.ensures
-    (rw (c.asked.ensures, c.asked-asked.ensures) at c.take_off.ensures) in
+    let spent = spent_off c.args.left.now c.spend_budget.new.left set (CallReads-more (reference_bytes source.seen.size) (omega (arith, few)) did.costs) c.limit-2.ensures
+    (rw (c.asked.ensures, c.asked-asked.ensures) at c.spend_budget.ensures) in
     rw (← c.self.view_is)
     (record {
       costs = spent.0;
@@ -30,5 +30,5 @@ returns g c =
           let is = kept.known file held in
           let same : is.told ≡ told = let e = is.found in let f = found in cc in
           let here = rw same at is.is in
-          c.sought_of-sought.ensures.file file (rw set.seen held) told.symbols here.symbols;
+          c.reference_of-sought.ensures.file file (rw set.seen held) told.symbols here.symbols;
     })

@@ -1,6 +1,6 @@
 -- The count between a limit that is set and taken away.
 use Rattle.std.proofs.Common.{◌+◌, ◌≤◌, refl, arith}
-use Rattle.elf_headers.proofs.LedgerLaws.{Charges-more}
+use Rattle.elf_headers.proofs.LedgerLaws.{CallReads-more}
 use Rattle.elf_binding.proofs.SpendLaws.{spent_off}
 use Rattle.elf_binding.proofs.object.Object.symbol_count.Goals as goal
 
@@ -12,8 +12,8 @@ returns g c =
     let set = c.limit.ensures in
     let did = c.hashed_symbols-count.ensures in
     let within : scope.hash.size ≤ source.seen.size = omega (arith, kept.lies.table) in
-    let spent = spent_off c.args.left.now c.take_off.new.left set (Charges-more (16 + source.seen.size) (omega (arith, within)) did.costs) c.limit-2.ensures
-    (rw (c.asked.ensures, c.asked-asked.ensures) at c.take_off.ensures) in
+    let spent = spent_off c.args.left.now c.spend_budget.new.left set (CallReads-more (16 + source.seen.size) (omega (arith, within)) did.costs) c.limit-2.ensures
+    (rw (c.asked.ensures, c.asked-asked.ensures) at c.spend_budget.ensures) in
     rw (← c.self.view_is)
     (record {
       costs = spent.0;

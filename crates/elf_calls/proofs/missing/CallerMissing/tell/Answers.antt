@@ -9,10 +9,10 @@ returns c =
     let name = c.args.name.now in
     let told : CallerMissing = record {
       helpful = c.helpful.result;
-      section = c.wanted_section.result;
+      section = c.apply_input_of.result;
       relocation = c.args.missing.now.kind;
       name_len = length name;
       is_cut = c.cut_number.result;
       name = c.padded.result;
     } in
-    (c.helpful.ensures, c.wanted_section.ensures, refl, tells_symbol told c.args.end name c.padded.ensures c.cut_number.ensures)
+    (c.helpful.ensures, c.apply_input_of.ensures, refl, tells_symbol told c.args.end name c.padded.ensures c.cut_number.ensures)

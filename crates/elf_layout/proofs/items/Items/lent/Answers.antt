@@ -1,7 +1,7 @@
 use Rattle.std.proofs.Common.{ap, sym, subst, ◌∙◌, Equal, nat_cmp, get_or}
 use Rattle.std.proofs.lemmas.Cmp.{nat_cmp_total, ranked}
-use Rattle.elf_layout.specs.Lent.{lent_index, named, placed}
-use Rattle.elf_layout.specs.Listed.{HasTwice, NeverFalls}
+use Rattle.elf_layout.specs.Lent.{borrowed_index, named, placed}
+use Rattle.elf_layout.specs.Listed.{HasTwice, KeysNeverDescend}
 use Rattle.elf_layout.proofs.ListedSteps.{key_twice}
 use Rattle.elf_layout.proofs.items.Items.lent.Goals as goal
 
@@ -9,9 +9,9 @@ pub returns-in-Err-clause-refused : goal.returns-in-Err-clause-refused
 returns-in-Err-clause-refused c =
     let is = ap placed c.as_slice.ensures.value ∙ ap (λ l. l.sections) c.self.view_is in
     let items = c.as_slice.result.now in
-    let twice = key_twice lent_index (λ item. item.address) items nat_cmp_total (λ a b e. ranked a b Equal (sym e)) c.in-Err.i c.index.result.now c.in-Err.ensures.refused.0 (subst (NeverFalls nat_cmp) (sym is) c.requires.sections) c.in-Err.ensures.falls in
-    let key = ap lent_index (ap (λ l. get_or l c.in-Err.i c.index.result.now) c.as_slice.ensures.value ∙ sym c.index.ensures) in
-    subst (λ l. HasTwice l (lent_index c.index.result.now)) is (subst (HasTwice (placed items)) key twice)
+    let twice = key_twice borrowed_index (λ item. item.address) items nat_cmp_total (λ a b e. ranked a b Equal (sym e)) c.in-Err.i c.index.result.now c.in-Err.ensures.refused.0 (subst (KeysNeverDescend nat_cmp) (sym is) c.requires.sections) c.in-Err.ensures.falls in
+    let key = ap borrowed_index (ap (λ l. get_or l c.in-Err.i c.index.result.now) c.as_slice.ensures.value ∙ sym c.index.ensures) in
+    subst (λ l. HasTwice l (borrowed_index c.index.result.now)) is (subst (HasTwice (placed items)) key twice)
 
 pub returns-in-Err-names-clause-refused : goal.returns-in-Err-names-clause-refused
 returns-in-Err-names-clause-refused c =

@@ -1,11 +1,11 @@
 use Rattle.std.proofs.Common.{arith}
 use Rattle.std.proofs.lemmas.Cmp.{nat_cmp_total}
-use Rattle.elf_layout.specs.Lent.{lent_index}
+use Rattle.elf_layout.specs.Lent.{borrowed_index}
 use Rattle.elf_layout.proofs.LentSteps.{below_more}
 use Rattle.elf_layout.proofs.lent.SortedSections.new.Goals as goal
 
 pub loop-i-preserved : goal.loop-i-preserved
 loop-i-preserved c = record {
   within = omega (arith, c.loop-i-test.true);
-  below = below_more nat_cmp_total lent_index c.args.items.now c.loop-i.i c.loop-i.invariant.below c.if-not-section_follows.ensures;
+  below = below_more nat_cmp_total borrowed_index c.args.items.now c.loop-i.i c.loop-i.invariant.below c.if-not-section_follows.ensures;
 }

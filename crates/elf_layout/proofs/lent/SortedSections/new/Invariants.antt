@@ -1,14 +1,14 @@
 -- The indices before this one rise.
 use Rattle.std.proofs.Common.{length, ◌-◌, ◌≤◌}
 use Rattle.std.proofs.lemmas.Cmp.{nat_cmp_total}
-use Rattle.elf_layout.specs.Lent.{lent_index}
+use Rattle.elf_layout.specs.Lent.{borrowed_index}
 use Rattle.elf_layout.proofs.LentSteps.{Below}
 use Rattle.elf_layout.proofs.lent.SortedSections.new.Given as goal
 
 abbrev pub invariant-loop-i : goal.invariant-loop-i
 invariant-loop-i l = record {
   within : l.i ≤ length l.items;
-  below : Below nat_cmp_total lent_index l.items l.i;
+  below : Below nat_cmp_total borrowed_index l.items l.i;
 }
 
 abbrev pub decreases-loop-i : goal.decreases-loop-i

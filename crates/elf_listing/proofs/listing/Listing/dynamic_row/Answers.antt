@@ -4,10 +4,10 @@ use Rattle.std.proofs.Common.{◌≡◌, refl, ap, ◌∙◌, arith}
 use Rattle.std.proofs.lemmas.Result.{err_from_is_err_and}
 use Rattle.elf_model.specs.Dynamic.{dynamic_at}
 use Rattle.elf_fields.specs.Fronts.{front_of}
-use Rattle.elf_model.specs.LineFronts.{dynamic_front}
-use Rattle.elf_listing.specs.Strings.{strings_told, string_told}
-use Rattle.elf_listing.proofs.RowLaws.{Writes-as}
-use Rattle.elf_listing.proofs.StringsTold.{entry_is, told_row, told_shown, Stopped-told}
+use Rattle.elf_model.specs.LineFronts.{dynamic_prefix}
+use Rattle.elf_listing.specs.Strings.{strings_reported, string_told}
+use Rattle.elf_listing.proofs.RowLaws.{WroteSome-as}
+use Rattle.elf_listing.proofs.StringsTold.{entry_is, reported_row, told_shown, WroteUntilStop-told}
 use Rattle.elf_listing.proofs.ListsLaws.{Lists-named, Lists-unread}
 use Rattle.elf_listing.proofs.listing.Listing.dynamic_row.Goals as goal
 
@@ -17,15 +17,15 @@ returns-in_err-end g c =
     rw (p.1, p.2) (Lists-unread _ _ _ _ _ _ (omega arith) c.in_err-end.ensures.fetches (λ file held at of_kind row.
     let decoded = c.decode-entry.ensures.stands file c.args.row.now.at (c.whole.ensures ∙ row.bytes) in
     let here : c.args.row.now.at ≡ dynamic_at at c.args.row.now.index = omega (arith, row.here) in
-    rw (entry_is file (dynamic_front c.args.self.now.style.format c.args.self.now.style.gnu file c.args.row.now.at c.args.row.now.index) (style_of c.args.self.now.style) c.args.row.now.at c.args.row.now.index (dynamic_at at c.args.row.now.index) (strings_told c.args.strings.now file) refl here, c.in_err-end.ensures.fetches.1)
-    (Stopped-told _ _ c.args.row.now.at _ c.read_string.new.self.name _ (c.in_err-end.ensures.read file held of_kind decoded))))
+    rw (entry_is file (dynamic_prefix c.args.self.now.style.format c.args.self.now.style.gnu file c.args.row.now.at c.args.row.now.index) (style_of c.args.self.now.style) c.args.row.now.at c.args.row.now.index (dynamic_at at c.args.row.now.index) (strings_reported c.args.strings.now file) refl here, c.in_err-end.ensures.fetches.1)
+    (WroteUntilStop-told _ _ c.args.row.now.at _ c.read_string.new.self.name _ (c.in_err-end.ensures.read file held of_kind decoded))))
 
 pub returns : goal.returns
 returns g c = Lists-named _ _ _ _ _ _ _ _ (omega arith) c.in_ok-end.ensures.fetches c.named_line.ensures (λ file held at of_kind row.
     let decoded = c.decode-entry.ensures.stands file c.args.row.now.at (c.whole.ensures ∙ row.bytes) in
     let here : c.args.row.now.at ≡ dynamic_at at c.args.row.now.index = omega (arith, row.here) in
-    let read = told_shown c.args.row.now.at _ _ (string_told (strings_told c.args.strings.now file) file c.args.self.now.style.cap.bytes c.args.row.now.at) (c.in_ok-end.ensures.read file held of_kind decoded) in
-    let front = rw c.requires.format at (c.dynamic_front.ensures.front file c.args.row.now.at decoded) in
+    let read = told_shown c.args.row.now.at _ _ (string_told (strings_reported c.args.strings.now file) file c.args.self.now.style.cap.bytes c.args.row.now.at) (c.in_ok-end.ensures.read file held of_kind decoded) in
+    let front = rw c.requires.format at (c.dynamic_prefix.ensures.front file c.args.row.now.at decoded) in
     rw (← c.in_ok-end.ensures.fetches.1)
-    (Writes-as _ _ _ (entry_is file _ (style_of c.args.self.now.style) c.args.row.now.at c.args.row.now.index (dynamic_at at c.args.row.now.index) (strings_told c.args.strings.now file) front here ∙ ap (told_row (front_of c.dynamic_front.new.front) c.args.row.now.at) read.1)
+    (WroteSome-as _ _ _ (entry_is file _ (style_of c.args.self.now.style) c.args.row.now.at c.args.row.now.index (dynamic_at at c.args.row.now.index) (strings_reported c.args.strings.now file) front here ∙ ap (reported_row (front_of c.dynamic_prefix.new.front) c.args.row.now.at) read.1)
     (c.named_line.ensures.shows _ _ read.2)))

@@ -76,8 +76,8 @@ suffixed_symbols-requires g c = rw c.in-SuffixedSymbols.is at c.requires.below
 pub returns-in-SuffixedSymbols : goal.returns-in-SuffixedSymbols
 returns-in-SuffixedSymbols g c = rw c.in-SuffixedSymbols.is c.suffixed_symbols.ensures
 
-pub suffixed_relocations-requires : goal.suffixed_relocations-requires
-suffixed_relocations-requires g c = rw c.in-SuffixedRelocations.is at c.requires.below
+pub relocations_with_versions-requires : goal.relocations_with_versions-requires
+relocations_with_versions-requires g c = rw c.in-SuffixedRelocations.is at c.requires.below
 
 pub returns-in-SuffixedRelocations : goal.returns-in-SuffixedRelocations
-returns-in-SuffixedRelocations g c = rw c.in-SuffixedRelocations.is c.suffixed_relocations.ensures
+returns-in-SuffixedRelocations g c = rw c.in-SuffixedRelocations.is c.relocations_with_versions.ensures

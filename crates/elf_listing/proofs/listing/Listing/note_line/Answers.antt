@@ -5,8 +5,8 @@ use Rattle.elf_model.specs.Lines.{note_line}
 use Rattle.elf_model.specs.Listing.{Line}
 use Rattle.elf_fields.specs.Named.{shown_as}
 use Rattle.elf_listing.proofs.NotesShown.{named_as, note_is}
-use Rattle.elf_listing.proofs.RowLaws.{Whole-line, Stopped-line}
-use Rattle.elf_names.proofs.SpendsLaws.{Spends-none}
+use Rattle.elf_listing.proofs.RowLaws.{Whole-line, WroteUntilStop-line}
+use Rattle.elf_names.proofs.SpendsLaws.{SpendsAtMost-none}
 use Rattle.elf_listing.proofs.listing.Listing.note_line.Goals as goal
 
 pub returns-in_err-show_note : goal.returns-in_err-show_note
@@ -15,25 +15,25 @@ returns-in_err-show_note g c = record {
   keeps = record { same_src = refl; same_out = refl; same_file = refl; same_style = refl };
   spent =
       let p = err_from_is_err_and c.from_residual.result c.from_residual.ensures.1 in
-      rw (p.1, p.2) (Spends-none _ _ _ _ (omega arith), c.in_err-show_note.ensures.fails);
+      rw (p.1, p.2) (SpendsAtMost-none _ _ _ _ (omega arith), c.in_err-show_note.ensures.fails);
   shows = λ note is.
       let p = err_from_is_err_and c.from_residual.result c.from_residual.ensures.1 in
-      let front = rw c.requires.format at c.note_front.ensures.front in
+      let front = rw c.requires.format at c.note_prefix.ensures.front in
       let shown = named_as _ _ _ is.named ∙ ap (λ b. shown_as b c.args.self.now.name) (sym c.is_cut-is_cut.ensures)
       ∙ ap (shown_as c.is_cut-is_cut.result) (sym c.bytes-name.ensures.value) in
       let puts = c.in_err-show_note.ensures.puts note.descriptor (record { first_is = is.first_bytes; size_is = is.descsz }) in
       let line = note_is (style_of c.args.self.now.style) c.args.index _ _ _ _ note is.kind is.namesz is.descsz shown
       ∙ ap (λ f. Line (note_line f (shown_as c.is_cut-is_cut.result c.bytes-name.result.now) note.descriptor)) (sym front) in
-      rw (p.1, p.2, line) (Stopped-line _ puts.0);
+      rw (p.1, p.2, line) (WroteUntilStop-line _ puts.0);
 }
 
 pub returns : goal.returns
 returns g c = record {
   grows = c.in_ok-show_note.ensures.grows;
   keeps = record { same_src = refl; same_out = refl; same_file = refl; same_style = refl };
-  spent = (Spends-none _ _ _ _ (omega arith), tt);
+  spent = (SpendsAtMost-none _ _ _ _ (omega arith), tt);
   shows = λ note is.
-      let front = rw c.requires.format at c.note_front.ensures.front in
+      let front = rw c.requires.format at c.note_prefix.ensures.front in
       let shown = named_as _ _ _ is.named ∙ ap (λ b. shown_as b c.args.self.now.name) (sym c.is_cut-is_cut.ensures)
       ∙ ap (shown_as c.is_cut-is_cut.result) (sym c.bytes-name.ensures.value) in
       let puts = c.in_ok-show_note.ensures.puts note.descriptor (record { first_is = is.first_bytes; size_is = is.descsz }) in

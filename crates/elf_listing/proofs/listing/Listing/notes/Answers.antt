@@ -5,7 +5,7 @@ use Rattle.elf_headers.specs.Permitted.{style_of}
 use Rattle.elf_model.specs.Bytes.{slice}
 use Rattle.elf_model.specs.Notes.{note_align}
 use Rattle.elf_names.proofs.HeldLaws.{still_held}
-use Rattle.elf_names.proofs.SpendsLaws.{Spends-none}
+use Rattle.elf_names.proofs.SpendsLaws.{SpendsAtMost-none}
 use Rattle.elf_headers.proofs.OpenLaws.{still_open}
 use Rattle.elf_listing.proofs.LoopLaws.{account_kept, at_most, spent_unread, step_last, step_more, step_stopped}
 use Rattle.elf_listing.proofs.ViewedLaws.{still_viewed}
@@ -24,7 +24,7 @@ notes-init g c =
       same_align = n.its_align;
       not_failed = n.not_failed;
       keeps = record { same_src = refl; same_out = refl; same_file = refl; same_style = refl };
-      spends = Spends-none _ _ _ _ (omega arith);
+      spends = SpendsAtMost-none _ _ _ _ (omega arith);
       asked = omega (arith, unread);
       agrees = λ file held. rw n.ahead refl;
       grows = grows_not _;

@@ -4,10 +4,10 @@ use Rattle.elf_headers.specs.Permitted.{style_of}
 use Rattle.elf_model.specs.Bytes.{slice}
 use Rattle.elf_model.specs.Notes.{note_align, walked}
 use Rattle.elf_model.specs.Rows.{walk_rows}
-use Rattle.elf_names.specs.Ahead.{SpendsCredit}
+use Rattle.elf_names.specs.Ahead.{ReadsOnCredit}
 use Rattle.elf_note.specs.NoteCursors.{notes_left}
 use Rattle.elf_table.specs.Windows.{HoldsBytes, bytes_left}
-use Rattle.elf_source.specs.Growth.{Grows}
+use Rattle.elf_source.specs.Growth.{OutGrows}
 use Rattle.elf_listing.specs.Notes.{WrittenBefore, note_items}
 use Rattle.elf_listing.specs.Shows.{SameFile}
 use Rattle.elf_listing.proofs.listing.Listing.notes.Given as goal
@@ -21,10 +21,10 @@ invariant-notes g l =
       same_align : l.cursor.align ≡ align;
       not_failed : l.cursor.failed ≡ None;
       keeps : SameFile l.fn.self l.self;
-      spends : SpendsCredit l.fn.self.src.now l.self.src.now l.fn.self.ahead.credit l.self.ahead.credit l.fn.table.count;
+      spends : ReadsOnCredit l.fn.self.src.now l.self.src.now l.fn.self.ahead.credit l.self.ahead.credit l.fn.table.count;
       asked : l.self.src.now.asked + l.self.ahead.credit + l.cursor.ahead.unread ≤ l.fn.self.src.now.asked + (l.fn.self.ahead.credit + l.fn.table.count);
       agrees : (file : List ℕ) → l.fn.self.src.now.seen.file ≡ Some file → HoldsBytes file l.cursor.ahead;
-      grows : Grows l.fn.self.out.now l.self.out.now;
+      grows : OutGrows l.fn.self.out.now l.self.out.now;
       text : (file : List ℕ) → l.fn.self.src.now.seen.file ≡ Some file
           → WrittenBefore l.fn.self.out.now l.self.out.now
           (walk_rows style l.fn.index l.fn.table.at (walked align (slice file l.fn.table.at l.fn.table.count)))

@@ -5,11 +5,11 @@ use Rattle.elf_model.specs.VersionCost.{walks_cost}
 use Rattle.elf_model.specs.declared.versions.VersionKind.TheVariants.{Definition, File}
 use Rattle.elf_model.specs.Numbers.{SHT_GNU_VERDEF}
 use Rattle.elf_model.specs.VersionRows.{first_versions}
-use Rattle.elf_names.proofs.SpendsLaws.{Spends-then, Spends-to}
-use Rattle.elf_source.proofs.ReadsLaws.{Reads-none}
+use Rattle.elf_names.proofs.SpendsLaws.{SpendsAtMost-then, SpendsAtMost-to}
+use Rattle.elf_source.proofs.ReadsLaws.{ReadsUpTo-none}
 use Rattle.elf_listing.proofs.FirstTaken.{numbered-cut, numbered-later, or-none}
 use Rattle.elf_listing.proofs.ListsLaws.{SameFile-then}
-use Rattle.elf_listing.proofs.VersionedCosts.{Says-account}
+use Rattle.elf_listing.proofs.VersionedCosts.{IsReadFault-account}
 use Rattle.elf_listing.proofs.listing.Listing.numbered.Goals as goal
 
 pub returns-in_err-defined-clause-numbers : goal.returns-in_err-defined-clause-numbers
@@ -20,7 +20,7 @@ returns-in_err-defined-clause-numbers g c =
     let account = taken.fetches.2.account in
     rw (p.1, p.2)
     (record {
-      fetches = (taken.fetches.0, taken.fetches.1, Spends-to taken.fetches.2 (omega (arith, account)), Says-account _ _ _ _ 0 _ _ (omega arith) (Reads-none _ 0) taken.fetches.3);
+      fetches = (taken.fetches.0, taken.fetches.1, SpendsAtMost-to taken.fetches.2 (omega (arith, account)), IsReadFault-account _ _ _ _ 0 _ _ (omega arith) (ReadsUpTo-none _ 0) taken.fetches.3);
       within = tt;
       read = λ file held. numbered-cut file [] (λ f r. Unit {0}) [] _ (taken.taken file held [] (c.new-names.ensures file _));
     })
@@ -40,8 +40,8 @@ returns-in_err-needed-clause-numbers g c =
       fetches = (
         SameFile-then first.fetches.0 second.fetches.0,
         second.fetches.1 ∙ first.fetches.1,
-        Spends-to (Spends-then first.fetches.2 spends) (omega (arith, one, two)),
-        Says-account _ _ _ _ _ _ _ (omega (arith, one)) first.fetches.2.reads (rw same at second.fetches.3),
+        SpendsAtMost-to (SpendsAtMost-then first.fetches.2 spends) (omega (arith, one, two)),
+        IsReadFault-account _ _ _ _ _ _ _ (omega (arith, one)) first.fetches.2.reads (rw same at second.fetches.3),
       );
       within = tt;
       read = λ file held.
@@ -63,7 +63,7 @@ returns-clause-numbers g c =
       fetches = (
         SameFile-then first.fetches.0 second.fetches.0,
         second.fetches.1 ∙ first.fetches.1,
-        Spends-to (Spends-then first.fetches.2 spends) (omega (arith, one, two)),
+        SpendsAtMost-to (SpendsAtMost-then first.fetches.2 spends) (omega (arith, one, two)),
         tt,
       );
       within = (first.within, rw first.fetches.2.reads.keeps.same_size at second.within);

@@ -2,10 +2,10 @@
 use Rattle.std.proofs.Common.{rules, ◌≡◌, ℕ, ◌<◌, ◌==◌, not, [], refl, sym, ap, ◌∙◌, arith, Ok, Err}
 use Rattle.std.proofs.lemmas.Bool.{eq-eqb, ne_eqb}
 use Rattle.std.proofs.lemmas.Result.{err_from_is_err_and}
-use Rattle.elf_model.specs.Names.Shown.{Whole}
+use Rattle.elf_model.specs.Names.DisplayedName.{Whole}
 use Rattle.elf_model.specs.Records.{st_shndx}
 use Rattle.elf_names.proofs.HeldLaws.{still_ahead}
-use Rattle.elf_names.proofs.SpendsLaws.{Spends-none, Spends-then}
+use Rattle.elf_names.proofs.SpendsLaws.{SpendsAtMost-none, SpendsAtMost-then}
 use Rattle.elf_headers.proofs.OpenLaws.{still_open}
 use Rattle.elf_listing.proofs.ViewedLaws.{still_viewed}
 use Rattle.elf_listing.proofs.SymbolNamed.{says_behind, read_as, named_zero, named_unlinked, named_beyond, named_there, found_there, refuses_as}
@@ -15,7 +15,7 @@ use Rattle.elf_listing.proofs.listing.Listing.read_linked.Goals as goal
 
 pub returns-then-symbol-eq0 : goal.returns-then-symbol-eq0
 returns-then-symbol-eq0 g c = record {
-  fetches = (record { same_src = refl; same_out = refl; same_file = refl; same_style = refl }, refl, Spends-none _ _ _ _ (omega arith), tt);
+  fetches = (record { same_src = refl; same_out = refl; same_file = refl; same_style = refl }, refl, SpendsAtMost-none _ _ _ _ (omega arith), tt);
   read = λ file header held linked.
       rw (named_zero file c.args.self.now.style.cap.bytes header c.args.at c.args.symbol c.if-symbol-eq0.true) (ap (λ name. Ok (Whole name)) (sym c.clear.ensures));
   defined = λ file header held linked some. let zero = eq-eqb c.args.symbol 0 c.if-symbol-eq0.true in absurd cc;
@@ -23,7 +23,7 @@ returns-then-symbol-eq0 g c = record {
 
 pub returns-in_default : goal.returns-in_default
 returns-in_default g c = record {
-  fetches = (record { same_src = refl; same_out = refl; same_file = refl; same_style = refl }, refl, Spends-none _ _ _ _ (omega arith), rw c.refused.ensures (search rules));
+  fetches = (record { same_src = refl; same_out = refl; same_file = refl; same_style = refl }, refl, SpendsAtMost-none _ _ _ _ (omega arith), rw c.refused.ensures (search rules));
   read = λ file header held linked.
       rw c.refused.ensures (refuses_as _ _ _ (named_unlinked file c.args.self.now.style.cap.bytes header c.args.at c.args.symbol (ne_eqb c.args.symbol 0 c.if-symbol-eq0.false) (refers-nowhere file header _ c.in_default.is linked)));
   defined = λ file header held linked some. rw c.refused.ensures tt;
@@ -31,7 +31,7 @@ returns-in_default g c = record {
 
 pub returns-then-index-len : goal.returns-then-index-len
 returns-then-index-len g c = record {
-  fetches = (record { same_src = refl; same_out = refl; same_file = refl; same_style = refl }, refl, Spends-none _ _ _ _ (omega arith), rw c.refused-then-index-len.ensures (search rules));
+  fetches = (record { same_src = refl; same_out = refl; same_file = refl; same_style = refl }, refl, SpendsAtMost-none _ _ _ _ (omega arith), rw c.refused-then-index-len.ensures (search rules));
   read = λ file header held linked.
       let to = refers file header _ c.in-Some.found c.in-Some.is linked in
       let counted : c.len.result ≡ c.in-Some.found.0.count = c.len.ensures in
@@ -50,7 +50,7 @@ returns-in_err-end g c =
       fetches = (
         record { same_src = more.0.same_src; same_out = more.0.same_out; same_file = more.0.same_file; same_style = more.0.same_style },
         more.1,
-        Spends-then first more.2,
+        SpendsAtMost-then first more.2,
         says_behind {X = NameEnd} _ _ _ (Err c.in_err-end.field-0.0) _ _ _ (omega (arith, first.account)) first.reads more.3,
       );
       read = λ file header held linked.
@@ -72,7 +72,7 @@ returns g c =
       fetches = (
         record { same_src = more.0.same_src; same_out = more.0.same_out; same_file = more.0.same_file; same_style = more.0.same_style },
         more.1,
-        Spends-then first more.2,
+        SpendsAtMost-then first more.2,
         tt,
       );
       read = λ file header held linked.

@@ -1,12 +1,12 @@
 -- The name is looked for in the string table of the record that names the number.
 use Rattle.std.proofs.Common.{rules, ◌≡◌, ◌+◌, ◌<◌, length, refl, sym, ◌∙◌, arith}
-use Rattle.elf_names.proofs.SpendsLaws.{Spends-none}
+use Rattle.elf_names.proofs.SpendsLaws.{SpendsAtMost-none}
 use Rattle.elf_listing.proofs.SuffixNumbers.{told_defined, told_needed, told_nowhere}
 use Rattle.elf_listing.proofs.listing.Listing.read_number.Goals as goal
 
 pub returns-in-Nowhere : goal.returns-in-Nowhere
 returns-in-Nowhere g c = record {
-  fetches = (record { same_src = refl; same_out = refl; same_file = refl; same_style = refl }, refl, Spends-none _ _ _ _ (omega arith), rw c.refused.ensures (search rules));
+  fetches = (record { same_src = refl; same_out = refl; same_file = refl; same_style = refl }, refl, SpendsAtMost-none _ _ _ _ (omega arith), rw c.refused.ensures (search rules));
   kept = refl;
   read = λ file held numbered many.
       rw c.refused.ensures

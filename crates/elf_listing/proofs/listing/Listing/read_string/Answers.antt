@@ -1,11 +1,11 @@
 -- The string of an entry by the cases of the definition.
 use Rattle.std.proofs.Common.{rules, ◌≡◌, true, false, Ok, sym, ap, refl}
 use Rattle.std.proofs.lemmas.Result.{err_from_is_err_and}
-use Rattle.elf_model.specs.Names.Shown.{Whole}
+use Rattle.elf_model.specs.Names.DisplayedName.{Whole}
 use Rattle.elf_model.specs.Records.{d_tag}
 use Rattle.elf_model.specs.Rows.{is_string_tag}
-use Rattle.elf_listing.specs.Strings.{strings_told}
-use Rattle.elf_listing.proofs.StringsTold.{told_none, told_read, told_refused}
+use Rattle.elf_listing.specs.Strings.{strings_reported}
+use Rattle.elf_listing.proofs.StringsTold.{reported_none, told_read, told_refused}
 use Rattle.elf_listing.proofs.listing.Listing.read_string.Goals as goal
 
 pub returns-then-not-tells_of_string : goal.returns-then-not-tells_of_string
@@ -13,7 +13,7 @@ returns-then-not-tells_of_string g c = record {
   fetches = search rules;
   read = λ file held of decoded.
       let none : is_string_tag (d_tag file c.args.at) ≡ false = let is = c.tells_of_string.ensures file c.args.at decoded in cc in
-      rw (told_none (strings_told c.args.strings.now file) file c.args.self.now.style.cap.bytes c.args.at none) (ap (λ name. Ok (Whole name)) (sym c.clear.ensures));
+      rw (reported_none (strings_reported c.args.strings.now file) file c.args.self.now.style.cap.bytes c.args.at none) (ap (λ name. Ok (Whole name)) (sym c.clear.ensures));
 }
 
 pub returns-in_err-names : goal.returns-in_err-names
@@ -22,7 +22,7 @@ returns-in_err-names g c = record {
   read = λ file held of decoded.
       let p = err_from_is_err_and c.from_residual.result c.from_residual.ensures.1 in
       let tells : is_string_tag (d_tag file c.args.at) ≡ true = let is = c.tells_of_string.ensures file c.args.at decoded in cc in
-      rw (p.1, p.2) (told_refused (strings_told c.args.strings.now file) file c.args.self.now.name c.args.self.now.style.cap.bytes c.args.at _ _ refl tells (c.in_err-names.ensures.told file of));
+      rw (p.1, p.2) (told_refused (strings_reported c.args.strings.now file) file c.args.self.now.name c.args.self.now.style.cap.bytes c.args.at _ _ refl tells (c.in_err-names.ensures.told file of));
 }
 
 pub returns : goal.returns
@@ -30,7 +30,7 @@ returns g c = record {
   fetches = search rules;
   read = λ file held of decoded.
       let tells : is_string_tag (d_tag file c.args.at) ≡ true = let is = c.tells_of_string.ensures file c.args.at decoded in cc in
-      told_read (strings_told c.args.strings.now file) file _ c.args.self.now.style.cap.bytes c.args.at _ _ _ _ refl tells (c.in_ok-names.ensures.told file of) decoded.d_un (c.read_name.ensures.read file held);
+      told_read (strings_reported c.args.strings.now file) file _ c.args.self.now.style.cap.bytes c.args.at _ _ _ _ refl tells (c.in_ok-names.ensures.told file of) decoded.d_un (c.read_name.ensures.read file held);
 }
 
 pub read_name-requires : goal.read_name-requires

@@ -4,16 +4,16 @@ use Rattle.std.proofs.lemmas.Bool.{le-ltb}
 use Rattle.std.proofs.lemmas.Result.{err_from_is_err_and}
 use Rattle.elf_model.specs.Suffixes.{is_default}
 use Rattle.elf_model.specs.Versions.{number_in}
-use Rattle.elf_names.proofs.SpendsLaws.{Spends-none}
+use Rattle.elf_names.proofs.SpendsLaws.{SpendsAtMost-none}
 use Rattle.elf_table.specs.declared.names.NameEnd.{NameEnd}
-use Rattle.elf_listing.specs.SuffixNames.{number_told}
-use Rattle.elf_listing.proofs.SuffixShown.{Fetches-more, Fetches-then}
+use Rattle.elf_listing.specs.SuffixNames.{number_reported}
+use Rattle.elf_listing.proofs.SuffixShown.{ListingReads-more, ListingReads-then}
 use Rattle.elf_listing.proofs.SuffixWords.{default_none, default_of, named_failed, named_read, suffix_cut, suffix_named, suffix_none}
 use Rattle.elf_listing.proofs.listing.Listing.read_suffix.Goals as goal
 
 pub returns-then-index-len : goal.returns-then-index-len
 returns-then-index-len g c = record {
-  fetches = (record { same_src = refl; same_out = refl; same_file = refl; same_style = refl }, refl, Spends-none _ _ _ _ (omega arith), rw c.refused.ensures (search rules));
+  fetches = (record { same_src = refl; same_out = refl; same_file = refl; same_style = refl }, refl, SpendsAtMost-none _ _ _ _ (omega arith), rw c.refused.ensures (search rules));
   kept = refl;
   read = λ file held table symbol_at are defined.
       rw c.refused.ensures (λ other. suffix_cut file table c.args.suffixes.now are c.args.self.now.style.cap.bytes symbol_at c.args.index (omega (arith, c.if-index-len.true, c.len.ensures)));
@@ -26,7 +26,7 @@ returns-then-number-lt2 g c =
     let here : c.place-at.result ≡ c.args.suffixes.now.words.at + c.args.index * 2 =
     c.place-at.ensures ∙ ap (λ (entry : ℕ). c.args.suffixes.now.words.at + c.args.index * entry) c.requires.entry in
     record {
-      fetches = Fetches-more {X = Unit {0}} _ _ c.in_ok-word.word tt _ _ (omega arith) c.in_ok-word.ensures.fetches;
+      fetches = ListingReads-more {X = Unit {0}} _ _ c.in_ok-word.word tt _ _ (omega arith) c.in_ok-word.ensures.fetches;
       kept = c.in_ok-word.ensures.kept;
       read = λ file held table symbol_at are defined.
           suffix_none file table c.args.suffixes.now are cap symbol_at c.args.index there _ c.in_ok-word.word here (c.in_ok-word.ensures.read file held) (omega (arith, c.if-number-lt2.true));
@@ -46,11 +46,11 @@ returns-in_err-end g c =
     let same = first.0.same_style in
     rw (p.1, p.2)
     (record {
-      fetches = Fetches-then {X = NameEnd} _ _ _ c.in_ok-word.word (Err c.in_err-end.field-0.0) _ _ _ (rw same (omega arith)) first c.in_err-end.ensures.fetches;
+      fetches = ListingReads-then {X = NameEnd} _ _ _ c.in_ok-word.word (Err c.in_err-end.field-0.0) _ _ _ (rw same (omega arith)) first c.in_err-end.ensures.fetches;
       kept = c.in_err-end.ensures.kept ∙ c.in_ok-word.ensures.kept;
       read = λ file held table symbol_at are defined.
           let named = suffix_named file table c.args.suffixes.now are cap symbol_at c.args.index there _ c.in_ok-word.word here (c.in_ok-word.ensures.read file held) many in
-          named_failed _ _ _ (number_told file cap (number_in c.in_ok-word.word) c.place-at.result) (is_default file symbol_at c.in_ok-word.word) named
+          named_failed _ _ _ (number_reported file cap (number_in c.in_ok-word.word) c.place-at.result) (is_default file symbol_at c.in_ok-word.word) named
           (rw (same, number) at (c.in_err-end.ensures.read file (first.2.reads.keeps.same_file ∙ held) are.numbered high));
     })
 
@@ -66,10 +66,10 @@ returns-then-word-number g c =
     let first = c.in_ok-word.ensures.fetches in
     let same = first.0.same_style in
     record {
-      fetches = Fetches-then {X = NameEnd} _ _ _ c.in_ok-word.word (Ok c.in_ok-end.end) _ _ _ (rw same (omega arith)) first c.in_ok-end.ensures.fetches;
+      fetches = ListingReads-then {X = NameEnd} _ _ _ c.in_ok-word.word (Ok c.in_ok-end.end) _ _ _ (rw same (omega arith)) first c.in_ok-end.ensures.fetches;
       kept = c.in_ok-end.ensures.kept ∙ c.in_ok-word.ensures.kept;
       read = λ file held table symbol_at are defined.
-          let told = number_told file cap (number_in c.in_ok-word.word) c.place-at.result in
+          let told = number_reported file cap (number_in c.in_ok-word.word) c.place-at.result in
           let named = suffix_named file table c.args.suffixes.now are cap symbol_at c.args.index there _ c.in_ok-word.word here (c.in_ok-word.ensures.read file held) many in
           named_read _ _ _ told _ (named ∙ ap told (default_of file symbol_at c.in_ok-word.word c.args.is_defined (rw number at c.if-word-number.true) defined))
           (rw (same, number) at (c.in_ok-end.ensures.read file (first.2.reads.keeps.same_file ∙ held) are.numbered high));
@@ -87,10 +87,10 @@ returns-else-word-number g c =
     let first = c.in_ok-word.ensures.fetches in
     let same = first.0.same_style in
     record {
-      fetches = Fetches-then {X = NameEnd} _ _ _ c.in_ok-word.word (Ok c.in_ok-end.end) _ _ _ (rw same (omega arith)) first c.in_ok-end.ensures.fetches;
+      fetches = ListingReads-then {X = NameEnd} _ _ _ c.in_ok-word.word (Ok c.in_ok-end.end) _ _ _ (rw same (omega arith)) first c.in_ok-end.ensures.fetches;
       kept = c.in_ok-end.ensures.kept ∙ c.in_ok-word.ensures.kept;
       read = λ file held table symbol_at are defined.
-          let told = number_told file cap (number_in c.in_ok-word.word) c.place-at.result in
+          let told = number_reported file cap (number_in c.in_ok-word.word) c.place-at.result in
           let named = suffix_named file table c.args.suffixes.now are cap symbol_at c.args.index there _ c.in_ok-word.word here (c.in_ok-word.ensures.read file held) many in
           rw number (named_read _ _ _ told _ (named ∙ ap told (default_none file symbol_at c.in_ok-word.word (rw number at c.if-word-number.false)))
           (rw (same, number) at (c.in_ok-end.ensures.read file (first.2.reads.keeps.same_file ∙ held) are.numbered high)));

@@ -1,9 +1,9 @@
 -- The name of a symbol by the cases of the definition.
 use Rattle.std.proofs.Common.{rules, ◌≡◌, ◌<◌, refl, sym, ap, ◌∙◌, arith, Ok}
 use Rattle.std.proofs.lemmas.Bool.{ne_eqb}
-use Rattle.elf_model.specs.Names.Shown.{Whole}
+use Rattle.elf_model.specs.Names.DisplayedName.{Whole}
 use Rattle.elf_names.proofs.HeldLaws.{still_ahead}
-use Rattle.elf_names.proofs.SpendsLaws.{Spends-none, Spends-then}
+use Rattle.elf_names.proofs.SpendsLaws.{SpendsAtMost-none, SpendsAtMost-then}
 use Rattle.elf_headers.proofs.OpenLaws.{still_open}
 use Rattle.elf_listing.proofs.ViewedLaws.{still_viewed}
 use Rattle.elf_listing.proofs.SymbolNamed.{says_behind, read_as, named_zero, named_unlinked, named_beyond, named_there, found_there, refuses_as}
@@ -12,7 +12,7 @@ use Rattle.elf_listing.proofs.listing.Listing.read_symbol.Goals as goal
 
 pub returns-then-symbol-eq0 : goal.returns-then-symbol-eq0
 returns-then-symbol-eq0 g c = record {
-  fetches = (record { same_src = refl; same_out = refl; same_file = refl; same_style = refl }, refl, Spends-none _ _ _ _ (omega arith), tt);
+  fetches = (record { same_src = refl; same_out = refl; same_file = refl; same_style = refl }, refl, SpendsAtMost-none _ _ _ _ (omega arith), tt);
   unnamed = λ zero. refl;
   read = λ file header held linked.
       rw (named_zero file c.args.self.now.style.cap.bytes header c.args.at c.args.symbol c.if-symbol-eq0.true) (ap (λ name. Ok (Whole name)) (sym c.clear.ensures));
@@ -20,7 +20,7 @@ returns-then-symbol-eq0 g c = record {
 
 pub returns-in_default : goal.returns-in_default
 returns-in_default g c = record {
-  fetches = (record { same_src = refl; same_out = refl; same_file = refl; same_style = refl }, refl, Spends-none _ _ _ _ (omega arith), rw c.refused.ensures (search rules));
+  fetches = (record { same_src = refl; same_out = refl; same_file = refl; same_style = refl }, refl, SpendsAtMost-none _ _ _ _ (omega arith), rw c.refused.ensures (search rules));
   unnamed = λ zero. refl;
   read = λ file header held linked.
       rw c.refused.ensures (refuses_as _ _ _ (named_unlinked file c.args.self.now.style.cap.bytes header c.args.at c.args.symbol (ne_eqb c.args.symbol 0 c.if-symbol-eq0.false) (refers-nowhere file header _ c.in_default.is linked)));
@@ -28,7 +28,7 @@ returns-in_default g c = record {
 
 pub returns-then-index-len : goal.returns-then-index-len
 returns-then-index-len g c = record {
-  fetches = (record { same_src = refl; same_out = refl; same_file = refl; same_style = refl }, refl, Spends-none _ _ _ _ (omega arith), rw c.refused-then-index-len.ensures (search rules));
+  fetches = (record { same_src = refl; same_out = refl; same_file = refl; same_style = refl }, refl, SpendsAtMost-none _ _ _ _ (omega arith), rw c.refused-then-index-len.ensures (search rules));
   unnamed = λ zero. refl;
   read = λ file header held linked.
       let to = refers file header _ c.in-Some.found c.in-Some.is linked in
@@ -44,7 +44,7 @@ returns g c = record {
       let more = c.read_name.ensures.fetches in (
         record { same_src = more.0.same_src; same_out = more.0.same_out; same_file = more.0.same_file; same_style = more.0.same_style },
         more.1,
-        Spends-then first more.2,
+        SpendsAtMost-then first more.2,
         says_behind _ _ _ c.read_name.result _ _ _ (omega (arith, first.account)) first.reads more.3,
       );
   unnamed = λ zero. absurd (c.if-symbol-eq0.false zero);

@@ -2,7 +2,7 @@
 use Rattle.std.proofs.Common.{◌≡◌, ◌+◌, refl, ◌∙◌, arith}
 use Rattle.elf_headers.proofs.OpenLaws.{still_open}
 use Rattle.elf_names.proofs.HeldLaws.{still_held}
-use Rattle.elf_names.proofs.SpendsLaws.{Spends-reads}
+use Rattle.elf_names.proofs.SpendsLaws.{SpendsAtMost-reads}
 use Rattle.elf_listing.proofs.NumberedShown.{word_is}
 use Rattle.elf_listing.proofs.ViewedLaws.{still_viewed}
 use Rattle.elf_listing.proofs.listing.Listing.read_word.Goals as goal
@@ -16,7 +16,7 @@ invariant_of-self g c = record {
 
 pub returns : goal.returns
 returns g c = record {
-  fetches = (record { same_src = refl; same_out = refl; same_file = refl; same_style = refl }, refl, Spends-reads _ c.fill.ensures.reads, tt);
+  fetches = (record { same_src = refl; same_out = refl; same_file = refl; same_style = refl }, refl, SpendsAtMost-reads _ c.fill.ensures.reads, tt);
   kept = refl;
   read = λ file held. word_is file _ c.args.at _ (c.in_ok-fill.ensures.read file held) c.u16_at.ensures;
 }

@@ -9,7 +9,7 @@ use Rattle.elf_model.specs.Rows.{relocation_row}
 use Rattle.elf_model.specs.TableKinds.{relocations}
 use Rattle.elf_record.specs.declared.ehdr.Ehdr.{Ehdr}
 use Rattle.elf_headers.specs.Store.{row}
-use Rattle.elf_listing.proofs.RowLaws.{Writes-as}
+use Rattle.elf_listing.proofs.RowLaws.{WroteSome-as}
 use Rattle.elf_listing.proofs.SectionCosts.{section_within}
 use Rattle.elf_listing.proofs.SectionShown.{no_table, table_fails, table_passes}
 use Rattle.elf_listing.proofs.ListsLaws.{Lists-nothing, Lists-refused, Lists-within}
@@ -42,5 +42,5 @@ returns g c =
     let at = section_at file c.args.section in
     let kind = sym (c.section.ensures.stands file belongs).sh_type ∙ c.if-section-ne-SHT_RELA.false in
     let found = c.in_ok-found.ensures.held file belongs in
-    Writes-as _ _ _ (table_passes relocations file style c.args.section at (eq-eqb _ _ kind) found.pass ∙ ap (each (relocation_row file style c.args.section at) 0) (sym found.counted))
+    WroteSome-as _ _ _ (table_passes relocations file style c.args.section at (eq-eqb _ _ kind) found.pass ∙ ap (each (relocation_row file style c.args.section at) 0) (sym found.counted))
     (c.rows.ensures.shows file held (λ some. (found.refers some, found.placed))))

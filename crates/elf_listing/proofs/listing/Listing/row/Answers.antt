@@ -31,14 +31,14 @@ version_number-requires-clause-row g c = rw c.in-Versions.is at c.requires.row
 pub returns-in-Versions : goal.returns-in-Versions
 returns-in-Versions g c = rw c.in-Versions.is c.version_number.ensures
 
-pub suffixed_symbol_row-requires-clause-row : goal.suffixed_symbol_row-requires-clause-row
-suffixed_symbol_row-requires-clause-row g c = rw c.in-SuffixedSymbols.is at c.requires.row
+pub symbol_row_with_version-requires-clause-row : goal.symbol_row_with_version-requires-clause-row
+symbol_row_with_version-requires-clause-row g c = rw c.in-SuffixedSymbols.is at c.requires.row
 
 pub returns-in-SuffixedSymbols : goal.returns-in-SuffixedSymbols
-returns-in-SuffixedSymbols g c = rw c.in-SuffixedSymbols.is c.suffixed_symbol_row.ensures
+returns-in-SuffixedSymbols g c = rw c.in-SuffixedSymbols.is c.symbol_row_with_version.ensures
 
-pub suffixed_relocation_row-requires-clause-row : goal.suffixed_relocation_row-requires-clause-row
-suffixed_relocation_row-requires-clause-row g c = rw c.in-SuffixedRelocations.is at c.requires.row
+pub relocation_row_with_version-requires-clause-row : goal.relocation_row_with_version-requires-clause-row
+relocation_row_with_version-requires-clause-row g c = rw c.in-SuffixedRelocations.is at c.requires.row
 
 pub returns-in-SuffixedRelocations : goal.returns-in-SuffixedRelocations
-returns-in-SuffixedRelocations g c = rw c.in-SuffixedRelocations.is c.suffixed_relocation_row.ensures
+returns-in-SuffixedRelocations g c = rw c.in-SuffixedRelocations.is c.relocation_row_with_version.ensures

@@ -3,7 +3,7 @@ use Rattle.elf_headers.specs.Permitted.{style_of}
 use Rattle.std.proofs.Common.{◌≡◌, ◌+◌, length, refl, ap, ◌∙◌, arith}
 use Rattle.std.proofs.lemmas.Result.{err_from_is_err_and}
 use Rattle.elf_names.proofs.HeldLaws.{still_held}
-use Rattle.elf_names.proofs.SpendsLaws.{Spends-none}
+use Rattle.elf_names.proofs.SpendsLaws.{SpendsAtMost-none}
 use Rattle.elf_headers.proofs.OpenLaws.{still_open}
 use Rattle.elf_listing.proofs.ViewedLaws.{still_viewed}
 use Rattle.elf_table.specs.Cursors.{unread_bytes}
@@ -22,7 +22,7 @@ rows-init g c =
       not_failed = n.failed;
       counted = omega (arith, n.index, n.left);
       keeps = record { same_src = refl; same_out = refl; same_file = refl; same_style = refl };
-      spends = Spends-none _ _ _ _ (omega arith);
+      spends = SpendsAtMost-none _ _ _ _ (omega arith);
       asked = omega (arith, account_begins (reading c.new-cursor.result) c.args.table c.args.kind.now c.args.self.now.style.cap.bytes c.requires.table.entry n.failed n.unread n.left);
       agrees = λ file held. agrees_none file (reading c.new-cursor.result) n.held;
       listed = λ file held. omega (arith, n.index, n.rows file);

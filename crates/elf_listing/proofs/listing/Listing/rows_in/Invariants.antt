@@ -2,9 +2,9 @@
 use Rattle.elf_headers.specs.Permitted.{style_of}
 use Rattle.std.proofs.Common.{◌≡◌, ℕ, ◌+◌, ◌*◌, ◌<◌, ◌≤◌, List, None, Some}
 use Rattle.elf_model.specs.Listing.{each}
-use Rattle.elf_names.specs.Ahead.{SpendsCredit}
+use Rattle.elf_names.specs.Ahead.{ReadsOnCredit}
 use Rattle.elf_table.specs.Cursors.{HoldsRows, unread_bytes}
-use Rattle.elf_source.specs.Growth.{Grows}
+use Rattle.elf_source.specs.Growth.{OutGrows}
 use Rattle.elf_listing.specs.Kinds.{own_cost, row_items, rows_cost, KindOf}
 use Rattle.elf_listing.specs.RowCursors.{reading, rows_to_give, rows_listed}
 use Rattle.elf_listing.specs.Shows.{SameFile, WroteItems}
@@ -19,11 +19,11 @@ invariant-rows g l =
       not_failed : now.failed ≡ None;
       counted : now.index + now.left ≡ l.fn.table.count;
       keeps : SameFile l.fn.self l.self;
-      spends : SpendsCredit l.fn.self.src.now l.self.src.now l.fn.self.ahead.credit l.self.ahead.credit (rows_cost l.fn.kind l.fn.table cap);
+      spends : ReadsOnCredit l.fn.self.src.now l.self.src.now l.fn.self.ahead.credit l.self.ahead.credit (rows_cost l.fn.kind l.fn.table cap);
       asked : l.self.src.now.asked + l.self.ahead.credit + (unread_bytes now + now.left * own_cost l.fn.kind cap) ≤ l.fn.self.src.now.asked + (l.fn.self.ahead.credit + rows_cost l.fn.kind l.fn.table cap);
       agrees : (file : List ℕ) → l.fn.self.src.now.seen.file ≡ Some file → HoldsRows file now;
       listed : (file : List ℕ) → l.fn.self.src.now.seen.file ≡ Some file → now.index + rows_to_give file l.cursor ≡ rows_listed l.fn.kind file l.fn.table;
-      grows : Grows l.fn.self.out.now l.self.out.now;
+      grows : OutGrows l.fn.self.out.now l.self.out.now;
       text : (file : List ℕ) → l.fn.self.src.now.seen.file ≡ Some file → (0 < l.fn.table.count → KindOf file l.fn.table.at l.fn.kind)
           → WroteItems l.fn.self.out.now l.self.out.now (each (row_items l.fn.kind file (style_of l.fn.self.style) l.fn.table.at) 0 now.index);
     }

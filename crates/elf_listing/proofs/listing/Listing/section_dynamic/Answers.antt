@@ -6,7 +6,7 @@ use Rattle.std.proofs.lemmas.Result.{err_from_is_err_and}
 use Rattle.elf_model.specs.Records.{section_at, sh_size}
 use Rattle.elf_model.specs.TableKinds.{section_dynamic}
 use Rattle.elf_headers.specs.Store.{row}
-use Rattle.elf_listing.proofs.RowLaws.{Writes-as}
+use Rattle.elf_listing.proofs.RowLaws.{WroteSome-as}
 use Rattle.elf_listing.proofs.SectionCosts.{section_within}
 use Rattle.elf_listing.proofs.SectionShown.{dynamic_fails, dynamic_passes, empty_dynamic, no_table, strings_fail, table_fails, table_passes}
 use Rattle.elf_listing.proofs.ListsLaws.{Lists-nothing, Lists-refused, Lists-within}
@@ -60,5 +60,5 @@ returns g c =
     let kind = sym stands.sh_type ∙ c.if-header-ne-SHT_DYNAMIC.false in
     let some : (sh_size file at == 0) ≡ false = ne_eqb _ 0 (λ e. c.if-header-eq0.false (stands.sh_size ∙ e)) in
     let found = dynamic_passes file at some _ (sym (c.in_ok-table.ensures.held file belongs)) _ (sym (c.in_ok-names.ensures.held file belongs)) in
-    Writes-as _ _ _ (table_passes section_dynamic file style c.args.section at (eq-eqb _ _ kind) found.0 ∙ found.1 style)
+    WroteSome-as _ _ _ (table_passes section_dynamic file style c.args.section at (eq-eqb _ _ kind) found.0 ∙ found.1 style)
     (c.rows.ensures.shows file held (λ some. tt)))

@@ -11,7 +11,7 @@ use Rattle.elf_model.specs.TableKinds.{section_notes}
 use Rattle.elf_headers.specs.Store.{row}
 use Rattle.elf_table.specs.Tables.{Rows}
 use Rattle.elf_listing.specs.Parts.{store_sections}
-use Rattle.elf_listing.proofs.RowLaws.{Writes-as}
+use Rattle.elf_listing.proofs.RowLaws.{WroteSome-as}
 use Rattle.elf_listing.proofs.SectionCosts.{range_within}
 use Rattle.elf_listing.proofs.SectionShown.{empty_fails, no_table, range_of_file, range_passes, section_placed, table_fails, table_passes}
 use Rattle.elf_listing.proofs.ListsLaws.{Lists-nothing, Lists-refused, Lists-within}
@@ -53,6 +53,6 @@ returns g c =
     let place = section_placed file c.args.section c.place-at.ensures.value belongs.header.e_shoff in
     let value = range_of_file belongs.size stands.sh_offset stands.sh_size place c.in_ok-table.ensures.value in
     let found = range_passes file _ (sh_size file at) at _ value in
-    Writes-as _ _ _ (table_passes section_notes file style c.args.section at (eq-eqb _ _ kind) found.0
+    WroteSome-as _ _ _ (table_passes section_notes file style c.args.section at (eq-eqb _ _ kind) found.0
     ∙ ap (λ (t : Rows). walk_rows style c.args.section t.at (walked (note_align (sh_addralign file at)) (slice file t.at t.count))) found.1)
     (rw stands.sh_addralign at (c.notes.ensures.shows file held)))

@@ -6,14 +6,14 @@ use Rattle.std.proofs.lemmas.Result.{err_from_is_err_and}
 use Rattle.elf_model.specs.TableKinds.{segment_dynamic}
 use Rattle.elf_headers.specs.Store.{segment_bytes}
 use Rattle.elf_table.specs.Tables.{size_of}
-use Rattle.elf_headers.specs.Load.{Views}
+use Rattle.elf_headers.specs.Load.{HoldsProgramHeaders}
 use Rattle.elf_headers.proofs.OpenLaws.{still_open}
 use Rattle.elf_names.proofs.HeldLaws.{still_held}
-use Rattle.elf_listing.proofs.RowLaws.{Writes-as, Stopped-unread-first}
+use Rattle.elf_listing.proofs.RowLaws.{WroteSome-as, WroteUntilStop-unread-first}
 use Rattle.elf_listing.proofs.SectionCosts.{segment_within}
 use Rattle.elf_listing.proofs.SectionShown.{no_table, segment_passes, table_fails, table_passes, whole_fails}
 use Rattle.elf_listing.proofs.SegmentShown.{views}
-use Rattle.elf_listing.proofs.ShowLaws.{Spent-behind, Spent-fault}
+use Rattle.elf_listing.proofs.ShowLaws.{SpentCredit-behind, SpentCredit-fault}
 use Rattle.elf_listing.proofs.ViewedLaws.{still_viewed}
 use Rattle.elf_source.proofs.GrowthLaws.{grows_not}
 use Rattle.elf_listing.proofs.ListsLaws.{Lists-nothing, Lists-refused}
@@ -32,7 +32,7 @@ returns-in_err-table g c =
     let p = err_from_is_err_and c.from_residual.result c.from_residual.ensures.1 in
     rw (p.1, p.2) (Lists-refused _ _ _ _ (search rules) (λ file held.
     let viewed = views file _ _ _ (c.args.self.now.loaded.belongs file held) c.args.self.now.viewed held (omega (arith, c.requires)) in
-    let view : Views file c.view-view.result.loaded c.view-view.result.store.now = rw (c.view-view.ensures.loaded, c.view-view.ensures.store) viewed in
+    let view : HoldsProgramHeaders file c.view-view.result.loaded c.view-view.result.store.now = rw (c.view-view.ensures.loaded, c.view-view.ensures.store) viewed in
     let stands = c.segment.ensures.stands file view in
     let kind = sym stands.p_type ∙ c.if-segment-ne-PT_DYNAMIC.false in
     table_fails segment_dynamic file _ _ _ (eq-eqb _ _ kind) _ _ (whole_fails file _ _ (sym (c.in_err-table.ensures.held file view)))))
@@ -57,10 +57,10 @@ returns-in_err-told g c = record {
       let value = rw (c.view-view.ensures.store, c.view-view.ensures.loaded) at c.in_ok-table.ensures.value in
       let within = segment_within f.store.now c.args.segment f.loaded.size _ c.args.self.now.style.cap.bytes _ (eq-eqb _ _ kind) value in
       let bytes : size_of c.in_ok-table.table ≡ c.in_ok-table.table.count * 16 = ap (λ n. c.in_ok-table.table.count * n) c.in_ok-table.ensures.lies.entry in
-      rw (p.1, p.2) (Spent-fault _ _ _ _ _ _ _ (omega (arith, within, bytes)) c.in_err-told.ensures.did.costs.reads c.in_err-told.ensures.did.costs.says);
+      rw (p.1, p.2) (SpentCredit-fault _ _ _ _ _ _ _ (omega (arith, within, bytes)) c.in_err-told.ensures.did.costs.reads c.in_err-told.ensures.did.costs.says);
   shows = λ file held.
       let p = err_from_is_err_and c.from_residual-in_err-told.result c.from_residual-in_err-told.ensures.1 in
-      rw (p.1, p.2) (Stopped-unread-first _ _ _ c.in_err-told.ensures.fault);
+      rw (p.1, p.2) (WroteUntilStop-unread-first _ _ _ c.in_err-told.ensures.fault);
 }
 
 pub returns : goal.returns
@@ -80,12 +80,12 @@ returns g c = record {
       let value = rw (c.view-view.ensures.store, c.view-view.ensures.loaded) at c.in_ok-table.ensures.value in
       let within = segment_within f.store.now c.args.segment f.loaded.size _ c.args.self.now.style.cap.bytes _ (eq-eqb _ _ kind) value in
       let bytes : size_of c.in_ok-table.table ≡ c.in_ok-table.table.count * 16 = ap (λ n. c.in_ok-table.table.count * n) c.in_ok-table.ensures.lies.entry in
-      Spent-behind _ _ _ _ _ _ _ _ _ _ (omega (arith, within, bytes)) c.in_ok-told.ensures.did.costs.reads c.rows.ensures.spent;
+      SpentCredit-behind _ _ _ _ _ _ _ _ _ _ (omega (arith, within, bytes)) c.in_ok-told.ensures.did.costs.reads c.rows.ensures.spent;
   shows = λ file held.
       let viewed = views file _ _ _ (c.args.self.now.loaded.belongs file held) c.args.self.now.viewed held (omega (arith, c.requires)) in
-      let view : Views file c.view-view.result.loaded c.view-view.result.store.now = rw (c.view-view.ensures.loaded, c.view-view.ensures.store) viewed in
+      let view : HoldsProgramHeaders file c.view-view.result.loaded c.view-view.result.store.now = rw (c.view-view.ensures.loaded, c.view-view.ensures.store) viewed in
       let kind = sym (c.segment.ensures.stands file view).p_type ∙ c.if-segment-ne-PT_DYNAMIC.false in
       let found = segment_passes file (style_of c.args.self.now.style) _ _ _ (sym (c.in_ok-table.ensures.held file view)) (c.in_ok-told.ensures.did.known file held) in
-      Writes-as _ _ _ (table_passes segment_dynamic file (style_of c.args.self.now.style) c.args.segment _ (eq-eqb _ _ kind) found.0 ∙ found.1)
+      WroteSome-as _ _ _ (table_passes segment_dynamic file (style_of c.args.self.now.style) c.args.segment _ (eq-eqb _ _ kind) found.0 ∙ found.1)
       (c.rows.ensures.shows file (c.dynamic_strings.ensures.did.costs.reads.keeps.same_file ∙ held) (λ some. view));
 }

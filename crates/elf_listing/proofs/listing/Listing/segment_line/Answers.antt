@@ -3,9 +3,9 @@ use Rattle.std.proofs.Common.{refl, ◌∙◌, arith}
 use Rattle.std.proofs.lemmas.Result.{err_from_is_err_and}
 use Rattle.elf_headers.specs.Permitted.{style_of}
 use Rattle.elf_model.specs.Records.{segment_at}
-use Rattle.elf_listing.proofs.RowLaws.{Whole-line, Stopped-line}
+use Rattle.elf_listing.proofs.RowLaws.{Whole-line, WroteUntilStop-line}
 use Rattle.elf_listing.proofs.SegmentShown.{segment_line_is, views}
-use Rattle.elf_names.proofs.SpendsLaws.{Spends-none}
+use Rattle.elf_names.proofs.SpendsLaws.{SpendsAtMost-none}
 use Rattle.elf_source.proofs.GrowthLaws.{grows_front}
 use Rattle.elf_listing.proofs.listing.Listing.segment_line.Goals as goal
 
@@ -15,20 +15,20 @@ returns-in_err-put g c = record {
   keeps = record { same_src = refl; same_out = refl; same_file = refl; same_style = refl };
   spent =
       let p = err_from_is_err_and c.from_residual.result c.from_residual.ensures.1 in
-      rw (p.1, p.2) (Spends-none _ _ _ _ (omega arith), c.in_err-put.ensures.puts.1);
+      rw (p.1, p.2) (SpendsAtMost-none _ _ _ _ (omega arith), c.in_err-put.ensures.puts.1);
   shows = λ file held.
       let p = err_from_is_err_and c.from_residual.result c.from_residual.ensures.1 in
       let viewed = views file _ _ _ (c.args.self.now.loaded.belongs file held) c.args.self.now.viewed held (omega (arith, c.requires.below)) in
       let stands = c.segment-header.ensures.stands file (rw (c.view.ensures.loaded, c.view.ensures.store) viewed) in
       let line = c.deref.ensures.0 ∙ (rw c.requires.format at (c.segment_row.ensures file (segment_at file c.args.segment) stands)) in
-      rw (p.1, p.2, segment_line_is file _ (style_of c.args.self.now.style) c.args.segment line) (Stopped-line _ c.in_err-put.ensures.puts.0);
+      rw (p.1, p.2, segment_line_is file _ (style_of c.args.self.now.style) c.args.segment line) (WroteUntilStop-line _ c.in_err-put.ensures.puts.0);
 }
 
 pub returns : goal.returns
 returns g c = record {
   grows = record { bytes = _; takes = c.in_ok-put.ensures.puts.0 };
   keeps = record { same_src = refl; same_out = refl; same_file = refl; same_style = refl };
-  spent = (Spends-none _ _ _ _ (omega arith), tt);
+  spent = (SpendsAtMost-none _ _ _ _ (omega arith), tt);
   shows = λ file held.
       let viewed = views file _ _ _ (c.args.self.now.loaded.belongs file held) c.args.self.now.viewed held (omega (arith, c.requires.below)) in
       let stands = c.segment-header.ensures.stands file (rw (c.view.ensures.loaded, c.view.ensures.store) viewed) in

@@ -11,7 +11,7 @@ use Rattle.elf_model.specs.TableKinds.{segment_notes}
 use Rattle.elf_headers.specs.Store.{segment_bytes}
 use Rattle.elf_table.specs.Tables.{Rows}
 use Rattle.elf_listing.specs.Parts.{store_segments}
-use Rattle.elf_listing.proofs.RowLaws.{Writes-as}
+use Rattle.elf_listing.proofs.RowLaws.{WroteSome-as}
 use Rattle.elf_listing.proofs.SectionCosts.{range_within}
 use Rattle.elf_listing.proofs.SectionShown.{empty_fails, no_table, range_of_file, range_passes, table_fails, table_passes}
 use Rattle.elf_listing.proofs.SegmentShown.{views}
@@ -59,6 +59,6 @@ returns g c =
     let place : c.place-place.result ≡ at = omega (arith, told, belongs.header.e_phoff) in
     let value = range_of_file belongs.size stands.p_offset stands.p_filesz place c.in_ok-table.ensures.value in
     let found = range_passes file _ (p_filesz file at) at _ value in
-    Writes-as _ _ _ (table_passes segment_notes file style c.args.segment at (eq-eqb _ _ kind) found.0
+    WroteSome-as _ _ _ (table_passes segment_notes file style c.args.segment at (eq-eqb _ _ kind) found.0
     ∙ ap (λ (t : Rows). walk_rows style c.args.segment t.at (walked (note_align (p_align file at)) (slice file t.at t.count))) found.1)
     (rw stands.p_align at (c.notes.ensures.shows file held)))

@@ -2,8 +2,8 @@ use Rattle.std.proofs.Common.{refl, ◌≡◌, ◌+◌, ◌*◌, ◌∙◌, arit
 use Rattle.std.proofs.lemmas.Result.{err_from_is_err_and}
 use Rattle.elf_headers.specs.Permitted.{style_of}
 use Rattle.elf_model.specs.Records.{e_phoff}
-use Rattle.elf_listing.proofs.RowLaws.{segment_is, Whole-line, Stopped-line}
-use Rattle.elf_names.proofs.SpendsLaws.{Spends-none}
+use Rattle.elf_listing.proofs.RowLaws.{segment_is, Whole-line, WroteUntilStop-line}
+use Rattle.elf_names.proofs.SpendsLaws.{SpendsAtMost-none}
 use Rattle.elf_source.proofs.GrowthLaws.{grows_front}
 use Rattle.elf_listing.proofs.listing.Listing.segment_row.Goals as goal
 
@@ -13,20 +13,20 @@ returns-in_err-put g c = record {
   keeps = record { same_src = refl; same_out = refl; same_file = refl; same_style = refl };
   spent =
       let p = err_from_is_err_and c.from_residual.result c.from_residual.ensures.1 in
-      rw (p.1, p.2) (Spends-none _ _ _ _ (omega arith), c.in_err-put.ensures.puts.1);
+      rw (p.1, p.2) (SpendsAtMost-none _ _ _ _ (omega arith), c.in_err-put.ensures.puts.1);
   shows = λ file held at of_kind row.
       let p = err_from_is_err_and c.from_residual.result c.from_residual.ensures.1 in
       let decoded = c.decode-header.ensures.stands file c.args.row.now.at (c.whole.ensures ∙ row.bytes) in
       let here : c.args.row.now.at ≡ e_phoff file + c.args.row.now.index * 56 = omega (arith, of_kind, row.here) in
       let line = c.deref.ensures.0 ∙ (rw c.requires.format at (c.segment_row.ensures file c.args.row.now.at decoded)) in
-      rw (p.1, p.2, segment_is file _ (style_of c.args.self.now.style) c.args.row.now.at c.args.row.now.index line here) (Stopped-line _ c.in_err-put.ensures.puts.0);
+      rw (p.1, p.2, segment_is file _ (style_of c.args.self.now.style) c.args.row.now.at c.args.row.now.index line here) (WroteUntilStop-line _ c.in_err-put.ensures.puts.0);
 }
 
 pub returns : goal.returns
 returns g c = record {
   grows = record { bytes = _; takes = c.in_ok-put.ensures.puts.0 };
   keeps = record { same_src = refl; same_out = refl; same_file = refl; same_style = refl };
-  spent = (Spends-none _ _ _ _ (omega arith), tt);
+  spent = (SpendsAtMost-none _ _ _ _ (omega arith), tt);
   shows = λ file held at of_kind row.
       let decoded = c.decode-header.ensures.stands file c.args.row.now.at (c.whole.ensures ∙ row.bytes) in
       let here : c.args.row.now.at ≡ e_phoff file + c.args.row.now.index * 56 = omega (arith, of_kind, row.here) in

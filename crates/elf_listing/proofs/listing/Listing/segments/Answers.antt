@@ -2,23 +2,23 @@
 use Rattle.elf_headers.specs.Permitted.{style_of}
 use Rattle.std.proofs.Common.{◌≡◌, ◌≤◌, ◌==◌, ℕ, true, false, [], sym, ap, ◌∙◌, arith}
 use Rattle.std.proofs.lemmas.Bool.{ne_eqb}
-use Rattle.elf_headers.specs.Load.{Opened}
+use Rattle.elf_headers.specs.Load.{LoadedFile}
 use Rattle.elf_model.specs.Listing.{each, has, SEGMENTS}
 use Rattle.elf_model.specs.Records.{e_phnum, e_phoff}
 use Rattle.elf_model.specs.Rows.{segment_row}
 use Rattle.elf_table.specs.Sections.{rows}
 use Rattle.elf_table.specs.Tables.{Rows}
 use Rattle.elf_listing.specs.Kinds.{rows_cost}
-use Rattle.elf_listing.specs.declared.rows.ListedAs.TheVariants.{Segments}
+use Rattle.elf_listing.specs.declared.rows.RowLayout.TheVariants.{Segments}
 use Rattle.elf_listing.specs.Parts.{segments_listed}
 use Rattle.elf_listing.proofs.FileShown.{viewed_segments}
-use Rattle.elf_listing.proofs.RowLaws.{Writes-as}
+use Rattle.elf_listing.proofs.RowLaws.{WroteSome-as}
 use Rattle.elf_listing.proofs.SectionCosts.{sum_of_equal}
-use Rattle.elf_listing.proofs.ShowLaws.{Spent-within}
+use Rattle.elf_listing.proofs.ShowLaws.{SpentCredit-within}
 use Rattle.elf_listing.proofs.listing.Listing.segments.Goals as goal
 
 -- the rows of a file with sections are asked for as they are counted
-rows_within : (parts : ℕ) (loaded : Opened) (table : Rows) (cap : ℕ) → has parts SEGMENTS ≡ true → (loaded.header.e_shnum == 0) ≡ false
+rows_within : (parts : ℕ) (loaded : LoadedFile) (table : Rows) (cap : ℕ) → has parts SEGMENTS ≡ true → (loaded.header.e_shnum == 0) ≡ false
     → table ≡ rows loaded.header.e_phoff loaded.header.e_phnum 56 → rows_cost Segments table cap ≤ segments_listed parts loaded
 rows_within parts loaded table cap asked some is = rw (is, asked, some) (omega arith)
 
@@ -29,7 +29,7 @@ returns-then-sections-eq0 g c = record {
   spent =
       let f = c.args.self.now.file in
       let none = sum_of_equal 0 f.store.now.segments in
-      Spent-within _ _ _ _ _ _ _ (segments_listed c.args.parts.0 f.loaded) (omega (arith, none)) c.headers.ensures.spent;
+      SpentCredit-within _ _ _ _ _ _ _ (segments_listed c.args.parts.0 f.loaded) (omega (arith, none)) c.headers.ensures.spent;
   shows = λ file held.
       let f = c.args.self.now.file in
       let belongs = c.args.self.now.loaded.belongs file held in
@@ -37,7 +37,7 @@ returns-then-sections-eq0 g c = record {
       let none : (f.loaded.header.e_shnum == 0) ≡ true = ap (λ n. n == 0) zero in
       let asked : has c.args.parts.0 SEGMENTS ≡ true = sym (c.contains.ensures tt) ∙ c.if-not-contains.false in
       let all : f.store.now.segments ≡ e_phnum file = c.requires ∙ (viewed_segments c.args.parts.0 f.loaded none asked ∙ belongs.header.e_phnum) in
-      Writes-as _ _ _ (ap (λ b. elim b [ true ↦ each (segment_row file (style_of c.args.self.now.style)) 0 (e_phnum file) | false ↦ [] ]) asked ∙ ap (each (segment_row file (style_of c.args.self.now.style)) 0) (sym all))
+      WroteSome-as _ _ _ (ap (λ b. elim b [ true ↦ each (segment_row file (style_of c.args.self.now.style)) 0 (e_phnum file) | false ↦ [] ]) asked ∙ ap (each (segment_row file (style_of c.args.self.now.style)) 0) (sym all))
       (c.headers.ensures.shows file held);
 }
 
@@ -49,12 +49,12 @@ returns g c = record {
       let f = c.args.self.now.file in
       let asked = sym (c.contains.ensures tt) ∙ c.if-not-contains.false in
       let some = ne_eqb f.loaded.header.e_shnum 0 (λ none. c.if-sections-eq0.false (c.sections.ensures ∙ (f.whole ∙ none))) in
-      Spent-within _ _ _ _ _ _ _ (segments_listed c.args.parts.0 f.loaded) (rows_within c.args.parts.0 f.loaded _ c.args.self.now.style.cap.bytes asked some c.segments-table.ensures.value) c.rows.ensures.spent;
+      SpentCredit-within _ _ _ _ _ _ _ (segments_listed c.args.parts.0 f.loaded) (rows_within c.args.parts.0 f.loaded _ c.args.self.now.style.cap.bytes asked some c.segments-table.ensures.value) c.rows.ensures.spent;
   shows = λ file held.
       let belongs = c.args.self.now.loaded.belongs file held in
       let asked : has c.args.parts.0 SEGMENTS ≡ true = sym (c.contains.ensures tt) ∙ c.if-not-contains.false in
       let at : c.segments-table.result.at ≡ e_phoff file = ap (λ (rows : Rows). rows.at) c.segments-table.ensures.value ∙ belongs.header.e_phoff in
       let all : c.segments-table.result.count ≡ e_phnum file = ap (λ (rows : Rows). rows.count) c.segments-table.ensures.value ∙ belongs.header.e_phnum in
-      Writes-as _ _ _ (ap (λ b. elim b [ true ↦ each (segment_row file (style_of c.args.self.now.style)) 0 (e_phnum file) | false ↦ [] ]) asked ∙ ap (each (segment_row file (style_of c.args.self.now.style)) 0) (sym all))
+      WroteSome-as _ _ _ (ap (λ b. elim b [ true ↦ each (segment_row file (style_of c.args.self.now.style)) 0 (e_phnum file) | false ↦ [] ]) asked ∙ ap (each (segment_row file (style_of c.args.self.now.style)) 0) (sym all))
       (c.rows.ensures.shows file held (λ some. at));
 }

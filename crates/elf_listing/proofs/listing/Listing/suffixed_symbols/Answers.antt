@@ -7,15 +7,15 @@ use Rattle.elf_model.specs.Bytes.{slice}
 use Rattle.elf_model.specs.Checks.{is_symbol_table}
 use Rattle.elf_model.specs.Names.{name_bytes}
 use Rattle.elf_model.specs.Records.{section_at}
-use Rattle.elf_model.specs.Suffixes.{suffixed_symbol_row}
+use Rattle.elf_model.specs.Suffixes.{symbol_row_with_version}
 use Rattle.elf_model.specs.TableKinds.{suffixed_symbols, symbols}
-use Rattle.elf_table.specs.Tables.{Strings}
+use Rattle.elf_table.specs.Tables.{StringTableRange}
 use Rattle.elf_table.proofs.RelocationLaws.{symbols-fail, symbols-pass}
 use Rattle.elf_listing.specs.Parts.{store_sections}
 use Rattle.elf_listing.specs.Suffixed.{SuffixesOr, suffix_bytes, walks_asked}
-use Rattle.elf_listing.specs.declared.suffixes.Suffixes.{Suffixes}
+use Rattle.elf_listing.specs.declared.suffixes.VersionLookup.{VersionLookup}
 use Rattle.elf_listing.proofs.ListsLaws.{Lists-nothing, Lists-refused, Lists-unread}
-use Rattle.elf_listing.proofs.RowLaws.{Writes-as}
+use Rattle.elf_listing.proofs.RowLaws.{WroteSome-as}
 use Rattle.elf_listing.proofs.SectionShown.{no_table, table_fails, table_passes}
 use Rattle.elf_listing.proofs.SuffixCosts.{no_fewer, plain_within, rows_within, suffixed_within, walks_within}
 use Rattle.elf_listing.proofs.SuffixTables.{Lists-behind, symbols_plain, symbols_refused, symbols_shown}
@@ -71,14 +71,14 @@ returns-in-None g c =
     let section = c.from.ensures in
     let fetches = rw (same, section) at c.in_ok-found.ensures.fetches in
     let cost = plain_within (store_sections f.store.now) c.args.section f.loaded.size cap 24 (name_bytes cap) c.in_ok-symbols.symbols.0.count c.in_ok-symbols.symbols.0.count _ (no_fewer _) within in
-    Lists-behind {Y = Option Suffixes} _ _ _ None _ _ _ _ _ (rw fetches.0.same_style cost) fetches c.rows.ensures (λ file held.
+    Lists-behind {Y = Option VersionLookup} _ _ _ None _ _ _ _ _ (rw fetches.0.same_style cost) fetches c.rows.ensures (λ file held.
     let belongs = c.args.self.now.loaded.belongs file held in
     let at = section_at file c.args.section in
     let kind : is_symbol_table file at ≡ true = let is = c.holds_symbols.ensures file at (c.section.ensures.stands file belongs) in cc in
     let found = symbols-pass file at _ (sym (c.in_ok-symbols.ensures.held file belongs)) in
     let none = subst (λ (t : ℕ). SuffixesOr file t (Ok None)) section (rw c.in-None.is at (c.in_ok-found.ensures.read file held (rw section (same ∙ found.1.counted)))) in
-    let shown = rw (fetches.0.same_style, fetches.1) at (c.rows.ensures.shows file (fetches.2.reads.keeps.same_file ∙ held) (λ some. (ap (λ (n : Strings). slice file n.at n.size) (found.1.named some), found.1.placed))) in
-    Writes-as _ _ _ (symbols_plain file (style_of c.args.self.now.style) c.args.section kind found.0 _ found.1.counted none) shown)
+    let shown = rw (fetches.0.same_style, fetches.1) at (c.rows.ensures.shows file (fetches.2.reads.keeps.same_file ∙ held) (λ some. (ap (λ (n : StringTableRange). slice file n.at n.size) (found.1.named some), found.1.placed))) in
+    WroteSome-as _ _ _ (symbols_plain file (style_of c.args.self.now.style) c.args.section kind found.0 _ found.1.counted none) shown)
 
 pub returns-in-Some : goal.returns-in-Some
 unfolding suffixed_symbols symbols
@@ -93,11 +93,11 @@ returns-in-Some g c =
     let fetches = rw (same, section) at c.in_ok-found.ensures.fetches in
     let pays = (rw (c.in-Some.is, section) at c.in_ok-found.ensures.pays) cap in
     let cost = rows_within (store_sections f.store.now) c.args.section f.loaded.size cap 24 (name_bytes cap) c.in_ok-symbols.symbols.0.count c.in_ok-symbols.symbols.0.count _ (no_fewer _) within (2 + name_bytes cap) pays in
-    Lists-behind {Y = Option Suffixes} _ _ _ None _ _ _ _ _ (rw fetches.0.same_style cost) fetches c.rows-in-Some.ensures (λ file held.
+    Lists-behind {Y = Option VersionLookup} _ _ _ None _ _ _ _ _ (rw fetches.0.same_style cost) fetches c.rows-in-Some.ensures (λ file held.
     let belongs = c.args.self.now.loaded.belongs file held in
     let at = section_at file c.args.section in
     let kind : is_symbol_table file at ≡ true = let is = c.holds_symbols.ensures file at (c.section.ensures.stands file belongs) in cc in
     let found = symbols-pass file at _ (sym (c.in_ok-symbols.ensures.held file belongs)) in
     let some = subst (λ (t : ℕ). SuffixesOr file t (Ok (Some c.in-Some.suffixes))) section (rw c.in-Some.is at (c.in_ok-found.ensures.read file held (rw section (same ∙ found.1.counted)))) in
-    let shown = rw (fetches.0.same_style, fetches.1) at (c.rows-in-Some.ensures.shows file (fetches.2.reads.keeps.same_file ∙ held) (λ rows. (ap (λ (n : Strings). slice file n.at n.size) (found.1.named rows), found.1.placed, some.1))) in
-    Writes-as _ _ _ (symbols_shown file (style_of c.args.self.now.style) c.args.section kind found.0 _ found.1.counted some.0) shown)
+    let shown = rw (fetches.0.same_style, fetches.1) at (c.rows-in-Some.ensures.shows file (fetches.2.reads.keeps.same_file ∙ held) (λ rows. (ap (λ (n : StringTableRange). slice file n.at n.size) (found.1.named rows), found.1.placed, some.1))) in
+    WroteSome-as _ _ _ (symbols_shown file (style_of c.args.self.now.style) c.args.section kind found.0 _ found.1.counted some.0) shown)

@@ -2,7 +2,7 @@
 use Rattle.std.proofs.Common.{◌≡◌, ◌+◌, ◌==◌, [], refl, sym, ap, ◌∙◌, arith}
 use Rattle.std.proofs.lemmas.Result.{err_from_is_err_and}
 use Rattle.std.proofs.lemmas.Bool.{ne_eqb}
-use Rattle.elf_names.proofs.SpendsLaws.{Spends-none, Spends-to}
+use Rattle.elf_names.proofs.SpendsLaws.{SpendsAtMost-none, SpendsAtMost-to}
 use Rattle.elf_listing.specs.Parts.{store_sections}
 use Rattle.elf_versions.proofs.WordLaws.{none-of}
 use Rattle.elf_listing.proofs.FirstTaken.{check-says}
@@ -12,7 +12,7 @@ use Rattle.elf_listing.proofs.listing.Listing.suffixes.Goals as goal
 
 pub returns-then-symbols-eq0 : goal.returns-then-symbols-eq0
 returns-then-symbols-eq0 g c = record {
-  fetches = (record { same_src = refl; same_out = refl; same_file = refl; same_style = refl }, refl, Spends-none _ _ _ _ (omega arith), tt);
+  fetches = (record { same_src = refl; same_out = refl; same_file = refl; same_style = refl }, refl, SpendsAtMost-none _ _ _ _ (omega arith), tt);
   within = tt;
   pays = tt;
   read = λ file held counted. no_symbols file c.args.table (sym counted ∙ c.if-symbols-eq0.true);
@@ -20,10 +20,10 @@ returns-then-symbols-eq0 g c = record {
 
 pub returns-in_default : goal.returns-in_default
 returns-in_default g c = record {
-  fetches = (record { same_src = refl; same_out = refl; same_file = refl; same_style = refl }, refl, Spends-none _ _ _ _ (omega arith), tt);
+  fetches = (record { same_src = refl; same_out = refl; same_file = refl; same_style = refl }, refl, SpendsAtMost-none _ _ _ _ (omega arith), tt);
   within = tt;
   pays = tt;
-  read = λ file held counted. unnumbered file c.args.table (sym (c.numbers_of.ensures.held file (c.args.self.now.loaded.belongs file held)) ∙ none-of _ c.in_default.not-Some);
+  read = λ file held counted. unnumbered file c.args.table (sym (c.version_numbers_of.ensures.held file (c.args.self.now.loaded.belongs file held)) ∙ none-of _ c.in_default.not-Some);
 }
 
 pub returns-in_err-found : goal.returns-in_err-found
@@ -31,19 +31,19 @@ returns-in_err-found g c =
     let p = err_from_is_err_and c.from_residual.result c.from_residual.ensures.1 in
     rw (p.1, p.2)
     (record {
-      fetches = (record { same_src = refl; same_out = refl; same_file = refl; same_style = refl }, refl, Spends-none _ _ _ _ (omega arith), check-says _ _ _ _ c.in_err-found.ensures.refusal);
+      fetches = (record { same_src = refl; same_out = refl; same_file = refl; same_style = refl }, refl, SpendsAtMost-none _ _ _ _ (omega arith), check-says _ _ _ _ c.in_err-found.ensures.refusal);
       within = tt;
       pays = tt;
       read = λ file held counted.
           let belongs = c.args.self.now.loaded.belongs file held in
-          let found = sym (c.numbers_of.ensures.held file belongs) ∙ c.in-Some.is in
+          let found = sym (c.version_numbers_of.ensures.held file belongs) ∙ c.in-Some.is in
           refused_numbers file c.args.table c.in-Some.section (rw counted at (ne_eqb _ 0 c.if-symbols-eq0.false)) found _ (c.in_err-found.ensures.held file belongs);
     })
 
 pub returns-in_err-numbered : goal.returns-in_err-numbered
 returns-in_err-numbered g c =
     let p = err_from_is_err_and c.from_residual-in_err-numbered.result c.from_residual-in_err-numbered.ensures.1 in
-    let first = sym c.numbers_of.ensures.value ∙ c.in-Some.is in
+    let first = sym c.version_numbers_of.ensures.value ∙ c.in-Some.is in
     let cost = walks_of (store_sections c.args.self.now.file.store.now) c.args.table c.args.symbols c.args.self.now.file.loaded.size c.in-Some.section (ne_eqb _ 0 c.if-symbols-eq0.false) first in
     rw (p.1, p.2)
     (record {
@@ -52,14 +52,14 @@ returns-in_err-numbered g c =
       pays = tt;
       read = λ file held counted.
           let belongs = c.args.self.now.loaded.belongs file held in
-          let found = sym (c.numbers_of.ensures.held file belongs) ∙ c.in-Some.is in
+          let found = sym (c.version_numbers_of.ensures.held file belongs) ∙ c.in-Some.is in
           refused_walks file c.args.table c.in-Some.section (rw counted at (ne_eqb _ 0 c.if-symbols-eq0.false)) found [] _
           (c.in_ok-found.ensures.held file belongs).pass (c.in_err-numbered.ensures.numbers.read file held);
     })
 
 pub returns : goal.returns
 returns g c =
-    let first = sym c.numbers_of.ensures.value ∙ c.in-Some.is in
+    let first = sym c.version_numbers_of.ensures.value ∙ c.in-Some.is in
     let cost = walks_of (store_sections c.args.self.now.file.store.now) c.args.table c.args.symbols c.args.self.now.file.loaded.size c.in-Some.section (ne_eqb _ 0 c.if-symbols-eq0.false) first in
     let numbers = c.in_ok-numbered.ensures.numbers in
     record {
@@ -73,7 +73,7 @@ returns g c =
       pays = λ cap. bytes_of (store_sections c.args.self.now.file.store.now) c.args.table cap c.in-Some.section first;
       read = λ file held counted.
           let belongs = c.args.self.now.loaded.belongs file held in
-          let found = sym (c.numbers_of.ensures.held file belongs) ∙ c.in-Some.is in
+          let found = sym (c.version_numbers_of.ensures.held file belongs) ∙ c.in-Some.is in
           found_all file c.args.table c.in-Some.section (rw counted at (ne_eqb _ 0 c.if-symbols-eq0.false)) found _ _
           (c.in_ok-found.ensures.held file belongs) (section_placed file c.in-Some.section c.place-at.ensures.value belongs.header.e_shoff) (numbers.read file held);
     }

@@ -9,8 +9,8 @@ use Rattle.elf_model.specs.VersionRows.{symbol_versions}
 use Rattle.elf_listing.proofs.ListsLaws.{Lists-nothing, Lists-refused, Lists-unread}
 use Rattle.elf_listing.proofs.SectionShown.{no_table, table_fails, table_passes}
 use Rattle.elf_listing.proofs.VersionedCosts.{versioned-within}
-use Rattle.elf_listing.proofs.RowLaws.{Writes-as}
-use Rattle.elf_listing.proofs.VersionedShown.{Lists-behind, Stopped-no-check, definitions-whole, empty-is, needs-whole, rows-are, walks-whole}
+use Rattle.elf_listing.proofs.RowLaws.{WroteSome-as}
+use Rattle.elf_listing.proofs.VersionedShown.{Lists-behind, WroteUntilStop-no-check, definitions-whole, empty-is, needs-whole, rows-are, walks-whole}
 use Rattle.elf_listing.proofs.listing.Listing.symbol_versions.Goals as goal
 
 pub returns-then-header-ne-SHT_GNU_VERSYM : goal.returns-then-header-ne-SHT_GNU_VERSYM
@@ -51,7 +51,7 @@ returns-in_err-numbered g c =
     rw (p.1, p.2) (Lists-unread _ _ _ _ _ _ (omega (arith, within)) fetches (λ file held.
     let no_fault = c.requires.awaits file held in
     rw fetches.1
-    (Stopped-no-check file [] _ _ _ (walks-whole file (definitions-whole file style no_fault) (needs-whole file style no_fault)) (c.in_err-numbered.ensures.numbers.read file held))))
+    (WroteUntilStop-no-check file [] _ _ _ (walks-whole file (definitions-whole file style no_fault) (needs-whole file style no_fault)) (c.in_err-numbered.ensures.numbers.read file held))))
 
 pub returns : goal.returns
 unfolding symbol_versions
@@ -78,7 +78,7 @@ returns g c =
     let rows = rows-are file style _ _ numbered no_fault c.args.section at _ _ sized found.placed found.counted (found.symbols sized) in
     let place : section_place f.loaded.header c.args.section ≡ at = omega (arith, belongs.header.e_shoff) in
     rw (← fetches.1)
-    (Writes-as _ _ _ (table_passes symbol_versions file style c.args.section at kind found.pass ∙ rows)
+    (WroteSome-as _ _ _ (table_passes symbol_versions file style c.args.section at kind found.pass ∙ rows)
     (rw (same, fetches.0.same_file, place) at (c.versioned.ensures.shows file (fetches.2.reads.keeps.same_file ∙ held)))))
 
 pub versioned-requires-clause-below : goal.versioned-requires-clause-below

@@ -8,10 +8,10 @@ use Rattle.elf_model.specs.Records.{section_at}
 use Rattle.elf_model.specs.Rows.{symbol_row}
 use Rattle.elf_model.specs.TableKinds.{symbols}
 use Rattle.elf_model.specs.Bytes.{slice}
-use Rattle.elf_table.specs.Tables.{Strings}
+use Rattle.elf_table.specs.Tables.{StringTableRange}
 use Rattle.elf_table.proofs.RelocationLaws.{symbols-fail, symbols-pass}
 use Rattle.elf_headers.specs.Store.{row}
-use Rattle.elf_listing.proofs.RowLaws.{Writes-as}
+use Rattle.elf_listing.proofs.RowLaws.{WroteSome-as}
 use Rattle.elf_listing.proofs.SectionCosts.{section_within}
 use Rattle.elf_listing.proofs.SectionShown.{no_table, table_fails, table_passes}
 use Rattle.elf_listing.proofs.ListsLaws.{Lists-nothing, Lists-refused, Lists-within}
@@ -46,5 +46,5 @@ returns g c =
     let style = style_of c.args.self.now.style in
     let kind : is_symbol_table file at ≡ true = let is = c.holds_symbols.ensures file at (c.section.ensures.stands file belongs) in cc in
     let found = symbols-pass file at _ (sym (c.in_ok-symbols.ensures.held file belongs)) in
-    Writes-as _ _ _ (table_passes symbols file style c.args.section at kind found.0 ∙ ap (each (symbol_row file style c.args.section at) 0) (sym found.1.counted))
-    (c.rows.ensures.shows file held (λ some. (ap (λ (n : Strings). slice file n.at n.size) (found.1.named some), found.1.placed))))
+    WroteSome-as _ _ _ (table_passes symbols file style c.args.section at kind found.0 ∙ ap (each (symbol_row file style c.args.section at) 0) (sym found.1.counted))
+    (c.rows.ensures.shows file held (λ some. (ap (λ (n : StringTableRange). slice file n.at n.size) (found.1.named some), found.1.placed))))

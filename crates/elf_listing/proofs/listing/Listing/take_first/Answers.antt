@@ -7,27 +7,27 @@ use Rattle.elf_model.specs.HeaderTables.{file_sections, first_typed}
 use Rattle.elf_model.specs.Records.{section_at, sh_size}
 use Rattle.elf_model.specs.Tables.{all_checks}
 use Rattle.elf_model.specs.VersionRows.{first_of_type, version_table}
-use Rattle.elf_names.specs.Ahead.{SpendsCredit}
+use Rattle.elf_names.specs.Ahead.{ReadsOnCredit}
 use Rattle.elf_names.proofs.HeldLaws.{still_held}
-use Rattle.elf_names.proofs.SpendsLaws.{Spends-none, Spends-reads, Spends-then, Spends-to}
-use Rattle.elf_source.specs.Source.{Counting}
-use Rattle.elf_source.proofs.ReadsLaws.{Reads-none}
-use Rattle.elf_table.specs.Tables.{Strings, StringsWithin}
+use Rattle.elf_names.proofs.SpendsLaws.{SpendsAtMost-none, SpendsAtMost-reads, SpendsAtMost-then, SpendsAtMost-to}
+use Rattle.elf_source.specs.Source.{CountedState}
+use Rattle.elf_source.proofs.ReadsLaws.{ReadsUpTo-none}
+use Rattle.elf_table.specs.Tables.{StringTableRange, StringsInBounds}
 use Rattle.elf_versions.proofs.WordLaws.{none-of}
 use Rattle.elf_listing.specs.Versions.{kind_type}
 use Rattle.elf_listing.proofs.FirstTaken.{check-says, empty-section, no-section, of-read, taken-all, taken-cut, taken-none, taken-refused}
 use Rattle.elf_listing.proofs.SectionShown.{range_of_file, section_placed}
 use Rattle.elf_listing.proofs.VersionSections.{found, outside, unnamed}
-use Rattle.elf_listing.proofs.VersionedCosts.{Says-account, walk-cost}
+use Rattle.elf_listing.proofs.VersionedCosts.{IsReadFault-account, walk-cost}
 use Rattle.elf_listing.proofs.ViewedLaws.{still_viewed}
 use Rattle.elf_listing.proofs.listing.Listing.take_first.Goals as goal
 
 -- nothing was read
-spends_not : (src : Counting) (credit n : ℕ) → SpendsCredit src src credit credit n
-spends_not src credit n = Spends-none src credit credit n (omega arith)
+spends_not : (src : CountedState) (credit n : ℕ) → ReadsOnCredit src src credit credit n
+spends_not src credit n = SpendsAtMost-none src credit credit n (omega arith)
 
 -- an empty table lies within every source
-empty_within : (size : ℕ) (names : Strings) → names ≡ record { at = 0; size = 0 } → StringsWithin size names
+empty_within : (size : ℕ) (names : StringTableRange) → names ≡ record { at = 0; size = 0 } → StringsInBounds size names
 empty_within size names is = rw is (λ some. omega arith)
 
 pub returns-in_default-clause-records : goal.returns-in_default-clause-records
@@ -112,8 +112,8 @@ returns-in_err-cursor-clause-records g c =
       fetches = (
         record { same_src = refl; same_out = refl; same_file = refl; same_style = refl },
         refl,
-        Spends-to (Spends-reads _ reads) (omega (arith, most, cost)),
-        Says-account _ _ _ _ 0 _ _ (omega (arith, cost)) (Reads-none _ 0) did.costs.says,
+        SpendsAtMost-to (SpendsAtMost-reads _ reads) (omega (arith, most, cost)),
+        IsReadFault-account _ _ _ _ 0 _ _ (omega (arith, cost)) (ReadsUpTo-none _ 0) did.costs.says,
       );
       within = tt;
       taken = λ file held records names. of-read file c.args.kind records (λ f r. Unit {0}) _ c.in_err-cursor.ensures.fault;
@@ -136,8 +136,8 @@ returns-in_err-take_all-clause-records g c =
       fetches = (
         record { same_src = refl; same_out = refl; same_file = refl; same_style = refl },
         refl,
-        Spends-to (Spends-then (Spends-reads _ first_reads) (Spends-reads _ reads)) (omega (arith, most, account, cost)),
-        Says-account _ _ _ _ _ _ _ (omega (arith, account, cost)) first_reads did.costs.says,
+        SpendsAtMost-to (SpendsAtMost-then (SpendsAtMost-reads _ first_reads) (SpendsAtMost-reads _ reads)) (omega (arith, most, account, cost)),
+        IsReadFault-account _ _ _ _ _ _ _ (omega (arith, account, cost)) first_reads did.costs.says,
       );
       within = tt;
       taken = λ file held records names.
@@ -169,7 +169,7 @@ returns-clause-records g c =
       fetches = (
         record { same_src = refl; same_out = refl; same_file = refl; same_style = refl },
         refl,
-        Spends-to (Spends-then (Spends-reads _ first_reads) (Spends-reads _ reads)) (omega (arith, most, account, cost)),
+        SpendsAtMost-to (SpendsAtMost-then (SpendsAtMost-reads _ first_reads) (SpendsAtMost-reads _ reads)) (omega (arith, most, account, cost)),
         tt,
       );
       within = rw c.args.self.now.loaded.size at c.in_ok-strings.ensures.within;

@@ -2,7 +2,7 @@ use Rattle.std.proofs.Common.{◌≡◌, [], ◌∙◌, ap, sym, arith}
 use Rattle.std.proofs.lemmas.Result.{err_from_is_err_and}
 use Rattle.elf_headers.specs.Permitted.{style_of}
 use Rattle.elf_listing.proofs.ListsLaws.{Lists-hidden, Lists-named, Lists-unread}
-use Rattle.elf_listing.proofs.RowLaws.{Stopped-chosen, Writes-as, chosen-hidden, chosen-shown, chosen-as}
+use Rattle.elf_listing.proofs.RowLaws.{WroteUntilStop-chosen, WroteSome-as, chosen-hidden, chosen-shown, chosen-as}
 use Rattle.elf_listing.proofs.VersionsShown.{record_is}
 use Rattle.elf_listing.proofs.ShowLaws.{Whole-none}
 use Rattle.elf_listing.proofs.listing.Listing.version_line.Goals as goal
@@ -13,15 +13,15 @@ returns-in_err-end g c =
     rw (p.1, p.2) (Lists-unread _ _ _ _ _ _ (omega arith) c.in_err-end.ensures.fetches (λ file met held is.
     let off = c.from.ensures in
     rw (record_is file (style_of c.args.self.now.style) c.args.section _ met c.args.given.now is, ← off, c.in_err-end.ensures.fetches.1)
-    (Stopped-chosen _ _ _ _ _ [] _ (c.in_err-end.ensures.read file held))))
+    (WroteUntilStop-chosen _ _ _ _ _ [] _ (c.in_err-end.ensures.read file held))))
 
 pub returns : goal.returns
 returns g c = Lists-named _ _ _ _ _ _ _ _ (omega arith) c.in_ok-end.ensures.fetches c.named_line.ensures (λ file met held is.
     let off = c.from.ensures in
-    let front = rw c.requires.format at c.version_front.ensures.front in
+    let front = rw c.requires.format at c.version_prefix.ensures.front in
     let read = c.in_ok-end.ensures.read file held in
     rw (record_is file (style_of c.args.self.now.style) c.args.section _ met c.args.given.now is, ← off, ← front, ← c.in_ok-end.ensures.fetches.1)
-    (Writes-as _ _ _ (chosen-shown _ _ _ _ _ _ read (chosen-as c.args.self.now.style _ _ _ _ _ c.in_ok-end.ensures.fetches.0.same_style c.is_shown.ensures c.if-not-is_shown.false))
+    (WroteSome-as _ _ _ (chosen-shown _ _ _ _ _ _ read (chosen-as c.args.self.now.style _ _ _ _ _ c.in_ok-end.ensures.fetches.0.same_style c.is_shown.ensures c.if-not-is_shown.false))
     (c.named_line.ensures.shows _ _ read)))
 
 pub returns-then-not-is_shown : goal.returns-then-not-is_shown

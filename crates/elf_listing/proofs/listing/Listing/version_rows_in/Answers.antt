@@ -5,7 +5,7 @@ use Rattle.elf_headers.specs.Permitted.{style_of}
 use Rattle.elf_headers.proofs.OpenLaws.{still_open}
 use Rattle.elf_model.specs.Names.{name_bytes}
 use Rattle.elf_names.proofs.HeldLaws.{still_held}
-use Rattle.elf_names.proofs.SpendsLaws.{Spends-none, Spends-reads, Spends-then, Spends-to}
+use Rattle.elf_names.proofs.SpendsLaws.{SpendsAtMost-none, SpendsAtMost-reads, SpendsAtMost-then, SpendsAtMost-to}
 use Rattle.elf_source.proofs.GrowthLaws.{grows_not, grows_then}
 use Rattle.elf_table.specs.Tables.{strings_in}
 use Rattle.elf_versions.specs.Reading.{unread, versions_left}
@@ -23,7 +23,7 @@ records-init g c = record {
   going = c.requires.going;
   same_held = refl;
   keeps = record { same_src = refl; same_out = refl; same_file = refl; same_style = refl };
-  spends = Spends-none _ _ _ _ (omega arith);
+  spends = SpendsAtMost-none _ _ _ _ (omega arith);
   asked = omega arith;
   agrees = λ file held agrees. agrees;
   grows = grows_not _;
@@ -125,7 +125,7 @@ returns g c =
     record {
       grows = known.grows;
       keeps = record { same_src = known.keeps.same_src; same_out = known.keeps.same_out; same_file = known.keeps.same_file; same_style = known.keeps.same_style };
-      spent = (Spends-to (Spends-then known.spends (Spends-reads credit reads)) (omega (arith, known.asked, most, fewer)), tt);
+      spent = (SpendsAtMost-to (SpendsAtMost-then known.spends (SpendsAtMost-reads credit reads)) (omega (arith, known.asked, most, fewer)), tt);
       shows = λ file held agrees.
           let step = did.known file (known.spends.reads.keeps.same_file ∙ held) (known.agrees file held agrees) in
           records_end file (style_of c.args.self.now.style) c.args.section (strings_in file c.args.names) _ _ (step.tells known.going) (known.text file held agrees);

@@ -1,8 +1,8 @@
 -- What was shown so far are the records before the cursor's, and what may still be asked for is counted.
 use Rattle.std.proofs.Common.{◌≡◌, ◌+◌, ◌≤◌, List, ℕ, None, Some}
 use Rattle.elf_headers.specs.Permitted.{style_of}
-use Rattle.elf_names.specs.Ahead.{SpendsCredit}
-use Rattle.elf_source.specs.Growth.{Grows}
+use Rattle.elf_names.specs.Ahead.{ReadsOnCredit}
+use Rattle.elf_source.specs.Growth.{OutGrows}
 use Rattle.elf_table.specs.Tables.{strings_in}
 use Rattle.elf_versions.specs.Reading.{IsCursorOf, versions_left}
 use Rattle.elf_listing.specs.Notes.{WrittenBefore}
@@ -18,10 +18,10 @@ invariant-records g l =
       going : l.cursor.failed ≡ None;
       same_held : l.cursor.held ≡ l.fn.cursor.held;
       keeps : SameFile l.fn.self l.self;
-      spends : SpendsCredit l.fn.self.src.now l.self.src.now l.fn.self.ahead.credit l.self.ahead.credit cost;
+      spends : ReadsOnCredit l.fn.self.src.now l.self.src.now l.fn.self.ahead.credit l.self.ahead.credit cost;
       asked : l.self.src.now.asked + l.self.ahead.credit + records_cost l.cursor cap ≤ l.fn.self.src.now.asked + (l.fn.self.ahead.credit + cost);
       agrees : (file : List ℕ) → l.fn.self.src.now.seen.file ≡ Some file → IsCursorOf file l.fn.cursor → IsCursorOf file l.cursor;
-      grows : Grows l.fn.self.out.now l.self.out.now;
+      grows : OutGrows l.fn.self.out.now l.self.out.now;
       text : (file : List ℕ) → l.fn.self.src.now.seen.file ≡ Some file → IsCursorOf file l.fn.cursor
           → WrittenBefore l.fn.self.out.now l.self.out.now
           (versions_items file (style_of l.fn.self.style) l.fn.section (strings_in file l.fn.names) (versions_left file l.fn.cursor))

@@ -4,11 +4,11 @@ use Rattle.std.proofs.lemmas.Bool.Decides.{nat_tests}
 use Rattle.std.proofs.lemmas.Result.{err_from_is_err_and}
 use Rattle.elf_model.specs.Names.{name_bytes}
 use Rattle.elf_model.specs.Versions.{VERSYM_SIZE}
-use Rattle.elf_names.proofs.SpendsLaws.{Spends-to}
+use Rattle.elf_names.proofs.SpendsLaws.{SpendsAtMost-to}
 use Rattle.elf_table.specs.Tables.{Rows}
 use Rattle.elf_listing.specs.SymbolVersions.{versioned_items}
 use Rattle.elf_listing.proofs.ListsLaws.{Lists-within}
-use Rattle.elf_listing.proofs.ShowLaws.{Stopped-more}
+use Rattle.elf_listing.proofs.ShowLaws.{WroteUntilStop-more}
 use Rattle.elf_listing.proofs.VersionedShown.{Ends-behind}
 use Rattle.elf_listing.proofs.VersionSections.{same_le}
 use Rattle.elf_listing.proofs.listing.Listing.versioned.Goals as goal
@@ -20,7 +20,7 @@ returns-in_err-rows g c =
     let shape = c.first_entries-rows.ensures in
     let cost = ap (λ (t : Rows). t.count * (VERSYM_SIZE + name_bytes c.args.self.now.style.cap.bytes)) shape in
     rw (p.1, p.2)
-    (Lists-within _ _ _ _ _ _ _ (omega (arith, cost)) c.in_err-rows.ensures (λ file held. Stopped-more _ _ _ _ _ (rw shape at (c.in_err-rows.ensures.shows file held (λ some. tt)))))
+    (Lists-within _ _ _ _ _ _ _ (omega (arith, cost)) c.in_err-rows.ensures (λ file held. WroteUntilStop-more _ _ _ _ _ (rw shape at (c.in_err-rows.ensures.shows file held (λ some. tt)))))
 
 pub returns-then-len-symbols : goal.returns-then-len-symbols
 unfolding versioned_items
@@ -33,7 +33,7 @@ returns-then-len-symbols g c =
     record {
       grows = done.grows;
       keeps = record { same_src = done.keeps.same_src; same_out = done.keeps.same_out; same_file = done.keeps.same_file; same_style = done.keeps.same_style };
-      spent = (Spends-to done.spent.0 (omega (arith, account, cost)), λ budget. cc);
+      spent = (SpendsAtMost-to done.spent.0 (omega (arith, account, cost)), λ budget. cc);
       shows = λ file held. rw (fewer, c.place-at.ensures.value) (Ends-behind _ _ _ _ (rw shape at (done.shows file held (λ some. tt))));
     }
 
@@ -48,6 +48,6 @@ returns g c =
     record {
       grows = done.grows;
       keeps = record { same_src = done.keeps.same_src; same_out = done.keeps.same_out; same_file = done.keeps.same_file; same_style = done.keeps.same_style };
-      spent = (Spends-to done.spent.0 (omega (arith, account, cost)), tt);
+      spent = (SpendsAtMost-to done.spent.0 (omega (arith, account, cost)), tt);
       shows = λ file held. rw (whole, append-nil _) (rw shape at (done.shows file held (λ some. tt)));
     }

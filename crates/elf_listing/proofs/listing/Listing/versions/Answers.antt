@@ -6,18 +6,18 @@ use Rattle.elf_headers.specs.Permitted.{style_of}
 use Rattle.elf_headers.proofs.OpenLaws.{still_open}
 use Rattle.elf_model.specs.Names.{name_bytes}
 use Rattle.elf_model.specs.Records.{section_at, sh_size}
-use Rattle.elf_model.specs.Versions.{most_records, record_size}
+use Rattle.elf_model.specs.Versions.{max_records, record_size}
 use Rattle.elf_names.proofs.HeldLaws.{still_held}
 use Rattle.elf_source.proofs.GrowthLaws.{grows_not}
 use Rattle.elf_versions.specs.Reading.{bytes_each}
 use Rattle.elf_listing.specs.Parts.{store_sections}
 use Rattle.elf_listing.specs.Versions.{records_kind}
 use Rattle.elf_listing.proofs.ListsLaws.{Lists-nothing, Lists-refused}
-use Rattle.elf_listing.proofs.RowLaws.{Stopped-unread-first, Writes-as}
+use Rattle.elf_listing.proofs.RowLaws.{WroteUntilStop-unread-first, WroteSome-as}
 use Rattle.elf_listing.proofs.SectionCosts.{range_within}
 use Rattle.elf_listing.proofs.SectionShown.{no_table, range_of_file, section_placed, table_fails}
-use Rattle.elf_listing.proofs.ShowLaws.{Spent-fault}
-use Rattle.elf_listing.proofs.VersionSections.{Spent-account, found, none_are, none_asked, outside, reads_pay, same_le, section_is, unnamed, walk_pays}
+use Rattle.elf_listing.proofs.ShowLaws.{SpentCredit-fault}
+use Rattle.elf_listing.proofs.VersionSections.{SpentCredit-account, found, none_are, none_asked, outside, reads_pay, same_le, section_is, unnamed, walk_pays}
 use Rattle.elf_listing.proofs.ViewedLaws.{still_viewed}
 use Rattle.elf_listing.proofs.listing.Listing.versions.Goals as goal
 
@@ -81,8 +81,8 @@ returns-in_err-cursor g c =
     (record {
       grows = grows_not _;
       keeps = record { same_src = refl; same_out = refl; same_file = refl; same_style = refl };
-      spent = Spent-fault _ _ _ _ _ _ _ (reads_pay (most_records k c.in_ok-table.table.count) (bytes_each k) (name_bytes cap) _ within) did.costs.reads did.costs.says;
-      shows = λ file held. Stopped-unread-first _ _ _ c.in_err-cursor.ensures.fault;
+      spent = SpentCredit-fault _ _ _ _ _ _ _ (reads_pay (max_records k c.in_ok-table.table.count) (bytes_each k) (name_bytes cap) _ within) did.costs.reads did.costs.says;
+      shows = λ file held. WroteUntilStop-unread-first _ _ _ c.in_err-cursor.ensures.fault;
     })
 
 pub returns : goal.returns
@@ -96,7 +96,7 @@ returns g c =
     let value = rw (fields.sh_offset, fields.sh_size) at c.in_ok-table.ensures.value in
     let within = range_within (records_kind k) (store_sections f.store.now) c.args.section f.loaded.size _ _ _ cap (λ n. n / record_size k * (bytes_each k + name_bytes cap)) _ (eq-eqb _ _ kind) refl (none_asked k _) (same_le _) value in
     let made = c.in_ok-cursor.ensures in
-    let pays = walk_pays _ _ _ _ (most_records k c.in_ok-table.table.count) (bytes_each k) (name_bytes cap) _ made.starts.left made.account within in
+    let pays = walk_pays _ _ _ _ (max_records k c.in_ok-table.table.count) (bytes_each k) (name_bytes cap) _ made.starts.left made.account within in
     record {
       grows = c.version_rows.ensures.grows;
       keeps = record {
@@ -105,7 +105,7 @@ returns g c =
         same_file = c.version_rows.ensures.keeps.same_file;
         same_style = c.version_rows.ensures.keeps.same_style;
       };
-      spent = Spent-account _ _ _ _ _ _ _ _ _ _ pays made.did.costs.reads c.version_rows.ensures.spent;
+      spent = SpentCredit-account _ _ _ _ _ _ _ _ _ _ pays made.did.costs.reads c.version_rows.ensures.spent;
       shows = λ file held.
           let belongs = c.args.self.now.loaded.belongs file held in
           let stands = c.section-header.ensures.stands file belongs in
@@ -115,7 +115,7 @@ returns g c =
           let stood = range_of_file belongs.size stands.sh_offset stands.sh_size place c.in_ok-table.ensures.value in
           let typed = sym stands.sh_type ∙ (c.if-header-section_type.false ∙ c.section_type.ensures) in
           let all = found file at some _ stood _ (sym (c.in_ok-names.ensures.held file belongs)) in
-          Writes-as _ _ _ (section_is k file style c.args.section at _ _ _ (eq-eqb _ _ typed) all.0 all.1 all.2 (rw place at made.starts))
+          WroteSome-as _ _ _ (section_is k file style c.args.section at _ _ _ (eq-eqb _ _ typed) all.0 all.1 all.2 (rw place at made.starts))
           (c.version_rows.ensures.shows file (made.did.costs.reads.keeps.same_file ∙ held) (made.did.known file held));
     }
 

@@ -4,7 +4,7 @@ use Rattle.elf_model.specs.Bytes.{slice}
 use Rattle.elf_model.proofs.Searches.{search-more, kept-more, found-here}
 use Rattle.elf_names.specs.Ahead.{IsAheadOf}
 use Rattle.elf_names.proofs.HeldLaws.{piece-of_file}
-use Rattle.elf_names.proofs.SpendsLaws.{Spends-then}
+use Rattle.elf_names.proofs.SpendsLaws.{SpendsAtMost-then}
 use Rattle.elf_names.proofs.read_ahead.ReadAhead.search.Goals as goal
 
 pub returns-in-Some-clause-searched : goal.returns-in-Some-clause-searched
@@ -62,7 +62,7 @@ loop-done-preserved g c =
       begins = i.begins;
       ends = i.ends;
       paid = omega (arith, i.paid);
-      spends = Spends-then i.spends b.costs.spends;
+      spends = SpendsAtMost-then i.spends b.costs.spends;
       behind = λ more. omega arith;
       not_past = omega arith;
       same_symbols = i.same_symbols;

@@ -2,7 +2,7 @@
 use Rattle.std.proofs.Common.{◌≡◌, ℕ, ◌+◌, ◌-◌, ◌<◌, ◌≤◌, List, length, take, None, Some}
 use Rattle.elf_model.specs.Bytes.{slice}
 use Rattle.elf_model.specs.Names.{nul_in}
-use Rattle.elf_names.specs.Ahead.{IsAheadOf, IsOf, SpendsCredit}
+use Rattle.elf_names.specs.Ahead.{IsAheadOf, IsOf, ReadsOnCredit}
 use Rattle.elf_names.proofs.read_ahead.ReadAhead.search.Given as goal
 
 abbrev pub invariant-loop-done : goal.invariant-loop-done
@@ -16,7 +16,7 @@ invariant-loop-done g l =
       begins : l.start ≡ names.at + off;
       ends : l.end ≡ names.at + names.size;
       paid : l.want ≤ now.credit + l.done;
-      spends : SpendsCredit l.fn.src l.src l.fn.self.credit now.credit 0;
+      spends : ReadsOnCredit l.fn.src l.src l.fn.self.credit now.credit 0;
       behind : l.done < l.want → l.src.asked ≤ l.fn.src.asked + l.done;
       not_past : l.src.asked ≤ l.fn.src.asked + (names.size - off);
       same_symbols : now.symbols ≡ l.fn.self.symbols;

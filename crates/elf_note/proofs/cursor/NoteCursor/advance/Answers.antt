@@ -2,22 +2,22 @@
 use Rattle.std.proofs.Common.{◌≡◌, ℕ, Option, None, Some, Result, IfErr, refl}
 use Rattle.elf_headers.proofs.Absent.{none-of}
 use Rattle.elf_source.specs.Onward.{ReadsOnward}
-use Rattle.elf_source.specs.Source.{Seen, Counting, Reads}
-use Rattle.elf_headers.specs.Faults.{Says}
+use Rattle.elf_source.specs.Source.{SourceState, CountedState, ReadsUpTo}
+use Rattle.elf_headers.specs.Faults.{IsReadFault}
 use Rattle.elf_headers.specs.declared.fault.Fault.{Fault}
 use Rattle.elf_table.specs.Windows.{MovesOn, frontier}
-use Rattle.elf_note.specs.NoteCursors.{KeepsNotes, NoteReading}
+use Rattle.elf_note.specs.NoteCursors.{KeepsNotes, NoteCursorState}
 use Rattle.elf_note.specs.Steps.{StepReads}
 use Rattle.elf_note.proofs.cursor.NoteCursor.advance.Goals as goal
 
 no-some : {o : Option Fault} (fault : Fault) → o ≡ None → o ≡ Some fault → ⊥
 no-some fault none some = cc
 
-asked : {X : Type 0} {a b : Counting} {n : ℕ} {result : Result X Fault} {failed : Option Fault} → failed ≡ None → Reads a b n → IfErr result (Says a b n)
+asked : {X : Type 0} {a b : CountedState} {n : ℕ} {result : Result X Fault} {failed : Option Fault} → failed ≡ None → ReadsUpTo a b n → IfErr result (IsReadFault a b n)
     → StepReads a b n failed result
 asked none reads says = record { reads = reads; says = λ going. says; again = λ fault some. absurd (no-some fault none some) }
 
-kept : {one_read : Seen → ℕ → ℕ → Seen → Type 0} {a b : Counting} {old new : NoteReading} → old.failed ≡ None → new.table ≡ old.table → new.align ≡ old.align
+kept : {one_read : SourceState → ℕ → ℕ → SourceState → Type 0} {a b : CountedState} {old new : NoteCursorState} → old.failed ≡ None → new.table ≡ old.table → new.align ≡ old.align
     → MovesOn old.ahead new.ahead a.asked b.asked → ReadsOnward one_read a.source b.source (frontier old.ahead) (frontier new.ahead) → KeepsNotes one_read a b old new
 kept none table align moves onward =
     record { same_table = table; same_align = align; moves = moves; onward = onward; unchanged = λ fault some. absurd (no-some fault none some) }

@@ -1,5 +1,5 @@
 use Rattle.std.proofs.Common.{◌∙◌, Some, refl, sym, ap}
-use Rattle.elf_source.specs.Source.{Seen, Counting}
+use Rattle.elf_source.specs.Source.{SourceState, CountedState}
 use Rattle.elf_source.proofs.RangeLaws.{is_whole}
 use Rattle.elf_source.proofs.range_source.Counted+RangeSource+S.widen.Goals as goal
 
@@ -8,11 +8,11 @@ returns g c =
     let is = c.self.view_is in
     let below = c.set.ensures.below in
     record {
-      is_whole = is_whole c.set.new.self c.set.ensures.start (c.set.ensures.size ∙ (c.whole-size.ensures.value ∙ sym (ap (λ (b : Seen). b.size) below)));
-      same_whole = ap (λ (b : Seen). Some (record { size = b.size; file = b.file })) below ∙ ap (λ (v : Counting). v.seen.whole) is;
-      same_failures = ap (λ (b : Seen). b.failures) below ∙ ap (λ (v : Counting). v.seen.failures) is;
-      same_asked = ap (λ (v : Counting). v.asked) is;
-      same_limit = ap (λ (v : Counting). v.most) is;
-      same_stopped = ap (λ (v : Counting). v.stopped) is;
+      is_whole = is_whole c.set.new.self c.set.ensures.start (c.set.ensures.size ∙ (c.whole-size.ensures.value ∙ sym (ap (λ (b : SourceState). b.size) below)));
+      same_whole = ap (λ (b : SourceState). Some (record { size = b.size; file = b.file })) below ∙ ap (λ (v : CountedState). v.seen.whole) is;
+      same_failures = ap (λ (b : SourceState). b.failures) below ∙ ap (λ (v : CountedState). v.seen.failures) is;
+      same_asked = ap (λ (v : CountedState). v.asked) is;
+      same_limit = ap (λ (v : CountedState). v.most) is;
+      same_stopped = ap (λ (v : CountedState). v.stopped) is;
       shows = refl;
     }

@@ -1,7 +1,7 @@
 -- Behind the last record none is left.
 use Rattle.std.proofs.Common.{arith}
 use Rattle.elf_model.proofs.VersionSteps.{met-ended}
-use Rattle.elf_headers.proofs.LedgerLaws.{Did-as, Did-none}
+use Rattle.elf_headers.proofs.LedgerLaws.{CallDid-as, CallDid-none}
 use Rattle.elf_headers.proofs.Absent.{none-of}
 use Rattle.elf_versions.proofs.cursor.VersionCursor.advance.Goals as goal
 
@@ -12,6 +12,6 @@ returns-in_default-standing-clause-did g c =
     let ended = none-of i.standing c.in_default-standing.not-Some in
     rw (← c.self.view_is)
     (rw going
-    (Did-as _ (omega arith) (Did-none c.args.src.now)
+    (CallDid-as _ (omega arith) (CallDid-none c.args.src.now)
     (λ file told costs agrees.
     record { agrees = agrees; tells = λ well. rw ended (met-ended file i.held.table.at i.held.table.count i.left); leads = tt })))

@@ -1,0 +1,87 @@
+-- The name of the symbol and then its version are read before the line is put.
+use Rattle.std.proofs.Common.{◌≡◌, ℕ, ◌+◌, ◌*◌, ◌/◌, ◌^◌, ◌==◌, not, refl, sym, ap, ◌∙◌, [], Ok, Err, arith}
+use Rattle.std.proofs.lemmas.Result.{err_from_is_err_and}
+use Rattle.elf_headers.specs.Permitted.{style_of}
+use Rattle.elf_model.specs.Names.{name_bytes}
+use Rattle.elf_model.specs.Records.{section_at, sh_link, sh_offset}
+use Rattle.elf_model.specs.Tables.{entry_at, linked_at}
+use Rattle.elf_table.specs.NamesRead.{shown_by}
+use Rattle.elf_table.specs.declared.names.NameEnd.{NameEnd}
+use Rattle.elf_table.specs.declared.names.NameEnd.TheVariants.{Whole}
+use Rattle.elf_listing.specs.Suffixed.{suffix_read}
+use Rattle.elf_listing.proofs.RowLaws.{WroteSome-as, chosen-as}
+use Rattle.elf_listing.proofs.ListsLaws.{Lists-hidden, Lists-named, Lists-unread}
+use Rattle.elf_listing.proofs.ShowLaws.{Whole-none}
+use Rattle.elf_listing.proofs.SuffixShown.{ListingReads-then, WroteUntilStop-suffix, WroteUntilStop-unnamed, suffixed-hidden, suffixed-shown, suffixed_relocation_is}
+use Rattle.elf_listing.proofs.listing.Listing.relocation_row_with_version.Goals as goal
+
+pub returns-in_err-read : goal.returns-in_err-read
+returns-in_err-read g c =
+    let p = err_from_is_err_and c.from_residual.result c.from_residual.ensures.1 in
+    rw (p.1, p.2) (Lists-unread _ _ _ _ _ _ (omega arith) c.in_err-read.ensures.fetches (λ file held at_of of_kind row.
+    let at = section_at file c.args.section in
+    let decoded = c.decode-entry.ensures.stands file c.args.row.now.at (c.whole.ensures ∙ row.bytes) in
+    let here : c.args.row.now.at ≡ sh_offset file at + c.args.row.now.index * 24 = omega (arith, of_kind.1, row.here) in
+    let symbol = c.symbol-symbol.ensures ∙ ap (λ n. n / 2 ^ 32) decoded.r_info in
+    rw (suffixed_relocation_is file _ (style_of c.args.self.now.style) c.args.section at c.args.row.now.at _ c.args.row.now.index here refl symbol, c.in_err-read.ensures.fetches.1)
+    (WroteUntilStop-unnamed _ _ _ _ _ [] _ _ (c.in_err-read.ensures.read file at held of_kind.0))))
+
+pub returns-in_err-suffix : goal.returns-in_err-suffix
+returns-in_err-suffix g c =
+    let p = err_from_is_err_and c.from_residual-in_err-suffix.result c.from_residual-in_err-suffix.ensures.1 in
+    let first = c.in_ok-read.ensures.fetches in
+    let same = first.0.same_style in
+    let cap = c.args.self.now.style.cap.bytes in
+    let both = ListingReads-then {X = NameEnd} _ _ _ c.in_ok-read.read (Err c.in_err-suffix.field-0.0) _ _ (24 + name_bytes cap + (2 + name_bytes cap)) (rw same (omega arith)) first c.in_err-suffix.ensures.fetches in
+    rw (p.1, p.2) (Lists-unread _ _ _ _ _ _ (omega arith) both (λ file held at_of of_kind row.
+    let at = section_at file c.args.section in
+    let decoded = c.decode-entry.ensures.stands file c.args.row.now.at (c.whole.ensures ∙ row.bytes) in
+    let here : c.args.row.now.at ≡ sh_offset file at + c.args.row.now.index * 24 = omega (arith, of_kind.1, row.here) in
+    let symbol = c.symbol-symbol.ensures ∙ ap (λ n. n / 2 ^ 32) decoded.r_info in
+    let read = c.in_ok-read.ensures.read file at held of_kind.0 in
+    let defined = c.in_ok-read.ensures.defined file at held of_kind.0 in
+    let behind = rw same at (c.in_err-suffix.ensures.read file (first.2.reads.keeps.same_file ∙ held) (sh_link file at) (entry_at file (linked_at file at) 24 c.symbol-symbol.result) of_kind.2 defined) in
+    rw (suffixed_relocation_is file _ (style_of c.args.self.now.style) c.args.section at c.args.row.now.at _ c.args.row.now.index here refl symbol, both.1)
+    (WroteUntilStop-suffix _ _ _ _ c.in_ok-read.read.end _ _ _ _ _ read behind)))
+
+pub returns-then-not-is_versioned_row_shown : goal.returns-then-not-is_versioned_row_shown
+returns-then-not-is_versioned_row_shown g c =
+    let first = c.in_ok-read.ensures.fetches in
+    let same = first.0.same_style in
+    let cap = c.args.self.now.style.cap.bytes in
+    let both = ListingReads-then {X = NameEnd} _ _ _ c.in_ok-read.read (Ok Whole) _ _ (24 + name_bytes cap + (2 + name_bytes cap)) (rw same (omega arith)) first c.in_ok-suffix.ensures.fetches in
+    Lists-hidden _ _ _ _ _ _ (omega arith) both (λ file held at_of of_kind row.
+    let at = section_at file c.args.section in
+    let decoded = c.decode-entry.ensures.stands file c.args.row.now.at (c.whole.ensures ∙ row.bytes) in
+    let here : c.args.row.now.at ≡ sh_offset file at + c.args.row.now.index * 24 = omega (arith, of_kind.1, row.here) in
+    let symbol = c.symbol-symbol.ensures ∙ ap (λ n. n / 2 ^ 32) decoded.r_info in
+    let read = c.in_ok-read.ensures.read file at held of_kind.0 in
+    let defined = c.in_ok-read.ensures.defined file at held of_kind.0 in
+    let behind = rw same at (c.in_ok-suffix.ensures.read file (first.2.reads.keeps.same_file ∙ held) (sh_link file at) (entry_at file (linked_at file at) 24 c.symbol-symbol.result) of_kind.2 defined) in
+    let hidden = rw c.in_ok-suffix.ensures.kept at (chosen-as c.args.self.now.style _ _ _ _ _ both.0.same_style c.is_versioned_row_shown.ensures c.if-not-is_versioned_row_shown.true) in
+    rw both.1
+    (WroteSome-as {X = Unit {0}} _ _ (Ok tt)
+    (suffixed_relocation_is file _ (style_of c.args.self.now.style) c.args.section at c.args.row.now.at _ c.args.row.now.index here refl symbol
+    ∙ suffixed-hidden _ _ _ c.in_ok-read.read.end _ _ _ c.in_ok-suffix.suffix _ read behind hidden)
+    (Whole-none _)))
+
+pub returns : goal.returns
+returns g c =
+    let first = c.in_ok-read.ensures.fetches in
+    let same = first.0.same_style in
+    let cap = c.args.self.now.style.cap.bytes in
+    let both = ListingReads-then {X = NameEnd} _ _ _ c.in_ok-read.read (Ok Whole) _ _ (24 + name_bytes cap + (2 + name_bytes cap)) (rw same (omega arith)) first c.in_ok-suffix.ensures.fetches in
+    Lists-named _ _ _ _ _ _ _ _ (omega arith) both c.suffixed_line.ensures (λ file held at_of of_kind row.
+    let at = section_at file c.args.section in
+    let decoded = c.decode-entry.ensures.stands file c.args.row.now.at (c.whole.ensures ∙ row.bytes) in
+    let here : c.args.row.now.at ≡ sh_offset file at + c.args.row.now.index * 24 = omega (arith, of_kind.1, row.here) in
+    let symbol = c.symbol-symbol.ensures ∙ ap (λ n. n / 2 ^ 32) decoded.r_info in
+    let read = c.in_ok-read.ensures.read file at held of_kind.0 in
+    let defined = c.in_ok-read.ensures.defined file at held of_kind.0 in
+    let front = rw (c.requires.format, c.naming-naming.ensures.gnu, c.naming-naming.ensures.machine file held) at (c.relocation_prefix.ensures.front file c.args.row.now.at decoded) in
+    let behind = rw same at (c.in_ok-suffix.ensures.read file (first.2.reads.keeps.same_file ∙ held) (sh_link file at) (entry_at file (linked_at file at) 24 c.symbol-symbol.result) of_kind.2 defined) in
+    let shown = rw c.in_ok-suffix.ensures.kept at (chosen-as c.args.self.now.style _ _ _ _ _ both.0.same_style c.is_versioned_row_shown.ensures c.if-not-is_versioned_row_shown.false) in
+    let now = rw (sym c.in_ok-suffix.ensures.kept) at read in
+    rw (← both.1)
+    (WroteSome-as _ _ _ (suffixed_relocation_is file _ (style_of c.args.self.now.style) c.args.section at c.args.row.now.at _ c.args.row.now.index here front symbol ∙ suffixed-shown _ _ _ c.in_ok-read.read.end _ _ _ c.in_ok-suffix.suffix _ read behind shown)
+    (c.suffixed_line.ensures.shows _ _ now)))

@@ -1,0 +1,77 @@
+-- The name and then the version are read before the line is put.
+use Rattle.std.proofs.Common.{◌≡◌, ℕ, ◌+◌, ◌*◌, ◌==◌, not, refl, sym, ap, ◌∙◌, [], Ok, Err, arith}
+use Rattle.std.proofs.lemmas.Result.{err_from_is_err_and}
+use Rattle.elf_headers.specs.Permitted.{style_of}
+use Rattle.elf_model.specs.Names.{name_bytes}
+use Rattle.elf_model.specs.Records.{section_at, sh_offset}
+use Rattle.elf_table.specs.NamesRead.{shown_by}
+use Rattle.elf_table.specs.declared.names.NameEnd.{NameEnd}
+use Rattle.elf_table.specs.declared.names.NameEnd.TheVariants.{Whole}
+use Rattle.elf_listing.specs.Suffixed.{suffix_read}
+use Rattle.elf_listing.proofs.RowLaws.{WroteSome-as, chosen-as}
+use Rattle.elf_listing.proofs.ListsLaws.{Lists-hidden, Lists-named, Lists-unread}
+use Rattle.elf_listing.proofs.ShowLaws.{Whole-none}
+use Rattle.elf_listing.proofs.SuffixShown.{ListingReads-then, WroteUntilStop-suffix, WroteUntilStop-unnamed, suffixed-hidden, suffixed-shown, suffixed_symbol_is}
+use Rattle.elf_listing.proofs.listing.Listing.symbol_row_with_version.Goals as goal
+
+pub returns-in_err-end : goal.returns-in_err-end
+returns-in_err-end g c =
+    let p = err_from_is_err_and c.from_residual.result c.from_residual.ensures.1 in
+    rw (p.1, p.2) (Lists-unread _ _ _ _ _ _ (omega arith) c.in_err-end.ensures.fetches (λ file held at of_kind row.
+    let decoded = c.decode-symbol.ensures.stands file c.args.row.now.at (c.whole.ensures ∙ row.bytes) in
+    let here : c.args.row.now.at ≡ sh_offset file (section_at file c.args.section) + c.args.row.now.index * 24 = omega (arith, of_kind.1, row.here) in
+    rw (suffixed_symbol_is file (style_of c.args.self.now.style) _ _ _ _ _ _ refl of_kind.0 (c.from-off.ensures ∙ decoded.st_name) here, c.in_err-end.ensures.fetches.1) (WroteUntilStop-unnamed _ _ _ _ _ [] _ _ (c.in_err-end.ensures.read file held))))
+
+pub returns-in_err-suffix : goal.returns-in_err-suffix
+returns-in_err-suffix g c =
+    let p = err_from_is_err_and c.from_residual-in_err-suffix.result c.from_residual-in_err-suffix.ensures.1 in
+    let first = c.in_ok-end.ensures.fetches in
+    let same = first.0.same_style in
+    let cap = c.args.self.now.style.cap.bytes in
+    let both = ListingReads-then {X = NameEnd} _ _ _ c.in_ok-end.end (Err c.in_err-suffix.field-0.0) _ _ (name_bytes cap + (2 + name_bytes cap)) (rw same (omega arith)) first c.in_err-suffix.ensures.fetches in
+    rw (p.1, p.2) (Lists-unread _ _ _ _ _ _ (omega arith) both (λ file held at of_kind row.
+    let decoded = c.decode-symbol.ensures.stands file c.args.row.now.at (c.whole.ensures ∙ row.bytes) in
+    let here : c.args.row.now.at ≡ sh_offset file (section_at file c.args.section) + c.args.row.now.index * 24 = omega (arith, of_kind.1, row.here) in
+    let defined = ap (λ (n : ℕ). not (n == 0)) decoded.st_shndx in
+    let read = c.in_ok-end.ensures.read file held in
+    let behind = rw same at (c.in_err-suffix.ensures.read file (first.2.reads.keeps.same_file ∙ held) c.args.section c.args.row.now.at of_kind.2 defined) in
+    rw (suffixed_symbol_is file (style_of c.args.self.now.style) _ _ _ _ _ _ refl of_kind.0 (c.from-off.ensures ∙ decoded.st_name) here, both.1)
+    (WroteUntilStop-suffix _ _ _ _ c.in_ok-end.end _ _ _ _ _ read behind)))
+
+pub returns-then-not-is_versioned_row_shown : goal.returns-then-not-is_versioned_row_shown
+returns-then-not-is_versioned_row_shown g c =
+    let first = c.in_ok-end.ensures.fetches in
+    let same = first.0.same_style in
+    let cap = c.args.self.now.style.cap.bytes in
+    let both = ListingReads-then {X = NameEnd} _ _ _ c.in_ok-end.end (Ok Whole) _ _ (name_bytes cap + (2 + name_bytes cap)) (rw same (omega arith)) first c.in_ok-suffix.ensures.fetches in
+    Lists-hidden _ _ _ _ _ _ (omega arith) both (λ file held at of_kind row.
+    let decoded = c.decode-symbol.ensures.stands file c.args.row.now.at (c.whole.ensures ∙ row.bytes) in
+    let here : c.args.row.now.at ≡ sh_offset file (section_at file c.args.section) + c.args.row.now.index * 24 = omega (arith, of_kind.1, row.here) in
+    let defined = ap (λ (n : ℕ). not (n == 0)) decoded.st_shndx in
+    let read = c.in_ok-end.ensures.read file held in
+    let behind = rw same at (c.in_ok-suffix.ensures.read file (first.2.reads.keeps.same_file ∙ held) c.args.section c.args.row.now.at of_kind.2 defined) in
+    let hidden = rw c.in_ok-suffix.ensures.kept at (chosen-as c.args.self.now.style _ _ _ _ _ both.0.same_style c.is_versioned_row_shown.ensures c.if-not-is_versioned_row_shown.true) in
+    rw both.1
+    (WroteSome-as {X = Unit {0}} _ _ (Ok tt)
+    (suffixed_symbol_is file (style_of c.args.self.now.style) _ _ _ _ _ _ refl of_kind.0 (c.from-off.ensures ∙ decoded.st_name) here
+    ∙ suffixed-hidden _ _ _ c.in_ok-end.end _ _ _ c.in_ok-suffix.suffix _ read behind hidden)
+    (Whole-none _)))
+
+pub returns : goal.returns
+returns g c =
+    let first = c.in_ok-end.ensures.fetches in
+    let same = first.0.same_style in
+    let cap = c.args.self.now.style.cap.bytes in
+    let both = ListingReads-then {X = NameEnd} _ _ _ c.in_ok-end.end (Ok Whole) _ _ (name_bytes cap + (2 + name_bytes cap)) (rw same (omega arith)) first c.in_ok-suffix.ensures.fetches in
+    Lists-named _ _ _ _ _ _ _ _ (omega arith) both c.suffixed_line.ensures (λ file held at of_kind row.
+    let decoded = c.decode-symbol.ensures.stands file c.args.row.now.at (c.whole.ensures ∙ row.bytes) in
+    let here : c.args.row.now.at ≡ sh_offset file (section_at file c.args.section) + c.args.row.now.index * 24 = omega (arith, of_kind.1, row.here) in
+    let defined = ap (λ (n : ℕ). not (n == 0)) decoded.st_shndx in
+    let front = rw (c.requires.format, c.naming-naming.ensures.gnu, c.naming-naming.ensures.machine file held) at (c.symbol_prefix.ensures.front file c.args.row.now.at decoded) in
+    let read = c.in_ok-end.ensures.read file held in
+    let behind = rw same at (c.in_ok-suffix.ensures.read file (first.2.reads.keeps.same_file ∙ held) c.args.section c.args.row.now.at of_kind.2 defined) in
+    let shown = rw c.in_ok-suffix.ensures.kept at (chosen-as c.args.self.now.style _ _ _ _ _ both.0.same_style c.is_versioned_row_shown.ensures c.if-not-is_versioned_row_shown.false) in
+    let now = rw (sym c.in_ok-suffix.ensures.kept) at read in
+    rw (← both.1)
+    (WroteSome-as _ _ _ (suffixed_symbol_is file (style_of c.args.self.now.style) _ _ _ _ _ _ front of_kind.0 (c.from-off.ensures ∙ decoded.st_name) here ∙ suffixed-shown _ _ _ c.in_ok-end.end _ _ _ c.in_ok-suffix.suffix _ read behind shown)
+    (c.suffixed_line.ensures.shows _ _ now)))

@@ -1,8 +1,0 @@
--- What is left of the budget falls by no less than what the files of the objects before this one were asked for.
-use Rattle.elf_needs.specs.Budget.{AsksFiles}
-use Rattle.elf_needs.proofs.walk.ObjectWalk.list.Given as goal
-
-abbrev pub invariant-loop-index : goal.invariant-loop-index
-invariant-loop-index g l = record {
-  asks : AsksFiles l.fn.opened.objects.items l.opened.objects.items 0 l.fn.self.search.account l.self.search.account;
-}

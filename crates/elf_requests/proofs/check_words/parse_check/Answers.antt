@@ -1,0 +1,10 @@
+-- Without a path and a list nothing is asked for.
+use Rattle.std.proofs.Common.{Ok, ap}
+use Rattle.clap.specs.Walk.{rows_of}
+use Rattle.clap.specs.Words.{found_of}
+use Rattle.elf_requests.proofs.CheckLaws.{nothing_by_check}
+use Rattle.elf_requests.proofs.check_words.parse_check.Goals as goal
+
+pub returns-in-Ok-None : goal.returns-in-Ok-None
+returns-in-Ok-None c =
+    nothing_by_check (rows_of (found_of c.args.options.now)) (λ asked is. c.in-Ok-None.ensures.none (ap Ok c.in-Ok-None.field-0-is) asked.files is.files)

@@ -1,8 +1,0 @@
--- The store has the program header, and the file that is viewed has it where the index says.
-use Rattle.elf_table.proofs.segment_view.SegmentView.segment.Goals as goal
-
-pub returns-clause-fields : goal.returns-clause-fields
-returns-clause-fields c = c.segment.ensures.fields
-
-pub returns-clause-stands : goal.returns-clause-stands
-returns-clause-stands c = λ file views. c.segment.ensures.stands file views.rows
