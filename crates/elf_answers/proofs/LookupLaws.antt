@@ -22,7 +22,7 @@ use Rattle.elf_headers.specs.Ledger.{CallReads}
 use Rattle.elf_headers.specs.Stops.{stop_of}
 use Rattle.elf_headers.specs.declared.fault.Fault.{Fault}
 use Rattle.elf_headers.specs.declared.fault.Fault.TheVariants.{Refused as Refuses, Source as Unread}
-use Rattle.elf_headers.specs.declared.stop.RunFault.{RunFault}
+use Rattle.elf_headers.specs.declared.run_fault.RunFault.{RunFault}
 use Rattle.elf_hash.specs.Lookups.{GivesLookup}
 use Rattle.elf_listing.specs.Reports.{ReturnsStop}
 use Rattle.elf_listing.specs.Shows.{IsOfOutput}

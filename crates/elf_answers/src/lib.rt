@@ -2,11 +2,11 @@
 //! relocations applied; and what the listing of an archive answers.
 #![tactic(auto)]
 
-mod answering;
-mod applying;
-mod archives;
-mod finding;
-mod resolving;
+mod run_request;
+mod apply_request;
+mod archive_request;
+mod find_request;
+mod resolve_request;
 
-pub use answering::run;
-pub use archives::archive_status;
+pub use run_request::run;
+pub use archive_request::archive_status;

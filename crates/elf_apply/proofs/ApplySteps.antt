@@ -22,9 +22,9 @@ use Rattle.elf_apply.specs.Entries.{target_as}
 use Rattle.elf_apply.specs.Passes.{ChecksEntries, folded, rising}
 use Rattle.elf_apply.specs.Walk.{changes_all, changes_from, sections_of}
 use Rattle.elf_headers.specs.Stops.{stop_of}
-use Rattle.elf_apply.specs.declared.applying.Applied.{Applied}
+use Rattle.elf_apply.specs.declared.apply_section.Applied.{Applied}
 use Rattle.elf_apply.specs.declared.entry.ApplyTarget.{ApplyTarget as TargetCode}
-use Rattle.elf_headers.specs.declared.stop.RunFault.{RunFault}
+use Rattle.elf_headers.specs.declared.run_fault.RunFault.{RunFault}
 use Rattle.elf_apply.proofs.WindowSteps.{front_none}
 
 -- what a pass says of the patches

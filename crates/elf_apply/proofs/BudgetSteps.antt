@@ -12,7 +12,7 @@ use Rattle.elf_headers.specs.declared.fault.Fault.{Fault}
 use Rattle.elf_apply.specs.Applied.{ApplySays, ReadsWithin, BudgetTooSmall, write_passes}
 use Rattle.elf_apply.specs.Windows.{windows}
 use Rattle.elf_headers.specs.Stops.{stop_of}
-use Rattle.elf_headers.specs.declared.stop.RunFault.{RunFault}
+use Rattle.elf_headers.specs.declared.run_fault.RunFault.{RunFault}
 
 -- what was asked for
 pub spends_reads : {a b : CountedState} {n : ℕ} (k : ℕ) → ReadsUpTo a b n → b.asked ≤ a.asked + k → ReadsWithin a b k

@@ -21,7 +21,7 @@ use Rattle.elf_apply.specs.Windows.{WritesBytes, UnreadSays}
 use Rattle.elf_headers.specs.Stops.{stop_of}
 use Rattle.elf_apply.specs.declared.entry.ApplyTarget.{ApplyTarget as TargetCode}
 use Rattle.elf_apply.specs.declared.walk.Entries.{Entries}
-use Rattle.elf_headers.specs.declared.stop.RunFault.{RunFault}
+use Rattle.elf_headers.specs.declared.run_fault.RunFault.{RunFault}
 use Rattle.elf_apply.proofs.WindowSteps.{and_is, window_more, window_stopped, take_more}
 use Rattle.elf_model.proofs.Slices.{slice-size, slice-slice, slice-rest}
 

@@ -14,7 +14,7 @@ use Rattle.elf_apply.specs.Applied.{ApplySays, OverBudget, RoomFor, ReadsWithin,
 use Rattle.elf_apply.specs.Walk.{entries_from, walk_all}
 use Rattle.elf_apply.specs.Windows.{ApplyFaultSays, NotForBudget, WritesBytes, windows}
 use Rattle.elf_apply.specs.declared.entry.ApplyTarget.{ApplyTarget}
-use Rattle.elf_headers.specs.declared.stop.RunFault.{RunFault}
+use Rattle.elf_headers.specs.declared.run_fault.RunFault.{RunFault}
 
 -- what a pass asks for, by the number of entries and what each of them asks for
 walk_by : (target : ApplyTarget) (entries each : ℕ) → entries ≡ entries_from target 0 → each ≡ 48 + layout_names_cost target.layout.now → entries * each ≡ walk_all target

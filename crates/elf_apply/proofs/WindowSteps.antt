@@ -18,8 +18,8 @@ use Rattle.elf_apply.specs.Passes.{folded, storing, Folds}
 use Rattle.elf_apply.specs.Windows.{WritesBytes, ApplyFaultSays, NotForBudget, windows}
 use Rattle.elf_headers.specs.Stops.{stop_of}
 use Rattle.elf_headers.specs.Faults.{IsUnlimitedReadFault}
-use Rattle.elf_headers.specs.declared.stop.RunFault.{RunFault}
-use Rattle.elf_headers.specs.declared.stop.RunFault.TheVariants.{Refused, Source, Out}
+use Rattle.elf_headers.specs.declared.run_fault.RunFault.{RunFault}
+use Rattle.elf_headers.specs.declared.run_fault.RunFault.TheVariants.{Refused, Source, Out}
 use Rattle.elf_model.proofs.Slices.{slice-size, slice-slice}
 
 -- a pass in a window is the patches' parts, stored one after another

@@ -15,10 +15,10 @@ use Rattle.elf_headers.specs.Load.{IsOpen, LoadedFile}
 use Rattle.elf_headers.specs.Store.{StoreState}
 use Rattle.elf_headers.specs.declared.fault.Fault.{Fault}
 use Rattle.elf_headers.specs.declared.fault.Fault.TheVariants.{Refused as Refuses, Source as Unread}
-use Rattle.elf_apply.specs.declared.applying.Applied.{Applied}
+use Rattle.elf_apply.specs.declared.apply_section.Applied.{Applied}
 use Rattle.elf_apply.specs.declared.entry.ApplyTarget.{ApplyTarget}
-use Rattle.elf_headers.specs.declared.stop.RunFault.{RunFault}
-use Rattle.elf_headers.specs.declared.stop.RunFault.TheVariants.{Refused, Source, Out}
+use Rattle.elf_headers.specs.declared.run_fault.RunFault.{RunFault}
+use Rattle.elf_headers.specs.declared.run_fault.RunFault.TheVariants.{Refused, Source, Out}
 use Rattle.elf_apply.specs.InOrder.{OffsetsAscend}
 use Rattle.elf_apply.specs.Walk.{walk_all}
 use Rattle.elf_apply.specs.Windows.{OfPatches, WroteBytes, windows}

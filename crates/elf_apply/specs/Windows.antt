@@ -13,8 +13,8 @@ use Rattle.elf_headers.specs.declared.fault.Fault.{Fault}
 use Rattle.elf_headers.specs.declared.fault.Fault.TheVariants.{Refused as Refuses, Source as Unread}
 use Rattle.elf_apply.specs.Walk.{changes_all}
 use Rattle.elf_apply.specs.declared.entry.ApplyTarget.{ApplyTarget}
-use Rattle.elf_headers.specs.declared.stop.RunFault.{RunFault}
-use Rattle.elf_headers.specs.declared.stop.RunFault.TheVariants.{Refused, Source, Out}
+use Rattle.elf_headers.specs.declared.run_fault.RunFault.{RunFault}
+use Rattle.elf_headers.specs.declared.run_fault.RunFault.TheVariants.{Refused, Source, Out}
 
 -- how many windows a section has
 abbrev pub windows : ℕ → ℕ

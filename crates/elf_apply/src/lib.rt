@@ -1,7 +1,7 @@
 //! Relocations applied to a section of a relocatable file for x86-64.
 #![tactic(auto)]
 
-mod applying;
+mod apply_section;
 mod entry;
 mod in_order;
 mod lookup;
@@ -9,4 +9,4 @@ mod passes;
 mod walk;
 mod windows;
 
-pub use applying::{Applied, apply, apply_with};
+pub use apply_section::{Applied, apply, apply_with};

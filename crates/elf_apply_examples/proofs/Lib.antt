@@ -1,1 +1,1 @@
-pub mod OnExamples
+pub mod OnApplyExamples

@@ -7,8 +7,8 @@ use Rattle.elf_source.proofs.ReadsLaws.{ReadsUpTo-none, ReadsUpTo-then, ReadsUpT
 use Rattle.elf_headers.specs.Stops.{stop_of}
 use Rattle.elf_headers.specs.declared.fault.Fault.{Fault}
 use Rattle.elf_headers.specs.declared.fault.Fault.TheVariants.{Refused as Refuses, Source as Unread}
-use Rattle.elf_headers.specs.declared.stop.RunFault.{RunFault}
-use Rattle.elf_headers.specs.declared.stop.RunFault.TheVariants.{Refused, Source, Out}
+use Rattle.elf_headers.specs.declared.run_fault.RunFault.{RunFault}
+use Rattle.elf_headers.specs.declared.run_fault.RunFault.TheVariants.{Refused, Source, Out}
 use Rattle.elf_headers.specs.Faults.{IsReadFault}
 use Rattle.elf_archive.specs.Listed.{Consumes, StopTells, IsAll}
 

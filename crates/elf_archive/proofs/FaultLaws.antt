@@ -17,8 +17,8 @@ use Rattle.elf_headers.specs.Stops.{stop_of}
 use Rattle.elf_headers.specs.declared.caps.Caps.{Caps}
 use Rattle.elf_headers.specs.declared.fault.Fault.{Fault}
 use Rattle.elf_headers.specs.declared.fault.Fault.TheVariants.{Refused as Refuses, Source as Unread}
-use Rattle.elf_headers.specs.declared.stop.RunFault.{RunFault}
-use Rattle.elf_headers.specs.declared.stop.RunFault.TheVariants.{Refused, Source, Out}
+use Rattle.elf_headers.specs.declared.run_fault.RunFault.{RunFault}
+use Rattle.elf_headers.specs.declared.run_fault.RunFault.TheVariants.{Refused, Source, Out}
 use Rattle.elf_listing.specs.Shows.{WroteUntilRefusal}
 use Rattle.elf_archive.specs.Archives.{MagicRead}
 use Rattle.elf_archive.specs.FirstFault.{FindsFault, FindsFirst, IsArchiveFault, ReadTells, fault_from}

@@ -12,7 +12,7 @@ use Rattle.elf_binding.specs.Definers.{ReturnsDefiner}
 use Rattle.elf_binding.specs.Binds.{AreObjectFiles, AskedOf, AskedFirst, BindsAcross, ReturnsBinding, asked_of_all}
 use Rattle.elf_binding.specs.Kept.{LookupObjectState}
 use Rattle.elf_binding.specs.Looks.{FailsIn, LooksInObject, SpendsBudget}
-use Rattle.elf_binding.specs.declared.binding.BindResult.TheVariants.{Bound, Unbound}
+use Rattle.elf_binding.specs.declared.bind_name.BindResult.TheVariants.{Bound, Unbound}
 
 -- so many were looked in, and none of them answers
 pub record BindsSoFar (wanted : Wanted) (old now : List LookupObjectState) (left_old left_now : Option ℕ) (n : ℕ) : Type 0 where

@@ -17,16 +17,16 @@ use Rattle.elf_headers.specs.declared.fault.Fault.TheVariants.{Refused, Source}
 use Rattle.elf_headers.proofs.LedgerLaws.{CallReads-then}
 use Rattle.elf_table.specs.Cursors.{row_at}
 use Rattle.elf_headers.specs.Faults.{IsOfRead}
-use Rattle.elf_hash.specs.Scopes.{HasCounts, IsPlaceIn, ReturnsExcluded, counts_bytes, walked_in}
+use Rattle.elf_hash.specs.SearchedTables.{HasCounts, IsPlaceIn, ReturnsExcluded, counts_bytes, walked_in}
 use Rattle.elf_hash.specs.Trials.{TriesSymbol}
 use Rattle.elf_hash.specs.Walks.{GivesWalked, WalksChain, index_of, walk_bytes}
 use Rattle.elf_hash.specs.declared.answer.SymbolMatch.{SymbolMatch}
-use Rattle.elf_hash.specs.declared.kind.HashStyle.{HashStyle}
-use Rattle.elf_hash.specs.declared.kind.HashStyle.TheVariants.{Gnu, Sysv}
+use Rattle.elf_hash.specs.declared.hash_style.HashStyle.{HashStyle}
+use Rattle.elf_hash.specs.declared.hash_style.HashStyle.TheVariants.{Gnu, Sysv}
 use Rattle.elf_hash.specs.declared.table.HashTable.{HashTable}
-use Rattle.elf_hash.specs.declared.walked.ChainResult.{ChainResult}
-use Rattle.elf_lookup_tables.specs.Scopes.{IsLookupTables}
-use Rattle.elf_lookup_tables.specs.declared.scope.LookupTables.{LookupTables}
+use Rattle.elf_hash.specs.declared.chain_result.ChainResult.{ChainResult}
+use Rattle.elf_lookup_tables.specs.LookupTablesFound.{IsLookupTables}
+use Rattle.elf_lookup_tables.specs.declared.lookup_tables.LookupTables.{LookupTables}
 use Rattle.elf_lookup_tables.specs.declared.symbols.Symbols.{Symbols}
 use Rattle.elf_loader.specs.Answering.{IsSymbolWithVersym}
 use Rattle.elf_loader.specs.Comparing.{CollectsNumbers}

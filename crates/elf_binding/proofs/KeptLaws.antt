@@ -6,8 +6,8 @@ use Rattle.elf_headers.specs.Ledger.{CallDid}
 use Rattle.elf_headers.specs.declared.fault.Fault.{Fault}
 use Rattle.elf_headers.specs.declared.fault.Fault.TheVariants.{Refused, Source}
 use Rattle.elf_lookup_tables.specs.Finding.{FindsScope}
-use Rattle.elf_lookup_tables.specs.Scopes.{FindsLookupTables, LookupTablesInBounds}
-use Rattle.elf_lookup_tables.specs.declared.scope.LookupTables.{LookupTables}
+use Rattle.elf_lookup_tables.specs.LookupTablesFound.{FindsLookupTables, LookupTablesInBounds}
+use Rattle.elf_lookup_tables.specs.declared.lookup_tables.LookupTables.{LookupTables}
 use Rattle.elf_binding.specs.Kept.{IsKept, ReturnsKept}
 
 -- what was found in a source is what is kept of it

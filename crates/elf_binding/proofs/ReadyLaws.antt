@@ -18,10 +18,10 @@ use Rattle.elf_model.specs.Checks.{first_refusal}
 use Rattle.elf_model.specs.LoaderFind.{counts_check, record_cost}
 use Rattle.elf_model.specs.Names.{pad64}
 use Rattle.elf_table.specs.NamesRead.{ComparesName}
-use Rattle.elf_hash.specs.Scopes.{IsTable}
+use Rattle.elf_hash.specs.SearchedTables.{IsTable}
 use Rattle.elf_hash.specs.declared.table.HashTable.{HashTable}
-use Rattle.elf_lookup_tables.specs.Scopes.{IsLookupTables}
-use Rattle.elf_lookup_tables.specs.declared.scope.LookupTables.{LookupTables}
+use Rattle.elf_lookup_tables.specs.LookupTablesFound.{IsLookupTables}
+use Rattle.elf_lookup_tables.specs.declared.lookup_tables.LookupTables.{LookupTables}
 use Rattle.elf_binding.specs.Ready.{EndsInNul, HasNoNul, IsReadyIf, NamesEnd, has_zero, ready_bytes, table_where}
 
 -- bytes whose last one is a NUL

@@ -9,7 +9,7 @@ use Rattle.elf_model.specs.LoaderFind.{counts_check}
 use Rattle.elf_model.specs.LoaderScope.{LookupTables as IsScopeOf}
 use Rattle.elf_model.specs.Traits.{hashed_symbol_count}
 use Rattle.elf_headers.specs.Ledger.{IsRead}
-use Rattle.elf_hash.specs.Scopes.{HasCounts}
+use Rattle.elf_hash.specs.SearchedTables.{HasCounts}
 use Rattle.elf_model.specs.Loader.{Asked, NoVersion, Version, NumberNameSource, Symbols as AreSymbolsOf, VersionWords as AreWordsOf, naming_of, readings, symbol_offset, versym_at}
 use Rattle.elf_model.specs.Names.{shown}
 use Rattle.elf_model.specs.Names.DisplayedName.{Whole as ShownWhole, Cut as ShownCut}
@@ -29,7 +29,7 @@ use Rattle.elf_lookup_tables.specs.Symbols.{AreVersymTable, IsDynamicSymbols}
 use Rattle.elf_lookup_tables.specs.declared.symbols.Symbols.{Symbols}
 use Rattle.elf_lookup_tables.specs.declared.symbols.VersionWords.{VersionWords}
 use Rattle.elf_loader.specs.Naming.{NamesBefore}
-use Rattle.elf_loader.specs.declared.naming.VersionNameRecord.{VersionNameRecord}
+use Rattle.elf_loader.specs.declared.version_name_record.VersionNameRecord.{VersionNameRecord}
 use Rattle.elf_binding.specs.Sought.{RefusesAs, ReturnsSought, ReturnsWhole, asked_if}
 
 -- A WHOLE NAME

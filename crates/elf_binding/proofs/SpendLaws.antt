@@ -11,13 +11,13 @@ use Rattle.elf_headers.specs.declared.fault.Fault.{Fault}
 use Rattle.elf_headers.specs.declared.fault.Fault.TheVariants.{Refused, Source}
 use Rattle.elf_headers.proofs.LedgerLaws.{CallReads-more}
 use Rattle.elf_loader.specs.Lookups.{lookup_bytes}
-use Rattle.elf_lookup_tables.specs.Scopes.{IsLookupTables, LookupTablesInBounds}
-use Rattle.elf_lookup_tables.specs.declared.scope.LookupTables.{LookupTables}
+use Rattle.elf_lookup_tables.specs.LookupTablesFound.{IsLookupTables, LookupTablesInBounds}
+use Rattle.elf_lookup_tables.specs.declared.lookup_tables.LookupTables.{LookupTables}
 use Rattle.elf_binding.specs.Definers.{DefinesAfter}
 use Rattle.elf_hash.specs.declared.table.HashTable.{HashTable}
 use Rattle.std.specs.Result.{result_unwrap_or}
 use Rattle.elf_binding.specs.Ready.{IsReadyIf, ReturnsReady, ready_bytes}
-use Rattle.elf_hash.specs.Scopes.{place_of_table}
+use Rattle.elf_hash.specs.SearchedTables.{place_of_table}
 use Rattle.elf_binding.specs.Kept.{IsKept, IsReadyIn}
 use Rattle.elf_binding.specs.Looks.{FaultLeaves, LooksInObject, DefinesIn, OverLeft, SpendsBudget, Prepares, SpendsAtMost, kept_cost}
 

@@ -10,9 +10,9 @@ use Rattle.elf_loader.specs.Lookups.{lookup_bytes}
 use Rattle.elf_source.specs.Source.{Keeps, SameView}
 use Rattle.elf_binding.specs.Kept.{LookupObjectState}
 use Rattle.elf_binding.specs.Looks.{FailsIn, SpendsBudget, kept_cost}
-use Rattle.elf_binding.specs.declared.binding.BindResult.{BindResult}
-use Rattle.elf_binding.specs.declared.binding.BindResult.TheVariants.{Bound, Unbound}
-use Rattle.elf_binding.specs.declared.binding.BindFault.{BindFault}
+use Rattle.elf_binding.specs.declared.bind_name.BindResult.{BindResult}
+use Rattle.elf_binding.specs.declared.bind_name.BindResult.TheVariants.{Bound, Unbound}
+use Rattle.elf_binding.specs.declared.bind_name.BindFault.{BindFault}
 
 -- how many bytes were asked for of all of them
 abbrev pub asked_of_all : List LookupObjectState → ℕ

@@ -9,7 +9,7 @@ use Rattle.elf_model.specs.Names.{same}
 use Rattle.elf_headers.specs.declared.fault.Fault.{Fault}
 use Rattle.elf_table.specs.Tables.{strings_in}
 use Rattle.elf_lookup_tables.specs.declared.symbols.VersionRecordTable.{VersionRecordTable}
-use Rattle.elf_hash.specs.Scopes.{IsTable}
+use Rattle.elf_hash.specs.SearchedTables.{IsTable}
 use Rattle.elf_hash.specs.declared.table.HashTable.{HashTable}
 
 -- whether bytes have a NUL

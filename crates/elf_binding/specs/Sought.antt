@@ -15,8 +15,8 @@ use Rattle.elf_headers.specs.declared.fault.Fault.TheVariants.{Refused, Source}
 use Rattle.elf_loader.specs.Naming.{IsFileIf}
 use Rattle.elf_binding.specs.Kept.{LookupObjectState}
 use Rattle.elf_binding.specs.Looks.{SpendsBudget, SpendsAtMost}
-use Rattle.elf_binding.specs.declared.sought.SymbolReference.{SymbolReference}
-use Rattle.elf_binding.specs.declared.sought.VersionReference.{VersionReference}
+use Rattle.elf_binding.specs.declared.reference.SymbolReference.{SymbolReference}
+use Rattle.elf_binding.specs.declared.reference.VersionReference.{VersionReference}
 
 -- the refusal is the definition's, unless that is for want of budget
 abbrev pub RefusesAs : {X : Type 0} → Result X Refusal → Fault → Type 0

@@ -2,7 +2,7 @@
 ghost use Rattle.std.specs.Prelude.{◌≡◌, ◌+◌, ◌≤◌, List};
 ghost use Rattle.elf_binding.specs.Sought.{ReturnsAs};
 ghost use Rattle.elf_headers.specs.Ledger.{CallDid, fault_of_result};
-ghost use Rattle.elf_lookup_tables.specs.Scopes.{IsLookupTables};
+ghost use Rattle.elf_lookup_tables.specs.LookupTablesFound.{IsLookupTables};
 ghost use Rattle.elf_model.specs.Bindings.{symbols_hashed};
 ghost use Rattle.elf_model.specs.LoaderScope.{LookupTables as IsScopeOf};
 

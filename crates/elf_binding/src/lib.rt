@@ -4,30 +4,30 @@
 //! is taken where room for objects is made, and nowhere else.
 #![tactic(auto)]
 
-mod binding;
+mod bind_name;
 mod binding_rows;
 mod binding_states;
-mod definer;
+mod definition;
 mod faults;
 mod hashed;
-mod lacking;
+mod missing_version;
 mod object;
 mod open_objects;
 mod page;
-mod paged_source;
+mod cached_source;
 mod ready;
-mod sought;
-mod sought_names;
-mod spending;
+mod reference;
+mod reference_names;
+mod budget;
 
-pub use binding::{BindFault, BindResult, bind};
+pub use bind_name::{BindFault, BindResult, bind};
 pub use binding_rows::show_binding;
 pub use binding_states::{is_unbound, unbound_state};
 pub use faults::{is_budget_fault, is_reported_alone};
 pub use object::Object;
 pub use open_objects::OpenObjects;
 pub use page::PAGE_BYTES;
-pub use paged_source::{CachedSource, PAGES};
-pub use sought::SymbolReference;
-pub use sought_names::{ReferenceNames, show_name};
-pub use spending::spend_budget;
+pub use cached_source::{CachedSource, PAGES};
+pub use reference::SymbolReference;
+pub use reference_names::{ReferenceNames, show_name};
+pub use budget::spend_budget;

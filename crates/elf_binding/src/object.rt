@@ -7,12 +7,12 @@ ghost use Rattle.elf_binding.specs.Sought.{CountsHashed, LooksForVersion, ReadsF
 ghost use Rattle.elf_loader.specs.Lookups.{AreShort};
 ghost use Rattle.elf_wanted.specs.Wants.{query_of};
 
-use crate::definer::find_definer;
+use crate::definition::find_definer;
 use crate::hashed::hashed_symbols;
-use crate::lacking::lacks_version;
+use crate::missing_version::lacks_version;
 use crate::ready::ready_table;
-use crate::sought::{SymbolReference, reference_of, whole_name};
-use crate::spending::spend_budget;
+use crate::reference::{SymbolReference, reference_of, whole_name};
+use crate::budget::spend_budget;
 use elf_hash::HashTable;
 use elf_headers::{Fault, HeaderStore};
 use elf_lookup_tables::{LookupTables, find_lookup_tables};

@@ -3,8 +3,8 @@ ghost use Rattle.std.specs.Prelude.{◌≡◌, [], IfOk};
 ghost use Rattle.elf_binding.specs.Opens.{AsksKept, KeepsOne};
 
 use crate::object::Object;
-use crate::paged_source::CachedSource;
-use crate::spending::spend_budget;
+use crate::cached_source::CachedSource;
+use crate::budget::spend_budget;
 use elf_headers::{Fault, HeaderStore};
 use elf_record::{Cause, Refusal};
 use elf_source::{Counted, Source};

@@ -1,10 +1,10 @@
 //! What the lookups in a file have in common, read once.
 ghost use Rattle.std.specs.Prelude.{◌≡◌, ⊤, IfOk, IfSome, IsTrue, MatchBool};
 ghost use Rattle.elf_binding.specs.Ready.{HasNoNul, NamesEnd, ReturnsReady, ready_bytes, table_where};
-ghost use Rattle.elf_hash.specs.Scopes.{place_of_table};
+ghost use Rattle.elf_hash.specs.SearchedTables.{place_of_table};
 ghost use Rattle.elf_headers.specs.Ledger.{CallDid, fault_of_result};
 ghost use Rattle.elf_model.specs.LoaderScope.{LookupTables as IsScopeOf};
-ghost use Rattle.elf_lookup_tables.specs.Scopes.{IsLookupTables, LookupTablesInBounds};
+ghost use Rattle.elf_lookup_tables.specs.LookupTablesFound.{IsLookupTables, LookupTablesInBounds};
 ghost use Rattle.elf_lookup_tables.specs.Symbols.{VersionRecordsInBounds};
 ghost use Rattle.elf_wanted.specs.Wants.{asked_of};
 

@@ -2,7 +2,7 @@ pub mod ApplyingLaws
 pub mod AskedLaws
 pub mod BudgetLaws
 pub mod FindingLaws
-pub mod HashedLaws
+pub mod HashedCallLaws
 pub mod ItemLaws
 pub mod LackLaws
 pub mod ListingLaws

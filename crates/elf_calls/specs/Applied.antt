@@ -12,8 +12,8 @@ use Rattle.elf_calls.specs.declared.applied.ApplyInput.{ApplyInput}
 use Rattle.elf_calls.specs.declared.items.Job.{Job}
 use Rattle.elf_memory_rows.specs.declared.end.End.{End}
 use Rattle.elf_calls.specs.declared.limits.CallerLimits.{CallerLimits}
-use Rattle.elf_calls.specs.declared.told.Told.{Told}
-use Rattle.elf_calls.specs.declared.told.Told.TheVariants.{Done, Refused, Full, BadCall}
+use Rattle.elf_calls.specs.declared.call_status.Told.{Told}
+use Rattle.elf_calls.specs.declared.call_status.Told.TheVariants.{Done, Refused, Full, BadCall}
 
 -- a section for a layout, within a budget and with so many headers permitted: all of it stands in some memory; or it is refused,
 -- and where that is for want of budget it costs more; or the memory is its front, and it has more bytes

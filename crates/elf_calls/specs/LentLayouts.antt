@@ -23,8 +23,8 @@ use Rattle.elf_memory_rows.specs.declared.end.End.{End}
 use Rattle.elf_calls.specs.declared.lent_layout.CallerLayout.{CallerLayout}
 use Rattle.elf_calls.specs.declared.limits.CallerLimits.{CallerLimits}
 use Rattle.elf_calls.specs.declared.missing.CallerMissing.{CallerMissing}
-use Rattle.elf_calls.specs.declared.told.Told.{Told}
-use Rattle.elf_calls.specs.declared.told.Told.TheVariants.{Refused, BadCall}
+use Rattle.elf_calls.specs.declared.call_status.Told.{Told}
+use Rattle.elf_calls.specs.declared.call_status.Told.TheVariants.{Refused, BadCall}
 
 -- A LAYOUT MAY BE LENT: the indices of its sections rise, and of each sort its names are such as an item may have, and rise
 pub record MayBorrowLayout (layout : CallerLayout) : Type 0 where

@@ -7,7 +7,7 @@ pub mod Items
 pub mod Lent
 pub mod LentLayouts
 pub mod Limits
-pub mod Openings
+pub mod CallOpenings
 pub mod Queries
 pub mod Resolved
 pub mod Shown

@@ -11,8 +11,8 @@ use Rattle.elf_calls.specs.Limits.{AreCaps, budget_of, headers_of}
 use Rattle.elf_calls.specs.Told.{IsStatus, Untouched}
 use Rattle.elf_memory_rows.specs.declared.end.End.{End}
 use Rattle.elf_calls.specs.declared.limits.CallerLimits.{CallerLimits}
-use Rattle.elf_calls.specs.declared.told.Told.{Told}
-use Rattle.elf_calls.specs.declared.told.Told.TheVariants.{Done, Refused, Full, BadCall}
+use Rattle.elf_calls.specs.declared.call_status.Told.{Told}
+use Rattle.elf_calls.specs.declared.call_status.Told.TheVariants.{Done, Refused, Full, BadCall}
 
 -- the text of some kind with its fault stands at the front of some memory; or the memory is its front, and it has more bytes
 abbrev pub FillsMemory : (List ℕ → Option Refusal → Type 0) → List ℕ → ℕ → Told → Type 0

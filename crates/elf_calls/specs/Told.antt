@@ -1,11 +1,11 @@
 -- What a call that writes to memory tells its caller.
 use Rattle.std.specs.Prelude.{ℕ, ◌≡◌, Bool, true, false, List, Result, Ok, Err}
-use Rattle.elf_headers.specs.declared.stop.RunFault.{RunFault}
-use Rattle.elf_headers.specs.declared.stop.RunFault.TheVariants.{Refused as IsRefused, Source, Out}
+use Rattle.elf_headers.specs.declared.run_fault.RunFault.{RunFault}
+use Rattle.elf_headers.specs.declared.run_fault.RunFault.TheVariants.{Refused as IsRefused, Source, Out}
 use Rattle.elf_memory_rows.specs.Ends.{ReturnsCause, ReturnsNone}
 use Rattle.elf_memory_rows.specs.declared.end.End.{End}
-use Rattle.elf_calls.specs.declared.told.Told.{Told}
-use Rattle.elf_calls.specs.declared.told.Told.TheVariants.{Done, Refused, Full, BadCall}
+use Rattle.elf_calls.specs.declared.call_status.Told.{Told}
+use Rattle.elf_calls.specs.declared.call_status.Told.TheVariants.{Done, Refused, Full, BadCall}
 
 -- what a call tells by its answer, where there were not more bytes than memory
 abbrev pub told_of : {X : Type 0} → Result X RunFault → Told

@@ -5,7 +5,7 @@ ghost use Rattle.elf_calls.specs.Applied.{AppliesIn};
 
 use crate::lent_sink::ProbeSink;
 use crate::listing::CallOutcome;
-use crate::told::status_from;
+use crate::call_status::status_from;
 use elf_apply::apply_with;
 use elf_headers::HeaderStore;
 use elf_layout::Addresses;

@@ -5,7 +5,7 @@ ghost use Rattle.elf_model.specs.Listing.{all_parts};
 ghost use Rattle.elf_calls.specs.Asked.{GivesListing, IsChosenPart, format_in};
 
 use crate::caller_listing::CallerListing;
-use crate::names::may_choose;
+use crate::name_list::may_choose;
 use elf_model::Format;
 use elf_record::{Parts, u16_at};
 

@@ -5,7 +5,7 @@ ghost use Rattle.elf_headers.specs.Permitted.{style_of};
 ghost use Rattle.elf_calls.specs.Shown.{ListsInMemory};
 
 use crate::lent_sink::ProbeSink;
-use crate::told::{Told, status_from};
+use crate::call_status::{Told, status_from};
 use elf_headers::{Caps, HeaderStore};
 use elf_listing::show;
 use elf_record::Parts;

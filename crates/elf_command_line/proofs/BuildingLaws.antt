@@ -9,8 +9,8 @@ use Rattle.clap.specs.declared.builder.value_parser.ValueParser.{ValueParser}
 use Rattle.clap.specs.declared.builder.command.Command.{Command}
 use Rattle.elf_command_line.specs.Building.{IsArg, IsBuilt}
 use Rattle.elf_command_line.specs.Described.{described, rule_by, add_subcommands, add_args}
-use Rattle.elf_command_line.specs.declared.adding.CommandSpec.{CommandSpec}
-use Rattle.elf_command_line.specs.declared.words.ArgSpec.{ArgSpec}
+use Rattle.elf_command_line.specs.declared.builder.CommandSpec.{CommandSpec}
+use Rattle.elf_command_line.specs.declared.arg_specs.ArgSpec.{ArgSpec}
 
 pub added : (app : App) (rule : Rule) (old new : Command) (arg : Arg) → IsBuilt app old → IsArg rule arg → AddsArg old arg new → IsBuilt (with_rule app rule) new
 added app rule old new arg built is adds =

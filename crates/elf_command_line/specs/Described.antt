@@ -4,10 +4,10 @@ use Rattle.clap.specs.Walk.{Rule, Text}
 use Rattle.clap.specs.Simple.{App, new_app, with_rule, with_subcommand}
 use Rattle.clap.specs.declared.builder.value_parser.ValueParser.{ValueParser}
 use Rattle.elf_command_line.specs.CommandLine.{any_words, flag, indexed, numbered_option, option, repeated, required, valued}
-use Rattle.elf_command_line.specs.declared.adding.CommandSpec.{CommandSpec}
-use Rattle.elf_command_line.specs.declared.words.ArgSpec.{ArgSpec}
-use Rattle.elf_command_line.specs.declared.words.ArgKind.{ArgKind}
-use Rattle.elf_command_line.specs.declared.words.ArgKind.TheVariants.{Flag, Value, Repeated, Number, Count, Part, Needed, Index, Any}
+use Rattle.elf_command_line.specs.declared.builder.CommandSpec.{CommandSpec}
+use Rattle.elf_command_line.specs.declared.arg_specs.ArgSpec.{ArgSpec}
+use Rattle.elf_command_line.specs.declared.arg_specs.ArgKind.{ArgKind}
+use Rattle.elf_command_line.specs.declared.arg_specs.ArgKind.TheVariants.{Flag, Value, Repeated, Number, Count, Part, Needed, Index, Any}
 
 -- the rule of a word of this name and kind, where a parser takes the name of a part
 abbrev rule_of_kind : ValueParser → Text → ArgKind → Rule

@@ -10,8 +10,8 @@ ghost use Rattle.elf_command_line.specs.CommandLine.{archive_command, check_comm
 ghost use Rattle.elf_command_line.specs.CommandLine.{needs_command, sample_command, show_command, traits_command};
 ghost use Rattle.elf_command_line.specs.CommandLine.{with_many_files, with_one_file, without_command};
 
-use crate::adding::{CommandSpec, add_subcommands, clap_command_of, new_command, with_command};
-use crate::options::{
+use crate::builder::{CommandSpec, add_subcommands, clap_command_of, new_command, with_command};
+use crate::arguments::{
     AS_LOADED, AS_LOADER, BINDINGS, BY_SEGMENTS, DEFAULT, EXPLAIN, FILE, GNU, HEADERS, INSIDE,
     ITEM, JSON, LAYOUT, LIBRARY_PATH, LIST, MAX_READ, NAME, NAME_LIST, NAMES, ONLY, PATH, REQUIRE,
     ROOT, ROW_NAME, SECTION, WITH_VERSIONS,

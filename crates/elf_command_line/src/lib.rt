@@ -1,10 +1,10 @@
 //! The commands and options of the command line, as they are described to `clap`.
 #![tactic(auto)]
 
-mod adding;
+mod builder;
 mod commands;
-mod options;
+mod arguments;
 mod texts;
-mod words;
+mod arg_specs;
 
 pub use commands::{archive, check, command_line, find, list, needs, sample, show, traits};

@@ -1,6 +1,6 @@
-pub mod SortedLaws
-pub mod StateLaws
-pub mod FrontLaws
+pub mod FileMagicLaws
+pub mod FileStatusLaws
+pub mod LinePrefixLaws
 pub mod HeadedLaws
 pub mod ListingToldLaws
 pub mod FoundLaws

@@ -13,12 +13,12 @@ use Rattle.elf_source.specs.declared.faults.SourceFault.{SourceFault}
 use Rattle.elf_source.specs.declared.faults.SourceFault.TheVariants.{Device, Ended}
 use Rattle.elf_many.specs.Checked.{FailsRead}
 use Rattle.elf_each_file.specs.Fronts.{front_asked}
-use Rattle.elf_headers.specs.declared.stop.RunFault.{RunFault}
-use Rattle.elf_headers.specs.declared.stop.RunFault.TheVariants.{Refused, Source, Out}
+use Rattle.elf_headers.specs.declared.run_fault.RunFault.{RunFault}
+use Rattle.elf_headers.specs.declared.run_fault.RunFault.TheVariants.{Refused, Source, Out}
 use Rattle.elf_model.specs.declared.formats.Format.{Format}
 use Rattle.elf_archive.specs.Listed.{ArchiveSays}
 use Rattle.elf_each_file.specs.ToldListings.{EndsListing, ListsFile, ToldOf}
-use Rattle.elf_each_file.specs.declared.rule.ListOptions.{ListOptions}
+use Rattle.elf_each_file.specs.declared.options.ListOptions.{ListOptions}
 
 -- the bytes that tell what a file is, and what is left behind them, are within a budget
 within_both : (members : Bool) (bytes size : ℕ) (t u : Bool) → nat_lt size 4 ≡ t → nat_lt bytes (front_size members size) ≡ u

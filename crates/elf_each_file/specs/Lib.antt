@@ -1,4 +1,4 @@
-pub mod Checked
+pub mod CheckedFile
 pub mod Members
 pub mod ToldChecks
 pub mod Fronts

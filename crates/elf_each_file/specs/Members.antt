@@ -10,7 +10,7 @@ use Rattle.elf_model.specs.declared.states.FileStatus.TheVariants as state
 use Rattle.elf_headers.specs.Permitted.{style_of}
 use Rattle.elf_headers.specs.declared.caps.Caps.{Caps}
 use Rattle.elf_archive.specs.FirstFault.{IsArchiveFault}
-use Rattle.elf_each_file.specs.Checked.{FindsState, check_cost}
+use Rattle.elf_each_file.specs.CheckedFile.{FindsState, check_cost}
 
 -- THE STATE that is found of an archive: that of its fault within the budget, unless a read failed
 abbrev pub FindsArchive : Caps → ℕ → List ℕ → FileStatus → Type 0

@@ -10,7 +10,7 @@ use Rattle.elf_headers.specs.Permitted.{style_of}
 use Rattle.elf_headers.specs.declared.caps.Caps.{Caps}
 use Rattle.elf_many.specs.Checked.{FailsRead}
 use Rattle.elf_many.specs.Statuses.{state_status}
-use Rattle.elf_each_file.specs.Checked.{AsksNoMore, FindsState, check_ceiling, check_cost}
+use Rattle.elf_each_file.specs.CheckedFile.{AsksNoMore, FindsState, check_ceiling, check_cost}
 use Rattle.elf_each_file.specs.Members.{FindsSorted, sorted_ceiling, sorted_cost}
 
 -- the state that is found of a file: that of its listing, or where archives are gone into by what it is

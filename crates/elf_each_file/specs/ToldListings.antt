@@ -11,12 +11,12 @@ use Rattle.elf_source.specs.Source.{CountedState}
 use Rattle.elf_source.specs.declared.faults.OutFault.{OutFault}
 use Rattle.elf_headers.specs.Permitted.{style_of}
 use Rattle.elf_headers.specs.declared.caps.Limits.{Limits}
-use Rattle.elf_headers.specs.declared.stop.RunFault.{RunFault}
-use Rattle.elf_headers.specs.declared.stop.RunFault.TheVariants.{Refused, Source, Out}
+use Rattle.elf_headers.specs.declared.run_fault.RunFault.{RunFault}
+use Rattle.elf_headers.specs.declared.run_fault.RunFault.TheVariants.{Refused, Source, Out}
 use Rattle.elf_many.specs.Checked.{FailsRead}
 use Rattle.elf_each_file.specs.Fronts.{front_asked}
 use Rattle.elf_each_file.specs.Lists.{ListsHeaded, sort_ceiling, sort_cost}
-use Rattle.elf_each_file.specs.declared.rule.ListOptions.{ListOptions}
+use Rattle.elf_each_file.specs.declared.options.ListOptions.{ListOptions}
 
 -- what is left of a rule's limits behind the bytes that tell what a file is
 pub record LeavesLimits (rule : ListOptions) (size : ℕ) (limits : Limits) : Type 0 where

@@ -12,7 +12,7 @@ use Rattle.elf_source.specs.declared.faults.OutFault.{OutFault}
 use Rattle.elf_wanted.specs.Required.{required_words}
 use Rattle.elf_many.specs.Checked.{FailsRead}
 use Rattle.elf_many.specs.Statuses.{state_status}
-use Rattle.elf_each_file.specs.Checked.{AsksNoMore}
+use Rattle.elf_each_file.specs.CheckedFile.{AsksNoMore}
 use Rattle.elf_each_file.specs.Found.{FindsWithin, file_traits_ceiling, file_traits_cost}
 use Rattle.elf_each_file.specs.declared.trait_lines.TraitOptions.{TraitOptions}
 

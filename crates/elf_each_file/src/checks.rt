@@ -1,10 +1,10 @@
 //! The check of each of many files.
 ghost use Rattle.std.specs.Prelude.{◌≡◌, ◌≤◌, ◌^◌};
 ghost use Rattle.elf_archive.specs.Listed.{IsAll};
-ghost use Rattle.elf_each_file.specs.Checked.{ChecksFile};
+ghost use Rattle.elf_each_file.specs.CheckedFile.{ChecksFile};
 ghost use Rattle.elf_each_file.specs.ToldChecks.{Finds, ceiling_of_check, cost_of_check};
 
-use crate::checking::check;
+use crate::check_file::check;
 use crate::sorted::check_sorted;
 use elf_headers::{Caps, HeaderStore};
 use elf_lines::show_check;

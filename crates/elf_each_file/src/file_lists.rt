@@ -4,9 +4,9 @@ ghost use Rattle.elf_each_file.specs.ToldListings.{LeavesLimits, EndsListing, Pu
 ghost use Rattle.elf_model.specs.FileLists.{budget_after};
 ghost use Rattle.elf_model.specs.declared.states.FileMagic.TheVariants.{Foreign};
 
-use crate::fronts::{find_file_type, front_bytes};
+use crate::line_prefixes::{find_file_type, front_bytes};
 use crate::headed::list_with_path_line;
-use crate::rule::ListOptions;
+use crate::options::ListOptions;
 use elf_headers::{Caps, HeaderStore, Limits, RunFault};
 use elf_lines::show_check;
 use elf_many::{FileVisitor, status};
@@ -23,7 +23,7 @@ pub struct ListFiles<'a> {
 
 impl<'a> Model for ListFiles<'a> {
     ghost use Rattle.std.specs.Prelude.{◌≡◌};
-    ghost use Rattle.elf_each_file.specs.declared.rule.ListOptions.{ListOptions};
+    ghost use Rattle.elf_each_file.specs.declared.options.ListOptions.{ListOptions};
 
     ghost Value = { ListOptions };
 

@@ -3,12 +3,12 @@ ghost use Rattle.std.specs.Prelude.{◌≡◌, ◌+◌, ◌≤◌, ◌^◌, ℕ,
 ghost use Rattle.elf_archive.specs.Listed.{ArchiveSays, IsAll};
 ghost use Rattle.elf_headers.specs.Permitted.{style_of};
 ghost use Rattle.elf_listing.specs.Reports.{KeepsSourceUnlimited};
-ghost use Rattle.elf_each_file.specs.Checked.{AsksNoMore};
+ghost use Rattle.elf_each_file.specs.CheckedFile.{AsksNoMore};
 ghost use Rattle.elf_each_file.specs.Lists.{ListsHeaded, sort_ceiling, sort_cost};
 ghost use Rattle.elf_model.specs.FileLists.{path_line};
 
 use crate::path_lines::{defer_path_line, show_path};
-use crate::rule::ListOptions;
+use crate::options::ListOptions;
 use crate::sorts::list_by_type;
 use elf_archive::end_listed;
 use elf_headers::{HeaderStore, RunFault};

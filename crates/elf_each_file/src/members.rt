@@ -2,7 +2,7 @@
 ghost use Rattle.std.specs.Prelude.{◌≡◌, ◌≤◌, ◌^◌};
 ghost use Rattle.elf_archive.specs.Listed.{IsAll};
 ghost use Rattle.elf_model.specs.ArchiveCost.{archive_ceiling, archive_cost};
-ghost use Rattle.elf_each_file.specs.Checked.{ChecksFile};
+ghost use Rattle.elf_each_file.specs.CheckedFile.{ChecksFile};
 ghost use Rattle.elf_each_file.specs.Members.{FindsArchive};
 
 use elf_archive::find_fault;

@@ -2,11 +2,11 @@
 ghost use Rattle.std.specs.Prelude.{◌≡◌, ◌≤◌, ◌^◌};
 ghost use Rattle.elf_archive.specs.Listed.{IsAll};
 ghost use Rattle.elf_model.specs.ArchiveCost.{archive_ceiling};
-ghost use Rattle.elf_each_file.specs.Checked.{ChecksFile};
+ghost use Rattle.elf_each_file.specs.CheckedFile.{ChecksFile};
 ghost use Rattle.elf_each_file.specs.Members.{FindsBySort, FindsSorted, IsCapsAfter};
 ghost use Rattle.elf_each_file.specs.Members.{cost_by, sorted_ceiling, sorted_cost};
 
-use crate::checking::check;
+use crate::check_file::check;
 use crate::members::check_archive;
 use crate::{budget_after, find_file_type, front_bytes};
 use elf_headers::{Caps, HeaderStore, Limits};

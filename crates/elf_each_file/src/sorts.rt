@@ -3,7 +3,7 @@ ghost use Rattle.std.specs.Prelude.{◌≡◌, ◌+◌, ◌≤◌, ◌^◌, ℕ,
 ghost use Rattle.elf_archive.specs.Listed.{ArchiveSays, IsAll};
 ghost use Rattle.elf_headers.specs.Permitted.{style_of};
 ghost use Rattle.elf_listing.specs.Reports.{KeepsSourceUnlimited};
-ghost use Rattle.elf_each_file.specs.Checked.{AsksNoMore};
+ghost use Rattle.elf_each_file.specs.CheckedFile.{AsksNoMore};
 ghost use Rattle.elf_each_file.specs.Lists.{ListsSort, sort_ceiling, sort_cost};
 ghost use Rattle.elf_model.specs.FileLists.{members_alone};
 ghost use Rattle.elf_source.specs.Growth.{OutGrows};

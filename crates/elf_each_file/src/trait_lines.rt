@@ -4,7 +4,7 @@ ghost use Rattle.elf_source.specs.Output.{OutPuts};
 ghost use Rattle.elf_model.specs.TraitWords.{traits_status, traits_text};
 ghost use Rattle.elf_wanted.specs.Required.{required_words};
 
-use crate::finding::traits_within;
+use crate::file_traits::traits_within;
 use crate::required::lacking;
 use elf_headers::{HeaderStore, Limits};
 use elf_lines::{show_check, show_missing_trait, show_traits};

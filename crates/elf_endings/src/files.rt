@@ -1,7 +1,7 @@
 //! The files that programs open.
 ghost use Rattle.std.specs.Prelude.{◌≡◌, ◌⊎◌, IfErr, codes};
 
-use crate::endings::{CANNOT_OPEN, ExitLine, READ_FAULT};
+use crate::exit_lines::{CANNOT_OPEN, ExitLine, READ_FAULT};
 use elf_source::{FileReader, StreamSource, opened_path};
 use std::fs;
 use std::os::unix::fs::{FileExt, FileTypeExt};

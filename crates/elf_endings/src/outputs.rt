@@ -3,7 +3,7 @@ ghost use Rattle.std.specs.Prelude.{◌≡◌, true, false};
 ghost use Rattle.std.specs.Io.Buffered.{writer_buffer, writer_inner};
 ghost use Rattle.elf_endings.specs.Endings.{Ends, EndsRun, PutsRest, wants_rest, wants_rest_of};
 
-use crate::endings::{ExitLine, READ_FAULT, WRITE_FAULT, outcome};
+use crate::exit_lines::{ExitLine, READ_FAULT, WRITE_FAULT, outcome};
 use crate::line_sink::LineSink;
 use elf_headers::RunFault;
 use elf_source::{Out, Sink, WriteSink};

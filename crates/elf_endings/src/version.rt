@@ -2,7 +2,7 @@
 ghost use Rattle.elf_endings.specs.Version.{VersionEnds, version_line};
 ghost use Rattle.elf_source.specs.Output.{OutPuts};
 
-use crate::endings::{ExitLine, OUT_OF_MEMORY};
+use crate::exit_lines::{ExitLine, OUT_OF_MEMORY};
 use crate::outputs::{OUTPUT_BYTES, end_answer};
 use elf_headers::RunFault;
 use elf_source::{Out, OutFault, Sink, WriteSink};

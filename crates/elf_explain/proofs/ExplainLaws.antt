@@ -23,7 +23,7 @@ use Rattle.elf_table.specs.Tables.{StringTableRange, strings_in}
 use Rattle.elf_table.specs.declared.names.NameEnd.{NameEnd}
 use Rattle.elf_table.specs.NamesRead.{shown_by}
 use Rattle.elf_explain.specs.Explained.{Explains, ExplainsLoaded, Lacks, ReturnsSymbolName, may_be_missing}
-use Rattle.elf_explain.specs.declared.lacking.MissingItem.{MissingItem}
+use Rattle.elf_explain.specs.declared.missing_item.MissingItem.{MissingItem}
 use Rattle.elf_explain.proofs.NamingLaws.{unnamed}
 
 -- nothing is wanted for other causes

@@ -15,8 +15,8 @@ use Rattle.elf_model.specs.declared.missing.LayoutAddress.{LayoutAddress}
 use Rattle.elf_table.specs.Tables.{StringTableRange, strings_in}
 use Rattle.elf_record.specs.declared.rela.Rela.{Rela}
 use Rattle.elf_explain.specs.Explained.{EntryRead, NamesEntrySymbol, LackOf, Lacks}
-use Rattle.elf_explain.specs.declared.lacking.MissingItem.{MissingItem}
-use Rattle.elf_explain.specs.declared.lacking.RelocationSymbol.{RelocationSymbol}
+use Rattle.elf_explain.specs.declared.missing_item.MissingItem.{MissingItem}
+use Rattle.elf_explain.specs.declared.missing_item.RelocationSymbol.{RelocationSymbol}
 
 module _ (file : List ℕ) (header : ℕ) (layout : Layout) (section : ℕ) (refusal : Refusal) where
   -- the type is none that stores a value

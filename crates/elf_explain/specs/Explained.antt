@@ -23,8 +23,8 @@ use Rattle.elf_table.specs.Relocations.{RefersTo}
 use Rattle.elf_table.specs.Tables.{Rows, StringTableRange, SymbolTableInBounds, strings_in}
 use Rattle.elf_table.specs.declared.names.NameEnd.{NameEnd}
 use Rattle.elf_table.specs.NamesRead.{shown_by}
-use Rattle.elf_explain.specs.declared.lacking.MissingItem.{MissingItem}
-use Rattle.elf_explain.specs.declared.lacking.RelocationSymbol.{RelocationSymbol}
+use Rattle.elf_explain.specs.declared.missing_item.MissingItem.{MissingItem}
+use Rattle.elf_explain.specs.declared.missing_item.RelocationSymbol.{RelocationSymbol}
 
 -- an entry that is refused for this cause may lack an address
 unfoldable pub may_be_missing : Cause → Bool

@@ -3,8 +3,8 @@
 #![tactic(auto)]
 
 mod entries;
-mod explaining;
-mod lacking;
-mod naming;
+mod explanation;
+mod missing_item;
+mod symbol_name;
 
-pub use explaining::explain;
+pub use explanation::explain;

@@ -6,7 +6,7 @@ mod fail_source;
 mod pieces;
 mod printer;
 mod script;
-mod sources;
+mod faulty_source;
 mod tape;
 mod turn_source;
 
@@ -14,6 +14,6 @@ pub use fail_source::FailSource;
 pub use pieces::ChunkedReader;
 pub use printer::ShortWriter;
 pub use script::{FaultScript, InjectedFault};
-pub use sources::FaultySource;
+pub use faulty_source::FaultySource;
 pub use tape::{EndlessReader, stands_at};
 pub use turn_source::TurnSource;

@@ -6,7 +6,7 @@ ghost use Rattle.elf_folder.specs.Kept.{HoldsWithin, IsFront, IsNameable, KeepsF
 ghost use Rattle.elf_folder.specs.Order.{order};
 ghost use Rattle.elf_folder.specs.Passes.{in_order};
 
-use crate::names::{DirNames, FOLDER_NAME_BYTES};
+use crate::dir_names::{DirNames, FOLDER_NAME_BYTES};
 use arrayvec::ArrayVec;
 use std::alloc::{AllocError, Global};
 use std::cmp::Ordering;

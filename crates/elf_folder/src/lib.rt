@@ -3,19 +3,19 @@
 #![tactic(auto)]
 
 mod batch;
-mod entries;
-mod folders;
-mod laws;
-mod names;
-mod opening;
+mod dir_entries;
+mod dir_walk;
+mod dir_laws;
+mod dir_names;
+mod open_failure;
 mod path;
 mod stack;
 
 pub use batch::{DirEntryName, NameBatch, Put};
-pub use entries::{ends_at, entry_end};
-pub use folders::gather;
-pub use laws::{all_names, entry_is_found, last_is_found, order_ascends, pass_keeps};
-pub use names::{DirNames, FOLDER_NAME_BYTES, KEPT_BYTES, KEPT_NAMES};
-pub use opening::unopened;
+pub use dir_entries::{ends_at, entry_end};
+pub use dir_walk::gather;
+pub use dir_laws::{all_names, entry_is_found, last_is_found, order_ascends, pass_keeps};
+pub use dir_names::{DirNames, FOLDER_NAME_BYTES, KEPT_BYTES, KEPT_NAMES};
+pub use open_failure::unopened;
 pub use path::{PATH_BYTES, PathText, join};
 pub use stack::{STACK_BYTES, Stack, count_fitting};

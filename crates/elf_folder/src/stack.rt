@@ -3,7 +3,7 @@ ghost use Rattle.std.specs.Prelude.{◌≡◌, ◌≤◌, ◌<◌, All, List, �
 ghost use Rattle.elf_folder.specs.Stacked.{pushed, stacked};
 
 use crate::batch::DirEntryName;
-use crate::names::DirNames;
+use crate::dir_names::DirNames;
 use std::alloc::{AllocError, Global};
 use std::marker::Model;
 

@@ -4,6 +4,6 @@ pub mod FindLaws
 pub mod GnuSteps
 pub mod LookupLaws
 pub mod NamedLaws
-pub mod ScopeLaws
+pub mod SearchedTableLaws
 pub mod SysvSteps
 pub mod WalkLaws

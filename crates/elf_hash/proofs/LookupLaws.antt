@@ -17,8 +17,8 @@ use Rattle.elf_hash.specs.Trials.{SaysHasName}
 use Rattle.elf_hash.specs.Walks.{GivesWalked, WalksChain, walk_bytes}
 use Rattle.elf_hash.specs.declared.answer.SymbolMatch.{SymbolMatch}
 use Rattle.elf_hash.specs.declared.hash_section.HashSection.{HashSection}
-use Rattle.elf_hash.specs.declared.walked.ChainMatch.{ChainMatch}
-use Rattle.elf_hash.specs.declared.walked.ChainResult.{ChainResult}
+use Rattle.elf_hash.specs.declared.chain_result.ChainMatch.{ChainMatch}
+use Rattle.elf_hash.specs.declared.chain_result.ChainResult.{ChainResult}
 use Rattle.elf_hash.proofs.NamedLaws.{row_is}
 
 -- what steps ask for, each a chain word, a symbol and a name

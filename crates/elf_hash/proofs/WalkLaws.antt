@@ -12,8 +12,8 @@ use Rattle.elf_headers.specs.declared.fault.Fault.TheVariants.{Refused, Source}
 use Rattle.elf_hash.specs.Trials.{TriesSymbol}
 use Rattle.elf_hash.specs.Walks.{GivesWalked, WalksChain, index_of, walk_bytes}
 use Rattle.elf_hash.specs.declared.answer.SymbolMatch.{SymbolMatch}
-use Rattle.elf_hash.specs.declared.walked.ChainMatch.{ChainMatch}
-use Rattle.elf_hash.specs.declared.walked.ChainResult.{ChainResult}
+use Rattle.elf_hash.specs.declared.chain_result.ChainMatch.{ChainMatch}
+use Rattle.elf_hash.specs.declared.chain_result.ChainResult.{ChainResult}
 
 -- eight bytes that are read
 pub filter_read : (file : List ℕ) (at word : ℕ) (bytes : List ℕ) → word ≡ field bytes 0 8 → bytes ≡ slice file at 8 → word ≡ field file at 8

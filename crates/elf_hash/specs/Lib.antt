@@ -1,8 +1,8 @@
 pub mod Counts
 pub mod Extents
-pub mod Kinds
+pub mod HashStyles
 pub mod Lookups
-pub mod Scopes
+pub mod SearchedTables
 pub mod Tables
 pub mod Trials
 pub mod Walks

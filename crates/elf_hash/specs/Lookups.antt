@@ -13,7 +13,7 @@ use Rattle.elf_headers.specs.declared.fault.Fault.TheVariants.{Refused, Source}
 use Rattle.elf_headers.specs.Ledger.{CallReads, fault_of_result}
 use Rattle.elf_hash.specs.declared.lookup.Lookup.{Lookup}
 use Rattle.elf_hash.specs.declared.lookup.Lookup.TheVariants.{Found, Absent}
-use Rattle.elf_hash.specs.declared.walked.ChainResult.{ChainResult}
+use Rattle.elf_hash.specs.declared.chain_result.ChainResult.{ChainResult}
 
 -- how many steps an answer has
 abbrev pub steps_of : Lookup → ℕ

@@ -9,8 +9,8 @@ use Rattle.elf_headers.specs.Faults.{IsOfRead}
 use Rattle.elf_headers.specs.declared.fault.Fault.{Fault}
 use Rattle.elf_headers.specs.declared.fault.Fault.TheVariants.{Refused, Source}
 use Rattle.elf_hash.specs.declared.answer.SymbolMatch.{SymbolMatch}
-use Rattle.elf_hash.specs.declared.walked.ChainMatch.{ChainMatch}
-use Rattle.elf_hash.specs.declared.walked.ChainResult.{ChainResult}
+use Rattle.elf_hash.specs.declared.chain_result.ChainMatch.{ChainMatch}
+use Rattle.elf_hash.specs.declared.chain_result.ChainResult.{ChainResult}
 
 -- a few bytes, the chain words that are read, and the symbols that are tried, each for no more than a cost
 abbrev pub walk_bytes : (few read tried cost : ℕ) → ℕ

@@ -3,7 +3,7 @@ ghost use Rattle.std.specs.Prelude.{◌≡◌, ℕ, ◌+◌, ◌-◌, ◌*◌, �
 ghost use Rattle.elf_headers.specs.Ledger.{CallDid, IsRead, fault_of_result};
 ghost use Rattle.elf_hash.specs.Counts.{IsGnu, IsTablePlace};
 ghost use Rattle.elf_hash.specs.Extents.{SymbolsBegin, EndsChain, ReturnsExtent, last_in};
-ghost use Rattle.elf_hash.specs.Scopes.{IsTable, HashTableInBounds, place_of_table};
+ghost use Rattle.elf_hash.specs.SearchedTables.{IsTable, HashTableInBounds, place_of_table};
 ghost use Rattle.elf_model.specs.Bytes.{field, slice};
 ghost use Rattle.elf_model.specs.Chains.{HashTable as Place};
 ghost use Rattle.elf_model.specs.LoaderScope.{LookupTables};
@@ -12,7 +12,7 @@ ghost use Rattle.elf_model.specs.Traits.{before_strings, gnu_symbols, max_bucket
 use crate::gnu_table::GnuTable;
 use crate::gnu_walk::is_chain_end;
 use crate::place::HashTableLocation;
-use crate::reading::read_word;
+use crate::word_reads::read_word;
 use crate::table::HashTable;
 use elf_headers::Fault;
 use elf_record::sizes::SYMBOL_BYTES;

@@ -11,9 +11,9 @@ ghost use Rattle.elf_model.specs.declared.causes.Refusal.{Refusal};
 
 use crate::answer::SymbolMatch;
 use crate::gnu_table::GnuTable;
-use crate::reading::{read_filter, read_word};
-use crate::trial::Matcher;
-use crate::walked::{ChainMatch, ChainResult};
+use crate::word_reads::{read_filter, read_word};
+use crate::matcher::Matcher;
+use crate::chain_result::{ChainMatch, ChainResult};
 use elf_headers::{Fault, refused};
 use elf_record::Cause;
 use elf_source::{Counted, Source};

@@ -7,7 +7,7 @@ ghost use Rattle.elf_table.specs.Cursors.{row_at};
 ghost use Rattle.elf_table.specs.Tables.{SymbolTableInBounds};
 
 use crate::answer::SymbolMatch;
-use crate::trial::Matcher;
+use crate::matcher::Matcher;
 use elf_headers::Fault;
 use elf_source::{Counted, Source};
 use elf_table::{Names, Table};

@@ -1,9 +1,9 @@
 //! The place of a hash table.
 ghost use Rattle.std.specs.Prelude.{◌+◌, ◌^◌, ◌<◌, ◌≤◌};
-ghost use Rattle.elf_hash.specs.Kinds.{hash_style_of};
+ghost use Rattle.elf_hash.specs.HashStyles.{hash_style_of};
 ghost use Rattle.elf_model.specs.LoaderScope.{least_size};
 
-use crate::kind::HashStyle;
+use crate::hash_style::HashStyle;
 
 /// Where a hash table stands in a file, of which kind it is, and how many symbols it is of. It holds
 /// no bytes, and its words have had no check.

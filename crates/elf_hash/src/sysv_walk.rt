@@ -8,10 +8,10 @@ ghost use Rattle.elf_model.specs.SysvWalk.{is_sysv_index, sysv_walked};
 ghost use Rattle.elf_model.specs.declared.causes.Refusal.{Refusal};
 
 use crate::answer::SymbolMatch;
-use crate::reading::read_word;
+use crate::word_reads::read_word;
 use crate::sysv_table::SysvTable;
-use crate::trial::Matcher;
-use crate::walked::{ChainMatch, ChainResult};
+use crate::matcher::Matcher;
+use crate::chain_result::{ChainMatch, ChainResult};
 use elf_headers::{Fault, refused};
 use elf_record::Cause;
 use elf_source::{Counted, Source};

@@ -1,8 +1,8 @@
 -- Why a call that reads and writes stops.
 use Rattle.elf_headers.specs.declared.fault.Fault.{Fault}
 use Rattle.elf_headers.specs.declared.fault.Fault.TheVariants.{Refused as Refuses, Source as Unread}
-use Rattle.elf_headers.specs.declared.stop.RunFault.{RunFault}
-use Rattle.elf_headers.specs.declared.stop.RunFault.TheVariants.{Refused, Source}
+use Rattle.elf_headers.specs.declared.run_fault.RunFault.{RunFault}
+use Rattle.elf_headers.specs.declared.run_fault.RunFault.TheVariants.{Refused, Source}
 
 -- what a fault of a read is to a call that writes too
 abbrev pub stop_of : Fault → RunFault

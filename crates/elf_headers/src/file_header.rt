@@ -7,7 +7,7 @@ ghost use Rattle.elf_headers.specs.Faults.{IsReadFault, HeaderRead};
 ghost use Rattle.elf_headers.specs.Load.{file_header_cost};
 
 use crate::fault::Fault;
-use crate::filling::fill;
+use crate::located_read::fill;
 use elf_record::{Cause, Ehdr, Refusal};
 use elf_source::{Counted, Source};
 

@@ -3,27 +3,27 @@
 //! `HeaderBuffer::new`.
 #![tactic(auto)]
 
-mod buffers;
+mod header_buffer;
 mod caps;
 mod fault;
 mod file_header;
-mod filling;
+mod located_read;
 mod loaded;
-mod loading;
+mod section_load;
 mod ranges;
-mod room;
+mod header_buffer_memory;
 mod segment_loading;
-mod stop;
+mod run_fault;
 mod store;
 
-pub use buffers::HEADERS_BUFFER_BYTES;
+pub use header_buffer::HEADERS_BUFFER_BYTES;
 pub use caps::{Caps, Limits, NameLimit, Style};
 pub use fault::{Fault, refusal_at, refused};
 pub use file_header::{header, refused_length};
-pub use filling::fill;
+pub use located_read::fill;
 pub use loaded::Loaded;
-pub use loading::{check_before_load, load};
+pub use section_load::{check_before_load, load};
 pub use ranges::ends_outside;
-pub use room::HeaderBuffer;
-pub use stop::RunFault;
+pub use header_buffer_memory::HeaderBuffer;
+pub use run_fault::RunFault;
 pub use store::HeaderStore;

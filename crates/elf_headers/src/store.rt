@@ -11,7 +11,7 @@ ghost use Rattle.elf_headers.specs.Store.{empty, emptied, row, segment_bytes};
 ghost use Rattle.elf_headers.specs.Store.{AreRowSlices, HoldsSections, HoldsSegments, rows_from};
 
 use crate::fault::Fault;
-use crate::filling::fill;
+use crate::located_read::fill;
 use elf_record::{Phdr, Shdr};
 use elf_source::{Counted, READ_BYTES, Source};
 use std::marker::Model;

@@ -22,7 +22,7 @@ use Rattle.elf_note.specs.DynCursors.{AreStrings}
 use Rattle.elf_note.specs.declared.string_values.DynamicStrings.{DynamicStrings}
 use Rattle.elf_lookup_tables.proofs.SettleLaws.{checked_fails}
 use Rattle.elf_lookup_tables.specs.Loading.{LoadsSegments}
-use Rattle.elf_lookup_tables.specs.Scopes.{FindsLookupTables}
+use Rattle.elf_lookup_tables.specs.LookupTablesFound.{FindsLookupTables}
 use Rattle.elf_table.specs.Sections.{rows}
 use Rattle.elf_table.specs.Tables.{Rows}
 use Rattle.elf_table.specs.Views.{dynamic_table_at}

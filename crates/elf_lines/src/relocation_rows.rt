@@ -7,7 +7,7 @@ ghost use Rattle.elf_record.specs.Rela.{IsRela};
 ghost use Rattle.elf_fields.specs.Fronts.{front_of};
 
 use crate::name_tables::name_in_either_table;
-use crate::naming::ConstantNames;
+use crate::constant_names::ConstantNames;
 use elf_fields::{
     LinePrefix, Render, begin_named, put_half, put_hexadecimal, put_name_or_sign, put_signed,
 };

@@ -10,7 +10,7 @@ ghost use Rattle.elf_record.specs.Shdr.{IsShdr};
 ghost use Rattle.elf_fields.specs.Fronts.{front_of};
 
 use crate::name_tables::name_in_either_table;
-use crate::naming::ConstantNames;
+use crate::constant_names::ConstantNames;
 use elf_fields::{
     LineBuf, LinePrefix, Render, begin_named, put_half, put_hexadecimal, put_name_or_hex, put_text,
     put_where,

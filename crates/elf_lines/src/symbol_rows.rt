@@ -12,7 +12,7 @@ ghost use Rattle.elf_fields.specs.Fronts.{front_of};
 ghost use Rattle.elf_source.specs.Output.{IsOutFault, OutPuts};
 
 use crate::name_tables::{name_in_either_table, name_of};
-use crate::naming::ConstantNames;
+use crate::constant_names::ConstantNames;
 use elf_fields::{
     Columns, LinePrefix, Object, Render, begin_named, put_decimal, put_half, put_hexadecimal,
     put_name_or_decimal, show_named,

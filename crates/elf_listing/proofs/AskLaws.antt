@@ -11,8 +11,8 @@ use Rattle.elf_source.proofs.LimitLaws.{late_budget, within_budget}
 use Rattle.elf_headers.specs.Faults.{IsReadRefusal}
 use Rattle.elf_headers.specs.Permitted.{style_of}
 use Rattle.elf_headers.specs.declared.caps.Caps.{Caps}
-use Rattle.elf_headers.specs.declared.stop.RunFault.{RunFault}
-use Rattle.elf_headers.specs.declared.stop.RunFault.TheVariants.{Refused, Source, Out}
+use Rattle.elf_headers.specs.declared.run_fault.RunFault.{RunFault}
+use Rattle.elf_headers.specs.declared.run_fault.RunFault.TheVariants.{Refused, Source, Out}
 use Rattle.elf_source.specs.Output.{OutState}
 use Rattle.elf_listing.specs.Reports.{AsksWithin, FaultSays, ReturnsStop}
 use Rattle.elf_listing.specs.Shows.{StopSays}

@@ -12,7 +12,7 @@ use Rattle.elf_table.specs.declared.names.NameEnd.TheVariants.{Whole}
 use Rattle.elf_listing.specs.Shows.{SameFile, ListingReads, Lists}
 use Rattle.elf_headers.specs.Stops.{stop_of}
 use Rattle.elf_listing.specs.declared.listing.Listing.{Listing}
-use Rattle.elf_headers.specs.declared.stop.RunFault.{RunFault}
+use Rattle.elf_headers.specs.declared.run_fault.RunFault.{RunFault}
 use Rattle.elf_listing.proofs.ShowLaws.{SpentCredit-failed, SpentCredit-then, SpentCredit-within}
 
 -- it is of the same file as before

@@ -19,7 +19,7 @@ use Rattle.elf_listing.specs.declared.row_cursor.RowCursor.{RowCursor}
 use Rattle.elf_listing.specs.Shows.{SpentCredit, WroteUntilStop, WroteItems}
 use Rattle.elf_headers.specs.Stops.{stop_of}
 use Rattle.elf_listing.specs.declared.rows.RowLayout.{RowLayout}
-use Rattle.elf_headers.specs.declared.stop.RunFault.{RunFault}
+use Rattle.elf_headers.specs.declared.run_fault.RunFault.{RunFault}
 use Rattle.elf_listing.proofs.EachLaws.{each-none, each-more, each-front}
 use Rattle.elf_listing.proofs.ShowLaws.{SpentCredit-fault, StopSays-then, Whole-none, Whole-then, WroteUntilStop-then, WroteUntilStop-more, WroteUntilStop-unread}
 

@@ -26,7 +26,7 @@ use Rattle.elf_table.specs.declared.names.NameEnd.{NameEnd}
 use Rattle.elf_table.specs.declared.names.NameEnd.TheVariants.{Whole as NameWhole, Cut as NameCut}
 use Rattle.elf_listing.specs.Shows.{WroteItems, WrotePrefix, WroteUntilRefusal, WroteUntilStop, WroteSome, cut_of}
 use Rattle.elf_headers.specs.Stops.{stop_of}
-use Rattle.elf_headers.specs.declared.stop.RunFault.{RunFault}
+use Rattle.elf_headers.specs.declared.run_fault.RunFault.{RunFault}
 
 -- the same items
 pub WroteSome-as : {X : Type 0} (a b : OutState) (result : Result X RunFault) {xs ys : List ListingItem} → xs ≡ ys → WroteSome a b result ys → WroteSome a b result xs

@@ -13,8 +13,8 @@ use Rattle.elf_headers.specs.declared.fault.Fault.TheVariants.{Refused as Refuse
 use Rattle.elf_model.specs.Listing.{ListingItem, lines_of}
 use Rattle.elf_headers.specs.Stops.{stop_of}
 use Rattle.elf_listing.specs.Shows.{WroteItems, WrotePrefix, WroteUntilStop, WroteSome, StopSays, IsOfOutput, ListingCosts, SpentCredit}
-use Rattle.elf_headers.specs.declared.stop.RunFault.{RunFault}
-use Rattle.elf_headers.specs.declared.stop.RunFault.TheVariants.{Refused, Source, Out}
+use Rattle.elf_headers.specs.declared.run_fault.RunFault.{RunFault}
+use Rattle.elf_headers.specs.declared.run_fault.RunFault.TheVariants.{Refused, Source, Out}
 use Rattle.elf_model.proofs.ListingLemmas.{listings_append}
 use Rattle.elf_listing.proofs.EachLaws.{lines_front}
 

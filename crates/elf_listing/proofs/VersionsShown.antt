@@ -21,7 +21,7 @@ use Rattle.elf_versions.specs.declared.record.VersionRecord.{VersionRecord}
 use Rattle.elf_listing.specs.Notes.{WrittenBefore}
 use Rattle.elf_listing.specs.Shows.{WrotePrefix, WroteUntilStop, WroteItems}
 use Rattle.elf_listing.specs.Versions.{versions_items}
-use Rattle.elf_headers.specs.declared.stop.RunFault.{RunFault}
+use Rattle.elf_headers.specs.declared.run_fault.RunFault.{RunFault}
 use Rattle.elf_listing.proofs.NotesShown.{before_more, before_stopped}
 
 -- the row of a record as it is given

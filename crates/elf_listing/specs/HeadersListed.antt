@@ -13,7 +13,7 @@ use Rattle.elf_listing.specs.Parts.{asked_cost, listed_by, part_cost, part_items
 use Rattle.elf_listing.specs.Shows.{Lists, ListingWrote}
 use Rattle.elf_listing.specs.declared.listing.Listing.{Listing}
 use Rattle.elf_listing.specs.declared.parts.Part.{Part}
-use Rattle.elf_headers.specs.declared.stop.RunFault.{RunFault}
+use Rattle.elf_headers.specs.declared.run_fault.RunFault.{RunFault}
 
 -- a part of the header of an index
 abbrev pub ListsHeader : {S W X : Type 0} {s : Sources S} {w : Sinks W} → Part → Listing S W s w → Listing S W s w → Result X RunFault → ℕ → Type 0

@@ -8,14 +8,14 @@ use Rattle.elf_model.specs.Rows.{note_row, walk_rows}
 use Rattle.elf_model.specs.Style.{Style}
 use Rattle.elf_headers.specs.Permitted.{style_of}
 use Rattle.elf_note.specs.NoteCursors.{NameIs}
-use Rattle.elf_note.specs.declared.row.NoteRow.{NoteRow}
+use Rattle.elf_note.specs.declared.note_row.NoteRow.{NoteRow}
 use Rattle.elf_source.specs.Output.{OutState}
 use Rattle.elf_source.specs.declared.source.Source.{Ghosts as Sources}
 use Rattle.elf_source.specs.declared.sink.Sink.{Ghosts as Sinks}
 use Rattle.elf_table.specs.Tables.{Rows}
 use Rattle.elf_listing.specs.Shows.{Lists, ListingWrote, WroteItems, WroteSome}
 use Rattle.elf_listing.specs.declared.listing.Listing.{Listing}
-use Rattle.elf_headers.specs.declared.stop.RunFault.{RunFault}
+use Rattle.elf_headers.specs.declared.run_fault.RunFault.{RunFault}
 
 -- a row shows a note: its head, its name as it is shown, the first bytes of its descriptor
 pub record IsNoteRow (cap : ℕ) (note : Note) (row : NoteRow) (name : List ℕ) : Type 0 where

@@ -21,13 +21,13 @@ use Rattle.elf_headers.specs.Permitted.{style_of}
 use Rattle.elf_headers.specs.declared.fault.Fault.{Fault}
 use Rattle.elf_headers.specs.declared.fault.Fault.TheVariants.{Refused, Source}
 use Rattle.elf_model.specs.Budget.{IsBudgetRefusal}
-use Rattle.elf_headers.specs.declared.stop.RunFault.{RunFault}
+use Rattle.elf_headers.specs.declared.run_fault.RunFault.{RunFault}
 use Rattle.elf_source.specs.declared.source.Source.{Ghosts as Sources}
 use Rattle.elf_source.specs.declared.sink.Sink.{Ghosts as Sinks}
 use Rattle.elf_table.specs.Tables.{Rows, StringTableRange, StringsInBounds, strings_in}
 use Rattle.elf_versions.specs.NumberNames.{NamesNumbers}
 use Rattle.elf_versions.specs.Reading.{bytes_each}
-use Rattle.elf_versions.specs.declared.number_names.VersionNameRef.{VersionNameRef}
+use Rattle.elf_versions.specs.declared.version_names.VersionNameRef.{VersionNameRef}
 use Rattle.elf_listing.specs.Numbered.{NumberedWithin, reported_row}
 use Rattle.elf_listing.specs.Parts.{store_sections}
 use Rattle.elf_listing.specs.Shows.{ListingReads, Lists, WroteSome}

@@ -2,7 +2,7 @@
 #![tactic(auto)]
 
 mod buffers;
-mod choosing;
+mod row_selection;
 mod dynamic_row;
 mod headers;
 mod listing;
@@ -17,17 +17,17 @@ mod row_cursor;
 mod rows;
 mod sections;
 mod segments;
-mod showing;
+mod show_file;
 mod suffixed_entries;
 mod suffixed_line;
 mod suffixed_rows;
 mod suffixed_tables;
 mod suffixes;
 mod symbol_versions;
-mod telling;
+mod fault_line;
 mod versions;
-mod viewing;
+mod table_view;
 
 pub use buffers::{FIXED_BYTES, SUFFIX_BYTES, VERSION_BYTES};
-pub use showing::{list, show};
-pub use telling::show_stop;
+pub use show_file::{list, show};
+pub use fault_line::show_stop;

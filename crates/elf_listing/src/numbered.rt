@@ -5,7 +5,7 @@ ghost use Rattle.elf_listing.specs.Kinds.{ListsRow, RowFits};
 ghost use Rattle.elf_listing.specs.Numbered.{FetchesVersion, NumberedWithin};
 ghost use Rattle.elf_listing.specs.declared.rows.RowLayout.TheVariants.{Versions};
 
-use crate::choosing::Choosing;
+use crate::row_selection::Choosing;
 use crate::listing::Listing;
 use elf_fields::{LinePrefix, Render};
 use elf_headers::{Fault, RunFault, refused};

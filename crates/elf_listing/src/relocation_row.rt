@@ -6,7 +6,7 @@ ghost use Rattle.elf_listing.specs.Fetched.{FetchesSymbol};
 ghost use Rattle.elf_listing.specs.Kinds.{ListsRow, RowFits};
 ghost use Rattle.elf_listing.specs.declared.rows.RowLayout.TheVariants.{Relocations};
 
-use crate::choosing::Choosing;
+use crate::row_selection::Choosing;
 use crate::listing::Listing;
 use elf_fields::{LinePrefix, Render};
 use elf_headers::{Fault, RunFault, refused};

@@ -6,7 +6,7 @@ ghost use Rattle.elf_listing.specs.Kinds.{ListsRow, RowFits};
 ghost use Rattle.elf_listing.specs.Shows.{ListsLine, cut_of};
 ghost use Rattle.elf_listing.specs.declared.rows.RowLayout.TheVariants.{Segments, Symbols};
 
-use crate::choosing::Choosing;
+use crate::row_selection::Choosing;
 use crate::listing::Listing;
 use elf_fields::{LinePrefix, Render, show_named};
 use elf_headers::RunFault;

@@ -3,7 +3,7 @@ ghost use Rattle.std.specs.Prelude.{◌≡◌};
 ghost use Rattle.elf_listing.specs.Choosing.{ShowsRows};
 ghost use Rattle.elf_listing.specs.Kinds.{IsTableOf, ListsRow, ListsRows, RowFits};
 
-use crate::choosing::{AllRows, Choosing, NamedRows};
+use crate::row_selection::{AllRows, Choosing, NamedRows};
 use crate::dynamic_row::DynamicStringTable;
 use crate::listing::Listing;
 use crate::numbered::VersionStrings;

@@ -7,7 +7,7 @@ ghost use Rattle.elf_listing.specs.Kinds.{ListsRow, RowFits};
 ghost use Rattle.elf_listing.specs.Suffixed.{FetchesOfEntry, SuffixesWithin};
 ghost use Rattle.elf_listing.specs.declared.rows.RowLayout.TheVariants.{SuffixedRelocations};
 
-use crate::choosing::Choosing;
+use crate::row_selection::Choosing;
 use crate::listing::Listing;
 use crate::read_suffix::VersionSuffixEnd;
 use crate::suffixes::VersionLookup;

@@ -4,7 +4,7 @@ ghost use Rattle.elf_listing.specs.Choosing.{ShowsRows};
 ghost use Rattle.elf_listing.specs.Kinds.{ListsRow, RowFits};
 ghost use Rattle.elf_listing.specs.declared.rows.RowLayout.TheVariants.{SuffixedSymbols};
 
-use crate::choosing::Choosing;
+use crate::row_selection::Choosing;
 use crate::listing::Listing;
 use crate::suffixes::VersionLookup;
 use elf_fields::{LinePrefix, Render};

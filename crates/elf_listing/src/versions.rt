@@ -7,7 +7,7 @@ ghost use Rattle.elf_listing.specs.HeadersListed.{ListsHeader};
 ghost use Rattle.elf_listing.specs.Versions.{ListsRecord, ListsRecords, ListsVersions, kind_type};
 ghost use Rattle.elf_listing.specs.declared.parts.Part.TheVariants.{Definitions, Needs};
 
-use crate::choosing::{AllRows, Choosing, NamedRows};
+use crate::row_selection::{AllRows, Choosing, NamedRows};
 use crate::listing::Listing;
 use elf_fields::{Columns, LinePrefix, Object, Render};
 use elf_headers::RunFault;

@@ -13,9 +13,9 @@ ghost use Rattle.elf_listing_requests.specs.RowNames.{has_name_option};
 ghost use Rattle.elf_record.specs.declared.parts.Parts.{Parts};
 
 use crate::faults::RequestFault;
-use crate::nothing::unasked;
-use crate::options::{limits_of, parts_of, style_of, text_of};
-use crate::reading::parse_arguments;
+use crate::no_request::unasked;
+use crate::option_values::{limits_of, parts_of, style_of, text_of};
+use crate::parser::parse_arguments;
 use crate::row_names::has_name_option;
 use clap::ArgMatches;
 use elf_headers::{Limits, Style};

@@ -9,7 +9,7 @@ ghost use Rattle.elf_listing_requests.specs.RowNames.{AreChosenParts, has_name_o
 ghost use Rattle.elf_listing_requests.specs.RowNames.{is_given, is_of_words};
 ghost use Rattle.elf_record.specs.declared.parts.Parts.{Parts};
 
-use crate::options::{has_gnu_option, text_of};
+use crate::option_values::{has_gnu_option, text_of};
 use clap::ArgMatches;
 use clap::parser::ValueSource;
 use elf_record::Parts;

@@ -21,10 +21,10 @@ use Rattle.elf_headers.proofs.LedgerLaws.{CallReads-more, CallReads-none}
 use Rattle.elf_lookup_tables.specs.Symbols.{AreVersymTable, IsVersymTable}
 use Rattle.elf_lookup_tables.specs.declared.symbols.VersionWords.{VersionWords as Words}
 use Rattle.elf_table.specs.Cursors.{row_at}
-use Rattle.elf_loader.specs.Finding.{FindsVersion, IsVersionFound, LookupSpends, IsRelocationReported, name_shown}
+use Rattle.elf_loader.specs.FoundVersions.{FindsVersion, IsVersionFound, LookupSpends, IsRelocationReported, name_shown}
 use Rattle.elf_loader.specs.Telling.{ReturnsVersionName, parsed_member_bytes}
 use Rattle.elf_loader.specs.declared.found.FoundVersion.{FoundVersion}
-use Rattle.elf_loader.specs.declared.telling.ResolvedVersionName.{ResolvedVersionName}
+use Rattle.elf_loader.specs.declared.resolved_version_name.ResolvedVersionName.{ResolvedVersionName}
 use Rattle.elf_loader.specs.declared.found.VersionName.{VersionName}
 use Rattle.elf_loader.specs.declared.found.VersionName.TheVariants.{Wanted, Unnamed, Told}
 

@@ -13,7 +13,7 @@ use Rattle.elf_lookup_tables.specs.Symbols.{IsVersionRecordTable}
 use Rattle.elf_lookup_tables.specs.declared.symbols.VersionRecordTable.{VersionRecordTable as Given}
 use Rattle.elf_versions.specs.Reading.{GivesVersion, LeadsOn, StartsVersions, VersionCursorState, record_position_of, versions_left}
 use Rattle.elf_versions.specs.declared.record.VersionRecord.{VersionRecord}
-use Rattle.elf_versions.specs.declared.stepping.RecordPosition.{RecordPosition}
+use Rattle.elf_versions.specs.declared.record_position.RecordPosition.{RecordPosition}
 
 -- what a walk stands at is a record that is in the table, or none
 abbrev pub cut_at : RecordCursorState → Refusal

@@ -17,20 +17,20 @@ use Rattle.elf_headers.specs.declared.fault.Fault.{Fault}
 use Rattle.elf_headers.specs.declared.fault.Fault.TheVariants.{Refused, Source}
 use Rattle.elf_headers.proofs.LedgerLaws.{CallReads-more, CallReads-none, CallReads-then}
 use Rattle.elf_table.specs.Cursors.{row_at}
-use Rattle.elf_hash.specs.Scopes.{HasCounts, IsPlaceIn, counts_bytes, walked_in}
+use Rattle.elf_hash.specs.SearchedTables.{HasCounts, IsPlaceIn, counts_bytes, walked_in}
 use Rattle.elf_hash.specs.Walks.{GivesWalked, WalksChain, walk_bytes}
 use Rattle.elf_hash.specs.declared.answer.SymbolMatch.{SymbolMatch}
-use Rattle.elf_hash.specs.declared.kind.HashStyle.{HashStyle}
-use Rattle.elf_hash.specs.declared.kind.HashStyle.TheVariants.{Gnu, Sysv}
+use Rattle.elf_hash.specs.declared.hash_style.HashStyle.{HashStyle}
+use Rattle.elf_hash.specs.declared.hash_style.HashStyle.TheVariants.{Gnu, Sysv}
 use Rattle.elf_hash.specs.declared.table.HashTable.{HashTable}
-use Rattle.elf_hash.specs.declared.walked.ChainResult.{ChainResult}
-use Rattle.elf_hash.proofs.ScopeLaws.{walk_in_is}
+use Rattle.elf_hash.specs.declared.chain_result.ChainResult.{ChainResult}
+use Rattle.elf_hash.proofs.SearchedTableLaws.{walk_in_is}
 use Rattle.elf_lookup_tables.specs.Finding.{scope_cost}
-use Rattle.elf_lookup_tables.specs.Scopes.{FindsLookupTables, IsLookupTables}
-use Rattle.elf_lookup_tables.specs.declared.scope.LookupTables.{LookupTables}
+use Rattle.elf_lookup_tables.specs.LookupTablesFound.{FindsLookupTables, IsLookupTables}
+use Rattle.elf_lookup_tables.specs.declared.lookup_tables.LookupTables.{LookupTables}
 use Rattle.elf_loader.specs.Answering.{IsSymbolWithVersym}
 use Rattle.elf_loader.specs.Comparing.{CollectsNumbers}
-use Rattle.elf_loader.specs.Finding.{FindsVersion, IsVersionFound}
+use Rattle.elf_loader.specs.FoundVersions.{FindsVersion, IsVersionFound}
 use Rattle.elf_loader.specs.Lookups.{LooksAfter, LooksUp, ReturnsLookup, looked_with, match_bytes}
 use Rattle.elf_loader.specs.NumberSets.{has_number}
 use Rattle.elf_loader.specs.Telling.{parsed_member_bytes}

@@ -15,7 +15,7 @@ use Rattle.elf_lookup_tables.specs.declared.symbols.VersionRecordTable.{VersionR
 use Rattle.elf_versions.specs.Reading.{SpendsRecord, StartsVersions, ReturnsVersion, VersionCursorState, versions_left}
 use Rattle.elf_loader.specs.Naming.{HasFile, NamedAs, NamesBefore, NamesFile}
 use Rattle.elf_versions.specs.declared.record.VersionRecord.{VersionRecord}
-use Rattle.elf_loader.specs.declared.naming.VersionNameRecord.{VersionNameRecord}
+use Rattle.elf_loader.specs.declared.version_name_record.VersionNameRecord.{VersionNameRecord}
 use Rattle.elf_loader.proofs.TablesLaws.{more-pays}
 use Rattle.elf_loader.proofs.LeftReadings.{ended-left, left_of, refused-left, start-left}
 use Rattle.elf_loader.proofs.RecordWalk.{walk-read}

@@ -18,7 +18,7 @@ use Rattle.elf_lookup_tables.specs.Symbols.{VersionRecordsInBounds, DynamicSymbo
 use Rattle.elf_lookup_tables.specs.declared.symbols.VersionRecordTable.{VersionRecordTable}
 use Rattle.elf_lookup_tables.specs.declared.symbols.Symbols.{Symbols}
 use Rattle.elf_loader.specs.Comparing.{comparing_bytes}
-use Rattle.elf_loader.specs.Finding.{LookupSpends}
+use Rattle.elf_loader.specs.FoundVersions.{LookupSpends}
 use Rattle.elf_loader.specs.Lookups.{lookup_bytes, match_bytes}
 use Rattle.elf_loader.specs.Tables.{max_records_of, max_versions_of}
 use Rattle.elf_loader.specs.Telling.{telling_bytes, parsed_member_bytes}

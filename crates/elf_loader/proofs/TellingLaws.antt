@@ -27,7 +27,7 @@ use Rattle.elf_table.specs.declared.names.NameEnd.{NameEnd}
 use Rattle.elf_table.specs.declared.names.NameEnd.TheVariants.{Whole, Cut}
 use Rattle.elf_loader.specs.Naming.{NamesBefore}
 use Rattle.elf_loader.specs.Telling.{ReturnsVersionName, parsed_member_bytes}
-use Rattle.elf_loader.specs.declared.naming.VersionNameRecord.{VersionNameRecord}
+use Rattle.elf_loader.specs.declared.version_name_record.VersionNameRecord.{VersionNameRecord}
 
 -- the first record that has the number tells its name
 told-shown :

@@ -11,7 +11,7 @@ use Rattle.elf_lookup_tables.specs.declared.symbols.Symbols.{Symbols}
 use Rattle.elf_lookup_tables.specs.declared.symbols.VersionWords.{VersionWords}
 use Rattle.elf_hash.specs.declared.answer.SymbolMatch.{SymbolMatch}
 use Rattle.elf_hash.specs.declared.answer.VersymEntry.{VersymEntry}
-use Rattle.elf_loader.specs.declared.fitting.VersionMatch.{VersionMatch}
+use Rattle.elf_loader.specs.declared.version_match.VersionMatch.{VersionMatch}
 use Rattle.elf_headers.specs.declared.fault.Fault.{Fault}
 use Rattle.elf_headers.specs.declared.fault.Fault.TheVariants.{Refused, Source}
 

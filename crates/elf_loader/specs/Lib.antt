@@ -4,5 +4,5 @@ pub mod Comparing
 pub mod Tables
 pub mod Naming
 pub mod Telling
-pub mod Finding
+pub mod FoundVersions
 pub mod Lookups

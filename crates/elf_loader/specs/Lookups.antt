@@ -12,9 +12,9 @@ use Rattle.elf_source.specs.Source.{CountedState}
 use Rattle.elf_headers.specs.Ledger.{CallReads, CallDid, fault_of_result}
 use Rattle.elf_headers.specs.declared.fault.Fault.{Fault}
 use Rattle.elf_headers.specs.declared.fault.Fault.TheVariants.{Refused, Source}
-use Rattle.elf_lookup_tables.specs.Scopes.{IsLookupTables, LookupTablesInBounds}
-use Rattle.elf_lookup_tables.specs.declared.scope.LookupTables.{LookupTables as ScopeCode}
-use Rattle.elf_loader.specs.Finding.{IsRelocationReported, version_found}
+use Rattle.elf_lookup_tables.specs.LookupTablesFound.{IsLookupTables, LookupTablesInBounds}
+use Rattle.elf_lookup_tables.specs.declared.lookup_tables.LookupTables.{LookupTables as ScopeCode}
+use Rattle.elf_loader.specs.FoundVersions.{IsRelocationReported, version_found}
 use Rattle.elf_loader.specs.Telling.{parsed_member_bytes}
 use Rattle.elf_loader.specs.declared.lookup.SymbolLookup.{SymbolLookup}
 use Rattle.elf_loader.specs.declared.lookup.SymbolLookup.TheVariants.{Found, Absent}

@@ -11,7 +11,7 @@ use Rattle.elf_headers.specs.declared.fault.Fault.TheVariants.{Refused, Source}
 use Rattle.elf_table.specs.Tables.{StringsInBounds, strings_in}
 use Rattle.elf_versions.specs.Reading.{IsVersion}
 use Rattle.elf_versions.specs.declared.record.VersionRecord.{VersionRecord}
-use Rattle.elf_loader.specs.declared.naming.VersionNameRecord.{VersionNameRecord}
+use Rattle.elf_loader.specs.declared.version_name_record.VersionNameRecord.{VersionNameRecord}
 
 -- some records are read that have not the number; the others are left
 pub record NamedAs (records : ℕ) (all left : NumberNameSource) : Type 0 where

@@ -12,7 +12,7 @@ use Rattle.elf_source.specs.Source.{CountedState}
 use Rattle.elf_headers.specs.Ledger.{CallReads}
 use Rattle.elf_headers.specs.declared.fault.Fault.{Fault}
 use Rattle.elf_headers.specs.declared.fault.Fault.TheVariants.{Refused, Source}
-use Rattle.elf_loader.specs.declared.telling.ResolvedVersionName.{ResolvedVersionName}
+use Rattle.elf_loader.specs.declared.resolved_version_name.ResolvedVersionName.{ResolvedVersionName}
 use Rattle.elf_table.specs.NamesRead.{shown_by}
 
 -- how many bytes reading a name may ask for

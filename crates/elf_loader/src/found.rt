@@ -2,7 +2,7 @@
 ghost use Rattle.std.specs.Prelude.{◌≡◌, ℕ, ◌+◌, ◌*◌, ◌<◌, Some};
 ghost use Rattle.elf_headers.specs.Ledger.{CallDid, fault_of_result};
 ghost use Rattle.elf_loader.specs.Answering.{IsWord};
-ghost use Rattle.elf_loader.specs.Finding.{FindsVersion};
+ghost use Rattle.elf_loader.specs.FoundVersions.{FindsVersion};
 ghost use Rattle.elf_loader.specs.Tables.{max_versions_of};
 ghost use Rattle.elf_loader.specs.Telling.{telling_bytes};
 ghost use Rattle.elf_wanted.specs.Wants.{asked_of};
@@ -10,7 +10,7 @@ ghost use Rattle.elf_model.specs.Loader.{VersionWords as AreWordsOf};
 ghost use Rattle.elf_model.specs.LoaderScope.{LookupTables as IsScopeOf};
 ghost use Rattle.elf_lookup_tables.specs.Symbols.{IsDynamicSymbols, IsVersymTable, DynamicSymbolsInBounds};
 
-use crate::telling::parsed_member_name;
+use crate::resolved_version_name::parsed_member_name;
 use elf_hash::{ChainMatch, VersymEntry};
 use elf_headers::Fault;
 use elf_lookup_tables::{Symbols, VersionWords};

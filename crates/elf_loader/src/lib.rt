@@ -2,24 +2,24 @@
 //! name and its version. No call takes memory.
 #![tactic(auto)]
 
-mod answering;
-mod collecting;
-mod comparing;
-mod fitting;
+mod version_matcher;
+mod index_collection;
+mod name_comparison;
+mod version_match;
 mod found;
-mod looking;
+mod loader_lookup;
 mod lookup;
-mod naming;
-mod number_set;
-mod offered;
-mod telling;
+mod version_name_record;
+mod version_index_set;
+mod exported;
+mod resolved_version_name;
 
-pub use answering::VersionMatcher;
-pub use collecting::version_indices;
-pub use fitting::read_half;
+pub use version_matcher::VersionMatcher;
+pub use index_collection::version_indices;
+pub use version_match::read_half;
 pub use found::{FoundVersion, VersionName};
-pub use looking::look_up;
+pub use loader_lookup::look_up;
 pub use lookup::{FoundSymbol, SymbolLookup};
-pub use naming::{VersionNameRecord, name_of};
-pub use number_set::VersionIndexSet;
-pub use offered::is_exported;
+pub use version_name_record::{VersionNameRecord, name_of};
+pub use version_index_set::VersionIndexSet;
+pub use exported::is_exported;

@@ -10,8 +10,8 @@ use Rattle.elf_record.specs.Dyn.{IsDyn}
 use Rattle.elf_record.specs.declared.dyn_entry.Dyn.{Dyn}
 use Rattle.elf_table.specs.Tables.{Rows}
 use Rattle.elf_lookup_tables.specs.Entries.{AreTaggedEntries, AreListed, EachTag, TakesEntry, dynamic_entry_at, entry_here, first_entry, listed_entry, tagged_entry}
-use Rattle.elf_lookup_tables.specs.declared.entry.DynamicTags.{DynamicTags}
-use Rattle.elf_lookup_tables.specs.declared.entry.DynEntry.{DynEntry}
+use Rattle.elf_lookup_tables.specs.declared.dyn_entry.DynamicTags.{DynamicTags}
+use Rattle.elf_lookup_tables.specs.declared.dyn_entry.DynEntry.{DynEntry}
 
 module _ (file : List ℕ) (tag : ℕ) where
   here_some : (at : ℕ) → (d_tag file at == tag) ≡ true → entry_here file at tag ≡ Some (dynamic_entry_at file at)

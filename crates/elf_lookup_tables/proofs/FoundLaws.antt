@@ -18,9 +18,9 @@ use Rattle.elf_table.specs.Relocations.{RefusedBy}
 use Rattle.elf_table.specs.Sections.{rows}
 use Rattle.elf_table.specs.Tables.{Rows, TableInBounds, size_of}
 use Rattle.elf_table.specs.Views.{dynamic_table_at, first_of_kind}
-use Rattle.elf_lookup_tables.specs.Scopes.{FindsLookupTables}
+use Rattle.elf_lookup_tables.specs.LookupTablesFound.{FindsLookupTables}
 use Rattle.elf_lookup_tables.specs.Segments.{entries_asked, scope_by_entries}
-use Rattle.elf_lookup_tables.specs.declared.scope.LookupTables.{LookupTables}
+use Rattle.elf_lookup_tables.specs.declared.lookup_tables.LookupTables.{LookupTables}
 use Rattle.elf_lookup_tables.proofs.SettleLaws.{checked_fails, checked_passes}
 
 -- a call that reads, and then one that only checks

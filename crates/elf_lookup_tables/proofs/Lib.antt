@@ -2,9 +2,9 @@ pub mod EntryLaws
 pub mod FoundLaws
 pub mod LoadedLaws
 pub mod LoadingLaws
-pub mod ScopeLaws
+pub mod LookupTableLaws
 pub mod SectionLaws
 pub mod SegmentLaws
 pub mod SettleLaws
 pub mod VersionLaws
-mod ExtentLaws
+mod SymbolCountLaws

@@ -17,9 +17,9 @@ use Rattle.elf_headers.specs.declared.fault.Fault.{Fault}
 use Rattle.elf_headers.specs.declared.fault.Fault.TheVariants.{Refused, Source}
 use Rattle.elf_headers.proofs.LoadLaws.{load-within, load_most}
 use Rattle.elf_lookup_tables.specs.Finding.{scope_cost, scope_loaded, segments_bytes}
-use Rattle.elf_lookup_tables.specs.Scopes.{FindsLookupTables}
+use Rattle.elf_lookup_tables.specs.LookupTablesFound.{FindsLookupTables}
 use Rattle.elf_lookup_tables.specs.Segments.{entries_asked}
-use Rattle.elf_lookup_tables.specs.declared.scope.LookupTables.{LookupTables}
+use Rattle.elf_lookup_tables.specs.declared.lookup_tables.LookupTables.{LookupTables}
 
 -- a fault of a read tells nothing
 pub read_tells : (file : List ℕ) (found : Result IsScopeOf Refusal) (fault : Fault) → IsOfRead fault → FindsLookupTables file found (Err fault)

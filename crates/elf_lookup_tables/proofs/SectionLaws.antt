@@ -11,10 +11,10 @@ use Rattle.elf_headers.specs.declared.fault.Fault.{Fault}
 use Rattle.elf_headers.specs.declared.fault.Fault.TheVariants.{Refused, Source}
 use Rattle.elf_table.specs.HashSections.{AreHashed, ChecksThenValue}
 use Rattle.elf_table.specs.Tables.{Rows, StringTableRange, strings_in}
-use Rattle.elf_hash.specs.Kinds.{hash_style_of}
-use Rattle.elf_lookup_tables.specs.Scopes.{FindsLookupTables, IsLookupTables}
+use Rattle.elf_hash.specs.HashStyles.{hash_style_of}
+use Rattle.elf_lookup_tables.specs.LookupTablesFound.{FindsLookupTables, IsLookupTables}
 use Rattle.elf_lookup_tables.specs.Versions.{AreVersions}
-use Rattle.elf_lookup_tables.specs.declared.scope.LookupTables.{LookupTables}
+use Rattle.elf_lookup_tables.specs.declared.lookup_tables.LookupTables.{LookupTables}
 use Rattle.elf_lookup_tables.specs.declared.versions.VersionTables.{VersionTables}
 use Rattle.elf_lookup_tables.proofs.SettleLaws.{passed_both}
 

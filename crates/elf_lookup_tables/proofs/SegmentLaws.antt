@@ -21,9 +21,9 @@ use Rattle.elf_lookup_tables.specs.Entries.{AreTaggedEntries, dynamic_entry_at}
 use Rattle.elf_lookup_tables.specs.Segments.{ReturnsHash, rows_records, version_rows}
 use Rattle.elf_lookup_tables.specs.Symbols.{AreVersymTable, IsVersionRecordTable, IsVersymTable}
 use Rattle.elf_lookup_tables.specs.Versions.{AreInFront, AreVersions}
-use Rattle.elf_lookup_tables.specs.declared.entry.DynamicTags.{DynamicTags}
-use Rattle.elf_lookup_tables.specs.declared.entry.DynEntry.{DynEntry}
-use Rattle.elf_hash.specs.declared.kind.HashStyle.TheVariants.{Gnu, Sysv}
+use Rattle.elf_lookup_tables.specs.declared.dyn_entry.DynamicTags.{DynamicTags}
+use Rattle.elf_lookup_tables.specs.declared.dyn_entry.DynEntry.{DynEntry}
+use Rattle.elf_hash.specs.declared.hash_style.HashStyle.TheVariants.{Gnu, Sysv}
 use Rattle.elf_lookup_tables.specs.declared.symbols.VersionRecordTable.{VersionRecordTable}
 use Rattle.elf_lookup_tables.specs.declared.symbols.VersionWords.{VersionWords}
 use Rattle.elf_lookup_tables.specs.declared.versions.VersionTables.{VersionTables}

@@ -6,8 +6,8 @@ use Rattle.elf_model.specs.Numbers.{DT_HASH, DT_GNU_HASH, DT_SYMTAB, DT_STRTAB, 
 use Rattle.elf_model.specs.Records.{d_tag, d_un}
 use Rattle.elf_model.specs.Tables.{DYNAMIC_SIZE}
 use Rattle.elf_table.specs.Tables.{Rows}
-use Rattle.elf_lookup_tables.specs.declared.entry.DynamicTags.{DynamicTags}
-use Rattle.elf_lookup_tables.specs.declared.entry.DynEntry.{DynEntry}
+use Rattle.elf_lookup_tables.specs.declared.dyn_entry.DynamicTags.{DynamicTags}
+use Rattle.elf_lookup_tables.specs.declared.dyn_entry.DynEntry.{DynEntry}
 
 -- the entry at an offset
 abbrev pub dynamic_entry_at : List ℕ → ℕ → DynEntry

@@ -10,8 +10,8 @@ use Rattle.elf_record.specs.declared.ehdr.Ehdr.{Ehdr}
 use Rattle.elf_source.specs.Source.{CountedState}
 use Rattle.elf_headers.specs.Ledger.{CallReads, fault_of_result}
 use Rattle.elf_headers.specs.declared.fault.Fault.{Fault}
-use Rattle.elf_lookup_tables.specs.Scopes.{FindsLookupTables}
-use Rattle.elf_lookup_tables.specs.declared.scope.LookupTables.{LookupTables}
+use Rattle.elf_lookup_tables.specs.LookupTablesFound.{FindsLookupTables}
+use Rattle.elf_lookup_tables.specs.declared.lookup_tables.LookupTables.{LookupTables}
 
 -- the tables that a lookup searches in a file whose load checks pass
 abbrev pub scope_loaded : List ℕ → Result IsScopeOf Refusal

@@ -1,9 +1,9 @@
 pub mod Entries
 pub mod Finding
 pub mod Headers
-pub mod Kinds
+pub mod HashSections
 pub mod Loading
-pub mod Scopes
+pub mod LookupTablesFound
 pub mod Segments
 pub mod Symbols
 pub mod Versions

@@ -15,13 +15,13 @@ use Rattle.elf_headers.specs.Ledger.{CallReads, CallDid, fault_of_result}
 use Rattle.elf_headers.specs.Load.{HoldsProgramHeaders}
 use Rattle.elf_headers.specs.declared.fault.Fault.{Fault}
 use Rattle.elf_table.specs.declared.segment_view.ExecutionView.{ExecutionView}
-use Rattle.elf_hash.specs.Kinds.{hash_style_of}
-use Rattle.elf_lookup_tables.specs.Scopes.{FindsLookupTables, LookupTablesInBounds}
+use Rattle.elf_hash.specs.HashStyles.{hash_style_of}
+use Rattle.elf_lookup_tables.specs.LookupTablesFound.{FindsLookupTables, LookupTablesInBounds}
 use Rattle.elf_lookup_tables.specs.Symbols.{IsDynamicSymbols}
-use Rattle.elf_lookup_tables.specs.declared.entry.DynamicTags.{DynamicTags}
-use Rattle.elf_lookup_tables.specs.declared.entry.DynEntry.{DynEntry}
-use Rattle.elf_hash.specs.declared.kind.HashStyle.{HashStyle}
-use Rattle.elf_lookup_tables.specs.declared.scope.LookupTables.{LookupTables}
+use Rattle.elf_lookup_tables.specs.declared.dyn_entry.DynamicTags.{DynamicTags}
+use Rattle.elf_lookup_tables.specs.declared.dyn_entry.DynEntry.{DynEntry}
+use Rattle.elf_hash.specs.declared.hash_style.HashStyle.{HashStyle}
+use Rattle.elf_lookup_tables.specs.declared.lookup_tables.LookupTables.{LookupTables}
 use Rattle.elf_lookup_tables.specs.declared.symbols.Symbols.{Symbols}
 
 -- the entry that locates the hash table, and the kind of that

@@ -5,12 +5,12 @@ ghost use Rattle.elf_model.specs.LoaderScope.{hash_section, scope_by_sections, s
 ghost use Rattle.elf_model.specs.Records.{section_at};
 ghost use Rattle.elf_headers.specs.Load.{HoldsSectionHeaders};
 ghost use Rattle.elf_table.specs.HashSections.{ChecksThenValue};
-ghost use Rattle.elf_hash.specs.Kinds.{hash_style_of};
+ghost use Rattle.elf_hash.specs.HashStyles.{hash_style_of};
 ghost use Rattle.elf_lookup_tables.specs.Headers.{FindsIn, HasHeader};
-ghost use Rattle.elf_lookup_tables.specs.Kinds.{found_at};
-ghost use Rattle.elf_lookup_tables.specs.Scopes.{FindsLookupTables, IsLookupTables, LookupTablesInBounds};
+ghost use Rattle.elf_lookup_tables.specs.HashSections.{found_at};
+ghost use Rattle.elf_lookup_tables.specs.LookupTablesFound.{FindsLookupTables, IsLookupTables, LookupTablesInBounds};
 
-use crate::scope::LookupTables;
+use crate::lookup_tables::LookupTables;
 use crate::section_versions::section_versions;
 use crate::symbols::Symbols;
 use elf_hash::{HashStyle, HashTableLocation};

@@ -5,12 +5,12 @@
 
 mod by_sections;
 mod by_segments;
-mod entries;
-mod entry;
-mod extent;
-mod loading;
-mod scope;
-mod scoping;
+mod dynamic_tags;
+mod dyn_entry;
+mod symbol_count;
+mod program_header_load;
+mod lookup_tables;
+mod lookup_tables_search;
 mod section_versions;
 mod segment_symbols;
 mod symbols;
@@ -18,7 +18,7 @@ mod versions;
 
 pub use by_segments::find_in_segments;
 pub use elf_hash::{HashStyle, HashTableLocation};
-pub use loading::load_by_segments;
-pub use scope::LookupTables;
-pub use scoping::find_lookup_tables;
+pub use program_header_load::load_by_segments;
+pub use lookup_tables::LookupTables;
+pub use lookup_tables_search::find_lookup_tables;
 pub use symbols::{Symbols, VersionRecordTable, VersionWords};

@@ -12,7 +12,7 @@ ghost use Rattle.elf_lookup_tables.specs.Segments.{AreRowsSymbols, TellSymbols, 
 ghost use Rattle.elf_lookup_tables.specs.Symbols.{VersionRecordsInBounds, DynamicSymbolsInBounds};
 ghost use Rattle.elf_lookup_tables.specs.Versions.{AreInFront, AreVersions, VersionsInBounds};
 
-use crate::entry::{DynEntry, DynamicTags};
+use crate::dyn_entry::{DynEntry, DynamicTags};
 use crate::symbols::{Symbols, VersionRecordTable, VersionWords};
 use crate::versions::VersionTables;
 use elf_headers::{Fault, refused};

@@ -5,7 +5,7 @@
 mod each_file;
 mod lists;
 mod many;
-mod opening;
+mod open_file;
 mod paths;
 mod short;
 mod statuses;

@@ -1,7 +1,7 @@
 //! A path that is asked for.
 use crate::each_file::FileVisitor;
 use crate::many::FileRun;
-use crate::opening::visit_file;
+use crate::open_file::visit_file;
 use crate::walk::DirWalk;
 use elf_folder::unopened;
 use elf_model::FileStatus;

@@ -1,7 +1,7 @@
 //! Folders, gone through in the order of their names.
 use crate::each_file::FileVisitor;
 use crate::many::FileRun;
-use crate::opening::visit_file;
+use crate::open_file::visit_file;
 use elf_folder::{
     DirEntryName, NameBatch, PathText, STACK_BYTES, Stack, count_fitting, gather, join, unopened,
 };

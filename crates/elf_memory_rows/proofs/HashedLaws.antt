@@ -7,18 +7,18 @@ use Rattle.elf_model.specs.LoaderScope.{LookupTables as IsScopeOf, lookup_tables
 use Rattle.elf_model.specs.Traits.{hashed_symbol_count}
 use Rattle.elf_model.specs.declared.causes.Refusal.{Refusal}
 use Rattle.elf_hash.specs.Extents.{extent_bytes}
-use Rattle.elf_hash.specs.Scopes.{HasCounts, IsPlaceIn, counts_bytes}
-use Rattle.elf_hash.specs.declared.kind.HashStyle.{HashStyle}
-use Rattle.elf_hash.specs.declared.kind.HashStyle.TheVariants.{Gnu, Sysv}
+use Rattle.elf_hash.specs.SearchedTables.{HasCounts, IsPlaceIn, counts_bytes}
+use Rattle.elf_hash.specs.declared.hash_style.HashStyle.{HashStyle}
+use Rattle.elf_hash.specs.declared.hash_style.HashStyle.TheVariants.{Gnu, Sysv}
 use Rattle.elf_source.specs.Source.{CountedState}
 use Rattle.elf_headers.proofs.LedgerLaws.{CallReads-then}
 use Rattle.elf_headers.specs.Ledger.{CallReads, IsRead}
 use Rattle.elf_headers.specs.declared.fault.Fault.{Fault}
 use Rattle.elf_headers.specs.declared.fault.Fault.TheVariants.{Refused, Source}
 use Rattle.elf_lookup_tables.specs.Finding.{scope_cost}
-use Rattle.elf_lookup_tables.specs.Scopes.{IsLookupTables, FindsLookupTables}
+use Rattle.elf_lookup_tables.specs.LookupTablesFound.{IsLookupTables, FindsLookupTables}
 use Rattle.elf_lookup_tables.specs.Symbols.{IsDynamicSymbols}
-use Rattle.elf_lookup_tables.specs.declared.scope.LookupTables.{LookupTables}
+use Rattle.elf_lookup_tables.specs.declared.lookup_tables.LookupTables.{LookupTables}
 use Rattle.elf_memory_rows.specs.Hashed.{PlacesHashed, ReturnsHashedRows, hashed_cost, hashed_of}
 use Rattle.elf_memory_rows.specs.declared.rows.RowPosition.{RowPosition}
 

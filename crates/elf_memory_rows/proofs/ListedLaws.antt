@@ -10,7 +10,7 @@ use Rattle.elf_table.specs.Tables.{Rows as Table, StringTableRange}
 use Rattle.elf_memory_rows.specs.DynamicTables.{IsDynamicTable}
 use Rattle.elf_memory_rows.specs.ListedEntries.{ListsWithin, ReadsListed, all_listed}
 use Rattle.elf_memory_rows.specs.LoadRefused.{load_refused}
-use Rattle.elf_memory_rows.specs.Openings.{ReadsRows, holds}
+use Rattle.elf_memory_rows.specs.TableOpenings.{ReadsRows, holds}
 use Rattle.elf_memory_rows.specs.Rows.{rows_from_first}
 use Rattle.elf_memory_rows.specs.declared.kind.RowKind.TheVariants.{Dynamic}
 use Rattle.elf_memory_rows.specs.declared.rows.RowPosition.{RowPosition}

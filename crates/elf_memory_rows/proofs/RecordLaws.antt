@@ -10,7 +10,7 @@ use Rattle.elf_model.specs.declared.versions.VersionKind.{VersionKind}
 use Rattle.elf_model.specs.declared.versions.VersionKind.TheVariants.{Definition, File, Need}
 use Rattle.elf_table.specs.Tables.{Rows}
 use Rattle.elf_versions.specs.Reading.{Fits, VersionCursorState, record_position_of, versions_left}
-use Rattle.elf_versions.specs.declared.stepping.RecordPosition.{RecordPosition}
+use Rattle.elf_versions.specs.declared.record_position.RecordPosition.{RecordPosition}
 use Rattle.elf_versions.proofs.LeftLaws.{cut-here}
 use Rattle.elf_memory_rows.specs.VersionRecords.{GoesOnTo, bytes_within, kind_number, records_left, stand_as, standing_in}
 use Rattle.elf_memory_rows.specs.declared.records.VersionRecordPosition.{VersionRecordPosition}

@@ -5,7 +5,7 @@ pub mod Entries
 pub mod Hashed
 pub mod ListedEntries
 pub mod LoadRefused
-pub mod Openings
+pub mod TableOpenings
 pub mod Rows
 pub mod SegmentDynamic
 pub mod Symbols

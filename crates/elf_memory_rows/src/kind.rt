@@ -1,7 +1,7 @@
 //! The kinds of rows that sections have.
 ghost use Rattle.std.specs.Prelude.{◌≡◌, ℕ, List};
 ghost use Rattle.elf_record.specs.Shdr.{IsShdr};
-ghost use Rattle.elf_memory_rows.specs.Openings.{holds};
+ghost use Rattle.elf_memory_rows.specs.TableOpenings.{holds};
 
 use elf_record::Shdr;
 use elf_record::gnu_numbers::SHT_GNU_VERSYM;

@@ -3,7 +3,7 @@ ghost use Rattle.std.specs.Prelude.{◌≡◌, ℕ, List};
 ghost use Rattle.elf_record.specs.Shdr.{IsShdr};
 ghost use Rattle.elf_memory_rows.specs.VersionRecords.{ReadsRecords, first_kind, starting};
 
-use crate::loading::held_file;
+use crate::load_checks::held_file;
 use crate::record_row::kind_number;
 use crate::records::VersionRecordPosition;
 use elf_headers::Fault;

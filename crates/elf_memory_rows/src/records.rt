@@ -2,7 +2,7 @@
 ghost use Rattle.std.specs.Prelude.{◌≡◌, ◌+◌, ◌≤◌, ◌^◌, ◌<◌, IfSome, length, option_map};
 ghost use Rattle.elf_model.specs.declared.versions.VersionKind.TheVariants.{Need};
 ghost use Rattle.elf_versions.specs.Reading.{Fits, KnowsAhead, record_position_of};
-ghost use Rattle.elf_versions.specs.declared.stepping.RecordPosition.{RecordPosition as IsStanding};
+ghost use Rattle.elf_versions.specs.declared.record_position.RecordPosition.{RecordPosition as IsStanding};
 ghost use Rattle.elf_memory_rows.specs.VersionRecords.{GoesOnTo, StepsRecord, bytes_within, standing_in};
 
 use crate::record_row::{RecordRow, kind_number};

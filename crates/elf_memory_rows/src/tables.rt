@@ -4,12 +4,12 @@ ghost use Rattle.elf_model.specs.Records.{section_at};
 ghost use Rattle.elf_headers.specs.Faults.{IsOfCheck};
 ghost use Rattle.elf_memory_rows.specs.declared.kind.RowKind.TheVariants.{Dynamic};
 ghost use Rattle.elf_memory_rows.specs.ListedEntries.{ReadsListed};
-ghost use Rattle.elf_memory_rows.specs.Openings.{OpensTable, ReadsRows, linked_names};
+ghost use Rattle.elf_memory_rows.specs.TableOpenings.{OpensTable, ReadsRows, linked_names};
 
 use crate::dynamic_table::{listed_rows, listed_within};
 use crate::held::MemoryFile;
 use crate::kind::{RowKind, holds};
-use crate::loading::held_file;
+use crate::load_checks::held_file;
 use crate::rows::RowPosition;
 use elf_headers::Fault;
 use elf_record::Refusal;

@@ -2,13 +2,13 @@
 //! and how rows are shown by them.
 #![tactic(auto)]
 
-mod gathering;
-mod lines;
-mod reading;
+mod row_names;
+mod list_lines;
+mod list_file;
 mod styles;
 
-pub use gathering::{gather_names, is_valid_row_name};
-pub use reading::read_names;
+pub use row_names::{gather_names, is_valid_row_name};
+pub use list_file::read_names;
 pub use styles::style_with_names;
 
 /// Why there are no names.

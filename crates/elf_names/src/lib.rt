@@ -2,11 +2,11 @@
 //! call takes memory.
 #![tactic(auto)]
 
-mod buffers;
+mod read_ahead_buffer;
 mod name_index;
 mod read_ahead;
-mod stretch;
+mod read_buffer;
 
-pub use buffers::NAMES_BUFFER_BYTES;
+pub use read_ahead_buffer::NAMES_BUFFER_BYTES;
 pub use name_index::NameIndex;
 pub use read_ahead::ReadAhead;

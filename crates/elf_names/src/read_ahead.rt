@@ -11,7 +11,7 @@ ghost use Rattle.elf_table.specs.Tables.{TableInBounds, StringsInBounds, strings
 ghost use Rattle.elf_names.specs.Ahead.{LosesAt, ReadsAhead, WhereAgrees};
 
 use crate::name_index::NameIndex;
-use crate::stretch::ReadBuffer;
+use crate::read_buffer::ReadBuffer;
 use elf_headers::{Fault, NameLimit, refused};
 use elf_record::sizes::SYMBOL_BYTES;
 use elf_record::{Cause, Sym};

@@ -10,8 +10,8 @@ use Rattle.elf_binding.specs.Binds.{AreObjectFiles, AskedFirst, BindsAcross, ask
 use Rattle.elf_binding.specs.Kept.{LookupObjectState}
 use Rattle.elf_binding.specs.Looks.{FailsIn, FaultLeaves, SpendsBudget, SpendsAtMost}
 use Rattle.elf_binding.proofs.OpenLaws.{pays_then}
-use Rattle.elf_binding.specs.declared.binding.BindFault.{BindFault}
-use Rattle.elf_binding.specs.declared.binding.BindResult.{BindResult}
+use Rattle.elf_binding.specs.declared.bind_name.BindFault.{BindFault}
+use Rattle.elf_binding.specs.declared.bind_name.BindResult.{BindResult}
 use Rattle.elf_needs.specs.Bound.{AsksAll, IsLimited, OnlyLimited, SameObject}
 
 same_none : (o : LookupObjectState) → SameObject o o

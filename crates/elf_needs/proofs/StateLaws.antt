@@ -14,7 +14,7 @@ use Rattle.elf_headers.specs.declared.fault.Fault.{Fault}
 use Rattle.elf_headers.specs.declared.fault.Fault.TheVariants.{Refused, Source}
 use Rattle.elf_binding.specs.Binds.{ReturnsBinding}
 use Rattle.elf_binding.specs.Sought.{IsReportedAlone, RefusesAs, ReturnsAs, ReturnsSought, ReturnsWhole, asked_if}
-use Rattle.elf_binding.specs.declared.binding.BindFault.{BindFault}
+use Rattle.elf_binding.specs.declared.bind_name.BindFault.{BindFault}
 use Rattle.elf_loader.specs.Naming.{IsFileIf}
 use Rattle.elf_versions.specs.declared.record.VersionRecord.{VersionRecord}
 use Rattle.elf_needs.specs.Bound.{ReturnsItem}

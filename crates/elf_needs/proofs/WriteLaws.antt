@@ -24,8 +24,8 @@ use Rattle.elf_headers.specs.declared.fault.Fault.{Fault}
 use Rattle.elf_headers.specs.declared.fault.Fault.TheVariants.{Refused, Source}
 use Rattle.elf_needs.specs.Bound.{failing_of, IsCutText, IsLimited, LeadsItems, OnlyLimited, ReturnsFault, ReturnsItem, WritesSymbol, WritesLines, WritesSoFar}
 use Rattle.elf_needs.proofs.AskLaws.{file_here}
-use Rattle.elf_needs.specs.declared.among.WriteEnd.{WriteEnd}
-use Rattle.elf_needs.specs.declared.among.WriteEnd.TheVariants.{Cut, Ended, Whole}
+use Rattle.elf_needs.specs.declared.search_scope.WriteEnd.{WriteEnd}
+use Rattle.elf_needs.specs.declared.search_scope.WriteEnd.TheVariants.{Cut, Ended, Whole}
 use Rattle.elf_needs.specs.declared.walk.NeedsFault.{NeedsFault}
 use Rattle.elf_needs.specs.declared.walk.NeedsFault.TheVariants.{Out, Read}
 

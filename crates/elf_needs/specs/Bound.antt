@@ -15,13 +15,13 @@ use Rattle.elf_headers.specs.declared.fault.Fault.TheVariants.{Refused, Source}
 use Rattle.elf_binding.specs.Binds.{AreObjectFiles, asked_of_all}
 use Rattle.elf_binding.specs.Kept.{LookupObjectState}
 use Rattle.elf_binding.specs.Looks.{SpendsBudget}
-use Rattle.elf_binding.specs.declared.sought.SymbolReference.{SymbolReference}
+use Rattle.elf_binding.specs.declared.reference.SymbolReference.{SymbolReference}
 use Rattle.elf_loader.specs.Naming.{IsFileIf}
 use Rattle.elf_needs.specs.Called.{called_by}
-use Rattle.elf_needs.specs.declared.among.SearchScope.{SearchScope}
-use Rattle.elf_needs.specs.declared.among.WriteEnd.{WriteEnd}
-use Rattle.elf_needs.specs.declared.among.WriteEnd.TheVariants.{Cut, Ended, Whole}
-use Rattle.elf_needs.specs.declared.known.ObjectList.{ObjectList}
+use Rattle.elf_needs.specs.declared.search_scope.SearchScope.{SearchScope}
+use Rattle.elf_needs.specs.declared.search_scope.WriteEnd.{WriteEnd}
+use Rattle.elf_needs.specs.declared.search_scope.WriteEnd.TheVariants.{Cut, Ended, Whole}
+use Rattle.elf_needs.specs.declared.known_object.ObjectList.{ObjectList}
 use Rattle.elf_needs.specs.declared.walk.NeedsFault.{NeedsFault}
 use Rattle.elf_needs.specs.declared.walk.NeedsFault.TheVariants.{Out, Read}
 

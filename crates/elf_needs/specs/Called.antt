@@ -1,8 +1,8 @@
 -- The names of the objects of a program.
 use Rattle.std.specs.Prelude.{ℕ, ◌^◌, ◌||◌, if◌then◌else◌, nat_lt, Bool, false, List, [], option_map, position, slice_index_or, Option, None, Some}
 use Rattle.std.specs.Str.{bytes_eq}
-use Rattle.elf_needs.specs.declared.known.KnownObject.{KnownObject}
-use Rattle.elf_needs.specs.declared.known.ObjectList.{ObjectList}
+use Rattle.elf_needs.specs.declared.known_object.KnownObject.{KnownObject}
+use Rattle.elf_needs.specs.declared.known_object.ObjectList.{ObjectList}
 
 -- the text of an index, where one is told; and a text that is told is a name
 abbrev pub text_told : List (List ℕ) → Option ℕ → Option (List ℕ)

@@ -5,7 +5,7 @@ ghost use Rattle.elf_model.specs.BoundSymbols.{before_items, bound_item, bound_i
 ghost use Rattle.elf_model.specs.LoaderScope.{LookupTables as IsScopeOf, lookup_tables_of};
 ghost use Rattle.elf_needs.specs.Bound.{AsksAll, IsLimited, ReturnsFault, WritesSymbol, WritesBindings, WritesLines, bound_among, bound_of, status_after};
 
-use crate::among::{SearchScope, WriteEnd, either, failing, index_at};
+use crate::search_scope::{SearchScope, WriteEnd, either, failing, index_at};
 use crate::bound_states::{DefinitionAt, item_of};
 use crate::walk::{DependencyWalk, NeedsFault};
 use elf_binding::{Object, OpenObjects, ReferenceNames, is_budget_fault, is_unbound, show_binding};

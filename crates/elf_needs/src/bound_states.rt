@@ -7,7 +7,7 @@ ghost use Rattle.elf_model.specs.Loader.{asked_name};
 ghost use Rattle.elf_model.specs.LoaderScope.{LookupTables as IsScopeOf, lookup_tables_of};
 ghost use Rattle.elf_needs.specs.Bound.{AsksAll, OfSought, OnlyLimited, ReturnsItem, bound_among};
 
-use crate::among::{SearchScope, index_at, place_of};
+use crate::search_scope::{SearchScope, index_at, place_of};
 use elf_binding::{
     BindFault, BindResult, Object, ReferenceNames, SymbolReference, bind, is_reported_alone,
     show_name, unbound_state,

@@ -4,22 +4,22 @@
 //! once.
 #![tactic(auto)]
 
-mod among;
+mod search_scope;
 mod bindings;
 mod bound_states;
 mod candidates;
-mod known;
+mod known_object;
 mod object_file;
 mod object_rows;
-mod room;
-mod search;
+mod buffers;
+mod search_dirs;
 mod states;
 mod walk;
 
 pub use elf_binding::OpenObjects;
-pub use known::MOST_OBJECTS;
+pub use known_object::MOST_OBJECTS;
 pub use object_rows::{show_object, show_too_many};
-pub use room::NeedsBuffers;
-pub use search::SearchDirs;
+pub use buffers::NeedsBuffers;
+pub use search_dirs::SearchDirs;
 pub use states::ObjectState;
 pub use walk::{DependencyWalk, Listed, NeedsFault, NeedsOptions, OpenFiles};

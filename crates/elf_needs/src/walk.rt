@@ -3,11 +3,11 @@ ghost use Rattle.std.specs.Prelude.{◌≡◌};
 ghost use Rattle.elf_needs.specs.Budget.{AsksFile, AsksFiles};
 
 use crate::candidates::FileSource;
-use crate::known::{KnownObject, MOST_OBJECTS, ObjectList};
+use crate::known_object::{KnownObject, MOST_OBJECTS, ObjectList};
 use crate::object_file::{ObjectFile, ReadAccount};
 use crate::object_rows::{show_object, show_too_many};
-use crate::room::NeedsBuffers;
-use crate::search::{Search, SearchDirs};
+use crate::buffers::NeedsBuffers;
+use crate::search_dirs::{Search, SearchDirs};
 use crate::states::ObjectState;
 use elf_binding::{CachedSource, OpenObjects};
 use elf_headers::{Fault, HeaderStore};

@@ -16,7 +16,7 @@ use Rattle.elf_headers.specs.declared.fault.Fault.TheVariants.{Refused}
 use Rattle.elf_table.specs.declared.names.NameEnd.{NameEnd}
 use Rattle.elf_table.specs.declared.names.NameEnd.TheVariants.{Whole, Cut}
 use Rattle.elf_note.specs.declared.note.FoundNote.{FoundNote}
-use Rattle.elf_note.specs.declared.row.NoteRow.{NoteRow}
+use Rattle.elf_note.specs.declared.note_row.NoteRow.{NoteRow}
 
 -- a cursor: its table, the alignment of its notes, the bytes of the table that are left, the note that it shows with the
 -- first bytes of its descriptor, and the fault where it failed

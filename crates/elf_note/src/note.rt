@@ -8,10 +8,10 @@ ghost use Rattle.elf_note.specs.NoteCursors.{PassesNote, StopsNote, TakesNoteByt
 ghost use Rattle.elf_note.specs.NoteCursors.{note_cut};
 ghost use Rattle.elf_table.specs.WindowCalls.{HasLeft, ReadsThrough, ReadsThroughWindow};
 
-use crate::naming::read_name;
+use crate::note_names::read_name;
 use crate::sizes::{alignment_gap, padding};
 use crate::tail::ends_in_zeros;
-use crate::taking::take;
+use crate::window_bytes::take;
 use elf_headers::{Fault, NameLimit};
 use elf_record::{Cause, NoteHead, Refusal};
 use elf_source::{Counted, Source};

@@ -8,7 +8,7 @@ ghost use Rattle.elf_headers.specs.Ledger.{CallDid, fault_of_result};
 ghost use Rattle.elf_table.specs.Tables.{TableInBounds, size_of};
 ghost use Rattle.elf_note.specs.DynCursors.{AreStrings, first_value, value_here};
 
-use crate::dynamic::{dynamic_rows, entry_in};
+use crate::dyn_cursor::{dynamic_rows, entry_in};
 use elf_headers::Fault;
 use elf_record::Dyn;
 use elf_record::numbers::{DT_STRSZ, DT_STRTAB};

@@ -3,7 +3,7 @@ ghost use Rattle.std.specs.Prelude.{◌≡◌, ℕ, ◌+◌, ◌-◌, ◌^◌, �
 ghost use Rattle.elf_source.specs.Source.{ReadsUpTo, IsSourceFault, IsAskFault, CountsRead, ReadsSourceOnce, RecordsStop, FillsUnlimited, MasksSectionHeaders, IsReadable, IsWithin, Keeps, SetsLimit, SameView, left};
 
 use crate::faults::{AskFault, SourceFault};
-use crate::hiding::hide;
+use crate::section_header_mask::hide;
 use crate::source::Source;
 use std::marker::Model;
 

@@ -3,7 +3,7 @@
 
 mod counted;
 mod faults;
-mod hiding;
+mod section_header_mask;
 mod holding_sink;
 mod memory_source;
 mod null_sink;

@@ -1,2 +1,2 @@
-pub mod OnExamples
+pub mod OnTableExamples
 pub mod OnTraits

@@ -3,25 +3,25 @@ ghost use Rattle.elf_table_examples.specs.ExamplesAnswers.{FoundIsWritten, Absen
 ghost use Rattle.elf_table_examples.specs.ExamplesAnswers.{RefusalIsWritten};
 
 /// Names that are found.
-#[tactic(auto, unfolding(elf_model::proofs::OnLiterals::on_literals, crate::proofs::OnExamples::on_examples))]
+#[tactic(auto, unfolding(elf_model::proofs::OnLiterals::on_literals, crate::proofs::OnTableExamples::on_examples))]
 pub fn found_is_written()
     ensures { FoundIsWritten }
 {}
 
 /// A name that is not there.
-#[tactic(auto, unfolding(elf_model::proofs::OnLiterals::on_literals, crate::proofs::OnExamples::on_examples))]
+#[tactic(auto, unfolding(elf_model::proofs::OnLiterals::on_literals, crate::proofs::OnTableExamples::on_examples))]
 pub fn absent_is_written()
     ensures { AbsentIsWritten }
 {}
 
 /// What is refused.
-#[tactic(auto, unfolding(elf_model::proofs::OnLiterals::on_literals, crate::proofs::OnExamples::on_examples))]
+#[tactic(auto, unfolding(elf_model::proofs::OnLiterals::on_literals, crate::proofs::OnTableExamples::on_examples))]
 pub fn refusal_is_written()
     ensures { RefusalIsWritten }
 {}
 
 /// The same as objects.
-#[tactic(auto, unfolding(elf_model::proofs::OnLiterals::on_literals, crate::proofs::OnExamples::on_examples))]
+#[tactic(auto, unfolding(elf_model::proofs::OnLiterals::on_literals, crate::proofs::OnTableExamples::on_examples))]
 pub fn answers_are_objects()
     ensures { AnswersAreObjects }
 {}

@@ -28,7 +28,7 @@ mod notes;
 #[cfg(test)]
 mod segments;
 #[cfg(test)]
-mod sources;
+mod source_tests;
 #[cfg(test)]
 mod streams;
 #[cfg(test)]

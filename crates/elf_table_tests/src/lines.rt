@@ -1,5 +1,5 @@
 //! How a long name is written.
-use crate::sources::printer_sink;
+use crate::source_tests::printer_sink;
 use elf_fakes::FaultScript;
 use elf_lines::show_symbol;
 use elf_model::Format;

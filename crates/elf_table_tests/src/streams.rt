@@ -1,7 +1,7 @@
 //! What no clause says of a stream: that a read is filled, however far it lies and however much is
 //! asked for; that a fault of the reader is told, and leaves no place behind from which the next read
 //! would go on; and how often the reader is asked.
-use crate::sources::{FAILS, file_stream, fill_at, stream};
+use crate::source_tests::{FAILS, file_stream, fill_at, stream};
 use elf_fakes::{FaultScript, InjectedFault, stands_at};
 use elf_source::{Source, SourceFault};
 use std::alloc::Global;

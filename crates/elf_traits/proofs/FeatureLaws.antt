@@ -12,7 +12,7 @@ use Rattle.elf_headers.specs.declared.fault.Fault.{Fault}
 use Rattle.elf_headers.specs.declared.fault.Fault.TheVariants.{Refused, Source}
 use Rattle.elf_traits.specs.Features.{ReturnsValue}
 use Rattle.elf_traits.specs.Lists.{ReturnsList, all_notes_asked, is_list, list_at, notes_asked}
-use Rattle.elf_traits.specs.declared.notes.PropertyRange.{PropertyRange}
+use Rattle.elf_traits.specs.declared.trait_notes.PropertyRange.{PropertyRange}
 
 module _ (file : List ℕ) where
   pub list_other : (i : ℕ) → (p_type file (segment_at file i) == PT_NOTE) ≡ false → list_at file i ≡ Ok None

@@ -9,7 +9,7 @@ use Rattle.elf_table.specs.Tables.{Rows}
 use Rattle.elf_model.specs.LoaderScope.{dynamic_segment_index}
 use Rattle.elf_model.specs.Records.{p_offset, p_filesz, segment_at}
 use Rattle.elf_traits.specs.Entries.{AreListedValues, ReturnsTraitEntries}
-use Rattle.elf_traits.specs.declared.entries.TraitTags.{TraitTags}
+use Rattle.elf_traits.specs.declared.trait_tags.TraitTags.{TraitTags}
 use Rattle.elf_model.specs.GnuHash.{gnu_nbucket}
 use Rattle.elf_model.specs.LoaderScope.{GnuTable, SysvTable, HashStyle, LookupTables as IsScopeOf, least_size}
 use Rattle.elf_model.specs.TraitCost.{hash_words_asked, symbols_asked}
@@ -18,13 +18,13 @@ use Rattle.elf_model.specs.declared.causes.Refusal.{Refusal}
 use Rattle.elf_model.specs.declared.traits.Traits.{Traits}
 use Rattle.elf_hash.specs.Extents.{extent_bytes}
 use Rattle.elf_traits.specs.Features.{ReturnsValue}
-use Rattle.elf_traits.specs.Finding.{marks_asked, marks_told}
-use Rattle.elf_hash.specs.Scopes.{place_of_table}
+use Rattle.elf_traits.specs.TraitStages.{marks_asked, marks_told}
+use Rattle.elf_hash.specs.SearchedTables.{place_of_table}
 use Rattle.elf_lookup_tables.proofs.FoundLaws.{size_within}
 use Rattle.elf_traits.specs.Known.{KnownLie, KnownLies, ReturnsKnown, counts_asked}
 use Rattle.elf_traits.specs.Marks.{ReturnsMarks, symbol_traits_of}
 use Rattle.elf_traits.specs.declared.known.CountedSymbols.{CountedSymbols}
-use Rattle.elf_traits.specs.declared.marks.SymbolTraits.{SymbolTraits}
+use Rattle.elf_traits.specs.declared.symbol_traits.SymbolTraits.{SymbolTraits}
 use Rattle.elf_traits.proofs.CauseLaws.{entries_pass}
 use Rattle.elf_traits.proofs.EntryLaws.{read_entries}
 use Rattle.elf_traits.proofs.ValueLaws.{values_are}

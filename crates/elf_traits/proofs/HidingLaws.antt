@@ -11,7 +11,7 @@ use Rattle.elf_headers.proofs.FaultLaws.{charges_hidden}
 use Rattle.elf_headers.specs.Ledger.{CallReads, CallDid, fault_of_result}
 use Rattle.elf_headers.specs.declared.fault.Fault.{Fault}
 use Rattle.elf_traits.specs.Features.{ReturnsValue}
-use Rattle.elf_traits.specs.Finding.{FindsShown, FindsTraits}
+use Rattle.elf_traits.specs.TraitStages.{FindsShown, FindsTraits}
 
 cost_is : (file : List ℕ) (headers : ℕ) → segment_traits_cost (without_sections file) headers ≡ traits_cost file headers
 unfolding traits_cost

@@ -10,12 +10,12 @@ use Rattle.elf_source.specs.Source.{CountedState}
 use Rattle.elf_headers.specs.Ledger.{CallReads, CallDid, fault_of_result}
 use Rattle.elf_headers.specs.declared.fault.Fault.{Fault}
 use Rattle.elf_headers.specs.declared.fault.Fault.TheVariants.{Refused, Source}
-use Rattle.elf_hash.specs.Kinds.{hash_style_of}
-use Rattle.elf_hash.specs.Scopes.{HasCounts, IsPlaceIn, counts_bytes}
-use Rattle.elf_hash.specs.declared.kind.HashStyle.{HashStyle as Kind}
+use Rattle.elf_hash.specs.HashStyles.{hash_style_of}
+use Rattle.elf_hash.specs.SearchedTables.{HasCounts, IsPlaceIn, counts_bytes}
+use Rattle.elf_hash.specs.declared.hash_style.HashStyle.{HashStyle as Kind}
 use Rattle.elf_hash.specs.declared.table.HashTable.{HashTable}
-use Rattle.elf_lookup_tables.specs.Scopes.{IsLookupTables, FindsLookupTables}
-use Rattle.elf_lookup_tables.specs.declared.scope.LookupTables.{LookupTables}
+use Rattle.elf_lookup_tables.specs.LookupTablesFound.{IsLookupTables, FindsLookupTables}
+use Rattle.elf_lookup_tables.specs.declared.lookup_tables.LookupTables.{LookupTables}
 use Rattle.elf_traits.specs.Known.{AreKnown, ReturnsKnown, counts_asked, passed_over}
 
 -- a file without a hash table is passed over: then a call did not stop

@@ -8,7 +8,7 @@ pub mod KnownLaws
 pub mod ListLaws
 pub mod MarkLaws
 pub mod PropertyLaws
-pub mod ReadLaws
+pub mod TraitReadLaws
 pub mod SegmentLaws
 pub mod ShownLaws
 pub mod SpendLaws

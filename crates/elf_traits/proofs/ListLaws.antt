@@ -17,7 +17,7 @@ use Rattle.elf_record.specs.declared.note_head.NoteHead.{NoteHead}
 use Rattle.elf_headers.specs.declared.fault.Fault.{Fault}
 use Rattle.elf_headers.specs.declared.fault.Fault.TheVariants.{Refused, Source as Unread}
 use Rattle.elf_note.specs.NoteCursors.{AdvancesNote, GivesNote, IsNoteFound, NameIs, NoteCursorState, ShowsNote, StopsNote, TakesItsBytes, cut_at, no_notes, note_cut, notes_left, note_size}
-use Rattle.elf_note.specs.declared.row.NoteRow.{NoteRow as ListingWrote}
+use Rattle.elf_note.specs.declared.note_row.NoteRow.{NoteRow as ListingWrote}
 use Rattle.elf_table.specs.Relocations.{RefusedBy}
 use Rattle.elf_table.specs.Sections.{rows}
 use Rattle.elf_table.specs.Views.{byte_table_at}
@@ -28,7 +28,7 @@ use Rattle.elf_model.specs.Cost.{cost_where, table_cost}
 use Rattle.elf_model.specs.Numbers.{PT_NOTE}
 use Rattle.elf_model.specs.TableKinds.{segment_notes}
 use Rattle.elf_traits.specs.Lists.{ReturnsList, first_list, is_list, list_among, list_at, notes_asked}
-use Rattle.elf_traits.specs.declared.notes.PropertyRange.{PropertyRange}
+use Rattle.elf_traits.specs.declared.trait_notes.PropertyRange.{PropertyRange}
 
 -- the checks of a table of notes by the program header at an offset
 abbrev pub note_checks : List ℕ → ℕ → List Check

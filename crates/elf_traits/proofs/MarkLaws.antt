@@ -12,7 +12,7 @@ use Rattle.elf_headers.specs.declared.fault.Fault.{Fault}
 use Rattle.elf_headers.specs.declared.fault.Fault.TheVariants.{Refused, Source}
 use Rattle.elf_table.specs.NamesRead.{Refuses}
 use Rattle.elf_traits.specs.Marks.{ReturnsMarks, marks_in, symbol_traits_of, marks_with}
-use Rattle.elf_traits.specs.declared.marks.SymbolTraits.{SymbolTraits}
+use Rattle.elf_traits.specs.declared.symbol_traits.SymbolTraits.{SymbolTraits}
 
 module _ (file strings : List ℕ) where
   pub in_none : (at : ℕ) (marks : SymbolTraitFlags) → marks_in file at strings marks 0 ≡ Ok marks

@@ -9,7 +9,7 @@ use Rattle.elf_table.specs.Tables.{Rows}
 use Rattle.elf_note.specs.DynCursors.{DynCursorState, entries_left, first_value, value_here}
 use Rattle.elf_note.proofs.EntriesLeft.{value-end, value-step}
 use Rattle.elf_traits.specs.Entries.{AreListedValues, AreTraitEntries, EachValue, TakesValues, no_values}
-use Rattle.elf_traits.specs.declared.entries.TraitTags.{TraitTags}
+use Rattle.elf_traits.specs.declared.trait_tags.TraitTags.{TraitTags}
 
 -- a value that was found, or that of the entries that are left, is what a table has
 abbrev pub LeftValues : List ℕ → Rows → DynCursorState → TraitTags → Type 0

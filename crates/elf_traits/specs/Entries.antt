@@ -17,7 +17,7 @@ use Rattle.elf_headers.specs.declared.fault.Fault.{Fault}
 use Rattle.elf_headers.specs.declared.fault.Fault.TheVariants.{Refused, Source}
 use Rattle.elf_table.specs.Tables.{Rows}
 use Rattle.elf_note.specs.DynCursors.{first_value, value_here}
-use Rattle.elf_traits.specs.declared.entries.TraitTags.{TraitTags}
+use Rattle.elf_traits.specs.declared.trait_tags.TraitTags.{TraitTags}
 
 -- something is so of the value with each tag
 pub record EachValue (P : Option ℕ → ℕ → Type 0) (found : TraitTags) : Type 0 where

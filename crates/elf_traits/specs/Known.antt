@@ -7,7 +7,7 @@ use Rattle.elf_source.specs.Source.{CountedState}
 use Rattle.elf_headers.specs.Ledger.{CallReads, fault_of_result}
 use Rattle.elf_headers.specs.declared.fault.Fault.{Fault}
 use Rattle.elf_headers.specs.declared.fault.Fault.TheVariants.{Refused, Source}
-use Rattle.elf_hash.specs.Scopes.{IsTable, HashTableInBounds, place_of_table}
+use Rattle.elf_hash.specs.SearchedTables.{IsTable, HashTableInBounds, place_of_table}
 use Rattle.elf_lookup_tables.specs.Segments.{entries_asked}
 use Rattle.elf_lookup_tables.specs.Symbols.{IsDynamicSymbols, DynamicSymbolsInBounds}
 use Rattle.elf_traits.specs.declared.known.CountedSymbols.{CountedSymbols}

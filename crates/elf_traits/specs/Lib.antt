@@ -1,6 +1,6 @@
 pub mod Entries
 pub mod Features
-pub mod Finding
+pub mod TraitStages
 pub mod Known
 pub mod Lists
 pub mod Marks

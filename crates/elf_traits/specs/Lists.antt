@@ -19,7 +19,7 @@ use Rattle.elf_headers.specs.declared.fault.Fault.{Fault}
 use Rattle.elf_headers.specs.declared.fault.Fault.TheVariants.{Refused, Source}
 use Rattle.elf_table.specs.Tables.{Rows}
 use Rattle.elf_traits.specs.Features.{ReturnsValue}
-use Rattle.elf_traits.specs.declared.notes.PropertyRange.{PropertyRange}
+use Rattle.elf_traits.specs.declared.trait_notes.PropertyRange.{PropertyRange}
 
 -- the first list among the notes of a walk from an offset on, or where these are cut before it
 abbrev pub list_among : (align at : ℕ) → NoteScan → Result (Option PropertyList) Refusal

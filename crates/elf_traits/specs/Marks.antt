@@ -8,7 +8,7 @@ use Rattle.elf_model.specs.Traits.{SymbolTraitFlags, TRAIT_NAME_BYTES, marked_wi
 use Rattle.elf_model.specs.declared.causes.Refusal.{Refusal}
 use Rattle.elf_headers.specs.declared.fault.Fault.{Fault}
 use Rattle.elf_headers.specs.declared.fault.Fault.TheVariants.{Refused, Source}
-use Rattle.elf_traits.specs.declared.marks.SymbolTraits.{SymbolTraits}
+use Rattle.elf_traits.specs.declared.symbol_traits.SymbolTraits.{SymbolTraits}
 
 -- the marks as the definitions have them
 abbrev pub symbol_traits_of : SymbolTraits → SymbolTraitFlags

@@ -2,17 +2,17 @@
 //! entries, the properties in its notes and its dynamic symbols. No call takes memory.
 #![tactic(auto)]
 
-mod entries;
-mod finding;
+mod trait_tags;
+mod hardening;
 mod flags;
 mod known;
-mod marks;
-mod names;
-mod notes;
+mod symbol_traits;
+mod symbol_names;
+mod trait_notes;
 mod properties;
 mod property;
-mod segments;
-mod symbols;
+mod trait_segments;
+mod trait_symbols;
 mod traits;
 
-pub use finding::find_traits;
+pub use hardening::find_traits;

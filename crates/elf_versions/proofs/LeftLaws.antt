@@ -9,8 +9,8 @@ use Rattle.elf_model.proofs.VersionSteps.{met-most, met-record, met-refused}
 use Rattle.elf_headers.specs.declared.fault.Fault.{Fault}
 use Rattle.elf_headers.specs.declared.fault.Fault.TheVariants.{Refused, Source}
 use Rattle.elf_versions.specs.Reading.{BufferedTable, IsStep, ReadsRecord, ReturnsMet, record_position_of, unheld}
-use Rattle.elf_versions.specs.declared.reading.VersionRecordStep.{VersionRecordStep}
-use Rattle.elf_versions.specs.declared.stepping.RecordPosition.{RecordPosition}
+use Rattle.elf_versions.specs.declared.record_reader.VersionRecordStep.{VersionRecordStep}
+use Rattle.elf_versions.specs.declared.record_position.RecordPosition.{RecordPosition}
 
 -- a record that is not in the table
 past : (file : List ℕ) (table size : ℕ) (stand : RecordCursorState) → size < stand.place + record_size stand.kind

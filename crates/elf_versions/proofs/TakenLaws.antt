@@ -8,7 +8,7 @@ use Rattle.elf_headers.specs.declared.fault.Fault.{Fault}
 use Rattle.elf_headers.specs.declared.fault.Fault.TheVariants.{Refused, Source}
 use Rattle.elf_versions.specs.NumberNames.{NamesNumbers, ReadsNumberNames}
 use Rattle.elf_versions.specs.Reading.{BufferedTable, KeepsWalk, ReturnsVersion, VersionCursorState, unheld, unread, why_stopped_now}
-use Rattle.elf_versions.specs.declared.number_names.VersionNameRef.{VersionNameRef}
+use Rattle.elf_versions.specs.declared.version_names.VersionNameRef.{VersionNameRef}
 
 -- what may still be asked for grows with the records that are left
 less-unheld : (h : BufferedTable) (new old each : ℕ) → new ≤ old → unheld h (new * each) ≤ unheld h (old * each)

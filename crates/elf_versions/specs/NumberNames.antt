@@ -5,8 +5,8 @@ use Rattle.elf_model.specs.Versions.{VERSION_NUMBERS, VisitedRecord, Versions, n
 use Rattle.elf_model.specs.declared.versions.VersionKind.TheVariants.{Definition, Need}
 use Rattle.elf_headers.specs.declared.fault.Fault.{Fault}
 use Rattle.elf_headers.specs.declared.fault.Fault.TheVariants.{Refused, Source}
-use Rattle.elf_versions.specs.declared.number_names.VersionNameRef.{VersionNameRef}
-use Rattle.elf_versions.specs.declared.number_names.VersionNameRef.TheVariants.{Nowhere, Defined, Needed}
+use Rattle.elf_versions.specs.declared.version_names.VersionNameRef.{VersionNameRef}
+use Rattle.elf_versions.specs.declared.version_names.VersionNameRef.TheVariants.{Nowhere, Defined, Needed}
 
 -- where the name of a number is; nowhere for a number behind the last
 abbrev pub name_at : List VersionNameRef → ℕ → VersionNameRef

@@ -13,10 +13,10 @@ use Rattle.elf_table.specs.Tables.{Rows, TableInBounds}
 use Rattle.elf_source.specs.Source.{CountedState}
 use Rattle.elf_headers.specs.Ledger.{CallDid, fault_of_result}
 use Rattle.elf_versions.specs.Words.{HoldsWords}
-use Rattle.elf_versions.specs.declared.words.VersionRecordFields.{VersionRecordFields}
+use Rattle.elf_versions.specs.declared.record_fields.VersionRecordFields.{VersionRecordFields}
 use Rattle.elf_versions.specs.declared.record.VersionRecord.{VersionRecord}
-use Rattle.elf_versions.specs.declared.stepping.RecordPosition.{RecordPosition}
-use Rattle.elf_versions.specs.declared.reading.VersionRecordStep.{VersionRecordStep}
+use Rattle.elf_versions.specs.declared.record_position.RecordPosition.{RecordPosition}
+use Rattle.elf_versions.specs.declared.record_reader.VersionRecordStep.{VersionRecordStep}
 use Rattle.elf_model.specs.Checks.{first_refusal}
 
 -- a table whose bytes are held, all of them, or are read piece by piece

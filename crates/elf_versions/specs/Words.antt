@@ -6,8 +6,8 @@ use Rattle.elf_model.specs.Versions.{DEFINED_NAME_SIZE, NEED_SIZE, VERSION_NUMBE
 use Rattle.elf_model.specs.declared.causes.Cause.TheVariants.{BadVersion, VersionCut, VersionIndex}
 use Rattle.elf_model.specs.declared.versions.VersionKind.{VersionKind}
 use Rattle.elf_model.specs.declared.versions.VersionKind.TheVariants.{Definition, File, Need}
-use Rattle.elf_versions.specs.declared.stepping.RecordPosition.{RecordPosition}
-use Rattle.elf_versions.specs.declared.words.VersionRecordFields.{VersionRecordFields}
+use Rattle.elf_versions.specs.declared.record_position.RecordPosition.{RecordPosition}
+use Rattle.elf_versions.specs.declared.record_fields.VersionRecordFields.{VersionRecordFields}
 
 -- the distance that a record holds beside that to the next of its kind: to its name, or to its first version
 unfoldable pub aux_word : List ℕ → VisitedRecord → ℕ

@@ -2,16 +2,16 @@
 //! definitions and of needs, and the names of their numbers. No call takes memory.
 #![tactic(auto)]
 
-mod cursor;
-mod number_names;
-mod reading;
+mod version_cursor;
+mod version_names;
+mod record_reader;
 mod record;
-mod stepping;
-mod table_bytes;
-mod words;
+mod record_position;
+mod table_buffer;
+mod record_fields;
 
-pub use cursor::VersionCursor;
-pub use number_names::{ALL_PLACES, NUMBER_NAMES_BYTES, VersionNameRef, VersionNames};
+pub use version_cursor::VersionCursor;
+pub use version_names::{ALL_PLACES, NUMBER_NAMES_BYTES, VersionNameRef, VersionNames};
 pub use record::VersionRecord;
-pub use stepping::{RecordPosition, record_bytes};
-pub use table_bytes::VERSIONS_BUFFER_BYTES;
+pub use record_position::{RecordPosition, record_bytes};
+pub use table_buffer::VERSIONS_BUFFER_BYTES;

@@ -3,8 +3,8 @@ use Rattle.std.specs.Prelude.{if◌then◌else◌, map}
 use Rattle.elf_model.specs.Choice.{RowFilter as IsChoice, EveryRow, RowsOf, Suffix, Suffixed, wanted_text}
 use Rattle.elf_model.specs.ShownNames.{shown_as}
 use Rattle.elf_wanted.specs.Names.{texts_of}
-use Rattle.elf_wanted.specs.declared.choice.RowFilter.{RowFilter}
-use Rattle.elf_wanted.specs.declared.choice.VersionSuffix.{VersionSuffix}
+use Rattle.elf_wanted.specs.declared.row_filter.RowFilter.{RowFilter}
+use Rattle.elf_wanted.specs.declared.row_filter.VersionSuffix.{VersionSuffix}
 
 -- which rows are shown, as the definitions have it: each text is a name, or may ask for a version
 abbrev pub choice_of : RowFilter → IsChoice

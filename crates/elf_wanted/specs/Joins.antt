@@ -1,6 +1,6 @@
 -- A name with its version, as one text.
 use Rattle.std.specs.Prelude.{ℕ, List, ◌++◌}
-use Rattle.elf_wanted.specs.declared.joined.VersionedName.{VersionedName}
+use Rattle.elf_wanted.specs.declared.versioned_name.VersionedName.{VersionedName}
 
 -- the text of the three together
 abbrev pub joined_text : VersionedName → List ℕ

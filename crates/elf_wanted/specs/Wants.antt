@@ -1,8 +1,8 @@
 -- What is wanted, by names that are borrowed.
 use Rattle.elf_model.specs.Loader.{Asked as IsAsked, NoVersion as AsksNone, Version as AsksVersion, DefaultVersion as AsksDefault, Wanted as IsWanted}
-use Rattle.elf_wanted.specs.declared.wanted.Asked.{Asked}
-use Rattle.elf_wanted.specs.declared.wanted.Asked.TheVariants.{NoVersion, Version, DefaultVersion}
-use Rattle.elf_wanted.specs.declared.wanted.Wanted.{Wanted}
+use Rattle.elf_wanted.specs.declared.symbol_query.Asked.{Asked}
+use Rattle.elf_wanted.specs.declared.symbol_query.Asked.TheVariants.{NoVersion, Version, DefaultVersion}
+use Rattle.elf_wanted.specs.declared.symbol_query.Wanted.{Wanted}
 
 -- the version that is asked for, as the definitions have it
 abbrev pub asked_of : Asked → IsAsked

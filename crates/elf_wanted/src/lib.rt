@@ -3,15 +3,15 @@
 //! that are required of a file's traits. No call takes memory.
 #![tactic(auto)]
 
-mod choice;
-mod joined;
+mod row_filter;
+mod versioned_name;
 mod names;
 mod required;
 mod spelled;
-mod wanted;
+mod symbol_query;
 
-pub use choice::{RowFilter, VersionSuffix};
+pub use row_filter::{RowFilter, VersionSuffix};
 pub use names::{SortedStrings, sort_strings};
 pub use required::RequiredTrait;
 pub use spelled::{parsed_trait_word, spells_traits};
-pub use wanted::{Asked, Wanted, parse_query};
+pub use symbol_query::{Asked, Wanted, parse_query};

@@ -6,7 +6,7 @@ ghost use Rattle.elf_model.specs.Choice.{most_bytes};
 ghost use Rattle.elf_wanted.specs.Joins.{joined_text};
 ghost use Rattle.elf_wanted.specs.Names.{NeverDescend, texts_of};
 
-use crate::joined::VersionedName;
+use crate::versioned_name::VersionedName;
 use std::marker::Model;
 
 /// Texts in the rising order of their bytes, which a caller lends. One may come more than once.

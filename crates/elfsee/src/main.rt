@@ -2,7 +2,7 @@
 #![tactic(auto)]
 
 mod archives;
-mod explaining;
+mod missing_reason;
 mod layouts;
 mod lists;
 mod many;
@@ -28,7 +28,7 @@ use elf_layout::Layout;
 use elf_record::Refusal;
 use elf_requests::{ParsedCommand, Request, request};
 use elf_source::{Counted, MemorySource, Out, Sink, Source, WriteSink};
-use explaining::report_missing_reason;
+use missing_reason::report_missing_reason;
 use layouts::apply_laid;
 use lists::list_files;
 use many::{check_many, report_traits};

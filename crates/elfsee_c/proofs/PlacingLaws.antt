@@ -11,8 +11,8 @@ use Rattle.elf_memory_rows.specs.declared.end.End.{End}
 use Rattle.elf_calls.specs.declared.lent_layout.CallerLayout.{CallerLayout}
 use Rattle.elf_calls.specs.declared.limits.CallerLimits.{CallerLimits}
 use Rattle.elf_calls.specs.declared.missing.CallerMissing.{CallerMissing}
-use Rattle.elf_calls.specs.declared.told.Told.{Told}
-use Rattle.elf_calls.specs.declared.told.Told.TheVariants.{Done, Refused, Full, BadCall}
+use Rattle.elf_calls.specs.declared.call_status.Told.{Told}
+use Rattle.elf_calls.specs.declared.call_status.Told.TheVariants.{Done, Refused, Full, BadCall}
 
 -- by each answer
 places_by : (file : List ℕ) (limits : CallerLimits) (section : ℕ) (layout : CallerLayout) (room : ℕ) (before out : List ℕ) (end : End) (missing : CallerMissing) (told : Told)

@@ -2,18 +2,18 @@
 //! library, and states its promise again. What a caller has to guarantee stands in `elfsee.h`.
 #![tactic(auto)]
 
-mod applying;
+mod apply_export;
 mod contents;
 mod cost;
-mod finding;
+mod find_export;
 mod hashed;
 mod headers;
 mod loads;
 mod members;
 mod names;
 mod notes;
-mod placing;
-mod resolving;
+mod place_export;
+mod resolve_export;
 mod room;
 mod show;
 mod steps;

@@ -2,7 +2,7 @@
 ghost use Rattle.std.specs.Prelude.{length};
 ghost use Rattle.elf_memory.specs.Names.{FindsName};
 ghost use Rattle.elf_memory_rows.specs.Ends.{ReturnsOpened, ReturnsRead};
-ghost use Rattle.elf_calls.specs.Openings.{OpensNames};
+ghost use Rattle.elf_calls.specs.CallOpenings.{OpensNames};
 
 use elf_calls::{CallerLimits, limits_of};
 use elf_memory::{ByteRange, find_name};

@@ -1,7 +1,7 @@
 //! The exports that open the rows of a section of a file in memory.
 ghost use Rattle.std.specs.Prelude.{length};
 ghost use Rattle.elf_memory_rows.specs.declared.kind.RowKind.TheVariants.{Symbols, Relocations, Dynamic, VersionWords};
-ghost use Rattle.elf_calls.specs.Openings.{OpensRows};
+ghost use Rattle.elf_calls.specs.CallOpenings.{OpensRows};
 ghost use Rattle.elf_memory_rows.specs.Ends.{ReturnsOpened};
 
 use elf_calls::{CallerLimits, limits_of};

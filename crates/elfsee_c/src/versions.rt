@@ -2,7 +2,7 @@
 ghost use Rattle.std.specs.Prelude.{length};
 ghost use Rattle.elf_memory_rows.specs.VersionRecords.{StepsRecord};
 ghost use Rattle.elf_memory_rows.specs.Ends.{ReturnsOpened, ReturnsRead};
-ghost use Rattle.elf_calls.specs.Openings.{OpensRecords};
+ghost use Rattle.elf_calls.specs.CallOpenings.{OpensRecords};
 
 use elf_calls::{CallerLimits, limits_of};
 use elf_memory_rows::{

@@ -11,7 +11,7 @@ ghost use Rattle.elf_memory_rows.specs.declared.relocations.Relocation.{Relocati
 ghost use Rattle.elf_memory_rows.specs.declared.symbol.Symbol.{Symbol as OneSymbol};
 ghost use Rattle.elf_memory_rows.specs.declared.version_words.VersionWord.{VersionWord as OneWord};
 ghost use Rattle.elf_calls.specs.Limits.{budget_of};
-ghost use Rattle.elf_calls.specs.Openings.{OpensRows};
+ghost use Rattle.elf_calls.specs.CallOpenings.{OpensRows};
 ghost use Rattle.elf_calls.specs.Within.{OpensAlways, OpensEntries, StepsBudgeted, ReturnsEntries};
 
 use elf_calls::{CallerLimits, count_entries, entries_left, limits_of, next_within};

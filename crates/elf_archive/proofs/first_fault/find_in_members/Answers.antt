@@ -7,7 +7,7 @@ use Rattle.elf_model.specs.Cost.{style_ceiling}
 use Rattle.elf_source.proofs.GrowthLaws.{grows_not, grows_then}
 use Rattle.elf_source.proofs.ReadsLaws.{ReadsUpTo-none, ReadsUpTo-then, ReadsUpTo-to}
 use Rattle.elf_source.specs.Source.{ReadsUpTo}
-use Rattle.elf_headers.specs.declared.stop.RunFault.TheVariants.{Refused}
+use Rattle.elf_headers.specs.declared.run_fault.RunFault.TheVariants.{Refused}
 use Rattle.elf_headers.specs.Permitted.{style_of}
 use Rattle.elf_headers.specs.Stops.{stop_of}
 use Rattle.elf_archive.specs.Listed.{Consumes}

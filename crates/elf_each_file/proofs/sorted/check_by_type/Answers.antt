@@ -1,6 +1,6 @@
 -- The state of a file by its sort.
 use Rattle.std.proofs.Common.{refl, arith}
-use Rattle.elf_each_file.proofs.SortedLaws.{asks_as_archive, asks_nothing}
+use Rattle.elf_each_file.proofs.FileMagicLaws.{asks_as_archive, asks_nothing}
 use Rattle.elf_each_file.proofs.sorted.check_by_type.Goals as goal
 
 pub returns-in-Elf : goal.returns-in-Elf

@@ -4,7 +4,7 @@ use Rattle.elf_model.specs.declared.states.FileMagic.{FileMagic}
 use Rattle.elf_headers.specs.Permitted.{style_of}
 use Rattle.elf_each_file.proofs.ListingToldLaws.{fault_fails, front_within, sort_within}
 use Rattle.elf_each_file.specs.Members.{FindsBySort, IsCapsAfter, cost_by}
-use Rattle.elf_each_file.proofs.SortedLaws.{front_eight, sorted_found, state_after}
+use Rattle.elf_each_file.proofs.FileMagicLaws.{front_eight, sorted_found, state_after}
 use Rattle.elf_each_file.proofs.sorted.check_sorted.Goals as goal
 
 pub returns-in-Err : goal.returns-in-Err

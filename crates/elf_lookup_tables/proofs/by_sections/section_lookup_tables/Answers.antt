@@ -6,8 +6,8 @@ use Rattle.elf_model.specs.LoaderScope.{version_checks}
 use Rattle.elf_model.specs.Records.{section_at}
 use Rattle.elf_table.proofs.HashSectionLaws.{place_is}
 use Rattle.elf_record.specs.declared.ehdr.Ehdr.{Ehdr}
-use Rattle.elf_hash.specs.Kinds.{hash_style_of}
-use Rattle.elf_lookup_tables.specs.Kinds.{min_hash_bytes}
+use Rattle.elf_hash.specs.HashStyles.{hash_style_of}
+use Rattle.elf_lookup_tables.specs.HashSections.{min_hash_bytes}
 use Rattle.elf_lookup_tables.proofs.SectionLaws.{section_is}
 use Rattle.elf_lookup_tables.proofs.SettleLaws.{finds, refused_back, refused_front, refuses}
 use Rattle.elf_lookup_tables.proofs.by_sections.section_lookup_tables.Goals as goal

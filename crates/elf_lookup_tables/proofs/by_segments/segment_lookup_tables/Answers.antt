@@ -3,9 +3,9 @@ use Rattle.std.proofs.Common.{rules, ◌≡◌, ◌⊎◌, inl, inr, true, ◌<�
 use Rattle.std.proofs.lemmas.Result.{err_from_is_err_and}
 use Rattle.elf_model.specs.Records.{segment_at}
 use Rattle.elf_record.specs.declared.ehdr.Ehdr.{Ehdr}
-use Rattle.elf_hash.specs.Kinds.{hash_style_of}
-use Rattle.elf_lookup_tables.specs.Kinds.{min_hash_bytes}
-use Rattle.elf_lookup_tables.proofs.ScopeLaws.{hash_refuses, rows_refuse, scope_settles, shape_refuses}
+use Rattle.elf_hash.specs.HashStyles.{hash_style_of}
+use Rattle.elf_lookup_tables.specs.HashSections.{min_hash_bytes}
+use Rattle.elf_lookup_tables.proofs.LookupTableLaws.{hash_refuses, rows_refuse, scope_settles, shape_refuses}
 use Rattle.elf_lookup_tables.proofs.SettleLaws.{finds, refuses}
 use Rattle.elf_lookup_tables.proofs.by_segments.segment_lookup_tables.Goals as goal
 use Rattle.elf_lookup_tables.proofs.by_segments.segment_lookup_tables.Goals.{then-len-min_hash_bytes-via-then-len-min_hash_bytes, then-len-min_hash_bytes-via-else-len-min_hash_bytes+then-wide}

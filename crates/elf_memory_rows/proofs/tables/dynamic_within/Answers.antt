@@ -1,7 +1,7 @@
 -- More entries are listed than may be looked at.
 use Rattle.std.proofs.Common.{◌≡◌, ◌<◌, true, sym, ◌∙◌, arith}
 use Rattle.elf_model.specs.Records.{e_shnum, section_at}
-use Rattle.elf_memory_rows.specs.Openings.{holds}
+use Rattle.elf_memory_rows.specs.TableOpenings.{holds}
 use Rattle.elf_memory_rows.specs.declared.kind.RowKind.TheVariants.{Dynamic}
 use Rattle.elf_memory_rows.proofs.ListedLaws.{table_past}
 use Rattle.elf_memory_rows.proofs.tables.dynamic_within.Goals as goal

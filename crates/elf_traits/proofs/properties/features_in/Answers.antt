@@ -3,7 +3,7 @@ use Rattle.std.proofs.Common.{◌+◌, ap, sym, ◌∙◌, arith, Ok}
 use Rattle.std.proofs.lemmas.Result.{err_from_is_err_and}
 use Rattle.elf_headers.proofs.LedgerLaws.{CallDid-as, CallDid-none, CallDid-sized, CallDid-then}
 use Rattle.elf_traits.proofs.PropertyLaws.{left_all, left_more, left_none, word_end}
-use Rattle.elf_traits.proofs.ReadLaws.{head_tells, read_tells}
+use Rattle.elf_traits.proofs.TraitReadLaws.{head_tells, read_tells}
 use Rattle.elf_traits.proofs.properties.features_in.Goals as goal
 
 pub properties-init : goal.properties-init

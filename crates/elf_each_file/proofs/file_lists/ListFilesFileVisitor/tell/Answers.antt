@@ -2,7 +2,7 @@
 use Rattle.std.proofs.Common.{rules, ◌≡◌, None, Some, Ok, false, refl, sym, subst, ◌∙◌, arith}
 use Rattle.elf_model.specs.declared.states.FileMagic.TheVariants as sort
 use Rattle.elf_each_file.specs.ToldListings.{ReturnsListing}
-use Rattle.elf_each_file.specs.declared.rule.ListOptions.{ListOptions}
+use Rattle.elf_each_file.specs.declared.options.ListOptions.{ListOptions}
 use Rattle.elf_each_file.proofs.ListingToldLaws.{end_fails, fault_after, fault_fails, file_told, front_within, sort_within}
 use Rattle.elf_each_file.proofs.file_lists.ListFilesFileVisitor.tell.Goals as goal
 

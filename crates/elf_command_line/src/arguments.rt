@@ -1,0 +1,161 @@
+//! The options of the commands, and the words that stand without one.
+use crate::arg_specs::{ArgKind, ArgSpec};
+use clap::builder::ValueParser;
+
+pub(crate) const HEADERS: ArgSpec = ArgSpec {
+    name: "headers",
+    kind: ArgKind::Count(ValueParser::Signed(1, 65279), "4096"),
+    help: "Permit N section headers, and as many program headers: 1 to 65279",
+};
+
+pub(crate) const NAMES: ArgSpec = ArgSpec {
+    name: "names",
+    kind: ArgKind::Count(ValueParser::Signed(1, 4096), "256"),
+    help: "Show N bytes of a name: 1 to 4096",
+};
+
+pub(crate) const MAX_READ: ArgSpec = ArgSpec {
+    name: "max-read",
+    kind: ArgKind::Number(ValueParser::Unsigned(0, 9_223_372_036_854_775_807)),
+    help: "Read at most N bytes of the file: 0 to 9223372036854775807 [default: any]",
+};
+
+pub(crate) const ONLY: ArgSpec = ArgSpec {
+    name: "only",
+    kind: ArgKind::Part,
+    help: "List one part [default: all]",
+};
+
+pub(crate) const GNU: ArgSpec = ArgSpec {
+    name: "gnu",
+    kind: ArgKind::Flag,
+    help: "Name the numbers of the GNU system too, and list symbol versions",
+};
+
+pub(crate) const BY_SEGMENTS: ArgSpec = ArgSpec {
+    name: "by-segments",
+    kind: ArgKind::Flag,
+    help: "Find tables by the program headers, as a loader does",
+};
+
+pub(crate) const JSON: ArgSpec = ArgSpec {
+    name: "json",
+    kind: ArgKind::Flag,
+    help: "Write each line as a JSON object",
+};
+
+pub(crate) const FILE: ArgSpec = ArgSpec {
+    name: "FILE",
+    kind: ArgKind::Needed,
+    help: "The file to read; - is standard input",
+};
+
+// Whether the name is looked up as a loader of the GNU system does it.
+pub(crate) const AS_LOADER: ArgSpec = ArgSpec {
+    name: "gnu",
+    kind: ArgKind::Flag,
+    help: "Take the symbol that a loader of the GNU system takes, by its version too",
+};
+
+// Whether that loader's way to the tables is gone also where there are section headers.
+pub(crate) const AS_LOADED: ArgSpec = ArgSpec {
+    name: "by-segments",
+    kind: ArgKind::Flag,
+    help: "With --gnu: find the tables by the program headers, as the loader does",
+};
+
+pub(crate) const NAME: ArgSpec = ArgSpec {
+    name: "NAME",
+    kind: ArgKind::Needed,
+    help: "The name to look up: 1 to 4096 bytes",
+};
+
+pub(crate) const LAYOUT: ArgSpec = ArgSpec {
+    name: "layout",
+    kind: ArgKind::Value("LIST"),
+    help: "Take the items in the file LIST too, one a line, as many as there are",
+};
+
+pub(crate) const EXPLAIN: ArgSpec = ArgSpec {
+    name: "explain",
+    kind: ArgKind::Flag,
+    help: "Where an address is missing, tell the type, the symbol and the item that would help",
+};
+
+pub(crate) const SECTION: ArgSpec = ArgSpec {
+    name: "SECTION",
+    kind: ArgKind::Index(ValueParser::Signed(0, 65535)),
+    help: "The index of the section to write: 0 to 65535",
+};
+
+pub(crate) const ITEM: ArgSpec = ArgSpec {
+    name: "ITEM",
+    kind: ArgKind::Any,
+    help: "An address: at:INDEX=ADDR, or NAME=ADDR behind def:, plt:, got: or tpgot:",
+};
+
+pub(crate) const LIST: ArgSpec = ArgSpec {
+    name: "files0-from",
+    kind: ArgKind::Value("FILE"),
+    help: "Take the paths in FILE too, each ended by NUL; - is standard input",
+};
+
+pub(crate) const INSIDE: ArgSpec = ArgSpec {
+    name: "members",
+    kind: ArgKind::Flag,
+    help: "Go into archives too, which are passed over else",
+};
+
+pub(crate) const PATH: ArgSpec = ArgSpec {
+    name: "PATH",
+    kind: ArgKind::Any,
+    help: "A file, or a folder of files",
+};
+
+pub(crate) const REQUIRE: ArgSpec = ArgSpec {
+    name: "require",
+    kind: ArgKind::Value("WORDS"),
+    help: "Tell of each program and library which of these words it lacks, as in stack=nx,relro=full",
+};
+
+pub(crate) const WITH_VERSIONS: ArgSpec = ArgSpec {
+    name: "versions",
+    kind: ArgKind::Flag,
+    help: "With --gnu: show behind the name of a symbol its version too, as NAME@VERSION",
+};
+
+pub(crate) const ROW_NAME: ArgSpec = ArgSpec {
+    name: "name",
+    kind: ArgKind::Repeated("NAME"),
+    help: "Show the rows of this name alone; at most 64 times",
+};
+
+pub(crate) const NAME_LIST: ArgSpec = ArgSpec {
+    name: "name-list",
+    kind: ArgKind::Value("LIST"),
+    help: "Show the rows of the names in the file LIST too, one a line",
+};
+
+pub(crate) const LIBRARY_PATH: ArgSpec = ArgSpec {
+    name: "library-path",
+    kind: ArgKind::Value("DIRS"),
+    help: "Look for libraries in these folders too, as a loader does by LD_LIBRARY_PATH",
+};
+
+pub(crate) const DEFAULT: ArgSpec = ArgSpec {
+    name: "default",
+    kind: ArgKind::Value("DIRS"),
+    help: "Look in these folders last, not in those of a system",
+};
+
+pub(crate) const ROOT: ArgSpec = ArgSpec {
+    name: "root",
+    kind: ArgKind::Value("DIR"),
+    help: "Look below DIR for each path that begins with a slash",
+};
+
+pub(crate) const BINDINGS: ArgSpec = ArgSpec {
+    name: "symbols",
+    kind: ArgKind::Flag,
+    help: "Tell from which object each symbol comes, too",
+};

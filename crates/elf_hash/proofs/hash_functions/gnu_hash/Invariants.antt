@@ -1,0 +1,7 @@
+-- The bytes that are left take the hash so far to the hash of all.
+use Rattle.std.proofs.Common.{◌≡◌, drop, fold}
+use Rattle.elf_model.specs.GnuHash.{gnu_hash_byte}
+use Rattle.elf_hash.proofs.hash_functions.gnu_hash.Given as goal
+
+abbrev pub invariant-loop-byte : goal.invariant-loop-byte
+invariant-loop-byte l = fold gnu_hash_byte l.hash (drop l.byte-index l.name) ≡ fold gnu_hash_byte 5381 l.name

@@ -1,0 +1,102 @@
+//! The counts of a hash table of either kind, and the walk in it.
+ghost use Rattle.std.specs.Prelude.{◌≡◌, ℕ, ◌+◌, ◌/◌, ◌≤◌, Bool, List, Result, IfOk};
+ghost use Rattle.elf_headers.specs.Ledger.{CallDid, fault_of_result};
+ghost use Rattle.elf_hash.specs.SearchedTables.{HasCounts, IsPlaceIn, IsTable, HashTableInBounds, ReturnsExcluded, counts_bytes, place_of_table, walked_in};
+ghost use Rattle.elf_hash.specs.Walks.{WalksChain, walk_bytes};
+ghost use Rattle.elf_model.specs.LoaderScope.{LookupTables};
+ghost use Rattle.elf_model.specs.declared.causes.Refusal.{Refusal};
+
+use crate::table_counts::{gnu_counts, sysv_counts};
+use crate::gnu_walk::{gnu_walk, start};
+use crate::hash_functions::{gnu_hash, sysv_hash};
+use crate::hash_style::HashStyle;
+use crate::place::HashTableLocation;
+use crate::sysv_walk::sysv_walk;
+use crate::table::HashTable;
+use crate::matcher::Matcher;
+use crate::chain_result::ChainResult;
+use elf_headers::Fault;
+use elf_source::{Counted, Source};
+
+/// Reads the counts of the hash table at a place: four words of a table of the GNU system, two of one
+/// of the gABI (5, Hash Table). The table ends at or below the source's length.
+///
+/// # Errors
+/// `HashShape` at what tells of the table where there is no bucket, or where the words before the
+/// chains, or in a table of the gABI all words that the counts tell of, do not fit into its size; in
+/// a table of the GNU system also where its filter's words are not as many as a power of two tells,
+/// or where its shift leaves no bits of a hash. Else a fault of a read.
+pub fn counts<S: Source>(
+    src: &mut Counted<S>,
+    place: &HashTableLocation,
+) -> Result<HashTable, Fault>
+    requires { place.now.at + place.now.size ≤ src.old.seen.size }
+    ensures did { CallDid src.old src.new (fault_of_result result) (counts_bytes place.now.kind)
+        (λ file. (scope : LookupTables) → IsPlaceIn scope place.now → HasCounts file scope result) }
+    ensures same { IfOk result (λ table. place_of_table table ≡ place.now) }
+{
+    match place.kind {
+        HashStyle::Gnu => Ok(HashTable::Gnu(gnu_counts(src, place)?)),
+        HashStyle::Sysv => Ok(HashTable::Sysv(sysv_counts(src, place)?)),
+    }
+}
+
+/// Goes along the chain of a name's hash, up to the first symbol that answers a trial or to the
+/// chain's end: in a table of the gABI (5, Hash Table) from word to word, in one of the GNU system from
+/// symbol to symbol, unless its filter or an empty bucket tells that there is none. The table ends at
+/// or below the source's length, and the trial knows all of its symbols.
+///
+/// Where the source's file is known the answer is the file's own, and so is the refusal. No more is
+/// asked for than a filter's word, a bucket's word, each chain word that is read and what the tries
+/// ask for, also where the source fails.
+///
+/// # Errors
+/// `HashIndex` at the word that leads to an index which no symbol and no chain word has. In a table
+/// of the gABI `HashCycle` at the bucket's word, where as many steps as there are chains gave no
+/// answer. The trial's own where a symbol cannot be tried. Else a fault of a read.
+pub fn walk<S: Source, T: Matcher>(
+    src: &mut Counted<S>,
+    table: &HashTable,
+    name: &[u8],
+    trial: &T,
+) -> Result<ChainResult, Fault>
+    requires within { HashTableInBounds src.old.seen.size table.now }
+    requires known { (place_of_table table.now).symbols ≤ T.symbols trial.now }
+    requires lies { T.lies trial.now src.old.seen.size }
+    ensures { CallDid src.old src.new (fault_of_result result) (walk_bytes 12
+        ((place_of_table table.now).size / 4) ((place_of_table table.now).size / 4)
+        (T.cost trial.now))
+        (λ file. (scope : LookupTables) (says : ℕ → Result Bool Refusal) → IsTable file scope table.now →
+        T.is_of trial.now file says → WalksChain (T.stands trial.now file) 12 (T.cost trial.now)
+        (walked_in file scope name.now says) src.old src.new result) }
+{
+    match table {
+        HashTable::Gnu(table) => gnu_walk(src, table, gnu_hash(name), trial),
+        HashTable::Sysv(table) => sysv_walk(src, table, sysv_hash(name), trial),
+    }
+}
+
+/// Whether a table excludes a name without a look at any chain: one of the GNU system by its filter or
+/// an empty bucket. Then no symbol is tried for the name, whatever a trial says. The table ends at or
+/// below the source's length. No more is asked for than a filter's word and a bucket's word.
+///
+/// # Errors
+/// A fault of a read.
+pub fn excludes<S: Source>(
+    src: &mut Counted<S>,
+    table: &HashTable,
+    name: &[u8],
+) -> Result<bool, Fault>
+    requires { HashTableInBounds src.old.seen.size table.now }
+    ensures { CallDid src.old src.new (fault_of_result result) 12
+        (λ file. (scope : LookupTables) → IsTable file scope table.now →
+        ReturnsExcluded file scope name.now result) }
+{
+    match table {
+        HashTable::Gnu(table) => match start(src, table, gnu_hash(name))? {
+            None => Ok(true),
+            Some(_) => Ok(false),
+        },
+        HashTable::Sysv(_) => Ok(false),
+    }
+}

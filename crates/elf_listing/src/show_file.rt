@@ -1,0 +1,238 @@
+//! The call that writes a listing.
+ghost use Rattle.elf_source.specs.Growth.{OutGrows};
+ghost use Rattle.std.specs.Prelude.{◌≡◌, ◌+◌, ◌-◌, ◌^◌, ◌≤◌, [], ◌∷◌, true, false, ℕ, List};
+ghost use Rattle.std.specs.Prelude.{Some, None, Ok, IfErr};
+ghost use Rattle.elf_model.specs.Checks.{first_refusal, length_checks};
+ghost use Rattle.elf_model.specs.declared.causes.Refusal.{Refusal as Refuses};
+ghost use Rattle.elf_model.specs.Cost.{listing_cost, style_ceiling, after_header};
+ghost use Rattle.elf_model.specs.Lines.{header_line};
+ghost use Rattle.elf_model.specs.Listing.{Line as LineItem, has, has_tables, known_parts, where_asked, HEADER};
+ghost use Rattle.elf_model.specs.Records.{e_shnum};
+ghost use Rattle.elf_model.specs.Report.{listing as listed_items, load_items, table_items};
+ghost use Rattle.elf_model.specs.Style.{viewed as view_of};
+ghost use Rattle.elf_record.specs.Ehdr.{IsEhdr};
+ghost use Rattle.elf_listing.specs.Parts.{tables_listed};
+ghost use Rattle.elf_listing.specs.Viewed.{IsReady};
+ghost use Rattle.elf_headers.specs.Faults.{HeaderRead};
+ghost use Rattle.elf_headers.specs.Permitted.{style_of};
+ghost use Rattle.elf_listing.specs.Reports.{WroteReport, FaultSays, AsksWithin, KeepsSourceUnlimited};
+ghost use Rattle.elf_listing.specs.Shows.{ListingCosts, IsOfOutput, WroteSome};
+
+use crate::listing::Listing;
+use crate::fault_line::show_stop;
+use crate::table_view::load_view;
+use bitflags::Flags;
+use elf_fields::{Columns, Object};
+use elf_headers::{Caps, HeaderStore, Loaded, RunFault, Style, header, load};
+use elf_lines::header_row;
+use elf_model::Format;
+use elf_names::ReadAhead;
+use elf_record::{Ehdr, Parts};
+use elf_source::{Counted, Out, Sink, Source};
+use elf_table::{File, NameBuf};
+
+/// All parts but the file header's.
+const TABLES: Parts = Parts(254);
+
+/// Writes the listing of a file, as far as `parts` has it: the file header, the section headers,
+/// the program headers, the symbols, the relocation entries, the notes, the dynamic entries and, in
+/// a style with the names of the GNU system, the symbol versions; at the first fault its line ends
+/// the listing. Notes and dynamic entries are those of the sections, and
+/// in a file without sections those of the segments; by a style that finds tables by the program
+/// headers all files are listed as if their file header gave no section headers. The store has a slot
+/// for each header that the caps permit, and is loaded with the file's section headers, or with the
+/// program headers of a file without any. At most 2^127 bytes were asked of the source before. Where the caps have a
+/// budget no more is read, and the line of a refusal for want of budget may end the listing sooner;
+/// afterwards no limit is set.
+///
+/// # Errors
+/// A refusal of the file, or for want of budget: its line was written, as the last one. A fault of
+/// the source, with the offset that was asked for, or of the output, with the number of bytes that
+/// it took: what went out is a front of the listing. The store may be loaded again.
+pub fn show<S: Source, W: Sink>(
+    src: &mut Counted<S>,
+    store: &mut HeaderStore,
+    caps: Caps,
+    parts: Parts,
+    out: &mut Out<W>,
+) -> Result<(), RunFault>
+    requires { (store.old.slots ≡ caps.limits.headers) × (src.old.asked ≤ 2 ^ 127) }
+    ensures slots { store.new.slots ≡ store.old.slots }
+    ensures grows { OutGrows out.old out.new }
+    ensures leaves { KeepsSourceUnlimited src.old src.new }
+    ensures says { IfErr result (FaultSays src.old src.new out.new) }
+    ensures text { (file : List ℕ) → src.old.seen.file ≡ Some file →
+        WroteReport file caps.entry parts.0 out.old out.new result }
+    ensures cost { (file : List ℕ) → src.old.seen.file ≡ Some file →
+        src.new.asked ≤ src.old.asked
+        + listing_cost file caps.entry.limits.headers (style_of caps.entry.style) parts.0 }
+    // For every source.
+    ensures asks { AsksWithin caps.entry parts.0 src.old src.new result }
+{
+    src.limit(caps.limits.budget);
+    let listed = list(src, store, caps.style, parts, out);
+    src.limit(None);
+    match listed {
+        Ok(()) => Ok(()),
+        Err(stop) => Err(show_stop(stop, caps.style.format, out)),
+    }
+}
+
+/// Writes the lines of a listing as [`show`] does, within the limit that is set on the source, and
+/// leaves it to the caller to tell why it stopped: no line of a refusal is written. The store is
+/// loaded as by `show`, for as many headers as it has slots.
+///
+/// # Errors
+/// A refusal of the file, or for want of budget: the lines before it were written. A fault of the
+/// source or of the output, as of `show`.
+pub fn list<S: Source, W: Sink>(
+    src: &mut Counted<S>,
+    store: &mut HeaderStore,
+    style: Style,
+    parts: Parts,
+    out: &mut Out<W>,
+) -> Result<(), RunFault>
+    ensures slots { store.new.slots ≡ store.old.slots }
+    ensures grows { OutGrows out.old out.new }
+    ensures ceiling { ListingCosts src.old src.new out.new result
+        (style_ceiling src.old.seen.size store.old.slots (style_of style.entry)) }
+    ensures unread { (refusal : Refuses) →
+        first_refusal (length_checks src.old.seen.size) ≡ Some refusal → src.new ≡ src.old }
+    ensures alone { has_tables (known_parts (style_of style.entry) parts.0) ≡ false →
+        src.new.asked ≤ src.old.asked + 64 }
+    ensures cost { (file : List ℕ) → src.old.seen.file ≡ Some file →
+        ListingCosts src.old src.new out.new result
+        (listing_cost file store.old.slots (style_of style.entry) parts.0) }
+    ensures text { (file : List ℕ) → src.old.seen.file ≡ Some file →
+        WroteSome out.old out.new result
+        (listed_items file store.old.slots (style_of style.entry) parts.0) }
+{
+    let header = header(src)?;
+    list_header(&header, style.format, parts, out)?;
+    list_by_segments(src, store, &header, style, parts.known(style.gnu), out)
+}
+
+/// Lists the file header, where the parts have it: its `H` line (gABI 4, ELF Header).
+fn list_header<W: Sink>(
+    header: &Ehdr,
+    format: Format,
+    parts: Parts,
+    out: &mut Out<W>,
+) -> Result<(), RunFault>
+    ensures grows { OutGrows out.old out.new }
+    ensures fails { IfErr result (IsOfOutput out.new) }
+    ensures text { (file : List ℕ) → IsEhdr file 0 header.now → WroteSome out.old out.new result
+        (where_asked parts.0 HEADER (LineItem (header_line format file) ∷ [])) }
+{
+    if !parts.contains(Parts::HEADER) {
+        return Ok(());
+    }
+    let line = match format {
+        Format::Columns => header_row::<Columns>(header),
+        Format::Object => header_row::<Object>(header),
+    };
+    out.put(&line)?;
+    Ok(())
+}
+
+/// Lists what stands behind the file header, of the file that the style looks at: where tables are
+/// found by the program headers, what the file header tells of section headers is hidden meanwhile.
+/// `header` is the file's header.
+fn list_by_segments<S: Source, W: Sink>(
+    src: &mut Counted<S>,
+    store: &mut HeaderStore,
+    header: &Ehdr,
+    style: Style,
+    parts: Parts,
+    out: &mut Out<W>,
+) -> Result<(), RunFault>
+    requires header { (file : List ℕ) → src.old.seen.file ≡ Some file →
+        HeaderRead file (Ok header.now) }
+    ensures slots { store.new.slots ≡ store.old.slots }
+    ensures grows { OutGrows out.old out.new }
+    ensures below { ListingCosts src.old src.new out.new result
+        (style_ceiling src.old.seen.size store.old.slots (style_of style.entry) - 64) }
+    ensures alone { has_tables parts.0 ≡ false → src.new.asked ≡ src.old.asked }
+    ensures cost { (file : List ℕ) → src.old.seen.file ≡ Some file →
+        ListingCosts src.old src.new out.new result
+        (after_header (view_of (style_of style.entry) file)
+        store.old.slots (style_of style.entry) parts.0) }
+    ensures text { (file : List ℕ) → src.old.seen.file ≡ Some file →
+        WroteSome out.old out.new result
+        (load_items (view_of (style_of style.entry) file)
+        store.old.slots (style_of style.entry) parts.0) }
+{
+    if !style.by_segments {
+        return list_by_sections(src, store, header, style, parts, out);
+    }
+    let hides = src.hides();
+    src.mask_section_headers(true);
+    let listed = list_by_sections(src, store, &header.without_sections(), style, parts, out);
+    src.mask_section_headers(hides);
+    listed
+}
+
+/// Loads the headers and lists the tables, where the parts have more than the file header.
+/// `header` is the file's header, which tells of no sections where the style finds tables by the
+/// program headers.
+fn list_by_sections<S: Source, W: Sink>(
+    src: &mut Counted<S>,
+    store: &mut HeaderStore,
+    header: &Ehdr,
+    style: Style,
+    parts: Parts,
+    out: &mut Out<W>,
+) -> Result<(), RunFault>
+    requires header { (file : List ℕ) → src.old.seen.file ≡ Some file →
+        HeaderRead file (Ok header.now) }
+    requires hidden { (file : List ℕ) → src.old.seen.file ≡ Some file →
+        style.by_segments ≡ true → e_shnum file ≡ 0 }
+    ensures slots { store.new.slots ≡ store.old.slots }
+    ensures grows { OutGrows out.old out.new }
+    ensures below { ListingCosts src.old src.new out.new result
+        (style_ceiling src.old.seen.size store.old.slots (style_of style.entry) - 64) }
+    ensures alone { has_tables parts.0 ≡ false → src.new ≡ src.old }
+    ensures cost { (file : List ℕ) → src.old.seen.file ≡ Some file →
+        ListingCosts src.old src.new out.new result
+        (after_header file store.old.slots (style_of style.entry) parts.0) }
+    ensures text { (file : List ℕ) → src.old.seen.file ≡ Some file →
+        WroteSome out.old out.new result
+        (load_items file store.old.slots (style_of style.entry) parts.0) }
+{
+    if !parts.intersects(TABLES) {
+        return Ok(());
+    }
+    let loaded = load(src, store, header)?;
+    load_view(src, store, &loaded, style, parts)?;
+    list_tables(src, out, loaded, store, style, parts)
+}
+
+/// Lists the tables of a file whose headers are in the store.
+fn list_tables<S: Source, W: Sink>(
+    src: &mut Counted<S>,
+    out: &mut Out<W>,
+    loaded: Loaded,
+    store: &HeaderStore,
+    style: Style,
+    parts: Parts,
+) -> Result<(), RunFault>
+    requires { IsReady parts.0 src.old loaded store.now }
+    ensures grows { OutGrows out.old out.new }
+    ensures costs { ListingCosts src.old src.new out.new result
+        (tables_listed parts.0 loaded store.now style.entry.cap.bytes style.entry.versions) }
+    ensures text { (file : List ℕ) → src.old.seen.file ≡ Some file →
+        WroteSome out.old out.new result (table_items file (style_of style.entry) parts.0) }
+{
+    let name = NameBuf::new();
+    let ahead = ReadAhead::new();
+    let file = File { loaded, store };
+    let mut listing = Listing {
+        src,
+        out,
+        file,
+        style,
+        name,
+        ahead,
+    };
+    listing.tables(parts)
+}

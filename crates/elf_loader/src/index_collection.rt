@@ -1,0 +1,81 @@
+//! The numbers of the version that is asked for, of all records of versions.
+ghost use Rattle.std.specs.Prelude.{◌≤◌, length, IfSome};
+ghost use Rattle.elf_headers.specs.Ledger.{CallDid, fault_of_result};
+ghost use Rattle.elf_loader.specs.Comparing.{CollectsNumbers, ComparesRecords, comparing_bytes};
+ghost use Rattle.elf_loader.specs.Tables.{OfAnyTable, OfTables, max_records_of, max_versions_of};
+ghost use Rattle.elf_wanted.specs.Wants.{asked_of};
+ghost use Rattle.elf_model.specs.Loader.{asked_name};
+ghost use Rattle.elf_model.specs.LoaderFind.{record_cost, version_indices};
+ghost use Rattle.elf_model.specs.LoaderScope.{LookupTables as IsScopeOf};
+ghost use Rattle.elf_lookup_tables.specs.Symbols.{IsDynamicSymbols, VersionRecordsInBounds, DynamicSymbolsInBounds};
+
+use crate::name_comparison::compare_table;
+use crate::version_index_set::VersionIndexSet;
+use elf_headers::Fault;
+use elf_lookup_tables::{Symbols, VersionRecordTable};
+use elf_source::{Counted, Source};
+use elf_wanted::Asked;
+
+// Compares the records of a table, if there is one.
+fn compare_any<S: Source>(
+    src: &mut Counted<S>,
+    records: &Option<VersionRecordTable>,
+    version: &[u8],
+    numbers: &mut VersionIndexSet,
+) -> Result<(), Fault>
+    requires most { length version.now ≤ 4096 }
+    requires within { IfSome records.now (VersionRecordsInBounds src.old.seen.size) }
+    ensures { ComparesRecords src.old src.new version.now numbers.old numbers.new result
+        (max_records_of records.now) (OfAnyTable records.now) }
+{
+    match records {
+        None => Ok(()),
+        Some(records) => compare_table(src, records, version, numbers),
+    }
+}
+
+// Compares the records of the definitions and then of the needs.
+fn compare_all<S: Source>(
+    src: &mut Counted<S>,
+    symbols: &Symbols,
+    version: &[u8],
+    numbers: &mut VersionIndexSet,
+) -> Result<(), Fault>
+    requires most { length version.now ≤ 4096 }
+    requires lies { DynamicSymbolsInBounds src.old.seen.size symbols.now }
+    ensures { ComparesRecords src.old src.new version.now numbers.old numbers.new result
+        (max_versions_of symbols.now) (OfTables symbols.now) }
+{
+    compare_any(src, &symbols.definitions, version, numbers)?;
+    compare_any(src, &symbols.needs, version, numbers)
+}
+
+/// The numbers of the version that is asked for by its name, where one is and the symbols have
+/// versions; else none. All records of versions are read then.
+///
+/// # Errors
+/// The first record that is refused, as [`elf_versions::VersionCursor::advance`] has it, or whose
+/// name has a fault, at what holds the name: of the definitions and then of the needs.
+pub fn version_indices<S: Source>(
+    src: &mut Counted<S>,
+    symbols: &Symbols,
+    asked: &Asked<'_>,
+) -> Result<VersionIndexSet, Fault>
+    requires most { IfSome (asked_name (asked_of asked.now)) (λ version. length version ≤ 4096) }
+    requires lies { DynamicSymbolsInBounds src.old.seen.size symbols.now }
+    ensures { CallDid src.old src.new (fault_of_result result)
+        (comparing_bytes (asked_of asked.now) (max_versions_of symbols.now))
+        (λ file. (scope : IsScopeOf) → IsDynamicSymbols file scope.symbols symbols.now →
+        CollectsNumbers src.old src.new (record_cost (asked_of asked.now))
+        (version_indices file scope (asked_of asked.now)) result) }
+{
+    let mut numbers = VersionIndexSet::new();
+    let Some(_words) = &symbols.words else {
+        return Ok(numbers);
+    };
+    let Some(version) = asked.name() else {
+        return Ok(numbers);
+    };
+    compare_all(src, symbols, version, &mut numbers)?;
+    Ok(numbers)
+}

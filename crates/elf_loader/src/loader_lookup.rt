@@ -1,0 +1,206 @@
+//! The call that looks a name up as a loader does.
+ghost use Rattle.std.specs.Prelude.{◌≡◌, ℕ, ◌+◌, ◌*◌, ◌/◌, None, Ok};
+ghost use Rattle.elf_hash.specs.SearchedTables.{IsTable, place_of_table};
+ghost use Rattle.elf_hash.specs.Walks.{GivesWalked, walk_bytes};
+ghost use Rattle.elf_loader.specs.Answering.{IsSymbolWithVersym};
+ghost use Rattle.elf_loader.specs.Lookups.{AreShort, LooksOn, LooksThrough, MayLookOn, lookup_bytes};
+ghost use Rattle.elf_loader.specs.Lookups.{looked_with, match_bytes};
+ghost use Rattle.elf_loader.specs.NumberSets.{has_number};
+ghost use Rattle.elf_loader.specs.Tables.{max_versions_of};
+ghost use Rattle.elf_loader.specs.Telling.{telling_bytes};
+ghost use Rattle.elf_model.specs.Chains.{ChainResult as NoteScan};
+ghost use Rattle.elf_model.specs.Loader.{asked_name};
+ghost use Rattle.elf_model.specs.LoaderFind.{loaded_in, looked_by, record_cost, walk_in};
+ghost use Rattle.elf_model.specs.LoaderFind.{version_indices};
+ghost use Rattle.elf_model.specs.Style.{looked_at};
+ghost use Rattle.elf_lookup_tables.specs.LookupTablesFound.{LookupTablesInBounds};
+ghost use Rattle.elf_wanted.specs.Wants.{asked_of, query_of};
+
+use crate::version_matcher::VersionMatcher;
+use crate::index_collection::version_indices;
+use crate::found::version_of;
+use crate::lookup::{FoundSymbol, SymbolLookup};
+use crate::version_index_set::VersionIndexSet;
+use elf_hash::{ChainResult, HashTable, counts, walk};
+use elf_headers::{Fault, HeaderStore};
+use elf_lookup_tables::{LookupTables, find_lookup_tables};
+use elf_source::{Counted, Source};
+use elf_table::NameBuf;
+use elf_wanted::Wanted;
+
+/// Looks a name up in a file, alone or with a version, as a loader of the GNU system does (gABI 5,
+/// Dynamic Linking; Linux Standard Base Core, Symbol Versioning): by the file's hash table, of the
+/// GNU system or else of the gABI, the first symbol of the name's chain that has the name, is offered
+/// to others ([`crate::is_exported`]) and whose version fits. The tables that it searches are
+/// those of [`find_lookup_tables`], and the headers are loaded into the store. With `by_segments` they are
+/// found by the program headers also where there are section headers: the file is read with zeros for
+/// e_shoff, e_shnum and e_shstrndx. The name and the version that is
+/// asked for have at most 4,096 bytes each. Where the name of the symbol's version is read, `name`
+/// holds it, or its first 256 bytes; else `name` holds any bytes.
+///
+/// Where the source's file is known the answer is the file's own, and so is the refusal; no more is
+/// asked for than the lookup costs, also where the source fails.
+///
+/// # Errors
+/// The first that fails: what [`find_lookup_tables`] refuses; `HashShape` at the header or entry that locates
+/// the hash table where its counts are no table's of its size; where a version is asked for, what
+/// [`elf_versions::VersionCursor::advance`] refuses of the definitions and the needs, and a fault of
+/// a version's name at the record that holds it; on the way `HashIndex` at the word that leads to a
+/// symbol index which no symbol and no chain word has, in a table of the gABI `HashCycle` at the
+/// bucket's word where the chain goes round, a fault of a symbol's name at the symbol, `VersionCut`
+/// at the header or entry that locates the words of versions where a symbol has none; where the name
+/// of the symbol's version is read, what is refused of the records before the one with its number and
+/// of its name, and `VersionIndex` at the symbol's word where no record has the number. Else a fault of the
+/// source, or `Budget` where a limit has no room for a read, at the offset that was asked for.
+pub fn look_up<S: Source>(
+    src: &mut Counted<S>,
+    store: &mut HeaderStore,
+    wanted: &Wanted<'_>,
+    by_segments: bool,
+    name: &mut NameBuf,
+) -> Result<SymbolLookup, Fault>
+    requires { AreShort (query_of wanted.now) }
+    ensures did { LooksThrough src.old src.new (looked_at by_segments) store.old.slots
+        (query_of wanted.now) name.new result }
+    ensures slots { store.new.slots ≡ store.old.slots }
+{
+    if !by_segments {
+        return lookup_and_read_version(src, store, wanted, name);
+    }
+    let hides = src.hides();
+    src.mask_section_headers(true);
+    let found = lookup_and_read_version(src, store, wanted, name);
+    src.mask_section_headers(hides);
+    found
+}
+
+/// Looks up in the file that the source shows.
+///
+/// # Errors
+/// Those of [`find_lookup_tables`], and of [`look_in`].
+fn lookup_and_read_version<S: Source>(
+    src: &mut Counted<S>,
+    store: &mut HeaderStore,
+    wanted: &Wanted<'_>,
+    name: &mut NameBuf,
+) -> Result<SymbolLookup, Fault>
+    requires { AreShort (query_of wanted.now) }
+    ensures did { LooksThrough src.old src.new (λ file. file) store.old.slots
+        (query_of wanted.now) name.new result }
+    ensures slots { store.new.slots ≡ store.old.slots }
+{
+    let scope = find_lookup_tables(src, store)?;
+    look_in(src, &scope, wanted, name)
+}
+
+/// Looks up in the tables that a lookup searches.
+///
+/// # Errors
+/// Those of the table's counts, and of [`search_hash_table`].
+fn look_in<S: Source>(
+    src: &mut Counted<S>,
+    scope: &LookupTables,
+    wanted: &Wanted<'_>,
+    name: &mut NameBuf,
+) -> Result<SymbolLookup, Fault>
+    requires { MayLookOn src.old scope.now (query_of wanted.now) }
+    ensures { LooksOn src.old src.new scope.now (query_of wanted.now) name.new result 28
+        (lookup_bytes 28 src.old.seen.size (query_of wanted.now))
+        (λ file told leaves. leaves 0 (loaded_in file told (query_of wanted.now))) }
+{
+    let table = counts(src, &scope.hash)?;
+    search_hash_table(src, scope, &table, wanted, name)
+}
+
+/// Looks up in a hash table with its counts: finds the numbers of the version that is asked for, and
+/// goes along the chain.
+///
+/// # Errors
+/// Those of [`version_indices`], and of [`search_chain`].
+fn search_hash_table<S: Source>(
+    src: &mut Counted<S>,
+    scope: &LookupTables,
+    table: &HashTable,
+    wanted: &Wanted<'_>,
+    name: &mut NameBuf,
+) -> Result<SymbolLookup, Fault>
+    requires may { MayLookOn src.old scope.now (query_of wanted.now) }
+    requires place { place_of_table table.now ≡ scope.now.hash }
+    ensures { LooksOn src.old src.new scope.now (query_of wanted.now) name.new result 12
+        (lookup_bytes 12 src.old.seen.size (query_of wanted.now)) (λ file told leaves.
+        IsTable file told table.now → leaves 0 (looked_with file told (query_of wanted.now)
+        (version_indices file told (query_of wanted.now).asked))) }
+{
+    let numbers = version_indices(src, &scope.symbols, &wanted.asked)?;
+    search_chain(src, scope, table, wanted, &numbers, name)
+}
+
+/// Goes along the chain of the wanted name for the symbol that answers, and finds its version.
+///
+/// # Errors
+/// Those of [`walk`], and of [`version_of`].
+fn search_chain<S: Source>(
+    src: &mut Counted<S>,
+    scope: &LookupTables,
+    table: &HashTable,
+    wanted: &Wanted<'_>,
+    numbers: &VersionIndexSet,
+    name: &mut NameBuf,
+) -> Result<SymbolLookup, Fault>
+    requires may { MayLookOn src.old scope.now (query_of wanted.now) }
+    requires place { place_of_table table.now ≡ scope.now.hash }
+    ensures { LooksOn src.old src.new scope.now (query_of wanted.now) name.new result 12
+        (walk_bytes 12 (scope.now.hash.size / 4) (scope.now.hash.size / 4)
+        (match_bytes (query_of wanted.now))
+        + telling_bytes (asked_of wanted.now.asked) (max_versions_of scope.now.symbols))
+        (λ file told leaves. (before : ℕ) → IsTable file told table.now →
+        (asked_name (asked_of wanted.now.asked) ≡ None → before ≡ 0) →
+        leaves (before * record_cost (asked_of wanted.now.asked))
+        (looked_by file told (asked_of wanted.now.asked) before
+        (walk_in file told (query_of wanted.now) (has_number numbers.now)))) }
+{
+    let trial = VersionMatcher {
+        symbols: &scope.symbols,
+        wanted,
+        numbers,
+    };
+    let walked = walk(src, table, wanted.name, &trial)?;
+    answer_of(src, scope, wanted, &walked, name)
+}
+
+/// What is answered by a walk, with the version of the symbol that it finds.
+///
+/// # Errors
+/// Those of [`version_of`].
+fn answer_of<S: Source>(
+    src: &mut Counted<S>,
+    scope: &LookupTables,
+    wanted: &Wanted<'_>,
+    walked: &ChainResult,
+    name: &mut NameBuf,
+) -> Result<SymbolLookup, Fault>
+    requires { LookupTablesInBounds src.old.seen.size scope.now }
+    ensures { LooksOn src.old src.new scope.now (query_of wanted.now) name.new result 0
+        (telling_bytes (asked_of wanted.now.asked) (max_versions_of scope.now.symbols))
+        (λ file told leaves. (walk : NoteScan) (before : ℕ) →
+        GivesWalked (IsSymbolWithVersym file scope.now.symbols) walk (Ok walked.now) →
+        (asked_name (asked_of wanted.now.asked) ≡ None → before ≡ 0) →
+        leaves (walk_bytes (before * record_cost (asked_of wanted.now.asked)) walk.read walk.tried
+        (match_bytes (query_of wanted.now)))
+        (looked_by file told (asked_of wanted.now.asked) before walk)) }
+{
+    let Some(found) = walked.found else {
+        return Ok(SymbolLookup::Absent {
+            tried: walked.tried,
+        });
+    };
+    let version = version_of(src, &scope.symbols, &wanted.asked, &found, name)?;
+    Ok(SymbolLookup::Found(FoundSymbol {
+        section: scope.symbols.index,
+        machine: scope.machine,
+        index: found.index,
+        symbol: found.answer.symbol,
+        version,
+        tried: walked.tried,
+    }))
+}

@@ -1,0 +1,61 @@
+//! The name of a symbol's version.
+ghost use Rattle.std.specs.Prelude.{◌≡◌, ℕ, ◌+◌, ◌*◌};
+ghost use Rattle.elf_headers.specs.Ledger.{CallDid, fault_of_result};
+ghost use Rattle.elf_loader.specs.Tables.{max_versions_of};
+ghost use Rattle.elf_loader.specs.Telling.{ReturnsVersionName, parsed_member_bytes};
+ghost use Rattle.elf_model.specs.Loader.{VersionWords as AreWordsOf, naming_of, readings, versym_at};
+ghost use Rattle.elf_model.specs.LoaderScope.{LookupTables as IsScopeOf};
+ghost use Rattle.elf_lookup_tables.specs.Symbols.{IsDynamicSymbols, DynamicSymbolsInBounds};
+
+use crate::version_name_record::name_of;
+use elf_headers::{Fault, NameLimit, refused};
+use elf_lookup_tables::Symbols;
+use elf_record::Cause;
+use elf_source::{Counted, Source};
+use elf_table::{NameBuf, NameEnd};
+
+/// How many bytes of the name of a version are kept.
+const TOLD_BYTES: u16 = 256;
+
+/// The name of a version that is read.
+#[derive(Clone, Copy)]
+pub(crate) struct ResolvedVersionName {
+    /// Whether it is whole.
+    pub(crate) end: NameEnd,
+    /// The file offset of its first byte.
+    pub(crate) at: u64,
+}
+
+/// Tells the name of the version of a number, which the word of a symbol's version at a file offset
+/// has: into `name`, its first 256 bytes, by the first record that has the number; and where they stand
+/// in the file. After a fault `name` holds any bytes.
+///
+/// # Errors
+/// Those of the records before, as [`elf_versions::VersionCursor::advance`] has them; those of the
+/// name, as [`elf_table::Names::read`] has them, at what holds it; `VersionIndex` at the word where
+/// no record has the number. Else a fault of a read.
+pub(crate) fn parsed_member_name<S: Source>(
+    src: &mut Counted<S>,
+    symbols: &Symbols,
+    at: u64,
+    number: u16,
+    name: &mut NameBuf,
+) -> Result<ResolvedVersionName, Fault>
+    requires lies { DynamicSymbolsInBounds src.old.seen.size symbols.now }
+    ensures { CallDid src.old src.new (fault_of_result result) (max_versions_of symbols.now * 28 + parsed_member_bytes)
+        (λ file. (told : IsScopeOf) (is : AreWordsOf) (y : ℕ) →
+        IsDynamicSymbols file told.symbols symbols.now → at ≡ versym_at is y →
+        ReturnsVersionName file told is y (naming_of file number (readings file told.symbols.records))
+        src.old src.new name.new result) }
+{
+    let Some(named) = name_of(src, symbols, number)? else {
+        return refused(at, Cause::VersionIndex);
+    };
+    let off = u64::from(named.record.name);
+    let cap = NameLimit { bytes: TOLD_BYTES };
+    let end = named
+        .names
+        .read(src, off, named.record.named_at, cap, name)?;
+    let at = named.names.at().saturating_add(off);
+    Ok(ResolvedVersionName { end, at })
+}

@@ -1,0 +1,98 @@
+//! Which versions fit what is asked for.
+ghost use Rattle.std.specs.Prelude.{◌≡◌, ℕ, ◌+◌, ◌≤◌, List, IfSome};
+ghost use Rattle.elf_headers.specs.Ledger.{CallDid, IsRead, fault_of_result};
+ghost use Rattle.elf_loader.specs.Answering.{ReturnsFit};
+ghost use Rattle.elf_loader.specs.NumberSets.{has_number};
+ghost use Rattle.elf_wanted.specs.Wants.{asked_of};
+ghost use Rattle.elf_model.specs.Bytes.{field, slice};
+ghost use Rattle.elf_model.specs.Loader.{VersionWords as AreWordsOf, fits, version_fits};
+ghost use Rattle.elf_lookup_tables.specs.Symbols.{AreVersymTable};
+ghost use Rattle.elf_table.specs.Tables.{TableInBounds};
+ghost use Rattle.std.specs.Prelude.{Option};
+
+use crate::version_index_set::VersionIndexSet;
+use elf_hash::VersymEntry;
+use elf_headers::{Fault, fill, refused};
+use elf_lookup_tables::VersionWords;
+use elf_record::{Cause, u16_at, version_number};
+use elf_source::{Counted, Source};
+use elf_wanted::Asked;
+
+/// Whether the version of a symbol fits what is asked for, with the version's word.
+#[derive(Clone, Copy)]
+pub(crate) struct VersionMatch {
+    /// Whether it fits.
+    pub(crate) fits: bool,
+    /// The word, where there are words of versions.
+    pub(crate) version: Option<VersymEntry>,
+}
+
+/// Whether the version of the symbol of an index fits what is asked for, where the numbers of the
+/// wanted version are known: its word is read, where there are words of versions. Without such each
+/// symbol's version fits.
+///
+/// # Errors
+/// `VersionCut` at the header or entry that locates the words, where the symbol has none. Else a
+/// fault of the read.
+pub(crate) fn version_fits<S: Source>(
+    src: &mut Counted<S>,
+    words: &Option<VersionWords>,
+    asked: &Asked<'_>,
+    numbers: &VersionIndexSet,
+    index: u64,
+) -> Result<VersionMatch, Fault>
+    requires within { IfSome words.now (λ words. TableInBounds src.old.seen.size words.words) }
+    ensures { CallDid src.old src.new (fault_of_result result) 2 (λ file. (told : Option AreWordsOf) →
+        AreVersymTable told words.now → ReturnsFit file words.now index
+        (version_fits file told (asked_of asked.now) (has_number numbers.now) index) result) }
+{
+    let Some(words) = words else {
+        return Ok(VersionMatch {
+            fits: true,
+            version: None,
+        });
+    };
+    if index >= words.words.len() {
+        return refused(words.head, Cause::VersionCut);
+    }
+    let at = words.words.place(index);
+    let word = read_half(src, at)?;
+    Ok(VersionMatch {
+        fits: fits(asked, numbers, word),
+        version: Some(VersymEntry { word, at }),
+    })
+}
+
+// Whether a version, by its word, fits what is asked for.
+#[tactic(auto, unfolding(elf_model::specs::Loader::fits))]
+fn fits(asked: &Asked<'_>, numbers: &VersionIndexSet, word: u16) -> bool
+    ensures { result ≡ fits (asked_of asked.now) (has_number numbers.now) word }
+{
+    let number = version_number(word);
+    let is_hidden = word != number;
+    match asked {
+        Asked::NoVersion => number < 2 || !is_hidden,
+        Asked::Version(_) => numbers.contains(number),
+        Asked::DefaultVersion(_) => numbers.contains(number) && !is_hidden,
+    }
+}
+
+/// Reads the word of two bytes at an offset, and only these.
+///
+/// # Errors
+/// A fault of the read, or a refusal for want of budget, at the offset.
+pub fn read_half<S: Source>(src: &mut Counted<S>, at: u64) -> Result<u16, Fault>
+    requires { at + 2 ≤ src.old.seen.size }
+    ensures { CallDid src.old src.new (fault_of_result result) 2 (λ file. IsRead result (field file at 2)) }
+{
+    let mut bytes = [0; 2];
+    fill(src, at, &mut bytes)?;
+    Ok(half(&bytes))
+}
+
+// The number of a word of two bytes.
+fn half(bytes: &[u8; 2]) -> u16
+    ensures { (file : List ℕ) (at : ℕ) → bytes.now ≡ slice file at 2 → result ≡ field file at 2 }
+{
+    u16_at(bytes, 0)
+}

@@ -1,0 +1,93 @@
+//! Which symbols answer.
+ghost use Rattle.std.specs.Prelude.{◌≡◌, ◌+◌, ◌<◌, ◌≤◌, length};
+ghost use Rattle.elf_headers.specs.Ledger.{CallDid, fault_of_result};
+ghost use Rattle.elf_loader.specs.Answering.{SaysOf, IsSymbolWithVersym, ReturnsAnswer};
+ghost use Rattle.elf_loader.specs.NumberSets.{has_number};
+ghost use Rattle.elf_wanted.specs.Wants.{query_of};
+ghost use Rattle.elf_model.specs.Loader.{Symbols as AreSymbolsOf, answers};
+ghost use Rattle.elf_model.specs.Names.{pad64};
+ghost use Rattle.elf_lookup_tables.specs.Symbols.{IsDynamicSymbols, DynamicSymbolsInBounds};
+
+use crate::version_match::version_fits;
+use crate::version_index_set::VersionIndexSet;
+use crate::exported::is_exported;
+use elf_hash::{Matcher, SymbolMatch};
+use elf_headers::Fault;
+use elf_lookup_tables::Symbols;
+use elf_source::{Counted, Source};
+use elf_wanted::Wanted;
+
+/// The trial of symbols by what is wanted of them, where the numbers of the wanted version are known.
+#[derive(Clone, Copy)]
+pub struct VersionMatcher<'a> {
+    /// The symbols.
+    pub symbols: &'a Symbols,
+    /// What is wanted.
+    pub wanted: &'a Wanted<'a>,
+    /// The numbers of the wanted version.
+    pub numbers: &'a VersionIndexSet,
+}
+
+impl<'a> Matcher for VersionMatcher<'a> {
+    ghost symbols = { λ t. t.symbols.now.table.count };
+
+    ghost cost = { λ t. 26 + pad64 (length t.wanted.now.name.now + 1) };
+
+    ghost stands = { λ t file. IsSymbolWithVersym file t.symbols.now };
+
+    ghost lies = { λ t size.
+        DynamicSymbolsInBounds size t.symbols.now × (length t.wanted.now.name.now ≤ 4096) };
+
+    ghost is_of = { λ t file says.
+        SaysOf file t.symbols.now (query_of t.wanted.now) (has_number t.numbers.now) says };
+
+    fn tried<S: Source>(
+        &self,
+        src: &mut Counted<S>,
+        index: u64,
+    ) -> Result<Option<SymbolMatch>, Fault> {
+        answering(src, self.symbols, self.wanted, self.numbers, index)
+    }
+}
+
+// The symbol of an index, if it answers: it has the wanted name, it is offered, and its version
+// fits, where the numbers of the wanted version are known. It asks for the symbol, for its name and
+// for the word of its version.
+//
+// # Errors
+// A refusal of the symbol's name, as [`elf_table::Names::equals`] has it, at the symbol;
+// `VersionCut` at the header or entry that locates the words of versions, where the symbol has none.
+// Else a fault of a read.
+fn answering<S: Source>(
+    src: &mut Counted<S>,
+    symbols: &Symbols,
+    wanted: &Wanted<'_>,
+    numbers: &VersionIndexSet,
+    index: u64,
+) -> Result<Option<SymbolMatch>, Fault>
+    requires most { length wanted.now.name.now ≤ 4096 }
+    requires below { index < symbols.now.table.count }
+    requires lies { DynamicSymbolsInBounds src.old.seen.size symbols.now }
+    ensures { CallDid src.old src.new (fault_of_result result) (26 + pad64 (length wanted.now.name.now + 1))
+        (λ file. (told : AreSymbolsOf) → IsDynamicSymbols file told symbols.now →
+        ReturnsAnswer file symbols.now index
+        (answers file told (query_of wanted.now) (has_number numbers.now) index) result) }
+{
+    let symbol = symbols.table.symbol(src, index)?;
+    let place = symbols.table.place(index);
+    let off = u64::from(symbol.st_name);
+    if !symbols.names.equals(src, off, place, wanted.name)? {
+        return Ok(None);
+    }
+    if !is_exported(&symbol) {
+        return Ok(None);
+    }
+    let fit = version_fits(src, &symbols.words, &wanted.asked, numbers, index)?;
+    if !fit.fits {
+        return Ok(None);
+    }
+    Ok(Some(SymbolMatch {
+        symbol,
+        version: fit.version,
+    }))
+}

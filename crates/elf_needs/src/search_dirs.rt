@@ -1,0 +1,140 @@
+//! The search for a library.
+ghost use Rattle.std.specs.Prelude.{◌≤◌, length};
+ghost use Rattle.elf_needs.specs.Budget.{AsksFound};
+
+use crate::candidates::{FileSource, candidate};
+use crate::known_object::{KnownObject, MOST_OBJECTS, ObjectList};
+use crate::object_file::{ObjectFile, ReadAccount};
+use crate::walk::NeedsFault;
+use elf_libraries::{
+    CandidatePath, LibrarySearch, NeedingObject, SearchPaths, gather_dirs, named_path,
+};
+use memchr::memchr;
+use std::os::unix::fs::FileExt;
+use std::rt::Files;
+
+/// The folders that a command line tells, each text parted by colons, and what stands before each folder
+/// that is written with a slash at its front.
+#[derive(Clone, Copy)]
+pub struct SearchDirs<'a> {
+    /// Those that come before an object's DT_RUNPATH.
+    pub library: &'a [u8],
+    /// Those that come last.
+    pub default: &'a [u8],
+    /// The other root.
+    pub root: &'a [u8],
+}
+
+/// A search for a library of a machine: what it goes by, and what is left of the budget.
+#[derive(Drop)]
+pub(crate) struct Search<'s> {
+    /// The folders that are told.
+    pub folders: SearchDirs<'s>,
+    /// The machine.
+    pub machine: u16,
+    /// The path that is tried.
+    pub path: CandidatePath,
+    /// What is left of the budget, and what was asked for.
+    pub account: ReadAccount,
+}
+
+impl Search<'_> {
+    /// Looks for the library of a name that an object needs. Where it is found its path stands in the
+    /// search's. It is not made part of its caller, whose stack would hold its lists while a file is read.
+    ///
+    /// # Errors
+    /// A read failed.
+    #[inline(never)]
+    pub(crate) fn find<R: Files>(
+        &mut self,
+        rt: &R,
+        objects: &ObjectList,
+        needer: &KnownObject,
+        name: &[u8],
+    ) -> Result<Option<ObjectFile<FileSource<R::File>>>, NeedsFault>
+    where
+        R::File: FileExt,
+        ensures { AsksFound self.old.account self.new.account result }
+    {
+        if memchr(b'/', name).is_some() {
+            if !named_path(&mut self.path, self.folders.root, name) {
+                return Ok(None);
+            }
+            return candidate(rt, &self.path, self.machine, &mut self.account);
+        }
+        let mut lists = no_lists();
+        gather(objects, needer, &self.folders, &mut lists);
+        self.try_all(rt, LibrarySearch::new(self.folders.root, name, &lists))
+    }
+
+    /// Tries paths, one after another.
+    fn try_all<R: Files>(
+        &mut self,
+        rt: &R,
+        search: LibrarySearch<'_>,
+    ) -> Result<Option<ObjectFile<FileSource<R::File>>>, NeedsFault>
+    where
+        R::File: FileExt,
+        ensures { AsksFound self.old.account self.new.account result }
+    {
+        let mut search = search;
+        while search.next(&mut self.path) {
+            if let Some(found) = candidate(rt, &self.path, self.machine, &mut self.account)? {
+                return Ok(Some(found));
+            }
+        }
+        Ok(None)
+    }
+}
+
+/// No texts of folders. It is not made part of its caller, whose stack would hold them three times.
+#[inline(never)]
+fn no_lists<'a>() -> SearchPaths<'a> {
+    SearchPaths::new()
+}
+
+/// Puts the texts of the folders in which a library is looked for that an object needs. It is not made part
+/// of its caller, whose stack would hold the objects above while paths are tried.
+#[inline(never)]
+fn gather<'a>(
+    objects: &'a ObjectList,
+    needer: &KnownObject,
+    folders: &SearchDirs<'a>,
+    lists: &mut SearchPaths<'a>,
+) {
+    let mut chain = [NeedingObject::default(); MOST_OBJECTS];
+    let count = put_chain(objects, needer, &mut chain);
+    gather_dirs(&chain[..count], folders.library, folders.default, lists);
+}
+
+/// Puts an object, the one that first needed it, and so on up to the program, as many as there is room for,
+/// at the front of others. Answers how many.
+fn put_chain<'a>(
+    objects: &'a ObjectList,
+    known: &KnownObject,
+    chain: &mut [NeedingObject<'a>],
+) -> usize
+    ensures { result ≤ length chain.new }
+{
+    let mut known = *known;
+    for place in 0..chain.len() {
+        chain[place] = NeedingObject {
+            rpath: objects.text(known.links.rpath),
+            runpath: objects.text(known.links.runpath),
+            folder: objects.folder(&known),
+        };
+        let Some(above) = above(objects, &known) else {
+            return place + 1;
+        };
+        known = above;
+    }
+    chain.len()
+}
+
+/// The object that first needed another, if one did.
+fn above(objects: &ObjectList, known: &KnownObject) -> Option<KnownObject> {
+    match known.needer {
+        Some(needer) => objects.get(usize::from(needer)),
+        None => None,
+    }
+}

@@ -1,0 +1,11 @@
+use Rattle.std.proofs.Common.{arith, ◌∙◌}
+use Rattle.std.proofs.lemmas.List.{take_all}
+use Rattle.elf_note.proofs.dyn_cursor.entry_in.Goals as goal
+
+pub unwrap-requires : goal.unwrap-requires
+unwrap-requires c = grind arith
+
+pub returns : goal.returns
+returns c = λ file at is.
+    let found = rw c.unwrap.ensures at c.first_chunk.ensures.cases in
+    c.decode.ensures.stands file at (found.same ∙ take_all 16 c.args.row.now.bytes.now (omega (arith, c.requires)) ∙ is)

@@ -1,7 +1,0 @@
--- The bytes before the index are done, and those from it on are as they were.
-use Rattle.std.proofs.Common.{◌≡◌, ◌+◌, ◌++◌, take, drop}
-use Rattle.elf_model.specs.Style.{without_sections_from}
-use Rattle.elf_source.proofs.hiding.hide.Given as goal
-
-abbrev pub invariant-loop-index : goal.invariant-loop-index
-invariant-loop-index l = take l.index l.bytes ++ without_sections_from (l.fn.at + l.index) (drop l.index l.bytes) ≡ without_sections_from l.fn.at l.fn.bytes

@@ -1,0 +1,75 @@
+//! The export that writes a section of a file in memory in a layout of any size.
+ghost use Rattle.std.specs.Prelude.{◌≡◌, ◌≤◌, length};
+ghost use Rattle.elf_calls.specs.LentLayouts.{CountsWritten, IsPlaced, PlacesInMemory};
+
+use elf_calls::{
+    ApplyInput, CallerLayout, CallerLimits, CallerMissing, Told, limits_of, place_section,
+    report_status,
+};
+use elf_headers::HeaderStore;
+use elf_layout::Addresses;
+use elf_memory_rows::End;
+
+/// Writes the bytes of a section of a file that lies in memory, with its relocations applied, into
+/// memory of the caller, as [`elfsee_apply`](crate::apply_export::elfsee_apply) does, in a layout of any
+/// size that the caller lends: sections by rising index, and of each sort names in the rising order of
+/// their bytes. Where the section is refused for want of an address, `missing` tells which items would
+/// help, and the name of the symbol; else it is all 0 (psABI 4.4, Relocation). To find that out at most
+/// the headers, the relocation entry, its symbol and the symbol's name are asked for, which count, and
+/// nothing is told where the budget has no room for these.
+///
+/// Answers 0 where it was written, 1 where it is refused or the budget is used up, 3 where the section
+/// has more bytes than `out`, 4 where the limits or the room are outside their ranges, an index or a
+/// name of the layout is not above the one before it, or a name is none of 1 to 255 bytes without a NUL.
+#[unsafe(no_mangle)]
+pub extern "C" fn elfsee_apply_lent(
+    file: &[u8],
+    limits: &CallerLimits,
+    section: u16,
+    layout: &CallerLayout<'_>,
+    room: &mut [u8],
+    out: &mut [u8],
+    missing: &mut CallerMissing,
+    end: &mut End,
+) -> u32
+    ensures { IsPlaced file.now limits.now section layout.now (length room.old)
+        result out.old out.new missing.new end.new }
+{
+    let told = place_in(file, limits, section, layout, room, out, missing, end);
+    report_status(told, end)
+}
+
+/// Writes the section, and answers how that ended. The counts are written to `end`.
+fn place_in(
+    file: &[u8],
+    limits: &CallerLimits,
+    section: u16,
+    layout: &CallerLayout<'_>,
+    room: &mut [u8],
+    out: &mut [u8],
+    missing: &mut CallerMissing,
+    end: &mut End,
+) -> Told
+    ensures places { PlacesInMemory file.now limits.now section layout.now (length room.old)
+        out.old out.new end.new missing.new result }
+    ensures written { CountsWritten end.new result }
+    ensures within { end.new.written ≤ length out.new }
+    ensures clear { (end.new.cause ≡ 0) × (end.new.at ≡ 0) × (end.new.none ≡ 0) }
+{
+    end.clear();
+    missing.clear();
+    let Some(limits) = limits_of(limits, room.len()) else {
+        return Told::BadCall;
+    };
+    let Some(lent) = layout.lend() else {
+        return Told::BadCall;
+    };
+    let addresses = Addresses::lent(&lent);
+    let mut store = HeaderStore::over(room, limits.headers);
+    let wanted = ApplyInput {
+        section,
+        layout: &addresses,
+        budget: limits.budget,
+    };
+    place_section(file, &mut store, &wanted, out, missing, end)
+}
