@@ -7,13 +7,13 @@ use Rattle.elf_model.specs.Cost.{listing_cost}
 use Rattle.elf_model.specs.Listing.{ListingItem, end_text, lines_of, report_of}
 use Rattle.elf_model.specs.Report.{listing}
 use Rattle.elf_model.specs.Style.{Style}
-use Rattle.elf_headers.specs.Permitted.{style_of}
+use Rattle.elf_options.specs.Permitted.{style_of}
 use Rattle.elf_model.specs.declared.formats.Format.{Format}
 use Rattle.elf_model.specs.declared.causes.Refusal.{Refusal}
 use Rattle.elf_source.specs.Growth.{OutGrows}
 use Rattle.elf_source.specs.Source.{CountedState}
 use Rattle.elf_source.specs.Output.{OutState}
-use Rattle.elf_headers.specs.declared.caps.Caps.{Caps}
+use Rattle.elf_options.specs.declared.caps.Caps.{Caps}
 use Rattle.elf_headers.specs.declared.run_fault.RunFault.{RunFault}
 use Rattle.elf_headers.specs.declared.run_fault.RunFault.TheVariants.{Refused, Source, Out}
 use Rattle.elf_listing.specs.Reports.{WroteReport, AsksWithin, FaultSays, KeepsSourceUnlimited, WroteText}

@@ -15,9 +15,9 @@ use Rattle.elf_model.specs.declared.formats.Format.TheVariants.{Columns}
 use Rattle.elf_source.specs.Growth.{OutGrows}
 use Rattle.elf_source.specs.Source.{CountedState}
 use Rattle.elf_source.specs.Output.{OutState}
-use Rattle.elf_headers.specs.Permitted.{style_of}
-use Rattle.elf_headers.specs.declared.caps.Caps.{Caps}
-use Rattle.elf_headers.specs.declared.caps.Limits.{Limits}
+use Rattle.elf_options.specs.Permitted.{style_of}
+use Rattle.elf_options.specs.declared.caps.Caps.{Caps}
+use Rattle.elf_options.specs.declared.caps.Limits.{Limits}
 use Rattle.elf_headers.specs.declared.run_fault.RunFault.{RunFault}
 use Rattle.elf_hash.specs.Lookups.{find_bytes}
 use Rattle.elf_apply.specs.Applied.{apply_ceiling}

@@ -17,7 +17,7 @@ ghost use Rattle.elf_source.specs.Output.{IsOutFault, OutPuts};
 ghost use Rattle.elf_answers.specs.Answers.{WroteAnswer};
 ghost use Rattle.elf_answers.specs.Lookups.{resolved_answer};
 ghost use Rattle.elf_answers.specs.Requests.{RunsResolve};
-ghost use Rattle.elf_wanted.specs.Wants.{asked_of};
+ghost use Rattle.elf_options.specs.Wants.{asked_of};
 
 use elf_fields::{LinePrefix, show_named};
 use elf_headers::{HeaderStore, Limits, RunFault};
@@ -27,7 +27,7 @@ use elf_loader::{FoundSymbol, FoundVersion, SymbolLookup, VersionName, look_up};
 use elf_model::Format;
 use elf_source::{Counted, Out, OutFault, Sink, Source};
 use elf_table::{NameBuf, NameEnd};
-use elf_wanted::{Asked, Wanted, parse_query};
+use elf_options::{Asked, Wanted, parse_query};
 
 /// How a name is looked up, and how that is answered.
 #[derive(Clone, Copy)]

@@ -12,9 +12,9 @@ use Rattle.elf_model.proofs.BudgetLaws.{is_budget_fault}
 use Rattle.elf_source.specs.Output.{OutState}
 use Rattle.elf_source.specs.Source.{CountedState, ReadsUpTo, SetsLimit}
 use Rattle.elf_source.proofs.ReadsLaws.{ReadsUpTo-none, ReadsUpTo-then, ReadsUpTo-to}
-use Rattle.elf_headers.specs.Permitted.{style_of}
+use Rattle.elf_options.specs.Permitted.{style_of}
 use Rattle.elf_headers.specs.Stops.{stop_of}
-use Rattle.elf_headers.specs.declared.caps.Caps.{Caps}
+use Rattle.elf_options.specs.declared.caps.Caps.{Caps}
 use Rattle.elf_headers.specs.declared.fault.Fault.{Fault}
 use Rattle.elf_headers.specs.declared.fault.Fault.TheVariants.{Refused as Refuses, Source as Unread}
 use Rattle.elf_headers.specs.declared.run_fault.RunFault.{RunFault}

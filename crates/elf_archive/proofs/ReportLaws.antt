@@ -17,8 +17,8 @@ use Rattle.elf_source.specs.Source.{CountedState, ExceedsBudget, SourceState, Se
 use Rattle.elf_source.specs.Output.{OutState, SinkTakesPrefix}
 use Rattle.elf_source.proofs.LimitLaws.{budget_below, late_budget, within_budget}
 use Rattle.elf_source.proofs.PutsLaws.{SinkTakes-then, SinkTakesPrefix-then, SinkTakesPrefix-more, SinkTakesPrefix-all}
-use Rattle.elf_headers.specs.Permitted.{style_of}
-use Rattle.elf_headers.specs.declared.caps.Caps.{Caps}
+use Rattle.elf_options.specs.Permitted.{style_of}
+use Rattle.elf_options.specs.declared.caps.Caps.{Caps}
 use Rattle.elf_headers.specs.declared.run_fault.RunFault.{RunFault}
 use Rattle.elf_headers.specs.declared.run_fault.RunFault.TheVariants.{Refused, Source, Out}
 use Rattle.elf_listing.specs.Reports.{KeepsSourceUnlimited, WroteText, WroteRefusal, ReturnsStop}

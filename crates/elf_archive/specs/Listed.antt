@@ -16,8 +16,8 @@ use Rattle.elf_source.specs.Growth.{OutGrows}
 use Rattle.elf_source.specs.Output.{FailsOutput, KeepsDeferred, OutState, IsOutFault}
 use Rattle.elf_source.specs.declared.faults.OutFault.{OutFault}
 use Rattle.elf_source.specs.declared.holding_sink.DeferredLine.{DeferredLine}
-use Rattle.elf_headers.specs.Permitted.{style_of}
-use Rattle.elf_headers.specs.declared.caps.Caps.{Caps}
+use Rattle.elf_options.specs.Permitted.{style_of}
+use Rattle.elf_options.specs.declared.caps.Caps.{Caps}
 use Rattle.elf_headers.specs.declared.run_fault.RunFault.{RunFault}
 use Rattle.elf_headers.specs.declared.run_fault.RunFault.TheVariants.{Refused, Source, Out}
 use Rattle.elf_listing.specs.Reports.{WroteText}

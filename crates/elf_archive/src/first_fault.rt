@@ -5,7 +5,7 @@ ghost use Rattle.elf_model.specs.ArchiveCost.{allowance, archive_ceiling, archiv
 ghost use Rattle.elf_model.specs.Checks.{first_refusal};
 ghost use Rattle.elf_model.specs.FileLists.{archive_fault};
 ghost use Rattle.elf_model.specs.declared.causes.Refusal.{Refusal as Refuses};
-ghost use Rattle.elf_headers.specs.Permitted.{style_of};
+ghost use Rattle.elf_options.specs.Permitted.{style_of};
 ghost use Rattle.elf_listing.specs.Reports.{KeepsSourceUnlimited};
 ghost use Rattle.elf_archive.specs.FirstFault.{FindsFault, FindsFirst, ReadTells, fault_from};
 ghost use Rattle.elf_archive.specs.Listed.{AsksInArchive, GoesThrough, IsAll};

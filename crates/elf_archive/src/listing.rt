@@ -6,7 +6,7 @@ ghost use Rattle.elf_model.specs.ArchiveCost.{allowance, any_refused, archive_ce
 ghost use Rattle.elf_model.specs.Checks.{first_refusal};
 ghost use Rattle.elf_model.specs.Listing.{fault_of};
 ghost use Rattle.elf_model.specs.declared.causes.Refusal.{Refusal as Refuses};
-ghost use Rattle.elf_headers.specs.Permitted.{style_of};
+ghost use Rattle.elf_options.specs.Permitted.{style_of};
 ghost use Rattle.elf_listing.specs.Reports.{KeepsSourceUnlimited};
 ghost use Rattle.elf_source.specs.Growth.{OutGrows};
 ghost use Rattle.elf_archive.specs.Listed.{ArchiveSays, AsksInArchive, GoesThrough, GoesThroughMember, HoldsPart, IsAll};

@@ -2,7 +2,7 @@
 ghost use Rattle.std.specs.Prelude.{◌≡◌, IfOk, IfSome};
 ghost use Rattle.elf_model.specs.Budget.{IsBudgetRefusal};
 ghost use Rattle.elf_model.specs.FileLists.{placed_after};
-ghost use Rattle.elf_headers.specs.Permitted.{style_of};
+ghost use Rattle.elf_options.specs.Permitted.{style_of};
 ghost use Rattle.elf_archive.specs.Listed.{EndsPart, GoesThroughMember, HoldsPart, ListsMember};
 ghost use Rattle.elf_archive.specs.Members.{extent_of};
 

@@ -1,12 +1,12 @@
 //! A name looked for over several files in order.
 ghost use Rattle.elf_binding.specs.Binds.{BindsAcross};
 ghost use Rattle.elf_loader.specs.Lookups.{AreShort};
-ghost use Rattle.elf_wanted.specs.Wants.{query_of};
+ghost use Rattle.elf_options.specs.Wants.{query_of};
 
 use crate::object::Object;
 use elf_headers::Fault;
 use elf_source::Source;
-use elf_wanted::Wanted;
+use elf_options::Wanted;
 
 /// What looking for a name over several files answers.
 #[derive(Clone, Copy)]

@@ -11,7 +11,7 @@ ghost use Rattle.elf_model.specs.Bindings.{definer_by, definition_in, definer_wa
 ghost use Rattle.elf_model.specs.LoaderFind.{record_cost, version_indices};
 ghost use Rattle.elf_model.specs.Names.{pad64};
 ghost use Rattle.elf_lookup_tables.specs.Symbols.{DynamicSymbolsInBounds};
-ghost use Rattle.elf_wanted.specs.Wants.{query_of};
+ghost use Rattle.elf_options.specs.Wants.{query_of};
 
 use crate::ready::has_nul;
 use elf_hash::{ChainResult, HashTable, Matcher, SymbolMatch, counts, excludes, walk};
@@ -20,7 +20,7 @@ use elf_loader::{VersionIndexSet, VersionMatcher, version_indices};
 use elf_lookup_tables::LookupTables;
 use elf_record::numbers::SHN_UNDEF;
 use elf_source::{Counted, Source};
-use elf_wanted::Wanted;
+use elf_options::Wanted;
 
 /// The trial of symbols by what is wanted of them, of which those that are undefined don't answer.
 #[derive(Clone, Copy)]

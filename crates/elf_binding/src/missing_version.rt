@@ -15,7 +15,7 @@ use elf_loader::version_indices;
 use elf_lookup_tables::{Symbols, VersionRecordTable};
 use elf_record::VersionKind;
 use elf_source::{Counted, Source};
-use elf_wanted::Asked;
+use elf_options::Asked;
 
 /// Whether a file defines versions, and none by a name of at most 4,096 bytes.
 ///

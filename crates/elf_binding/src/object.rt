@@ -5,7 +5,7 @@ ghost use Rattle.elf_binding.specs.Kept.{KeepsScope, source_of, why_back};
 ghost use Rattle.elf_binding.specs.Looks.{LooksInObject, Prepares};
 ghost use Rattle.elf_binding.specs.Sought.{CountsHashed, LooksForVersion, ReadsFileName, Seeks};
 ghost use Rattle.elf_loader.specs.Lookups.{AreShort};
-ghost use Rattle.elf_wanted.specs.Wants.{query_of};
+ghost use Rattle.elf_options.specs.Wants.{query_of};
 
 use crate::definition::find_definer;
 use crate::hashed::hashed_symbols;
@@ -19,7 +19,7 @@ use elf_lookup_tables::{LookupTables, find_lookup_tables};
 use elf_source::{Counted, Source};
 use elf_table::NameBuf;
 use elf_versions::VersionRecord;
-use elf_wanted::Wanted;
+use elf_options::Wanted;
 use std::marker::Model;
 
 /// A file that names are looked for in: its source, and what a lookup in it is made in.

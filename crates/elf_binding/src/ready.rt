@@ -6,14 +6,14 @@ ghost use Rattle.elf_headers.specs.Ledger.{CallDid, fault_of_result};
 ghost use Rattle.elf_model.specs.LoaderScope.{LookupTables as IsScopeOf};
 ghost use Rattle.elf_lookup_tables.specs.LookupTablesFound.{IsLookupTables, LookupTablesInBounds};
 ghost use Rattle.elf_lookup_tables.specs.Symbols.{VersionRecordsInBounds};
-ghost use Rattle.elf_wanted.specs.Wants.{asked_of};
+ghost use Rattle.elf_options.specs.Wants.{asked_of};
 
 use elf_hash::{HashTable, counts};
 use elf_headers::Fault;
 use elf_loader::version_indices;
 use elf_lookup_tables::{LookupTables, VersionRecordTable};
 use elf_source::{Counted, Source};
-use elf_wanted::Asked;
+use elf_options::Asked;
 
 /// The hash table with its counts, where these and the file's records of versions are such that no
 /// lookup is refused before its walk: each record can be read, and the strings of its name end in a NUL.

@@ -5,11 +5,11 @@ ghost use Rattle.elf_binding.specs.Sought.{asked_if};
 ghost use Rattle.elf_loader.specs.Lookups.{AreShort};
 ghost use Rattle.elf_model.specs.BindingLines.{reference_name};
 ghost use Rattle.elf_model.specs.Loader.{asked_name};
-ghost use Rattle.elf_wanted.specs.Wants.{query_of};
+ghost use Rattle.elf_options.specs.Wants.{query_of};
 
 use arrayvec::ArrayVec;
 use elf_table::NameBuf;
-use elf_wanted::{Asked, Wanted};
+use elf_options::{Asked, Wanted};
 
 /// How many bytes a name with its version has at most: both with what stands between them.
 const SHOWN_BYTES: usize = 4096 + 1 + 4096;

@@ -2,8 +2,8 @@
 use Rattle.std.proofs.Common.{◌≡◌, ℕ, Bool, true, false, if◌then◌else◌, List, None, Some, refl, sym, ap, subst, ◌∙◌}
 use Rattle.elf_model.specs.Choice.{EveryRow}
 use Rattle.elf_model.specs.Style.{Style}
-use Rattle.elf_wanted.specs.Names.{texts_of}
-use Rattle.elf_name_lists.specs.NamedRows.{named_style}
+use Rattle.elf_options.specs.Names.{texts_of}
+use Rattle.elf_options.specs.NamedRows.{named_style}
 use Rattle.elf_calls.specs.Asked.{AsksListing, GivesListing, IsChosenPart, BorrowedTexts, AreLendableNames, every_row_of, has_versions_in, style_of_flags}
 use Rattle.elf_calls.specs.declared.caller_listing.CallerListing.{CallerListing}
 

@@ -3,7 +3,7 @@ use Rattle.std.proofs.Common.{◌≡◌, ℕ, ◌+◌, ◌-◌, ◌<◌, ◌≤�
 use Rattle.std.specs.Borrow.{Bor}
 use Rattle.std.specs.Cmp.Lexicographic.{slice_cmp}
 use Rattle.std.proofs.lemmas.Bool.{cases_lt}
-use Rattle.elf_name_lists.specs.NameLists.{IsRowName}
+use Rattle.elf_options.specs.NameLists.{IsRowName}
 use Rattle.elf_calls.specs.Asked.{BorrowedTexts, AreLendableNames, IsLendableNameAt}
 
 some_name : (names : BorrowedTexts) → 0 < length names → Bor (List ℕ)

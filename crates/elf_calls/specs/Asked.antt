@@ -11,9 +11,9 @@ use Rattle.elf_model.specs.Listing.{RELOCS, SYMBOLS, VERSIONS, all_parts, has}
 use Rattle.elf_model.specs.Style.{Style}
 use Rattle.elf_model.specs.declared.formats.Format.{Format}
 use Rattle.elf_model.specs.declared.formats.Format.TheVariants.{Columns, Object}
-use Rattle.elf_wanted.specs.Names.{NeverDescend, texts_of}
-use Rattle.elf_name_lists.specs.NameLists.{IsRowName}
-use Rattle.elf_name_lists.specs.NamedRows.{named_style}
+use Rattle.elf_options.specs.Names.{NeverDescend, texts_of}
+use Rattle.elf_options.specs.NameLists.{IsRowName}
+use Rattle.elf_options.specs.NamedRows.{named_style}
 use Rattle.elf_calls.specs.declared.caller_listing.CallerListing.{CallerListing}
 
 -- names that are lent

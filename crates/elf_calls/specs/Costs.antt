@@ -1,7 +1,7 @@
 -- How much of a file a listing asks for at most.
 use Rattle.std.specs.Prelude.{ℕ, ◌≡◌, ◌-◌, ◌^◌, ◌⊎◌, min}
 use Rattle.elf_model.specs.Cost.{ceiling}
-use Rattle.elf_headers.specs.Permitted.{AreHeaders, AreNameBytes}
+use Rattle.elf_options.specs.Permitted.{AreHeaders, AreNameBytes}
 use Rattle.elf_calls.specs.declared.limits.CallerLimits.{CallerLimits}
 
 -- the most that fits, and that for limits outside their ranges

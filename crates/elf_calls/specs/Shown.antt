@@ -1,11 +1,11 @@
 -- What a listing of a file in memory gives its caller.
 use Rattle.elf_model.specs.Style.{Style, standard}
-use Rattle.elf_headers.specs.Permitted.{style_of}
+use Rattle.elf_options.specs.Permitted.{style_of}
 use Rattle.std.specs.Prelude.{ℕ, ◌≡◌, ◌≤◌, List, ◌∷◌, ◌++◌, take, length, Option, None, Some, IfSome}
 use Rattle.elf_model.specs.Budget.{IsBudgeted}
 use Rattle.elf_model.specs.Cost.{listing_cost}
 use Rattle.elf_model.specs.declared.causes.Refusal.{Refusal}
-use Rattle.elf_headers.specs.declared.caps.Caps.{Caps}
+use Rattle.elf_options.specs.declared.caps.Caps.{Caps}
 use Rattle.elf_calls.specs.Asked.{AsksListing, BorrowedTexts, parts_in, style_in}
 use Rattle.elf_calls.specs.Limits.{AreCaps, budget_of, headers_of}
 use Rattle.elf_calls.specs.Told.{IsStatus, Untouched}

@@ -1,11 +1,10 @@
 //! A listing, as a caller asks for it.
-ghost use Rattle.elf_wanted.specs.Names.{NeverDescend};
+ghost use Rattle.elf_options.specs.Names.{NeverDescend};
 
 use elf_headers::{NameLimit, Style};
 use elf_model::Format;
-use elf_name_lists::style_with_names;
+use elf_options::{RowFilter, style_with_names};
 use elf_record::Parts;
-use elf_wanted::RowFilter;
 
 /// A listing, as a caller asks for it: which parts it has, and how its rows are shown, but for how
 /// many bytes of a name.
@@ -31,7 +30,7 @@ pub struct CallerListing<'n> {
 impl<'n> CallerListing<'n> {
     ghost use Rattle.std.specs.Prelude.{◌≡◌, ℕ};
     ghost use Rattle.elf_model.specs.Style.{standard};
-    ghost use Rattle.elf_headers.specs.Permitted.{style_of};
+    ghost use Rattle.elf_options.specs.Permitted.{style_of};
     ghost use Rattle.elf_calls.specs.Asked.{caller_style};
 
     /// Every row of some parts, in the standards' names, by the section headers where there are some, and

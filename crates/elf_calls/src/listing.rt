@@ -1,7 +1,7 @@
 //! A listing of a file in memory, written to memory that a caller lent.
 ghost use Rattle.std.specs.Prelude.{◌≡◌, ◌≤◌, IfSome, length};
 ghost use Rattle.elf_model.specs.Cost.{listing_cost};
-ghost use Rattle.elf_headers.specs.Permitted.{style_of};
+ghost use Rattle.elf_options.specs.Permitted.{style_of};
 ghost use Rattle.elf_calls.specs.Shown.{ListsInMemory};
 
 use crate::lent_sink::ProbeSink;

@@ -6,7 +6,7 @@ ghost use Rattle.std.specs.Cmp.Lexicographic.{slice_cmp};
 ghost use Rattle.std.specs.Ordering.{is_lt, nat_cmp};
 ghost use Rattle.elf_calls.specs.Asked.{AreLendableNames, IsLendableNameAt};
 
-use elf_name_lists::is_valid_row_name;
+use elf_options::is_valid_row_name;
 
 /// Whether rows may be chosen by these names: each can be looked for ([`is_valid_row_name`]), and none is below
 /// the one before it.

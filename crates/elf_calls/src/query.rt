@@ -2,10 +2,10 @@
 ghost use Rattle.std.specs.Prelude.{◌≡◌, ◌≤◌, IfSome, MatchBool, length};
 ghost use Rattle.elf_loader.specs.Lookups.{AreShort};
 ghost use Rattle.elf_model.specs.Loader.{asked_name};
-ghost use Rattle.elf_wanted.specs.Wants.{asked_of, query_of};
+ghost use Rattle.elf_options.specs.Wants.{asked_of, query_of};
 ghost use Rattle.elf_calls.specs.Queries.{IsPermitted, asked_version, asks_of, goes_by_segments, wanted_by};
 
-use elf_wanted::{Asked, Wanted};
+use elf_options::{Asked, Wanted};
 
 /// The most bytes of a name, and of a version.
 const NAME_BYTES: usize = 4_096;

@@ -18,9 +18,9 @@ use Rattle.elf_source.specs.declared.faults.OutFault.{OutFault}
 use Rattle.elf_source.specs.declared.holding_sink.DeferredLine.{DeferredLine}
 use Rattle.elf_source.proofs.LineLaws.{broken_takes, line_ends, line_fails, line_front}
 use Rattle.elf_source.proofs.PutsLaws.{SinkTakes-then, SinkTakesPrefix-then, SinkTakesPrefix-more}
-use Rattle.elf_headers.specs.Permitted.{style_of}
-use Rattle.elf_headers.specs.declared.caps.Caps.{Caps}
-use Rattle.elf_headers.specs.declared.caps.Limits.{Limits}
+use Rattle.elf_options.specs.Permitted.{style_of}
+use Rattle.elf_options.specs.declared.caps.Caps.{Caps}
+use Rattle.elf_options.specs.declared.caps.Limits.{Limits}
 use Rattle.elf_headers.specs.declared.run_fault.RunFault.{RunFault}
 use Rattle.elf_headers.specs.declared.run_fault.RunFault.TheVariants.{Refused, Source, Out}
 use Rattle.elf_listing.specs.Reports.{WroteReport, WroteText}

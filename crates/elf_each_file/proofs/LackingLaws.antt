@@ -5,8 +5,8 @@ use Rattle.elf_model.specs.TraitWords.{Required, first_lacking, has_word, is_pro
 use Rattle.elf_model.specs.declared.formats.Format.{Format}
 use Rattle.elf_model.specs.declared.traits.TraitColumn.{TraitColumn}
 use Rattle.elf_model.specs.declared.traits.Traits.{Traits}
-use Rattle.elf_wanted.specs.Required.{required_word, required_words}
-use Rattle.elf_wanted.specs.declared.required.RequiredTrait.{RequiredTrait}
+use Rattle.elf_options.specs.Required.{required_word, required_words}
+use Rattle.elf_options.specs.declared.required.RequiredTrait.{RequiredTrait}
 
 parted : (words : List RequiredTrait) (i : ℕ) (d : RequiredTrait) → i < length words → drop i words ≡ slice_index_or words i d ∷ drop (suc i) words
 parted [] i d low = absurd (omega arith)

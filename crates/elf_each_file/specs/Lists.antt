@@ -10,7 +10,7 @@ use Rattle.elf_model.specs.declared.causes.Refusal.{Refusal}
 use Rattle.elf_model.specs.declared.states.FileMagic.{FileMagic}
 use Rattle.elf_model.specs.declared.states.FileMagic.TheVariants as sort
 use Rattle.elf_source.specs.Output.{OutState, SinkTakes, SinkTakesPrefix}
-use Rattle.elf_headers.specs.declared.caps.Limits.{Limits}
+use Rattle.elf_options.specs.declared.caps.Limits.{Limits}
 use Rattle.elf_headers.specs.declared.run_fault.RunFault.{RunFault}
 use Rattle.elf_headers.specs.declared.run_fault.RunFault.TheVariants.{Refused, Source, Out}
 use Rattle.elf_listing.specs.Reports.{WroteText}

@@ -6,8 +6,8 @@ use Rattle.elf_model.specs.declared.states.FileStatus.{FileStatus}
 use Rattle.elf_source.specs.Output.{OutPuts, OutState}
 use Rattle.elf_source.specs.Source.{CountedState}
 use Rattle.elf_source.specs.declared.faults.OutFault.{OutFault}
-use Rattle.elf_headers.specs.Permitted.{style_of}
-use Rattle.elf_headers.specs.declared.caps.Caps.{Caps}
+use Rattle.elf_options.specs.Permitted.{style_of}
+use Rattle.elf_options.specs.declared.caps.Caps.{Caps}
 use Rattle.elf_many.specs.Checked.{FailsRead}
 use Rattle.elf_many.specs.Statuses.{state_status}
 use Rattle.elf_each_file.specs.CheckedFile.{AsksNoMore, FindsState, check_ceiling, check_cost}

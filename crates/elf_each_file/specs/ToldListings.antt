@@ -9,8 +9,8 @@ use Rattle.elf_model.specs.declared.states.FileStatus.TheVariants.{Unread}
 use Rattle.elf_source.specs.Output.{OutPuts, OutState}
 use Rattle.elf_source.specs.Source.{CountedState}
 use Rattle.elf_source.specs.declared.faults.OutFault.{OutFault}
-use Rattle.elf_headers.specs.Permitted.{style_of}
-use Rattle.elf_headers.specs.declared.caps.Limits.{Limits}
+use Rattle.elf_options.specs.Permitted.{style_of}
+use Rattle.elf_options.specs.declared.caps.Limits.{Limits}
 use Rattle.elf_headers.specs.declared.run_fault.RunFault.{RunFault}
 use Rattle.elf_headers.specs.declared.run_fault.RunFault.TheVariants.{Refused, Source, Out}
 use Rattle.elf_many.specs.Checked.{FailsRead}

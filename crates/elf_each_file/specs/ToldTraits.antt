@@ -9,7 +9,7 @@ use Rattle.elf_model.specs.declared.traits.Traits.{Traits}
 use Rattle.elf_source.specs.Output.{OutPuts, OutState}
 use Rattle.elf_source.specs.Source.{CountedState}
 use Rattle.elf_source.specs.declared.faults.OutFault.{OutFault}
-use Rattle.elf_wanted.specs.Required.{required_words}
+use Rattle.elf_options.specs.Required.{required_words}
 use Rattle.elf_many.specs.Checked.{FailsRead}
 use Rattle.elf_many.specs.Statuses.{state_status}
 use Rattle.elf_each_file.specs.CheckedFile.{AsksNoMore}

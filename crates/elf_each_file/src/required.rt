@@ -1,11 +1,11 @@
 //! What a file lacks of what is required.
 ghost use Rattle.std.specs.Prelude.{◌≡◌};
 ghost use Rattle.elf_model.specs.TraitWords.{has_word, is_program, lacking};
-ghost use Rattle.elf_wanted.specs.Required.{required_word, required_words};
+ghost use Rattle.elf_options.specs.Required.{required_word, required_words};
 
 use elf_lines::column_word;
 use elf_model::{ProgramKind, TraitColumn, Traits};
-use elf_wanted::RequiredTrait;
+use elf_options::RequiredTrait;
 
 /// The column of the first of some words that a file lacks, if it lacks one. None is required of a file
 /// that is neither a program nor a library.

@@ -1,7 +1,7 @@
 //! The listing of a file, by its sort.
 ghost use Rattle.std.specs.Prelude.{◌≡◌, ◌+◌, ◌≤◌, ◌^◌, ℕ, List, Some, IfErr};
 ghost use Rattle.elf_archive.specs.Listed.{ArchiveSays, IsAll};
-ghost use Rattle.elf_headers.specs.Permitted.{style_of};
+ghost use Rattle.elf_options.specs.Permitted.{style_of};
 ghost use Rattle.elf_listing.specs.Reports.{KeepsSourceUnlimited};
 ghost use Rattle.elf_each_file.specs.CheckedFile.{AsksNoMore};
 ghost use Rattle.elf_each_file.specs.Lists.{ListsSort, sort_ceiling, sort_cost};

@@ -2,7 +2,7 @@
 ghost use Rattle.std.specs.Prelude.{◌≡◌, IfOk};
 ghost use Rattle.elf_source.specs.Output.{OutPuts};
 ghost use Rattle.elf_model.specs.TraitWords.{traits_status, traits_text};
-ghost use Rattle.elf_wanted.specs.Required.{required_words};
+ghost use Rattle.elf_options.specs.Required.{required_words};
 
 use crate::file_traits::traits_within;
 use crate::required::lacking;
@@ -11,7 +11,7 @@ use elf_lines::{show_check, show_missing_trait, show_traits};
 use elf_many::{FileVisitor, status};
 use elf_model::{FileStatus, Format, Traits};
 use elf_source::{Counted, DeferredSink, Out, OutFault, RangeSource, Sink, Source};
-use elf_wanted::RequiredTrait;
+use elf_options::RequiredTrait;
 use std::marker::Model;
 
 /// The rule by which files' traits are told of.

@@ -1,6 +1,5 @@
 pub mod Faults
 pub mod Ledger
 pub mod Load
-pub mod Permitted
 pub mod Stops
 pub mod Store

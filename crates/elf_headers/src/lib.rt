@@ -4,7 +4,6 @@
 #![tactic(auto)]
 
 mod header_buffer;
-mod caps;
 mod fault;
 mod file_header;
 mod located_read;
@@ -16,8 +15,8 @@ mod segment_loading;
 mod run_fault;
 mod store;
 
+pub use elf_options::{Caps, Limits, NameLimit, Style};
 pub use header_buffer::HEADERS_BUFFER_BYTES;
-pub use caps::{Caps, Limits, NameLimit, Style};
 pub use fault::{Fault, refusal_at, refused};
 pub use file_header::{header, refused_length};
 pub use located_read::fill;

@@ -11,8 +11,8 @@ use Rattle.elf_table.specs.Cursors.{CursorState, GivesRow, HoldsRows, unread_byt
 use Rattle.elf_table.specs.Tables.{Rows, size_of}
 use Rattle.elf_headers.specs.declared.fault.Fault.{Fault}
 use Rattle.elf_table.specs.declared.row.Row.{Row}
-use Rattle.elf_headers.specs.Permitted.{style_of}
-use Rattle.elf_headers.specs.declared.caps.Style.{Style as Shape}
+use Rattle.elf_options.specs.Permitted.{style_of}
+use Rattle.elf_options.specs.declared.caps.Style.{Style as Shape}
 use Rattle.elf_listing.specs.Kinds.{row_size, row_items, own_cost, rows_cost, IsRowOf, KindOf}
 use Rattle.elf_listing.specs.RowCursors.{AdvancesRows, EndsListed, GivesListed, reading, rows_to_give, rows_listed}
 use Rattle.elf_listing.specs.declared.row_cursor.RowCursor.{RowCursor}

@@ -17,7 +17,7 @@ use Rattle.elf_note.specs.declared.note_row.NoteRow.{NoteRow}
 use Rattle.elf_source.specs.Output.{OutState}
 use Rattle.elf_headers.specs.Faults.{IsOfRead}
 use Rattle.elf_table.specs.Windows.{WindowState, HoldsBytes, StillHolds}
-use Rattle.elf_headers.specs.declared.caps.Style.{Style as Shape}
+use Rattle.elf_options.specs.declared.caps.Style.{Style as Shape}
 use Rattle.elf_headers.specs.declared.fault.Fault.{Fault}
 use Rattle.elf_headers.specs.declared.fault.Fault.TheVariants.{Refused, Source as Unread}
 use Rattle.elf_table.specs.declared.names.NameEnd.{NameEnd}

@@ -1,5 +1,5 @@
 -- What calls of a listing did one behind another.
-use Rattle.elf_headers.specs.Permitted.{style_of}
+use Rattle.elf_options.specs.Permitted.{style_of}
 use Rattle.std.proofs.Common.{◌≡◌, ℕ, ◌+◌, ◌-◌, ◌<◌, Bool, List, ◌++◌, Some, Result, Ok, Err, sym, ap, ◌∙◌, subst, arith, zero-add}
 use Rattle.elf_model.specs.Cost.{sum_over}
 use Rattle.elf_model.specs.Listing.{ListingItem, each}
@@ -9,7 +9,7 @@ use Rattle.elf_model.proofs.ListingLemmas.{rows_split}
 use Rattle.elf_source.specs.declared.source.Source.{Ghosts as Sources}
 use Rattle.elf_source.specs.declared.sink.Sink.{Ghosts as Sinks}
 use Rattle.elf_source.proofs.GrowthLaws.{grows_then}
-use Rattle.elf_headers.specs.declared.caps.Style.{Style}
+use Rattle.elf_options.specs.declared.caps.Style.{Style}
 use Rattle.elf_table.specs.declared.file.File.{File}
 use Rattle.elf_listing.specs.HeadersListed.{ListsPair, asked_items}
 use Rattle.elf_listing.specs.Parts.{AwaitsAsked, asked_cost, relocations_part, symbols_part}

@@ -1,5 +1,5 @@
 -- The report of a listing, and of one that a budget cuts short.
-use Rattle.elf_headers.specs.Permitted.{style_of}
+use Rattle.elf_options.specs.Permitted.{style_of}
 use Rattle.std.proofs.Common.{◌≡◌, ℕ, ◌+◌, ◌^◌, ◌<◌, ◌≤◌, List, ◌∷◌, ◌++◌, length, None, Some, Ok, Err, Option, option_map, refl, sym, ap, ◌∙◌, inl, inr, ◌⊎◌, append-nil, arith}
 use Rattle.elf_model.specs.Budget.{IsBudgetRefusal, IsBudgeted, IsReport}
 use Rattle.elf_model.specs.Cost.{listing_cost}
@@ -16,7 +16,7 @@ use Rattle.elf_source.specs.Output.{OutState, SinkTakes, SinkTakesPrefix}
 use Rattle.elf_source.proofs.LimitLaws.{budget_below}
 use Rattle.elf_source.proofs.PutsLaws.{SinkTakes-then, SinkTakesPrefix-then, SinkTakesPrefix-more, SinkTakesPrefix-all}
 use Rattle.elf_headers.specs.Faults.{IsReadRefusal}
-use Rattle.elf_headers.specs.declared.caps.Caps.{Caps}
+use Rattle.elf_options.specs.declared.caps.Caps.{Caps}
 use Rattle.elf_headers.specs.declared.run_fault.RunFault.{RunFault}
 use Rattle.elf_headers.specs.declared.run_fault.RunFault.TheVariants.{Refused, Source, Out}
 use Rattle.elf_listing.specs.Reports.{WroteReport, WroteText, WroteRefusal, ReturnsStop}

@@ -18,8 +18,8 @@ use Rattle.elf_source.specs.Output.{OutState, SinkTakes, SinkTakesPrefix}
 use Rattle.elf_source.proofs.PutsLaws.{SinkTakes-nothing}
 use Rattle.elf_headers.specs.Faults.{IsOfRead}
 use Rattle.elf_table.specs.NamesRead.{NameRead, shown_by}
-use Rattle.elf_headers.specs.declared.caps.Style.{Style as Shape}
-use Rattle.elf_wanted.specs.Chosen.{choice_of}
+use Rattle.elf_options.specs.declared.caps.Style.{Style as Shape}
+use Rattle.elf_options.specs.Chosen.{choice_of}
 use Rattle.elf_headers.specs.declared.fault.Fault.{Fault}
 use Rattle.elf_headers.specs.declared.fault.Fault.TheVariants.{Refused, Source}
 use Rattle.elf_table.specs.declared.names.NameEnd.{NameEnd}

@@ -25,9 +25,9 @@ use Rattle.elf_source.specs.declared.sink.Sink.{Ghosts as Sinks}
 use Rattle.elf_table.specs.NamesRead.{NameRead, shown_by}
 use Rattle.elf_table.specs.declared.names.NameEnd.{NameEnd}
 use Rattle.elf_table.specs.declared.names.NameEnd.TheVariants.{Whole as NameWhole, Cut as NameCut}
-use Rattle.elf_wanted.specs.Chosen.{choice_of}
-use Rattle.elf_wanted.specs.Names.{texts_of}
-use Rattle.elf_wanted.specs.declared.row_filter.RowFilter.{RowFilter as Choice}
+use Rattle.elf_options.specs.Chosen.{choice_of}
+use Rattle.elf_options.specs.Names.{texts_of}
+use Rattle.elf_options.specs.declared.row_filter.RowFilter.{RowFilter as Choice}
 use Rattle.elf_listing.specs.Shows.{ListingReads, WroteUntilStop}
 use Rattle.elf_listing.specs.Suffixed.{SuffixRead, suffix_read}
 use Rattle.elf_listing.specs.declared.listing.Listing.{Listing}

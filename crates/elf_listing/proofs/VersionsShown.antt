@@ -13,8 +13,8 @@ use Rattle.elf_headers.specs.declared.fault.Fault.TheVariants.{Refused, Source a
 use Rattle.elf_source.specs.Output.{OutState}
 use Rattle.elf_source.specs.Source.{CountedState, ReadsUpTo}
 use Rattle.elf_headers.specs.Ledger.{CallDid}
-use Rattle.elf_headers.specs.Permitted.{style_of}
-use Rattle.elf_headers.specs.declared.caps.Style.{Style as Shape}
+use Rattle.elf_options.specs.Permitted.{style_of}
+use Rattle.elf_options.specs.declared.caps.Style.{Style as Shape}
 use Rattle.elf_versions.specs.Reading.{IsCursorOf, GivesVersion, IsVersion, KeepsWalk, LeavesWalk, StepsIn, ReturnsVersion, VersionCursorState, unread, versions_left, why_stopped_now}
 use Rattle.elf_versions.proofs.TakenLaws.{going-did, unread-fewer}
 use Rattle.elf_versions.specs.declared.record.VersionRecord.{VersionRecord}

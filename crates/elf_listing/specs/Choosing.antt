@@ -1,6 +1,6 @@
 -- Which rows that end in the name of a symbol or of a version are shown.
 use Rattle.std.specs.Prelude.{◌≡◌, Bool}
-use Rattle.elf_headers.specs.declared.caps.Style.{Style}
+use Rattle.elf_options.specs.declared.caps.Style.{Style}
 
 -- rows are chosen by their names, or every row is shown, as a style has it
 abbrev pub ShowsRows : Bool → Style → Type 0

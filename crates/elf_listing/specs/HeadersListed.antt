@@ -5,7 +5,7 @@ use Rattle.elf_model.specs.Records.{e_phnum}
 use Rattle.elf_model.specs.Report.{table_items}
 use Rattle.elf_model.specs.Rows.{segment_row}
 use Rattle.elf_model.specs.Style.{Style}
-use Rattle.elf_headers.specs.Permitted.{style_of}
+use Rattle.elf_options.specs.Permitted.{style_of}
 use Rattle.elf_headers.specs.Store.{StoreState}
 use Rattle.elf_source.specs.declared.source.Source.{Ghosts as Sources}
 use Rattle.elf_source.specs.declared.sink.Sink.{Ghosts as Sinks}

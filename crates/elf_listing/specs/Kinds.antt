@@ -5,7 +5,7 @@ use Rattle.elf_model.specs.Dynamic.{dynamic_at}
 use Rattle.elf_model.specs.Records.{e_phoff, sh_link, sh_offset, section_at}
 use Rattle.elf_model.specs.Names.{name_bytes}
 use Rattle.elf_model.specs.Style.{Style}
-use Rattle.elf_headers.specs.Permitted.{style_of}
+use Rattle.elf_options.specs.Permitted.{style_of}
 use Rattle.elf_model.specs.Tables.{SYMBOL_SIZE, RELA_SIZE, DYNAMIC_SIZE, strings_of}
 use Rattle.elf_model.specs.Listing.{ListingItem, each}
 use Rattle.elf_model.specs.Rows.{segment_row, symbol_row, relocation_row, dynamic_row}

@@ -6,7 +6,7 @@ use Rattle.elf_model.specs.Bytes.{slice}
 use Rattle.elf_model.specs.Notes.{Note, NoteScan, note_align, note_shown, walked}
 use Rattle.elf_model.specs.Rows.{note_row, walk_rows}
 use Rattle.elf_model.specs.Style.{Style}
-use Rattle.elf_headers.specs.Permitted.{style_of}
+use Rattle.elf_options.specs.Permitted.{style_of}
 use Rattle.elf_note.specs.NoteCursors.{NameIs}
 use Rattle.elf_note.specs.declared.note_row.NoteRow.{NoteRow}
 use Rattle.elf_source.specs.Output.{OutState}

@@ -9,7 +9,7 @@ use Rattle.elf_model.specs.VersionRows.{end_rows, visited_rows, version_records,
 use Rattle.elf_model.specs.Versions.{VisitedRecord, Versions, record_size}
 use Rattle.elf_model.specs.declared.versions.VersionKind.{VersionKind}
 use Rattle.elf_model.specs.declared.versions.VersionKind.TheVariants.{Definition, File, Need}
-use Rattle.elf_headers.specs.Permitted.{style_of}
+use Rattle.elf_options.specs.Permitted.{style_of}
 use Rattle.elf_source.specs.declared.source.Source.{Ghosts as Sources}
 use Rattle.elf_source.specs.declared.sink.Sink.{Ghosts as Sinks}
 use Rattle.elf_table.specs.Tables.{StringTableRange, strings_in}

@@ -1,7 +1,7 @@
 //! What is listed of each header, one header after another.
 ghost use Rattle.std.specs.Prelude.{◌≡◌, ◌<◌};
 ghost use Rattle.elf_listing.specs.HeadersListed.{ListsHeader, ListsPart};
-ghost use Rattle.elf_headers.specs.Permitted.{style_of};
+ghost use Rattle.elf_options.specs.Permitted.{style_of};
 ghost use Rattle.elf_listing.specs.Parts.{Awaits, listed_by};
 
 use crate::listing::Listing;

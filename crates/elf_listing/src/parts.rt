@@ -2,7 +2,7 @@
 ghost use Rattle.std.specs.Prelude.{◌≡◌};
 ghost use Rattle.elf_listing.specs.HeadersListed.{ListsAsked, ListsPair};
 ghost use Rattle.elf_listing.specs.HeadersListed.{ListsSegments, ListsTables};
-ghost use Rattle.elf_headers.specs.Permitted.{style_of};
+ghost use Rattle.elf_options.specs.Permitted.{style_of};
 ghost use Rattle.elf_listing.specs.Parts.{AwaitsAsked, listed_by};
 ghost use Rattle.elf_listing.specs.Parts.{relocations_part, symbols_part};
 ghost use Rattle.elf_listing.specs.Viewed.{viewed_headers};

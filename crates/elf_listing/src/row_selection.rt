@@ -2,7 +2,7 @@
 ghost use Rattle.std.specs.Prelude.{◌≡◌, Bool, false as No, true as Yes};
 ghost use Rattle.elf_model.specs.Choice.{NoSuffix, chooses};
 ghost use Rattle.elf_table.specs.NamesRead.{shown_by};
-ghost use Rattle.elf_wanted.specs.Chosen.{choice_of};
+ghost use Rattle.elf_options.specs.Chosen.{choice_of};
 ghost use Rattle.elf_listing.specs.Choosing.{ShowsRows};
 ghost use Rattle.elf_listing.specs.Suffixed.{suffix_read};
 
@@ -11,7 +11,7 @@ use crate::read_suffix::VersionSuffixEnd;
 use crate::row::is_cut;
 use elf_source::{Sink, Source};
 use elf_table::{NameBuf, NameEnd};
-use elf_wanted::VersionSuffix;
+use elf_options::VersionSuffix;
 
 /// Whether rows are chosen by their names, which is known where the code is made: where every row is
 /// shown, no name is looked for.

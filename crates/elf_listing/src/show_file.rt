@@ -14,7 +14,7 @@ ghost use Rattle.elf_record.specs.Ehdr.{IsEhdr};
 ghost use Rattle.elf_listing.specs.Parts.{tables_listed};
 ghost use Rattle.elf_listing.specs.Viewed.{IsReady};
 ghost use Rattle.elf_headers.specs.Faults.{HeaderRead};
-ghost use Rattle.elf_headers.specs.Permitted.{style_of};
+ghost use Rattle.elf_options.specs.Permitted.{style_of};
 ghost use Rattle.elf_listing.specs.Reports.{WroteReport, FaultSays, AsksWithin, KeepsSourceUnlimited};
 ghost use Rattle.elf_listing.specs.Shows.{ListingCosts, IsOfOutput, WroteSome};
 

@@ -1,6 +1,6 @@
 //! The versions of symbols, shown one after another.
 ghost use Rattle.std.specs.Prelude.{◌≡◌, ◌<◌, length, min};
-ghost use Rattle.elf_headers.specs.Permitted.{style_of};
+ghost use Rattle.elf_options.specs.Permitted.{style_of};
 ghost use Rattle.elf_model.specs.declared.versions.VersionKind.TheVariants.{Need};
 ghost use Rattle.elf_table.specs.Tables.{TableInBounds};
 ghost use Rattle.elf_listing.specs.HeadersListed.{ListsHeader};

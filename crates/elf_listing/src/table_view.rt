@@ -6,7 +6,7 @@ ghost use Rattle.elf_model.specs.Report.{view_checks};
 ghost use Rattle.elf_source.specs.Source.{ReadsUpTo};
 ghost use Rattle.elf_headers.specs.Faults.{IsOfCheck, IsOfRead, IsReadFault};
 ghost use Rattle.elf_headers.specs.Load.{HoldsSectionHeaders};
-ghost use Rattle.elf_headers.specs.Permitted.{style_of};
+ghost use Rattle.elf_options.specs.Permitted.{style_of};
 ghost use Rattle.elf_headers.specs.Store.{HoldsSegments};
 ghost use Rattle.elf_table.specs.Views.{Decides};
 ghost use Rattle.elf_listing.specs.Viewed.{AwaitsView, ChecksView, needs_segment_view, view_cost, viewed_headers};

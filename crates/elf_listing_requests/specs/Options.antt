@@ -6,10 +6,10 @@ use Rattle.clap.specs.Walk.{Row, Text, first_of, one_of}
 use Rattle.elf_model.specs.Text.{name_of as name_in_table}
 use Rattle.elf_model.specs.Listing.{HEADER, SECTIONS, SEGMENTS, SYMBOLS, RELOCS, NOTES, DYNAMIC, VERSIONS, all_parts}
 use Rattle.elf_record.specs.declared.parts.Parts.{Parts}
-use Rattle.elf_headers.specs.declared.caps.Limits.{Limits}
-use Rattle.elf_headers.specs.declared.caps.Style.{Style}
+use Rattle.elf_options.specs.declared.caps.Limits.{Limits}
+use Rattle.elf_options.specs.declared.caps.Style.{Style}
 use Rattle.elf_model.specs.Choice.{EveryRow}
-use Rattle.elf_wanted.specs.Chosen.{choice_of}
+use Rattle.elf_options.specs.Chosen.{choice_of}
 use Rattle.elf_model.specs.declared.formats.Format.{Format}
 use Rattle.elf_model.specs.declared.formats.Format.TheVariants.{Columns, Object}
 

@@ -10,14 +10,14 @@ ghost use Rattle.elf_listing_requests.specs.Options.{asked_format, has_gnu_optio
 ghost use Rattle.elf_listing_requests.specs.Options.{has_versions_option, gnu_option_is_missing, part_names};
 ghost use Rattle.elf_listing_requests.specs.Options.{versions_without_gnu};
 ghost use Rattle.elf_record.specs.declared.parts.Parts.{Parts};
-ghost use Rattle.elf_headers.specs.declared.caps.Limits.{Limits};
-ghost use Rattle.elf_headers.specs.declared.caps.Style.{Style};
+ghost use Rattle.elf_options.specs.declared.caps.Limits.{Limits};
+ghost use Rattle.elf_options.specs.declared.caps.Style.{Style};
 
 use clap::ArgMatches;
 use elf_headers::{Limits, NameLimit, Style};
 use elf_model::Format;
 use elf_record::Parts;
-use elf_wanted::RowFilter;
+use elf_options::RowFilter;
 
 /// The limits that the options ask for.
 pub fn limits_of(options: &ArgMatches<'_>) -> Option<Limits>

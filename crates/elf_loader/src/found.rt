@@ -5,7 +5,7 @@ ghost use Rattle.elf_loader.specs.Answering.{IsWord};
 ghost use Rattle.elf_loader.specs.FoundVersions.{FindsVersion};
 ghost use Rattle.elf_loader.specs.Tables.{max_versions_of};
 ghost use Rattle.elf_loader.specs.Telling.{telling_bytes};
-ghost use Rattle.elf_wanted.specs.Wants.{asked_of};
+ghost use Rattle.elf_options.specs.Wants.{asked_of};
 ghost use Rattle.elf_model.specs.Loader.{VersionWords as AreWordsOf};
 ghost use Rattle.elf_model.specs.LoaderScope.{LookupTables as IsScopeOf};
 ghost use Rattle.elf_lookup_tables.specs.Symbols.{IsDynamicSymbols, IsVersymTable, DynamicSymbolsInBounds};
@@ -17,7 +17,7 @@ use elf_lookup_tables::{Symbols, VersionWords};
 use elf_record::version_number;
 use elf_source::{Counted, Source};
 use elf_table::{NameBuf, NameEnd};
-use elf_wanted::Asked;
+use elf_options::Asked;
 
 /// The name of the version of a symbol that is found.
 #[derive(Clone, Copy)]

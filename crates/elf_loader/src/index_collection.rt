@@ -3,7 +3,7 @@ ghost use Rattle.std.specs.Prelude.{◌≤◌, length, IfSome};
 ghost use Rattle.elf_headers.specs.Ledger.{CallDid, fault_of_result};
 ghost use Rattle.elf_loader.specs.Comparing.{CollectsNumbers, ComparesRecords, comparing_bytes};
 ghost use Rattle.elf_loader.specs.Tables.{OfAnyTable, OfTables, max_records_of, max_versions_of};
-ghost use Rattle.elf_wanted.specs.Wants.{asked_of};
+ghost use Rattle.elf_options.specs.Wants.{asked_of};
 ghost use Rattle.elf_model.specs.Loader.{asked_name};
 ghost use Rattle.elf_model.specs.LoaderFind.{record_cost, version_indices};
 ghost use Rattle.elf_model.specs.LoaderScope.{LookupTables as IsScopeOf};
@@ -14,7 +14,7 @@ use crate::version_index_set::VersionIndexSet;
 use elf_headers::Fault;
 use elf_lookup_tables::{Symbols, VersionRecordTable};
 use elf_source::{Counted, Source};
-use elf_wanted::Asked;
+use elf_options::Asked;
 
 // Compares the records of a table, if there is one.
 fn compare_any<S: Source>(

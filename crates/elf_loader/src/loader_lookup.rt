@@ -14,7 +14,7 @@ ghost use Rattle.elf_model.specs.LoaderFind.{loaded_in, looked_by, record_cost, 
 ghost use Rattle.elf_model.specs.LoaderFind.{version_indices};
 ghost use Rattle.elf_model.specs.Style.{looked_at};
 ghost use Rattle.elf_lookup_tables.specs.LookupTablesFound.{LookupTablesInBounds};
-ghost use Rattle.elf_wanted.specs.Wants.{asked_of, query_of};
+ghost use Rattle.elf_options.specs.Wants.{asked_of, query_of};
 
 use crate::version_matcher::VersionMatcher;
 use crate::index_collection::version_indices;
@@ -26,7 +26,7 @@ use elf_headers::{Fault, HeaderStore};
 use elf_lookup_tables::{LookupTables, find_lookup_tables};
 use elf_source::{Counted, Source};
 use elf_table::NameBuf;
-use elf_wanted::Wanted;
+use elf_options::Wanted;
 
 /// Looks a name up in a file, alone or with a version, as a loader of the GNU system does (gABI 5,
 /// Dynamic Linking; Linux Standard Base Core, Symbol Versioning): by the file's hash table, of the

@@ -3,7 +3,7 @@ ghost use Rattle.std.specs.Prelude.{◌≡◌, ℕ, ◌+◌, ◌≤◌, List, If
 ghost use Rattle.elf_headers.specs.Ledger.{CallDid, IsRead, fault_of_result};
 ghost use Rattle.elf_loader.specs.Answering.{ReturnsFit};
 ghost use Rattle.elf_loader.specs.NumberSets.{has_number};
-ghost use Rattle.elf_wanted.specs.Wants.{asked_of};
+ghost use Rattle.elf_options.specs.Wants.{asked_of};
 ghost use Rattle.elf_model.specs.Bytes.{field, slice};
 ghost use Rattle.elf_model.specs.Loader.{VersionWords as AreWordsOf, fits, version_fits};
 ghost use Rattle.elf_lookup_tables.specs.Symbols.{AreVersymTable};
@@ -16,7 +16,7 @@ use elf_headers::{Fault, fill, refused};
 use elf_lookup_tables::VersionWords;
 use elf_record::{Cause, u16_at, version_number};
 use elf_source::{Counted, Source};
-use elf_wanted::Asked;
+use elf_options::Asked;
 
 /// Whether the version of a symbol fits what is asked for, with the version's word.
 #[derive(Clone, Copy)]

@@ -3,7 +3,7 @@ ghost use Rattle.std.specs.Prelude.{◌≡◌, ◌+◌, ◌<◌, ◌≤◌, leng
 ghost use Rattle.elf_headers.specs.Ledger.{CallDid, fault_of_result};
 ghost use Rattle.elf_loader.specs.Answering.{SaysOf, IsSymbolWithVersym, ReturnsAnswer};
 ghost use Rattle.elf_loader.specs.NumberSets.{has_number};
-ghost use Rattle.elf_wanted.specs.Wants.{query_of};
+ghost use Rattle.elf_options.specs.Wants.{query_of};
 ghost use Rattle.elf_model.specs.Loader.{Symbols as AreSymbolsOf, answers};
 ghost use Rattle.elf_model.specs.Names.{pad64};
 ghost use Rattle.elf_lookup_tables.specs.Symbols.{IsDynamicSymbols, DynamicSymbolsInBounds};
@@ -15,7 +15,7 @@ use elf_hash::{Matcher, SymbolMatch};
 use elf_headers::Fault;
 use elf_lookup_tables::Symbols;
 use elf_source::{Counted, Source};
-use elf_wanted::Wanted;
+use elf_options::Wanted;
 
 /// The trial of symbols by what is wanted of them, where the numbers of the wanted version are known.
 #[derive(Clone, Copy)]

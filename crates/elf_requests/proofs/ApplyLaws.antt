@@ -3,7 +3,7 @@ use Rattle.std.proofs.Common.{◌≡◌, ℕ, ◌<◌, ◌^◌, List, Option, No
 use Rattle.std.specs.Prelude.{Bool, IfSome}
 use Rattle.std.specs.Borrow.{Bor}
 use Rattle.clap.specs.Walk.{Row, Text, first_of, one_of}
-use Rattle.elf_headers.specs.declared.caps.Limits.{Limits}
+use Rattle.elf_options.specs.declared.caps.Limits.{Limits}
 use Rattle.elf_model.specs.Placing.{Layout, no_items}
 use Rattle.elf_listing_requests.specs.Options.{AreLimitOptions, HasNumber, is_option_set}
 use Rattle.elf_requests.specs.Asked.{AsksNothing, ResolvesTo, HasFault, IsApplying, IsFileNamed, IsTask, item_words}

@@ -2,7 +2,7 @@
 use Rattle.std.proofs.Common.{◌≢◌, List, Option, Some, codes, inl, inr}
 use Rattle.std.specs.Borrow.{Bor}
 use Rattle.clap.specs.Walk.{Row, Text}
-use Rattle.elf_headers.specs.declared.caps.Limits.{Limits}
+use Rattle.elf_options.specs.declared.caps.Limits.{Limits}
 use Rattle.elf_listing_requests.specs.Listings.{IsListing}
 use Rattle.elf_listing_requests.specs.Options.{AreLimitOptions}
 use Rattle.elf_listing_requests.specs.declared.listings.ListingRequest.{ListingRequest}

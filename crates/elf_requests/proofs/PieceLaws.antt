@@ -5,9 +5,9 @@ use Rattle.std.specs.List.{list_any}
 use Rattle.std.proofs.lemmas.Bool.Decides.{nat_tests}
 use Rattle.clap.specs.Walk.{Text}
 use Rattle.elf_model.specs.TraitWords.{Required}
-use Rattle.elf_wanted.specs.Required.{required_words}
-use Rattle.elf_wanted.specs.Spelled.{parsed_trait_word}
-use Rattle.elf_wanted.specs.declared.required.RequiredTrait.{RequiredTrait}
+use Rattle.elf_options.specs.Required.{required_words}
+use Rattle.elf_options.specs.Spelled.{parsed_trait_word}
+use Rattle.elf_options.specs.declared.required.RequiredTrait.{RequiredTrait}
 use Rattle.elf_requests.specs.AskedTraits.{AreRequired, IsWordFault, LacksWord, onto_first, pieces}
 use Rattle.elf_listing_requests.specs.declared.faults.RequestFault.{RequestFault}
 use Rattle.elf_listing_requests.specs.declared.faults.RequestFault.TheVariants.{BadTrait, Memory}

@@ -4,7 +4,7 @@ use elf_headers::{Limits, Style};
 use elf_listing_requests::ListingRequest;
 use elf_model::Format;
 use elf_record::Parts;
-use elf_wanted::RequiredTrait;
+use elf_options::RequiredTrait;
 
 /// What is asked for.
 #[derive(Drop)]

@@ -12,7 +12,7 @@ use crate::checks::NameArgs;
 use crate::file_words::words_of;
 use clap::ArgMatches;
 use elf_listing_requests::{RequestFault, has_name_option, has_versions_option, text_of};
-use elf_name_lists::is_valid_row_name;
+use elf_options::is_valid_row_name;
 use std::alloc::{AllocError, Global};
 
 /// How many names may stand among the words.

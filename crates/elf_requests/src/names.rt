@@ -4,8 +4,7 @@ ghost use Rattle.elf_model.specs.NameLaws.{IsWanted};
 ghost use Rattle.elf_requests.specs.Asked.{IsText};
 
 use crate::requests::{LookupName, LookupSymbol};
-use elf_name_lists::is_valid_row_name;
-use elf_wanted::parse_query;
+use elf_options::{is_valid_row_name, parse_query};
 
 /// A name that can be looked for: a word of 1 to 4,096 bytes, none of them NUL. None for another
 /// word.

@@ -3,8 +3,8 @@ ghost use Rattle.std.specs.Prelude.{◌≡◌, ◌⊎◌, ◌++◌, ◌∷◌, [
 ghost use Rattle.std.specs.Prelude.{codes, map};
 ghost use Rattle.clap.specs.Walk.{first_of, rows_of};
 ghost use Rattle.clap.specs.Words.{found_of};
-ghost use Rattle.elf_wanted.specs.Required.{required_words};
-ghost use Rattle.elf_wanted.specs.Spelled.{parsed_trait_word};
+ghost use Rattle.elf_options.specs.Required.{required_words};
+ghost use Rattle.elf_options.specs.Spelled.{parsed_trait_word};
 ghost use Rattle.elf_requests.specs.AskedTraits.{AreRequired, IsWordFault};
 ghost use Rattle.elf_requests.specs.Checks.{ParsesTo};
 ghost use Rattle.elf_requests.specs.Files.{AreFiles};
@@ -14,7 +14,7 @@ use crate::checks::{ParsedCommand, PathArgs, TraitsRequest};
 use crate::file_words::files_of;
 use clap::ArgMatches;
 use elf_listing_requests::{RequestFault, format_of, limits_of, text_of};
-use elf_wanted::{RequiredTrait, parsed_trait_word};
+use elf_options::{RequiredTrait, parsed_trait_word};
 use std::alloc::{AllocError, Global};
 
 /// What `traits` with these arguments asks for, or None where there is neither a path nor a file with

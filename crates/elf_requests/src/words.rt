@@ -10,7 +10,7 @@ ghost use Rattle.elf_requests.specs.Answered.{IsRefusal, WordsAsk, WordsRefused}
 ghost use Rattle.elf_requests.specs.Checks.{ParsesTo, IsAsked};
 ghost use Rattle.elf_model.specs.Placing.{no_items};
 ghost use Rattle.elf_requests.specs.Layouts.{LaysWords};
-ghost use Rattle.elf_headers.specs.declared.caps.Limits.{Limits};
+ghost use Rattle.elf_options.specs.declared.caps.Limits.{Limits};
 
 use crate::archive_words::archive_asked;
 use crate::check_words::parse_check;

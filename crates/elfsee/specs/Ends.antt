@@ -7,8 +7,8 @@ use Rattle.elf_model.specs.declared.causes.Refusal.{Refusal}
 use Rattle.elf_source.specs.Growth.{OutGrows}
 use Rattle.elf_source.specs.Source.{CountedState, SourceState}
 use Rattle.elf_source.specs.Output.{Writing, OutState}
-use Rattle.elf_headers.specs.Permitted.{style_of}
-use Rattle.elf_headers.specs.declared.caps.Caps.{Caps}
+use Rattle.elf_options.specs.Permitted.{style_of}
+use Rattle.elf_options.specs.declared.caps.Caps.{Caps}
 use Rattle.elf_headers.specs.declared.run_fault.RunFault.{RunFault}
 use Rattle.elf_headers.specs.declared.run_fault.RunFault.TheVariants.{Refused}
 use Rattle.elf_listing.specs.Reports.{KeepsSourceUnlimited}

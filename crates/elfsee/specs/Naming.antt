@@ -1,10 +1,10 @@
 -- A listing of the rows of some names.
 use Rattle.std.specs.Prelude.{ℕ, ◌≡◌, List, codes}
-use Rattle.elf_name_lists.specs.NamedRows.{named_style}
-use Rattle.elf_name_lists.specs.declared.NamesFault.{NamesFault}
-use Rattle.elf_name_lists.specs.declared.NamesFault.TheVariants.{Read, TooLarge, BadName, Memory}
-use Rattle.elf_headers.specs.Permitted.{style_of}
-use Rattle.elf_headers.specs.declared.caps.Style.{Style}
+use Rattle.elf_options.specs.NamedRows.{named_style}
+use Rattle.elf_options.specs.declared.names_fault.NamesFault.{NamesFault}
+use Rattle.elf_options.specs.declared.names_fault.NamesFault.TheVariants.{Read, TooLarge, BadName, Memory}
+use Rattle.elf_options.specs.Permitted.{style_of}
+use Rattle.elf_options.specs.declared.caps.Style.{Style}
 use Rattle.elf_record.specs.declared.parts.Parts.{Parts}
 use Rattle.elf_requests.specs.declared.requests.Task.{Task}
 use Rattle.elf_requests.specs.declared.requests.Task.TheVariants.{Show}

@@ -1,9 +1,9 @@
 //! The listing of an archive.
 ghost use Rattle.std.specs.Prelude.{◌≡◌, ◌⊎◌, IfErr, length};
 ghost use Rattle.elfsee.specs.Ends.{EndsRunOver, EndsWithoutFile, EndsWithoutMemory, RunsArchive};
-ghost use Rattle.elf_headers.specs.Permitted.{style_of};
-ghost use Rattle.elf_name_lists.specs.NamedRows.{named_style};
-ghost use Rattle.elf_wanted.specs.Names.{NeverDescend, texts_of};
+ghost use Rattle.elf_options.specs.Permitted.{style_of};
+ghost use Rattle.elf_options.specs.NamedRows.{named_style};
+ghost use Rattle.elf_options.specs.Names.{NeverDescend, texts_of};
 ghost use Rattle.elfsee.specs.Naming.{EndsWithoutNames};
 
 use crate::names::{read_list, sorted_names};
@@ -11,7 +11,7 @@ use elf_answers::archive_status;
 use elf_archive::show_archive;
 use elf_endings::{ExitLine, OUT_OF_MEMORY, OUTPUT_BYTES, end_answer, open};
 use elf_headers::{Caps, HeaderBuffer, HeaderStore, Limits, Style};
-use elf_name_lists::style_with_names;
+use elf_options::style_with_names;
 use elf_record::Parts;
 use elf_requests::ArchiveRequest;
 use elf_source::{Counted, DeferredSink, Out, RangeSource, Source, WriteSink};

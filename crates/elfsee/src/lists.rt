@@ -1,8 +1,8 @@
 //! The listings of many files.
 ghost use Rattle.std.specs.Prelude.{◌≡◌, ◌⊎◌, IfErr};
-ghost use Rattle.elf_headers.specs.Permitted.{style_of};
-ghost use Rattle.elf_name_lists.specs.NamedRows.{named_style};
-ghost use Rattle.elf_wanted.specs.Names.{NeverDescend, texts_of};
+ghost use Rattle.elf_options.specs.Permitted.{style_of};
+ghost use Rattle.elf_options.specs.NamedRows.{named_style};
+ghost use Rattle.elf_options.specs.Names.{NeverDescend, texts_of};
 ghost use Rattle.elfsee.specs.Ends.{EndsWithoutMemory};
 ghost use Rattle.elfsee.specs.Naming.{EndsWithoutNames};
 
@@ -11,7 +11,7 @@ use crate::names::{read_list, sorted_names};
 use elf_each_file::{HELD_BYTES, ListFiles, ListOptions};
 use elf_endings::{ExitLine, OUT_OF_MEMORY};
 use elf_headers::{Caps, HeaderBuffer};
-use elf_name_lists::style_with_names;
+use elf_options::style_with_names;
 use elf_requests::{ListRequest, PathArgs};
 use std::io::{Input, Stderr};
 use std::os::unix::fs::FileExt;

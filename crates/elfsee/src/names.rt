@@ -1,14 +1,14 @@
 //! The names of which the rows are shown, and the listing of a file by them.
 ghost use Rattle.std.specs.Prelude.{◌≡◌, ◌++◌, [], IfErr, IfOk};
 ghost use Rattle.std.specs.List.Sorted.{IsPermutation};
-ghost use Rattle.elf_name_lists.specs.NameLists.{listed_names};
-ghost use Rattle.elf_wanted.specs.Names.{NeverDescend, texts_of};
+ghost use Rattle.elf_options.specs.NameLists.{listed_names};
+ghost use Rattle.elf_options.specs.Names.{NeverDescend, texts_of};
 ghost use Rattle.elfsee.specs.Naming.{EndsNames, EndsWithoutNames, ShowsRowsOf};
 
 use crate::answer_request;
 use elf_endings::{ExitLine, OUT_OF_MEMORY};
 use elf_listing_requests::ListingRequest;
-use elf_name_lists::{NamesFault, gather_names, read_names, style_with_names};
+use elf_options::{NamesFault, gather_names, read_names, style_with_names};
 use elf_requests::{Choosing, NameArgs, Request, Task};
 use std::alloc::Global;
 use std::fs;

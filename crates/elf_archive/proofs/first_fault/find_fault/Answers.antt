@@ -2,7 +2,7 @@
 use Rattle.std.proofs.Common.{rules, ◌≡◌, ℕ, false, ap, sym, ◌∙◌}
 use Rattle.elf_model.specs.ArchiveCost.{archive_ceiling}
 use Rattle.elf_source.specs.Source.{SourceState}
-use Rattle.elf_headers.specs.Permitted.{style_of}
+use Rattle.elf_options.specs.Permitted.{style_of}
 use Rattle.elf_archive.proofs.FaultLaws.{found_first, found_late, found_tells}
 use Rattle.elf_archive.proofs.ReportLaws.{asked_limited, asks_in_archive, leaves_limited}
 use Rattle.elf_archive.proofs.first_fault.find_fault.Goals as goal

@@ -5,7 +5,7 @@ use Rattle.elf_model.specs.Archive.{before_members}
 use Rattle.elf_model.specs.ArchiveCost.{allowance, members_cost}
 use Rattle.elf_model.proofs.AllowanceLaws.{allowance_within}
 use Rattle.elf_source.proofs.GrowthLaws.{grows_not}
-use Rattle.elf_headers.specs.Permitted.{style_of}
+use Rattle.elf_options.specs.Permitted.{style_of}
 use Rattle.elf_archive.proofs.ArchiveLaws.{magic_within, magic_cost, passed_cost}
 use Rattle.elf_archive.proofs.ConsumeLaws.{Consumes-fault, Consumes-then}
 use Rattle.elf_archive.proofs.FaultLaws.{magic_fault, passed_fault}

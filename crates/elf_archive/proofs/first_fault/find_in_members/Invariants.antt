@@ -4,7 +4,7 @@ use Rattle.elf_model.specs.Archive.{before_members}
 use Rattle.elf_model.specs.ArchiveCost.{allowance}
 use Rattle.elf_source.specs.Growth.{OutGrows}
 use Rattle.elf_source.specs.Source.{ReadsUpTo}
-use Rattle.elf_headers.specs.Permitted.{style_of}
+use Rattle.elf_options.specs.Permitted.{style_of}
 use Rattle.elf_archive.specs.Members.{IsMemberWalkInBounds}
 use Rattle.elf_archive.proofs.FaultLaws.{CheckedSoFar}
 use Rattle.elf_archive.proofs.first_fault.find_in_members.Given as goal

@@ -5,7 +5,7 @@ use Rattle.elf_model.specs.Archive.{before_members}
 use Rattle.elf_model.specs.ArchiveCost.{allowance, members_cost}
 use Rattle.elf_model.proofs.AllowanceLaws.{allowance_within}
 use Rattle.elf_source.proofs.GrowthLaws.{grows_not}
-use Rattle.elf_headers.specs.Permitted.{style_of}
+use Rattle.elf_options.specs.Permitted.{style_of}
 use Rattle.elf_listing.proofs.RowLaws.{WroteUntilStop-first, WroteSome-as}
 use Rattle.elf_archive.proofs.ArchiveLaws.{magic_within, magic_cost, magic_alone, passed_cost, passed_items}
 use Rattle.elf_archive.proofs.ConsumeLaws.{Consumes-fault, Consumes-then}

@@ -4,7 +4,7 @@ use Rattle.std.proofs.lemmas.Result.{err_from_is_err_and}
 use Rattle.elf_model.specs.Archive.{before_members}
 use Rattle.elf_source.proofs.GrowthLaws.{grows_not, grows_then}
 use Rattle.elf_source.proofs.ReadsLaws.{ReadsUpTo-none, ReadsUpTo-then}
-use Rattle.elf_headers.specs.Permitted.{style_of}
+use Rattle.elf_options.specs.Permitted.{style_of}
 use Rattle.elf_archive.specs.Members.{IsMemberWalkInBounds}
 use Rattle.elf_archive.proofs.ConsumeLaws.{Consumes-then, still_whole}
 use Rattle.elf_archive.proofs.ListingLaws.{step_ends, step_within}

@@ -6,7 +6,7 @@ use Rattle.elf_model.specs.ArchiveCost.{header_cost, member_cost}
 use Rattle.elf_model.specs.Cost.{style_ceiling}
 use Rattle.elf_source.proofs.GrowthLaws.{grows_not}
 use Rattle.elf_source.proofs.PutsLaws.{SinkTakes-nothing}
-use Rattle.elf_headers.specs.Permitted.{style_of}
+use Rattle.elf_options.specs.Permitted.{style_of}
 use Rattle.elf_listing.proofs.RowLaws.{WroteUntilStop-first}
 use Rattle.elf_source.specs.Source.{ReadsUpTo}
 use Rattle.elf_archive.specs.Listed.{Consumes}

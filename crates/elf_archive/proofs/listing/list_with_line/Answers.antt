@@ -5,7 +5,7 @@ use Rattle.elf_model.specs.Archive.{Member, is_refused, member_items, member_lin
 use Rattle.elf_source.proofs.GrowthLaws.{grows_front, grows_then}
 use Rattle.elf_source.proofs.LineLaws.{broken_takes}
 use Rattle.elf_source.proofs.ReadsLaws.{ReadsUpTo-none}
-use Rattle.elf_headers.specs.Permitted.{style_of}
+use Rattle.elf_options.specs.Permitted.{style_of}
 use Rattle.elf_archive.specs.Listed.{Consumes}
 use Rattle.elf_archive.specs.Members.{member_of}
 use Rattle.elf_archive.proofs.HeldLaws.{broken_stops, held_consumes, held_grows, held_refused, held_writes, line_fails_first, line_writes, told_clean}

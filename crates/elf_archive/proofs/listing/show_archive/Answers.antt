@@ -3,7 +3,7 @@ use Rattle.std.proofs.Common.{rules, ◌≡◌, ℕ, ap, sym, ◌∙◌, Ok, Err
 use Rattle.elf_model.specs.ArchiveCost.{archive_ceiling}
 use Rattle.elf_source.specs.Source.{SourceState}
 use Rattle.elf_source.proofs.GrowthLaws.{grows_then}
-use Rattle.elf_headers.specs.Permitted.{style_of}
+use Rattle.elf_options.specs.Permitted.{style_of}
 use Rattle.elf_archive.proofs.ReportLaws.{asked_limited, asks_in_archive, leaves_limited, stopped_archive, reported_late, told_says, whole_archive}
 use Rattle.elf_archive.proofs.listing.show_archive.Goals as goal
 

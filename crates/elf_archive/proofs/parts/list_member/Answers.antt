@@ -6,7 +6,7 @@ use Rattle.elf_model.specs.Cost.{listing_cost, style_ceiling}
 use Rattle.elf_source.proofs.GrowthLaws.{grows_not}
 use Rattle.elf_source.proofs.PutsLaws.{SinkTakes-nothing}
 use Rattle.elf_source.proofs.ReadsLaws.{ReadsUpTo-none, ReadsUpTo-to}
-use Rattle.elf_headers.specs.Permitted.{style_of}
+use Rattle.elf_options.specs.Permitted.{style_of}
 use Rattle.elf_archive.specs.Listed.{IsAll, member_at}
 use Rattle.elf_archive.specs.Members.{IsInBounds, extent_of}
 use Rattle.elf_archive.proofs.ConsumeLaws.{Consumes-fault, Consumes-then, lies_within, still_whole}

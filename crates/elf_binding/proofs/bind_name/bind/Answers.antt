@@ -1,6 +1,6 @@
 -- One file more: it answers, or its lookup fails, or the name isn't in it; and no file is left.
 use Rattle.std.proofs.Common.{refl, arith}
-use Rattle.elf_wanted.specs.Wants.{query_of}
+use Rattle.elf_options.specs.Wants.{query_of}
 use Rattle.elf_binding.proofs.BindLaws.{binds_fault, binds_found, binds_more, binds_none}
 use Rattle.elf_binding.proofs.bind_name.bind.Goals as goal
 

@@ -1,7 +1,7 @@
 -- The objects before this one were looked in, and none of them answers.
 use Rattle.std.proofs.Common.{◌≡◌, ◌≤◌, length}
 use Rattle.elf_binding.proofs.BindLaws.{BindsSoFar}
-use Rattle.elf_wanted.specs.Wants.{query_of}
+use Rattle.elf_options.specs.Wants.{query_of}
 use Rattle.elf_binding.proofs.bind_name.bind.Given as goal
 
 abbrev pub invariant-loop-object : goal.invariant-loop-object

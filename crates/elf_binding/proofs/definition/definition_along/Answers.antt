@@ -7,7 +7,7 @@ use Rattle.elf_hash.specs.declared.place.HashTableLocation.{HashTableLocation}
 use Rattle.elf_model.specs.Bindings.{defines, definer_walk}
 use Rattle.elf_loader.specs.Lookups.{match_bytes}
 use Rattle.elf_loader.specs.NumberSets.{has_number}
-use Rattle.elf_wanted.specs.Wants.{query_of}
+use Rattle.elf_options.specs.Wants.{query_of}
 use Rattle.elf_binding.proofs.DefinerLaws.{defines_unwalked, defines_walked, definer_walks}
 use Rattle.elf_binding.proofs.definition.definition_along.Goals as goal
 

@@ -4,7 +4,7 @@ use Rattle.std.proofs.lemmas.Result.{err_from_is_err_and}
 use Rattle.elf_headers.proofs.LedgerLaws.{CallDid-as, CallDid-then}
 use Rattle.elf_model.specs.LoaderFind.{version_indices}
 use Rattle.elf_loader.proofs.ReadLaws.{after_within}
-use Rattle.elf_wanted.specs.Wants.{query_of}
+use Rattle.elf_options.specs.Wants.{query_of}
 use Rattle.elf_binding.proofs.DefinerLaws.{defines_numbered, defines_unnumbered}
 use Rattle.elf_binding.proofs.definition.definition_in_table.Goals as goal
 

@@ -4,9 +4,9 @@ use Rattle.std.specs.Prelude.{map}
 use Rattle.std.proofs.lemmas.Result.{err_from_is_err_and}
 use Rattle.elf_model.specs.Choice.{EveryRow, RowsOf, wanted_text}
 use Rattle.elf_model.specs.FileLists.{path_line}
-use Rattle.elf_wanted.specs.Names.{texts_of}
+use Rattle.elf_options.specs.Names.{texts_of}
 use Rattle.elf_source.specs.Source.{SourceState}
-use Rattle.elf_headers.specs.Permitted.{style_of}
+use Rattle.elf_options.specs.Permitted.{style_of}
 use Rattle.elf_each_file.proofs.HeadedLaws.{every_headed, held_headed, line_begun, line_unheld, path_stops}
 use Rattle.elf_each_file.proofs.headed.list_with_path_line.Goals as goal
 

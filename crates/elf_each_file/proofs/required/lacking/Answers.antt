@@ -1,6 +1,6 @@
 -- The words before one that is lacking are not.
 use Rattle.std.proofs.Common.{◌∙◌, ◌+◌, arith, sym}
-use Rattle.elf_wanted.specs.Required.{required_words}
+use Rattle.elf_options.specs.Required.{required_words}
 use Rattle.elf_each_file.proofs.LackingLaws.{had, lacked, of_program}
 use Rattle.elf_each_file.proofs.required.lacking.Goals as goal
 

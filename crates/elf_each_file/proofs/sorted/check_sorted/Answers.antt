@@ -1,7 +1,7 @@
 -- The state of a file behind the bytes that tell its sort.
 use Rattle.std.proofs.Common.{ℕ, true, List, Option, Some, refl, sym, ap, subst, ◌∙◌, arith}
 use Rattle.elf_model.specs.declared.states.FileMagic.{FileMagic}
-use Rattle.elf_headers.specs.Permitted.{style_of}
+use Rattle.elf_options.specs.Permitted.{style_of}
 use Rattle.elf_each_file.proofs.ListingToldLaws.{fault_fails, front_within, sort_within}
 use Rattle.elf_each_file.specs.Members.{FindsBySort, IsCapsAfter, cost_by}
 use Rattle.elf_each_file.proofs.FileMagicLaws.{front_eight, sorted_found, state_after}

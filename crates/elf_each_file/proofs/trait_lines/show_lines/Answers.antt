@@ -2,7 +2,7 @@
 use Rattle.std.proofs.Common.{subst, sym, ◌∙◌}
 use Rattle.elf_source.specs.Output.{SinkTakesPrefix}
 use Rattle.elf_source.proofs.PutsLaws.{SinkTakesPrefix-then}
-use Rattle.elf_wanted.specs.Required.{required_words}
+use Rattle.elf_options.specs.Required.{required_words}
 use Rattle.elf_each_file.proofs.LackingLaws.{lacked_text}
 use Rattle.elf_each_file.proofs.trait_lines.show_lines.Goals as goal
 

@@ -1,5 +1,5 @@
 -- The file header's checks stand before all, and its line before what is loaded.
-use Rattle.elf_headers.specs.Permitted.{style_of}
+use Rattle.elf_options.specs.Permitted.{style_of}
 use Rattle.elf_model.specs.Style.{viewed as view_of}
 use Rattle.std.proofs.Common.{◌≡◌, ℕ, Ok, Err, sym, ap, arith, ◌∙◌}
 use Rattle.std.proofs.lemmas.Result.{err_from_is_err_and}

@@ -2,7 +2,7 @@
 use Rattle.std.proofs.Common.{List, ℕ, refl, sym}
 use Rattle.elf_model.specs.Style.{without_sections}
 use Rattle.elf_model.proofs.StyleLemmas.{view_tells_of_none}
-use Rattle.elf_headers.specs.Permitted.{style_of}
+use Rattle.elf_options.specs.Permitted.{style_of}
 use Rattle.elf_source.specs.Source.{MasksSectionHeaders}
 use Rattle.elf_source.proofs.HidingLaws.{hidden_file}
 use Rattle.elf_listing.proofs.HiddenLaws.{viewed_all, viewed_hidden, header_hidden, ListingCosts-hidden}

@@ -2,7 +2,7 @@
 use Rattle.std.proofs.Common.{ℕ, ap, sym, ◌∙◌}
 use Rattle.elf_source.specs.Source.{SourceState}
 use Rattle.elf_model.specs.Cost.{style_ceiling}
-use Rattle.elf_headers.specs.Permitted.{style_of}
+use Rattle.elf_options.specs.Permitted.{style_of}
 use Rattle.elf_listing.proofs.AskLaws.{asks_within, reported_late, told_says}
 use Rattle.elf_listing.proofs.ReportLaws.{whole_report, stopped_report}
 use Rattle.elf_source.proofs.GrowthLaws.{grows_then}

@@ -1,6 +1,6 @@
 -- The program headers are checked where the style goes by them, and else not.
 use Rattle.std.proofs.Common.{sym, ◌∙◌}
-use Rattle.elf_headers.specs.Permitted.{style_of}
+use Rattle.elf_options.specs.Permitted.{style_of}
 use Rattle.elf_listing.proofs.ViewedLaws.{all_viewed, checked, unchecked}
 use Rattle.elf_listing.proofs.table_view.check_view.Goals as goal
 

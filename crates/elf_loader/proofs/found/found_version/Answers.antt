@@ -4,7 +4,7 @@ use Rattle.std.proofs.lemmas.Result.{err_from_is_err_and}
 use Rattle.elf_headers.proofs.LedgerLaws.{CallReads-none, CallDid-as, CallDid-none}
 use Rattle.elf_model.specs.Loader.{asked_name}
 use Rattle.elf_headers.proofs.Absent.{none-of}
-use Rattle.elf_wanted.specs.Wants.{asked_of}
+use Rattle.elf_options.specs.Wants.{asked_of}
 use Rattle.elf_loader.specs.Tables.{max_versions_of}
 use Rattle.elf_loader.specs.Telling.{telling_bytes, parsed_member_bytes}
 use Rattle.elf_loader.proofs.FoundLaws.{finds-fault-by, finds-told-by, finds-unnamed, finds-wanted, word-at, word-is}

@@ -6,7 +6,7 @@ use Rattle.elf_model.specs.Loader.{asked_name, compared_with, readings}
 use Rattle.elf_model.specs.LoaderFind.{record_cost}
 use Rattle.elf_model.specs.Names.{pad64}
 use Rattle.elf_headers.proofs.Absent.{none-of}
-use Rattle.elf_wanted.specs.Wants.{asked_of}
+use Rattle.elf_options.specs.Wants.{asked_of}
 use Rattle.elf_loader.specs.Comparing.{comparing_bytes}
 use Rattle.elf_loader.specs.Tables.{max_versions_of}
 use Rattle.elf_loader.proofs.CollectLaws.{all-compared, collects-all, collects-fault, collects-none, no-version, no-words}

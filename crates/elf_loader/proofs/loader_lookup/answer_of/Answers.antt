@@ -5,7 +5,7 @@ use Rattle.elf_headers.proofs.LedgerLaws.{CallDid-as, CallDid-none}
 use Rattle.elf_model.specs.Chains.{ChainResult as NoteScan}
 use Rattle.elf_headers.proofs.Absent.{none-of}
 use Rattle.elf_loader.proofs.LookLaws.{looks_absent, looks_found, looks_untold}
-use Rattle.elf_wanted.specs.Wants.{query_of}
+use Rattle.elf_options.specs.Wants.{query_of}
 use Rattle.elf_loader.proofs.loader_lookup.answer_of.Goals as goal
 
 pub returns-in_default : goal.returns-in_default

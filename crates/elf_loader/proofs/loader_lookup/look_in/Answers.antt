@@ -4,7 +4,7 @@ use Rattle.std.proofs.lemmas.Result.{err_from_is_err_and}
 use Rattle.elf_headers.proofs.LedgerLaws.{CallDid-as, CallDid-then}
 use Rattle.elf_loader.specs.Lookups.{lookup_bytes}
 use Rattle.elf_loader.proofs.LookLaws.{counts_few, looks_counted, looks_uncounted, place_in}
-use Rattle.elf_wanted.specs.Wants.{query_of}
+use Rattle.elf_options.specs.Wants.{query_of}
 use Rattle.elf_loader.proofs.loader_lookup.look_in.Goals as goal
 
 pub returns-in_err-table : goal.returns-in_err-table

@@ -2,7 +2,7 @@
 use Rattle.std.proofs.Common.{sym}
 use Rattle.elf_model.specs.LoaderFind.{loader_ceiling}
 use Rattle.elf_source.specs.Source.{MasksSectionHeaders}
-use Rattle.elf_wanted.specs.Wants.{query_of}
+use Rattle.elf_options.specs.Wants.{query_of}
 use Rattle.elf_loader.proofs.HiddenLaws.{looked_as_it_is, looked_hidden}
 use Rattle.elf_loader.proofs.loader_lookup.look_up.Goals as goal
 

@@ -5,7 +5,7 @@ use Rattle.elf_headers.proofs.LedgerLaws.{CallDid-as, CallDid-then}
 use Rattle.elf_loader.specs.Lookups.{lookup_bytes}
 use Rattle.elf_loader.proofs.LookLaws.{looks_scoped, looks_unscoped}
 use Rattle.elf_loader.proofs.ReadLaws.{ceiling_is}
-use Rattle.elf_wanted.specs.Wants.{query_of}
+use Rattle.elf_options.specs.Wants.{query_of}
 use Rattle.elf_loader.proofs.loader_lookup.lookup_and_read_version.Goals as goal
 
 pub returns-in_err-scope-clause-did : goal.returns-in_err-scope-clause-did

@@ -9,7 +9,7 @@ use Rattle.elf_model.specs.LoaderFind.{walk_in}
 use Rattle.elf_loader.specs.Lookups.{match_bytes}
 use Rattle.elf_loader.specs.NumberSets.{has_number}
 use Rattle.elf_loader.proofs.LookLaws.{looks_unwalked, looks_walked, walks_as}
-use Rattle.elf_wanted.specs.Wants.{query_of}
+use Rattle.elf_options.specs.Wants.{query_of}
 use Rattle.elf_loader.proofs.loader_lookup.search_chain.Goals as goal
 
 pub returns-in_err-walked : goal.returns-in_err-walked

@@ -5,7 +5,7 @@ use Rattle.elf_headers.proofs.LedgerLaws.{CallDid-as, CallDid-then}
 use Rattle.elf_model.specs.LoaderFind.{version_indices}
 use Rattle.elf_loader.proofs.LookLaws.{looks_numbered, looks_unnumbered, none_read}
 use Rattle.elf_loader.proofs.ReadLaws.{after_within}
-use Rattle.elf_wanted.specs.Wants.{query_of}
+use Rattle.elf_options.specs.Wants.{query_of}
 use Rattle.elf_loader.proofs.loader_lookup.search_hash_table.Goals as goal
 
 pub returns-in_err-numbers : goal.returns-in_err-numbers

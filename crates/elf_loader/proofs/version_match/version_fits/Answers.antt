@@ -5,7 +5,7 @@ use Rattle.elf_headers.specs.declared.fault.Fault.TheVariants.{Refused}
 use Rattle.elf_model.specs.declared.causes.Cause.TheVariants.{VersionCut}
 use Rattle.elf_headers.proofs.Absent.{none-of}
 use Rattle.elf_loader.specs.NumberSets.{has_number}
-use Rattle.elf_wanted.specs.Wants.{asked_of}
+use Rattle.elf_options.specs.Wants.{asked_of}
 use Rattle.elf_loader.proofs.AnswerLaws.{fits-cut, fits-none, fits-word}
 use Rattle.elf_loader.proofs.version_match.version_fits.Goals as goal
 

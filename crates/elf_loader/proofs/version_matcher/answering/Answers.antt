@@ -3,7 +3,7 @@ use Rattle.std.proofs.Common.{Ok, ap, sym, ◌∙◌, arith}
 use Rattle.std.proofs.lemmas.Result.{err_from_is_err_and}
 use Rattle.elf_headers.proofs.LedgerLaws.{CallDid-as, CallDid-of, CallDid-then}
 use Rattle.elf_loader.specs.NumberSets.{has_number}
-use Rattle.elf_wanted.specs.Wants.{query_of}
+use Rattle.elf_options.specs.Wants.{query_of}
 use Rattle.elf_loader.proofs.AnswerLaws.{fault-answers, fault-tells, offered-answers, other-answers, symbol-is, unoffered-answers}
 use Rattle.elf_loader.proofs.version_matcher.answering.Goals as goal
 

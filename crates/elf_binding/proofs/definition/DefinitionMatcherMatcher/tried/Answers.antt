@@ -4,7 +4,7 @@ use Rattle.std.proofs.lemmas.Result.{err_from_is_err_and}
 use Rattle.elf_headers.proofs.LedgerLaws.{CallDid-as}
 use Rattle.elf_loader.specs.NumberSets.{has_number}
 use Rattle.elf_model.specs.Loader.{answers}
-use Rattle.elf_wanted.specs.Wants.{query_of}
+use Rattle.elf_options.specs.Wants.{query_of}
 use Rattle.elf_binding.proofs.DefinerLaws.{tries_answer, tries_fault}
 use Rattle.elf_binding.proofs.definition.DefinitionMatcherMatcher.tried.Goals as goal
 

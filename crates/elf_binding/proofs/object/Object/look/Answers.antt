@@ -1,5 +1,5 @@
 -- A lookup between a limit that is set and taken away.
-use Rattle.elf_wanted.specs.Wants.{query_of}
+use Rattle.elf_options.specs.Wants.{query_of}
 use Rattle.elf_binding.proofs.SpendLaws.{looks_kept}
 use Rattle.elf_binding.proofs.object.Object.look.Goals as goal
 

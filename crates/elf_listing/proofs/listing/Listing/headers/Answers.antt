@@ -1,9 +1,9 @@
 -- Each header is shown behind those before it.
-use Rattle.elf_headers.specs.Permitted.{style_of}
+use Rattle.elf_options.specs.Permitted.{style_of}
 use Rattle.std.proofs.Common.{◌≡◌, ℕ, List, refl, arith}
 use Rattle.std.proofs.lemmas.Result.{err_from_is_err_and}
 use Rattle.elf_model.specs.Listing.{ListingItem}
-use Rattle.elf_headers.specs.declared.caps.Style.{Style}
+use Rattle.elf_options.specs.declared.caps.Style.{Style}
 use Rattle.elf_table.specs.declared.file.File.{File}
 use Rattle.elf_listing.specs.Parts.{listed_by}
 use Rattle.elf_listing.specs.declared.parts.Part.{Part}

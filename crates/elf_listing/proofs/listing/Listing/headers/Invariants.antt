@@ -1,5 +1,5 @@
 -- What was shown so far are the headers before the index.
-use Rattle.elf_headers.specs.Permitted.{style_of}
+use Rattle.elf_options.specs.Permitted.{style_of}
 use Rattle.std.proofs.Common.{◌≡◌, ℕ, ◌-◌, ◌≤◌, List, Ok}
 use Rattle.elf_model.specs.Cost.{sum_over}
 use Rattle.elf_model.specs.Listing.{each}

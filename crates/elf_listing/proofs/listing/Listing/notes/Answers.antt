@@ -1,7 +1,7 @@
 -- Each note that the cursor gives is the file's, and is shown behind those before it.
 use Rattle.std.proofs.Common.{◌+◌, refl, ap, sym, ◌∙◌, arith}
 use Rattle.std.proofs.lemmas.Result.{err_from_is_err_and}
-use Rattle.elf_headers.specs.Permitted.{style_of}
+use Rattle.elf_options.specs.Permitted.{style_of}
 use Rattle.elf_model.specs.Bytes.{slice}
 use Rattle.elf_model.specs.Notes.{note_align}
 use Rattle.elf_names.proofs.HeldLaws.{still_held}

@@ -1,6 +1,6 @@
 -- What was shown so far are the notes before the cursor's, and what may still be asked for is counted.
 use Rattle.std.proofs.Common.{◌≡◌, ℕ, ◌+◌, ◌≤◌, List, None, Some}
-use Rattle.elf_headers.specs.Permitted.{style_of}
+use Rattle.elf_options.specs.Permitted.{style_of}
 use Rattle.elf_model.specs.Bytes.{slice}
 use Rattle.elf_model.specs.Notes.{note_align, walked}
 use Rattle.elf_model.specs.Rows.{walk_rows}

@@ -1,7 +1,7 @@
 -- The name of the symbol and then its version are read before the line is put.
 use Rattle.std.proofs.Common.{◌≡◌, ℕ, ◌+◌, ◌*◌, ◌/◌, ◌^◌, ◌==◌, not, refl, sym, ap, ◌∙◌, [], Ok, Err, arith}
 use Rattle.std.proofs.lemmas.Result.{err_from_is_err_and}
-use Rattle.elf_headers.specs.Permitted.{style_of}
+use Rattle.elf_options.specs.Permitted.{style_of}
 use Rattle.elf_model.specs.Names.{name_bytes}
 use Rattle.elf_model.specs.Records.{section_at, sh_link, sh_offset}
 use Rattle.elf_model.specs.Tables.{entry_at, linked_at}

@@ -1,5 +1,5 @@
 -- What was shown so far are the rows before the cursor's, and what may still be asked for is counted.
-use Rattle.elf_headers.specs.Permitted.{style_of}
+use Rattle.elf_options.specs.Permitted.{style_of}
 use Rattle.std.proofs.Common.{◌≡◌, ℕ, ◌+◌, ◌*◌, ◌<◌, ◌≤◌, List, None, Some}
 use Rattle.elf_model.specs.Listing.{each}
 use Rattle.elf_names.specs.Ahead.{ReadsOnCredit}

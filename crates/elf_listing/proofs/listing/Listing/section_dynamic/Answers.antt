@@ -1,5 +1,5 @@
 -- The table's checks and its string table's stand before its entries.
-use Rattle.elf_headers.specs.Permitted.{style_of}
+use Rattle.elf_options.specs.Permitted.{style_of}
 use Rattle.std.proofs.Common.{rules, ◌≡◌, ◌==◌, false, refl, sym, ◌∙◌}
 use Rattle.std.proofs.lemmas.Bool.{eq-eqb, ne_eqb}
 use Rattle.std.proofs.lemmas.Result.{err_from_is_err_and}

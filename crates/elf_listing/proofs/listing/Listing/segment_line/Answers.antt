@@ -1,7 +1,7 @@
 -- The program header in the store is the file's.
 use Rattle.std.proofs.Common.{refl, ◌∙◌, arith}
 use Rattle.std.proofs.lemmas.Result.{err_from_is_err_and}
-use Rattle.elf_headers.specs.Permitted.{style_of}
+use Rattle.elf_options.specs.Permitted.{style_of}
 use Rattle.elf_model.specs.Records.{segment_at}
 use Rattle.elf_listing.proofs.RowLaws.{Whole-line, WroteUntilStop-line}
 use Rattle.elf_listing.proofs.SegmentShown.{segment_line_is, views}

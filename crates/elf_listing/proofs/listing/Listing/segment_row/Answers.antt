@@ -1,6 +1,6 @@
 use Rattle.std.proofs.Common.{refl, ◌≡◌, ◌+◌, ◌*◌, ◌∙◌, arith}
 use Rattle.std.proofs.lemmas.Result.{err_from_is_err_and}
-use Rattle.elf_headers.specs.Permitted.{style_of}
+use Rattle.elf_options.specs.Permitted.{style_of}
 use Rattle.elf_model.specs.Records.{e_phoff}
 use Rattle.elf_listing.proofs.RowLaws.{segment_is, Whole-line, WroteUntilStop-line}
 use Rattle.elf_names.proofs.SpendsLaws.{SpendsAtMost-none}

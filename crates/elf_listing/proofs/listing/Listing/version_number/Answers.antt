@@ -1,6 +1,6 @@
 use Rattle.std.proofs.Common.{◌≡◌, [], refl, sym, ◌∙◌, arith}
 use Rattle.std.proofs.lemmas.Result.{err_from_is_err_and}
-use Rattle.elf_headers.specs.Permitted.{style_of}
+use Rattle.elf_options.specs.Permitted.{style_of}
 use Rattle.elf_listing.proofs.ListsLaws.{Lists-hidden, Lists-named, Lists-unread}
 use Rattle.elf_listing.proofs.NumberedShown.{reported_is, word_is}
 use Rattle.elf_listing.proofs.RowLaws.{WroteUntilStop-chosen, WroteSome-as, chosen-hidden, chosen-shown, chosen-as}

@@ -1,6 +1,6 @@
 -- What was shown so far are the records before the cursor's, and what may still be asked for is counted.
 use Rattle.std.proofs.Common.{◌≡◌, ◌+◌, ◌≤◌, List, ℕ, None, Some}
-use Rattle.elf_headers.specs.Permitted.{style_of}
+use Rattle.elf_options.specs.Permitted.{style_of}
 use Rattle.elf_names.specs.Ahead.{ReadsOnCredit}
 use Rattle.elf_source.specs.Growth.{OutGrows}
 use Rattle.elf_table.specs.Tables.{strings_in}

@@ -2,7 +2,7 @@
 use Rattle.std.proofs.Common.{arith}
 use Rattle.elf_headers.proofs.LedgerLaws.{CallDid-as}
 use Rattle.elf_loader.specs.NumberSets.{has_number}
-use Rattle.elf_wanted.specs.Wants.{query_of}
+use Rattle.elf_options.specs.Wants.{query_of}
 use Rattle.elf_loader.proofs.AnswerLaws.{tries-as}
 use Rattle.elf_loader.proofs.version_matcher.VersionMatcherMatcher.tried.Goals as goal
 

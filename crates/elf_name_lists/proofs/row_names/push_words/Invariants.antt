@@ -1,7 +1,0 @@
--- Of the words so far each stands behind the names that there were.
-use Rattle.std.proofs.Common.{◌≡◌, ◌++◌, take}
-use Rattle.elf_wanted.specs.Names.{texts_of}
-use Rattle.elf_name_lists.proofs.row_names.push_words.Given as goal
-
-abbrev pub invariant-loop-word : goal.invariant-loop-word
-invariant-loop-word l = texts_of l.names.items ≡ texts_of l.initial.names.items ++ texts_of (take l.word-index l.words)

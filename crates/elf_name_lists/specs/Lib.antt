@@ -1,2 +1,0 @@
-pub mod NameLists
-pub mod NamedRows

@@ -1,0 +1,5 @@
+pub mod NameSearch
+mod JoinedLaws
+pub mod SpelledLaws
+pub mod LineLaws
+pub mod NameLaws

@@ -1,0 +1,9 @@
+pub mod Wants
+pub mod Names
+pub mod Joins
+pub mod Chosen
+pub mod Required
+pub mod Spelled
+pub mod NameLists
+pub mod NamedRows
+pub mod Permitted

@@ -1,0 +1,91 @@
+//! The words that are required, as texts spell them.
+ghost use Rattle.std.specs.Prelude.{◌≡◌, bytes_eq, map, option_map};
+ghost use Rattle.std.specs.List.{list_any};
+ghost use Rattle.elf_options.specs.Required.{required_word};
+ghost use Rattle.elf_options.specs.Spelled.{SpellsTraits, column_named, column_words};
+ghost use Rattle.elf_options.specs.Spelled.{split_at_sign, parsed_trait_word, word_in};
+
+use crate::required::RequiredTrait;
+use elf_model::TraitColumn;
+
+/// The word that a text spells: the name of a column, `=` and a word that the line of a file can have in
+/// that column, as in `relro=full`. None for another text.
+#[tactic(auto, unfolding(crate::specs::Spelled::parsed_trait_word))]
+pub fn parsed_trait_word(text: &str) -> Option<RequiredTrait<'_>>
+    ensures { option_map required_word result ≡ parsed_trait_word text.now }
+{
+    let (name, word) = parted(text)?;
+    word_in(column_named(name)?, word)
+}
+
+/// What stands before and behind the first `=`.
+fn parted(text: &str) -> Option<(&str, &str)>
+    ensures { option_map (λ parts. (parts.0.now, parts.1.now)) result ≡ split_at_sign 61 text.now }
+{
+    text.split_once('=')
+}
+
+/// The column of this name.
+#[tactic(auto, unfolding(crate::specs::Spelled::column_named))]
+fn column_named(name: &str) -> Option<TraitColumn>
+    ensures { result ≡ column_named name.now }
+{
+    match name {
+        "kind" => Some(TraitColumn::Kind),
+        "relro" => Some(TraitColumn::Relro),
+        "stack" => Some(TraitColumn::Stack),
+        "pages" => Some(TraitColumn::Pages),
+        "text" => Some(TraitColumn::Text),
+        "cet" => Some(TraitColumn::Cet),
+        "canary" => Some(TraitColumn::Canary),
+        "fortify" => Some(TraitColumn::Fortify),
+        "path" => Some(TraitColumn::Path),
+        _ => None,
+    }
+}
+
+/// A word of a column, where the line of a file can have it there.
+fn word_in(column: TraitColumn, word: &str) -> Option<RequiredTrait<'_>>
+    ensures { option_map required_word result ≡ word_in column word.now }
+{
+    if !is_among(word, column_words(column)) {
+        return None;
+    }
+    Some(RequiredTrait { column, word })
+}
+
+/// Whether a word is one of some.
+fn is_among(word: &str, mut words: &[&str]) -> bool
+    ensures { result ≡ list_any (bytes_eq word.now) (map (λ other. other.now) words.entry.now) }
+{
+    while let [other, rest @ ..] = words {
+        if word == *other {
+            return true;
+        }
+        words = rest;
+    }
+    false
+}
+
+/// The words that the lines of files can have in a column.
+#[tactic(auto, unfolding(crate::specs::Spelled::column_words))]
+fn column_words(column: TraitColumn) -> &'static [&'static str]
+    ensures { map (λ word. word.now) result.now ≡ column_words column }
+{
+    match column {
+        TraitColumn::Kind => &["exec", "pie", "static", "lib", "object", "core", "other"],
+        TraitColumn::Relro => &["full", "partial", "none", "-"],
+        TraitColumn::Stack => &["nx", "exec", "-"],
+        TraitColumn::Pages => &["w^x", "wx", "-"],
+        TraitColumn::Text => &["fixed", "patch", "-"],
+        TraitColumn::Cet => &["ibt+shstk", "ibt", "shstk", "-"],
+        TraitColumn::Canary => &["canary", "-"],
+        TraitColumn::Fortify => &["fortify", "-"],
+        TraitColumn::Path => &["rpath", "runpath", "-"],
+    }
+}
+
+/// Just those texts spell words of what some file has.
+pub fn spells_traits()
+    ensures { SpellsTraits }
+{}

@@ -1,3 +1,0 @@
-pub mod NameSearch
-mod JoinedLaws
-pub mod SpelledLaws

@@ -1,8 +1,0 @@
--- What the longest of the texts has that were gone through.
-use Rattle.std.proofs.Common.{◌≡◌, take}
-use Rattle.elf_model.specs.Choice.{most_bytes}
-use Rattle.elf_wanted.specs.Names.{texts_of}
-use Rattle.elf_wanted.proofs.names.SortedStrings.longest.Given as goal
-
-abbrev pub invariant-loop-text : goal.invariant-loop-text
-invariant-loop-text l = l.most ≡ most_bytes (texts_of (take l.text-index l.text-items))

@@ -1,5 +1,0 @@
-use Rattle.elf_wanted.proofs.SpelledLaws.{parted}
-use Rattle.elf_wanted.proofs.spelled.parted.Goals as goal
-
-pub returns : goal.returns
-returns c = parted c.args.text.now c.split_once.result c.split_once.ensures.cases
