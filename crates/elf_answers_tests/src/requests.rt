@@ -2,11 +2,10 @@
 
 use elf_answers::run;
 use elf_endings::outcome;
-use elf_fakes::FailSource;
+use elf_source::{Counted, FailSource, MemorySource, Out, OutFault, SliceSink, Source, SourceFault, WriteSink};
 use elf_headers::{HeaderBuffer, HeaderStore, Limits, NameLimit, RunFault, Style};
 use elf_record::Parts;
 use elf_requests::{Request, Task};
-use elf_source::{Counted, MemorySource, Out, OutFault, SliceSink, Source, SourceFault, WriteSink};
 use std::process::Abort;
 use std::test::Fail;
 

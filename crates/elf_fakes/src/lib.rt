@@ -2,18 +2,14 @@
 //! interrupted, or give little.
 #![tactic(auto)]
 
-mod fail_source;
 mod pieces;
 mod printer;
 mod script;
 mod faulty_source;
 mod tape;
-mod turn_source;
 
-pub use fail_source::FailSource;
 pub use pieces::ChunkedReader;
 pub use printer::ShortWriter;
 pub use script::{FaultScript, InjectedFault};
 pub use faulty_source::FaultySource;
 pub use tape::{EndlessReader, stands_at};
-pub use turn_source::TurnSource;

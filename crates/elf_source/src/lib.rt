@@ -2,8 +2,8 @@
 #![tactic(auto)]
 
 mod counted;
+mod fail_source;
 mod faults;
-mod section_header_mask;
 mod holding_sink;
 mod memory_source;
 mod null_sink;
@@ -12,13 +12,17 @@ mod opened;
 mod output;
 mod range_source;
 mod reader;
+mod section_header_mask;
 mod seek_reader;
 mod sink;
 mod slice_sink;
 mod source;
 mod stream_source;
+mod turn_source;
 mod write_sink;
 
+pub use fail_source::FailSource;
+pub use turn_source::TurnSource;
 pub use counted::{Counted, READ_BYTES};
 pub use faults::{AskFault, OutFault, ReadAtFault, SinkFault, SourceFault};
 pub use holding_sink::{DeferredLine, DeferredSink};

@@ -1,9 +1,10 @@
 //! A source that answers from two files in turn.
 ghost use Rattle.std.specs.Prelude.{◌≡◌, ℕ, ◌+◌, ◌≤◌, List, length, take, drop, Ok, Some, None, IfErr, IfSome, OnOk, if◌then◌else◌};
 ghost use Rattle.elf_source.specs.Source.{Keeps, IsSourceFault};
-ghost use Rattle.elf_fakes.specs.Failing.{Turning, seen_turning};
+ghost use Rattle.elf_source.specs.Failing.{Turning, seen_turning};
 
-use elf_source::{Source, SourceFault};
+use crate::source::Source;
+use crate::faults::SourceFault;
 use std::marker::Model;
 
 /// A source over two files of one length, whose reads are answered from the two in turn. It never

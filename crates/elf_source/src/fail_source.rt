@@ -1,9 +1,10 @@
 //! A source of which one read fails.
 ghost use Rattle.std.specs.Prelude.{◌≡◌, ℕ, ◌+◌, ◌≤◌, List, Some, None, length, take, drop, Err, IfErr, OnOk, ⊤};
 ghost use Rattle.elf_source.specs.Source.{Keeps, IsSourceFault};
-ghost use Rattle.elf_fakes.specs.Failing.{Failing, seen_failing};
+ghost use Rattle.elf_source.specs.Failing.{Failing, seen_failing};
 
-use elf_source::{Source, SourceFault};
+use crate::source::Source;
+use crate::faults::SourceFault;
 use std::marker::Model;
 
 /// A source that passes its reads on to another, but for one that fails. It is honest where the other
