@@ -14,8 +14,8 @@ use Rattle.elf_source.specs.Growth.{OutGrows}
 use Rattle.elf_source.specs.Source.{CountedState}
 use Rattle.elf_source.specs.Output.{OutState}
 use Rattle.elf_options.specs.declared.caps.Caps.{Caps}
-use Rattle.elf_headers.specs.declared.run_fault.RunFault.{RunFault}
-use Rattle.elf_headers.specs.declared.run_fault.RunFault.TheVariants.{Refused, Source, Out}
+use Rattle.elf_table.specs.declared.run_fault.RunFault.{RunFault}
+use Rattle.elf_table.specs.declared.run_fault.RunFault.TheVariants.{Refused, Source, Out}
 use Rattle.elf_listing.specs.Reports.{WroteReport, AsksWithin, FaultSays, KeepsSourceUnlimited, WroteText}
 use Rattle.elf_answers.specs.Answers.{EndsInRefusal, WholeOrUsedUp, WroteAnswer}
 use Rattle.elf_answers.specs.Requests.{RunsShow}

@@ -18,11 +18,11 @@ use Rattle.elf_source.specs.declared.faults.OutFault.{OutFault}
 use Rattle.elf_source.proofs.PutsLaws.{SinkTakes-then, SinkTakesPrefix-then}
 use Rattle.elf_source.specs.Source.{CountedState, SetsLimit, SourceState}
 use Rattle.elf_source.proofs.LimitLaws.{within_budget}
-use Rattle.elf_headers.specs.Ledger.{CallReads}
-use Rattle.elf_headers.specs.Stops.{stop_of}
-use Rattle.elf_headers.specs.declared.fault.Fault.{Fault}
-use Rattle.elf_headers.specs.declared.fault.Fault.TheVariants.{Refused as Refuses, Source as Unread}
-use Rattle.elf_headers.specs.declared.run_fault.RunFault.{RunFault}
+use Rattle.elf_table.specs.Ledger.{CallReads}
+use Rattle.elf_table.specs.Stops.{stop_of}
+use Rattle.elf_table.specs.declared.fault.Fault.{Fault}
+use Rattle.elf_table.specs.declared.fault.Fault.TheVariants.{Refused as Refuses, Source as Unread}
+use Rattle.elf_table.specs.declared.run_fault.RunFault.{RunFault}
 use Rattle.elf_hash.specs.Lookups.{GivesLookup}
 use Rattle.elf_listing.specs.Reports.{ReturnsStop}
 use Rattle.elf_listing.specs.Shows.{IsOfOutput}

@@ -17,12 +17,12 @@ use Rattle.elf_source.specs.Source.{CountedState, Keeps, SetsLimit, counted}
 use Rattle.elf_source.specs.Output.{OutState, SinkTakes, SinkTakesPrefix}
 use Rattle.elf_source.proofs.LimitLaws.{budget_below, late_budget}
 use Rattle.elf_source.proofs.PutsLaws.{SinkTakes-nothing, SinkTakesPrefix-all, SinkTakesPrefix-more, SinkTakesPrefix-then}
-use Rattle.elf_headers.specs.Faults.{IsReadFault}
-use Rattle.elf_headers.specs.Stops.{stop_of}
-use Rattle.elf_headers.specs.declared.fault.Fault.{Fault}
-use Rattle.elf_headers.specs.declared.fault.Fault.TheVariants.{Refused as Refuses, Source as Unread}
-use Rattle.elf_headers.specs.declared.run_fault.RunFault.{RunFault}
-use Rattle.elf_headers.specs.declared.run_fault.RunFault.TheVariants.{Refused, Source, Out}
+use Rattle.elf_table.specs.Faults.{IsReadFault}
+use Rattle.elf_table.specs.Stops.{stop_of}
+use Rattle.elf_table.specs.declared.fault.Fault.{Fault}
+use Rattle.elf_table.specs.declared.fault.Fault.TheVariants.{Refused as Refuses, Source as Unread}
+use Rattle.elf_table.specs.declared.run_fault.RunFault.{RunFault}
+use Rattle.elf_table.specs.declared.run_fault.RunFault.TheVariants.{Refused, Source, Out}
 use Rattle.elf_apply.specs.Applied.{Applies, ApplySays, BudgetTooSmall, text_of}
 use Rattle.elf_apply.specs.declared.apply_section.Applied.{Applied}
 use Rattle.elf_listing.specs.Reports.{FaultSays, ReturnsStop}

@@ -1,6 +1,6 @@
 -- What the listing of an archive answers.
 use Rattle.std.specs.Prelude.{ℕ, ◌==◌, Bool, Result, Ok, Err}
-use Rattle.elf_headers.specs.declared.run_fault.RunFault.{RunFault}
+use Rattle.elf_table.specs.declared.run_fault.RunFault.{RunFault}
 
 -- a status says whether the listing of a member was refused
 abbrev pub refused_by : Result ℕ RunFault → Result Bool RunFault

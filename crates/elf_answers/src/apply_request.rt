@@ -3,7 +3,7 @@ ghost use Rattle.std.specs.Prelude.{◌≡◌, ◌^◌, ◌≤◌};
 ghost use Rattle.elf_answers.specs.Requests.{RunsApply};
 
 use elf_apply::apply_with;
-use elf_headers::{HeaderStore, Limits, RunFault};
+use elf_table::{HeaderStore, Limits, RunFault};
 use elf_layout::Addresses;
 use elf_listing::show_stop;
 use elf_model::Format;

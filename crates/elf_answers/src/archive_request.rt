@@ -2,7 +2,7 @@
 ghost use Rattle.std.specs.Prelude.{◌≡◌, ◌≤◌, IfOk};
 ghost use Rattle.elf_answers.specs.ArchiveAnswers.{refused_by};
 
-use elf_headers::RunFault;
+use elf_table::RunFault;
 
 /// What a listing of an archive answers, as a run does: the status 1 where the listing of a member was
 /// refused, else 0.

@@ -9,7 +9,7 @@ ghost use Rattle.elf_answers.specs.Lookups.{answer_of_lookup};
 ghost use Rattle.elf_answers.specs.Requests.{RunsFind};
 
 use elf_hash::{Lookup, find};
-use elf_headers::{HeaderStore, Limits, RunFault};
+use elf_table::{HeaderStore, Limits, RunFault};
 use elf_lines::{show_steps, show_symbol};
 use elf_listing::show_stop;
 use elf_model::Format;

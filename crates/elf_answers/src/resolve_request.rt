@@ -20,13 +20,12 @@ ghost use Rattle.elf_answers.specs.Requests.{RunsResolve};
 ghost use Rattle.elf_options.specs.Wants.{asked_of};
 
 use elf_fields::{LinePrefix, show_named};
-use elf_headers::{HeaderStore, Limits, RunFault};
+use elf_table::{HeaderStore, Limits, NameBuf, NameEnd, RunFault};
 use elf_lines::{ConstantNames, show_steps, symbol_front_in, symbol_version_front_in};
 use elf_listing::show_stop;
 use elf_loader::{FoundSymbol, FoundVersion, SymbolLookup, VersionName, look_up};
 use elf_model::Format;
 use elf_source::{Counted, Out, OutFault, Sink, Source};
-use elf_table::{NameBuf, NameEnd};
 use elf_options::{Asked, Wanted, parse_query};
 
 /// How a name is looked up, and how that is answered.

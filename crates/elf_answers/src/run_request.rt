@@ -5,7 +5,7 @@ ghost use Rattle.elf_answers.specs.Requests.{RunsShow, RunsTask};
 use crate::apply_request::write_applied;
 use crate::find_request::look_up;
 use crate::resolve_request::{LookupStyle, resolve};
-use elf_headers::{Caps, HeaderStore, RunFault};
+use elf_table::{Caps, HeaderStore, RunFault};
 use elf_layout::Addresses;
 use elf_listing::show;
 use elf_record::Parts;

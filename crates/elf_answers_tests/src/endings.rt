@@ -2,7 +2,7 @@
 
 use elf_endings::{ExitLine, end_answer};
 use elf_fakes::{FaultScript, InjectedFault, ShortWriter};
-use elf_headers::RunFault;
+use elf_table::RunFault;
 use elf_source::{OutFault, SourceFault};
 use std::io::{BufWriter, ErrorKind, Write};
 use std::process::Abort;

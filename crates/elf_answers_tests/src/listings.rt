@@ -5,7 +5,7 @@ use elf_fakes::ChunkedReader;
 use elf_fixtures::{
     hash_with_cycle, library_without_sections, note_segment, one_call, one_symbol_table,
 };
-use elf_headers::HeaderBuffer;
+use elf_table::HeaderBuffer;
 use elf_listing::{FIXED_BYTES, SUFFIX_BYTES, VERSION_BYTES};
 use elf_source::{MemorySource, StreamSource};
 use std::process::Abort;

@@ -3,7 +3,7 @@
 use elf_answers::run;
 use elf_endings::outcome;
 use elf_source::{Counted, FailSource, MemorySource, Out, OutFault, SliceSink, Source, SourceFault, WriteSink};
-use elf_headers::{HeaderBuffer, HeaderStore, Limits, NameLimit, RunFault, Style};
+use elf_table::{HeaderBuffer, HeaderStore, Limits, NameLimit, RunFault, Style};
 use elf_record::Parts;
 use elf_requests::{Request, Task};
 use std::process::Abort;

@@ -3,7 +3,7 @@ use crate::requests::{LISTED, carry_out, listing, request};
 use elf_endings::outcome;
 use elf_source::TurnSource;
 use elf_fixtures::{hash_with_cycle, one_symbol_table, overlapping_relocations, with_bytes};
-use elf_headers::HeaderBuffer;
+use elf_table::HeaderBuffer;
 use elf_layout::Layout;
 use elf_model::Format;
 use elf_requests::{Request, Task, checked_name};

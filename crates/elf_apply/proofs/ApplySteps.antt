@@ -12,19 +12,19 @@ use Rattle.elf_model.specs.declared.causes.Refusal.{Refusal}
 use Rattle.elf_model.proofs.ApplySteps.{applied-refused, applied-fault, applied-patched}
 use Rattle.elf_model.proofs.ChangeLaws.{changes_inside}
 use Rattle.elf_source.specs.Output.{OutState}
-use Rattle.elf_headers.specs.Faults.{HeaderRead}
-use Rattle.elf_headers.specs.Load.{HoldsSectionHeaders, LoadedAs}
-use Rattle.elf_headers.specs.Store.{StoreState}
-use Rattle.elf_headers.specs.declared.fault.Fault.{Fault}
-use Rattle.elf_headers.specs.declared.fault.Fault.TheVariants.{Refused as Refuses}
+use Rattle.elf_table.specs.Faults.{HeaderRead}
+use Rattle.elf_table.specs.Load.{HoldsSectionHeaders, LoadedAs}
+use Rattle.elf_table.specs.Store.{StoreState}
+use Rattle.elf_table.specs.declared.fault.Fault.{Fault}
+use Rattle.elf_table.specs.declared.fault.Fault.TheVariants.{Refused as Refuses}
 use Rattle.elf_apply.specs.Applied.{HeldIs, Applies, IsApplyTarget, WritesOrWants}
 use Rattle.elf_apply.specs.Entries.{target_as}
 use Rattle.elf_apply.specs.Passes.{ChecksEntries, folded, rising}
 use Rattle.elf_apply.specs.Walk.{changes_all, changes_from, sections_of}
-use Rattle.elf_headers.specs.Stops.{stop_of}
+use Rattle.elf_table.specs.Stops.{stop_of}
 use Rattle.elf_apply.specs.declared.apply_section.Applied.{Applied}
 use Rattle.elf_apply.specs.declared.entry.ApplyTarget.{ApplyTarget as TargetCode}
-use Rattle.elf_headers.specs.declared.run_fault.RunFault.{RunFault}
+use Rattle.elf_table.specs.declared.run_fault.RunFault.{RunFault}
 use Rattle.elf_apply.proofs.WindowSteps.{front_none}
 
 -- what a pass says of the patches

@@ -7,12 +7,12 @@ use Rattle.elf_model.specs.Placing.{Layout}
 use Rattle.elf_source.specs.Output.{OutState}
 use Rattle.elf_source.specs.Source.{CountedState, ReadsUpTo}
 use Rattle.elf_source.proofs.ReadsLaws.{IsSourceFault-then, Keeps-then}
-use Rattle.elf_headers.specs.Faults.{IsOfCheck, IsReadFault}
-use Rattle.elf_headers.specs.declared.fault.Fault.{Fault}
+use Rattle.elf_table.specs.Faults.{IsOfCheck, IsReadFault}
+use Rattle.elf_table.specs.declared.fault.Fault.{Fault}
 use Rattle.elf_apply.specs.Applied.{ApplySays, ReadsWithin, BudgetTooSmall, write_passes}
 use Rattle.elf_apply.specs.Windows.{windows}
-use Rattle.elf_headers.specs.Stops.{stop_of}
-use Rattle.elf_headers.specs.declared.run_fault.RunFault.{RunFault}
+use Rattle.elf_table.specs.Stops.{stop_of}
+use Rattle.elf_table.specs.declared.run_fault.RunFault.{RunFault}
 
 -- what was asked for
 pub spends_reads : {a b : CountedState} {n : ℕ} (k : ℕ) → ReadsUpTo a b n → b.asked ≤ a.asked + k → ReadsWithin a b k

@@ -17,14 +17,14 @@ use Rattle.elf_model.proofs.SumLemmas.{sum_over-le}
 use Rattle.elf_model.proofs.Slices.{field-slice}
 use Rattle.elf_record.specs.Ehdr.{IsEhdr}
 use Rattle.elf_record.specs.declared.ehdr.Ehdr.{Ehdr}
-use Rattle.elf_headers.specs.Load.{HoldsSectionHeaders, load_cost}
-use Rattle.elf_headers.specs.Store.{row}
+use Rattle.elf_table.specs.Load.{HoldsSectionHeaders, load_cost}
+use Rattle.elf_table.specs.Store.{row}
 use Rattle.elf_apply.specs.Applied.{IsApplyTarget, passes_cost}
 use Rattle.elf_apply.specs.Entries.{beside_entry_cost}
 use Rattle.elf_apply.specs.Walk.{entry_count_in, entries_from, sections_of, walk_all}
 use Rattle.elf_apply.specs.Windows.{windows}
 use Rattle.elf_apply.specs.declared.entry.ApplyTarget.{ApplyTarget}
-use Rattle.elf_headers.proofs.LoadLaws.{early_is}
+use Rattle.elf_table.proofs.LoadLaws.{early_is}
 
 -- how many entries a section has, by its header at an offset of some bytes
 abbrev entries_at : List ℕ → ℕ → ℕ → ℕ → ℕ → ℕ

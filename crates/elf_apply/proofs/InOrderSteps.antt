@@ -12,16 +12,16 @@ use Rattle.elf_model.proofs.PatchLaws.{window_put, length_kept, final_below, kep
 use Rattle.elf_source.specs.Output.{OutState, SinkTakes, SinkTakesPrefix}
 use Rattle.elf_source.proofs.PutsLaws.{SinkTakes-nothing, SinkTakes-then, SinkTakesPrefix-then, SinkTakesPrefix-more, SinkTakesPrefix-all}
 use Rattle.elf_source.specs.Source.{CountedState}
-use Rattle.elf_headers.specs.Faults.{IsUnlimitedReadFault}
-use Rattle.elf_headers.specs.declared.fault.Fault.{Fault}
-use Rattle.elf_headers.specs.declared.fault.Fault.TheVariants.{Refused as Refuses, Source as Unread}
+use Rattle.elf_table.specs.Faults.{IsUnlimitedReadFault}
+use Rattle.elf_table.specs.declared.fault.Fault.{Fault}
+use Rattle.elf_table.specs.declared.fault.Fault.TheVariants.{Refused as Refuses, Source as Unread}
 use Rattle.elf_apply.specs.InOrder.{PendingState, IsPartlyWritten, OffsetsAscend, UnderWay}
 use Rattle.elf_apply.specs.Walk.{FindsEntry, changes_left}
 use Rattle.elf_apply.specs.Windows.{WritesBytes, UnreadSays}
-use Rattle.elf_headers.specs.Stops.{stop_of}
+use Rattle.elf_table.specs.Stops.{stop_of}
 use Rattle.elf_apply.specs.declared.entry.ApplyTarget.{ApplyTarget as TargetCode}
 use Rattle.elf_apply.specs.declared.walk.Entries.{Entries}
-use Rattle.elf_headers.specs.declared.run_fault.RunFault.{RunFault}
+use Rattle.elf_table.specs.declared.run_fault.RunFault.{RunFault}
 use Rattle.elf_apply.proofs.WindowSteps.{and_is, window_more, window_stopped, take_more}
 use Rattle.elf_model.proofs.Slices.{slice-size, slice-slice, slice-rest}
 

@@ -8,7 +8,7 @@ use borrow.Rule.Slice.PartMut.{put_mid}
 use Rattle.elf_model.specs.Apply.{StoredBytes, SectionChange, Put, Fails, put}
 use Rattle.elf_model.specs.ApplyLaws.{clipped}
 use Rattle.elf_model.specs.declared.causes.Refusal.{Refusal}
-use Rattle.elf_headers.specs.declared.fault.Fault.{Fault}
+use Rattle.elf_table.specs.declared.fault.Fault.{Fault}
 use Rattle.elf_apply.specs.Costs.{ValueOrRefusal}
 use Rattle.elf_apply.specs.Passes.{folded, Folds, ChecksEntries}
 use Rattle.elf_apply.specs.Walk.{changes_left, FindsEntry}

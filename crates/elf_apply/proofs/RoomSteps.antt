@@ -8,13 +8,13 @@ use Rattle.std.proofs.lemmas.Bool.Decides.{leb_tells}
 use Rattle.elf_model.specs.ApplyCost.{layout_names_cost}
 use Rattle.elf_source.specs.Output.{OutState}
 use Rattle.elf_source.specs.Source.{SourceState, CountedState, SetsLimit, ReadsUpTo, left}
-use Rattle.elf_headers.specs.Load.{IsOpen, LoadedFile}
-use Rattle.elf_headers.specs.Store.{StoreState}
+use Rattle.elf_table.specs.Load.{IsOpen, LoadedFile}
+use Rattle.elf_table.specs.Store.{StoreState}
 use Rattle.elf_apply.specs.Applied.{ApplySays, OverBudget, RoomFor, ReadsWithin, WritesOrWants, write_passes}
 use Rattle.elf_apply.specs.Walk.{entries_from, walk_all}
 use Rattle.elf_apply.specs.Windows.{ApplyFaultSays, NotForBudget, WritesBytes, windows}
 use Rattle.elf_apply.specs.declared.entry.ApplyTarget.{ApplyTarget}
-use Rattle.elf_headers.specs.declared.run_fault.RunFault.{RunFault}
+use Rattle.elf_table.specs.declared.run_fault.RunFault.{RunFault}
 
 -- what a pass asks for, by the number of entries and what each of them asks for
 walk_by : (target : ApplyTarget) (entries each : ℕ) → entries ≡ entries_from target 0 → each ≡ 48 + layout_names_cost target.layout.now → entries * each ≡ walk_all target

@@ -7,16 +7,16 @@ use Rattle.elf_model.specs.Records.{sh_offset, section_at}
 use Rattle.elf_model.specs.Tables.{entry_at, entry_count, relocation_table_checks}
 use Rattle.elf_model.specs.declared.causes.Refusal.{Refusal}
 use Rattle.elf_table.specs.Cursors.{CursorState, GivesRow, unread_bytes}
-use Rattle.elf_headers.specs.Store.{row}
+use Rattle.elf_table.specs.Store.{row}
 use Rattle.elf_table.specs.Relocations.{Relocates}
 use Rattle.elf_table.specs.Sections.{table_of}
 use Rattle.elf_table.specs.Tables.{Rows, TableInBounds}
 use Rattle.elf_apply.proofs.Opened.{entries_counted}
 use Rattle.elf_source.specs.Source.{CountedState, ReadsUpTo}
 use Rattle.elf_source.proofs.ReadsLaws.{ReadsUpTo-none, ReadsUpTo-then, ReadsUpTo-to}
-use Rattle.elf_headers.specs.Load.{section_place}
-use Rattle.elf_headers.specs.declared.fault.Fault.{Fault}
-use Rattle.elf_headers.specs.declared.fault.Fault.TheVariants.{Refused, Source}
+use Rattle.elf_table.specs.Load.{section_place}
+use Rattle.elf_table.specs.declared.fault.Fault.{Fault}
+use Rattle.elf_table.specs.declared.fault.Fault.TheVariants.{Refused, Source}
 use Rattle.elf_apply.specs.Entries.{target_as, patch_as, beside_entry_cost, Changes, Refers}
 use Rattle.elf_apply.specs.Walk.{AsksOf, IsWalkAlive, changes_from, rows_changes, changes_left, changes_all, entry_count_in, entries_from, sections_of, steps_left, walk_left, walk_all, StepsWalk, FindsEntry, ReadsEntries}
 use Rattle.elf_apply.specs.declared.entry.Placed.{Placed}

@@ -13,9 +13,9 @@ use Rattle.elf_model.specs.declared.relocation_types.RelocationBase.{RelocationB
 use Rattle.elf_model.specs.declared.relocation_types.Formula.{Formula}
 use Rattle.elf_reloc.specs.Types.{patched_bytes}
 use Rattle.elf_source.specs.Source.{CountedState}
-use Rattle.elf_headers.specs.Ledger.{CallReads}
-use Rattle.elf_headers.specs.declared.fault.Fault.{Fault}
-use Rattle.elf_headers.specs.declared.fault.Fault.TheVariants.{Refused, Source}
+use Rattle.elf_table.specs.Ledger.{CallReads}
+use Rattle.elf_table.specs.declared.fault.Fault.{Fault}
+use Rattle.elf_table.specs.declared.fault.Fault.TheVariants.{Refused, Source}
 use Rattle.elf_table.specs.Relocations.{RefersTo}
 use Rattle.elf_apply.specs.declared.entry.Placed.{Placed}
 use Rattle.elf_apply.specs.declared.entry.RelocationSymbols.{RelocationSymbols}

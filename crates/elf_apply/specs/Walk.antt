@@ -8,12 +8,12 @@ use Rattle.elf_model.specs.Records.{sh_offset, section_at}
 use Rattle.elf_model.specs.Tables.{RELA_SIZE, entry_at, entry_count}
 use Rattle.elf_source.specs.Source.{CountedState, ReadsUpTo}
 use Rattle.elf_table.specs.Cursors.{HoldsRows, unread_bytes, unless_failed}
-use Rattle.elf_headers.specs.Faults.{IsReadFault}
-use Rattle.elf_headers.specs.Load.{IsOpen, section_place}
-use Rattle.elf_headers.specs.Store.{row}
+use Rattle.elf_table.specs.Faults.{IsReadFault}
+use Rattle.elf_table.specs.Load.{IsOpen, section_place}
+use Rattle.elf_table.specs.Store.{row}
 use Rattle.elf_table.specs.Tables.{TableInBounds, SymbolTableInBounds}
-use Rattle.elf_headers.specs.declared.fault.Fault.{Fault}
-use Rattle.elf_headers.specs.declared.fault.Fault.TheVariants.{Refused, Source}
+use Rattle.elf_table.specs.declared.fault.Fault.{Fault}
+use Rattle.elf_table.specs.declared.fault.Fault.TheVariants.{Refused, Source}
 use Rattle.elf_apply.specs.Entries.{target_as, patch_as, beside_entry_cost, IsPlacedInside, Refers}
 use Rattle.elf_apply.specs.declared.entry.Placed.{Placed}
 use Rattle.elf_apply.specs.declared.entry.ApplyTarget.{ApplyTarget as TargetCode}

@@ -5,8 +5,8 @@ ghost use Rattle.elf_model.specs.Apply.{applied, has_no_bytes, is_compressed};
 ghost use Rattle.elf_model.specs.ApplyCost.{apply_cost_by_order, entries_for};
 ghost use Rattle.elf_record.specs.Shdr.{IsShdr};
 ghost use Rattle.elf_source.specs.Growth.{OutGrows};
-ghost use Rattle.elf_headers.specs.Faults.{IsOfCheck};
-ghost use Rattle.elf_headers.specs.Load.{HoldsSectionHeaders};
+ghost use Rattle.elf_table.specs.Faults.{IsOfCheck};
+ghost use Rattle.elf_table.specs.Load.{HoldsSectionHeaders};
 ghost use Rattle.elf_apply.specs.Applied.{Applies, AppliesFile, AppliesLoaded, AppliesTarget};
 ghost use Rattle.elf_apply.specs.Applied.{ApplySays, HasSection, HeldIs, MayApply, RoomFor};
 ghost use Rattle.elf_apply.specs.Applied.{ReadsWithin, BudgetTooSmall, WritesWithin, WroteMost};
@@ -20,12 +20,11 @@ use crate::entry::ApplyTarget;
 use crate::in_order::write_one_pass;
 use crate::passes::{Checked, check};
 use crate::windows::write_by_windows;
-use elf_headers::{Fault, HeaderStore, Loaded, RunFault, ends_outside, header, load, refused};
+use elf_table::{ends_outside, Fault, File, header, HeaderStore, load, Loaded, refused, RunFault};
 use elf_layout::{Addresses, Layout};
 use elf_record::numbers::{EM_X86_64, ET_REL, SHT_NOBITS, SHT_NULL};
 use elf_record::{Cause, Refusal, SectionFlags, Shdr};
 use elf_source::{Counted, Out, Sink, Source};
-use elf_table::File;
 
 /// What was applied.
 #[derive(Clone, Copy)]

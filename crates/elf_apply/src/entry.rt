@@ -7,7 +7,7 @@ ghost use Rattle.elf_model.specs.Values.{kind_of};
 ghost use Rattle.elf_model.specs.declared.causes.Cause.TheVariants.{Unplaced};
 ghost use Rattle.elf_reloc.specs.Types.{IsSized, IsWidth};
 ghost use Rattle.elf_record.specs.Rela.{IsRela};
-ghost use Rattle.elf_headers.specs.Ledger.{CallDid, fault_of_result};
+ghost use Rattle.elf_table.specs.Ledger.{CallDid, fault_of_result};
 ghost use Rattle.elf_table.specs.Relocations.{RefersTo};
 ghost use Rattle.elf_table.specs.Tables.{SymbolTableInBounds};
 ghost use Rattle.elf_apply.specs.Costs.{AnswersUnread, ValueOrRefusal};
@@ -16,7 +16,7 @@ ghost use Rattle.elf_apply.specs.Entries.{beside_entry_cost, taken_place, target
 ghost use Rattle.elf_apply.specs.Entries.{value_or};
 
 use crate::lookup::{SymbolEntry, base_value};
-use elf_headers::{Fault, refused};
+use elf_table::{Fault, File, Names, refused, Table};
 use elf_layout::Addresses;
 use elf_record::numbers::R_X86_64_NONE;
 use elf_record::{Cause, Rela};
@@ -24,7 +24,6 @@ use elf_reloc::{
     Formula, Patch, RelocationBase, RelocationType, patch_of, relocation_type, takes_place,
 };
 use elf_source::{Counted, Source};
-use elf_table::{File, Names, Table};
 
 /// Symbols with the string table of their names.
 pub(crate) type LinkedSymbolTable = Option<(Table, Names)>;

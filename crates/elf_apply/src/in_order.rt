@@ -17,7 +17,7 @@ ghost use Rattle.elf_apply.specs.Windows.{UnreadSays, WritesBytes};
 use crate::entry::{ApplyTarget, Placed};
 use crate::passes::put_in;
 use crate::walk::Entries;
-use elf_headers::{Fault, RunFault, fill};
+use elf_table::{Fault, RunFault, fill};
 use elf_record::{Cause, Refusal};
 use elf_reloc::Patch;
 use elf_source::{Counted, Out, OutFault, Sink, Source};

@@ -8,19 +8,18 @@ ghost use Rattle.elf_model.specs.Placing.{named_or, placed_at, symbol_value, sys
 ghost use Rattle.elf_model.specs.Placing.{undefined_value};
 ghost use Rattle.elf_model.specs.Records.{st_name};
 ghost use Rattle.elf_record.specs.Sym.{IsSym};
-ghost use Rattle.elf_headers.specs.Faults.{IsOfCheck};
+ghost use Rattle.elf_table.specs.Faults.{IsOfCheck};
 ghost use Rattle.elf_table.specs.Tables.{StringsInBounds};
 ghost use Rattle.elf_layout.specs.Layouts.{items_cost, names_for};
 ghost use Rattle.elf_apply.specs.Costs.{AnswersUnread, FindsAddress, GivesValue, ValueOrRefusal};
 
-use elf_headers::{Fault, fill, refused};
+use elf_table::{Fault, fill, Names, refused};
 use elf_layout::{Addresses, Among, ITEM_NAME_BYTES, NamedAddress, SortedNames};
 use elf_record::gnu_numbers::STT_GNU_IFUNC;
 use elf_record::numbers::{SHN_UNDEF, STB_WEAK, STT_LOOS};
 use elf_record::{Cause, Place, Sym};
 use elf_reloc::RelocationBase;
 use elf_source::{Counted, Source};
-use elf_table::Names;
 
 /// How many bytes of a symbol's name are read at most: the longest name of a layout, and its NUL.
 const NAME_BUFFER_BYTES: usize = ITEM_NAME_BYTES + 1;

@@ -3,15 +3,15 @@ ghost use Rattle.std.specs.Prelude.{◌≡◌, ◌+◌, ◌<◌, ◌^◌, ◌&&�
 ghost use Rattle.std.specs.Prelude.{length, true};
 ghost use Rattle.elf_model.specs.Apply.{put};
 ghost use Rattle.elf_model.specs.ApplyLaws.{clipped};
-ghost use Rattle.elf_headers.specs.Ledger.{CallDid, fault_of_result};
-ghost use Rattle.elf_headers.specs.Load.{IsOpen};
+ghost use Rattle.elf_table.specs.Ledger.{CallDid, fault_of_result};
+ghost use Rattle.elf_table.specs.Load.{IsOpen};
 ghost use Rattle.elf_apply.specs.Entries.{patch_as};
 ghost use Rattle.elf_apply.specs.Passes.{ChecksEntries, Folds, MayPatch, folded, rising, storing};
 ghost use Rattle.elf_apply.specs.Walk.{changes_all, entries_from, walk_all};
 
 use crate::entry::{ApplyTarget, Placed};
 use crate::walk::Entries;
-use elf_headers::Fault;
+use elf_table::Fault;
 use elf_source::{Counted, Source};
 
 /// What a pass that only checks found.

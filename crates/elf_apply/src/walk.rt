@@ -1,16 +1,15 @@
 //! The walk over the relocation entries for a section.
 ghost use Rattle.std.specs.Prelude.{◌≡◌, ◌≤◌, ℕ, List, length, IfErr, IfOk};
-ghost use Rattle.elf_headers.specs.Faults.{IsOfCheck};
-ghost use Rattle.elf_headers.specs.Load.{HoldsSectionHeaders};
+ghost use Rattle.elf_table.specs.Faults.{IsOfCheck};
+ghost use Rattle.elf_table.specs.Load.{HoldsSectionHeaders};
 ghost use Rattle.elf_apply.specs.Walk.{BeginsWalk, FindsEntry, FoundGives, IsWalkAlive, MayWalk};
 ghost use Rattle.elf_apply.specs.Walk.{ReadsEntries, StepGives, StepsWalk, StepsRelocationWalk, WentOn};
 ghost use Rattle.elf_apply.specs.Walk.{walk_left};
 
 use crate::entry::{ApplyTarget, Placed, RelocationSymbols, entry_change};
-use elf_headers::Fault;
+use elf_table::{Cursor, Fault, Row, Table};
 use elf_record::Rela;
 use elf_source::{Counted, Source};
-use elf_table::{Cursor, Row, Table};
 
 /// The relocation entries for a section, one after another: the rows of a section of entries, the
 /// sections that are still to be looked at, and how many entries the sections before those have.

@@ -7,7 +7,7 @@ ghost use Rattle.elf_apply.specs.Windows.{windows};
 
 use crate::entry::ApplyTarget;
 use crate::passes::patch_window;
-use elf_headers::{RunFault, fill};
+use elf_table::{RunFault, fill};
 use elf_source::{Counted, Out, Sink, Source};
 
 /// The size of a window in bytes.

@@ -8,8 +8,8 @@ use Rattle.elf_model.specs.Listing.{Fault as FaultItem}
 use Rattle.elf_model.specs.Style.{Style}
 use Rattle.elf_model.specs.declared.causes.Refusal.{Refusal}
 use Rattle.elf_model.proofs.ListingLemmas.{guarded-passes, guarded-fault}
-use Rattle.elf_headers.specs.declared.fault.Fault.{Fault}
-use Rattle.elf_headers.specs.declared.fault.Fault.TheVariants.{Refused}
+use Rattle.elf_table.specs.declared.fault.Fault.{Fault}
+use Rattle.elf_table.specs.declared.fault.Fault.TheVariants.{Refused}
 use Rattle.elf_archive.specs.Archives.{MagicRead}
 
 pub magic_within : (size headers : ℕ) (style : Style) → 8 ≤ archive_ceiling size headers style

@@ -7,9 +7,9 @@ use Rattle.elf_model.specs.Bytes.{slice}
 use Rattle.elf_model.specs.Cost.{cost_where}
 use Rattle.elf_source.specs.Source.{CountedState, ReadsUpTo}
 use Rattle.elf_source.proofs.ReadsLaws.{ReadsUpTo-none, ReadsUpTo-then, ReadsUpTo-to, IsSourceFault-then, ExceedsBudget-then}
-use Rattle.elf_headers.specs.Faults.{IsReadFault}
-use Rattle.elf_headers.specs.declared.fault.Fault.{Fault}
-use Rattle.elf_headers.specs.declared.fault.Fault.TheVariants.{Refused, Source}
+use Rattle.elf_table.specs.Faults.{IsReadFault}
+use Rattle.elf_table.specs.declared.fault.Fault.{Fault}
+use Rattle.elf_table.specs.declared.fault.Fault.TheVariants.{Refused, Source}
 use Rattle.elf_archive.specs.Members.{AsksAtMost, member_name_cost}
 use Rattle.elf_archive.proofs.MemberLaws.{name-of}
 

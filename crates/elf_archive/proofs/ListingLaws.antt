@@ -8,8 +8,8 @@ use Rattle.elf_model.specs.Cost.{cost_where, listing_cost, style_ceiling}
 use Rattle.elf_model.specs.Listing.{Fault as FaultItem}
 use Rattle.elf_model.specs.Style.{Style}
 use Rattle.elf_model.specs.declared.causes.Refusal.{Refusal}
-use Rattle.elf_headers.specs.declared.fault.Fault.{Fault}
-use Rattle.elf_headers.specs.declared.fault.Fault.TheVariants.{Refused, Source}
+use Rattle.elf_table.specs.declared.fault.Fault.{Fault}
+use Rattle.elf_table.specs.declared.fault.Fault.TheVariants.{Refused, Source}
 use Rattle.elf_archive.specs.Listed.{member_at, next_cost, next_items}
 use Rattle.elf_archive.specs.Members.{ReturnsMember, step_cost}
 use Rattle.elf_model.proofs.AllowanceLaws.{allowed, header_allowed}

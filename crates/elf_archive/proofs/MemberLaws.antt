@@ -4,8 +4,8 @@ use Rattle.std.proofs.lemmas.Bool.Decides.{nat_tests}
 use Rattle.elf_model.specs.Bytes.{slice, field}
 use Rattle.elf_model.specs.Names.{DisplayedName}
 use Rattle.elf_model.specs.Archive.{FileRange, Member, Ends, Broken, OneMember, MemberWalkState, behind, data_after, member_data, member_name, name_in_data, names_behind, next_member, padded_end}
-use Rattle.elf_headers.specs.declared.fault.Fault.{Fault}
-use Rattle.elf_headers.specs.declared.fault.Fault.TheVariants.{Refused, Source}
+use Rattle.elf_table.specs.declared.fault.Fault.{Fault}
+use Rattle.elf_table.specs.declared.fault.Fault.TheVariants.{Refused, Source}
 use Rattle.elf_table.specs.NamesRead.{Refuses}
 use Rattle.elf_archive.specs.Members.{ReturnsMember, names_passed}
 use Rattle.elf_model.specs.Archive.{is_name_table, member_size, name_field, parsed_member_size}

@@ -12,9 +12,9 @@ use Rattle.elf_model.specs.Notes.{capped}
 use Rattle.elf_model.specs.declared.causes.Cause.{Cause}
 use Rattle.elf_model.specs.declared.causes.Cause.TheVariants.{NameOutside, NameUnended}
 use Rattle.elf_model.proofs.Slices.{slice-rest}
-use Rattle.elf_headers.specs.Faults.{IsOfRead}
-use Rattle.elf_headers.specs.declared.fault.Fault.{Fault}
-use Rattle.elf_headers.specs.declared.fault.Fault.TheVariants.{Refused, Source}
+use Rattle.elf_table.specs.Faults.{IsOfRead}
+use Rattle.elf_table.specs.declared.fault.Fault.{Fault}
+use Rattle.elf_table.specs.declared.fault.Fault.TheVariants.{Refused, Source}
 use Rattle.elf_fields.specs.Named.{shown_as}
 use Rattle.elf_table.specs.NamesRead.{Refuses}
 use Rattle.elf_archive.specs.Members.{NameShown, member_name_cost, told_cost}

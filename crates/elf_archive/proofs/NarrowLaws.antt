@@ -8,8 +8,8 @@ use Rattle.elf_source.specs.Ranges.{Narrows, Widens, file_within}
 use Rattle.elf_source.specs.Output.{OutState}
 use Rattle.elf_source.specs.declared.faults.SourceFault.{SourceFault}
 use Rattle.elf_source.specs.declared.faults.SourceFault.TheVariants.{Device, Ended}
-use Rattle.elf_headers.specs.declared.run_fault.RunFault.{RunFault}
-use Rattle.elf_headers.specs.declared.run_fault.RunFault.TheVariants.{Refused, Source, Out}
+use Rattle.elf_table.specs.declared.run_fault.RunFault.{RunFault}
+use Rattle.elf_table.specs.declared.run_fault.RunFault.TheVariants.{Refused, Source, Out}
 use Rattle.elf_listing.specs.Shows.{ListingCosts}
 use Rattle.elf_archive.specs.Listed.{Consumes, EndsPart, IsAll, after_start}
 

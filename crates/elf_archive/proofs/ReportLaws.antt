@@ -19,8 +19,8 @@ use Rattle.elf_source.proofs.LimitLaws.{budget_below, late_budget, within_budget
 use Rattle.elf_source.proofs.PutsLaws.{SinkTakes-then, SinkTakesPrefix-then, SinkTakesPrefix-more, SinkTakesPrefix-all}
 use Rattle.elf_options.specs.Permitted.{style_of}
 use Rattle.elf_options.specs.declared.caps.Caps.{Caps}
-use Rattle.elf_headers.specs.declared.run_fault.RunFault.{RunFault}
-use Rattle.elf_headers.specs.declared.run_fault.RunFault.TheVariants.{Refused, Source, Out}
+use Rattle.elf_table.specs.declared.run_fault.RunFault.{RunFault}
+use Rattle.elf_table.specs.declared.run_fault.RunFault.TheVariants.{Refused, Source, Out}
 use Rattle.elf_listing.specs.Reports.{KeepsSourceUnlimited, WroteText, WroteRefusal, ReturnsStop}
 use Rattle.elf_listing.specs.Shows.{WroteItems, WrotePrefix, IsNext, WroteUntilRefusal, WroteUntilStop}
 use Rattle.elf_listing.proofs.EachLaws.{lines_front}

@@ -11,9 +11,9 @@ use Rattle.elf_model.specs.Notes.{capped}
 use Rattle.elf_model.specs.declared.causes.Refusal.{Refusal}
 use Rattle.elf_model.proofs.Slices.{slice-size, slice-slice}
 use Rattle.elf_source.specs.Source.{CountedState}
-use Rattle.elf_headers.specs.Faults.{IsReadFault, IsReadRefusal}
-use Rattle.elf_headers.specs.declared.fault.Fault.{Fault}
-use Rattle.elf_headers.specs.declared.fault.Fault.TheVariants.{Refused}
+use Rattle.elf_table.specs.Faults.{IsReadFault, IsReadRefusal}
+use Rattle.elf_table.specs.declared.fault.Fault.{Fault}
+use Rattle.elf_table.specs.declared.fault.Fault.TheVariants.{Refused}
 use Rattle.elf_fields.specs.Named.{shown_as}
 use Rattle.elf_archive.specs.Archives.{MagicRead}
 use Rattle.elf_archive.proofs.NameLaws.{bsd_looked, told-short}

@@ -12,12 +12,12 @@ use Rattle.elf_model.proofs.ListingLemmas.{listings_append}
 use Rattle.elf_source.specs.Output.{OutState, SinkTakes, SinkTakesPrefix}
 use Rattle.elf_source.specs.declared.faults.OutFault.{OutFault}
 use Rattle.elf_source.proofs.PutsLaws.{SinkTakes-then, SinkTakesPrefix-then, SinkTakesPrefix-more}
-use Rattle.elf_headers.specs.Faults.{IsOfRead}
-use Rattle.elf_headers.specs.Stops.{stop_of}
-use Rattle.elf_headers.specs.declared.fault.Fault.{Fault as Failure}
-use Rattle.elf_headers.specs.declared.fault.Fault.TheVariants.{Refused as Refuses, Source as Unread}
-use Rattle.elf_headers.specs.declared.run_fault.RunFault.{RunFault}
-use Rattle.elf_headers.specs.declared.run_fault.RunFault.TheVariants.{Refused, Source, Out}
+use Rattle.elf_table.specs.Faults.{IsOfRead}
+use Rattle.elf_table.specs.Stops.{stop_of}
+use Rattle.elf_table.specs.declared.fault.Fault.{Fault as Failure}
+use Rattle.elf_table.specs.declared.fault.Fault.TheVariants.{Refused as Refuses, Source as Unread}
+use Rattle.elf_table.specs.declared.run_fault.RunFault.{RunFault}
+use Rattle.elf_table.specs.declared.run_fault.RunFault.TheVariants.{Refused, Source, Out}
 use Rattle.elf_listing.specs.Shows.{WroteItems, WrotePrefix, WroteUntilRefusal, WroteSome}
 use Rattle.elf_listing.proofs.RowLaws.{WrotePrefix-none}
 use Rattle.elf_archive.specs.Listed.{EndsPart, ListsMember, ListsMembers}

@@ -9,7 +9,7 @@ use Rattle.elf_model.specs.Style.{Style}
 use Rattle.elf_source.specs.Source.{CountedState, ReadsUpTo}
 use Rattle.elf_source.specs.Output.{OutState}
 use Rattle.elf_source.proofs.ReadsLaws.{ReadsUpTo-none, ReadsUpTo-then}
-use Rattle.elf_headers.specs.declared.run_fault.RunFault.{RunFault}
+use Rattle.elf_table.specs.declared.run_fault.RunFault.{RunFault}
 use Rattle.elf_listing.specs.Shows.{WroteItems, WroteSome}
 use Rattle.elf_listing.proofs.ShowLaws.{Whole-none, Whole-then, WroteUntilStop-then, WroteUntilStop-more}
 use Rattle.elf_archive.specs.Listed.{Consumes, ListsMembers, StepsTo, next_cost, next_items}

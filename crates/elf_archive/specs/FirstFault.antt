@@ -9,8 +9,8 @@ use Rattle.elf_model.specs.declared.causes.Refusal.{Refusal}
 use Rattle.elf_source.specs.Source.{CountedState, IsSourceFault}
 use Rattle.elf_options.specs.Permitted.{style_of}
 use Rattle.elf_options.specs.declared.caps.Caps.{Caps}
-use Rattle.elf_headers.specs.declared.run_fault.RunFault.{RunFault}
-use Rattle.elf_headers.specs.declared.run_fault.RunFault.TheVariants.{Refused, Source, Out}
+use Rattle.elf_table.specs.declared.run_fault.RunFault.{RunFault}
+use Rattle.elf_table.specs.declared.run_fault.RunFault.TheVariants.{Refused, Source, Out}
 
 -- the first fault from where a walk over members has come to, over at most so many
 abbrev pub fault_from : List ℕ → ℕ → Style → ℕ → ℕ → MemberWalkState → Option Refusal

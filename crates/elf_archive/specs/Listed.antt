@@ -18,8 +18,8 @@ use Rattle.elf_source.specs.declared.faults.OutFault.{OutFault}
 use Rattle.elf_source.specs.declared.holding_sink.DeferredLine.{DeferredLine}
 use Rattle.elf_options.specs.Permitted.{style_of}
 use Rattle.elf_options.specs.declared.caps.Caps.{Caps}
-use Rattle.elf_headers.specs.declared.run_fault.RunFault.{RunFault}
-use Rattle.elf_headers.specs.declared.run_fault.RunFault.TheVariants.{Refused, Source, Out}
+use Rattle.elf_table.specs.declared.run_fault.RunFault.{RunFault}
+use Rattle.elf_table.specs.declared.run_fault.RunFault.TheVariants.{Refused, Source, Out}
 use Rattle.elf_listing.specs.Reports.{WroteText}
 use Rattle.elf_listing.specs.Shows.{WroteSome}
 use Rattle.elf_archive.specs.Members.{IsInBounds, IsMemberWalkInBounds}

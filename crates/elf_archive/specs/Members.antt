@@ -1,7 +1,7 @@
 -- What a cursor over members tells.
 use Rattle.std.specs.Prelude.{ℕ, ◌≡◌, ◌+◌, ◌*◌, ◌^◌, ◌<◌, ◌≤◌, if◌then◌else◌, is_some, nat_le, Bool, List, length, take, Option, None, Some, Result, Ok, Err, IfErr, IfSome, option_map}
 use Rattle.elf_source.specs.Source.{CountedState, ReadsUpTo}
-use Rattle.elf_headers.specs.Faults.{IsReadFault}
+use Rattle.elf_table.specs.Faults.{IsReadFault}
 use Rattle.elf_model.specs.Archive.{FileRange, Member, Ends, Broken, OneMember, MemberWalkState, behind, is_name_table, long_of, long_offset, newline_in, next_member}
 use Rattle.elf_model.specs.ArchiveCost.{is_elsewhere, long_name_bytes}
 use Rattle.elf_model.specs.Budget.{IsBudgetRefusal}
@@ -10,8 +10,8 @@ use Rattle.elf_model.specs.Names.{DisplayedName}
 use Rattle.elf_model.specs.Notes.{capped}
 use Rattle.elf_model.specs.declared.causes.Cause.{Cause}
 use Rattle.elf_model.specs.declared.causes.Cause.TheVariants.{MemberCut, NameUnended}
-use Rattle.elf_headers.specs.declared.fault.Fault.{Fault}
-use Rattle.elf_headers.specs.declared.fault.Fault.TheVariants.{Refused, Source}
+use Rattle.elf_table.specs.declared.fault.Fault.{Fault}
+use Rattle.elf_table.specs.declared.fault.Fault.TheVariants.{Refused, Source}
 use Rattle.elf_model.specs.ShownNames.{shown_as}
 use Rattle.elf_table.specs.NamesRead.{Refuses}
 use Rattle.elf_archive.specs.declared.member.FileRange.{FileRange as Place}

@@ -7,11 +7,10 @@ ghost use Rattle.elf_archive.specs.Members.{member_of};
 
 use crate::member::{FileRange, Member};
 use elf_fields::{Columns, LinePrefix, Object, show_named};
-use elf_headers::RunFault;
+use elf_table::{NameBuf, RunFault};
 use elf_lines::member_prefix;
 use elf_model::Format;
 use elf_source::{DeferredLine, DeferredSink, Out, OutFault, Sink, SliceSink};
-use elf_table::NameBuf;
 
 /// The most bytes that a line has which is held back: a name of 4,096 bytes, each spelt in five at most, and
 /// what stands around it.

@@ -3,13 +3,13 @@ ghost use Rattle.std.specs.Prelude.{◌≡◌, ℕ, ◌^◌, ◌<◌, ◌≤◌,
 ghost use Rattle.elf_model.specs.Archive.{archive_length_checks, bytes_in, is_elf};
 ghost use Rattle.elf_model.specs.Checks.{first_refusal};
 ghost use Rattle.elf_model.specs.declared.causes.Refusal.{Refusal as Refuses};
-ghost use Rattle.elf_headers.specs.Faults.{IsOfRead};
+ghost use Rattle.elf_table.specs.Faults.{IsOfRead};
 ghost use Rattle.elf_archive.specs.Archives.{MagicRead};
 ghost use Rattle.elf_archive.specs.Members.{AsksAtMost, IsInBounds, extent_of};
 
 use crate::cursor::MAGIC_BYTES;
 use crate::member::FileRange;
-use elf_headers::{Fault, fill, refused};
+use elf_table::{Fault, fill, refused};
 use elf_record::{Cause, u64_at, word};
 use elf_source::{Counted, Source};
 

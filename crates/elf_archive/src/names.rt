@@ -4,7 +4,7 @@ ghost use Rattle.elf_model.specs.Archive.{bsd_name, long_name, member_name, name
 ghost use Rattle.elf_model.specs.ArchiveCost.{long_name_bytes};
 ghost use Rattle.elf_model.specs.Bytes.{slice};
 ghost use Rattle.elf_model.specs.Notes.{capped};
-ghost use Rattle.elf_headers.specs.Faults.{IsOfRead};
+ghost use Rattle.elf_table.specs.Faults.{IsOfRead};
 ghost use Rattle.elf_fields.specs.Named.{shown_as};
 ghost use Rattle.elf_archive.specs.Members.{AsksAtMost, FrontRead, LengthTold, NameShown, NamesInBounds};
 ghost use Rattle.elf_archive.specs.Members.{extent_of_names, member_name_cost, told_cost};
@@ -14,10 +14,9 @@ use crate::fields::{
     short_length, slashless_length, trimmed_length,
 };
 use crate::member::FileRange;
-use elf_headers::{Fault, NameLimit, fill, refused};
+use elf_table::{Fault, fill, NameBuf, NameLimit, refused};
 use elf_record::Cause;
 use elf_source::{Counted, READ_BYTES, Source};
-use elf_table::NameBuf;
 
 /// The most bytes of a name outside its field that are looked at: a slash and a newline more than are
 /// shown.

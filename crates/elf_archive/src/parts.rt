@@ -8,7 +8,7 @@ ghost use Rattle.elf_archive.specs.Members.{extent_of};
 
 use crate::magic_strings::begins_elf;
 use crate::member::FileRange;
-use elf_headers::{HeaderStore, RunFault, Style};
+use elf_table::{HeaderStore, RunFault, Style};
 use elf_listing::list;
 use elf_record::{Cause, Parts, Refusal};
 use elf_source::{Counted, Out, RangeSource, Sink, Source};

@@ -17,7 +17,7 @@ use crate::fields::{
 use crate::magic_strings::magic;
 use crate::member::FileRange;
 use crate::names::{LONG_NAME_BYTES, long_length};
-use elf_headers::Fault;
+use elf_table::Fault;
 use elf_memory::{ByteRange, bytes_of, chunk_at};
 use elf_record::{Cause, Refusal};
 use elf_source::{Counted, MemorySource};

@@ -6,8 +6,8 @@ use Rattle.elf_model.specs.Bindings.{BoundTo, BoundToNone, DefinerLookup, Stoppe
 use Rattle.elf_model.specs.Bindings as model
 use Rattle.elf_model.specs.Loader.{Wanted}
 use Rattle.elf_model.specs.declared.causes.Refusal.{Refusal}
-use Rattle.elf_headers.specs.declared.fault.Fault.{Fault}
-use Rattle.elf_headers.specs.declared.fault.Fault.TheVariants.{Refused, Source}
+use Rattle.elf_table.specs.declared.fault.Fault.{Fault}
+use Rattle.elf_table.specs.declared.fault.Fault.TheVariants.{Refused, Source}
 use Rattle.elf_binding.specs.Definers.{ReturnsDefiner}
 use Rattle.elf_binding.specs.Binds.{AreObjectFiles, AskedOf, AskedFirst, BindsAcross, ReturnsBinding, asked_of_all}
 use Rattle.elf_binding.specs.Kept.{LookupObjectState}

@@ -11,12 +11,12 @@ use Rattle.elf_model.specs.Numbers.{SHN_UNDEF}
 use Rattle.elf_model.specs.Records.{st_shndx}
 use Rattle.elf_model.specs.declared.causes.Refusal.{Refusal}
 use Rattle.elf_source.specs.Source.{CountedState}
-use Rattle.elf_headers.specs.Ledger.{CallReads}
-use Rattle.elf_headers.specs.declared.fault.Fault.{Fault}
-use Rattle.elf_headers.specs.declared.fault.Fault.TheVariants.{Refused, Source}
-use Rattle.elf_headers.proofs.LedgerLaws.{CallReads-then}
+use Rattle.elf_table.specs.Ledger.{CallReads}
+use Rattle.elf_table.specs.declared.fault.Fault.{Fault}
+use Rattle.elf_table.specs.declared.fault.Fault.TheVariants.{Refused, Source}
+use Rattle.elf_table.proofs.LedgerLaws.{CallReads-then}
 use Rattle.elf_table.specs.Cursors.{row_at}
-use Rattle.elf_headers.specs.Faults.{IsOfRead}
+use Rattle.elf_table.specs.Faults.{IsOfRead}
 use Rattle.elf_hash.specs.SearchedTables.{HasCounts, IsPlaceIn, ReturnsExcluded, counts_bytes, walked_in}
 use Rattle.elf_hash.specs.Trials.{TriesSymbol}
 use Rattle.elf_hash.specs.Walks.{GivesWalked, WalksChain, index_of, walk_bytes}

@@ -7,8 +7,8 @@ use Rattle.elf_model.specs.LoaderFind.{version_indices}
 use Rattle.elf_model.specs.LoaderScope.{LookupTables as IsScopeOf}
 use Rattle.elf_model.specs.Names.{pad64}
 use Rattle.elf_model.specs.declared.causes.Refusal.{Refusal}
-use Rattle.elf_headers.specs.declared.fault.Fault.{Fault}
-use Rattle.elf_headers.specs.declared.fault.Fault.TheVariants.{Refused, Source}
+use Rattle.elf_table.specs.declared.fault.Fault.{Fault}
+use Rattle.elf_table.specs.declared.fault.Fault.TheVariants.{Refused, Source}
 use Rattle.elf_source.specs.Source.{CountedState}
 use Rattle.elf_loader.specs.Comparing.{CollectsNumbers, comparing_bytes}
 use Rattle.elf_loader.specs.Tables.{max_records_of, max_versions_of}

@@ -8,7 +8,7 @@ use Rattle.elf_model.specs.Checks.{first_refusal}
 use Rattle.elf_model.specs.LoaderFind.{counts_check}
 use Rattle.elf_model.specs.LoaderScope.{LookupTables as IsScopeOf}
 use Rattle.elf_model.specs.Traits.{hashed_symbol_count}
-use Rattle.elf_headers.specs.Ledger.{IsRead}
+use Rattle.elf_table.specs.Ledger.{IsRead}
 use Rattle.elf_hash.specs.SearchedTables.{HasCounts}
 use Rattle.elf_model.specs.Loader.{Asked, NoVersion, Version, NumberNameSource, Symbols as AreSymbolsOf, VersionWords as AreWordsOf, naming_of, readings, symbol_offset, versym_at}
 use Rattle.elf_model.specs.Names.{shown}
@@ -20,8 +20,8 @@ use Rattle.elf_model.specs.declared.causes.Refusal.{Refusal}
 use Rattle.elf_source.specs.Source.{CountedState}
 use Rattle.elf_record.specs.Sym.{IsSym}
 use Rattle.elf_record.specs.declared.sym.Sym.{Sym}
-use Rattle.elf_headers.specs.declared.fault.Fault.{Fault}
-use Rattle.elf_headers.specs.declared.fault.Fault.TheVariants.{Refused, Source}
+use Rattle.elf_table.specs.declared.fault.Fault.{Fault}
+use Rattle.elf_table.specs.declared.fault.Fault.TheVariants.{Refused, Source}
 use Rattle.elf_table.specs.Cursors.{row_at}
 use Rattle.elf_table.specs.NamesRead.{Refuses as RefusesName}
 use Rattle.elf_table.specs.Tables.{strings_in}

@@ -5,7 +5,7 @@ use Rattle.elf_model.specs.Budget.{IsBudgetRefusal}
 use Rattle.elf_model.specs.Loader.{Wanted}
 use Rattle.elf_model.specs.Bindings.{BoundTo, BoundToNone, StoppedIn, bound_in}
 use Rattle.elf_model.specs.Bindings as model
-use Rattle.elf_headers.specs.declared.fault.Fault.TheVariants.{Refused, Source}
+use Rattle.elf_table.specs.declared.fault.Fault.TheVariants.{Refused, Source}
 use Rattle.elf_loader.specs.Lookups.{lookup_bytes}
 use Rattle.elf_source.specs.Source.{Keeps, SameView}
 use Rattle.elf_binding.specs.Kept.{LookupObjectState}

@@ -8,9 +8,9 @@ use Rattle.elf_model.specs.declared.causes.Refusal.{Refusal}
 use Rattle.elf_model.specs.Numbers.{SHN_UNDEF}
 use Rattle.elf_source.specs.Source.{CountedState}
 use Rattle.elf_hash.specs.declared.answer.SymbolMatch.{SymbolMatch}
-use Rattle.elf_headers.specs.Ledger.{CallReads, CallDid, fault_of_result}
-use Rattle.elf_headers.specs.declared.fault.Fault.{Fault}
-use Rattle.elf_headers.specs.declared.fault.Fault.TheVariants.{Refused, Source}
+use Rattle.elf_table.specs.Ledger.{CallReads, CallDid, fault_of_result}
+use Rattle.elf_table.specs.declared.fault.Fault.{Fault}
+use Rattle.elf_table.specs.declared.fault.Fault.TheVariants.{Refused, Source}
 use Rattle.elf_lookup_tables.specs.LookupTablesFound.{IsLookupTables}
 use Rattle.elf_lookup_tables.specs.Symbols.{IsDynamicSymbols}
 use Rattle.elf_lookup_tables.specs.declared.lookup_tables.LookupTables.{LookupTables}

@@ -3,9 +3,9 @@ use Rattle.std.specs.Prelude.{ℕ, ◌≡◌, List, Option, None, Some, Result, 
 use Rattle.elf_model.specs.Budget.{IsBudgetRefusal}
 use Rattle.elf_model.specs.LoaderScope.{LookupTables as IsScopeOf, lookup_tables_of}
 use Rattle.elf_source.specs.Source.{CountedState, SourceState}
-use Rattle.elf_headers.specs.Ledger.{CallReads}
-use Rattle.elf_headers.specs.declared.fault.Fault.{Fault}
-use Rattle.elf_headers.specs.declared.fault.Fault.TheVariants.{Refused, Source}
+use Rattle.elf_table.specs.Ledger.{CallReads}
+use Rattle.elf_table.specs.declared.fault.Fault.{Fault}
+use Rattle.elf_table.specs.declared.fault.Fault.TheVariants.{Refused, Source}
 use Rattle.elf_hash.specs.SearchedTables.{place_of_table}
 use Rattle.elf_hash.specs.declared.table.HashTable.{HashTable}
 use Rattle.elf_binding.specs.Ready.{IsReadyIf}

@@ -4,9 +4,9 @@ use Rattle.elf_model.specs.Budget.{IsBudgetRefusal}
 use Rattle.elf_model.specs.Loader.{Wanted}
 use Rattle.elf_model.specs.Bindings.{definition_cost, definition_lookup}
 use Rattle.elf_source.specs.Source.{CountedState, IsSourceFault, Keeps, SameView, counted}
-use Rattle.elf_headers.specs.Ledger.{fault_of_result}
-use Rattle.elf_headers.specs.declared.fault.Fault.{Fault}
-use Rattle.elf_headers.specs.declared.fault.Fault.TheVariants.{Refused, Source}
+use Rattle.elf_table.specs.Ledger.{fault_of_result}
+use Rattle.elf_table.specs.declared.fault.Fault.{Fault}
+use Rattle.elf_table.specs.declared.fault.Fault.TheVariants.{Refused, Source}
 use Rattle.elf_loader.specs.Lookups.{lookup_bytes}
 use Rattle.elf_binding.specs.Definers.{ReturnsDefiner}
 use Rattle.elf_binding.specs.Kept.{LookupObjectState}

@@ -9,9 +9,9 @@ use Rattle.elf_model.specs.LoaderScope.{LookupTables as IsScopeOf, lookup_tables
 use Rattle.elf_model.specs.Names.{name_bytes}
 use Rattle.elf_model.specs.Versions.{VisitedRecord}
 use Rattle.elf_model.specs.declared.causes.Refusal.{Refusal}
-use Rattle.elf_headers.specs.Ledger.{fault_of_result}
-use Rattle.elf_headers.specs.declared.fault.Fault.{Fault}
-use Rattle.elf_headers.specs.declared.fault.Fault.TheVariants.{Refused, Source}
+use Rattle.elf_table.specs.Ledger.{fault_of_result}
+use Rattle.elf_table.specs.declared.fault.Fault.{Fault}
+use Rattle.elf_table.specs.declared.fault.Fault.TheVariants.{Refused, Source}
 use Rattle.elf_loader.specs.Naming.{IsFileIf}
 use Rattle.elf_binding.specs.Kept.{LookupObjectState}
 use Rattle.elf_binding.specs.Looks.{SpendsBudget, SpendsAtMost}

@@ -4,7 +4,7 @@ ghost use Rattle.elf_loader.specs.Lookups.{AreShort};
 ghost use Rattle.elf_options.specs.Wants.{query_of};
 
 use crate::object::Object;
-use elf_headers::Fault;
+use elf_table::Fault;
 use elf_source::Source;
 use elf_options::Wanted;
 

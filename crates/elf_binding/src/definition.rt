@@ -15,7 +15,7 @@ ghost use Rattle.elf_options.specs.Wants.{query_of};
 
 use crate::ready::has_nul;
 use elf_hash::{ChainResult, HashTable, Matcher, SymbolMatch, counts, excludes, walk};
-use elf_headers::Fault;
+use elf_table::Fault;
 use elf_loader::{VersionIndexSet, VersionMatcher, version_indices};
 use elf_lookup_tables::LookupTables;
 use elf_record::numbers::SHN_UNDEF;

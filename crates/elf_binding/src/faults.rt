@@ -3,7 +3,7 @@ ghost use Rattle.std.specs.Prelude.{MatchBool};
 ghost use Rattle.elf_binding.specs.Sought.{IsReportedAlone};
 ghost use Rattle.elf_model.specs.Budget.{IsBudgetRefusal};
 
-use elf_headers::Fault;
+use elf_table::Fault;
 use elf_record::{Cause, Refusal};
 
 /// Whether a fault of a lookup is no refusal of the file: a read failed, or the budget is used up.

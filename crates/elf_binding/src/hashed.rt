@@ -1,13 +1,13 @@
 //! How many symbols a file has.
 ghost use Rattle.std.specs.Prelude.{◌≡◌, ◌+◌, ◌≤◌, List};
 ghost use Rattle.elf_binding.specs.Sought.{ReturnsAs};
-ghost use Rattle.elf_headers.specs.Ledger.{CallDid, fault_of_result};
+ghost use Rattle.elf_table.specs.Ledger.{CallDid, fault_of_result};
 ghost use Rattle.elf_lookup_tables.specs.LookupTablesFound.{IsLookupTables};
 ghost use Rattle.elf_model.specs.Bindings.{symbols_hashed};
 ghost use Rattle.elf_model.specs.LoaderScope.{LookupTables as IsScopeOf};
 
 use elf_hash::counts;
-use elf_headers::Fault;
+use elf_table::Fault;
 use elf_lookup_tables::LookupTables;
 use elf_source::{Counted, Source};
 

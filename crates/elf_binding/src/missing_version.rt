@@ -2,7 +2,7 @@
 ghost use Rattle.std.specs.Prelude.{◌≡◌, ◌≤◌, length, MatchBool};
 ghost use Rattle.elf_binding.specs.Lacking.{HasNoTable, definition_if, definitions_of};
 ghost use Rattle.elf_binding.specs.Sought.{ReturnsAs};
-ghost use Rattle.elf_headers.specs.Ledger.{CallDid, fault_of_result};
+ghost use Rattle.elf_table.specs.Ledger.{CallDid, fault_of_result};
 ghost use Rattle.elf_loader.specs.Comparing.{comparing_bytes};
 ghost use Rattle.elf_loader.specs.Tables.{max_versions_of};
 ghost use Rattle.elf_model.specs.BoundSymbols.{lacks_version};
@@ -10,7 +10,7 @@ ghost use Rattle.elf_model.specs.Loader.{Version};
 ghost use Rattle.elf_model.specs.LoaderScope.{LookupTables as IsScopeOf};
 ghost use Rattle.elf_lookup_tables.specs.Symbols.{IsDynamicSymbols, DynamicSymbolsInBounds};
 
-use elf_headers::Fault;
+use elf_table::Fault;
 use elf_loader::version_indices;
 use elf_lookup_tables::{Symbols, VersionRecordTable};
 use elf_record::VersionKind;

@@ -1,6 +1,6 @@
 //! A file that names are looked for in.
 ghost use Rattle.std.specs.Prelude.{◌≡◌, ◌≤◌, ◌+◌, ◌*◌, length, true};
-ghost use Rattle.elf_headers.specs.Ledger.{CallDid};
+ghost use Rattle.elf_table.specs.Ledger.{CallDid};
 ghost use Rattle.elf_binding.specs.Kept.{KeepsScope, source_of, why_back};
 ghost use Rattle.elf_binding.specs.Looks.{LooksInObject, Prepares};
 ghost use Rattle.elf_binding.specs.Sought.{CountsHashed, LooksForVersion, ReadsFileName, Seeks};
@@ -14,10 +14,9 @@ use crate::ready::ready_table;
 use crate::reference::{SymbolReference, reference_of, whole_name};
 use crate::budget::spend_budget;
 use elf_hash::HashTable;
-use elf_headers::{Fault, HeaderStore};
+use elf_table::{Fault, HeaderStore, NameBuf};
 use elf_lookup_tables::{LookupTables, find_lookup_tables};
 use elf_source::{Counted, Source};
-use elf_table::NameBuf;
 use elf_versions::VersionRecord;
 use elf_options::Wanted;
 use std::marker::Model;

@@ -5,7 +5,7 @@ ghost use Rattle.elf_binding.specs.Opens.{AsksKept, KeepsOne};
 use crate::object::Object;
 use crate::cached_source::CachedSource;
 use crate::budget::spend_budget;
-use elf_headers::{Fault, HeaderStore};
+use elf_table::{Fault, HeaderStore};
 use elf_record::{Cause, Refusal};
 use elf_source::{Counted, Source};
 use std::alloc::{AllocError, Global};

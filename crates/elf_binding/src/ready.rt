@@ -2,14 +2,14 @@
 ghost use Rattle.std.specs.Prelude.{◌≡◌, ⊤, IfOk, IfSome, IsTrue, MatchBool};
 ghost use Rattle.elf_binding.specs.Ready.{HasNoNul, NamesEnd, ReturnsReady, ready_bytes, table_where};
 ghost use Rattle.elf_hash.specs.SearchedTables.{place_of_table};
-ghost use Rattle.elf_headers.specs.Ledger.{CallDid, fault_of_result};
+ghost use Rattle.elf_table.specs.Ledger.{CallDid, fault_of_result};
 ghost use Rattle.elf_model.specs.LoaderScope.{LookupTables as IsScopeOf};
 ghost use Rattle.elf_lookup_tables.specs.LookupTablesFound.{IsLookupTables, LookupTablesInBounds};
 ghost use Rattle.elf_lookup_tables.specs.Symbols.{VersionRecordsInBounds};
 ghost use Rattle.elf_options.specs.Wants.{asked_of};
 
 use elf_hash::{HashTable, counts};
-use elf_headers::Fault;
+use elf_table::Fault;
 use elf_loader::version_indices;
 use elf_lookup_tables::{LookupTables, VersionRecordTable};
 use elf_source::{Counted, Source};

@@ -1,7 +1,7 @@
 //! What a symbol of a file asks others for.
 ghost use Rattle.std.specs.Prelude.{◌≡◌, ℕ, ◌+◌, ◌*◌, ◌<◌, ◌∷◌, [], List, None, Some, IfOk};
 ghost use Rattle.elf_binding.specs.Sought.{SeeksOf, ReturnsAsked, ReturnsSought, ReturnsVersionIf, ReturnsWhole};
-ghost use Rattle.elf_headers.specs.Ledger.{CallDid, fault_of_result};
+ghost use Rattle.elf_table.specs.Ledger.{CallDid, fault_of_result};
 ghost use Rattle.elf_loader.specs.Naming.{IsFileIf};
 ghost use Rattle.elf_loader.specs.Tables.{max_versions_of};
 ghost use Rattle.elf_model.specs.Bindings.{SOUGHT_BYTES, is_reference, is_weak, reference_at, reference_by_index, reference_version, whole_name};
@@ -13,14 +13,13 @@ ghost use Rattle.elf_record.specs.Sym.{IsSym};
 ghost use Rattle.elf_lookup_tables.specs.Symbols.{IsDynamicSymbols, DynamicSymbolsInBounds};
 ghost use Rattle.elf_table.specs.Tables.{StringsInBounds, strings_in};
 
-use elf_headers::{Fault, NameLimit, refused};
+use elf_table::{Fault, NameBuf, NameEnd, NameLimit, Names, refused};
 use elf_loader::{name_of, read_half};
 use elf_lookup_tables::Symbols;
 use elf_record::gnu_numbers::STB_GNU_UNIQUE;
 use elf_record::numbers::{SHN_UNDEF, STB_GLOBAL, STB_WEAK};
 use elf_record::{Cause, Sym};
 use elf_source::{Counted, Source};
-use elf_table::{NameBuf, NameEnd, Names};
 use elf_versions::VersionRecord;
 
 /// How many bytes a name of a symbol or a version has at most that is asked for.

@@ -3,7 +3,7 @@ use Rattle.std.proofs.Common.{◌≡◌, ℕ, Bool, true, false, List, Option, S
 use Rattle.elf_model.specs.Style.{looked_at}
 use Rattle.elf_model.specs.declared.causes.Refusal.{Refusal}
 use Rattle.elf_source.specs.Source.{CountedState, SourceState, SetsLimit, file_by, honest}
-use Rattle.elf_headers.specs.declared.fault.Fault.TheVariants.{Refused as Refuses}
+use Rattle.elf_table.specs.declared.fault.Fault.TheVariants.{Refused as Refuses}
 use Rattle.elf_memory_rows.specs.Hashed.{FindsHashed, hashed_cost}
 use Rattle.elf_calls.specs.HashedRows.{ReadsHashed}
 use Rattle.elf_calls.proofs.BudgetLaws.{wanting}

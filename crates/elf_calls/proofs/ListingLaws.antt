@@ -11,8 +11,8 @@ use Rattle.elf_source.specs.Source.{CountedState, SourceState, IsSourceFault, fi
 use Rattle.elf_source.specs.declared.faults.SourceFault.{SourceFault}
 use Rattle.elf_source.specs.declared.faults.SourceFault.TheVariants.{Device, Ended}
 use Rattle.elf_options.specs.declared.caps.Caps.{Caps}
-use Rattle.elf_headers.specs.declared.run_fault.RunFault.{RunFault}
-use Rattle.elf_headers.specs.declared.run_fault.RunFault.TheVariants.{Refused, Source, Out}
+use Rattle.elf_table.specs.declared.run_fault.RunFault.{RunFault}
+use Rattle.elf_table.specs.declared.run_fault.RunFault.TheVariants.{Refused, Source, Out}
 use Rattle.elf_listing.specs.Reports.{WroteReport, FaultSays}
 use Rattle.elf_calls.specs.Lent.{spared}
 use Rattle.elf_calls.specs.Shown.{ListsInMemory}

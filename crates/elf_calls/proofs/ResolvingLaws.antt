@@ -4,7 +4,7 @@ use Rattle.elf_model.specs.Loader.{Wanted}
 use Rattle.elf_model.specs.LoaderFind.{loader_cost}
 use Rattle.elf_model.specs.declared.causes.Refusal.{Refusal}
 use Rattle.elf_source.specs.Source.{CountedState, SetsLimit}
-use Rattle.elf_headers.specs.declared.fault.Fault.TheVariants.{Refused as Refuses}
+use Rattle.elf_table.specs.declared.fault.Fault.TheVariants.{Refused as Refuses}
 use Rattle.elf_loader.specs.Lookups.{LooksUp}
 use Rattle.elf_calls.specs.Resolved.{ResolvesIn}
 use Rattle.elf_calls.proofs.BudgetLaws.{wanting}

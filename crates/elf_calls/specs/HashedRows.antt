@@ -3,7 +3,7 @@ use Rattle.std.specs.Prelude.{ℕ, ◌≡◌, ◌≤◌, ◌==◌, List, length,
 use Rattle.elf_model.specs.Budget.{IsBudgetRefusal}
 use Rattle.elf_model.specs.Style.{looked_at}
 use Rattle.elf_model.specs.declared.causes.Refusal.{Refusal}
-use Rattle.elf_headers.specs.declared.fault.Fault.TheVariants.{Refused}
+use Rattle.elf_table.specs.declared.fault.Fault.TheVariants.{Refused}
 use Rattle.elf_memory_rows.specs.Hashed.{ReturnsHashedRows, hashed_cost}
 use Rattle.elf_memory_rows.specs.declared.rows.RowPosition.{RowPosition}
 use Rattle.elf_calls.specs.Limits.{AreInRange, budget_of, headers_of}

@@ -7,7 +7,7 @@ use crate::lent_sink::ProbeSink;
 use crate::listing::CallOutcome;
 use crate::call_status::status_from;
 use elf_apply::apply_with;
-use elf_headers::HeaderStore;
+use elf_table::HeaderStore;
 use elf_layout::Addresses;
 use elf_source::{Counted, MemorySource, Out};
 

@@ -3,7 +3,7 @@ ghost use Rattle.std.specs.Prelude.{◌≡◌};
 ghost use Rattle.elf_memory_rows.specs.Ends.{ReturnsNone};
 ghost use Rattle.elf_calls.specs.Told.{IsStatus, status_from};
 
-use elf_headers::RunFault;
+use elf_table::RunFault;
 use elf_memory_rows::End;
 use elf_record::Refusal;
 

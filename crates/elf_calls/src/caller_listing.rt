@@ -1,7 +1,7 @@
 //! A listing, as a caller asks for it.
 ghost use Rattle.elf_options.specs.Names.{NeverDescend};
 
-use elf_headers::{NameLimit, Style};
+use elf_table::{NameLimit, Style};
 use elf_model::Format;
 use elf_options::{RowFilter, style_with_names};
 use elf_record::Parts;

@@ -5,7 +5,7 @@ ghost use Rattle.elf_memory_rows.specs.Hashed.{hashed_cost};
 ghost use Rattle.elf_calls.specs.HashedRows.{ReadsHashed};
 
 use crate::counts::short;
-use elf_headers::{Fault, HeaderStore};
+use elf_table::{Fault, HeaderStore};
 use elf_memory_rows::{RowPosition, hashed_rows};
 use elf_record::Refusal;
 use elf_source::{Counted, MemorySource};

@@ -3,7 +3,7 @@ ghost use Rattle.elf_calls.specs.Limits.{GivesCaps, GivesLimits, budget_of};
 ghost use Rattle.std.specs.Prelude.{◌≡◌};
 
 use crate::caller_listing::CallerListing;
-use elf_headers::{Caps, NameLimit};
+use elf_table::{Caps, NameLimit};
 
 /// How many bytes of room a header takes.
 const HEADER_BYTES: usize = 64;
@@ -35,12 +35,12 @@ pub fn budget_of(limits: &CallerLimits) -> Option<u64>
 
 /// What the limits permit with so many bytes of room: no more headers than the room holds. None where
 /// the number of headers is not permitted, or the room holds no header.
-pub fn limits_of(limits: &CallerLimits, room: usize) -> Option<elf_headers::Limits>
+pub fn limits_of(limits: &CallerLimits, room: usize) -> Option<elf_table::Limits>
     ensures { GivesLimits limits.now room result }
 {
-    let given = elf_headers::Limits::new(limits.headers, budget_of(limits))?;
+    let given = elf_table::Limits::new(limits.headers, budget_of(limits))?;
     let headers = usize::from(given.headers).min(room / HEADER_BYTES);
-    elf_headers::Limits::new(headers as u16, given.budget)
+    elf_table::Limits::new(headers as u16, given.budget)
 }
 
 /// The same for a listing that is asked for; None also where so many bytes of a name are not permitted.

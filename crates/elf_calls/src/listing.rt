@@ -6,7 +6,7 @@ ghost use Rattle.elf_calls.specs.Shown.{ListsInMemory};
 
 use crate::lent_sink::ProbeSink;
 use crate::call_status::{Told, status_from};
-use elf_headers::{Caps, HeaderStore};
+use elf_table::{Caps, HeaderStore};
 use elf_listing::show;
 use elf_record::Parts;
 use elf_source::{Counted, MemorySource, Out};

@@ -8,12 +8,11 @@ ghost use Rattle.elf_calls.specs.Resolved.{ResolvesIn, ReturnsResolved, file_of,
 use crate::counts::short;
 use crate::query::Query;
 use crate::resolved::Resolved;
-use elf_headers::{Fault, HeaderStore};
+use elf_table::{Fault, HeaderStore, NameBuf};
 use elf_loader::{SymbolLookup, look_up};
 use elf_memory_rows::End;
 use elf_record::Refusal;
 use elf_source::{Counted, MemorySource};
-use elf_table::NameBuf;
 
 /// Looks it up within a read budget, where there is one.
 ///

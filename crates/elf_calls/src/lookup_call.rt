@@ -7,7 +7,7 @@ ghost use Rattle.elf_calls.specs.Found.{LooksIn, ReturnsLooked, nothing_after};
 use crate::counts::short;
 use crate::found::LookupFields;
 use elf_hash::{Lookup, find};
-use elf_headers::{Fault, HeaderStore};
+use elf_table::{Fault, HeaderStore};
 use elf_memory_rows::{End, Symbol};
 use elf_record::Refusal;
 use elf_source::{Counted, MemorySource};

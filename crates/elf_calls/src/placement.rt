@@ -12,11 +12,10 @@ use crate::listing::CallOutcome;
 use crate::missing::CallerMissing;
 use crate::call_status::Told;
 use elf_explain::explain;
-use elf_headers::{Fault, HeaderStore};
+use elf_table::{Fault, HeaderStore, NameBuf};
 use elf_memory_rows::End;
 use elf_record::Refusal;
 use elf_source::{Counted, MemorySource};
-use elf_table::NameBuf;
 
 /// Writes a section to the front of some memory, tells in `missing` what its layout lacks where it is
 /// refused, and answers how that ended. The counts are written to `end`.

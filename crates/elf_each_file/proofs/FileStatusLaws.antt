@@ -17,7 +17,7 @@ use Rattle.elf_model.proofs.ListingLemmas.{header_fault}
 use Rattle.elf_source.specs.Output.{OutState}
 use Rattle.elf_source.specs.Source.{CountedState}
 use Rattle.elf_options.specs.declared.caps.Caps.{Caps}
-use Rattle.elf_headers.specs.declared.run_fault.RunFault.TheVariants.{Refused as StopRefused}
+use Rattle.elf_table.specs.declared.run_fault.RunFault.TheVariants.{Refused as StopRefused}
 use Rattle.elf_listing.specs.Reports.{WroteReport}
 use Rattle.elf_many.specs.Checked.{FailsRead, FindsShort, short_refusal}
 use Rattle.elf_many.proofs.StateLaws.{judged_long}

@@ -21,8 +21,8 @@ use Rattle.elf_source.proofs.PutsLaws.{SinkTakes-then, SinkTakesPrefix-then, Sin
 use Rattle.elf_options.specs.Permitted.{style_of}
 use Rattle.elf_options.specs.declared.caps.Caps.{Caps}
 use Rattle.elf_options.specs.declared.caps.Limits.{Limits}
-use Rattle.elf_headers.specs.declared.run_fault.RunFault.{RunFault}
-use Rattle.elf_headers.specs.declared.run_fault.RunFault.TheVariants.{Refused, Source, Out}
+use Rattle.elf_table.specs.declared.run_fault.RunFault.{RunFault}
+use Rattle.elf_table.specs.declared.run_fault.RunFault.TheVariants.{Refused, Source, Out}
 use Rattle.elf_listing.specs.Reports.{WroteReport, WroteText}
 use Rattle.elf_archive.specs.Listed.{AnswersAfter, ArchiveSays, ReportsArchive}
 use Rattle.elf_each_file.specs.Lists.{IsListedText, ListsHeaded, ListsSort, ReturnsRefused, WroteHeaded, lists_refused}

@@ -13,8 +13,8 @@ use Rattle.elf_source.specs.declared.faults.SourceFault.{SourceFault}
 use Rattle.elf_source.specs.declared.faults.SourceFault.TheVariants.{Device, Ended}
 use Rattle.elf_many.specs.Checked.{FailsRead}
 use Rattle.elf_each_file.specs.Fronts.{front_asked}
-use Rattle.elf_headers.specs.declared.run_fault.RunFault.{RunFault}
-use Rattle.elf_headers.specs.declared.run_fault.RunFault.TheVariants.{Refused, Source, Out}
+use Rattle.elf_table.specs.declared.run_fault.RunFault.{RunFault}
+use Rattle.elf_table.specs.declared.run_fault.RunFault.TheVariants.{Refused, Source, Out}
 use Rattle.elf_model.specs.declared.formats.Format.{Format}
 use Rattle.elf_archive.specs.Listed.{ArchiveSays}
 use Rattle.elf_each_file.specs.ToldListings.{EndsListing, ListsFile, ToldOf}

@@ -11,8 +11,8 @@ use Rattle.elf_model.specs.declared.states.FileMagic.{FileMagic}
 use Rattle.elf_model.specs.declared.states.FileMagic.TheVariants as sort
 use Rattle.elf_source.specs.Output.{OutState, SinkTakes, SinkTakesPrefix}
 use Rattle.elf_options.specs.declared.caps.Limits.{Limits}
-use Rattle.elf_headers.specs.declared.run_fault.RunFault.{RunFault}
-use Rattle.elf_headers.specs.declared.run_fault.RunFault.TheVariants.{Refused, Source, Out}
+use Rattle.elf_table.specs.declared.run_fault.RunFault.{RunFault}
+use Rattle.elf_table.specs.declared.run_fault.RunFault.TheVariants.{Refused, Source, Out}
 use Rattle.elf_listing.specs.Reports.{WroteText}
 
 -- a text with this fault is what is listed of a file of a sort within a budget: its listing, or that of an archive, whose members'

@@ -2,7 +2,7 @@
 ghost use Rattle.std.specs.Prelude.{◌≡◌, ◌≤◌, ◌^◌};
 ghost use Rattle.elf_each_file.specs.CheckedFile.{ChecksFile, FindsState, check_ceiling, check_cost};
 
-use elf_headers::{Caps, HeaderStore, RunFault};
+use elf_table::{Caps, HeaderStore, RunFault};
 use elf_listing::show;
 use elf_many::{refused_state, short_file_status};
 use elf_model::FileStatus;

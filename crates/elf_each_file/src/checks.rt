@@ -6,7 +6,7 @@ ghost use Rattle.elf_each_file.specs.ToldChecks.{Finds, ceiling_of_check, cost_o
 
 use crate::check_file::check;
 use crate::sorted::check_sorted;
-use elf_headers::{Caps, HeaderStore};
+use elf_table::{Caps, HeaderStore};
 use elf_lines::show_check;
 use elf_many::{FileVisitor, status};
 use elf_model::FileStatus;

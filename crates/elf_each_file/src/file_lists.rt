@@ -7,7 +7,7 @@ ghost use Rattle.elf_model.specs.declared.states.FileMagic.TheVariants.{Foreign}
 use crate::line_prefixes::{find_file_type, front_bytes};
 use crate::headed::list_with_path_line;
 use crate::options::ListOptions;
-use elf_headers::{Caps, HeaderStore, Limits, RunFault};
+use elf_table::{Caps, HeaderStore, Limits, RunFault};
 use elf_lines::show_check;
 use elf_many::{FileVisitor, status};
 use elf_model::{FileMagic, FileStatus, Format};

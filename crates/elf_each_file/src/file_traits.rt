@@ -5,7 +5,7 @@ ghost use Rattle.elf_many.specs.Checked.{FailsRead};
 ghost use Rattle.elf_each_file.specs.CheckedFile.{AsksNoMore};
 ghost use Rattle.elf_each_file.specs.Found.{FindsWithin, file_traits_ceiling, file_traits_cost};
 
-use elf_headers::{Fault, HeaderStore, Limits};
+use elf_table::{Fault, HeaderStore, Limits};
 use elf_many::{refused_state, short_file_status};
 use elf_model::{FileStatus, Traits};
 use elf_source::{Counted, Source};

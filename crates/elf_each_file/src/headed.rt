@@ -11,7 +11,7 @@ use crate::path_lines::{defer_path_line, show_path};
 use crate::options::ListOptions;
 use crate::sorts::list_by_type;
 use elf_archive::end_listed;
-use elf_headers::{HeaderStore, RunFault};
+use elf_table::{HeaderStore, RunFault};
 use elf_model::FileMagic;
 use elf_source::{Counted, DeferredSink, Out, RangeSource, Sink, Source};
 

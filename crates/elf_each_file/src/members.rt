@@ -6,7 +6,7 @@ ghost use Rattle.elf_each_file.specs.CheckedFile.{ChecksFile};
 ghost use Rattle.elf_each_file.specs.Members.{FindsArchive};
 
 use elf_archive::find_fault;
-use elf_headers::{Caps, HeaderStore, RunFault};
+use elf_table::{Caps, HeaderStore, RunFault};
 use elf_model::FileStatus;
 use elf_record::Parts;
 use elf_source::{Counted, RangeSource, Source};

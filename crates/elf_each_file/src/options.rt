@@ -1,5 +1,5 @@
 //! The rule by which files are listed.
-use elf_headers::Caps;
+use elf_table::Caps;
 use elf_record::Parts;
 
 /// The rule by which files are listed.

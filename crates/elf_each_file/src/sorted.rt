@@ -9,7 +9,7 @@ ghost use Rattle.elf_each_file.specs.Members.{cost_by, sorted_ceiling, sorted_co
 use crate::check_file::check;
 use crate::members::check_archive;
 use crate::{budget_after, find_file_type, front_bytes};
-use elf_headers::{Caps, HeaderStore, Limits};
+use elf_table::{Caps, HeaderStore, Limits};
 use elf_model::{FileMagic, FileStatus};
 use elf_record::Parts;
 use elf_source::{Counted, RangeSource, Source};

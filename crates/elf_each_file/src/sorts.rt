@@ -9,7 +9,7 @@ ghost use Rattle.elf_model.specs.FileLists.{members_alone};
 ghost use Rattle.elf_source.specs.Growth.{OutGrows};
 
 use elf_archive::show_archive;
-use elf_headers::{Caps, HeaderStore, RunFault, Style};
+use elf_table::{Caps, HeaderStore, RunFault, Style};
 use elf_listing::show;
 use elf_model::FileMagic;
 use elf_record::Parts;

@@ -3,7 +3,7 @@ ghost use Rattle.std.specs.Prelude.{◌≡◌, IfErr, IfOk};
 ghost use Rattle.std.specs.Process.{exit_status as status_of};
 ghost use Rattle.elf_endings.specs.Endings.{error_line, exit_status, refused_line, refused_status};
 
-use elf_headers::RunFault;
+use elf_table::RunFault;
 use elf_listing_requests::RequestFault;
 use std::process::ExitCode;
 

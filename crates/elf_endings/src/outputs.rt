@@ -5,7 +5,7 @@ ghost use Rattle.elf_endings.specs.Endings.{Ends, EndsRun, PutsRest, wants_rest,
 
 use crate::exit_lines::{ExitLine, READ_FAULT, WRITE_FAULT, outcome};
 use crate::line_sink::LineSink;
-use elf_headers::RunFault;
+use elf_table::RunFault;
 use elf_source::{Out, Sink, WriteSink};
 use std::io::{BufWriter, Write};
 

@@ -4,7 +4,7 @@ ghost use Rattle.elf_source.specs.Output.{OutPuts};
 
 use crate::exit_lines::{ExitLine, OUT_OF_MEMORY};
 use crate::outputs::{OUTPUT_BYTES, end_answer};
-use elf_headers::RunFault;
+use elf_table::RunFault;
 use elf_source::{Out, OutFault, Sink, WriteSink};
 use std::io::{self, BufWriter, Write};
 

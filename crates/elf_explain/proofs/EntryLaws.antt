@@ -6,8 +6,8 @@ use Rattle.elf_model.specs.Checks.{first_refusal}
 use Rattle.elf_model.specs.Explain.{has_entry, relocates_at}
 use Rattle.elf_model.specs.Records.{sh_offset}
 use Rattle.elf_model.specs.Tables.{RELA_SIZE, entry_count, relocation_table_checks}
-use Rattle.elf_headers.specs.declared.fault.Fault.{Fault}
-use Rattle.elf_headers.specs.declared.fault.Fault.TheVariants.{Refused, Source}
+use Rattle.elf_table.specs.declared.fault.Fault.{Fault}
+use Rattle.elf_table.specs.declared.fault.Fault.TheVariants.{Refused, Source}
 use Rattle.elf_table.specs.Relocations.{RefusedBy}
 use Rattle.elf_table.specs.Tables.{Rows}
 use Rattle.elf_explain.specs.Explained.{has_row}

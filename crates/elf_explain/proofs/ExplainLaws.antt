@@ -14,11 +14,11 @@ use Rattle.elf_model.specs.declared.causes.Refusal.{Refusal}
 use Rattle.elf_model.specs.declared.missing.Missing.{Missing}
 use Rattle.elf_model.specs.declared.relocation_types.RelocationType.{RelocationType}
 use Rattle.elf_model.proofs.CheckSteps.{first_refusal-none, first_refusal-some}
-use Rattle.elf_headers.specs.Faults.{HeaderRead, IsOfRead}
-use Rattle.elf_headers.specs.Load.{LoadedAs}
-use Rattle.elf_headers.specs.Store.{StoreState}
-use Rattle.elf_headers.specs.declared.fault.Fault.{Fault}
-use Rattle.elf_headers.specs.declared.fault.Fault.TheVariants.{Refused, Source}
+use Rattle.elf_table.specs.Faults.{HeaderRead, IsOfRead}
+use Rattle.elf_table.specs.Load.{LoadedAs}
+use Rattle.elf_table.specs.Store.{StoreState}
+use Rattle.elf_table.specs.declared.fault.Fault.{Fault}
+use Rattle.elf_table.specs.declared.fault.Fault.TheVariants.{Refused, Source}
 use Rattle.elf_table.specs.Tables.{StringTableRange, strings_in}
 use Rattle.elf_table.specs.declared.names.NameEnd.{NameEnd}
 use Rattle.elf_table.specs.NamesRead.{shown_by}

@@ -5,11 +5,11 @@ use Rattle.elf_model.specs.Names.{DisplayedName, shown}
 use Rattle.elf_model.specs.Names.DisplayedName.{Whole as ShownWhole}
 use Rattle.elf_model.specs.declared.causes.Cause.{Cause}
 use Rattle.elf_source.specs.Source.{CountedState, ReadsUpTo}
-use Rattle.elf_headers.specs.Faults.{IsReadFault}
-use Rattle.elf_headers.specs.Ledger.{CallDid, fault_of_result}
-use Rattle.elf_headers.specs.declared.fault.Fault.{Fault}
-use Rattle.elf_headers.specs.declared.fault.Fault.TheVariants.{Refused, Source}
-use Rattle.elf_headers.proofs.LedgerLaws.{CallDid-of}
+use Rattle.elf_table.specs.Faults.{IsReadFault}
+use Rattle.elf_table.specs.Ledger.{CallDid, fault_of_result}
+use Rattle.elf_table.specs.declared.fault.Fault.{Fault}
+use Rattle.elf_table.specs.declared.fault.Fault.TheVariants.{Refused, Source}
+use Rattle.elf_table.proofs.LedgerLaws.{CallDid-of}
 use Rattle.elf_table.specs.NamesRead.{NameRead, Refuses, shown_by}
 use Rattle.elf_table.specs.declared.names.NameEnd.{NameEnd}
 use Rattle.elf_table.specs.declared.names.NameEnd.TheVariants.{Whole, Cut}

@@ -15,9 +15,9 @@ use Rattle.elf_model.specs.declared.missing.Missing.{Missing}
 use Rattle.elf_model.specs.declared.missing.LayoutAddress.{LayoutAddress}
 use Rattle.elf_record.specs.Rela.{IsRela}
 use Rattle.elf_record.specs.declared.rela.Rela.{Rela}
-use Rattle.elf_headers.specs.Faults.{IsOfRead}
-use Rattle.elf_headers.specs.declared.fault.Fault.{Fault}
-use Rattle.elf_headers.specs.declared.fault.Fault.TheVariants.{Refused, Source}
+use Rattle.elf_table.specs.Faults.{IsOfRead}
+use Rattle.elf_table.specs.declared.fault.Fault.{Fault}
+use Rattle.elf_table.specs.declared.fault.Fault.TheVariants.{Refused, Source}
 use Rattle.elf_table.specs.Cursors.{row_at}
 use Rattle.elf_table.specs.Relocations.{RefersTo}
 use Rattle.elf_table.specs.Tables.{Rows, StringTableRange, SymbolTableInBounds, strings_in}

@@ -1,7 +1,7 @@
 //! The section of relocation entries that a refusal points into.
 ghost use Rattle.std.specs.Prelude.{◌≡◌, ℕ, ◌<◌, List, IfSome};
 ghost use Rattle.elf_model.specs.Records.{section_at};
-ghost use Rattle.elf_headers.specs.Load.{HoldsSectionHeaders};
+ghost use Rattle.elf_table.specs.Load.{HoldsSectionHeaders};
 ghost use Rattle.elf_explain.specs.Explained.{EntryWithin, FoundEntries, HasEntry, has_row};
 
 use elf_table::{File, Names, Table};

@@ -1,20 +1,19 @@
 //! The call that explains a refusal.
 ghost use Rattle.std.specs.Prelude.{◌≡◌, ℕ, List, false};
 ghost use Rattle.elf_model.specs.Explain.{explained};
-ghost use Rattle.elf_headers.specs.Ledger.{CallDid, fault_of_result};
-ghost use Rattle.elf_headers.specs.Load.{HoldsSectionHeaders};
+ghost use Rattle.elf_table.specs.Ledger.{CallDid, fault_of_result};
+ghost use Rattle.elf_table.specs.Load.{HoldsSectionHeaders};
 ghost use Rattle.elf_explain.specs.Explained.{Explains, ExplainsLoaded, entry_bytes};
 ghost use Rattle.elf_explain.specs.Explained.{explain_bytes, may_be_missing};
 
 use crate::entries::entries_at;
 use crate::missing_item::lacking_at;
 use crate::symbol_name::read_name;
-use elf_headers::{Fault, HeaderStore, header, load};
+use elf_table::{Fault, File, header, HeaderStore, load, NameBuf, NameEnd};
 use elf_layout::Addresses;
 use elf_model::Missing;
 use elf_record::{Cause, Refusal};
 use elf_source::{Counted, Source};
-use elf_table::{File, NameBuf, NameEnd};
 
 /// What the layout lacks where the section of an index of a relocatable file was refused in it: by
 /// the relocation entry that stands at the refusal's offset, in the first section of entries for the

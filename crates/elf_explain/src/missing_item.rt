@@ -3,14 +3,14 @@ ghost use Rattle.std.specs.Prelude.{◌≡◌, ◌+◌, ◌≤◌, ℕ, List, If
 ghost use Rattle.elf_model.specs.Explain.{missing_for_type, missing, name_wanted, missing_place};
 ghost use Rattle.elf_model.specs.Explain.{missing_ifunc_entry, wanted};
 ghost use Rattle.elf_model.specs.Records.{r_sym};
-ghost use Rattle.elf_headers.specs.Ledger.{CallDid, fault_of_result};
+ghost use Rattle.elf_table.specs.Ledger.{CallDid, fault_of_result};
 ghost use Rattle.elf_table.specs.Relocations.{RefersTo};
 ghost use Rattle.elf_table.specs.Tables.{StringsInBounds, SymbolTableInBounds};
 ghost use Rattle.elf_explain.specs.Explained.{EntryRead, EntryWithin, LackOf, LacksRead};
 ghost use Rattle.elf_explain.specs.Explained.{EntrySymbolRead};
 
 use crate::entries::LinkedSymbolTable;
-use elf_headers::{Fault, fill};
+use elf_table::{Fault, fill, Names};
 use elf_layout::Addresses;
 use elf_model::{LayoutAddress, Missing};
 use elf_record::gnu_numbers::STT_GNU_IFUNC;
@@ -18,7 +18,6 @@ use elf_record::numbers::{SHN_LORESERVE, SHN_UNDEF};
 use elf_record::{Cause, Refusal, Rela};
 use elf_reloc::{Formula, RelocationBase, RelocationType, relocation_type, takes_place};
 use elf_source::{Counted, Source};
-use elf_table::Names;
 
 /// The symbol that an entry names: where its name begins, its section index and its type, which
 /// symbol 0 does not have, the string table of its name, and the file offset at which it stands.

@@ -2,16 +2,15 @@
 ghost use Rattle.std.specs.Prelude.{◌≡◌, ℕ, List, [], IfErr};
 ghost use Rattle.elf_model.specs.Explain.{resolved_symbol_name};
 ghost use Rattle.elf_model.specs.Names.{pad64};
-ghost use Rattle.elf_headers.specs.Ledger.{CallDid, fault_of_result};
+ghost use Rattle.elf_table.specs.Ledger.{CallDid, fault_of_result};
 ghost use Rattle.elf_table.specs.Tables.{StringsInBounds, strings_in};
 ghost use Rattle.elf_explain.specs.Explained.{ReturnsSymbolName, WithoutName};
 
 use crate::missing_item::MissingItem;
-use elf_headers::{Fault, NameLimit};
+use elf_table::{Fault, NameBuf, NameEnd, NameLimit};
 use elf_layout::ITEM_NAME_BYTES;
 use elf_record::Cause;
 use elf_source::{Counted, Source};
-use elf_table::{NameBuf, NameEnd};
 
 /// Reads the name of the symbol into `name`, its first 255 bytes; where `st_name` is 0 it has none,
 /// and nothing is read (gABI 4, Symbol Table). None where the name has a fault. Then, and after a

@@ -10,9 +10,9 @@ use Rattle.elf_model.specs.LoaderScope.{GnuTable, SysvTable, HashStyle, LookupTa
 use Rattle.elf_model.specs.Hash.{sysv_nchain}
 use Rattle.elf_model.specs.Traits.{before_strings, gnu_symbols, hashed_symbol_count, max_bucket, is_last_in, unfound}
 use Rattle.elf_source.specs.Source.{CountedState}
-use Rattle.elf_headers.specs.Ledger.{CallReads, IsRead}
-use Rattle.elf_headers.specs.declared.fault.Fault.{Fault}
-use Rattle.elf_headers.proofs.LedgerLaws.{CallReads-more}
+use Rattle.elf_table.specs.Ledger.{CallReads, IsRead}
+use Rattle.elf_table.specs.declared.fault.Fault.{Fault}
+use Rattle.elf_table.proofs.LedgerLaws.{CallReads-more}
 use Rattle.elf_table.specs.Cursors.{Advances, EndsRows, GivesRow, CursorState, row_at, unread_bytes}
 use Rattle.elf_table.specs.Tables.{Rows, size_of}
 use Rattle.elf_hash.specs.Counts.{IsGnu, IsSysv}

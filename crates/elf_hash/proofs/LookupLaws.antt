@@ -7,9 +7,9 @@ use Rattle.elf_model.specs.Tables.{linked_at}
 use Rattle.elf_model.proofs.SysvWalkLaws.{sysv_walk_is_bounded, sysv_walk_is_lookup}
 use Rattle.elf_record.specs.Sym.{IsSym}
 use Rattle.elf_source.specs.Source.{CountedState}
-use Rattle.elf_headers.specs.Ledger.{CallReads, fault_of_result}
-use Rattle.elf_headers.specs.declared.fault.Fault.{Fault}
-use Rattle.elf_headers.specs.declared.fault.Fault.TheVariants.{Refused, Source}
+use Rattle.elf_table.specs.Ledger.{CallReads, fault_of_result}
+use Rattle.elf_table.specs.declared.fault.Fault.{Fault}
+use Rattle.elf_table.specs.declared.fault.Fault.TheVariants.{Refused, Source}
 use Rattle.elf_table.specs.Cursors.{row_at}
 use Rattle.elf_hash.specs.Lookups.{LooksBySysv, GivesLookup as Finds, lookup_in, step_bytes, symbol_bytes}
 use Rattle.elf_hash.specs.Tables.{IsHashSection}

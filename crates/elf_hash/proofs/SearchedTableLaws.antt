@@ -5,8 +5,8 @@ use Rattle.elf_model.specs.Loader.{Wanted, answers}
 use Rattle.elf_model.specs.LoaderFind.{counts_check, walk_in}
 use Rattle.elf_model.specs.LoaderScope.{GnuTable, LookupTables, SysvTable}
 use Rattle.elf_model.specs.declared.causes.Cause.TheVariants.{HashShape}
-use Rattle.elf_headers.specs.declared.fault.Fault.{Fault}
-use Rattle.elf_headers.specs.declared.fault.Fault.TheVariants.{Refused, Source}
+use Rattle.elf_table.specs.declared.fault.Fault.{Fault}
+use Rattle.elf_table.specs.declared.fault.Fault.TheVariants.{Refused, Source}
 use Rattle.elf_hash.specs.Counts.{HasGnuCounts, HasSysvCounts, gnu_misshapen, sysv_misshapen}
 use Rattle.elf_hash.specs.HashStyles.{hash_style_of}
 use Rattle.elf_hash.specs.SearchedTables.{HasCounts, IsPlaceIn, walked_in}

@@ -11,9 +11,9 @@ use Rattle.elf_model.specs.declared.causes.Refusal.{Refusal}
 use Rattle.elf_model.proofs.LookupSteps.{goes_on_more}
 use Rattle.elf_model.proofs.SysvWalkLaws.{sysv_walk_answers, sysv_walk_is_bounded, sysv_walk_is_one}
 use Rattle.elf_model.proofs.WalkLaws.{not_both}
-use Rattle.elf_headers.specs.Faults.{IsOfRead}
-use Rattle.elf_headers.specs.declared.fault.Fault.{Fault}
-use Rattle.elf_headers.specs.declared.fault.Fault.TheVariants.{Refused}
+use Rattle.elf_table.specs.Faults.{IsOfRead}
+use Rattle.elf_table.specs.declared.fault.Fault.{Fault}
+use Rattle.elf_table.specs.declared.fault.Fault.TheVariants.{Refused}
 use Rattle.elf_hash.specs.Counts.{IsSysv}
 use Rattle.elf_hash.specs.declared.answer.SymbolMatch.{SymbolMatch}
 use Rattle.elf_hash.specs.Trials.{TriesSymbol}

@@ -5,8 +5,8 @@ use Rattle.elf_model.specs.Chains.{HashTable as Table}
 use Rattle.elf_model.specs.GnuHash.{gnu_nbucket, gnu_first, gnu_nbloom, gnu_shift, before_chains}
 use Rattle.elf_model.specs.Hash.{sysv_nbucket, sysv_nchain}
 use Rattle.elf_model.specs.declared.causes.Cause.TheVariants.{HashShape}
-use Rattle.elf_headers.specs.declared.fault.Fault.{Fault}
-use Rattle.elf_headers.specs.declared.fault.Fault.TheVariants.{Refused, Source}
+use Rattle.elf_table.specs.declared.fault.Fault.{Fault}
+use Rattle.elf_table.specs.declared.fault.Fault.TheVariants.{Refused, Source}
 use Rattle.elf_hash.specs.declared.gnu_table.GnuTable.{GnuTable}
 use Rattle.elf_hash.specs.declared.place.HashTableLocation.{HashTableLocation}
 use Rattle.elf_hash.specs.declared.sysv_table.SysvTable.{SysvTable}

@@ -6,8 +6,8 @@ use Rattle.elf_model.specs.GnuHash.{gnu_nbucket}
 use Rattle.elf_model.specs.LoaderScope.{GnuTable, SysvTable, LookupTables}
 use Rattle.elf_model.specs.Traits.{hashed_symbol_count, is_last_in}
 use Rattle.elf_source.specs.Source.{CountedState}
-use Rattle.elf_headers.specs.Ledger.{CallReads, IsRead, fault_of_result}
-use Rattle.elf_headers.specs.declared.fault.Fault.{Fault}
+use Rattle.elf_table.specs.Ledger.{CallReads, IsRead, fault_of_result}
+use Rattle.elf_table.specs.declared.fault.Fault.{Fault}
 
 -- how many symbols there are up to the end of the chain that begins at a symbol index
 abbrev pub last_in : List ℕ → HashTable → ℕ → ℕ

@@ -7,8 +7,8 @@ use Rattle.elf_model.specs.SysvWalk.{has_name}
 use Rattle.elf_model.specs.Tables.{strings_of}
 use Rattle.elf_model.specs.declared.causes.Refusal.{Refusal}
 use Rattle.elf_table.specs.Tables.{Rows, StringTableRange, strings_in}
-use Rattle.elf_headers.specs.declared.fault.Fault.{Fault}
-use Rattle.elf_headers.specs.declared.fault.Fault.TheVariants.{Refused, Source}
+use Rattle.elf_table.specs.declared.fault.Fault.{Fault}
+use Rattle.elf_table.specs.declared.fault.Fault.TheVariants.{Refused, Source}
 use Rattle.elf_hash.specs.declared.answer.SymbolMatch.{SymbolMatch}
 
 -- the trial of a symbol answers what is said of it: where it answers, what stands for it; nothing, where it does not; or why it

@@ -1,6 +1,6 @@
 //! The counts of a hash table of either kind, and the walk in it.
 ghost use Rattle.std.specs.Prelude.{◌≡◌, ℕ, ◌+◌, ◌/◌, ◌≤◌, Bool, List, Result, IfOk};
-ghost use Rattle.elf_headers.specs.Ledger.{CallDid, fault_of_result};
+ghost use Rattle.elf_table.specs.Ledger.{CallDid, fault_of_result};
 ghost use Rattle.elf_hash.specs.SearchedTables.{HasCounts, IsPlaceIn, IsTable, HashTableInBounds, ReturnsExcluded, counts_bytes, place_of_table, walked_in};
 ghost use Rattle.elf_hash.specs.Walks.{WalksChain, walk_bytes};
 ghost use Rattle.elf_model.specs.LoaderScope.{LookupTables};
@@ -15,7 +15,7 @@ use crate::sysv_walk::sysv_walk;
 use crate::table::HashTable;
 use crate::matcher::Matcher;
 use crate::chain_result::ChainResult;
-use elf_headers::Fault;
+use elf_table::Fault;
 use elf_source::{Counted, Source};
 
 /// Reads the counts of the hash table at a place: four words of a table of the GNU system, two of one

@@ -1,6 +1,6 @@
 //! How many symbols a hash table knows.
 ghost use Rattle.std.specs.Prelude.{◌≡◌, ℕ, ◌+◌, ◌-◌, ◌*◌, ◌<◌, ◌≤◌, List, length, IfOk};
-ghost use Rattle.elf_headers.specs.Ledger.{CallDid, IsRead, fault_of_result};
+ghost use Rattle.elf_table.specs.Ledger.{CallDid, IsRead, fault_of_result};
 ghost use Rattle.elf_hash.specs.Counts.{IsGnu, IsTablePlace};
 ghost use Rattle.elf_hash.specs.Extents.{SymbolsBegin, EndsChain, ReturnsExtent, last_in};
 ghost use Rattle.elf_hash.specs.SearchedTables.{IsTable, HashTableInBounds, place_of_table};
@@ -14,11 +14,10 @@ use crate::gnu_walk::is_chain_end;
 use crate::place::HashTableLocation;
 use crate::word_reads::read_word;
 use crate::table::HashTable;
-use elf_headers::Fault;
+use elf_table::{Cursor, Fault, Row};
 use elf_record::sizes::SYMBOL_BYTES;
 use elf_record::word;
 use elf_source::{Counted, Source};
-use elf_table::{Cursor, Row};
 
 /// How many symbols there are by a hash table, and no more than there is room for: of the gABI's (5,
 /// Hash Table) as many as there are chains; of the GNU system's those before the first that it knows,

@@ -1,13 +1,13 @@
 //! The call that looks a name up.
 ghost use Rattle.std.specs.Prelude.{◌≡◌, ℕ, ◌+◌, ◌*◌, ◌/◌, ◌≤◌, length, IfOk};
-ghost use Rattle.elf_headers.specs.Ledger.{CallDid, fault_of_result};
+ghost use Rattle.elf_table.specs.Ledger.{CallDid, fault_of_result};
 ghost use Rattle.elf_hash.specs.Lookups.{FindsBySysv, LooksBySysv, after_headers_bytes, find_bytes, lookup_in, looked_after, step_bytes, steps_of};
 ghost use Rattle.elf_hash.specs.Counts.{IsSysv};
 ghost use Rattle.elf_hash.specs.Tables.{IsPlaceOf, IsHashSection, Lies};
 ghost use Rattle.elf_hash.specs.Walks.{IsShort};
 ghost use Rattle.elf_model.specs.Hash.{looked_up};
 ghost use Rattle.elf_model.specs.SysvWalk.{section_table_of};
-ghost use Rattle.elf_headers.specs.Load.{HoldsSectionHeaders};
+ghost use Rattle.elf_table.specs.Load.{HoldsSectionHeaders};
 
 use crate::checks::{checked, first_hash};
 use crate::table_counts::sysv_counts;
@@ -20,10 +20,9 @@ use crate::place::HashTableLocation;
 use crate::sysv_table::SysvTable;
 use crate::sysv_walk::sysv_walk;
 use crate::chain_result::ChainResult;
-use elf_headers::{Fault, HeaderStore, header, load, refused};
+use elf_table::{Fault, File, header, HeaderStore, load, refused};
 use elf_record::Cause;
 use elf_source::{Counted, Source};
-use elf_table::File;
 
 /// Looks a name up in a file by its hash table: that of the first HASH section, with the symbols
 /// that it links to (gABI 5, Hash Table). The answer is the first symbol of that name in its chain,

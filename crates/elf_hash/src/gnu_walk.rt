@@ -1,6 +1,6 @@
 //! The walk along a chain of a hash table of the GNU system.
 ghost use Rattle.std.specs.Prelude.{◌≡◌, ℕ, ◌+◌, ◌-◌, ◌*◌, ◌/◌, ◌%◌, ◌^◌, ◌<◌, ◌≤◌, ◌&&◌, Bool, List, Result};
-ghost use Rattle.elf_headers.specs.Ledger.{CallDid, fault_of_result};
+ghost use Rattle.elf_table.specs.Ledger.{CallDid, fault_of_result};
 ghost use Rattle.elf_hash.specs.Counts.{IsGnu};
 ghost use Rattle.elf_hash.specs.Trials.{TriesDefinedSymbol};
 ghost use Rattle.elf_hash.specs.Walks.{HoldsHash, Starts, WalksChain, walk_bytes};
@@ -14,7 +14,7 @@ use crate::gnu_table::GnuTable;
 use crate::word_reads::{read_filter, read_word};
 use crate::matcher::Matcher;
 use crate::chain_result::{ChainMatch, ChainResult};
-use elf_headers::{Fault, refused};
+use elf_table::{Fault, refused};
 use elf_record::Cause;
 use elf_source::{Counted, Source};
 

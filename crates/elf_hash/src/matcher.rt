@@ -1,12 +1,12 @@
 //! The trial of a symbol.
 ghost use Rattle.std.specs.Prelude.{ℕ, ◌<◌, Bool, List, Result};
 ghost use Rattle.elf_model.specs.declared.causes.Refusal.{Refusal};
-ghost use Rattle.elf_headers.specs.Ledger.{CallDid, fault_of_result};
+ghost use Rattle.elf_table.specs.Ledger.{CallDid, fault_of_result};
 ghost use Rattle.elf_hash.specs.Trials.{TriesSymbol};
 ghost use Rattle.elf_hash.specs.declared.answer.SymbolMatch.{SymbolMatch};
 
 use crate::answer::SymbolMatch;
-use elf_headers::Fault;
+use elf_table::Fault;
 use elf_source::{Counted, Source};
 
 /// Tells of symbols whether they answer, as a walk along a chain asks of one after another.

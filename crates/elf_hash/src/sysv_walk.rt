@@ -1,6 +1,6 @@
 //! The walk along a chain of a hash table of the gABI.
 ghost use Rattle.std.specs.Prelude.{◌≡◌, ℕ, ◌+◌, ◌<◌, ◌≤◌, Bool, List, Result, IfOk, IsTrue};
-ghost use Rattle.elf_headers.specs.Ledger.{CallDid, fault_of_result};
+ghost use Rattle.elf_table.specs.Ledger.{CallDid, fault_of_result};
 ghost use Rattle.elf_hash.specs.Counts.{IsSysv};
 ghost use Rattle.elf_hash.specs.Walks.{IsShort, WalksChain, walk_bytes};
 ghost use Rattle.elf_model.specs.Chains.{HashTable as Place};
@@ -12,7 +12,7 @@ use crate::word_reads::read_word;
 use crate::sysv_table::SysvTable;
 use crate::matcher::Matcher;
 use crate::chain_result::{ChainMatch, ChainResult};
-use elf_headers::{Fault, refused};
+use elf_table::{Fault, refused};
 use elf_record::Cause;
 use elf_source::{Counted, Source};
 

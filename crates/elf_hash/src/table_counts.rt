@@ -1,7 +1,7 @@
 //! The counts of a hash table.
 ghost use Rattle.std.specs.Prelude.{◌≡◌, ◌+◌, ◌*◌, ◌<◌, ◌≤◌, ◌==◌, ◌||◌, nat_lt, not, count_ones};
 ghost use Rattle.std.specs.Prelude.{IfOk, MatchBool};
-ghost use Rattle.elf_headers.specs.Ledger.{CallDid, fault_of_result};
+ghost use Rattle.elf_table.specs.Ledger.{CallDid, fault_of_result};
 ghost use Rattle.elf_hash.specs.Counts.{HasGnuCounts, HasSysvCounts};
 ghost use Rattle.elf_model.specs.Chains.{HashTable as Place};
 
@@ -9,7 +9,7 @@ use crate::gnu_table::GnuTable;
 use crate::place::HashTableLocation;
 use crate::word_reads::read_word;
 use crate::sysv_table::SysvTable;
-use elf_headers::{Fault, refused};
+use elf_table::{Fault, refused};
 use elf_record::Cause;
 use elf_source::{Counted, Source};
 

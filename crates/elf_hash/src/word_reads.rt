@@ -1,9 +1,9 @@
 //! Reads of a hash table's words.
 ghost use Rattle.std.specs.Prelude.{◌+◌, ◌≤◌};
-ghost use Rattle.elf_headers.specs.Ledger.{CallDid, IsRead, fault_of_result};
+ghost use Rattle.elf_table.specs.Ledger.{CallDid, IsRead, fault_of_result};
 ghost use Rattle.elf_model.specs.Bytes.{field};
 
-use elf_headers::{Fault, fill};
+use elf_table::{Fault, fill};
 use elf_record::{u64_at, word};
 use elf_source::{Counted, Source};
 

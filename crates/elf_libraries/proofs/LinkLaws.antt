@@ -8,8 +8,8 @@ use Rattle.elf_model.specs.Names.{shown}
 use Rattle.elf_model.specs.Records.{d_tag, d_un}
 use Rattle.elf_model.specs.declared.causes.Cause.TheVariants.{Unmapped}
 use Rattle.elf_model.specs.declared.causes.Refusal.{Refusal}
-use Rattle.elf_headers.specs.declared.fault.Fault.{Fault}
-use Rattle.elf_headers.specs.declared.fault.Fault.TheVariants.{Refused, Source}
+use Rattle.elf_table.specs.declared.fault.Fault.{Fault}
+use Rattle.elf_table.specs.declared.fault.Fault.TheVariants.{Refused, Source}
 use Rattle.elf_table.specs.Sections.{strings}
 use Rattle.elf_table.specs.Tables.{StringTableRange}
 use Rattle.elf_table.specs.Views.{strings_mapped}

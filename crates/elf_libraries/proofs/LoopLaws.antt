@@ -5,11 +5,11 @@ use Rattle.elf_model.specs.Links.{LinkState, linked_from, linked_with, no_link_i
 use Rattle.elf_model.specs.declared.causes.Refusal.{Refusal}
 use Rattle.elf_source.specs.Source.{CountedState, ReadsUpTo}
 use Rattle.elf_source.proofs.ReadsLaws.{ReadsUpTo-to}
-use Rattle.elf_headers.proofs.LedgerLaws.{CallReads-then}
-use Rattle.elf_headers.specs.Faults.{IsAt, IsOfRead}
-use Rattle.elf_headers.specs.Ledger.{CallReads}
-use Rattle.elf_headers.specs.declared.fault.Fault.{Fault}
-use Rattle.elf_headers.specs.declared.fault.Fault.TheVariants.{Refused, Source}
+use Rattle.elf_table.proofs.LedgerLaws.{CallReads-then}
+use Rattle.elf_table.specs.Faults.{IsAt, IsOfRead}
+use Rattle.elf_table.specs.Ledger.{CallReads}
+use Rattle.elf_table.specs.declared.fault.Fault.{Fault}
+use Rattle.elf_table.specs.declared.fault.Fault.TheVariants.{Refused, Source}
 use Rattle.elf_note.specs.DynCursors.{DynCursorState, StartsEntries, entries_left}
 use Rattle.elf_table.specs.Cursors.{CursorState, next_row, row_at, unread_bytes}
 use Rattle.elf_table.specs.Tables.{Rows, size_of}

@@ -13,11 +13,11 @@ use Rattle.elf_model.specs.Traits.{has_none}
 use Rattle.elf_model.specs.declared.causes.Refusal.{Refusal}
 use Rattle.elf_model.proofs.StyleLemmas.{view_tells_of_none}
 use Rattle.elf_source.specs.Source.{CountedState, MasksSectionHeaders}
-use Rattle.elf_headers.proofs.FaultLaws.{charges_hidden}
-use Rattle.elf_headers.specs.Ledger.{CallReads, CallDid, fault_of_result}
-use Rattle.elf_headers.specs.Store.{StoreState}
-use Rattle.elf_headers.specs.declared.fault.Fault.{Fault}
-use Rattle.elf_headers.specs.declared.fault.Fault.TheVariants.{Refused, Source}
+use Rattle.elf_table.proofs.FaultLaws.{charges_hidden}
+use Rattle.elf_table.specs.Ledger.{CallReads, CallDid, fault_of_result}
+use Rattle.elf_table.specs.Store.{StoreState}
+use Rattle.elf_table.specs.declared.fault.Fault.{Fault}
+use Rattle.elf_table.specs.declared.fault.Fault.TheVariants.{Refused, Source}
 use Rattle.elf_note.specs.DynCursors.{AreStrings}
 use Rattle.elf_note.specs.declared.string_values.DynamicStrings.{DynamicStrings}
 use Rattle.elf_lookup_tables.proofs.SettleLaws.{checked_fails}

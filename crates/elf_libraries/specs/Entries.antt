@@ -8,8 +8,8 @@ use Rattle.elf_model.specs.Numbers.{DT_RPATH, DT_RUNPATH, DT_SONAME}
 use Rattle.elf_model.specs.declared.causes.Cause.{Cause}
 use Rattle.elf_model.specs.declared.causes.Cause.TheVariants.{TooLong}
 use Rattle.elf_model.specs.declared.causes.Refusal.{Refusal}
-use Rattle.elf_headers.specs.declared.fault.Fault.{Fault}
-use Rattle.elf_headers.specs.declared.fault.Fault.TheVariants.{Refused, Source}
+use Rattle.elf_table.specs.declared.fault.Fault.{Fault}
+use Rattle.elf_table.specs.declared.fault.Fault.TheVariants.{Refused, Source}
 use Rattle.elf_table.specs.Tables.{StringTableRange, strings_in}
 use Rattle.elf_libraries.specs.Held.{LinkInfoState, with_text}
 use Rattle.elf_libraries.specs.declared.links.LinkInfo.{LinkInfo}

@@ -8,8 +8,8 @@ use Rattle.elf_model.specs.Records.{p_filesz, p_offset, segment_at}
 use Rattle.elf_model.specs.Tables.{segment_dynamic_checks}
 use Rattle.elf_model.specs.Traits.{has_none}
 use Rattle.elf_model.specs.declared.causes.Refusal.{Refusal}
-use Rattle.elf_headers.specs.declared.fault.Fault.{Fault}
-use Rattle.elf_headers.specs.declared.fault.Fault.TheVariants.{Refused, Source}
+use Rattle.elf_table.specs.declared.fault.Fault.{Fault}
+use Rattle.elf_table.specs.declared.fault.Fault.TheVariants.{Refused, Source}
 
 -- a fault of what a lookup is made in: a file without a hash table has none
 abbrev pub lookup_passed : Fault → Result (Unit {0}) Fault

@@ -1,8 +1,8 @@
 //! The dynamic entries that tell how a file is linked.
 ghost use Rattle.std.specs.Prelude.{◌≡◌, ◌+◌, ◌*◌, ◌==◌, ℕ, List, None, Some, IfErr, IfOk, if◌then◌else◌};
-ghost use Rattle.elf_headers.specs.Faults.{IsOfCheck};
-ghost use Rattle.elf_headers.specs.Ledger.{CallDid, fault_of_result};
-ghost use Rattle.elf_headers.specs.Load.{HoldsProgramHeaders};
+ghost use Rattle.elf_table.specs.Faults.{IsOfCheck};
+ghost use Rattle.elf_table.specs.Ledger.{CallDid, fault_of_result};
+ghost use Rattle.elf_table.specs.Load.{HoldsProgramHeaders};
 ghost use Rattle.elf_model.specs.Dynamic.{dynamic_count};
 ghost use Rattle.elf_model.specs.Links.{is_link, linked_from, linked_with, no_link_info};
 ghost use Rattle.elf_model.specs.Links.{LinkState};
@@ -14,12 +14,11 @@ ghost use Rattle.elf_libraries.specs.Entries.{KeepsLinks, ReturnsLinks, ReturnsS
 ghost use Rattle.elf_libraries.specs.Held.{LinkInfoState};
 
 use crate::links::{LinkInfo, LinkInfoStore, Need};
-use elf_headers::{Fault, refused};
+use elf_table::{ExecutionView, Fault, Names, refused, Table};
 use elf_note::{DynamicStrings, dynamic_rows, entry_in};
 use elf_record::numbers::{DT_NEEDED, DT_RPATH, DT_RUNPATH, DT_SONAME};
 use elf_record::{Cause, Dyn};
 use elf_source::{Counted, Source};
-use elf_table::{ExecutionView, Names, Table};
 
 /// Where the texts of dynamic entries are: at the address that the entries tell, where a segment loads them.
 #[derive(Clone, Copy)]

@@ -1,7 +1,7 @@
 //! What one file needs.
 ghost use Rattle.std.specs.Prelude.{◌≡◌, ◌<◌, ◌^◌, ◌+◌, ◌*◌, ◌/◌, ℕ, List};
-ghost use Rattle.elf_headers.specs.Ledger.{CallDid, fault_of_result};
-ghost use Rattle.elf_headers.specs.Load.{HoldsProgramHeaders};
+ghost use Rattle.elf_table.specs.Ledger.{CallDid, fault_of_result};
+ghost use Rattle.elf_table.specs.Load.{HoldsProgramHeaders};
 ghost use Rattle.elf_model.specs.Links.{links_by_segments, links_ceiling, links_of};
 ghost use Rattle.elf_model.specs.Links.{loaded_links, lookup_refusal};
 ghost use Rattle.elf_model.specs.Records.{e_shnum};
@@ -11,13 +11,12 @@ ghost use Rattle.elf_libraries.specs.Reading.{ReturnsLookupRefusal, linked_in_se
 
 use crate::entries::{DynamicTexts, list_link_info, no_link_info};
 use crate::links::{LinkInfo, LinkInfoStore};
-use elf_headers::{Fault, HeaderStore, fill};
+use elf_table::{ExecutionView, Fault, fill, HeaderStore};
 use elf_lookup_tables::{find_in_segments, load_by_segments};
 use elf_note::dynamic_strings;
 use elf_record::numbers::PT_DYNAMIC;
 use elf_record::{Cause, Refusal, u16_at, word};
 use elf_source::{Counted, Source};
-use elf_table::ExecutionView;
 
 /// How many bytes of a file tell its class, its encoding and its machine (gABI 4, ELF Header).
 const FRONT_BYTES: usize = 20;

@@ -1,6 +1,6 @@
 //! What a file needs, and where that is kept.
 ghost use Rattle.std.specs.Prelude.{◌≡◌, ◌<◌, ◌++◌, ◌∷◌, [], ◌&&◌, ℕ, List, IfOk, IfSome, IsNone, is_some, nat_lt, length, slice_get, slice_index_or, if◌then◌else◌};
-ghost use Rattle.elf_headers.specs.Ledger.{CallDid, fault_of_result};
+ghost use Rattle.elf_table.specs.Ledger.{CallDid, fault_of_result};
 ghost use Rattle.elf_model.specs.Links.{LINK_TEXT_BYTES};
 ghost use Rattle.elf_model.specs.Names.{shown};
 ghost use Rattle.elf_libraries.specs.Held.{with_text};
@@ -8,10 +8,9 @@ ghost use Rattle.elf_libraries.specs.Entries.{ReturnsText, text_by};
 ghost use Rattle.elf_table.specs.Tables.{StringsInBounds, strings_in};
 
 use crate::texts::StringArena;
-use elf_headers::{Fault, NameLimit, refused};
+use elf_table::{Fault, NameBuf, NameEnd, NameLimit, Names, refused};
 use elf_record::Cause;
 use elf_source::{Counted, Source};
-use elf_table::{NameBuf, NameEnd, Names};
 use std::alloc::{AllocError, Global};
 use std::marker::Model;
 

@@ -8,11 +8,11 @@ use Rattle.elf_model.specs.Listing.{has_tables, known_parts}
 use Rattle.elf_model.specs.declared.causes.Refusal.{Refusal}
 use Rattle.elf_source.specs.Source.{SourceState, CountedState, ReadsUpTo, SetsLimit, ExceedsBudget, counted}
 use Rattle.elf_source.proofs.LimitLaws.{late_budget, within_budget}
-use Rattle.elf_headers.specs.Faults.{IsReadRefusal}
+use Rattle.elf_table.specs.Faults.{IsReadRefusal}
 use Rattle.elf_options.specs.Permitted.{style_of}
 use Rattle.elf_options.specs.declared.caps.Caps.{Caps}
-use Rattle.elf_headers.specs.declared.run_fault.RunFault.{RunFault}
-use Rattle.elf_headers.specs.declared.run_fault.RunFault.TheVariants.{Refused, Source, Out}
+use Rattle.elf_table.specs.declared.run_fault.RunFault.{RunFault}
+use Rattle.elf_table.specs.declared.run_fault.RunFault.TheVariants.{Refused, Source, Out}
 use Rattle.elf_source.specs.Output.{OutState}
 use Rattle.elf_listing.specs.Reports.{AsksWithin, FaultSays, ReturnsStop}
 use Rattle.elf_listing.specs.Shows.{StopSays}

@@ -18,11 +18,11 @@ use Rattle.elf_model.specs.Rows.{segment_row}
 use Rattle.elf_model.specs.declared.causes.Refusal.{Refusal}
 use Rattle.elf_model.specs.declared.formats.Format.{Format}
 use Rattle.elf_model.proofs.ListingLemmas.{guarded-passes, guarded-fault, load_some}
-use Rattle.elf_headers.specs.Load.{LoadedFile, HoldsSectionHeaders, LoadedAs}
-use Rattle.elf_headers.specs.Faults.{HeaderRead}
-use Rattle.elf_headers.specs.Store.{StoreState}
-use Rattle.elf_headers.specs.declared.fault.Fault.{Fault as TableFault}
-use Rattle.elf_headers.specs.declared.fault.Fault.TheVariants.{Refused}
+use Rattle.elf_table.specs.Load.{LoadedFile, HoldsSectionHeaders, LoadedAs}
+use Rattle.elf_table.specs.Faults.{HeaderRead}
+use Rattle.elf_table.specs.Store.{StoreState}
+use Rattle.elf_table.specs.declared.fault.Fault.{Fault as TableFault}
+use Rattle.elf_table.specs.declared.fault.Fault.TheVariants.{Refused}
 use Rattle.elf_listing.specs.Parts.{listed_by, part_items, relocations_part, symbols_part}
 use Rattle.elf_listing.specs.Viewed.{ChecksView, viewed_headers}
 use Rattle.elf_listing.specs.declared.parts.Part.{Part}

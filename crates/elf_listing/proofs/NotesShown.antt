@@ -15,17 +15,17 @@ use Rattle.elf_fields.specs.Named.{shown_as}
 use Rattle.elf_note.specs.NoteCursors.{AdvancesNote, NoteCursorState, IsNoteFound, NameIs, ShowsNote, StopsNote, notes_from, notes_left, no_notes, cut_at, note_cut}
 use Rattle.elf_note.specs.declared.note_row.NoteRow.{NoteRow}
 use Rattle.elf_source.specs.Output.{OutState}
-use Rattle.elf_headers.specs.Faults.{IsOfRead}
+use Rattle.elf_table.specs.Faults.{IsOfRead}
 use Rattle.elf_table.specs.Windows.{WindowState, HoldsBytes, StillHolds}
 use Rattle.elf_options.specs.declared.caps.Style.{Style as Shape}
-use Rattle.elf_headers.specs.declared.fault.Fault.{Fault}
-use Rattle.elf_headers.specs.declared.fault.Fault.TheVariants.{Refused, Source as Unread}
+use Rattle.elf_table.specs.declared.fault.Fault.{Fault}
+use Rattle.elf_table.specs.declared.fault.Fault.TheVariants.{Refused, Source as Unread}
 use Rattle.elf_table.specs.declared.names.NameEnd.{NameEnd}
 use Rattle.elf_table.specs.declared.names.NameEnd.TheVariants.{Whole as NameWhole, Cut as NameCut}
 use Rattle.elf_listing.specs.Notes.{IsNoteRow, WrittenBefore, note_items}
 use Rattle.elf_listing.specs.Shows.{WroteItems, WrotePrefix, WroteUntilStop, cut_of}
-use Rattle.elf_headers.specs.Stops.{stop_of}
-use Rattle.elf_headers.specs.declared.run_fault.RunFault.{RunFault}
+use Rattle.elf_table.specs.Stops.{stop_of}
+use Rattle.elf_table.specs.declared.run_fault.RunFault.{RunFault}
 use Rattle.elf_listing.proofs.ShowLaws.{Whole-none, Whole-then, WroteUntilStop-then, WroteUntilStop-more}
 
 -- what is left where no note is, and where no note stands

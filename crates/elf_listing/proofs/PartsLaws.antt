@@ -17,7 +17,7 @@ use Rattle.elf_listing.specs.Shows.{Lists, ListingWrote}
 use Rattle.elf_listing.specs.declared.listing.Listing.{Listing}
 use Rattle.elf_listing.specs.declared.parts.Part.{Part}
 use Rattle.elf_listing.specs.declared.parts.Part.TheVariants.{Definitions, Needs, SymbolVersions}
-use Rattle.elf_headers.specs.declared.run_fault.RunFault.{RunFault}
+use Rattle.elf_table.specs.declared.run_fault.RunFault.{RunFault}
 use Rattle.elf_listing.proofs.FileShown.{versions_none}
 use Rattle.elf_listing.proofs.EachLaws.{each-more}
 use Rattle.elf_listing.proofs.ListsLaws.{Lists-within, SameFile-then}

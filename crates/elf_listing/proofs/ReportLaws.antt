@@ -15,10 +15,10 @@ use Rattle.elf_source.specs.Source.{CountedState, SetsLimit, counted}
 use Rattle.elf_source.specs.Output.{OutState, SinkTakes, SinkTakesPrefix}
 use Rattle.elf_source.proofs.LimitLaws.{budget_below}
 use Rattle.elf_source.proofs.PutsLaws.{SinkTakes-then, SinkTakesPrefix-then, SinkTakesPrefix-more, SinkTakesPrefix-all}
-use Rattle.elf_headers.specs.Faults.{IsReadRefusal}
+use Rattle.elf_table.specs.Faults.{IsReadRefusal}
 use Rattle.elf_options.specs.declared.caps.Caps.{Caps}
-use Rattle.elf_headers.specs.declared.run_fault.RunFault.{RunFault}
-use Rattle.elf_headers.specs.declared.run_fault.RunFault.TheVariants.{Refused, Source, Out}
+use Rattle.elf_table.specs.declared.run_fault.RunFault.{RunFault}
+use Rattle.elf_table.specs.declared.run_fault.RunFault.TheVariants.{Refused, Source, Out}
 use Rattle.elf_listing.specs.Reports.{WroteReport, WroteText, WroteRefusal, ReturnsStop}
 use Rattle.elf_listing.specs.Shows.{WroteItems, WrotePrefix, IsNext, WroteUntilRefusal, WroteUntilStop, StopSays}
 use Rattle.elf_listing.proofs.EachLaws.{lines_front}

@@ -16,17 +16,17 @@ use Rattle.elf_model.specs.declared.causes.Cause.{Cause}
 use Rattle.elf_fields.specs.Named.{shown_as}
 use Rattle.elf_source.specs.Output.{OutState, SinkTakes, SinkTakesPrefix}
 use Rattle.elf_source.proofs.PutsLaws.{SinkTakes-nothing}
-use Rattle.elf_headers.specs.Faults.{IsOfRead}
+use Rattle.elf_table.specs.Faults.{IsOfRead}
 use Rattle.elf_table.specs.NamesRead.{NameRead, shown_by}
 use Rattle.elf_options.specs.declared.caps.Style.{Style as Shape}
 use Rattle.elf_options.specs.Chosen.{choice_of}
-use Rattle.elf_headers.specs.declared.fault.Fault.{Fault}
-use Rattle.elf_headers.specs.declared.fault.Fault.TheVariants.{Refused, Source}
+use Rattle.elf_table.specs.declared.fault.Fault.{Fault}
+use Rattle.elf_table.specs.declared.fault.Fault.TheVariants.{Refused, Source}
 use Rattle.elf_table.specs.declared.names.NameEnd.{NameEnd}
 use Rattle.elf_table.specs.declared.names.NameEnd.TheVariants.{Whole as NameWhole, Cut as NameCut}
 use Rattle.elf_listing.specs.Shows.{WroteItems, WrotePrefix, WroteUntilRefusal, WroteUntilStop, WroteSome, cut_of}
-use Rattle.elf_headers.specs.Stops.{stop_of}
-use Rattle.elf_headers.specs.declared.run_fault.RunFault.{RunFault}
+use Rattle.elf_table.specs.Stops.{stop_of}
+use Rattle.elf_table.specs.declared.run_fault.RunFault.{RunFault}
 
 -- the same items
 pub WroteSome-as : {X : Type 0} (a b : OutState) (result : Result X RunFault) {xs ys : List ListingItem} → xs ≡ ys → WroteSome a b result ys → WroteSome a b result xs

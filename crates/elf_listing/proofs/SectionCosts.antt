@@ -20,18 +20,18 @@ use Rattle.elf_model.proofs.SumLemmas.{cost_where-le, cost_where-within, sum_ove
 use Rattle.elf_model.proofs.StoreLemmas.{rows_cost, segments_cost_rows, by_kind, any_rows, any_segments, sections_counted, places_decide_nothing}
 use Rattle.elf_record.specs.Ehdr.{IsEhdr}
 use Rattle.elf_record.specs.declared.ehdr.Ehdr.{Ehdr}
-use Rattle.elf_headers.specs.Load.{LoadedFile, HoldsSectionHeaders, IsOpened, early_of, load_cost}
+use Rattle.elf_table.specs.Load.{LoadedFile, HoldsSectionHeaders, IsOpened, early_of, load_cost}
 use Rattle.elf_table.specs.Sections.{byte_rows, rows, table_of, checked}
 use Rattle.elf_table.proofs.RelocationLaws.{passed_first}
-use Rattle.elf_headers.specs.Store.{StoreState, HoldsSegments, row, segment_bytes}
+use Rattle.elf_table.specs.Store.{StoreState, HoldsSegments, row, segment_bytes}
 use Rattle.elf_table.specs.Tables.{Rows, StringTableRange}
 use Rattle.elf_table.specs.Views.{dynamic_of}
-use Rattle.elf_headers.specs.declared.fault.Fault.{Fault}
+use Rattle.elf_table.specs.declared.fault.Fault.{Fault}
 use Rattle.elf_listing.specs.Parts.{asked_cost, name_cost, segments_listed, store_sections, store_segments, tables_listed}
 use Rattle.elf_listing.specs.Viewed.{needs_segment_view, viewed_headers, view_cost}
 use Rattle.elf_listing.specs.declared.parts.Part.TheVariants.{Headers, SectionNotes, SegmentNotes, SectionDynamic, SegmentDynamic}
 use Rattle.elf_listing.proofs.FileShown.{viewed_none}
-use Rattle.elf_headers.proofs.LoadLaws.{early_is}
+use Rattle.elf_table.proofs.LoadLaws.{early_is}
 
 -- as many equal costs
 pub sum_of_equal : (amount count : ℕ) → sum_over (λ i. amount) 0 count ≤ count * amount

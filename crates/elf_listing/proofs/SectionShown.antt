@@ -28,11 +28,11 @@ use Rattle.elf_table.specs.Tables.{Rows, StringTableRange}
 use Rattle.elf_table.specs.Sections.{byte_rows, table_at, string_table_at as strings_linked, names_at, rows, section_names, checked as checked_as}
 use Rattle.elf_table.proofs.RelocationLaws.{passed_first, table-fails, table-passes}
 use Rattle.elf_table.specs.Views.{dynamic_table_at as table_of_segment}
-use Rattle.elf_headers.specs.declared.fault.Fault.{Fault}
-use Rattle.elf_headers.specs.declared.fault.Fault.TheVariants.{Refused, Source}
+use Rattle.elf_table.specs.declared.fault.Fault.{Fault}
+use Rattle.elf_table.specs.declared.fault.Fault.TheVariants.{Refused, Source}
 use Rattle.elf_listing.specs.Parts.{shown_in}
 use Rattle.elf_listing.specs.Shows.{WroteUntilStop, WroteItems}
-use Rattle.elf_headers.specs.Stops.{stop_of}
+use Rattle.elf_table.specs.Stops.{stop_of}
 use Rattle.elf_listing.proofs.RowLaws.{WroteUntilStop-first}
 use Rattle.elf_listing.proofs.ShowLaws.{Whole-none}
 

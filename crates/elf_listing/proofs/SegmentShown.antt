@@ -5,8 +5,8 @@ use Rattle.elf_model.specs.Lines.{segment_line}
 use Rattle.elf_model.specs.Listing.{Line}
 use Rattle.elf_model.specs.Records.{segment_at}
 use Rattle.elf_model.specs.Rows.{segment_row}
-use Rattle.elf_headers.specs.Load.{LoadedFile, HoldsSectionHeaders, HoldsProgramHeaders}
-use Rattle.elf_headers.specs.Store.{StoreState}
+use Rattle.elf_table.specs.Load.{LoadedFile, HoldsSectionHeaders, HoldsProgramHeaders}
+use Rattle.elf_table.specs.Store.{StoreState}
 use Rattle.elf_listing.specs.Viewed.{IsViewed}
 
 -- a file whose program headers are loaded is viewed

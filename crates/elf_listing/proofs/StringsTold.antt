@@ -17,11 +17,11 @@ use Rattle.elf_table.specs.NamesRead.{NameRead}
 use Rattle.elf_table.specs.Sections.{answered}
 use Rattle.elf_table.specs.Tables.{StringTableRange, strings_in}
 use Rattle.elf_table.specs.Views.{strings_mapped}
-use Rattle.elf_headers.specs.declared.fault.Fault.{Fault}
-use Rattle.elf_headers.specs.declared.fault.Fault.TheVariants.{Refused}
+use Rattle.elf_table.specs.declared.fault.Fault.{Fault}
+use Rattle.elf_table.specs.declared.fault.Fault.TheVariants.{Refused}
 use Rattle.elf_table.specs.declared.names.NameEnd.{NameEnd}
 use Rattle.elf_listing.specs.Shows.{WroteUntilStop}
-use Rattle.elf_headers.specs.Stops.{stop_of}
+use Rattle.elf_table.specs.Stops.{stop_of}
 use Rattle.elf_listing.specs.Strings.{StringsFound, ToldRead, string_told_by, string_told}
 use Rattle.elf_listing.proofs.RowLaws.{Ends-first, WroteUntilStop-name}
 

@@ -11,7 +11,7 @@ use Rattle.elf_model.specs.Suffixes.{first_numbers}
 use Rattle.elf_model.specs.TableKinds.{suffixes_cost}
 use Rattle.elf_model.specs.VersionCost.{walks_cost}
 use Rattle.elf_model.proofs.StoreLemmas.{places_decide_nothing}
-use Rattle.elf_headers.specs.Store.{StoreState, row}
+use Rattle.elf_table.specs.Store.{StoreState, row}
 use Rattle.elf_table.specs.Sections.{rows, table_of}
 use Rattle.elf_table.specs.Tables.{Rows}
 use Rattle.elf_listing.specs.Parts.{store_sections}

@@ -9,8 +9,8 @@ use Rattle.elf_model.specs.Tables.{all_checks, entry_count}
 use Rattle.elf_model.specs.VersionCost.{walks_cost}
 use Rattle.elf_model.specs.VersionRows.{symbol_versions}
 use Rattle.elf_model.specs.declared.causes.Refusal.{Refusal}
-use Rattle.elf_headers.specs.declared.fault.Fault.{Fault}
-use Rattle.elf_headers.specs.declared.fault.Fault.TheVariants.{Refused, Source}
+use Rattle.elf_table.specs.declared.fault.Fault.{Fault}
+use Rattle.elf_table.specs.declared.fault.Fault.TheVariants.{Refused, Source}
 use Rattle.elf_table.specs.Relocations.{RefusedBy}
 use Rattle.elf_table.specs.Versions.{AreVersioned}
 use Rattle.elf_table.specs.Tables.{Rows}

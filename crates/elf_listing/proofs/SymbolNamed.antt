@@ -9,12 +9,12 @@ use Rattle.elf_model.specs.Tables.{linked_at, entry_at, entry_count, has_symbols
 use Rattle.elf_model.specs.declared.causes.Cause.{Cause}
 use Rattle.elf_model.specs.declared.causes.Cause.TheVariants.{BadLink, SymbolIndex}
 use Rattle.elf_source.specs.Source.{CountedState, ReadsUpTo}
-use Rattle.elf_headers.specs.Faults.{IsReadFault}
+use Rattle.elf_table.specs.Faults.{IsReadFault}
 use Rattle.elf_table.specs.Tables.{Rows, StringTableRange}
 use Rattle.elf_table.specs.Relocations.{AreSymbols}
 use Rattle.elf_table.specs.Cursors.{row_at}
 use Rattle.elf_table.specs.NamesRead.{NameRead}
-use Rattle.elf_headers.specs.declared.fault.Fault.{Fault}
+use Rattle.elf_table.specs.declared.fault.Fault.{Fault}
 use Rattle.elf_table.specs.declared.names.NameEnd.{NameEnd}
 use Rattle.elf_listing.proofs.VersionedCosts.{IsReadFault-account}
 

@@ -13,9 +13,9 @@ use Rattle.elf_model.specs.declared.versions.VersionKind.{VersionKind}
 use Rattle.elf_model.specs.declared.versions.VersionKind.TheVariants.{Definition, File, Need}
 use Rattle.elf_model.proofs.CheckSteps.{first_refusal-none, first_refusal-some}
 use Rattle.elf_model.proofs.VersionSteps.{met-ended}
-use Rattle.elf_headers.specs.declared.fault.Fault.{Fault}
-use Rattle.elf_headers.specs.declared.fault.Fault.TheVariants.{Refused, Source}
-use Rattle.elf_headers.specs.declared.run_fault.RunFault.{RunFault}
+use Rattle.elf_table.specs.declared.fault.Fault.{Fault}
+use Rattle.elf_table.specs.declared.fault.Fault.TheVariants.{Refused, Source}
+use Rattle.elf_table.specs.declared.run_fault.RunFault.{RunFault}
 use Rattle.elf_names.proofs.SpendsLaws.{SpendsAtMost-reads, SpendsAtMost-then, SpendsAtMost-to}
 use Rattle.elf_source.specs.Output.{OutState}
 use Rattle.elf_source.specs.Source.{CountedState, ReadsUpTo}

@@ -11,10 +11,10 @@ use Rattle.elf_model.specs.VersionCost.{has_symbol_table, is_inside, versioned_c
 use Rattle.elf_model.specs.VersionRows.{symbol_versions}
 use Rattle.elf_model.specs.declared.causes.Cause.TheVariants.{TableOutside}
 use Rattle.elf_model.proofs.StoreLemmas.{places_decide_nothing}
-use Rattle.elf_headers.specs.Faults.{IsReadFault}
-use Rattle.elf_headers.specs.Store.{StoreState, row}
-use Rattle.elf_headers.specs.declared.fault.Fault.{Fault}
-use Rattle.elf_headers.specs.declared.fault.Fault.TheVariants.{Refused, Source}
+use Rattle.elf_table.specs.Faults.{IsReadFault}
+use Rattle.elf_table.specs.Store.{StoreState, row}
+use Rattle.elf_table.specs.declared.fault.Fault.{Fault}
+use Rattle.elf_table.specs.declared.fault.Fault.TheVariants.{Refused, Source}
 use Rattle.elf_source.specs.Source.{CountedState, ReadsUpTo}
 use Rattle.elf_source.proofs.ReadsLaws.{IsSourceFault-then, ExceedsBudget-then}
 use Rattle.elf_table.specs.Sections.{byte_rows, checked, rows, table_of}

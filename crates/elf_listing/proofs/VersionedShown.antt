@@ -33,10 +33,10 @@ use Rattle.elf_versions.specs.NumberNames.{IsNameOfRecord, NamesNumbers, name_at
 use Rattle.elf_versions.specs.declared.version_names.VersionNameRef.{VersionNameRef}
 use Rattle.elf_versions.specs.declared.version_names.VersionNameRef.TheVariants.{Nowhere, Defined, Needed}
 use Rattle.elf_table.specs.Tables.{Rows, StringTableRange, strings_in}
-use Rattle.elf_headers.specs.Stops.{stop_of}
-use Rattle.elf_headers.specs.declared.fault.Fault.{Fault}
-use Rattle.elf_headers.specs.declared.fault.Fault.TheVariants.{Refused, Source}
-use Rattle.elf_headers.specs.declared.run_fault.RunFault.{RunFault}
+use Rattle.elf_table.specs.Stops.{stop_of}
+use Rattle.elf_table.specs.declared.fault.Fault.{Fault}
+use Rattle.elf_table.specs.declared.fault.Fault.TheVariants.{Refused, Source}
+use Rattle.elf_table.specs.declared.run_fault.RunFault.{RunFault}
 use Rattle.elf_source.specs.Output.{OutState}
 use Rattle.elf_source.specs.declared.source.Source.{Ghosts as Sources}
 use Rattle.elf_source.specs.declared.sink.Sink.{Ghosts as Sinks}

@@ -7,12 +7,12 @@ use Rattle.elf_model.specs.Style.{Style}
 use Rattle.elf_model.specs.VersionRows.{end_rows, visited_rows, version_prefix, version_row}
 use Rattle.elf_model.specs.Versions.{VisitedRecord, Versions, flags_word, hash_word, name_index, named_at, no_versions, number_word, with_visited}
 use Rattle.elf_model.specs.declared.causes.Refusal.{Refusal}
-use Rattle.elf_headers.specs.Stops.{stop_of}
-use Rattle.elf_headers.specs.declared.fault.Fault.{Fault}
-use Rattle.elf_headers.specs.declared.fault.Fault.TheVariants.{Refused, Source as Unread}
+use Rattle.elf_table.specs.Stops.{stop_of}
+use Rattle.elf_table.specs.declared.fault.Fault.{Fault}
+use Rattle.elf_table.specs.declared.fault.Fault.TheVariants.{Refused, Source as Unread}
 use Rattle.elf_source.specs.Output.{OutState}
 use Rattle.elf_source.specs.Source.{CountedState, ReadsUpTo}
-use Rattle.elf_headers.specs.Ledger.{CallDid}
+use Rattle.elf_table.specs.Ledger.{CallDid}
 use Rattle.elf_options.specs.Permitted.{style_of}
 use Rattle.elf_options.specs.declared.caps.Style.{Style as Shape}
 use Rattle.elf_versions.specs.Reading.{IsCursorOf, GivesVersion, IsVersion, KeepsWalk, LeavesWalk, StepsIn, ReturnsVersion, VersionCursorState, unread, versions_left, why_stopped_now}
@@ -21,7 +21,7 @@ use Rattle.elf_versions.specs.declared.record.VersionRecord.{VersionRecord}
 use Rattle.elf_listing.specs.Notes.{WrittenBefore}
 use Rattle.elf_listing.specs.Shows.{WrotePrefix, WroteUntilStop, WroteItems}
 use Rattle.elf_listing.specs.Versions.{versions_items}
-use Rattle.elf_headers.specs.declared.run_fault.RunFault.{RunFault}
+use Rattle.elf_table.specs.declared.run_fault.RunFault.{RunFault}
 use Rattle.elf_listing.proofs.NotesShown.{before_more, before_stopped}
 
 -- the row of a record as it is given

@@ -8,8 +8,8 @@ use Rattle.elf_model.specs.Records.{e_shnum}
 use Rattle.elf_model.specs.Report.{view_checks}
 use Rattle.elf_model.specs.Style.{Style}
 use Rattle.elf_source.specs.Source.{CountedState, ReadsUpTo}
-use Rattle.elf_headers.specs.Load.{HoldsSectionHeaders, LoadedFile}
-use Rattle.elf_headers.specs.Store.{StoreState}
+use Rattle.elf_table.specs.Load.{HoldsSectionHeaders, LoadedFile}
+use Rattle.elf_table.specs.Store.{StoreState}
 use Rattle.elf_listing.specs.Viewed.{IsViewed, needs_segment_view, viewed_headers}
 
 pub still_viewed : {a b : CountedState} {n : ℕ} (loaded : LoadedFile) (store : StoreState) → ReadsUpTo a b n → IsViewed a.seen.file loaded store → IsViewed b.seen.file loaded store

@@ -9,7 +9,7 @@ use Rattle.elf_source.specs.declared.source.Source.{Ghosts as Sources}
 use Rattle.elf_source.specs.declared.sink.Sink.{Ghosts as Sinks}
 use Rattle.elf_record.specs.Dyn.{IsDyn}
 use Rattle.elf_record.specs.declared.dyn_entry.Dyn.{Dyn}
-use Rattle.elf_headers.specs.declared.fault.Fault.{Fault}
+use Rattle.elf_table.specs.declared.fault.Fault.{Fault}
 use Rattle.elf_table.specs.NamesRead.{NameRead}
 use Rattle.elf_table.specs.Relocations.{RefersTo}
 use Rattle.elf_table.specs.Tables.{Rows, StringTableRange}

@@ -24,7 +24,7 @@ use Rattle.elf_listing.specs.Strings.{strings_reported, AreWithin, AreOf}
 use Rattle.elf_listing.specs.declared.listing.Listing.{Listing}
 use Rattle.elf_listing.specs.declared.rows.RowLayout.{RowLayout}
 use Rattle.elf_listing.specs.declared.rows.RowLayout.TheVariants.{Segments, Symbols, Relocations, Dynamic, Versions, SuffixedSymbols, SuffixedRelocations}
-use Rattle.elf_headers.specs.declared.run_fault.RunFault.{RunFault}
+use Rattle.elf_table.specs.declared.run_fault.RunFault.{RunFault}
 
 -- the size of a row in bytes
 abbrev pub row_size : RowLayout → ℕ

@@ -15,7 +15,7 @@ use Rattle.elf_source.specs.declared.sink.Sink.{Ghosts as Sinks}
 use Rattle.elf_table.specs.Tables.{Rows}
 use Rattle.elf_listing.specs.Shows.{Lists, ListingWrote, WroteItems, WroteSome}
 use Rattle.elf_listing.specs.declared.listing.Listing.{Listing}
-use Rattle.elf_headers.specs.declared.run_fault.RunFault.{RunFault}
+use Rattle.elf_table.specs.declared.run_fault.RunFault.{RunFault}
 
 -- a row shows a note: its head, its name as it is shown, the first bytes of its descriptor
 pub record IsNoteRow (cap : ℕ) (note : Note) (row : NoteRow) (name : List ℕ) : Type 0 where

@@ -9,7 +9,7 @@ use Rattle.elf_model.specs.VersionRows.{symbol_version_prefix}
 use Rattle.elf_model.specs.Versions.{number_in}
 use Rattle.elf_model.specs.declared.causes.Cause.{Cause}
 use Rattle.elf_model.specs.declared.causes.Cause.TheVariants.{VersionIndex}
-use Rattle.elf_headers.specs.declared.fault.Fault.{Fault}
+use Rattle.elf_table.specs.declared.fault.Fault.{Fault}
 use Rattle.elf_source.specs.declared.source.Source.{Ghosts as Sources}
 use Rattle.elf_source.specs.declared.sink.Sink.{Ghosts as Sinks}
 use Rattle.elf_table.specs.NamesRead.{NameRead}

@@ -12,8 +12,8 @@ use Rattle.elf_model.specs.TableKinds.{relocations_with_versions, suffixed_symbo
 use Rattle.elf_model.specs.VersionLaws.{records_rows}
 use Rattle.elf_model.specs.VersionRows.{symbol_versions, version_definitions, version_needs}
 use Rattle.elf_model.specs.declared.causes.Cause.{Cause}
-use Rattle.elf_headers.specs.Load.{LoadedFile}
-use Rattle.elf_headers.specs.Store.{StoreState, row, segment_bytes}
+use Rattle.elf_table.specs.Load.{LoadedFile}
+use Rattle.elf_table.specs.Store.{StoreState, row, segment_bytes}
 use Rattle.elf_table.specs.Tables.{StringTableRange, strings_in}
 use Rattle.elf_listing.specs.declared.parts.Part.{Part}
 use Rattle.elf_listing.specs.declared.parts.Part.TheVariants.{Headers, Segments, Symbols, Relocations, SectionNotes, SegmentNotes, SectionDynamic, SegmentDynamic, Definitions, Needs, SymbolVersions, SuffixedSymbols, SuffixedRelocations}

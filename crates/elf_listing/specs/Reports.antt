@@ -11,8 +11,8 @@ use Rattle.elf_source.specs.Source.{CountedState, Keeps, IsSourceFault}
 use Rattle.elf_source.specs.Output.{OutState, SinkTakes, SinkTakesPrefix, IsOutFault}
 use Rattle.elf_options.specs.Permitted.{style_of}
 use Rattle.elf_options.specs.declared.caps.Caps.{Caps}
-use Rattle.elf_headers.specs.declared.run_fault.RunFault.{RunFault}
-use Rattle.elf_headers.specs.declared.run_fault.RunFault.TheVariants.{Refused, Source, Out}
+use Rattle.elf_table.specs.declared.run_fault.RunFault.{RunFault}
+use Rattle.elf_table.specs.declared.run_fault.RunFault.TheVariants.{Refused, Source, Out}
 
 -- a text with this fault was written: all of it where the answer names the fault, or that there is none; else a front of it
 abbrev pub WroteText : {X : Type 0} → OutState → OutState → Result X RunFault → List ℕ → Option Refusal → Type 0

@@ -13,14 +13,14 @@ use Rattle.elf_source.specs.Growth.{OutGrows}
 use Rattle.elf_source.specs.declared.source.Source.{Ghosts as Sources}
 use Rattle.elf_source.specs.declared.sink.Sink.{Ghosts as Sinks}
 use Rattle.elf_names.specs.Ahead.{ReadsOnCredit}
-use Rattle.elf_headers.specs.Faults.{IsReadRefusal, IsReadFault}
+use Rattle.elf_table.specs.Faults.{IsReadRefusal, IsReadFault}
 use Rattle.elf_table.specs.NamesRead.{NameRead}
-use Rattle.elf_headers.specs.declared.fault.Fault.{Fault as Failure}
+use Rattle.elf_table.specs.declared.fault.Fault.{Fault as Failure}
 use Rattle.elf_table.specs.declared.names.NameEnd.{NameEnd}
 use Rattle.elf_table.specs.declared.names.NameEnd.TheVariants.{Whole as NameWhole, Cut as NameCut}
 use Rattle.elf_listing.specs.declared.listing.Listing.{Listing}
-use Rattle.elf_headers.specs.declared.run_fault.RunFault.{RunFault}
-use Rattle.elf_headers.specs.declared.run_fault.RunFault.TheVariants.{Refused, Source, Out}
+use Rattle.elf_table.specs.declared.run_fault.RunFault.{RunFault}
+use Rattle.elf_table.specs.declared.run_fault.RunFault.TheVariants.{Refused, Source, Out}
 
 -- the lines of all items were written, and none is a fault
 pub record WroteItems (old new : OutState) (items : List ListingItem) : Type 0 where

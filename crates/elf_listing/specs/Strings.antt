@@ -8,10 +8,10 @@ use Rattle.elf_model.specs.declared.causes.Cause.{Cause}
 use Rattle.elf_model.specs.declared.causes.Refusal.{Refusal}
 use Rattle.elf_table.specs.NamesRead.{NameRead}
 use Rattle.elf_table.specs.Tables.{StringTableRange, StringsInBounds, strings_in}
-use Rattle.elf_headers.specs.Faults.{IsOfCheck}
-use Rattle.elf_headers.specs.Load.{HoldsProgramHeaders}
-use Rattle.elf_headers.specs.declared.fault.Fault.{Fault as Failure}
-use Rattle.elf_headers.specs.declared.fault.Fault.TheVariants.{Refused}
+use Rattle.elf_table.specs.Faults.{IsOfCheck}
+use Rattle.elf_table.specs.Load.{HoldsProgramHeaders}
+use Rattle.elf_table.specs.declared.fault.Fault.{Fault as Failure}
+use Rattle.elf_table.specs.declared.fault.Fault.TheVariants.{Refused}
 use Rattle.elf_table.specs.declared.names.NameEnd.{NameEnd}
 use Rattle.elf_listing.specs.declared.dynamic_row.DynamicStringTable.{DynamicStringTable}
 use Rattle.elf_listing.specs.declared.dynamic_row.DynamicStringTable.TheVariants.{LinkedSymbolTable, Mapped}

@@ -8,8 +8,8 @@ use Rattle.elf_model.specs.VersionRows.{version_named, version_strings}
 use Rattle.elf_model.specs.Versions.{VERSYM_SIZE, VisitedRecord, name_index, named_at}
 use Rattle.elf_model.specs.declared.causes.Cause.TheVariants.{VersionIndex}
 use Rattle.elf_model.specs.declared.causes.Refusal.{Refusal}
-use Rattle.elf_headers.specs.Faults.{IsOfRead}
-use Rattle.elf_headers.specs.declared.fault.Fault.{Fault}
+use Rattle.elf_table.specs.Faults.{IsOfRead}
+use Rattle.elf_table.specs.declared.fault.Fault.{Fault}
 use Rattle.elf_source.specs.declared.source.Source.{Ghosts as Sources}
 use Rattle.elf_source.specs.declared.sink.Sink.{Ghosts as Sinks}
 use Rattle.elf_table.specs.NamesRead.{NameRead}

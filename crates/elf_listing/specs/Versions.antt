@@ -18,7 +18,7 @@ use Rattle.elf_versions.specs.declared.record.VersionRecord.{VersionRecord}
 use Rattle.elf_listing.specs.Parts.{of_sections}
 use Rattle.elf_listing.specs.Shows.{Lists, ListingWrote, WroteSome}
 use Rattle.elf_listing.specs.declared.listing.Listing.{Listing}
-use Rattle.elf_headers.specs.declared.run_fault.RunFault.{RunFault}
+use Rattle.elf_table.specs.declared.run_fault.RunFault.{RunFault}
 
 -- what a call did that shows a record, with its name in a string table: where the record is the file's, its row
 abbrev pub ListsRecord : {S W X : Type 0} {s : Sources S} {w : Sinks W} → Listing S W s w → Listing S W s w → Result X RunFault → VersionRecord → ℕ → StringTableRange → Type 0

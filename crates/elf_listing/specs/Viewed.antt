@@ -5,10 +5,10 @@ use Rattle.elf_model.specs.Checks.{Check, first_refusal}
 use Rattle.elf_model.specs.Cost.{cost_where}
 use Rattle.elf_model.specs.Listing.{has, SEGMENTS, NOTES, DYNAMIC}
 use Rattle.elf_source.specs.Source.{CountedState}
-use Rattle.elf_headers.specs.Load.{IsOpen, LoadedFile, SegmentsInBounds}
-use Rattle.elf_headers.specs.Store.{StoreState, HoldsSegments}
-use Rattle.elf_headers.specs.declared.fault.Fault.{Fault}
-use Rattle.elf_headers.specs.declared.fault.Fault.TheVariants.{Refused, Source}
+use Rattle.elf_table.specs.Load.{IsOpen, LoadedFile, SegmentsInBounds}
+use Rattle.elf_table.specs.Store.{StoreState, HoldsSegments}
+use Rattle.elf_table.specs.declared.fault.Fault.{Fault}
+use Rattle.elf_table.specs.declared.fault.Fault.TheVariants.{Refused, Source}
 
 -- the parts of a file without sections need its program headers
 abbrev pub needs_segment_view : ℕ → LoadedFile → Bool

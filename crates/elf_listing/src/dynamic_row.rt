@@ -11,14 +11,13 @@ ghost use Rattle.elf_listing.specs.declared.rows.RowLayout.TheVariants.{Dynamic}
 
 use crate::listing::Listing;
 use elf_fields::{LinePrefix, Render};
-use elf_headers::{Fault, RunFault, refused};
+use elf_table::{ExecutionView, Fault, NameEnd, Names, refused, Row, RunFault};
 use elf_lines::dynamic_prefix;
 use elf_names::NameIndex;
 use elf_note::DynamicStrings;
 use elf_record::numbers::{DT_NEEDED, DT_RPATH, DT_RUNPATH, DT_SONAME};
 use elf_record::{Cause, Dyn};
 use elf_source::{Sink, Source};
-use elf_table::{ExecutionView, NameEnd, Names, Row};
 
 /// Where the strings of dynamic entries are looked for.
 #[derive(Clone, Copy)]

@@ -6,7 +6,7 @@ ghost use Rattle.elf_listing.specs.Parts.{Awaits, listed_by};
 
 use crate::listing::Listing;
 use crate::parts::Part;
-use elf_headers::RunFault;
+use elf_table::RunFault;
 use elf_source::{Sink, Source};
 
 impl<S: Source, W: Sink> Listing<'_, '_, '_, '_, S, W> {

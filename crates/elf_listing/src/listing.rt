@@ -3,13 +3,12 @@ ghost use Rattle.std.specs.Prelude.{◌≡◌, ℕ, List, Some};
 ghost use Rattle.elf_model.specs.Records.{e_machine};
 ghost use Rattle.elf_names.specs.Ahead.{AgreesWith};
 ghost use Rattle.elf_listing.specs.Viewed.{IsViewed};
-ghost use Rattle.elf_headers.specs.Load.{IsOpen};
+ghost use Rattle.elf_table.specs.Load.{IsOpen};
 
-use elf_headers::Style;
+use elf_table::{File, NameBuf, Style};
 use elf_lines::ConstantNames;
 use elf_names::ReadAhead;
 use elf_source::{Counted, Out, Sink, Source};
-use elf_table::{File, NameBuf};
 
 /// A source that is read, an output that is written, the file that was loaded, how its rows are
 /// shown, a buffer for a name, and the names and symbols that were read ahead. What shows

@@ -10,7 +10,7 @@ ghost use Rattle.elf_listing.specs.Viewed.{viewed_headers};
 use crate::listing::Listing;
 use crate::rows::RowLayout;
 use bitflags::Flags;
-use elf_headers::RunFault;
+use elf_table::RunFault;
 use elf_record::Parts;
 use elf_source::{Sink, Source};
 

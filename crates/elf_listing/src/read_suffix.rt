@@ -6,11 +6,10 @@ ghost use Rattle.elf_table.specs.Tables.{StringsInBounds};
 
 use crate::listing::Listing;
 use crate::suffixes::VersionLookup;
-use elf_headers::{Fault, fill, refused};
+use elf_table::{Fault, fill, NameBuf, NameEnd, refused};
 use elf_names::NameIndex;
 use elf_record::{Cause, u16_at, version_number};
 use elf_source::{Sink, Source};
-use elf_table::{NameBuf, NameEnd};
 use elf_versions::VersionNameRef;
 
 /// The version behind a name, which was read.

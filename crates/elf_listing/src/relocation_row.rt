@@ -9,12 +9,11 @@ ghost use Rattle.elf_listing.specs.declared.rows.RowLayout.TheVariants.{Relocati
 use crate::row_selection::Choosing;
 use crate::listing::Listing;
 use elf_fields::{LinePrefix, Render};
-use elf_headers::{Fault, RunFault, refused};
+use elf_table::{Fault, NameEnd, Names, refused, Row, RunFault, Table};
 use elf_lines::relocation_prefix;
 use elf_names::NameIndex;
 use elf_record::{Cause, Rela};
 use elf_source::{Sink, Source};
-use elf_table::{NameEnd, Names, Row, Table};
 
 /// Symbols with the string table of their names.
 type LinkedSymbolTable = Option<(Table, Names)>;

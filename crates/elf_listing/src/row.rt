@@ -9,12 +9,11 @@ ghost use Rattle.elf_listing.specs.declared.rows.RowLayout.TheVariants.{Segments
 use crate::row_selection::Choosing;
 use crate::listing::Listing;
 use elf_fields::{LinePrefix, Render, show_named};
-use elf_headers::RunFault;
+use elf_table::{NameEnd, Names, Row, RunFault};
 use elf_lines::{segment_row, symbol_prefix};
 use elf_names::NameIndex;
 use elf_record::{Phdr, Sym};
 use elf_source::{Sink, Source};
-use elf_table::{NameEnd, Names, Row};
 
 impl<S: Source, W: Sink> Listing<'_, '_, '_, '_, S, W> {
     /// Shows the row of a program header: its `P` line.

@@ -2,16 +2,15 @@
 ghost use Rattle.std.specs.Prelude.{◌≡◌, ◌+◌, ◌<◌, ◌≤◌, None, IfErr};
 ghost use Rattle.elf_source.specs.Source.{ReadsUpTo};
 ghost use Rattle.elf_table.specs.Cursors.{ShowsRow, unread_bytes};
-ghost use Rattle.elf_headers.specs.Faults.{IsReadFault};
+ghost use Rattle.elf_table.specs.Faults.{IsReadFault};
 ghost use Rattle.elf_table.specs.Tables.{TableInBounds};
 ghost use Rattle.elf_listing.specs.Kinds.{row_size};
 ghost use Rattle.elf_listing.specs.RowCursors.{AdvancesRows, BeginsTable, reading};
 
 use crate::rows::RowLayout;
-use elf_headers::Fault;
+use elf_table::{Cursor, Fault, Row, Table};
 use elf_note::{DynCursor, dynamic_rows};
 use elf_source::{Counted, Source};
-use elf_table::{Cursor, Row, Table};
 
 /// A cursor over the rows of a table that are listed.
 #[derive(Drop)]

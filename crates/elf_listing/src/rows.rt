@@ -10,10 +10,9 @@ use crate::numbered::VersionStrings;
 use crate::row_cursor::RowCursor;
 use crate::suffixes::VersionLookup;
 use elf_fields::{Columns, LinePrefix, Object, Render};
-use elf_headers::RunFault;
+use elf_table::{Names, Row, RunFault, Table};
 use elf_model::Format;
 use elf_source::{Sink, Source};
-use elf_table::{Names, Row, Table};
 
 /// What the rows of a table are listed as.
 #[derive(Clone, Copy)]

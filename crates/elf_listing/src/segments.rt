@@ -8,13 +8,12 @@ use crate::dynamic_row::DynamicStringTable;
 use crate::listing::Listing;
 use crate::rows::RowLayout;
 use elf_fields::{Columns, Object, Render};
-use elf_headers::RunFault;
+use elf_table::{ExecutionView, RunFault};
 use elf_lines::segment_row;
 use elf_model::Format;
 use elf_note::dynamic_strings;
 use elf_record::numbers::{PT_DYNAMIC, PT_NOTE};
 use elf_source::{Sink, Source};
-use elf_table::ExecutionView;
 
 impl<'f, S: Source, W: Sink> Listing<'_, '_, 'f, '_, S, W> {
     /// The file with its program headers, where they are loaded.

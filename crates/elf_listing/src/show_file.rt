@@ -13,7 +13,7 @@ ghost use Rattle.elf_model.specs.Style.{viewed as view_of};
 ghost use Rattle.elf_record.specs.Ehdr.{IsEhdr};
 ghost use Rattle.elf_listing.specs.Parts.{tables_listed};
 ghost use Rattle.elf_listing.specs.Viewed.{IsReady};
-ghost use Rattle.elf_headers.specs.Faults.{HeaderRead};
+ghost use Rattle.elf_table.specs.Faults.{HeaderRead};
 ghost use Rattle.elf_options.specs.Permitted.{style_of};
 ghost use Rattle.elf_listing.specs.Reports.{WroteReport, FaultSays, AsksWithin, KeepsSourceUnlimited};
 ghost use Rattle.elf_listing.specs.Shows.{ListingCosts, IsOfOutput, WroteSome};
@@ -23,13 +23,12 @@ use crate::fault_line::show_stop;
 use crate::table_view::load_view;
 use bitflags::Flags;
 use elf_fields::{Columns, Object};
-use elf_headers::{Caps, HeaderStore, Loaded, RunFault, Style, header, load};
+use elf_table::{Caps, File, header, HeaderStore, load, Loaded, NameBuf, RunFault, Style};
 use elf_lines::header_row;
 use elf_model::Format;
 use elf_names::ReadAhead;
 use elf_record::{Ehdr, Parts};
 use elf_source::{Counted, Out, Sink, Source};
-use elf_table::{File, NameBuf};
 
 /// All parts but the file header's.
 const TABLES: Parts = Parts(254);

@@ -12,12 +12,11 @@ use crate::listing::Listing;
 use crate::read_suffix::VersionSuffixEnd;
 use crate::suffixes::VersionLookup;
 use elf_fields::{LinePrefix, Render};
-use elf_headers::{Fault, RunFault, refused};
+use elf_table::{Fault, NameBuf, NameEnd, Names, refused, Row, RunFault, Table};
 use elf_lines::relocation_prefix;
 use elf_names::NameIndex;
 use elf_record::{Cause, Rela};
 use elf_source::{Sink, Source};
-use elf_table::{NameBuf, NameEnd, Names, Row, Table};
 
 /// The name of the symbol of an entry, which was read, and whether the symbol is defined.
 #[derive(Clone, Copy)]

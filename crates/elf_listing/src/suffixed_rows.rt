@@ -8,12 +8,11 @@ use crate::row_selection::Choosing;
 use crate::listing::Listing;
 use crate::suffixes::VersionLookup;
 use elf_fields::{LinePrefix, Render};
-use elf_headers::RunFault;
+use elf_table::{NameBuf, Names, Row, RunFault};
 use elf_lines::symbol_prefix;
 use elf_names::NameIndex;
 use elf_record::Sym;
 use elf_source::{Sink, Source};
-use elf_table::{NameBuf, Names, Row};
 
 impl<S: Source, W: Sink> Listing<'_, '_, '_, '_, S, W> {
     /// Shows the row of a symbol of a section: its `Y` line with its name and the version behind it,

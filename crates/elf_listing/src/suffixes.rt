@@ -3,9 +3,8 @@ ghost use Rattle.elf_listing.specs.Suffixed.{FetchesSuffixes};
 
 use crate::listing::Listing;
 use crate::numbered::VersionStrings;
-use elf_headers::Fault;
+use elf_table::{Fault, Table};
 use elf_source::{Sink, Source};
-use elf_table::Table;
 use elf_versions::ALL_PLACES;
 
 /// What finds the versions of the symbols of a table (Linux Standard Base Core, Symbol Versioning).

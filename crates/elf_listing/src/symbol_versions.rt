@@ -13,12 +13,11 @@ use crate::listing::Listing;
 use crate::numbered::VersionStrings;
 use crate::rows::RowLayout;
 use crate::versions::section_type;
-use elf_headers::{Fault, RunFault};
+use elf_table::{Fault, Names, RunFault, Table};
 use elf_record::gnu_numbers::SHT_GNU_VERSYM;
 use elf_record::sizes::SYMBOL_VERSION_BYTES;
 use elf_record::{Cause, Refusal, VersionKind};
 use elf_source::{Sink, Source};
-use elf_table::{Names, Table};
 use elf_versions::{VersionCursor, VersionNames};
 
 impl<S: Source, W: Sink> Listing<'_, '_, '_, '_, S, W> {

@@ -4,18 +4,17 @@ ghost use Rattle.elf_model.specs.Listing.{has, SEGMENTS, NOTES, DYNAMIC};
 ghost use Rattle.elf_model.specs.Records.{e_shnum};
 ghost use Rattle.elf_model.specs.Report.{view_checks};
 ghost use Rattle.elf_source.specs.Source.{ReadsUpTo};
-ghost use Rattle.elf_headers.specs.Faults.{IsOfCheck, IsOfRead, IsReadFault};
-ghost use Rattle.elf_headers.specs.Load.{HoldsSectionHeaders};
+ghost use Rattle.elf_table.specs.Faults.{IsOfCheck, IsOfRead, IsReadFault};
+ghost use Rattle.elf_table.specs.Load.{HoldsSectionHeaders};
 ghost use Rattle.elf_options.specs.Permitted.{style_of};
-ghost use Rattle.elf_headers.specs.Store.{HoldsSegments};
+ghost use Rattle.elf_table.specs.Store.{HoldsSegments};
 ghost use Rattle.elf_table.specs.Views.{Decides};
 ghost use Rattle.elf_listing.specs.Viewed.{AwaitsView, ChecksView, needs_segment_view, view_cost, viewed_headers};
 
 use bitflags::Flags;
-use elf_headers::{Fault, HeaderStore, Loaded, Style};
+use elf_table::{ExecutionView, Fault, HeaderStore, Loaded, Style};
 use elf_record::Parts;
 use elf_source::{Counted, Source};
-use elf_table::ExecutionView;
 
 /// Loads the program headers of a file without sections, where the parts need them: to be shown, or
 /// because they tell where its notes and its dynamic entries are. Where the style finds tables by

@@ -10,14 +10,13 @@ ghost use Rattle.elf_listing.specs.declared.parts.Part.TheVariants.{Definitions,
 use crate::row_selection::{AllRows, Choosing, NamedRows};
 use crate::listing::Listing;
 use elf_fields::{Columns, LinePrefix, Object, Render};
-use elf_headers::RunFault;
+use elf_table::{Names, RunFault};
 use elf_lines::version_prefix;
 use elf_model::Format;
 use elf_names::NameIndex;
 use elf_record::VersionKind;
 use elf_record::gnu_numbers::{SHT_GNU_VERDEF, SHT_GNU_VERNEED};
 use elf_source::{Sink, Source};
-use elf_table::Names;
 use elf_versions::{VersionCursor, VersionRecord};
 
 impl<S: Source, W: Sink> Listing<'_, '_, '_, '_, S, W> {

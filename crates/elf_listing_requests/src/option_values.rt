@@ -14,7 +14,7 @@ ghost use Rattle.elf_options.specs.declared.caps.Limits.{Limits};
 ghost use Rattle.elf_options.specs.declared.caps.Style.{Style};
 
 use clap::ArgMatches;
-use elf_headers::{Limits, NameLimit, Style};
+use elf_table::{Limits, NameLimit, Style};
 use elf_model::Format;
 use elf_record::Parts;
 use elf_options::RowFilter;

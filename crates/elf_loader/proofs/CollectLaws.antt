@@ -4,10 +4,10 @@ use Rattle.elf_model.specs.Loader.{Asked, Compared, VersionWords as AreWordsOf, 
 use Rattle.elf_model.specs.LoaderFind.{version_indices}
 use Rattle.elf_model.specs.LoaderScope.{LookupTables}
 use Rattle.elf_source.specs.Source.{CountedState}
-use Rattle.elf_headers.specs.Ledger.{CallReads}
-use Rattle.elf_headers.specs.declared.fault.Fault.{Fault}
-use Rattle.elf_headers.specs.declared.fault.Fault.TheVariants.{Refused, Source}
-use Rattle.elf_headers.proofs.LedgerLaws.{CallReads-more}
+use Rattle.elf_table.specs.Ledger.{CallReads}
+use Rattle.elf_table.specs.declared.fault.Fault.{Fault}
+use Rattle.elf_table.specs.declared.fault.Fault.TheVariants.{Refused, Source}
+use Rattle.elf_table.proofs.LedgerLaws.{CallReads-more}
 use Rattle.elf_lookup_tables.specs.Symbols.{AreVersymTable}
 use Rattle.elf_lookup_tables.specs.declared.symbols.VersionWords.{VersionWords}
 use Rattle.elf_loader.specs.Comparing.{CollectsNumbers, CompareCosts}

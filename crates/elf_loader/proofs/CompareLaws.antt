@@ -8,8 +8,8 @@ use Rattle.elf_model.specs.Versions.{VisitedRecord, name_index, named_at, names_
 use Rattle.elf_model.specs.declared.causes.Cause.{Cause}
 use Rattle.elf_model.specs.declared.causes.Refusal.{Refusal}
 use Rattle.elf_model.proofs.ReadingLaws.{compared-fault, compared-is, compared-none}
-use Rattle.elf_headers.specs.declared.fault.Fault.{Fault}
-use Rattle.elf_headers.specs.declared.fault.Fault.TheVariants.{Refused, Source}
+use Rattle.elf_table.specs.declared.fault.Fault.{Fault}
+use Rattle.elf_table.specs.declared.fault.Fault.TheVariants.{Refused, Source}
 use Rattle.elf_table.specs.NamesRead.{Refuses as RefusesName}
 use Rattle.elf_versions.specs.Reading.{IsVersion}
 use Rattle.elf_versions.specs.declared.record.VersionRecord.{VersionRecord}

@@ -14,10 +14,10 @@ use Rattle.elf_model.specs.Versions.{VisitedRecord, name_index, number_in}
 use Rattle.elf_model.specs.declared.causes.Cause.{Cause}
 use Rattle.elf_model.specs.declared.causes.Refusal.{Refusal}
 use Rattle.elf_source.specs.Source.{CountedState}
-use Rattle.elf_headers.specs.Ledger.{CallReads}
-use Rattle.elf_headers.specs.declared.fault.Fault.{Fault}
-use Rattle.elf_headers.specs.declared.fault.Fault.TheVariants.{Refused, Source}
-use Rattle.elf_headers.proofs.LedgerLaws.{CallReads-more, CallReads-none}
+use Rattle.elf_table.specs.Ledger.{CallReads}
+use Rattle.elf_table.specs.declared.fault.Fault.{Fault}
+use Rattle.elf_table.specs.declared.fault.Fault.TheVariants.{Refused, Source}
+use Rattle.elf_table.proofs.LedgerLaws.{CallReads-more, CallReads-none}
 use Rattle.elf_lookup_tables.specs.Symbols.{AreVersymTable, IsVersymTable}
 use Rattle.elf_lookup_tables.specs.declared.symbols.VersionWords.{VersionWords as Words}
 use Rattle.elf_table.specs.Cursors.{row_at}

@@ -3,9 +3,9 @@ use Rattle.std.proofs.Common.{◌≡◌, ℕ, Bool, true, false, List, Result, r
 use Rattle.elf_model.specs.Loader.{Wanted}
 use Rattle.elf_model.specs.Style.{looked_at, without_sections}
 use Rattle.elf_source.specs.Source.{CountedState, MasksSectionHeaders}
-use Rattle.elf_headers.proofs.FaultLaws.{charges_hidden}
-use Rattle.elf_headers.specs.Ledger.{CallReads, CallDid, fault_of_result}
-use Rattle.elf_headers.specs.declared.fault.Fault.{Fault}
+use Rattle.elf_table.proofs.FaultLaws.{charges_hidden}
+use Rattle.elf_table.specs.Ledger.{CallReads, CallDid, fault_of_result}
+use Rattle.elf_table.specs.declared.fault.Fault.{Fault}
 use Rattle.elf_loader.specs.Lookups.{LooksUp}
 use Rattle.elf_loader.specs.declared.lookup.SymbolLookup.{SymbolLookup}
 

@@ -12,10 +12,10 @@ use Rattle.elf_model.specs.declared.causes.Refusal.{Refusal}
 use Rattle.elf_model.proofs.CheckSteps.{first_refusal-none, passes_front}
 use Rattle.elf_record.specs.Sym.{IsSym}
 use Rattle.elf_source.specs.Source.{CountedState}
-use Rattle.elf_headers.specs.Ledger.{CallReads}
-use Rattle.elf_headers.specs.declared.fault.Fault.{Fault}
-use Rattle.elf_headers.specs.declared.fault.Fault.TheVariants.{Refused, Source}
-use Rattle.elf_headers.proofs.LedgerLaws.{CallReads-more, CallReads-none, CallReads-then}
+use Rattle.elf_table.specs.Ledger.{CallReads}
+use Rattle.elf_table.specs.declared.fault.Fault.{Fault}
+use Rattle.elf_table.specs.declared.fault.Fault.TheVariants.{Refused, Source}
+use Rattle.elf_table.proofs.LedgerLaws.{CallReads-more, CallReads-none, CallReads-then}
 use Rattle.elf_table.specs.Cursors.{row_at}
 use Rattle.elf_hash.specs.SearchedTables.{HasCounts, IsPlaceIn, counts_bytes, walked_in}
 use Rattle.elf_hash.specs.Walks.{GivesWalked, WalksChain, walk_bytes}

@@ -6,10 +6,10 @@ use Rattle.elf_model.specs.Loader.{Meets, Misses, NumberNameSource, VersionRecor
 use Rattle.elf_model.specs.Versions.{VisitedRecord, names_version_index}
 use Rattle.elf_model.specs.declared.causes.Refusal.{Refusal}
 use Rattle.elf_source.specs.Source.{CountedState}
-use Rattle.elf_headers.specs.Ledger.{CallReads}
-use Rattle.elf_headers.specs.declared.fault.Fault.{Fault}
-use Rattle.elf_headers.specs.declared.fault.Fault.TheVariants.{Refused, Source}
-use Rattle.elf_headers.proofs.LedgerLaws.{CallReads-more, CallReads-then}
+use Rattle.elf_table.specs.Ledger.{CallReads}
+use Rattle.elf_table.specs.declared.fault.Fault.{Fault}
+use Rattle.elf_table.specs.declared.fault.Fault.TheVariants.{Refused, Source}
+use Rattle.elf_table.proofs.LedgerLaws.{CallReads-more, CallReads-then}
 use Rattle.elf_lookup_tables.specs.Symbols.{IsVersionRecordTable}
 use Rattle.elf_lookup_tables.specs.declared.symbols.VersionRecordTable.{VersionRecordTable as Given}
 use Rattle.elf_versions.specs.Reading.{SpendsRecord, StartsVersions, ReturnsVersion, VersionCursorState, versions_left}

@@ -6,7 +6,7 @@ use Rattle.elf_model.specs.Versions.{VisitedRecord, max_records}
 use Rattle.elf_model.specs.declared.causes.Refusal.{Refusal}
 use Rattle.elf_model.specs.declared.versions.VersionKind.{VersionKind}
 use Rattle.elf_model.specs.declared.versions.VersionKind.TheVariants.{Definition, File, Need}
-use Rattle.elf_headers.specs.declared.fault.Fault.{Fault}
+use Rattle.elf_table.specs.declared.fault.Fault.{Fault}
 use Rattle.elf_lookup_tables.specs.Symbols.{IsVersionRecordTable}
 use Rattle.elf_lookup_tables.specs.declared.symbols.VersionRecordTable.{VersionRecordTable as Given}
 use Rattle.elf_table.specs.Tables.{strings_in}

@@ -12,8 +12,8 @@ use Rattle.elf_lookup_tables.specs.declared.symbols.VersionWords.{VersionWords}
 use Rattle.elf_hash.specs.declared.answer.SymbolMatch.{SymbolMatch}
 use Rattle.elf_hash.specs.declared.answer.VersymEntry.{VersymEntry}
 use Rattle.elf_loader.specs.declared.version_match.VersionMatch.{VersionMatch}
-use Rattle.elf_headers.specs.declared.fault.Fault.{Fault}
-use Rattle.elf_headers.specs.declared.fault.Fault.TheVariants.{Refused, Source}
+use Rattle.elf_table.specs.declared.fault.Fault.{Fault}
+use Rattle.elf_table.specs.declared.fault.Fault.TheVariants.{Refused, Source}
 
 -- the word of a symbol's version stands there in the file, where there are words of versions
 abbrev pub IsWord : List ℕ → Option VersionWords → ℕ → Option VersymEntry → Type 0

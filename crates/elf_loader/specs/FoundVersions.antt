@@ -10,9 +10,9 @@ use Rattle.elf_model.specs.LoaderScope.{LookupTables}
 use Rattle.elf_model.specs.Names.{DisplayedName, IsNameBytesAt}
 use Rattle.elf_model.specs.Names.DisplayedName.{Whole}
 use Rattle.elf_source.specs.Source.{CountedState}
-use Rattle.elf_headers.specs.Ledger.{CallReads, fault_of_result}
-use Rattle.elf_headers.specs.declared.fault.Fault.{Fault}
-use Rattle.elf_headers.specs.declared.fault.Fault.TheVariants.{Refused, Source}
+use Rattle.elf_table.specs.Ledger.{CallReads, fault_of_result}
+use Rattle.elf_table.specs.declared.fault.Fault.{Fault}
+use Rattle.elf_table.specs.declared.fault.Fault.TheVariants.{Refused, Source}
 use Rattle.elf_table.specs.NamesRead.{shown_by}
 use Rattle.elf_loader.specs.Telling.{parsed_member_bytes}
 use Rattle.elf_loader.specs.declared.found.FoundVersion.{FoundVersion}

@@ -9,9 +9,9 @@ use Rattle.elf_model.specs.Names.{pad64}
 use Rattle.elf_model.specs.Records.{e_machine}
 use Rattle.elf_record.specs.Sym.{IsSym}
 use Rattle.elf_source.specs.Source.{CountedState}
-use Rattle.elf_headers.specs.Ledger.{CallReads, CallDid, fault_of_result}
-use Rattle.elf_headers.specs.declared.fault.Fault.{Fault}
-use Rattle.elf_headers.specs.declared.fault.Fault.TheVariants.{Refused, Source}
+use Rattle.elf_table.specs.Ledger.{CallReads, CallDid, fault_of_result}
+use Rattle.elf_table.specs.declared.fault.Fault.{Fault}
+use Rattle.elf_table.specs.declared.fault.Fault.TheVariants.{Refused, Source}
 use Rattle.elf_lookup_tables.specs.LookupTablesFound.{IsLookupTables, LookupTablesInBounds}
 use Rattle.elf_lookup_tables.specs.declared.lookup_tables.LookupTables.{LookupTables as ScopeCode}
 use Rattle.elf_loader.specs.FoundVersions.{IsRelocationReported, version_found}

@@ -5,9 +5,9 @@ use Rattle.elf_model.specs.BoundSymbols.{file_before}
 use Rattle.elf_model.specs.Loader.{NumberNameSource, VersionRecordRead, naming_of}
 use Rattle.elf_model.specs.Versions.{VisitedRecord}
 use Rattle.elf_source.specs.Source.{CountedState}
-use Rattle.elf_headers.specs.Ledger.{CallReads, CallDid, fault_of_result}
-use Rattle.elf_headers.specs.declared.fault.Fault.{Fault}
-use Rattle.elf_headers.specs.declared.fault.Fault.TheVariants.{Refused, Source}
+use Rattle.elf_table.specs.Ledger.{CallReads, CallDid, fault_of_result}
+use Rattle.elf_table.specs.declared.fault.Fault.{Fault}
+use Rattle.elf_table.specs.declared.fault.Fault.TheVariants.{Refused, Source}
 use Rattle.elf_table.specs.Tables.{StringsInBounds, strings_in}
 use Rattle.elf_versions.specs.Reading.{IsVersion}
 use Rattle.elf_versions.specs.declared.record.VersionRecord.{VersionRecord}

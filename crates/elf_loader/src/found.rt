@@ -1,6 +1,6 @@
 //! The version of a symbol that is found.
 ghost use Rattle.std.specs.Prelude.{◌≡◌, ℕ, ◌+◌, ◌*◌, ◌<◌, Some};
-ghost use Rattle.elf_headers.specs.Ledger.{CallDid, fault_of_result};
+ghost use Rattle.elf_table.specs.Ledger.{CallDid, fault_of_result};
 ghost use Rattle.elf_loader.specs.Answering.{IsWord};
 ghost use Rattle.elf_loader.specs.FoundVersions.{FindsVersion};
 ghost use Rattle.elf_loader.specs.Tables.{max_versions_of};
@@ -12,11 +12,10 @@ ghost use Rattle.elf_lookup_tables.specs.Symbols.{IsDynamicSymbols, IsVersymTabl
 
 use crate::resolved_version_name::parsed_member_name;
 use elf_hash::{ChainMatch, VersymEntry};
-use elf_headers::Fault;
+use elf_table::{Fault, NameBuf, NameEnd};
 use elf_lookup_tables::{Symbols, VersionWords};
 use elf_record::version_number;
 use elf_source::{Counted, Source};
-use elf_table::{NameBuf, NameEnd};
 use elf_options::Asked;
 
 /// The name of the version of a symbol that is found.

@@ -1,6 +1,6 @@
 //! The numbers of the version that is asked for, of all records of versions.
 ghost use Rattle.std.specs.Prelude.{◌≤◌, length, IfSome};
-ghost use Rattle.elf_headers.specs.Ledger.{CallDid, fault_of_result};
+ghost use Rattle.elf_table.specs.Ledger.{CallDid, fault_of_result};
 ghost use Rattle.elf_loader.specs.Comparing.{CollectsNumbers, ComparesRecords, comparing_bytes};
 ghost use Rattle.elf_loader.specs.Tables.{OfAnyTable, OfTables, max_records_of, max_versions_of};
 ghost use Rattle.elf_options.specs.Wants.{asked_of};
@@ -11,7 +11,7 @@ ghost use Rattle.elf_lookup_tables.specs.Symbols.{IsDynamicSymbols, VersionRecor
 
 use crate::name_comparison::compare_table;
 use crate::version_index_set::VersionIndexSet;
-use elf_headers::Fault;
+use elf_table::Fault;
 use elf_lookup_tables::{Symbols, VersionRecordTable};
 use elf_source::{Counted, Source};
 use elf_options::Asked;

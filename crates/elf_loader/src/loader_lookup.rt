@@ -22,10 +22,9 @@ use crate::found::version_of;
 use crate::lookup::{FoundSymbol, SymbolLookup};
 use crate::version_index_set::VersionIndexSet;
 use elf_hash::{ChainResult, HashTable, counts, walk};
-use elf_headers::{Fault, HeaderStore};
+use elf_table::{Fault, HeaderStore, NameBuf};
 use elf_lookup_tables::{LookupTables, find_lookup_tables};
 use elf_source::{Counted, Source};
-use elf_table::NameBuf;
 use elf_options::Wanted;
 
 /// Looks a name up in a file, alone or with a version, as a loader of the GNU system does (gABI 5,

@@ -1,6 +1,6 @@
 //! The numbers of the version that is asked for by its name.
 ghost use Rattle.std.specs.Prelude.{ℕ, ◌+◌, ◌<◌, ◌≤◌, ◌∷◌, List, length};
-ghost use Rattle.elf_headers.specs.Ledger.{CallDid, fault_of_result};
+ghost use Rattle.elf_table.specs.Ledger.{CallDid, fault_of_result};
 ghost use Rattle.elf_loader.specs.Comparing.{ComparesOne, ComparesRecords};
 ghost use Rattle.elf_loader.specs.Tables.{OfTable};
 ghost use Rattle.elf_model.specs.Loader.{VersionRecordRead, Meets, compared_with};
@@ -11,11 +11,10 @@ ghost use Rattle.elf_table.specs.Tables.{StringsInBounds, strings_in};
 ghost use Rattle.elf_versions.specs.Reading.{IsVersion};
 
 use crate::version_index_set::VersionIndexSet;
-use elf_headers::Fault;
+use elf_table::{Fault, Names};
 use elf_lookup_tables::VersionRecordTable;
 use elf_record::version_number;
 use elf_source::{Counted, Source};
-use elf_table::Names;
 use elf_versions::{VersionCursor, VersionRecord};
 
 /// Compares the records of a table that name a version with the wanted one, and puts the numbers of

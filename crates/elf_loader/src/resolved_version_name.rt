@@ -1,6 +1,6 @@
 //! The name of a symbol's version.
 ghost use Rattle.std.specs.Prelude.{◌≡◌, ℕ, ◌+◌, ◌*◌};
-ghost use Rattle.elf_headers.specs.Ledger.{CallDid, fault_of_result};
+ghost use Rattle.elf_table.specs.Ledger.{CallDid, fault_of_result};
 ghost use Rattle.elf_loader.specs.Tables.{max_versions_of};
 ghost use Rattle.elf_loader.specs.Telling.{ReturnsVersionName, parsed_member_bytes};
 ghost use Rattle.elf_model.specs.Loader.{VersionWords as AreWordsOf, naming_of, readings, versym_at};
@@ -8,11 +8,10 @@ ghost use Rattle.elf_model.specs.LoaderScope.{LookupTables as IsScopeOf};
 ghost use Rattle.elf_lookup_tables.specs.Symbols.{IsDynamicSymbols, DynamicSymbolsInBounds};
 
 use crate::version_name_record::name_of;
-use elf_headers::{Fault, NameLimit, refused};
+use elf_table::{Fault, NameBuf, NameEnd, NameLimit, refused};
 use elf_lookup_tables::Symbols;
 use elf_record::Cause;
 use elf_source::{Counted, Source};
-use elf_table::{NameBuf, NameEnd};
 
 /// How many bytes of the name of a version are kept.
 const TOLD_BYTES: u16 = 256;

@@ -1,6 +1,6 @@
 //! Which versions fit what is asked for.
 ghost use Rattle.std.specs.Prelude.{◌≡◌, ℕ, ◌+◌, ◌≤◌, List, IfSome};
-ghost use Rattle.elf_headers.specs.Ledger.{CallDid, IsRead, fault_of_result};
+ghost use Rattle.elf_table.specs.Ledger.{CallDid, IsRead, fault_of_result};
 ghost use Rattle.elf_loader.specs.Answering.{ReturnsFit};
 ghost use Rattle.elf_loader.specs.NumberSets.{has_number};
 ghost use Rattle.elf_options.specs.Wants.{asked_of};
@@ -12,7 +12,7 @@ ghost use Rattle.std.specs.Prelude.{Option};
 
 use crate::version_index_set::VersionIndexSet;
 use elf_hash::VersymEntry;
-use elf_headers::{Fault, fill, refused};
+use elf_table::{Fault, fill, refused};
 use elf_lookup_tables::VersionWords;
 use elf_record::{Cause, u16_at, version_number};
 use elf_source::{Counted, Source};

@@ -1,6 +1,6 @@
 //! Which symbols answer.
 ghost use Rattle.std.specs.Prelude.{◌≡◌, ◌+◌, ◌<◌, ◌≤◌, length};
-ghost use Rattle.elf_headers.specs.Ledger.{CallDid, fault_of_result};
+ghost use Rattle.elf_table.specs.Ledger.{CallDid, fault_of_result};
 ghost use Rattle.elf_loader.specs.Answering.{SaysOf, IsSymbolWithVersym, ReturnsAnswer};
 ghost use Rattle.elf_loader.specs.NumberSets.{has_number};
 ghost use Rattle.elf_options.specs.Wants.{query_of};
@@ -12,7 +12,7 @@ use crate::version_match::version_fits;
 use crate::version_index_set::VersionIndexSet;
 use crate::exported::is_exported;
 use elf_hash::{Matcher, SymbolMatch};
-use elf_headers::Fault;
+use elf_table::Fault;
 use elf_lookup_tables::Symbols;
 use elf_source::{Counted, Source};
 use elf_options::Wanted;

@@ -7,11 +7,10 @@ ghost use Rattle.elf_model.specs.Versions.{VisitedRecord, max_records, names_ver
 ghost use Rattle.elf_lookup_tables.specs.Symbols.{VersionRecordsInBounds, DynamicSymbolsInBounds};
 ghost use Rattle.elf_versions.specs.Reading.{IsVersion};
 
-use elf_headers::Fault;
+use elf_table::{Fault, Names};
 use elf_lookup_tables::{Symbols, VersionRecordTable};
 use elf_record::{VersionKind, version_number};
 use elf_source::{Counted, Source};
-use elf_table::Names;
 use elf_versions::{VersionCursor, VersionRecord};
 
 /// A record that names the version of a number, with the strings of its name.

@@ -10,12 +10,12 @@ use Rattle.elf_model.specs.declared.causes.Refusal.{Refusal}
 use Rattle.elf_model.proofs.CheckSteps.{first_refusal-none, first_refusal-some}
 use Rattle.elf_record.specs.Ehdr.{IsEhdr}
 use Rattle.elf_record.specs.declared.ehdr.Ehdr.{Ehdr}
-use Rattle.elf_headers.specs.Faults.{HeaderRead, IsOfRead}
-use Rattle.elf_headers.specs.Load.{LoadedAs, load_cost}
-use Rattle.elf_headers.specs.Store.{StoreState}
-use Rattle.elf_headers.specs.declared.fault.Fault.{Fault}
-use Rattle.elf_headers.specs.declared.fault.Fault.TheVariants.{Refused, Source}
-use Rattle.elf_headers.proofs.LoadLaws.{load-within, load_most}
+use Rattle.elf_table.specs.Faults.{HeaderRead, IsOfRead}
+use Rattle.elf_table.specs.Load.{LoadedAs, load_cost}
+use Rattle.elf_table.specs.Store.{StoreState}
+use Rattle.elf_table.specs.declared.fault.Fault.{Fault}
+use Rattle.elf_table.specs.declared.fault.Fault.TheVariants.{Refused, Source}
+use Rattle.elf_table.proofs.LoadLaws.{load-within, load_most}
 use Rattle.elf_lookup_tables.specs.Finding.{scope_cost, scope_loaded, segments_bytes}
 use Rattle.elf_lookup_tables.specs.LookupTablesFound.{FindsLookupTables}
 use Rattle.elf_lookup_tables.specs.Segments.{entries_asked}

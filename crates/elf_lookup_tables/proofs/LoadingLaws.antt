@@ -7,11 +7,11 @@ use Rattle.elf_model.specs.Records.{e_phnum}
 use Rattle.elf_model.proofs.CheckSteps.{first_refusal-none, first_refusal-some, passes_front}
 use Rattle.elf_model.proofs.SumLemmas.{cost_where-le}
 use Rattle.elf_record.specs.declared.ehdr.Ehdr.{Ehdr}
-use Rattle.elf_headers.specs.Faults.{HeaderRead, IsOfRead}
-use Rattle.elf_headers.specs.Load.{LoadedAs, early_of, load_cost}
-use Rattle.elf_headers.specs.Store.{StoreState}
-use Rattle.elf_headers.specs.declared.fault.Fault.{Fault}
-use Rattle.elf_headers.specs.declared.fault.Fault.TheVariants.{Refused, Source}
+use Rattle.elf_table.specs.Faults.{HeaderRead, IsOfRead}
+use Rattle.elf_table.specs.Load.{LoadedAs, early_of, load_cost}
+use Rattle.elf_table.specs.Store.{StoreState}
+use Rattle.elf_table.specs.declared.fault.Fault.{Fault}
+use Rattle.elf_table.specs.declared.fault.Fault.TheVariants.{Refused, Source}
 use Rattle.elf_lookup_tables.specs.Loading.{LoadsSegments, segments_load_cost}
 
 -- no section header is asked for

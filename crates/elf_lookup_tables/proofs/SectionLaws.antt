@@ -7,8 +7,8 @@ use Rattle.elf_model.specs.Records.{e_machine, section_at, sh_offset, sh_size}
 use Rattle.elf_model.specs.VersionRows.{first_of_type}
 use Rattle.elf_model.specs.declared.causes.Cause.TheVariants.{NoHash}
 use Rattle.elf_model.specs.declared.versions.VersionKind.TheVariants.{Definition, File}
-use Rattle.elf_headers.specs.declared.fault.Fault.{Fault}
-use Rattle.elf_headers.specs.declared.fault.Fault.TheVariants.{Refused, Source}
+use Rattle.elf_table.specs.declared.fault.Fault.{Fault}
+use Rattle.elf_table.specs.declared.fault.Fault.TheVariants.{Refused, Source}
 use Rattle.elf_table.specs.HashSections.{AreHashed, ChecksThenValue}
 use Rattle.elf_table.specs.Tables.{Rows, StringTableRange, strings_in}
 use Rattle.elf_hash.specs.HashStyles.{hash_style_of}

@@ -12,7 +12,7 @@ use Rattle.elf_model.specs.Versions.{VERSYM_SIZE}
 use Rattle.elf_model.specs.declared.causes.Cause.TheVariants.{BadLink}
 use Rattle.elf_model.specs.declared.versions.VersionKind.{VersionKind}
 use Rattle.elf_model.specs.declared.versions.VersionKind.TheVariants.{Definition, File}
-use Rattle.elf_headers.specs.declared.fault.Fault.{Fault}
+use Rattle.elf_table.specs.declared.fault.Fault.{Fault}
 use Rattle.elf_table.specs.HashSections.{ChecksThenValue}
 use Rattle.elf_table.specs.Relocations.{RefusedBy}
 use Rattle.elf_table.specs.Sections.{byte_rows, rows, string_table_at, table_at}

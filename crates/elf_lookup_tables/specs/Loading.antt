@@ -5,11 +5,11 @@ use Rattle.elf_model.specs.Checks.{first_refusal, before_headers, header_checks,
 use Rattle.elf_model.specs.Cost.{cost_where}
 use Rattle.elf_model.specs.Records.{FILE_HEADER_SIZE, PROGRAM_HEADER_SIZE, e_phnum}
 use Rattle.elf_source.specs.Source.{CountedState}
-use Rattle.elf_headers.specs.Ledger.{CallReads, fault_of_result}
-use Rattle.elf_headers.specs.Load.{LoadedFile, HoldsProgramHeaders}
-use Rattle.elf_headers.specs.Store.{StoreState}
-use Rattle.elf_headers.specs.declared.fault.Fault.{Fault}
-use Rattle.elf_headers.specs.declared.fault.Fault.TheVariants.{Refused, Source}
+use Rattle.elf_table.specs.Ledger.{CallReads, fault_of_result}
+use Rattle.elf_table.specs.Load.{LoadedFile, HoldsProgramHeaders}
+use Rattle.elf_table.specs.Store.{StoreState}
+use Rattle.elf_table.specs.declared.fault.Fault.{Fault}
+use Rattle.elf_table.specs.declared.fault.Fault.TheVariants.{Refused, Source}
 
 -- how many bytes it asks for: the file header, and where the early checks pass the program headers
 abbrev pub segments_load_cost : List ℕ → ℕ → ℕ

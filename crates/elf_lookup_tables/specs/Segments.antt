@@ -11,9 +11,9 @@ use Rattle.elf_model.specs.declared.causes.Cause.TheVariants.{NoHash}
 use Rattle.elf_model.specs.declared.causes.Refusal.{Refusal}
 use Rattle.elf_model.specs.declared.versions.VersionKind.TheVariants.{Definition, File}
 use Rattle.elf_source.specs.Source.{CountedState}
-use Rattle.elf_headers.specs.Ledger.{CallReads, CallDid, fault_of_result}
-use Rattle.elf_headers.specs.Load.{HoldsProgramHeaders}
-use Rattle.elf_headers.specs.declared.fault.Fault.{Fault}
+use Rattle.elf_table.specs.Ledger.{CallReads, CallDid, fault_of_result}
+use Rattle.elf_table.specs.Load.{HoldsProgramHeaders}
+use Rattle.elf_table.specs.declared.fault.Fault.{Fault}
 use Rattle.elf_table.specs.declared.segment_view.ExecutionView.{ExecutionView}
 use Rattle.elf_hash.specs.HashStyles.{hash_style_of}
 use Rattle.elf_lookup_tables.specs.LookupTablesFound.{FindsLookupTables, LookupTablesInBounds}

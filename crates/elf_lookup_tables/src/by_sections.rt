@@ -3,7 +3,7 @@ ghost use Rattle.std.specs.Prelude.{◌≡◌, ◌<◌, ◌^◌, ℕ, List, IfSo
 ghost use Rattle.std.specs.Option.{option_map};
 ghost use Rattle.elf_model.specs.LoaderScope.{hash_section, scope_by_sections, section_checks, section_lookup_tables};
 ghost use Rattle.elf_model.specs.Records.{section_at};
-ghost use Rattle.elf_headers.specs.Load.{HoldsSectionHeaders};
+ghost use Rattle.elf_table.specs.Load.{HoldsSectionHeaders};
 ghost use Rattle.elf_table.specs.HashSections.{ChecksThenValue};
 ghost use Rattle.elf_hash.specs.HashStyles.{hash_style_of};
 ghost use Rattle.elf_lookup_tables.specs.Headers.{FindsIn, HasHeader};
@@ -14,11 +14,10 @@ use crate::lookup_tables::LookupTables;
 use crate::section_versions::section_versions;
 use crate::symbols::Symbols;
 use elf_hash::{HashStyle, HashTableLocation};
-use elf_headers::{Fault, refused};
+use elf_table::{Fault, File, refused};
 use elf_record::Cause;
 use elf_record::gnu_numbers::SHT_GNU_HASH;
 use elf_record::numbers::SHT_HASH;
-use elf_table::File;
 
 /// The tables that a lookup searches, by the section headers. No bytes are read.
 ///

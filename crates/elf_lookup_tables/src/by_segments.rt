@@ -2,7 +2,7 @@
 ghost use Rattle.std.specs.Prelude.{◌≡◌, ◌<◌, ◌^◌, ℕ, List};
 ghost use Rattle.elf_model.specs.LoaderScope.{lookup_tables_by_segments, scope_in_segments, has_wide_kind, segment_checks, segment_lookup_tables};
 ghost use Rattle.elf_model.specs.Records.{d_un, segment_at};
-ghost use Rattle.elf_headers.specs.Load.{HoldsProgramHeaders};
+ghost use Rattle.elf_table.specs.Load.{HoldsProgramHeaders};
 ghost use Rattle.elf_table.specs.HashSections.{ChecksThenValue};
 ghost use Rattle.elf_lookup_tables.specs.Entries.{AreTaggedEntries};
 ghost use Rattle.elf_hash.specs.HashStyles.{hash_style_of};
@@ -15,11 +15,10 @@ use crate::dyn_entry::{DynEntry, DynamicTags};
 use crate::lookup_tables::LookupTables;
 use crate::segment_symbols::segment_symbols;
 use elf_hash::{HashStyle, HashTableLocation};
-use elf_headers::{Fault, refused};
+use elf_table::{ExecutionView, Fault, refused};
 use elf_record::Cause;
 use elf_record::numbers::{EM_ALPHA, PT_DYNAMIC};
 use elf_source::{Counted, Source};
-use elf_table::ExecutionView;
 
 /// The tables that a lookup searches by the program headers: by the dynamic entries of the first
 /// segment of such, which are read, each byte at most once.

@@ -1,8 +1,8 @@
 //! The tables that a lookup searches, found by the headers of a file.
 ghost use Rattle.std.specs.Prelude.{◌≡◌, ◌+◌, ◌*◌, ◌<◌, ◌≤◌, ◌^◌, ℕ, List, IfOk};
 ghost use Rattle.elf_model.specs.LoaderFind.{segments_asked};
-ghost use Rattle.elf_headers.specs.Ledger.{CallReads, CallDid, fault_of_result};
-ghost use Rattle.elf_headers.specs.Load.{HoldsSectionHeaders, SegmentsInBounds};
+ghost use Rattle.elf_table.specs.Ledger.{CallReads, CallDid, fault_of_result};
+ghost use Rattle.elf_table.specs.Load.{HoldsSectionHeaders, SegmentsInBounds};
 ghost use Rattle.elf_lookup_tables.specs.Finding.{FindsScope, scope_loaded, segments_bytes};
 ghost use Rattle.elf_lookup_tables.specs.Headers.{IsOfSource};
 ghost use Rattle.elf_lookup_tables.specs.LookupTablesFound.{FindsLookupTables, LookupTablesInBounds};
@@ -10,9 +10,8 @@ ghost use Rattle.elf_lookup_tables.specs.LookupTablesFound.{FindsLookupTables, L
 use crate::by_sections::by_sections;
 use crate::by_segments::find_in_segments;
 use crate::lookup_tables::LookupTables;
-use elf_headers::{Fault, HeaderStore, Loaded, header, load};
+use elf_table::{ExecutionView, Fault, File, header, HeaderStore, load, Loaded};
 use elf_source::{Counted, Source};
-use elf_table::{ExecutionView, File};
 
 /// The tables that a loader of the GNU system searches in one file (gABI 5, Dynamic Linking;
 /// Linux Standard Base Core, Symbol Versioning). By the section headers: the hash table of the first

@@ -1,10 +1,10 @@
 //! The load of a file's program headers, whatever its section headers are.
 ghost use Rattle.std.specs.Prelude.{◌≡◌, ◌+◌, ◌*◌, IfOk};
-ghost use Rattle.elf_headers.specs.Ledger.{CallDid, fault_of_result};
+ghost use Rattle.elf_table.specs.Ledger.{CallDid, fault_of_result};
 ghost use Rattle.elf_lookup_tables.specs.Loading.{FitsSource, LoadsShown};
 ghost use Rattle.elf_model.specs.Records.{e_shnum};
 
-use elf_headers::{Fault, HeaderStore, Loaded, header, load, refused};
+use elf_table::{Fault, HeaderStore, Loaded, header, load, refused};
 use elf_record::Cause;
 use elf_source::{Counted, Source};
 

@@ -6,7 +6,7 @@ ghost use Rattle.elf_model.specs.Records.{section_at, sh_link};
 ghost use Rattle.elf_model.specs.Tables.{all_checks};
 ghost use Rattle.elf_model.specs.VersionRows.{version_table};
 ghost use Rattle.elf_model.specs.declared.versions.VersionKind.TheVariants.{Definition, File as NeededFile, Need};
-ghost use Rattle.elf_headers.specs.Load.{HoldsSectionHeaders};
+ghost use Rattle.elf_table.specs.Load.{HoldsSectionHeaders};
 ghost use Rattle.elf_table.specs.HashSections.{ChecksThenValue};
 ghost use Rattle.elf_table.specs.Sections.{string_table_at};
 ghost use Rattle.elf_table.specs.Tables.{TableInBounds, StringsInBounds};
@@ -16,11 +16,10 @@ ghost use Rattle.elf_lookup_tables.specs.Versions.{AreInFront, AreVersions, Vers
 
 use crate::symbols::{VersionRecordTable, VersionWords};
 use crate::versions::VersionTables;
-use elf_headers::{Fault, refused};
+use elf_table::{Fault, File, Names, refused, Table};
 use elf_record::gnu_numbers::{SHT_GNU_VERDEF, SHT_GNU_VERNEED, SHT_GNU_VERSYM};
 use elf_record::sizes::SYMBOL_VERSION_BYTES;
 use elf_record::{Cause, VersionKind};
-use elf_table::{File, Names, Table};
 
 /// The tables of versions of the symbols that the section of a hash table links to: of the first
 /// sections of their types, the words, the definitions and the needs; nothing where there are no

@@ -3,7 +3,7 @@ ghost use Rattle.std.specs.Prelude.{◌≡◌, ◌/◌, ◌<◌, ◌≤◌, ◌^
 ghost use Rattle.elf_model.specs.LoaderScope.{checks_of_row, records_of_tag, rest_checks, rows_checks, segment_strings, segment_words, tagged_row, words_row};
 ghost use Rattle.elf_model.specs.Records.{segment_at};
 ghost use Rattle.elf_model.specs.declared.versions.VersionKind.TheVariants.{Need};
-ghost use Rattle.elf_headers.specs.Load.{HoldsProgramHeaders};
+ghost use Rattle.elf_table.specs.Load.{HoldsProgramHeaders};
 ghost use Rattle.elf_table.specs.HashSections.{ChecksThenValue};
 ghost use Rattle.elf_table.specs.Tables.{StringsInBounds, strings_in};
 ghost use Rattle.elf_lookup_tables.specs.Entries.{AreTaggedEntries, dynamic_entry_at};
@@ -15,10 +15,9 @@ ghost use Rattle.elf_lookup_tables.specs.Versions.{AreInFront, AreVersions, Vers
 use crate::dyn_entry::{DynEntry, DynamicTags};
 use crate::symbols::{Symbols, VersionRecordTable, VersionWords};
 use crate::versions::VersionTables;
-use elf_headers::{Fault, refused};
+use elf_table::{ExecutionView, Fault, Names, refused, Table};
 use elf_record::sizes::{SYMBOL_BYTES, SYMBOL_VERSION_BYTES};
 use elf_record::{Cause, VersionKind};
-use elf_table::{ExecutionView, Names, Table};
 
 /// The symbols that the entries of a segment locate, with their names and versions. `row` is the
 /// file offset of the entry of the hash table.

@@ -1,6 +1,6 @@
 //! How many symbols a lookup has.
 ghost use Rattle.std.specs.Prelude.{◌≡◌, ◌+◌, ◌≤◌, IfOk};
-ghost use Rattle.elf_headers.specs.Ledger.{CallDid, fault_of_result};
+ghost use Rattle.elf_table.specs.Ledger.{CallDid, fault_of_result};
 ghost use Rattle.elf_hash.specs.Extents.{ReturnsExtent};
 ghost use Rattle.elf_hash.specs.SearchedTables.{IsTable, HashTableInBounds, place_of_table};
 ghost use Rattle.elf_lookup_tables.specs.Symbols.{IsDynamicSymbols};
@@ -8,7 +8,7 @@ ghost use Rattle.elf_model.specs.LoaderScope.{LookupTables};
 
 use crate::symbols::Symbols;
 use elf_hash::{HashTable, symbol_extent};
-use elf_headers::Fault;
+use elf_table::Fault;
 use elf_source::{Counted, Source};
 
 impl Symbols {

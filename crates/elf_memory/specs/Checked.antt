@@ -4,7 +4,7 @@ use Rattle.elf_model.specs.Checks.{first_refusal, header_checks, before_headers}
 use Rattle.elf_model.specs.declared.causes.Refusal.{Refusal}
 use Rattle.elf_record.specs.Ehdr.{IsEhdr}
 use Rattle.elf_record.specs.declared.ehdr.Ehdr.{Ehdr}
-use Rattle.elf_headers.specs.Load.{PassesLoadChecks}
+use Rattle.elf_table.specs.Load.{PassesLoadChecks}
 
 -- how many headers may be permitted at most
 abbrev pub MOST_HEADERS : ℕ

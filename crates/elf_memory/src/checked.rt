@@ -3,7 +3,7 @@
 ghost use Rattle.elf_memory.specs.Checked.{HeaderChecked, CountsChecked};
 
 use crate::bytes::chunk_at;
-use elf_headers::{check_before_load, refused_length};
+use elf_table::{check_before_load, refused_length};
 use elf_record::{Ehdr, Refusal};
 
 /// How many section headers, and as many program headers, are permitted at most.

@@ -6,7 +6,7 @@ ghost use Rattle.elf_memory.specs.SectionBytes.{ReadsSectionBytes};
 
 use crate::name::ByteRange;
 use crate::section::{Section, section_at, section_place};
-use elf_headers::ends_outside;
+use elf_table::ends_outside;
 use elf_record::numbers::{SHT_NOBITS, SHT_NULL};
 use elf_record::{Cause, Refusal};
 

@@ -2,7 +2,7 @@
 ghost use Rattle.std.specs.Prelude.{◌≡◌, ◌≤◌, ℕ, List, length, true};
 ghost use Rattle.elf_model.specs.Mapped.{is_mapped_by};
 ghost use Rattle.elf_record.specs.Ehdr.{IsEhdr};
-ghost use Rattle.elf_headers.specs.Load.{PassesLoadChecks};
+ghost use Rattle.elf_table.specs.Load.{PassesLoadChecks};
 ghost use Rattle.elf_memory.specs.Checked.{MOST_HEADERS};
 ghost use Rattle.elf_memory.specs.Headers.{IsSegment};
 ghost use Rattle.elf_memory.specs.MappedBytes.{FindsMapping, ReadsMapped};

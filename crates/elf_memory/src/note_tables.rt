@@ -5,7 +5,7 @@ ghost use Rattle.elf_memory.specs.NoteRows.{InFile, ReadsSectionNotes, ReadsSegm
 use crate::notes::NotePosition;
 use crate::section::{section_at, section_place};
 use crate::segment::{segment_at, segment_place};
-use elf_headers::ends_outside;
+use elf_table::ends_outside;
 use elf_record::numbers::{PT_NOTE, SHT_NOTE};
 use elf_record::{Cause, Refusal};
 

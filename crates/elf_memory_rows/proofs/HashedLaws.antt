@@ -11,10 +11,10 @@ use Rattle.elf_hash.specs.SearchedTables.{HasCounts, IsPlaceIn, counts_bytes}
 use Rattle.elf_hash.specs.declared.hash_style.HashStyle.{HashStyle}
 use Rattle.elf_hash.specs.declared.hash_style.HashStyle.TheVariants.{Gnu, Sysv}
 use Rattle.elf_source.specs.Source.{CountedState}
-use Rattle.elf_headers.proofs.LedgerLaws.{CallReads-then}
-use Rattle.elf_headers.specs.Ledger.{CallReads, IsRead}
-use Rattle.elf_headers.specs.declared.fault.Fault.{Fault}
-use Rattle.elf_headers.specs.declared.fault.Fault.TheVariants.{Refused, Source}
+use Rattle.elf_table.proofs.LedgerLaws.{CallReads-then}
+use Rattle.elf_table.specs.Ledger.{CallReads, IsRead}
+use Rattle.elf_table.specs.declared.fault.Fault.{Fault}
+use Rattle.elf_table.specs.declared.fault.Fault.TheVariants.{Refused, Source}
 use Rattle.elf_lookup_tables.specs.Finding.{scope_cost}
 use Rattle.elf_lookup_tables.specs.LookupTablesFound.{IsLookupTables, FindsLookupTables}
 use Rattle.elf_lookup_tables.specs.Symbols.{IsDynamicSymbols}

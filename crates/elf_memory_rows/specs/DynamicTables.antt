@@ -1,6 +1,6 @@
 -- The dynamic entries of a section of a file in memory.
 use Rattle.std.specs.Prelude.{ℕ, ◌≡◌, ◌<◌, ◌⊎◌, List, Result, Ok, Err}
-use Rattle.elf_headers.specs.declared.fault.Fault.{Fault}
+use Rattle.elf_table.specs.declared.fault.Fault.{Fault}
 use Rattle.elf_table.specs.Sections.{string_table_at, strings, table_at}
 use Rattle.elf_table.specs.Tables.{Rows as Table, StringTableRange}
 

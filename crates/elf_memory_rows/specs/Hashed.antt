@@ -6,9 +6,9 @@ use Rattle.elf_model.specs.Loader.{Symbols}
 use Rattle.elf_model.specs.LoaderScope.{lookup_tables_of}
 use Rattle.elf_model.specs.declared.causes.Refusal.{Refusal}
 use Rattle.elf_source.specs.Source.{CountedState}
-use Rattle.elf_headers.specs.Ledger.{CallReads, fault_of_result}
-use Rattle.elf_headers.specs.declared.fault.Fault.{Fault}
-use Rattle.elf_headers.specs.declared.fault.Fault.TheVariants.{Refused, Source}
+use Rattle.elf_table.specs.Ledger.{CallReads, fault_of_result}
+use Rattle.elf_table.specs.declared.fault.Fault.{Fault}
+use Rattle.elf_table.specs.declared.fault.Fault.TheVariants.{Refused, Source}
 use Rattle.elf_hash.specs.Extents.{extent_bytes}
 use Rattle.elf_lookup_tables.specs.Finding.{scope_cost}
 use Rattle.elf_table.specs.Tables.{strings_in}

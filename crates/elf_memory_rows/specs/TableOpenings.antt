@@ -6,8 +6,8 @@ use Rattle.elf_model.specs.Records.{e_shnum, sh_type, section_at}
 use Rattle.elf_model.specs.Tables.{all_checks}
 use Rattle.elf_model.specs.VersionRows.{symbol_versions}
 use Rattle.elf_model.specs.declared.causes.Refusal.{Refusal}
-use Rattle.elf_headers.specs.declared.fault.Fault.{Fault}
-use Rattle.elf_headers.specs.declared.fault.Fault.TheVariants.{Refused}
+use Rattle.elf_table.specs.declared.fault.Fault.{Fault}
+use Rattle.elf_table.specs.declared.fault.Fault.TheVariants.{Refused}
 use Rattle.elf_table.specs.Relocations.{AreRelocations, RefusedBy, Relocates}
 use Rattle.elf_table.specs.Sections.{symbols_at, section_names}
 use Rattle.elf_table.specs.Tables.{Rows as Table, StringTableRange}

@@ -9,7 +9,7 @@ use Rattle.elf_model.specs.Versions.{NEED_SIZE, VERSYM_SIZE, VisitedRecord, Reco
 use Rattle.elf_model.specs.declared.causes.Refusal.{Refusal}
 use Rattle.elf_model.specs.declared.versions.VersionKind.{VersionKind}
 use Rattle.elf_model.specs.declared.versions.VersionKind.TheVariants.{Definition, File, Need}
-use Rattle.elf_headers.specs.declared.fault.Fault.{Fault}
+use Rattle.elf_table.specs.declared.fault.Fault.{Fault}
 use Rattle.elf_table.specs.Relocations.{RefusedBy}
 use Rattle.elf_table.specs.Sections.{names_at, strings}
 use Rattle.elf_table.specs.Tables.{StringTableRange}

@@ -1,11 +1,11 @@
 //! The symbols that a loader knows of a file.
 ghost use Rattle.std.specs.Prelude.{◌≡◌, ◌+◌, ◌*◌, ◌<◌, ◌≤◌, IfOk};
-ghost use Rattle.elf_headers.specs.Ledger.{CallDid, fault_of_result};
+ghost use Rattle.elf_table.specs.Ledger.{CallDid, fault_of_result};
 ghost use Rattle.elf_memory_rows.specs.Hashed.{FindsHashed, hashed_bytes};
 
 use crate::rows::RowPosition;
 use elf_hash::counts;
-use elf_headers::{Fault, HeaderStore};
+use elf_table::{Fault, HeaderStore};
 use elf_lookup_tables::{Symbols, find_lookup_tables};
 use elf_record::sizes::SYMBOL_BYTES;
 use elf_source::{Counted, Source};

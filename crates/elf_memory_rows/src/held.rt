@@ -3,7 +3,7 @@ ghost use Rattle.std.specs.Prelude.{◌≡◌, ◌+◌, ◌<◌, ◌≤◌, leng
 ghost use Rattle.elf_model.specs.Records.{e_shnum, section_at};
 ghost use Rattle.elf_record.specs.Ehdr.{IsEhdr};
 ghost use Rattle.elf_record.specs.Shdr.{IsShdr};
-ghost use Rattle.elf_headers.specs.Load.{PassesLoadChecks};
+ghost use Rattle.elf_table.specs.Load.{PassesLoadChecks};
 ghost use Rattle.elf_table.specs.Sections.{section_names};
 
 use elf_memory::chunk_at;

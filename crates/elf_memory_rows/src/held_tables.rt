@@ -2,7 +2,7 @@
 //! stand.
 ghost use Rattle.std.specs.Prelude.{◌≡◌, ◌<◌, ◌≤◌, length, IfOk, IfErr};
 ghost use Rattle.elf_model.specs.Records.{section_at};
-ghost use Rattle.elf_headers.specs.Faults.{IsOfCheck};
+ghost use Rattle.elf_table.specs.Faults.{IsOfCheck};
 ghost use Rattle.elf_table.specs.Relocations.{Links, Relocates};
 ghost use Rattle.elf_table.specs.Sections.{string_table_at, symbols_at, table_at};
 ghost use Rattle.elf_table.specs.Tables.{TableInBounds};
@@ -11,10 +11,9 @@ ghost use Rattle.elf_memory_rows.specs.DynamicTables.{IsDynamicTable};
 ghost use Rattle.elf_memory_rows.specs.VersionRecords.{FindsRecords, SymbolsLink};
 
 use crate::held::MemoryFile;
-use elf_headers::{Fault, ends_outside, refused};
+use elf_table::{checked_strings, checked_table, ends_outside, Fault, holds_symbols, Names, refused, Table};
 use elf_record::Cause;
 use elf_record::sizes::{DYNAMIC_BYTES, RELOCATION_BYTES, SYMBOL_BYTES, SYMBOL_VERSION_BYTES};
-use elf_table::{Names, Table, checked_strings, checked_table, holds_symbols};
 
 impl MemoryFile<'_> {
     /// The section as a table of rows of `entry` bytes, 1 to 4,096. One of size 0 is not checked.

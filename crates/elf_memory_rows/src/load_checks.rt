@@ -1,15 +1,14 @@
 //! The load checks of a file that lies in memory.
 ghost use Rattle.std.specs.Prelude.{length};
 ghost use Rattle.elf_record.specs.Ehdr.{IsEhdr};
-ghost use Rattle.elf_headers.specs.Load.{PassesLoadChecks};
+ghost use Rattle.elf_table.specs.Load.{PassesLoadChecks};
 ghost use Rattle.elf_memory_rows.specs.TableOpenings.{LoadsFile, NamesSections};
 
 use crate::held::{MemoryFile, section_header};
-use elf_headers::{Fault, check_before_load};
+use elf_table::{check_before_load, checked_strings, Fault, Names};
 use elf_memory::checked_header;
 use elf_record::sizes::SECTION_HEADER_BYTES;
 use elf_record::{Ehdr, Refusal};
-use elf_table::{Names, checked_strings};
 
 /// The file, where its headers pass the checks of a load.
 ///

@@ -6,10 +6,9 @@ ghost use Rattle.elf_memory_rows.specs.VersionRecords.{ReadsRecords, first_kind,
 use crate::load_checks::held_file;
 use crate::record_row::kind_number;
 use crate::records::VersionRecordPosition;
-use elf_headers::Fault;
+use elf_table::{Fault, Names};
 use elf_record::gnu_numbers::{SHT_GNU_VERDEF, SHT_GNU_VERNEED};
 use elf_record::{Refusal, Shdr, VersionKind};
-use elf_table::Names;
 use elf_versions::record_bytes;
 
 /// Checks the table of version definitions or needs that a section of a file that lies in memory is, and

@@ -6,12 +6,11 @@ ghost use Rattle.elf_versions.specs.declared.record_position.RecordPosition.{Rec
 ghost use Rattle.elf_memory_rows.specs.VersionRecords.{GoesOnTo, StepsRecord, bytes_within, standing_in};
 
 use crate::record_row::{RecordRow, kind_number};
-use elf_headers::Fault;
+use elf_table::{Fault, Table};
 use elf_memory::chunk_at;
 use elf_record::sizes::VERSION_NEED_BYTES;
 use elf_record::{Refusal, Verneed, VersionKind};
 use elf_source::{Counted, MemorySource};
-use elf_table::Table;
 use elf_versions::{RecordPosition, VersionCursor};
 
 /// A place in a walk over the records of a table of definitions or needs: plain numbers, which a caller

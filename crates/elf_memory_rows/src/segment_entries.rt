@@ -6,7 +6,7 @@ ghost use Rattle.elf_memory.specs.declared.segment.Segment.{Segment as IsOne};
 
 use crate::dynamic_table::{listed_rows, listed_within};
 use crate::rows::RowPosition;
-use elf_headers::ends_outside;
+use elf_table::ends_outside;
 use elf_memory::{Segment, segment_at, segment_place};
 use elf_record::numbers::PT_DYNAMIC;
 use elf_record::sizes::DYNAMIC_BYTES;

@@ -1,7 +1,7 @@
 //! The rows of a section, behind the checks of its table.
 ghost use Rattle.std.specs.Prelude.{◌≡◌, ◌<◌, IfErr, min};
 ghost use Rattle.elf_model.specs.Records.{section_at};
-ghost use Rattle.elf_headers.specs.Faults.{IsOfCheck};
+ghost use Rattle.elf_table.specs.Faults.{IsOfCheck};
 ghost use Rattle.elf_memory_rows.specs.declared.kind.RowKind.TheVariants.{Dynamic};
 ghost use Rattle.elf_memory_rows.specs.ListedEntries.{ReadsListed};
 ghost use Rattle.elf_memory_rows.specs.TableOpenings.{OpensTable, ReadsRows, linked_names};
@@ -11,9 +11,8 @@ use crate::held::MemoryFile;
 use crate::kind::{RowKind, holds};
 use crate::load_checks::held_file;
 use crate::rows::RowPosition;
-use elf_headers::Fault;
+use elf_table::{Fault, Names, Table};
 use elf_record::Refusal;
-use elf_table::{Names, Table};
 
 /// Checks the table of a kind that a section of a file that lies in memory is, and gives a place
 /// before its first row; None where the file has no such section or it holds no such rows. With

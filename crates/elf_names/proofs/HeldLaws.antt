@@ -3,7 +3,7 @@ use Rattle.std.proofs.Common.{◌≡◌, ℕ, ◌+◌, ◌-◌, ◌≤◌, List,
 use Rattle.elf_model.specs.Bytes.{slice}
 use Rattle.elf_model.proofs.Slices.{slice-slice}
 use Rattle.elf_source.specs.Source.{CountedState, ReadsUpTo}
-use Rattle.elf_headers.specs.declared.fault.Fault.{Fault}
+use Rattle.elf_table.specs.declared.fault.Fault.{Fault}
 use Rattle.elf_names.specs.Ahead.{BufferedRange, ReadAheadState, IsOf, AgreesWith, ReadsAhead, reach}
 
 -- a part of what is held is the file's

@@ -5,18 +5,17 @@ ghost use Rattle.elf_model.specs.Bytes.{slice};
 ghost use Rattle.elf_model.specs.Names.{shown, name_bytes};
 ghost use Rattle.elf_record.specs.Sym.{IsSym};
 ghost use Rattle.elf_table.specs.Cursors.{row_at};
-ghost use Rattle.elf_headers.specs.Faults.{IsOfRead};
+ghost use Rattle.elf_table.specs.Faults.{IsOfRead};
 ghost use Rattle.elf_table.specs.NamesRead.{NameRead, Searched};
 ghost use Rattle.elf_table.specs.Tables.{TableInBounds, StringsInBounds, strings_in};
 ghost use Rattle.elf_names.specs.Ahead.{LosesAt, ReadsAhead, WhereAgrees};
 
 use crate::name_index::NameIndex;
 use crate::read_buffer::ReadBuffer;
-use elf_headers::{Fault, NameLimit, refused};
+use elf_table::{Fault, find_nul, NameBuf, NameEnd, NameLimit, refused, Table};
 use elf_record::sizes::SYMBOL_BYTES;
 use elf_record::{Cause, Sym};
 use elf_source::{Counted, Source};
-use elf_table::{NameBuf, NameEnd, Table, find_nul};
 use std::marker::Model;
 
 /// How many bytes of names are held at most.

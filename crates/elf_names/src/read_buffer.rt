@@ -3,7 +3,7 @@ ghost use Rattle.std.specs.Prelude.{◌≡◌, ℕ, ◌+◌, ◌-◌, ◌^◌, �
 ghost use Rattle.elf_model.specs.Bytes.{slice};
 ghost use Rattle.elf_names.specs.Ahead.{BringsHeld, LosesAt, OnCredit, StaysOf, reach};
 
-use elf_headers::{Fault, fill};
+use elf_table::{Fault, fill};
 use elf_source::{Counted, Source};
 use std::marker::Model;
 

@@ -4,8 +4,8 @@ use Rattle.std.proofs.lemmas.Bool.{cases_eq, cases_lt}
 use Rattle.std.proofs.lemmas.List.Sums.{sum_by-set}
 use Rattle.elf_model.specs.Loader.{Wanted}
 use Rattle.elf_source.specs.Source.{CountedState}
-use Rattle.elf_headers.specs.declared.fault.Fault.{Fault}
-use Rattle.elf_headers.specs.declared.fault.Fault.TheVariants.{Refused, Source}
+use Rattle.elf_table.specs.declared.fault.Fault.{Fault}
+use Rattle.elf_table.specs.declared.fault.Fault.TheVariants.{Refused, Source}
 use Rattle.elf_binding.specs.Binds.{AreObjectFiles, AskedFirst, BindsAcross, asked_of_all, reached}
 use Rattle.elf_binding.specs.Kept.{LookupObjectState}
 use Rattle.elf_binding.specs.Looks.{FailsIn, FaultLeaves, SpendsBudget, SpendsAtMost}

@@ -10,8 +10,8 @@ use Rattle.elf_model.specs.Versions.{VisitedRecord, name_index, named_at}
 use Rattle.elf_model.specs.declared.causes.Refusal.{Refusal}
 use Rattle.elf_model.specs.declared.states.BindingState.{BindingState}
 use Rattle.elf_model.specs.declared.states.BindingState.TheVariants as state
-use Rattle.elf_headers.specs.declared.fault.Fault.{Fault}
-use Rattle.elf_headers.specs.declared.fault.Fault.TheVariants.{Refused, Source}
+use Rattle.elf_table.specs.declared.fault.Fault.{Fault}
+use Rattle.elf_table.specs.declared.fault.Fault.TheVariants.{Refused, Source}
 use Rattle.elf_binding.specs.Binds.{ReturnsBinding}
 use Rattle.elf_binding.specs.Sought.{IsReportedAlone, RefusesAs, ReturnsAs, ReturnsSought, ReturnsWhole, asked_if}
 use Rattle.elf_binding.specs.declared.bind_name.BindFault.{BindFault}

@@ -12,7 +12,7 @@ use elf_binding::{
     BindFault, BindResult, Object, ReferenceNames, SymbolReference, bind, is_reported_alone,
     show_name, unbound_state,
 };
-use elf_headers::Fault;
+use elf_table::Fault;
 use elf_model::BindingState;
 use elf_source::Source;
 

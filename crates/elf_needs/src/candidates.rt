@@ -4,7 +4,7 @@ ghost use Rattle.elf_needs.specs.Budget.{AsksFile, AsksFound};
 
 use crate::object_file::{ObjectFile, ReadAccount};
 use crate::walk::NeedsFault;
-use elf_headers::Fault;
+use elf_table::Fault;
 use elf_source::{FileReader, Source, StreamSource};
 use std::os::unix::fs::FileExt;
 use std::rt::Files;

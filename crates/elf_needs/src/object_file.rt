@@ -4,7 +4,7 @@ ghost use Rattle.elf_needs.specs.Budget.{AsksFile};
 ghost use Rattle.elf_source.specs.Source.{counted};
 
 use elf_binding::spend_budget;
-use elf_headers::{Fault, HeaderStore};
+use elf_table::{Fault, HeaderStore};
 use elf_libraries::{LinkInfo, LinkInfoStore, machine_of, read_link_info};
 use elf_source::{Counted, Source};
 use std::marker::Model;

@@ -10,7 +10,7 @@ use crate::buffers::NeedsBuffers;
 use crate::search_dirs::{Search, SearchDirs};
 use crate::states::ObjectState;
 use elf_binding::{CachedSource, OpenObjects};
-use elf_headers::{Fault, HeaderStore};
+use elf_table::{Fault, HeaderStore};
 use elf_libraries::{CandidatePath, LinkInfo, Need};
 use elf_model::Format;
 use elf_source::{Out, OutFault, Sink, Source};

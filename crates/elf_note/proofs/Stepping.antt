@@ -12,9 +12,9 @@ use Rattle.elf_record.specs.NoteHead.{IsNoteHead}
 use Rattle.elf_record.specs.declared.note_head.NoteHead.{NoteHead}
 use Rattle.elf_table.specs.declared.names.NameEnd.{NameEnd}
 use Rattle.elf_table.specs.Windows.{WindowState, bytes_left, range_end}
-use Rattle.elf_headers.specs.Faults.{IsOfRead}
-use Rattle.elf_headers.specs.declared.fault.Fault.{Fault}
-use Rattle.elf_headers.specs.declared.fault.Fault.TheVariants.{Refused, Source}
+use Rattle.elf_table.specs.Faults.{IsOfRead}
+use Rattle.elf_table.specs.declared.fault.Fault.{Fault}
+use Rattle.elf_table.specs.declared.fault.Fault.TheVariants.{Refused, Source}
 use Rattle.elf_note.specs.NoteCursors.{rest, notes_left, no_notes, cut_at, NameIs, ReturnsNote, note_cut, note_size}
 
 -- a fault of a read is no refusal of a table of notes

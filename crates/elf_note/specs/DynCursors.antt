@@ -7,7 +7,7 @@ use Rattle.elf_source.specs.Onward.{ReadsOnward}
 use Rattle.elf_source.specs.Source.{SourceState, CountedState}
 use Rattle.elf_table.specs.Cursors.{CursorState, HoldsRows, FailsRows, GivesRow, ShowsRow, asked_to, next_row, unread_bytes}
 use Rattle.elf_table.specs.Tables.{Rows, size_of}
-use Rattle.elf_headers.specs.declared.fault.Fault.{Fault}
+use Rattle.elf_table.specs.declared.fault.Fault.{Fault}
 use Rattle.elf_table.specs.declared.row.Row.{Row}
 use Rattle.elf_note.specs.declared.string_values.DynamicStrings.{DynamicStrings}
 

@@ -8,11 +8,11 @@ use Rattle.elf_model.specs.Notes.{Note, NoteScan, walk_from, with_note, descript
 use Rattle.elf_model.specs.declared.causes.Cause.TheVariants.{NoteCut}
 use Rattle.elf_source.specs.Onward.{ReadsOnward}
 use Rattle.elf_source.specs.Source.{SourceState, CountedState}
-use Rattle.elf_headers.specs.Faults.{IsOfRead}
+use Rattle.elf_table.specs.Faults.{IsOfRead}
 use Rattle.elf_table.specs.Tables.{Rows}
 use Rattle.elf_table.specs.Windows.{WindowState, HoldsBytes, StillHolds, MovesOn, bytes_left, frontier, range_end}
-use Rattle.elf_headers.specs.declared.fault.Fault.{Fault}
-use Rattle.elf_headers.specs.declared.fault.Fault.TheVariants.{Refused}
+use Rattle.elf_table.specs.declared.fault.Fault.{Fault}
+use Rattle.elf_table.specs.declared.fault.Fault.TheVariants.{Refused}
 use Rattle.elf_table.specs.declared.names.NameEnd.{NameEnd}
 use Rattle.elf_table.specs.declared.names.NameEnd.TheVariants.{Whole, Cut}
 use Rattle.elf_note.specs.declared.note.FoundNote.{FoundNote}

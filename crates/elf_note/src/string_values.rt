@@ -3,17 +3,16 @@ ghost use Rattle.std.specs.Prelude.{◌≡◌, ℕ, List, Option, IfErr, IfOk};
 ghost use Rattle.elf_model.specs.Numbers.{DT_STRSZ, DT_STRTAB};
 ghost use Rattle.elf_model.specs.Records.{d_tag, d_un};
 ghost use Rattle.elf_record.specs.Dyn.{IsDyn};
-ghost use Rattle.elf_headers.specs.Faults.{IsOfRead};
-ghost use Rattle.elf_headers.specs.Ledger.{CallDid, fault_of_result};
+ghost use Rattle.elf_table.specs.Faults.{IsOfRead};
+ghost use Rattle.elf_table.specs.Ledger.{CallDid, fault_of_result};
 ghost use Rattle.elf_table.specs.Tables.{TableInBounds, size_of};
 ghost use Rattle.elf_note.specs.DynCursors.{AreStrings, first_value, value_here};
 
 use crate::dyn_cursor::{dynamic_rows, entry_in};
-use elf_headers::Fault;
+use elf_table::{Fault, Table};
 use elf_record::Dyn;
 use elf_record::numbers::{DT_STRSZ, DT_STRTAB};
 use elf_source::{Counted, Source};
-use elf_table::Table;
 
 /// Where the string table of dynamic entries is in memory, as they say (gABI 5, Dynamic Section).
 #[derive(Clone, Copy)]

@@ -1,6 +1,6 @@
 //! What can be asked for: of one file, of many, of an archive, or the version.
 use crate::requests::Request;
-use elf_headers::{Limits, Style};
+use elf_table::{Limits, Style};
 use elf_listing_requests::ListingRequest;
 use elf_model::Format;
 use elf_record::Parts;

@@ -3,7 +3,7 @@ ghost use Rattle.std.specs.Prelude.{◌≡◌, ◌≤◌, length, true};
 ghost use Rattle.elf_model.specs.Loader.{is_complete, parse_query};
 ghost use Rattle.elf_model.specs.NameLaws.{IsWanted};
 
-use elf_headers::{Limits, Style};
+use elf_table::{Limits, Style};
 use elf_layout::{Addresses, Layout};
 use elf_model::Format;
 use elf_record::Parts;

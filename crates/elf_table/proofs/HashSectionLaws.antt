@@ -8,10 +8,10 @@ use Rattle.elf_model.specs.declared.causes.Refusal.{Refusal}
 use Rattle.elf_model.proofs.CheckSteps.{first_refusal-none, first_refusal-some}
 use Rattle.elf_record.specs.Shdr.{IsShdr}
 use Rattle.elf_record.specs.declared.shdr.Shdr.{Shdr}
-use Rattle.elf_headers.specs.Load.{HoldsSectionHeaders, LoadedFile, section_place}
-use Rattle.elf_headers.specs.Store.{StoreState}
-use Rattle.elf_headers.specs.declared.fault.Fault.{Fault}
-use Rattle.elf_headers.specs.declared.fault.Fault.TheVariants.{Refused, Source}
+use Rattle.elf_table.specs.Load.{HoldsSectionHeaders, LoadedFile, section_place}
+use Rattle.elf_table.specs.Store.{StoreState}
+use Rattle.elf_table.specs.declared.fault.Fault.{Fault}
+use Rattle.elf_table.specs.declared.fault.Fault.TheVariants.{Refused, Source}
 use Rattle.elf_table.specs.HashSections.{AreHashed, ChecksThenValue, front_checks}
 use Rattle.elf_table.specs.Relocations.{RefusedBy}
 use Rattle.elf_table.specs.Sections.{symbols_at}

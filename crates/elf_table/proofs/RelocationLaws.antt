@@ -10,8 +10,8 @@ use Rattle.elf_model.proofs.CheckSteps.{first_refusal-some, first_refusal-none, 
 use Rattle.elf_table.specs.Tables.{Rows, StringTableRange}
 use Rattle.elf_table.specs.Sections.{answered, checked, rows, strings, names_at, table_at, table_of, string_table_at, symbols_at}
 use Rattle.elf_table.specs.Relocations.{RefusedBy, AreSymbols, RefersTo, Links, AreRelocations}
-use Rattle.elf_headers.specs.declared.fault.Fault.{Fault}
-use Rattle.elf_headers.specs.declared.fault.Fault.TheVariants.{Refused, Source}
+use Rattle.elf_table.specs.declared.fault.Fault.{Fault}
+use Rattle.elf_table.specs.declared.fault.Fault.TheVariants.{Refused, Source}
 
 -- an answer behind checks: the first refusal, or the value
 pub passed_first : {A : Type 0} (first : Option Refusal) (value result : A) → answered first value ≡ Ok result → (first ≡ None) × (value ≡ result)

@@ -9,9 +9,9 @@ use Rattle.elf_source.specs.Source.{SourceState}
 use Rattle.elf_source.proofs.OnwardLaws.{onward_more, onward_none, onward_then}
 use Rattle.elf_table.specs.Tables.{Rows, size_of}
 use Rattle.elf_table.specs.Cursors.{CursorState, GivesRow, IsAtRow, page_of, row_at}
-use Rattle.elf_headers.specs.Faults.{IsAt}
+use Rattle.elf_table.specs.Faults.{IsAt}
 use Rattle.elf_table.specs.Windows.{WindowState, HoldsBytes, StillHolds, HoldsCount, frontier, bytes_left, range_end}
-use Rattle.elf_headers.specs.declared.fault.Fault.{Fault}
+use Rattle.elf_table.specs.declared.fault.Fault.{Fault}
 use Rattle.elf_table.proofs.Paging.{Agrees-skip, held-front}
 
 -- a product in two parts

@@ -12,8 +12,8 @@ use Rattle.elf_model.specs.declared.causes.Cause.TheVariants.{BadLink, NotString
 use Rattle.elf_model.proofs.CheckSteps.{first_refusal-none, first_refusal-some}
 use Rattle.elf_model.proofs.StoreLemmas.{places_decide_nothing}
 use Rattle.std.specs.Prelude.{is_none}
-use Rattle.elf_headers.specs.declared.fault.Fault.{Fault}
-use Rattle.elf_headers.specs.declared.fault.Fault.TheVariants.{Refused, Source}
+use Rattle.elf_table.specs.declared.fault.Fault.{Fault}
+use Rattle.elf_table.specs.declared.fault.Fault.TheVariants.{Refused, Source}
 use Rattle.elf_table.specs.Relocations.{RefusedBy}
 use Rattle.elf_table.specs.Sections.{checked, rows, string_table_of, strings, symbols_at, table_at, table_of}
 use Rattle.elf_table.specs.Tables.{Rows, StringTableRange}

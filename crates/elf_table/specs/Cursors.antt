@@ -2,8 +2,8 @@
 use Rattle.std.specs.Prelude.{ℕ, ◌≡◌, ◌+◌, ◌-◌, ◌*◌, ◌/◌, Bool, true, false, List, length, Option, None, Some, Result, Ok, Err}
 use Rattle.elf_model.specs.Bytes.{slice}
 use Rattle.elf_table.specs.Tables.{Rows, size_of}
-use Rattle.elf_headers.specs.declared.fault.Fault.{Fault}
-use Rattle.elf_headers.specs.Faults.{IsAt}
+use Rattle.elf_table.specs.declared.fault.Fault.{Fault}
+use Rattle.elf_table.specs.Faults.{IsAt}
 use Rattle.elf_table.specs.declared.row.Row.{Row}
 use Rattle.elf_table.specs.Windows.{WindowState}
 

@@ -2,11 +2,11 @@
 use Rattle.std.specs.Prelude.{ℕ, ◌≡◌, List, Result}
 use Rattle.elf_model.specs.Records.{sh_size, section_at}
 use Rattle.elf_record.specs.declared.ehdr.Ehdr.{Ehdr}
-use Rattle.elf_headers.specs.Load.{HoldsSectionHeaders, section_place}
+use Rattle.elf_table.specs.Load.{HoldsSectionHeaders, section_place}
 use Rattle.elf_table.specs.Sections.{rows, table_of}
-use Rattle.elf_headers.specs.Store.{row}
+use Rattle.elf_table.specs.Store.{row}
 use Rattle.elf_table.specs.Tables.{Rows}
-use Rattle.elf_headers.specs.declared.fault.Fault.{Fault}
+use Rattle.elf_table.specs.declared.fault.Fault.{Fault}
 use Rattle.elf_table.specs.declared.file.File.{File}
 
 -- an answer for a section is what the file that was loaded has at its header

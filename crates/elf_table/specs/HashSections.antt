@@ -7,7 +7,7 @@ use Rattle.elf_model.specs.declared.causes.Cause.TheVariants.{BadLink, HashShape
 use Rattle.elf_record.specs.declared.shdr.Shdr.{Shdr}
 use Rattle.elf_table.specs.Relocations.{AreSymbols, RefusedBy}
 use Rattle.elf_table.specs.Tables.{Rows, StringTableRange}
-use Rattle.elf_headers.specs.declared.fault.Fault.{Fault}
+use Rattle.elf_table.specs.declared.fault.Fault.{Fault}
 
 -- A VALUE BEHIND CHECKS: they pass, and the value is so; or the fault is the first of them that fails
 abbrev pub ChecksThenValue : {A : Type 0} → List Check → (A → Type 0) → Result A Fault → Type 0

@@ -1,3 +1,8 @@
+pub mod Faults
+pub mod Ledger
+pub mod Load
+pub mod Stops
+pub mod Store
 pub mod Cursors
 pub mod Files
 pub mod HashSections

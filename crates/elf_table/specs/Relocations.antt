@@ -5,8 +5,8 @@ use Rattle.elf_model.specs.Records.{sh_offset, sh_size}
 use Rattle.elf_model.specs.Tables.{SYMBOL_SIZE, RELA_SIZE, linked_at, entry_count, has_symbols, linked_table_checks, relocation_table_checks}
 use Rattle.elf_table.specs.Tables.{Rows, StringTableRange}
 use Rattle.elf_table.specs.Sections.{strings, names_at}
-use Rattle.elf_headers.specs.declared.fault.Fault.{Fault}
-use Rattle.elf_headers.specs.declared.fault.Fault.TheVariants.{Refused, Source}
+use Rattle.elf_table.specs.declared.fault.Fault.{Fault}
+use Rattle.elf_table.specs.declared.fault.Fault.TheVariants.{Refused, Source}
 
 -- a fault is the refusal of the first check that fails
 abbrev pub RefusedBy : List Check → Fault → Type 0

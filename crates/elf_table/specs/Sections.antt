@@ -6,8 +6,8 @@ use Rattle.elf_model.specs.Numbers.{SHT_STRTAB}
 use Rattle.elf_model.specs.declared.causes.Refusal.{Refusal}
 use Rattle.elf_model.specs.declared.causes.Cause.TheVariants.{NotStrings, TableOutside}
 use Rattle.elf_table.specs.Tables.{Rows, StringTableRange}
-use Rattle.elf_headers.specs.declared.fault.Fault.{Fault}
-use Rattle.elf_headers.specs.declared.fault.Fault.TheVariants.{Refused}
+use Rattle.elf_table.specs.declared.fault.Fault.{Fault}
+use Rattle.elf_table.specs.declared.fault.Fault.TheVariants.{Refused}
 
 -- a refusal if there is one, else a value
 abbrev pub answered : {A : Type 0} → Option Refusal → A → Result A Fault

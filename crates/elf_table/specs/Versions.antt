@@ -7,8 +7,8 @@ use Rattle.elf_model.specs.Tables.{SYMBOL_SIZE, all_checks, entry_count}
 use Rattle.elf_model.specs.VersionCost.{has_strings, has_symbol_table, links}
 use Rattle.elf_model.specs.VersionRows.{symbol_versions, versioned_symbols}
 use Rattle.elf_model.specs.Versions.{VERSYM_SIZE}
-use Rattle.elf_headers.specs.Store.{row}
-use Rattle.elf_headers.specs.declared.fault.Fault.{Fault}
+use Rattle.elf_table.specs.Store.{row}
+use Rattle.elf_table.specs.declared.fault.Fault.{Fault}
 use Rattle.elf_table.specs.Relocations.{RefusedBy}
 use Rattle.elf_table.specs.Tables.{Rows}
 use Rattle.elf_table.specs.declared.file.File.{File}

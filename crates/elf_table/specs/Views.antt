@@ -6,13 +6,13 @@ use Rattle.elf_model.specs.Records.{e_phnum, p_type, p_offset, p_vaddr, p_filesz
 use Rattle.elf_model.specs.Mapped.{mapped_at, mapped_checks, mapped_place}
 use Rattle.elf_model.specs.declared.causes.Cause.TheVariants.{TableOutside, Unmapped}
 use Rattle.elf_record.specs.declared.ehdr.Ehdr.{Ehdr}
-use Rattle.elf_headers.specs.Load.{HoldsProgramHeaders}
+use Rattle.elf_table.specs.Load.{HoldsProgramHeaders}
 use Rattle.elf_table.specs.Relocations.{RefusedBy}
 use Rattle.elf_table.specs.Sections.{byte_rows, checked, rows, rows_of, strings}
-use Rattle.elf_headers.specs.Store.{segment_bytes}
+use Rattle.elf_table.specs.Store.{segment_bytes}
 use Rattle.elf_table.specs.Tables.{Rows, StringTableRange}
-use Rattle.elf_headers.specs.declared.fault.Fault.{Fault}
-use Rattle.elf_headers.specs.declared.fault.Fault.TheVariants.{Refused}
+use Rattle.elf_table.specs.declared.fault.Fault.{Fault}
+use Rattle.elf_table.specs.declared.fault.Fault.TheVariants.{Refused}
 use Rattle.elf_table.specs.declared.segment_view.ExecutionView.{ExecutionView}
 
 -- an answer for a segment is what the file that is viewed has at its program header

@@ -2,8 +2,8 @@
 use Rattle.std.specs.Prelude.{ℕ, ◌≡◌, ◌+◌, ◌≤◌, List, drop, Result, IfErr}
 use Rattle.elf_source.specs.Onward.{ReadsOnward}
 use Rattle.elf_source.specs.Source.{SourceState, CountedState, ReadsUpTo}
-use Rattle.elf_headers.specs.Faults.{IsOfRead, IsReadFault}
-use Rattle.elf_headers.specs.declared.fault.Fault.{Fault}
+use Rattle.elf_table.specs.Faults.{IsOfRead, IsReadFault}
+use Rattle.elf_table.specs.declared.fault.Fault.{Fault}
 use Rattle.elf_table.specs.Windows.{WindowState, HoldsBytes, StillHolds, RangeWithin, MovesOn, bytes_left, frontier, range_end}
 
 -- a window has so many bytes left, in a range within a source of this size

@@ -1,8 +1,8 @@
 -- What a window over a range of a file shows.
 use Rattle.std.specs.Prelude.{ℕ, ◌≡◌, ◌+◌, ◌≤◌, ◌<◌, min, List, length, Option, Some, Result, Ok, Err}
 use Rattle.elf_model.specs.Bytes.{slice}
-use Rattle.elf_headers.specs.declared.fault.Fault.{Fault}
-use Rattle.elf_headers.specs.Faults.{IsAt}
+use Rattle.elf_table.specs.declared.fault.Fault.{Fault}
+use Rattle.elf_table.specs.Faults.{IsAt}
 
 -- a window: the offset of the next byte, the bytes that it holds from there on, how many bytes of its range behind
 -- those are not asked for yet, and how many it holds at most

@@ -2,13 +2,14 @@
 ghost use Rattle.std.specs.Prelude.{◌≡◌, ℕ, ◌<◌, ◌≤◌, List, IfOk, IfErr, MatchResult};
 ghost use Rattle.elf_model.specs.Checks.{is_symbol_table};
 ghost use Rattle.elf_record.specs.Shdr.{IsShdr};
-ghost use Rattle.elf_headers.specs.Faults.{IsOfCheck};
+ghost use Rattle.elf_table.specs.Faults.{IsOfCheck};
 ghost use Rattle.elf_table.specs.Sections.{byte_rows, rows_of, table_of, string_table_of};
 ghost use Rattle.elf_table.specs.Tables.{Spans, StringsInBounds};
 
 use crate::names::Names;
 use crate::table::Table;
-use elf_headers::{Fault, ends_outside, refused};
+use crate::fault::{Fault, refused};
+use crate::ranges::ends_outside;
 use elf_record::numbers::{SHT_DYNSYM, SHT_STRTAB, SHT_SYMTAB};
 use elf_record::{Cause, Shdr};
 

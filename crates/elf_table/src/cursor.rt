@@ -3,14 +3,14 @@ ghost use Rattle.std.specs.Prelude.{◌≡◌, ℕ, ◌+◌, ◌<◌, ◌≤◌,
 ghost use Rattle.elf_source.specs.Onward.{ReadsOnward};
 ghost use Rattle.elf_source.specs.Source.{ReadsUpTo};
 ghost use Rattle.elf_table.specs.Cursors.{Advances, ShowsRow, asked_to, unread_bytes};
-ghost use Rattle.elf_headers.specs.declared.fault.Fault.{Fault};
-ghost use Rattle.elf_headers.specs.Faults.{IsReadFault};
+ghost use Rattle.elf_table.specs.declared.fault.Fault.{Fault};
+ghost use Rattle.elf_table.specs.Faults.{IsReadFault};
 ghost use Rattle.elf_table.specs.Tables.{TableInBounds, size_of};
 
 use crate::row::Row;
 use crate::table::Table;
 use crate::window::{WINDOW_BYTES, Window};
-use elf_headers::Fault;
+use crate::fault::Fault;
 use elf_source::{Counted, Source};
 use std::marker::Model;
 
@@ -131,10 +131,10 @@ impl Cursor {
     ghost use Rattle.elf_source.specs.Onward.{ReadsOnward};
     ghost use Rattle.elf_source.specs.Source.{ReadsUpTo};
     ghost use Rattle.elf_table.specs.Cursors.{Steps, asked_to, unread_bytes};
-    ghost use Rattle.elf_headers.specs.Faults.{IsReadFault};
+    ghost use Rattle.elf_table.specs.Faults.{IsReadFault};
     ghost use Rattle.elf_table.specs.Tables.{TableInBounds};
     ghost use Rattle.elf_table.specs.contracts.cursor.Cursor.{the_row};
-    ghost use Rattle.elf_headers.specs.declared.fault.Fault.{Fault};
+    ghost use Rattle.elf_table.specs.declared.fault.Fault.{Fault};
 
     /// The next row, lent from the cursor's window until the next call, or None past the last row.
     ///

@@ -5,16 +5,17 @@ ghost use Rattle.elf_model.specs.Checks.{first_refusal};
 ghost use Rattle.elf_model.specs.Find.{has_64_bit_words, hash_checks_from};
 ghost use Rattle.elf_model.specs.Records.{section_at};
 ghost use Rattle.elf_record.specs.Shdr.{IsShdr};
-ghost use Rattle.elf_headers.specs.Faults.{IsOfCheck};
-ghost use Rattle.elf_headers.specs.Load.{HoldsSectionHeaders};
-ghost use Rattle.elf_headers.specs.Store.{row};
+ghost use Rattle.elf_table.specs.Faults.{IsOfCheck};
+ghost use Rattle.elf_table.specs.Load.{HoldsSectionHeaders};
+ghost use Rattle.elf_table.specs.Store.{row};
 ghost use Rattle.elf_table.specs.HashSections.{AreHashed, HashFits, PassesFront, ChecksThenValue, front_checks};
 ghost use Rattle.elf_table.specs.Tables.{SymbolTableInBounds};
 
 use crate::file::File;
 use crate::names::Names;
 use crate::table::Table;
-use elf_headers::{Fault, ends_outside};
+use crate::fault::Fault;
+use crate::ranges::ends_outside;
 use elf_record::numbers::{EM_ALPHA, SHT_HASH};
 use elf_record::{Cause, Refusal, Shdr};
 

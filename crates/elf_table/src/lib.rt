@@ -1,33 +1,59 @@
+//! The headers of an ELF64 file: the file header, the store of section headers or program headers,
+//! the checks of a load, and reads that name the offset where they fail. No call takes memory but
+//! `HeaderBuffer::new`.
+//!
 //! The tables of an ELF64 file: the checks of its sections and segments, cursors over tables, and
-//! names in string tables. What its users need of the headers, `elf_headers` has, and it stands
+//! names in string tables. What its users need of the headers, `elf_table` has, and it stands
 //! here too. No call of this crate takes memory.
 #![tactic(auto)]
 
 mod buffers;
 mod checks;
 mod cursor;
+mod fault;
 mod file;
+mod file_header;
 mod hash_sections;
+mod header_buffer;
+mod header_buffer_memory;
+mod loaded;
+mod located_read;
 mod name_buf;
 mod name_search;
 mod names;
 mod overlaps;
+mod ranges;
 mod row;
+mod run_fault;
+mod section_load;
 mod sections;
 mod segment_checks;
+mod segment_loading;
 mod segment_view;
 mod segments;
+mod store;
 mod table;
 mod window;
 
 pub use buffers::TABLE_BUFFER_BYTES;
 pub use checks::{checked_strings, checked_table, holds_symbols};
 pub use cursor::Cursor;
+pub use elf_options::{Caps, Limits, NameLimit, Style};
+pub use fault::{Fault, refusal_at, refused};
 pub use file::File;
+pub use file_header::{header, refused_length};
+pub use header_buffer::HEADERS_BUFFER_BYTES;
+pub use header_buffer_memory::HeaderBuffer;
+pub use loaded::Loaded;
+pub use located_read::fill;
 pub use name_buf::NameBuf;
 pub use name_search::{find_nul, search_name};
 pub use names::{NameEnd, Names};
+pub use ranges::ends_outside;
 pub use row::Row;
+pub use run_fault::RunFault;
+pub use section_load::{check_before_load, load};
 pub use segment_view::ExecutionView;
+pub use store::HeaderStore;
 pub use table::Table;
 pub use window::{WINDOW_BYTES, Window};

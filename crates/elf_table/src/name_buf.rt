@@ -1,7 +1,7 @@
 //! A buffer for the bytes of a name.
 ghost use Rattle.std.specs.Prelude.{◌≡◌, ◌≤◌, [], ◌++◌, length, take};
 
-use elf_headers::NameLimit;
+use elf_options::NameLimit;
 use std::marker::Model;
 
 /// The size of the buffer in bytes.

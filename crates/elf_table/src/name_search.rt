@@ -9,7 +9,8 @@ ghost use Rattle.elf_table.specs.Windows.{HoldsBytes};
 
 use crate::name_buf::NameBuf;
 use crate::window::Window;
-use elf_headers::{Fault, NameLimit};
+use crate::fault::Fault;
+use elf_options::NameLimit;
 use elf_source::{Counted, Source};
 use memchr::memchr;
 

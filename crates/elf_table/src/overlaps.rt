@@ -2,12 +2,12 @@
 ghost use Rattle.std.specs.Prelude.{◌≡◌, ◌&&◌, ℕ, List, IfErr, nat_lt, if◌then◌else◌};
 ghost use Rattle.elf_model.specs.Overlaps.{first_page, overlap_checks, page_behind, takes_memory};
 ghost use Rattle.elf_record.specs.Phdr.{IsPhdr};
-ghost use Rattle.elf_headers.specs.Faults.{IsOfCheck};
-ghost use Rattle.elf_headers.specs.Load.{HoldsProgramHeaders};
+ghost use Rattle.elf_table.specs.Faults.{IsOfCheck};
+ghost use Rattle.elf_table.specs.Load.{HoldsProgramHeaders};
 ghost use Rattle.elf_table.specs.Views.{Decides};
 
 use crate::segment_view::ExecutionView;
-use elf_headers::{Fault, refused};
+use crate::fault::{Fault, refused};
 use elf_record::numbers::PT_LOAD;
 use elf_record::{Cause, Phdr};
 

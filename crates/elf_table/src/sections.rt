@@ -3,8 +3,8 @@ ghost use Rattle.std.specs.Prelude.{◌≡◌, ℕ, ◌<◌, ◌≤◌, ◌^◌,
 ghost use Rattle.elf_model.specs.Records.{section_at};
 ghost use Rattle.elf_model.specs.Numbers.{SHT_GNU_VERSYM as VERSYM};
 ghost use Rattle.elf_record.specs.Shdr.{IsShdr};
-ghost use Rattle.elf_headers.specs.Load.{HoldsSectionHeaders, PassesLoadChecks, section_place};
-ghost use Rattle.elf_headers.specs.Faults.{IsOfCheck};
+ghost use Rattle.elf_table.specs.Load.{HoldsSectionHeaders, PassesLoadChecks, section_place};
+ghost use Rattle.elf_table.specs.Faults.{IsOfCheck};
 ghost use Rattle.elf_table.specs.Files.{Tells, program_headers, table_in, size_in};
 ghost use Rattle.elf_table.specs.Sections.{byte_rows, table_at, string_table_at, section_names};
 ghost use Rattle.elf_table.specs.Sections.{symbols_at};
@@ -15,14 +15,15 @@ ghost use Rattle.elf_model.specs.Records.{sh_link};
 ghost use Rattle.elf_model.specs.Suffixes.{first_numbers};
 ghost use Rattle.elf_model.specs.Tables.{has_symbols};
 ghost use Rattle.elf_model.specs.VersionCost.{has_strings};
-ghost use Rattle.elf_headers.specs.Store.{row};
+ghost use Rattle.elf_table.specs.Store.{row};
 ghost use Rattle.elf_table.specs.Tables.{TableInBounds, Spans, StringsInBounds, SymbolTableInBounds, size_of};
 
 use crate::checks::{checked_bytes, checked_strings, checked_table, holds_symbols};
 use crate::file::File;
 use crate::names::Names;
 use crate::table::Table;
-use elf_headers::{Fault, ends_outside, refused};
+use crate::fault::{Fault, refused};
+use crate::ranges::ends_outside;
 use elf_record::gnu_numbers::SHT_GNU_VERSYM;
 use elf_record::sizes::{
     PROGRAM_HEADER_BYTES, RELOCATION_BYTES, SECTION_HEADER_BYTES, SYMBOL_BYTES,

@@ -2,13 +2,14 @@
 ghost use Rattle.std.specs.Prelude.{◌≡◌, ℕ, ◌+◌, ◌≤◌, List, IfOk, IfErr, MatchResult, true};
 ghost use Rattle.elf_model.specs.Mapped.{is_mapped_by, mapped_offset};
 ghost use Rattle.elf_record.specs.Phdr.{IsPhdr};
-ghost use Rattle.elf_headers.specs.Faults.{IsOfCheck};
+ghost use Rattle.elf_table.specs.Faults.{IsOfCheck};
 ghost use Rattle.elf_table.specs.Tables.{BytesWithin, StringsInBounds};
 ghost use Rattle.elf_table.specs.Views.{rest_of, strings_placed};
 
 use crate::names::Names;
 use crate::table::Table;
-use elf_headers::{Fault, ends_outside, refused};
+use crate::fault::{Fault, refused};
+use crate::ranges::ends_outside;
 use elf_record::numbers::PT_LOAD;
 use elf_record::{Cause, Phdr};
 

@@ -1,7 +1,8 @@
 //! A loaded file in the segment view.
 ghost use Rattle.std.specs.Prelude.{◌≡◌};
 
-use elf_headers::{HeaderStore, Loaded};
+use crate::store::HeaderStore;
+use crate::loaded::Loaded;
 
 /// A loaded file in the segment view: with the store that holds its program headers.
 #[derive(Clone, Copy)]

@@ -4,10 +4,11 @@ ghost use Rattle.std.specs.Prelude.{List, Some, IsTrue, IfOk, IfErr};
 ghost use Rattle.elf_record.specs.Sym.{IsSym};
 ghost use Rattle.elf_source.specs.Source.{ReadsUpTo};
 ghost use Rattle.elf_table.specs.Cursors.{row_at};
-ghost use Rattle.elf_headers.specs.Faults.{IsReadFault, IsAt};
+ghost use Rattle.elf_table.specs.Faults.{IsReadFault, IsAt};
 ghost use Rattle.elf_table.specs.Tables.{TableInBounds};
 
-use elf_headers::{Fault, fill};
+use crate::fault::Fault;
+use crate::located_read::fill;
 use elf_record::Sym;
 use elf_source::{Counted, Source};
 use std::marker::Model;

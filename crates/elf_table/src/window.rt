@@ -2,12 +2,13 @@
 ghost use Rattle.std.specs.Prelude.{◌≡◌, ℕ, ◌+◌, ◌^◌, ◌<◌, ◌≤◌, List, [], length, min, take, drop};
 ghost use Rattle.std.specs.Prelude.{IfErr, OnOk};
 ghost use Rattle.elf_model.specs.Bytes.{slice};
-ghost use Rattle.elf_headers.specs.Faults.{IsAt};
+ghost use Rattle.elf_table.specs.Faults.{IsAt};
 ghost use Rattle.elf_table.specs.WindowCalls.{HasLeft, Skips, ReadsThroughWindow};
 ghost use Rattle.elf_table.specs.Windows.{Brings, RangeWithin};
 ghost use Rattle.elf_table.specs.Windows.{bytes_left, frontier};
 
-use elf_headers::{Fault, fill};
+use crate::fault::Fault;
+use crate::located_read::fill;
 use elf_source::{Counted, Source};
 use std::marker::Model;
 

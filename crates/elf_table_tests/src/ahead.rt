@@ -1,9 +1,8 @@
 //! How often a source is read for names and symbols, in order, with gaps, again and scattered.
 use elf_fakes::FaultySource;
-use elf_headers::{Fault, NameLimit};
+use elf_table::{Fault, NameBuf, NameEnd, NameLimit, Names, Table};
 use elf_names::{NameIndex, ReadAhead};
 use elf_source::Counted;
-use elf_table::{NameBuf, NameEnd, Names, Table};
 use std::process::Abort;
 
 /// The size of the string tables here: names of seven bytes, each with its NUL.

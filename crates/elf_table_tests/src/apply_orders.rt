@@ -2,7 +2,7 @@
 
 use elf_apply::apply;
 use elf_fixtures::{falling_relocations, rising_relocations};
-use elf_headers::{HeaderBuffer, RunFault};
+use elf_table::{HeaderBuffer, RunFault};
 use elf_layout::Layout;
 use elf_record::{Cause, Refusal};
 use elf_source::{Counted, Out, SliceSink, Source, SourceFault};

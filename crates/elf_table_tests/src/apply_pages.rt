@@ -3,7 +3,7 @@
 use elf_apply::apply;
 use elf_fakes::{FaultScript, FaultySource, ShortWriter};
 use elf_fixtures::{rising_relocations, with_bytes};
-use elf_headers::HeaderBuffer;
+use elf_table::HeaderBuffer;
 use elf_layout::Layout;
 use elf_source::{Counted, Out, WriteSink};
 use std::process::Abort;

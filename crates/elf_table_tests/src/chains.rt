@@ -4,7 +4,7 @@ ghost use Rattle.std.specs.Prelude.{◌<◌};
 use elf_fakes::FaultySource;
 use elf_fixtures::bare_header;
 use elf_hash::find;
-use elf_headers::HeaderBuffer;
+use elf_table::HeaderBuffer;
 use elf_record::{Ehdr, Shdr, Sym};
 use elf_source::Counted;
 use std::process::Abort;

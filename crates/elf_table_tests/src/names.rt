@@ -1,9 +1,8 @@
 //! How often a source is read for a name that is read or compared alone, and which read fails.
 use elf_fakes::FaultySource;
-use elf_headers::{Fault, NameLimit};
+use elf_table::{Fault, NameBuf, NameEnd, NameLimit, Names};
 use elf_names::{NameIndex, ReadAhead};
 use elf_source::{Counted, SourceFault};
-use elf_table::{NameBuf, NameEnd, Names};
 use std::process::Abort;
 
 // The answers where a long name of a string table at 20 is read, and where it is compared, if the

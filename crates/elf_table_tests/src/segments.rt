@@ -1,7 +1,7 @@
 //! How often a source is read for the program headers of a file without sections.
 use elf_fakes::FaultySource;
 use elf_fixtures::library_without_sections;
-use elf_headers::{HeaderBuffer, header, load};
+use elf_table::{HeaderBuffer, header, load};
 use elf_source::Counted;
 use std::process::Abort;
 use std::test::Fail;

@@ -4,10 +4,9 @@ ghost use Rattle.elf_table.specs.Tables.{TableInBounds};
 
 use elf_fakes::FaultySource;
 use elf_fixtures::versioned_library;
-use elf_headers::Fault;
+use elf_table::{Fault, Table};
 use elf_record::{Cause, Refusal, VersionKind};
 use elf_source::{Counted, Source};
-use elf_table::Table;
 use elf_versions::VersionCursor;
 use std::process::Abort;
 

@@ -5,9 +5,9 @@ use Rattle.elf_model.specs.LoaderScope.{dynamic_segment_index}
 use Rattle.elf_model.specs.Records.{p_offset, p_filesz, segment_at}
 use Rattle.elf_model.specs.Tables.{segment_dynamic_checks}
 use Rattle.elf_model.specs.TraitCost.{trait_entries_asked}
-use Rattle.elf_headers.specs.Faults.{IsOfRead}
-use Rattle.elf_headers.specs.declared.fault.Fault.{Fault}
-use Rattle.elf_headers.specs.declared.fault.Fault.TheVariants.{Refused, Source}
+use Rattle.elf_table.specs.Faults.{IsOfRead}
+use Rattle.elf_table.specs.declared.fault.Fault.{Fault}
+use Rattle.elf_table.specs.declared.fault.Fault.TheVariants.{Refused, Source}
 use Rattle.elf_table.specs.Sections.{rows}
 use Rattle.elf_table.specs.Tables.{Rows, size_of}
 use Rattle.elf_table.specs.Views.{dynamic_table_at}

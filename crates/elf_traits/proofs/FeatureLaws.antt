@@ -8,8 +8,8 @@ use Rattle.elf_model.specs.TraitCost.{properties_asked}
 use Rattle.elf_model.specs.Traits.{x86_feature_word}
 use Rattle.elf_model.specs.declared.causes.Refusal.{Refusal}
 use Rattle.elf_model.proofs.SumLemmas.{last_cost, sums_grow}
-use Rattle.elf_headers.specs.declared.fault.Fault.{Fault}
-use Rattle.elf_headers.specs.declared.fault.Fault.TheVariants.{Refused, Source}
+use Rattle.elf_table.specs.declared.fault.Fault.{Fault}
+use Rattle.elf_table.specs.declared.fault.Fault.TheVariants.{Refused, Source}
 use Rattle.elf_traits.specs.Features.{ReturnsValue}
 use Rattle.elf_traits.specs.Lists.{ReturnsList, all_notes_asked, is_list, list_at, notes_asked}
 use Rattle.elf_traits.specs.declared.trait_notes.PropertyRange.{PropertyRange}

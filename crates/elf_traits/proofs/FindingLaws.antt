@@ -1,10 +1,10 @@
 -- The stages of a file's traits, one behind another.
 use Rattle.std.proofs.Common.{◌≡◌, ℕ, ◌+◌, ◌-◌, ◌*◌, ◌/◌, ◌≤◌, List, Option, None, Some, Result, Ok, Err, IfErr, IfOk, refl, sym, ap, subst, ◌∙◌, arith, mul-le-mul}
 use Rattle.elf_source.specs.Source.{CountedState, ReadsUpTo}
-use Rattle.elf_headers.specs.Faults.{IsOfRead, IsReadFault}
-use Rattle.elf_headers.specs.Ledger.{CallDid, fault_of_result}
-use Rattle.elf_headers.specs.declared.fault.Fault.{Fault}
-use Rattle.elf_headers.specs.declared.fault.Fault.TheVariants.{Refused, Source}
+use Rattle.elf_table.specs.Faults.{IsOfRead, IsReadFault}
+use Rattle.elf_table.specs.Ledger.{CallDid, fault_of_result}
+use Rattle.elf_table.specs.declared.fault.Fault.{Fault}
+use Rattle.elf_table.specs.declared.fault.Fault.TheVariants.{Refused, Source}
 use Rattle.elf_table.specs.Tables.{Rows}
 use Rattle.elf_model.specs.LoaderScope.{dynamic_segment_index}
 use Rattle.elf_model.specs.Records.{p_offset, p_filesz, segment_at}

@@ -3,9 +3,9 @@ use Rattle.std.proofs.Common.{◌≡◌, ℕ, List, Err, refl}
 use Rattle.elf_model.specs.Bytes.{slice}
 use Rattle.elf_model.specs.Properties.{NoProperty, next_property}
 use Rattle.elf_model.specs.declared.causes.Cause.TheVariants.{NoteCut}
-use Rattle.elf_headers.specs.Faults.{IsOfRead}
-use Rattle.elf_headers.specs.declared.fault.Fault.{Fault}
-use Rattle.elf_headers.specs.declared.fault.Fault.TheVariants.{Refused, Source}
+use Rattle.elf_table.specs.Faults.{IsOfRead}
+use Rattle.elf_table.specs.declared.fault.Fault.{Fault}
+use Rattle.elf_table.specs.declared.fault.Fault.TheVariants.{Refused, Source}
 use Rattle.elf_traits.specs.Features.{ReadsHead}
 
 -- no property stands there

@@ -7,9 +7,9 @@ use Rattle.elf_model.specs.Traits.{traits_by_segments, traits_of}
 use Rattle.elf_model.specs.declared.traits.Traits.{Traits}
 use Rattle.elf_model.proofs.StyleLemmas.{view_tells_of_none}
 use Rattle.elf_source.specs.Source.{CountedState, MasksSectionHeaders}
-use Rattle.elf_headers.proofs.FaultLaws.{charges_hidden}
-use Rattle.elf_headers.specs.Ledger.{CallReads, CallDid, fault_of_result}
-use Rattle.elf_headers.specs.declared.fault.Fault.{Fault}
+use Rattle.elf_table.proofs.FaultLaws.{charges_hidden}
+use Rattle.elf_table.specs.Ledger.{CallReads, CallDid, fault_of_result}
+use Rattle.elf_table.specs.declared.fault.Fault.{Fault}
 use Rattle.elf_traits.specs.Features.{ReturnsValue}
 use Rattle.elf_traits.specs.TraitStages.{FindsShown, FindsTraits}
 

@@ -7,9 +7,9 @@ use Rattle.elf_model.specs.LoaderScope.{GnuTable, SysvTable, HashStyle, LookupTa
 use Rattle.elf_model.specs.Traits.{has_none, known_symbols}
 use Rattle.elf_model.specs.declared.causes.Refusal.{Refusal}
 use Rattle.elf_source.specs.Source.{CountedState}
-use Rattle.elf_headers.specs.Ledger.{CallReads, CallDid, fault_of_result}
-use Rattle.elf_headers.specs.declared.fault.Fault.{Fault}
-use Rattle.elf_headers.specs.declared.fault.Fault.TheVariants.{Refused, Source}
+use Rattle.elf_table.specs.Ledger.{CallReads, CallDid, fault_of_result}
+use Rattle.elf_table.specs.declared.fault.Fault.{Fault}
+use Rattle.elf_table.specs.declared.fault.Fault.TheVariants.{Refused, Source}
 use Rattle.elf_hash.specs.HashStyles.{hash_style_of}
 use Rattle.elf_hash.specs.SearchedTables.{HasCounts, IsPlaceIn, counts_bytes}
 use Rattle.elf_hash.specs.declared.hash_style.HashStyle.{HashStyle as Kind}

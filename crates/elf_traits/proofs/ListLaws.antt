@@ -14,8 +14,8 @@ use Rattle.elf_model.proofs.NoteRowLaws.{note_shown_cut, note_shown_whole}
 use Rattle.elf_model.specs.Checks.{Check, first_refusal, pass, range_checks_of, unless_empty}
 use Rattle.elf_model.proofs.NoteLaws.{nothing-ends}
 use Rattle.elf_record.specs.declared.note_head.NoteHead.{NoteHead}
-use Rattle.elf_headers.specs.declared.fault.Fault.{Fault}
-use Rattle.elf_headers.specs.declared.fault.Fault.TheVariants.{Refused, Source as Unread}
+use Rattle.elf_table.specs.declared.fault.Fault.{Fault}
+use Rattle.elf_table.specs.declared.fault.Fault.TheVariants.{Refused, Source as Unread}
 use Rattle.elf_note.specs.NoteCursors.{AdvancesNote, GivesNote, IsNoteFound, NameIs, NoteCursorState, ShowsNote, StopsNote, TakesItsBytes, cut_at, no_notes, note_cut, notes_left, note_size}
 use Rattle.elf_note.specs.declared.note_row.NoteRow.{NoteRow as ListingWrote}
 use Rattle.elf_table.specs.Relocations.{RefusedBy}

@@ -7,9 +7,9 @@ use Rattle.elf_model.specs.Records.{st_name, st_shndx}
 use Rattle.elf_model.specs.Traits.{SymbolTraitFlags, marked_by, marked_with_symbol, marks_from}
 use Rattle.elf_model.specs.declared.causes.Cause.{Cause}
 use Rattle.elf_model.specs.declared.causes.Refusal.{Refusal}
-use Rattle.elf_headers.specs.Faults.{IsAt, IsOfRead}
-use Rattle.elf_headers.specs.declared.fault.Fault.{Fault}
-use Rattle.elf_headers.specs.declared.fault.Fault.TheVariants.{Refused, Source}
+use Rattle.elf_table.specs.Faults.{IsAt, IsOfRead}
+use Rattle.elf_table.specs.declared.fault.Fault.{Fault}
+use Rattle.elf_table.specs.declared.fault.Fault.TheVariants.{Refused, Source}
 use Rattle.elf_table.specs.NamesRead.{Refuses}
 use Rattle.elf_traits.specs.Marks.{ReturnsMarks, marks_in, symbol_traits_of, marks_with}
 use Rattle.elf_traits.specs.declared.symbol_traits.SymbolTraits.{SymbolTraits}

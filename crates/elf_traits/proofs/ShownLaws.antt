@@ -7,9 +7,9 @@ use Rattle.elf_model.specs.TraitCost.{properties_asked, segment_traits_cost, sym
 use Rattle.elf_model.specs.Traits.{loaded_traits, traits_by_segments}
 use Rattle.elf_model.specs.declared.causes.Refusal.{Refusal}
 use Rattle.elf_model.specs.declared.traits.Traits.{Traits}
-use Rattle.elf_headers.specs.Store.{StoreState}
-use Rattle.elf_headers.specs.declared.fault.Fault.{Fault}
-use Rattle.elf_headers.specs.declared.fault.Fault.TheVariants.{Refused, Source}
+use Rattle.elf_table.specs.Store.{StoreState}
+use Rattle.elf_table.specs.declared.fault.Fault.{Fault}
+use Rattle.elf_table.specs.declared.fault.Fault.TheVariants.{Refused, Source}
 use Rattle.elf_lookup_tables.specs.Loading.{LoadsSegments, segments_load_cost}
 use Rattle.elf_lookup_tables.specs.Segments.{entries_asked}
 use Rattle.elf_lookup_tables.proofs.LoadedLaws.{segments_cost}

@@ -2,9 +2,9 @@
 use Rattle.std.proofs.Common.{◌≡◌, ℕ, ◌+◌, ◌-◌, ◌*◌, ◌≤◌, List, [], Option, None, refl, sym, ap, ◌∙◌, arith}
 use Rattle.elf_source.specs.Source.{CountedState, ReadsUpTo}
 use Rattle.elf_source.proofs.ReadsLaws.{ReadsUpTo-to}
-use Rattle.elf_headers.specs.Ledger.{CallReads}
-use Rattle.elf_headers.specs.declared.fault.Fault.{Fault}
-use Rattle.elf_headers.proofs.LedgerLaws.{CallReads-then}
+use Rattle.elf_table.specs.Ledger.{CallReads}
+use Rattle.elf_table.specs.declared.fault.Fault.{Fault}
+use Rattle.elf_table.proofs.LedgerLaws.{CallReads-then}
 use Rattle.elf_model.specs.Traits.{SymbolTraitFlags}
 use Rattle.elf_names.specs.Ahead.{ReadAheadState, IsAheadOf}
 use Rattle.elf_table.specs.Cursors.{GivesRow, CursorState, next_row, row_at, unread_bytes}

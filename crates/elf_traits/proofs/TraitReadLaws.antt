@@ -3,8 +3,8 @@ use Rattle.std.proofs.Common.{ℕ, ◌+◌, ◌-◌, ◌<◌, List, Option, Resu
 use Rattle.elf_model.specs.declared.causes.Refusal.{Refusal}
 use Rattle.elf_model.specs.Bytes.{slice}
 use Rattle.elf_model.specs.Properties.{features_in}
-use Rattle.elf_headers.specs.declared.fault.Fault.{Fault}
-use Rattle.elf_headers.specs.declared.fault.Fault.TheVariants.{Refused, Source}
+use Rattle.elf_table.specs.declared.fault.Fault.{Fault}
+use Rattle.elf_table.specs.declared.fault.Fault.TheVariants.{Refused, Source}
 use Rattle.elf_traits.specs.Features.{ReadsHead, ReadsWord, ReturnsValue}
 use Rattle.elf_traits.specs.declared.property.PropertyHeader.{PropertyHeader}
 use Rattle.elf_traits.proofs.PropertyLaws.{LeftOf, left_cut}

@@ -4,9 +4,9 @@ use Rattle.std.specs.Prelude.{is_some}
 use Rattle.elf_model.specs.Bytes.{field, number, slice}
 use Rattle.elf_model.specs.Properties.{GNU_PROPERTY_X86_FEATURE_1_AND, Property, property_word}
 use Rattle.elf_model.proofs.Slices.{slice-size}
-use Rattle.elf_headers.specs.Faults.{IsOfRead}
-use Rattle.elf_headers.specs.declared.fault.Fault.{Fault}
-use Rattle.elf_headers.specs.declared.fault.Fault.TheVariants.{Refused, Source}
+use Rattle.elf_table.specs.Faults.{IsOfRead}
+use Rattle.elf_table.specs.declared.fault.Fault.{Fault}
+use Rattle.elf_table.specs.declared.fault.Fault.TheVariants.{Refused, Source}
 use Rattle.elf_traits.specs.Features.{ReadsWord, found_after, property_at}
 use Rattle.elf_traits.specs.declared.property.PropertyHeader.{PropertyHeader}
 

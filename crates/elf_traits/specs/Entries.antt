@@ -12,9 +12,9 @@ use Rattle.elf_model.specs.TraitNumbers.{DT_BIND_NOW, DT_FLAGS, DT_FLAGS_1, DT_T
 use Rattle.elf_model.specs.Traits.{dynamic_entry_value}
 use Rattle.elf_model.specs.declared.causes.Refusal.{Refusal}
 use Rattle.elf_source.specs.Source.{CountedState}
-use Rattle.elf_headers.specs.Ledger.{CallReads, fault_of_result}
-use Rattle.elf_headers.specs.declared.fault.Fault.{Fault}
-use Rattle.elf_headers.specs.declared.fault.Fault.TheVariants.{Refused, Source}
+use Rattle.elf_table.specs.Ledger.{CallReads, fault_of_result}
+use Rattle.elf_table.specs.declared.fault.Fault.{Fault}
+use Rattle.elf_table.specs.declared.fault.Fault.TheVariants.{Refused, Source}
 use Rattle.elf_table.specs.Tables.{Rows}
 use Rattle.elf_note.specs.DynCursors.{first_value, value_here}
 use Rattle.elf_traits.specs.declared.trait_tags.TraitTags.{TraitTags}

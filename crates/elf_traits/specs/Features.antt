@@ -5,8 +5,8 @@ use Rattle.elf_model.specs.Bytes.{slice}
 use Rattle.elf_model.specs.Properties.{GNU_PROPERTY_X86_FEATURE_1_AND, PROPERTY_HEAD_SIZE, NoProperty, OneProperty, Property, next_property, padded_property, property_word}
 use Rattle.elf_model.specs.declared.causes.Cause.TheVariants.{NoteCut}
 use Rattle.elf_model.specs.declared.causes.Refusal.{Refusal}
-use Rattle.elf_headers.specs.declared.fault.Fault.{Fault}
-use Rattle.elf_headers.specs.declared.fault.Fault.TheVariants.{Refused, Source}
+use Rattle.elf_table.specs.declared.fault.Fault.{Fault}
+use Rattle.elf_table.specs.declared.fault.Fault.TheVariants.{Refused, Source}
 use Rattle.elf_traits.specs.declared.property.PropertyHeader.{PropertyHeader}
 
 -- a value is that of the definitions, and so is a refusal, unless that is for want of budget

@@ -7,8 +7,8 @@ use Rattle.elf_model.specs.Traits.{SymbolTraitFlags, TRAIT_NAME_BYTES, hashed_sy
 use Rattle.elf_model.specs.declared.causes.Refusal.{Refusal}
 use Rattle.elf_model.specs.declared.traits.Traits.{Traits}
 use Rattle.elf_source.specs.Source.{CountedState}
-use Rattle.elf_headers.specs.Ledger.{CallReads, fault_of_result}
-use Rattle.elf_headers.specs.declared.fault.Fault.{Fault}
+use Rattle.elf_table.specs.Ledger.{CallReads, fault_of_result}
+use Rattle.elf_table.specs.declared.fault.Fault.{Fault}
 use Rattle.elf_hash.specs.Extents.{extent_bytes}
 use Rattle.elf_lookup_tables.specs.Segments.{entries_asked}
 use Rattle.elf_traits.specs.Features.{ReturnsValue}

@@ -1,7 +1,7 @@
 //! The traits of a file.
 ghost use Rattle.std.specs.Prelude.{◌≡◌, ℕ, ◌<◌, ◌^◌, Ok};
-ghost use Rattle.elf_headers.specs.Ledger.{CallDid, fault_of_result};
-ghost use Rattle.elf_headers.specs.Load.{HoldsProgramHeaders};
+ghost use Rattle.elf_table.specs.Ledger.{CallDid, fault_of_result};
+ghost use Rattle.elf_table.specs.Load.{HoldsProgramHeaders};
 ghost use Rattle.elf_model.specs.Records.{e_shnum};
 ghost use Rattle.elf_model.specs.TraitCost.{traits_ceiling};
 ghost use Rattle.elf_traits.specs.TraitStages.{FindsMarks, FindsShown, FindsTraits, FindsViewed};
@@ -14,11 +14,10 @@ use crate::symbol_traits::{SymbolTraits, no_symbol_traits};
 use crate::trait_notes::x86_feature_word;
 use crate::trait_symbols::find_symbol_traits;
 use crate::traits::traits_with;
-use elf_headers::{Fault, HeaderStore};
+use elf_table::{ExecutionView, Fault, HeaderStore};
 use elf_lookup_tables::load_by_segments;
 use elf_model::Traits;
 use elf_source::{Counted, Source};
-use elf_table::ExecutionView;
 
 /// How a file is hardened, as a loader of the GNU system sees it: by its program headers, its first
 /// segment of dynamic entries, the first list of properties in its notes, and its dynamic symbols,

@@ -1,15 +1,14 @@
 //! The symbols of a file that a loader knows.
 ghost use Rattle.std.specs.Prelude.{◌≡◌, ℕ, ◌+◌, ◌<◌, ◌^◌, IfOk};
-ghost use Rattle.elf_headers.specs.Ledger.{CallDid, fault_of_result};
-ghost use Rattle.elf_headers.specs.Load.{HoldsProgramHeaders};
+ghost use Rattle.elf_table.specs.Ledger.{CallDid, fault_of_result};
+ghost use Rattle.elf_table.specs.Load.{HoldsProgramHeaders};
 ghost use Rattle.elf_traits.specs.Known.{FindsKnown, KnownLie, passed_over};
 
 use elf_hash::{HashTable, counts};
-use elf_headers::Fault;
+use elf_table::{ExecutionView, Fault};
 use elf_lookup_tables::{Symbols, find_in_segments};
 use elf_record::{Cause, Refusal};
 use elf_source::{Counted, Source};
-use elf_table::ExecutionView;
 
 /// The symbols that a loader knows, with the hash table that it looks them up by. It holds no bytes.
 #[derive(Clone, Copy)]

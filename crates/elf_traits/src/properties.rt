@@ -1,13 +1,13 @@
 //! The list of properties of a note of the GNU system.
 ghost use Rattle.std.specs.Prelude.{◌≡◌, ◌+◌, ◌^◌, ◌<◌, ◌≤◌};
-ghost use Rattle.elf_headers.specs.Ledger.{CallDid, fault_of_result};
+ghost use Rattle.elf_table.specs.Ledger.{CallDid, fault_of_result};
 ghost use Rattle.elf_model.specs.Bytes.{slice};
 ghost use Rattle.elf_model.specs.Notes.{bytes_to_alignment};
 ghost use Rattle.elf_model.specs.Properties.{features_in};
 ghost use Rattle.elf_traits.specs.Features.{ReturnsValue};
 
 use crate::property::{read_head, word_in};
-use elf_headers::Fault;
+use elf_table::Fault;
 use elf_source::{Counted, Source};
 
 /// The word of the features of x86 in a list of properties (Linux Extensions to gABI, Program

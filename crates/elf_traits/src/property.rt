@@ -1,10 +1,10 @@
 //! One property of a list.
 ghost use Rattle.std.specs.Prelude.{◌≡◌, ◌+◌, ◌^◌, ◌<◌, ◌≤◌, min, IfOk};
-ghost use Rattle.elf_headers.specs.Ledger.{CallDid, fault_of_result};
+ghost use Rattle.elf_table.specs.Ledger.{CallDid, fault_of_result};
 ghost use Rattle.elf_traits.specs.Features.{ReadsHead, ReadsWord};
 
 use elf_hash::read_word;
-use elf_headers::{Fault, refused};
+use elf_table::{Fault, refused};
 use elf_record::Cause;
 use elf_source::{Counted, Source};
 

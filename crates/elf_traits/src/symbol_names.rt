@@ -3,7 +3,7 @@ ghost use Rattle.std.specs.List.{starts_with};
 ghost use Rattle.std.specs.Prelude.{◌≡◌, ◌==◌, ◌&&◌, length, nat_eq};
 ghost use Rattle.elf_model.specs.Traits.{is_fortify_call, is_stack_protector};
 
-use elf_headers::NameLimit;
+use elf_table::NameLimit;
 
 /// How many bytes of a name are looked at: a longer one is none of those.
 pub(crate) const NAME_CAP: NameLimit = NameLimit { bytes: 63 };

@@ -3,8 +3,8 @@ ghost use Rattle.std.specs.Prelude.{◌≡◌, ◌&&◌, ◌==◌, ◌<◌, ◌+
 ghost use Rattle.std.specs.List.{starts_with};
 ghost use Rattle.elf_model.specs.Notes.{Note, note_shown};
 ghost use Rattle.elf_model.specs.Properties.{is_property_note};
-ghost use Rattle.elf_headers.specs.Ledger.{CallDid, fault_of_result};
-ghost use Rattle.elf_headers.specs.Load.{HoldsProgramHeaders};
+ghost use Rattle.elf_table.specs.Ledger.{CallDid, fault_of_result};
+ghost use Rattle.elf_table.specs.Load.{HoldsProgramHeaders};
 ghost use Rattle.elf_note.specs.NoteCursors.{NameIs};
 ghost use Rattle.elf_table.specs.Tables.{TableInBounds};
 ghost use Rattle.elf_traits.specs.Lists.{FindsFeatures, FindsList, FindsLists, ListInBounds, ReturnsList};
@@ -12,11 +12,10 @@ ghost use Rattle.elf_traits.specs.Lists.{first_list};
 
 use crate::symbol_names::{NAME_CAP, is_equal_name};
 use crate::properties::features_in;
-use elf_headers::Fault;
+use elf_table::{ExecutionView, Fault, NameBuf, NameEnd, Table};
 use elf_note::{NoteCursor, NoteRow};
 use elf_record::numbers::{EM_X86_64, PT_NOTE};
 use elf_source::{Counted, Source};
-use elf_table::{ExecutionView, NameBuf, NameEnd, Table};
 
 /// The type of a note of the GNU system that lists properties (Linux Extensions to gABI, Program
 /// Property).

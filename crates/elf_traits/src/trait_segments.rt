@@ -5,7 +5,7 @@ ghost use Rattle.elf_model.specs.Records.{e_phnum, segment_at};
 ghost use Rattle.elf_model.specs.Traits.{has_wx_load, is_stack_executable, is_writable_code};
 ghost use Rattle.elf_model.specs.Traits.{segment_of};
 ghost use Rattle.elf_record.specs.Phdr.{IsPhdr};
-ghost use Rattle.elf_headers.specs.Load.{HoldsProgramHeaders};
+ghost use Rattle.elf_table.specs.Load.{HoldsProgramHeaders};
 
 use crate::flags::has_bits;
 use elf_record::Phdr;

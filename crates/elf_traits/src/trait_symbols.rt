@@ -1,7 +1,7 @@
 //! The marks of hardening that the symbols of a file have.
 ghost use Rattle.std.specs.Prelude.{◌≡◌, ℕ, ◌+◌, ◌-◌, ◌*◌, ◌≤◌, List, length, IfErr};
-ghost use Rattle.elf_headers.specs.Faults.{IsReadFault};
-ghost use Rattle.elf_headers.specs.Ledger.{CallDid, fault_of_result};
+ghost use Rattle.elf_table.specs.Faults.{IsReadFault};
+ghost use Rattle.elf_table.specs.Ledger.{CallDid, fault_of_result};
 ghost use Rattle.elf_model.specs.Loader.{Symbols as AreSymbolsOf};
 ghost use Rattle.elf_model.specs.Traits.{marks_from, no_symbol_traits};
 ghost use Rattle.elf_names.specs.Ahead.{IsAheadOf, ReadsOnCredit, WhereAgrees};
@@ -13,14 +13,13 @@ ghost use Rattle.elf_traits.specs.Marks.{ReturnsMarks, marks_in, symbol_traits_o
 
 use crate::symbol_traits::{SymbolTraits, marked_by, no_symbol_traits};
 use crate::symbol_names::NAME_CAP;
-use elf_headers::Fault;
+use elf_table::{Cursor, Fault, NameBuf, NameEnd, Names, Row, Table};
 use elf_lookup_tables::Symbols;
 use elf_names::{NameIndex, ReadAhead};
 use elf_record::Sym;
 use elf_record::numbers::SHN_UNDEF;
 use elf_record::sizes::SYMBOL_BYTES;
 use elf_source::{Counted, Source};
-use elf_table::{Cursor, NameBuf, NameEnd, Names, Row, Table};
 
 /// The marks of so many symbols, all but the first, which is none (gABI 4, Symbol Table). There are no
 /// fewer. Each with its name asks for 88 bytes at most.

@@ -6,8 +6,8 @@ use Rattle.elf_model.specs.Versions.{RecordCursorState, Versions, visited_at, vi
 use Rattle.elf_model.specs.declared.causes.Cause.TheVariants.{VersionCut}
 use Rattle.elf_model.specs.declared.causes.Refusal.{Refusal}
 use Rattle.elf_model.proofs.VersionSteps.{met-most, met-record, met-refused}
-use Rattle.elf_headers.specs.declared.fault.Fault.{Fault}
-use Rattle.elf_headers.specs.declared.fault.Fault.TheVariants.{Refused, Source}
+use Rattle.elf_table.specs.declared.fault.Fault.{Fault}
+use Rattle.elf_table.specs.declared.fault.Fault.TheVariants.{Refused, Source}
 use Rattle.elf_versions.specs.Reading.{BufferedTable, IsStep, ReadsRecord, ReturnsMet, record_position_of, unheld}
 use Rattle.elf_versions.specs.declared.record_reader.VersionRecordStep.{VersionRecordStep}
 use Rattle.elf_versions.specs.declared.record_position.RecordPosition.{RecordPosition}

@@ -6,14 +6,14 @@ use Rattle.elf_model.specs.Checks.{first_refusal}
 use Rattle.elf_model.specs.Versions.{RecordCursorState, record_size, record_checks, visited_at, word_checks, name_distance, name_end, name_index}
 use Rattle.elf_model.specs.declared.versions.VersionKind.{VersionKind}
 use Rattle.elf_model.specs.declared.versions.VersionKind.TheVariants.{Definition, File, Need}
-use Rattle.elf_headers.specs.Faults.{IsOfRead}
-use Rattle.elf_headers.specs.declared.fault.Fault.{Fault}
-use Rattle.elf_headers.specs.declared.fault.Fault.TheVariants.{Refused, Source}
+use Rattle.elf_table.specs.Faults.{IsOfRead}
+use Rattle.elf_table.specs.declared.fault.Fault.{Fault}
+use Rattle.elf_table.specs.declared.fault.Fault.TheVariants.{Refused, Source}
 use Rattle.elf_versions.specs.Words.{HoldsName, HoldsWords, aux_word, checks_of, distance_of_name, end_of_named_record}
 use Rattle.elf_versions.specs.Reading.{Fits, BufferedTable, ReadsRecord, bytes_each, index_bytes, record_position_of, unheld}
 use Rattle.elf_versions.specs.declared.record_position.RecordPosition.{RecordPosition}
 use Rattle.elf_versions.specs.declared.record_fields.VersionRecordFields.{VersionRecordFields}
-pub use Rattle.elf_headers.proofs.Absent.{none-of}
+pub use Rattle.elf_table.proofs.Absent.{none-of}
 
 pub distance-is : (file : List ℕ) (kind : VersionKind) (at : ℕ) → distance_of_name kind (aux_word file (record { kind = kind; at = at })) ≡ name_distance file (record { kind = kind; at = at })
 unfolding distance_of_name aux_word name_distance

@@ -3,8 +3,8 @@ use Rattle.std.specs.Prelude.{ℕ, ◌≡◌, ◌<◌, Bool, true, false, List, 
 use Rattle.elf_model.specs.Budget.{IsBudgetRefusal}
 use Rattle.elf_model.specs.Versions.{VERSION_NUMBERS, VisitedRecord, Versions, name_index, named_at, named_by}
 use Rattle.elf_model.specs.declared.versions.VersionKind.TheVariants.{Definition, Need}
-use Rattle.elf_headers.specs.declared.fault.Fault.{Fault}
-use Rattle.elf_headers.specs.declared.fault.Fault.TheVariants.{Refused, Source}
+use Rattle.elf_table.specs.declared.fault.Fault.{Fault}
+use Rattle.elf_table.specs.declared.fault.Fault.TheVariants.{Refused, Source}
 use Rattle.elf_versions.specs.declared.version_names.VersionNameRef.{VersionNameRef}
 use Rattle.elf_versions.specs.declared.version_names.VersionNameRef.TheVariants.{Nowhere, Defined, Needed}
 

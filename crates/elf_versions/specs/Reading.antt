@@ -6,12 +6,12 @@ use Rattle.elf_model.specs.Records.{vn_next}
 use Rattle.elf_model.specs.Versions.{DEFINITION_SIZE, DEFINED_NAME_SIZE, NEED_SIZE, VERSION_NUMBERS, VisitedRecord, RecordCursorState, Versions, number_in, number_word, flags_word, hash_word, named_at, name_index, no_versions, with_visited, visited_from, visited_at, record_checks, next_position, first_position, max_records, record_size}
 use Rattle.elf_model.specs.declared.versions.VersionKind.{VersionKind}
 use Rattle.elf_model.specs.declared.versions.VersionKind.TheVariants.{Definition, File, Need}
-use Rattle.elf_headers.specs.Faults.{IsOfRead}
-use Rattle.elf_headers.specs.declared.fault.Fault.{Fault}
-use Rattle.elf_headers.specs.declared.fault.Fault.TheVariants.{Refused, Source}
+use Rattle.elf_table.specs.Faults.{IsOfRead}
+use Rattle.elf_table.specs.declared.fault.Fault.{Fault}
+use Rattle.elf_table.specs.declared.fault.Fault.TheVariants.{Refused, Source}
 use Rattle.elf_table.specs.Tables.{Rows, TableInBounds}
 use Rattle.elf_source.specs.Source.{CountedState}
-use Rattle.elf_headers.specs.Ledger.{CallDid, fault_of_result}
+use Rattle.elf_table.specs.Ledger.{CallDid, fault_of_result}
 use Rattle.elf_versions.specs.Words.{HoldsWords}
 use Rattle.elf_versions.specs.declared.record_fields.VersionRecordFields.{VersionRecordFields}
 use Rattle.elf_versions.specs.declared.record.VersionRecord.{VersionRecord}

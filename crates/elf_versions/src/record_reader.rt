@@ -1,6 +1,6 @@
 //! A record of symbol versions, read where a walk stands.
 ghost use Rattle.std.specs.Prelude.{◌≡◌, ℕ, ◌+◌, ◌^◌, ◌<◌, ◌≤◌, List, IfOk};
-ghost use Rattle.elf_headers.specs.Ledger.{IsRead};
+ghost use Rattle.elf_table.specs.Ledger.{IsRead};
 ghost use Rattle.elf_model.specs.Versions.{visited_at, name_index, record_size};
 ghost use Rattle.elf_versions.specs.Reading.{DidHeld, HasUpTo, IsVersion, KnowsFiles, ReadsRecord, StepFits, WordsRead, bytes_each, index_bytes, record_position_of};
 ghost use Rattle.elf_versions.specs.Words.{HoldsWords, distance_of_name, end_of_named_record};
@@ -9,7 +9,7 @@ use crate::record::VersionRecord;
 use crate::record_position::{RecordPosition, behind, name_distance, refused_words};
 use crate::table_buffer::TableBuffer;
 use crate::record_fields::{VersionRecordFields, of_definition, of_file, of_need};
-use elf_headers::Fault;
+use elf_table::Fault;
 use elf_record::{Verdef, Vernaux, Verneed, VersionKind, word};
 use elf_source::{Counted, Source};
 

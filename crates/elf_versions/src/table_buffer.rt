@@ -1,14 +1,13 @@
 //! The bytes of a table of symbol versions.
 ghost use Rattle.std.specs.Prelude.{◌≡◌, ℕ, ◌+◌, ◌^◌, ◌≤◌, ◌<◌, List, length, false, IfOk, MatchResult, None};
 ghost use Rattle.elf_model.specs.Bytes.{slice};
-ghost use Rattle.elf_headers.specs.Faults.{IsOfRead};
-ghost use Rattle.elf_headers.specs.Ledger.{CallDid, fault_of_result};
+ghost use Rattle.elf_table.specs.Faults.{IsOfRead};
+ghost use Rattle.elf_table.specs.Ledger.{CallDid, fault_of_result};
 ghost use Rattle.elf_table.specs.Tables.{TableInBounds};
 ghost use Rattle.elf_versions.specs.Reading.{DidHeld, GivesBytes, HasUpTo, IsHeldOf, unheld};
 
-use elf_headers::{Fault, fill};
+use elf_table::{Fault, fill, Table};
 use elf_source::{Counted, Source};
-use elf_table::Table;
 use std::marker::Model;
 
 /// How many bytes of a table are held at most.

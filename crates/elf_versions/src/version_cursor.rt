@@ -1,8 +1,8 @@
 //! A cursor over the records of symbol versions.
 ghost use Rattle.std.specs.Prelude.{◌≡◌, ℕ, ◌+◌, ◌-◌, ◌*◌, ◌^◌, ◌<◌, ◌≤◌, List, false, Some, None, Err, IfOk, IfErr, IfSome};
-ghost use Rattle.elf_headers.specs.Faults.{IsOfRead};
-ghost use Rattle.elf_headers.specs.Ledger.{CallDid, fault_of_result};
-ghost use Rattle.elf_headers.specs.declared.fault.Fault.{Fault};
+ghost use Rattle.elf_table.specs.Faults.{IsOfRead};
+ghost use Rattle.elf_table.specs.Ledger.{CallDid, fault_of_result};
+ghost use Rattle.elf_table.specs.declared.fault.Fault.{Fault};
 ghost use Rattle.elf_table.specs.Tables.{TableInBounds};
 ghost use Rattle.elf_model.specs.Versions.{max_records};
 ghost use Rattle.elf_model.specs.declared.versions.VersionKind.TheVariants.{Need};
@@ -13,11 +13,10 @@ use crate::record_reader::read_record;
 use crate::record::VersionRecord;
 use crate::record_position::{RecordPosition, bytes_each, first, record_bytes};
 use crate::table_buffer::TableBuffer;
-use elf_headers::{Fault, refused};
+use elf_table::{Fault, refused, Table};
 use elf_record::sizes::{VERSION_DEFINITION_BYTES, VERSION_NAME_BYTES};
 use elf_record::{Cause, VersionKind};
 use elf_source::{Counted, Source};
-use elf_table::Table;
 use std::marker::Model;
 
 /// A cursor over the records of a table of definitions, or of needs (Linux Standard Base Core, Symbol

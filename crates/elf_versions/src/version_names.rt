@@ -1,6 +1,6 @@
 //! The names of the numbers of versions.
 ghost use Rattle.std.specs.Prelude.{◌≡◌, ℕ, ◌<◌, List, [], ◌∷◌, ◌++◌, None, length, slice_set};
-ghost use Rattle.elf_headers.specs.Ledger.{CallDid, fault_of_result};
+ghost use Rattle.elf_table.specs.Ledger.{CallDid, fault_of_result};
 ghost use Rattle.elf_table.specs.Tables.{TableInBounds};
 ghost use Rattle.elf_model.specs.Versions.{VisitedRecord, VERSION_NUMBERS, named_by, names_version, number_in};
 ghost use Rattle.elf_versions.specs.NumberNames.{GivesName, IsNameOfRecord, NameFits, NamesNumbers, ReadsNumberNames, name_at};
@@ -8,7 +8,7 @@ ghost use Rattle.elf_versions.specs.Reading.{IsCursorOf, IsVersion, unread, vers
 
 use crate::version_cursor::VersionCursor;
 use crate::record::VersionRecord;
-use elf_headers::Fault;
+use elf_table::Fault;
 use elf_record::{VersionKind, version_number};
 use elf_source::{Counted, Source};
 use std::marker::Model;

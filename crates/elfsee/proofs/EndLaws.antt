@@ -8,7 +8,7 @@ use Rattle.elf_source.specs.Source.{CountedState}
 use Rattle.elf_source.specs.Output.{OutState}
 use Rattle.elf_options.specs.Permitted.{style_of}
 use Rattle.elf_options.specs.declared.caps.Caps.{Caps}
-use Rattle.elf_headers.specs.declared.run_fault.RunFault.{RunFault}
+use Rattle.elf_table.specs.declared.run_fault.RunFault.{RunFault}
 use Rattle.elf_listing.specs.Reports.{KeepsSourceUnlimited}
 use Rattle.elf_archive.specs.Listed.{ArchiveSays, AsksInArchive, ReportsArchive}
 use Rattle.elf_answers.specs.ArchiveAnswers.{refused_by}

@@ -4,7 +4,7 @@ use Rattle.elf_model.specs.Explain.{MissingEntry, explained}
 use Rattle.elf_model.specs.declared.causes.Refusal.{Refusal}
 use Rattle.elf_source.specs.Source.{CountedState}
 use Rattle.elf_source.specs.Output.{OutState, SinkTakes, SinkTakesPrefix}
-use Rattle.elf_headers.specs.declared.run_fault.RunFault.{RunFault}
+use Rattle.elf_table.specs.declared.run_fault.RunFault.{RunFault}
 use Rattle.elf_requests.specs.declared.requests.Task.{Task}
 use Rattle.elf_requests.specs.declared.requests.Task.TheVariants.{Apply, Place}
 

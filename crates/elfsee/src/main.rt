@@ -23,7 +23,7 @@ use elf_endings::{
     tell_version,
 };
 use elf_fixtures::sample;
-use elf_headers::{HeaderBuffer, HeaderStore, RunFault};
+use elf_table::{HeaderBuffer, HeaderStore, RunFault};
 use elf_layout::Layout;
 use elf_record::Refusal;
 use elf_requests::{ParsedCommand, Request, request};

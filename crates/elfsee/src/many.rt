@@ -7,7 +7,7 @@ use elf_endings::{
     CANNOT_OPEN, Ended, ExitLine, LineSink, OUT_OF_MEMORY, OUTPUT_BYTES, PIPE_BYTES, READ_FAULT,
     end_lines,
 };
-use elf_headers::{Caps, HeaderBuffer, HeaderStore};
+use elf_table::{Caps, HeaderBuffer, HeaderStore};
 use elf_many::{DirWalk, FileRun, FileVisitor, ListFault, visit_list, visit_path};
 use elf_model::Format;
 use elf_requests::{CheckRequest, PathArgs, TraitsRequest};

@@ -10,13 +10,12 @@ ghost use Rattle.elfsee.specs.Explaining.{AsksRest, WroteUpTo, asks_why, lack_in
 
 use elf_endings::{ERROR_LINE_BYTES, write_rest};
 use elf_explain::explain;
-use elf_headers::{HeaderStore, RunFault};
+use elf_table::{HeaderStore, NameBuf, NameEnd, RunFault};
 use elf_layout::Addresses;
 use elf_lines::show_missing;
 use elf_record::Refusal;
 use elf_requests::{Request, Task};
 use elf_source::{Counted, Out, Sink, Source, WriteSink};
-use elf_table::{NameBuf, NameEnd};
 use std::alloc::Global;
 use std::io::{BufWriter, Stderr};
 

@@ -3,7 +3,7 @@
 use elf_endings::{
     CANNOT_OPEN, Ended, ExitLine, OUT_OF_MEMORY, OUTPUT_BYTES, READ_FAULT, end_run, open,
 };
-use elf_headers::{HeaderBuffer, HeaderStore};
+use elf_table::{HeaderBuffer, HeaderStore};
 use elf_needs::{
     DependencyWalk, MOST_OBJECTS, NeedsBuffers, NeedsFault, NeedsOptions, OpenFiles, OpenObjects,
     SearchDirs,

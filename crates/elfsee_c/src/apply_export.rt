@@ -6,7 +6,7 @@ use elf_calls::{
     ApplyInput, CallOutcome, CallerLimits, Job, Told, layout_from, limits_of, report_status, short,
     write_section,
 };
-use elf_headers::HeaderStore;
+use elf_table::HeaderStore;
 use elf_layout::{Addresses, Layout};
 use elf_memory_rows::End;
 

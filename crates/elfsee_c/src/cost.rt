@@ -4,7 +4,7 @@ ghost use Rattle.elf_model.specs.Cost.{ceiling};
 ghost use Rattle.elf_calls.specs.Costs.{IsCost};
 
 use elf_calls::{CallerLimits, short};
-use elf_headers::Caps;
+use elf_table::Caps;
 
 /// How many bytes of a file of `file_len` bytes a listing asks for at most, whatever the bytes are:
 /// at most 2^64 - 1, and that where a limit is outside its range.

@@ -6,7 +6,7 @@ ghost use Rattle.elf_calls.specs.Limits.{budget_of, headers_of};
 
 use elf_calls::{CallerLimits, LookupFields, limits_of, look_in, report_found};
 use elf_hash::Lookup;
-use elf_headers::HeaderStore;
+use elf_table::HeaderStore;
 use elf_memory_rows::End;
 use elf_record::Refusal;
 

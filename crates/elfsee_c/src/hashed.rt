@@ -5,7 +5,7 @@ ghost use Rattle.elf_calls.specs.HashedRows.{HasHashed, OpensHashed, by_flags};
 ghost use Rattle.elf_calls.specs.Limits.{budget_of, headers_of};
 
 use elf_calls::{CallerLimits, limits_of, open_hashed};
-use elf_headers::HeaderStore;
+use elf_table::HeaderStore;
 use elf_memory_rows::{End, RowPosition, report_opened};
 use elf_record::Refusal;
 

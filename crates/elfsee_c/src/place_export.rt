@@ -6,7 +6,7 @@ use elf_calls::{
     ApplyInput, CallerLayout, CallerLimits, CallerMissing, Told, limits_of, place_section,
     report_status,
 };
-use elf_headers::HeaderStore;
+use elf_table::HeaderStore;
 use elf_layout::Addresses;
 use elf_memory_rows::End;
 

@@ -7,11 +7,10 @@ ghost use Rattle.elf_calls.specs.Queries.{IsPermitted, asks_of, wanted_by};
 ghost use Rattle.elf_calls.specs.Resolved.{IsResolved, Resolves, ResolvesIn, ReturnsResolved, file_of, nothing_resolved};
 
 use elf_calls::{CallerLimits, Query, Resolved, limits_of, report_resolved, resolve_in};
-use elf_headers::HeaderStore;
+use elf_table::{HeaderStore, NameBuf};
 use elf_loader::SymbolLookup;
 use elf_memory_rows::End;
 use elf_record::Refusal;
-use elf_table::NameBuf;
 
 /// Looks a name up in a file that lies in memory, alone or with a version, as a loader of the GNU
 /// system does (gABI 5, Dynamic Linking; Linux Standard Base Core, Symbol Versioning): by the

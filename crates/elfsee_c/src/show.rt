@@ -10,7 +10,7 @@ use elf_calls::{
     CallOutcome, CallerLimits, CallerListing, Told, caps_of, list, listing_of, named_listing_of,
     report_status, short,
 };
-use elf_headers::HeaderStore;
+use elf_table::HeaderStore;
 use elf_memory_rows::End;
 use elf_record::Parts;
 

@@ -9,7 +9,7 @@ use elf_endings::{
     tell_version,
 };
 use elf_fixtures::sample;
-use elf_headers::{Caps, HeaderBuffer, HeaderStore};
+use elf_table::{Caps, HeaderBuffer, HeaderStore};
 use elf_listing::show;
 use elf_listing_requests::{ListingRequest, ShowRequest, parse_show};
 use elf_source::{Counted, MemorySource, Out, Source, WriteSink};

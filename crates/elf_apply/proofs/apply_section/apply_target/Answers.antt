@@ -2,7 +2,7 @@ use Rattle.std.proofs.Common.{rules, arith, sym, ap, ◌∙◌, Err}
 use Rattle.std.proofs.lemmas.Result.{err_from_is_err_and}
 use Rattle.elf_model.specs.Apply.{patched}
 use Rattle.elf_model.specs.Bytes.{slice}
-use Rattle.elf_headers.proofs.OpenLaws.{still_open}
+use Rattle.elf_table.proofs.OpenLaws.{still_open}
 use Rattle.elf_apply.specs.Walk.{walk_all}
 use Rattle.elf_apply.proofs.ApplySteps.{check_failed, writes_failed}
 use Rattle.elf_apply.proofs.BudgetSteps.{all_sum, checked_most, fault_applies, fault_wants, says_after, says_wants, spends_reads, spends_then, twice_sum, wants_after}

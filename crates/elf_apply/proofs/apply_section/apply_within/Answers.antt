@@ -4,13 +4,13 @@ use Rattle.elf_model.specs.ApplyCost.{apply_cost_by_order, window_passes}
 use Rattle.elf_model.specs.Records.{e_shnum}
 use Rattle.elf_source.proofs.GrowthLaws.{grows_not}
 use Rattle.elf_source.proofs.ReadsLaws.{ReadsUpTo-then}
-use Rattle.elf_headers.specs.Load.{load_cost}
+use Rattle.elf_table.specs.Load.{load_cost}
 use Rattle.elf_apply.specs.Applied.{apply_ceiling, after_ceiling}
 use Rattle.elf_apply.proofs.ApplySteps.{header_failed, load_failed}
 use Rattle.elf_apply.proofs.BudgetSteps.{all_says_after, all_wants_after, fault_applies, fault_wants, spends_reads, spends_then}
 use Rattle.elf_apply.proofs.CostSteps.{cost_least, load_within, order_within}
 use Rattle.elf_apply.proofs.ReadLaws.{IsReadFault-then}
-use Rattle.elf_headers.proofs.LoadLaws.{load_most, load_slots, header_most}
+use Rattle.elf_table.proofs.LoadLaws.{load_most, load_slots, header_most}
 use Rattle.elf_apply.proofs.apply_section.apply_within.Goals as goal
 
 pub returns-in_err-header-clause-applies : goal.returns-in_err-header-clause-applies

@@ -1,7 +1,7 @@
 use Rattle.std.proofs.Common.{rules, refl, sym, ap, ◌∙◌, subst, ◌+◌, ◌-◌, ◌≤◌, arith, length, List, ℕ, ◌≡◌, Err}
 use Rattle.std.proofs.lemmas.Result.{err_from_is_err_and}
 use Rattle.elf_source.proofs.ReadsLaws.{ReadsUpTo-none, ReadsUpTo-then, ReadsUpTo-to}
-use Rattle.elf_headers.proofs.OpenLaws.{still_open}
+use Rattle.elf_table.proofs.OpenLaws.{still_open}
 use Rattle.elf_model.specs.Apply.{patched, patches_of}
 use Rattle.elf_model.specs.ApplyLaws.{AllInside}
 use Rattle.elf_model.specs.Bytes.{slice}

@@ -1,6 +1,6 @@
 -- A lookup that reads a name once.
 use Rattle.std.proofs.Common.{rules, refl, arith}
-use Rattle.elf_headers.proofs.LedgerLaws.{CallReads-more}
+use Rattle.elf_table.proofs.LedgerLaws.{CallReads-more}
 use Rattle.elf_model.specs.ApplyCost.{lookup_cost}
 use Rattle.elf_model.specs.Placing.{Searched}
 use Rattle.elf_table.specs.Tables.{strings_in}

@@ -1,8 +1,8 @@
 use Rattle.std.proofs.Common.{rules, ap, ◌∙◌, arith, length}
 use Rattle.std.proofs.lemmas.Result.{err_from_is_err_and}
 use Rattle.elf_source.proofs.ReadsLaws.{ReadsUpTo-none, ReadsUpTo-then}
-use Rattle.elf_headers.proofs.Absent.{none-of}
-use Rattle.elf_headers.proofs.OpenLaws.{still_open}
+use Rattle.elf_table.proofs.Absent.{none-of}
+use Rattle.elf_table.proofs.OpenLaws.{still_open}
 use Rattle.elf_apply.proofs.WalkSteps.{reads-left}
 use Rattle.elf_apply.specs.Walk.{walk_left, changes_left}
 use Rattle.elf_apply.specs.Passes.{folded, storing}

@@ -2,7 +2,7 @@ use Rattle.std.proofs.Common.{rules, ap, ◌∙◌, ◌+◌, ◌≤◌, arith, l
 use Rattle.std.proofs.lemmas.Result.{err_from_is_err_and}
 use Rattle.elf_source.proofs.GrowthLaws.{grows_not, grows_put}
 use Rattle.elf_source.proofs.ReadsLaws.{ReadsUpTo-then, ReadsUpTo-to}
-use Rattle.elf_headers.proofs.OpenLaws.{still_open}
+use Rattle.elf_table.proofs.OpenLaws.{still_open}
 use Rattle.elf_apply.specs.Walk.{changes_all}
 use Rattle.elf_apply.proofs.ReadLaws.{not_over}
 use Rattle.elf_apply.proofs.WindowSteps.{front_written, stopping, window_done, folds_ok, pass_failed, takes_as, front_as}

@@ -7,9 +7,9 @@ use Rattle.elf_model.specs.Cost.{style_ceiling}
 use Rattle.elf_source.proofs.GrowthLaws.{grows_not, grows_then}
 use Rattle.elf_source.proofs.ReadsLaws.{ReadsUpTo-none, ReadsUpTo-then, ReadsUpTo-to}
 use Rattle.elf_source.specs.Source.{ReadsUpTo}
-use Rattle.elf_headers.specs.declared.run_fault.RunFault.TheVariants.{Refused}
+use Rattle.elf_table.specs.declared.run_fault.RunFault.TheVariants.{Refused}
 use Rattle.elf_options.specs.Permitted.{style_of}
-use Rattle.elf_headers.specs.Stops.{stop_of}
+use Rattle.elf_table.specs.Stops.{stop_of}
 use Rattle.elf_archive.specs.Listed.{Consumes}
 use Rattle.elf_archive.specs.Members.{IsMemberWalkInBounds, member_of, step_cost}
 use Rattle.elf_archive.proofs.ConsumeLaws.{Consumes-fault, Consumes-then, still_whole}

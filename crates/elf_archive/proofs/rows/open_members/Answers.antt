@@ -1,7 +1,7 @@
 -- A source in memory gives the file.
 use Rattle.std.proofs.Common.{◌≡◌, Some, Err, refl, ap, ◌∙◌}
 use Rattle.elf_source.specs.Source.{SourceState}
-use Rattle.elf_headers.specs.declared.fault.Fault.TheVariants.{Refused}
+use Rattle.elf_table.specs.declared.fault.Fault.TheVariants.{Refused}
 use Rattle.elf_archive.proofs.RowLaws.{refused_magic}
 use Rattle.elf_archive.proofs.rows.open_members.Goals as goal
 

@@ -1,7 +1,7 @@
 -- The numbers of the version that is asked for, and the walk.
 use Rattle.std.proofs.Common.{arith}
 use Rattle.std.proofs.lemmas.Result.{err_from_is_err_and}
-use Rattle.elf_headers.proofs.LedgerLaws.{CallDid-as, CallDid-then}
+use Rattle.elf_table.proofs.LedgerLaws.{CallDid-as, CallDid-then}
 use Rattle.elf_model.specs.LoaderFind.{version_indices}
 use Rattle.elf_loader.proofs.ReadLaws.{after_within}
 use Rattle.elf_options.specs.Wants.{query_of}

@@ -1,7 +1,7 @@
 -- The table excludes the name, or the lookup goes on in it.
 use Rattle.std.proofs.Common.{ℕ, ap, arith}
 use Rattle.std.proofs.lemmas.Result.{err_from_is_err_and}
-use Rattle.elf_headers.proofs.LedgerLaws.{CallDid-as, CallDid-then}
+use Rattle.elf_table.proofs.LedgerLaws.{CallDid-as, CallDid-then}
 use Rattle.elf_loader.specs.Lookups.{lookup_bytes}
 use Rattle.elf_options.specs.Wants.{query_of}
 use Rattle.elf_binding.proofs.DefinerLaws.{defines_excluded, defines_unless, defines_unread}

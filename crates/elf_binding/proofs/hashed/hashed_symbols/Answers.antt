@@ -3,7 +3,7 @@ use Rattle.std.proofs.Common.{◌≡◌, ap, arith}
 use Rattle.std.proofs.lemmas.Result.{err_from_is_err_and}
 use Rattle.elf_hash.specs.SearchedTables.{place_of_table}
 use Rattle.elf_hash.specs.declared.place.HashTableLocation.{HashTableLocation}
-use Rattle.elf_headers.proofs.LedgerLaws.{CallDid-as, CallDid-then}
+use Rattle.elf_table.proofs.LedgerLaws.{CallDid-as, CallDid-then}
 use Rattle.elf_binding.proofs.DefinerLaws.{few_counts, place_of}
 use Rattle.elf_binding.proofs.SoughtLaws.{extends, uncounted, unextended}
 use Rattle.elf_binding.proofs.hashed.hashed_symbols.Goals as goal

@@ -1,7 +1,7 @@
 -- No words, no definitions, or the definitions are compared.
 use Rattle.std.proofs.Common.{arith}
 use Rattle.std.proofs.lemmas.Result.{err_from_is_err_and}
-use Rattle.elf_headers.proofs.LedgerLaws.{CallDid-as, CallDid-none}
+use Rattle.elf_table.proofs.LedgerLaws.{CallDid-as, CallDid-none}
 use Rattle.elf_binding.proofs.LackLaws.{are_definitions, definitions_alone, fewer_bytes, lacks_none, lacks_wordless, none_where, some_where, tells_empty, tells_fault}
 use Rattle.elf_binding.proofs.missing_version.lacks_version.Goals as goal
 

@@ -1,7 +1,7 @@
 -- The last byte of the strings is looked at.
 use Rattle.std.proofs.Common.{◌+◌, ◌<◌, ◌≤◌, length, arith}
 use Rattle.std.proofs.lemmas.Result.{err_from_is_err_and}
-use Rattle.elf_headers.proofs.LedgerLaws.{CallDid-as, CallDid-of, CallDid-sized}
+use Rattle.elf_table.proofs.LedgerLaws.{CallDid-as, CallDid-of, CallDid-sized}
 use Rattle.elf_binding.proofs.ReadyLaws.{nul_ends}
 use Rattle.elf_binding.proofs.ready.ends_in_nul.Goals as goal
 

@@ -1,7 +1,7 @@
 -- The counts, the records of versions, and the ends of their strings.
 use Rattle.std.proofs.Common.{arith}
 use Rattle.std.proofs.lemmas.Result.{err_from_is_err_and}
-use Rattle.elf_headers.proofs.LedgerLaws.{CallDid-as, CallDid-then}
+use Rattle.elf_table.proofs.LedgerLaws.{CallDid-as, CallDid-then}
 use Rattle.elf_loader.proofs.ReadLaws.{most_all}
 use Rattle.elf_loader.specs.Tables.{max_versions_of}
 use Rattle.elf_binding.proofs.DefinerLaws.{few_counts, place_of}

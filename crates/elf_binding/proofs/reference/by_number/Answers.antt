@@ -1,9 +1,9 @@
 -- The record of the number is found, and its name is read.
 use Rattle.std.proofs.Common.{[], arith}
 use Rattle.std.proofs.lemmas.Result.{err_from_is_err_and}
-use Rattle.elf_headers.proofs.Absent.{none-of}
-use Rattle.elf_headers.proofs.LedgerLaws.{CallDid-as, CallDid-stop, CallDid-then}
-use Rattle.elf_headers.specs.declared.fault.Fault.TheVariants.{Refused}
+use Rattle.elf_table.proofs.Absent.{none-of}
+use Rattle.elf_table.proofs.LedgerLaws.{CallDid-as, CallDid-stop, CallDid-then}
+use Rattle.elf_table.specs.declared.fault.Fault.TheVariants.{Refused}
 use Rattle.elf_model.specs.Loader.{naming_of}
 use Rattle.elf_model.specs.declared.causes.Cause.TheVariants.{VersionIndex}
 use Rattle.elf_loader.proofs.NamingLaws.{naming-nothing}

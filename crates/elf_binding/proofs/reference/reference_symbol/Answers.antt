@@ -1,7 +1,7 @@
 -- The symbol is read, its name, and its version.
 use Rattle.std.proofs.Common.{sym, ◌∙◌, arith}
 use Rattle.std.proofs.lemmas.Result.{err_from_is_err_and}
-use Rattle.elf_headers.proofs.LedgerLaws.{CallDid-as, CallDid-of, CallDid-then}
+use Rattle.elf_table.proofs.LedgerLaws.{CallDid-as, CallDid-of, CallDid-then}
 use Rattle.elf_model.specs.Bindings.{is_weak}
 use Rattle.elf_model.specs.Loader.{symbol_offset}
 use Rattle.elf_binding.proofs.SoughtLaws.{asks, nameless, nothing, symbol_is, versionless}

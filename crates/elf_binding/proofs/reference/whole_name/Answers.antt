@@ -1,8 +1,8 @@
 -- The name is read, and refused where it is longer.
 use Rattle.std.proofs.Common.{arith}
 use Rattle.std.proofs.lemmas.Result.{err_from_is_err_and}
-use Rattle.elf_headers.proofs.LedgerLaws.{CallDid-as, CallDid-of, CallDid-stop}
-use Rattle.elf_headers.specs.declared.fault.Fault.TheVariants.{Refused}
+use Rattle.elf_table.proofs.LedgerLaws.{CallDid-as, CallDid-of, CallDid-stop}
+use Rattle.elf_table.specs.declared.fault.Fault.TheVariants.{Refused}
 use Rattle.elf_model.specs.declared.causes.Cause.TheVariants.{TooLong}
 use Rattle.elf_table.specs.Tables.{strings_in}
 use Rattle.elf_binding.proofs.SoughtLaws.{whole_cut, whole_fault, whole_is}

@@ -2,7 +2,7 @@
 use Rattle.std.proofs.Common.{rules, ◌≡◌, length, Ok, Err, ap, ◌∙◌, arith}
 use Rattle.elf_model.specs.Style.{looked_at}
 use Rattle.elf_source.specs.Source.{SourceState, honest}
-use Rattle.elf_headers.specs.declared.fault.Fault.TheVariants.{Refused as Refuses}
+use Rattle.elf_table.specs.declared.fault.Fault.TheVariants.{Refused as Refuses}
 use Rattle.elf_calls.proofs.HashedCallLaws.{refused_hashed, shown_in}
 use Rattle.elf_calls.proofs.hashed_call.open_hashed.Goals as goal
 

@@ -1,7 +1,7 @@
 -- The file of a source in memory is known, so what is found is the file's.
 use Rattle.std.proofs.Common.{rules, ◌≡◌, Some, Ok, Err, ap, ◌∙◌, arith}
 use Rattle.elf_source.specs.Source.{SourceState}
-use Rattle.elf_headers.specs.declared.fault.Fault.TheVariants.{Refused as Refuses}
+use Rattle.elf_table.specs.declared.fault.Fault.TheVariants.{Refused as Refuses}
 use Rattle.elf_calls.specs.Queries.{asks_of, wanted_by}
 use Rattle.elf_calls.specs.Resolved.{file_of}
 use Rattle.elf_calls.proofs.ResolvingLaws.{resolve_refused}

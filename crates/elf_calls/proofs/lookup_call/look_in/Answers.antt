@@ -1,7 +1,7 @@
 -- The file of a source in memory is known, so what is found is the file's.
 use Rattle.std.proofs.Common.{rules, ◌≡◌, Some, Ok, Err, ap, ◌∙◌, arith}
 use Rattle.elf_source.specs.Source.{SourceState}
-use Rattle.elf_headers.specs.declared.fault.Fault.TheVariants.{Refused as Refuses}
+use Rattle.elf_table.specs.declared.fault.Fault.TheVariants.{Refused as Refuses}
 use Rattle.elf_calls.proofs.FindingLaws.{refused_in}
 use Rattle.elf_calls.proofs.lookup_call.look_in.Goals as goal
 

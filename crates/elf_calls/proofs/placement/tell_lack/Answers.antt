@@ -1,7 +1,7 @@
 -- What is told is what the layout lacks, or nothing.
 use Rattle.std.proofs.Common.{rules, ◌≡◌, ◌-◌, Some, None, Ok, Err, inl, inr, option_map, ap, length, subst, ◌∙◌, arith}
 use Rattle.elf_source.specs.Source.{SourceState, SetsLimit}
-use Rattle.elf_headers.specs.declared.fault.Fault.TheVariants.{Refused as Refuses}
+use Rattle.elf_table.specs.declared.fault.Fault.TheVariants.{Refused as Refuses}
 use Rattle.elf_calls.specs.LentLayouts.{ReturnsMissing}
 use Rattle.elf_calls.proofs.BudgetLaws.{rest_spent}
 use Rattle.elf_calls.proofs.LackLaws.{cannot_be_known, few_told}

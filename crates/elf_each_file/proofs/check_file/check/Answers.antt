@@ -1,7 +1,7 @@
 -- The state is that of the fault that the listing answers.
 use Rattle.std.proofs.Common.{rules, arith, ◌≡◌, false, refl, Err}
 use Rattle.elf_options.specs.Permitted.{style_of}
-use Rattle.elf_headers.specs.declared.run_fault.RunFault.TheVariants.{Refused, Source, Out}
+use Rattle.elf_table.specs.declared.run_fault.RunFault.TheVariants.{Refused, Source, Out}
 use Rattle.elf_each_file.proofs.ListingToldLaws.{fault_fails}
 use Rattle.elf_each_file.proofs.FileStatusLaws.{asks_long, cost_long, cost_short, ended, finds, most_short, refused, refused_read, short_found}
 use Rattle.elf_each_file.proofs.check_file.check.Goals as goal

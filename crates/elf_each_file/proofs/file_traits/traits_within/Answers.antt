@@ -1,7 +1,7 @@
 -- What the search for traits answered is found within the budget.
 use Rattle.std.proofs.Common.{◌≡◌, Err, ap, arith, rules, ◌∙◌}
 use Rattle.elf_source.specs.Source.{SourceState}
-use Rattle.elf_headers.specs.declared.fault.Fault.TheVariants.{Refused}
+use Rattle.elf_table.specs.declared.fault.Fault.TheVariants.{Refused}
 use Rattle.elf_each_file.proofs.FoundLaws.{refused_within, short_within}
 use Rattle.elf_each_file.proofs.file_traits.traits_within.Goals as goal
 

@@ -1,6 +1,6 @@
 -- The state is that of the first fault.
 use Rattle.std.proofs.Common.{rules, ◌≡◌, Err}
-use Rattle.elf_headers.specs.declared.run_fault.RunFault.TheVariants.{Refused, Source, Out}
+use Rattle.elf_table.specs.declared.run_fault.RunFault.TheVariants.{Refused, Source, Out}
 use Rattle.elf_each_file.proofs.ListingToldLaws.{fault_fails}
 use Rattle.elf_each_file.proofs.members.check_archive.Goals as goal
 

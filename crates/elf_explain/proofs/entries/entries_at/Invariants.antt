@@ -2,7 +2,7 @@
 use Rattle.std.proofs.Common.{◌≡◌, ℕ, ◌<◌, false, List}
 use Rattle.elf_model.specs.Explain.{relocates_at}
 use Rattle.elf_model.specs.Records.{section_at}
-use Rattle.elf_headers.specs.Load.{HoldsSectionHeaders}
+use Rattle.elf_table.specs.Load.{HoldsSectionHeaders}
 use Rattle.elf_explain.proofs.entries.entries_at.Given as goal
 
 abbrev pub invariant-loop-index : goal.invariant-loop-index

@@ -2,8 +2,8 @@
 use Rattle.std.proofs.Common.{sym, ◌∙◌, arith}
 use Rattle.std.proofs.lemmas.Result.{err_from_is_err_and}
 use Rattle.elf_model.specs.Explain.{explained}
-use Rattle.elf_headers.proofs.LedgerLaws.{CallDid-as, CallDid-none, CallDid-of, CallDid-then}
-use Rattle.elf_headers.proofs.LoadLaws.{header_most, load_slots}
+use Rattle.elf_table.proofs.LedgerLaws.{CallDid-as, CallDid-none, CallDid-of, CallDid-then}
+use Rattle.elf_table.proofs.LoadLaws.{header_most, load_slots}
 use Rattle.elf_explain.proofs.ExplainLaws.{header_explains, load_explains, loaded_explains, never}
 use Rattle.elf_explain.proofs.explanation.explain.Goals as goal
 

@@ -3,7 +3,7 @@ use Rattle.std.proofs.Common.{◌≡◌, ◌∙◌, sym, ap, None, arith}
 use Rattle.std.proofs.lemmas.Result.{err_from_is_err_and}
 use Rattle.elf_model.specs.Explain.{lack_with}
 use Rattle.elf_model.specs.Records.{section_at}
-use Rattle.elf_headers.proofs.LedgerLaws.{CallDid-as, CallDid-none, CallDid-then}
+use Rattle.elf_table.proofs.LedgerLaws.{CallDid-as, CallDid-none, CallDid-then}
 use Rattle.elf_explain.proofs.ExplainLaws.{lacks_nothing, lacks_told, nowhere, somewhere}
 use Rattle.elf_explain.proofs.LackLaws.{none_of}
 use Rattle.elf_explain.proofs.explanation.explain_loaded.Goals as goal

@@ -2,7 +2,7 @@
 use Rattle.std.proofs.Common.{◌≡◌, ◌∙◌, sym, ap, refl, None, arith}
 use Rattle.std.proofs.lemmas.Result.{err_from_is_err_and}
 use Rattle.elf_model.specs.Values.{kind_of}
-use Rattle.elf_headers.proofs.LedgerLaws.{CallDid-as, CallDid-then}
+use Rattle.elf_table.proofs.LedgerLaws.{CallDid-as, CallDid-then}
 use Rattle.elf_explain.proofs.LackLaws.{lacks_by, missing_by, none_of, symbol_is, type_is, unlinked, untyped}
 use Rattle.elf_explain.proofs.missing_item.lacking_at.Goals as goal
 

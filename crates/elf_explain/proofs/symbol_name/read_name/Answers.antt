@@ -2,7 +2,7 @@
 use Rattle.std.proofs.Common.{◌∙◌, sym, arith}
 use Rattle.elf_model.specs.Explain.{resolved_symbol_name}
 use Rattle.elf_table.specs.Tables.{strings_in}
-use Rattle.elf_headers.proofs.LedgerLaws.{CallDid-as, CallDid-none, CallDid-of}
+use Rattle.elf_table.proofs.LedgerLaws.{CallDid-as, CallDid-none, CallDid-of}
 use Rattle.elf_explain.proofs.NamingLaws.{fault_tells, named, read_tells, unnamed}
 use Rattle.elf_explain.proofs.symbol_name.read_name.Goals as goal
 

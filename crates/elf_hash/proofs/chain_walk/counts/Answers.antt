@@ -1,7 +1,7 @@
 -- The counts of a table of each kind are those of the table that a lookup is made in.
 use Rattle.std.proofs.Common.{ap, arith}
 use Rattle.std.proofs.lemmas.Result.{err_from_is_err_and}
-use Rattle.elf_headers.proofs.LedgerLaws.{CallDid-as}
+use Rattle.elf_table.proofs.LedgerLaws.{CallDid-as}
 use Rattle.elf_hash.specs.SearchedTables.{counts_bytes}
 use Rattle.elf_hash.proofs.SearchedTableLaws.{gnu_fails, gnu_passes, sysv_fails, sysv_passes}
 use Rattle.elf_hash.proofs.chain_walk.counts.Goals as goal

@@ -1,5 +1,5 @@
 -- Where the chain of the name has no first symbol, the walk tries none.
-use Rattle.elf_headers.proofs.LedgerLaws.{CallDid-as}
+use Rattle.elf_table.proofs.LedgerLaws.{CallDid-as}
 use Rattle.elf_hash.proofs.GnuSteps.{passed_over}
 use Rattle.std.proofs.Common.{arith}
 use Rattle.elf_hash.proofs.chain_walk.excludes.Goals as goal

@@ -1,6 +1,6 @@
 -- The walk in a table of each kind is that of its kind.
 use Rattle.std.proofs.Common.{◌/◌, arith}
-use Rattle.elf_headers.proofs.LedgerLaws.{CallReads-more, CallDid-as}
+use Rattle.elf_table.proofs.LedgerLaws.{CallReads-more, CallDid-as}
 use Rattle.elf_hash.proofs.WalkLaws.{bytes_most}
 use Rattle.elf_hash.proofs.chain_walk.walk.Goals as goal
 

@@ -2,7 +2,7 @@
 use Rattle.std.proofs.Common.{◌≡◌, suc, ◌+◌, sym, ap, ◌∙◌, arith}
 use Rattle.std.proofs.lemmas.Result.{err_from_is_err_and}
 use Rattle.elf_model.specs.GnuHash.{is_chain_end}
-use Rattle.elf_headers.proofs.LedgerLaws.{CallDid-as, CallDid-then}
+use Rattle.elf_table.proofs.LedgerLaws.{CallDid-as, CallDid-then}
 use Rattle.elf_hash.specs.Extents.{last_in}
 use Rattle.elf_hash.proofs.GnuSteps.{chained_is}
 use Rattle.elf_hash.proofs.ExtentLaws.{ends_there, goes_on, last_above, last_here, last_more, last_past, not_chained, word_is}

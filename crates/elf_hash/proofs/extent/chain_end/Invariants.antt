@@ -1,6 +1,6 @@
 -- The chain is gone along up to a symbol index, and its end is what is told from there on.
 use Rattle.std.proofs.Common.{◌≡◌, ◌+◌, ◌-◌, ◌*◌, ◌≤◌, None}
-use Rattle.elf_headers.specs.Ledger.{CallDid}
+use Rattle.elf_table.specs.Ledger.{CallDid}
 use Rattle.elf_hash.specs.Counts.{IsGnu}
 use Rattle.elf_hash.specs.Extents.{last_in}
 use Rattle.elf_model.specs.Chains.{HashTable as Place}

@@ -3,9 +3,9 @@ use Rattle.std.proofs.Common.{ℕ, ◌/◌, length, sym, ap, ◌∙◌, arith}
 use Rattle.std.proofs.lemmas.Result.{err_from_is_err_and}
 use Rattle.elf_model.specs.Checks.{first_refusal, load_checks}
 use Rattle.elf_hash.specs.Lookups.{after_headers_bytes}
-use Rattle.elf_headers.proofs.LoadLaws.{header_most, load_most, load_slots}
+use Rattle.elf_table.proofs.LoadLaws.{header_most, load_most, load_slots}
 use Rattle.elf_hash.proofs.FindLaws.{Passed, cost_after, find_least, finds_header, finds_load, load_within, looked_passed}
-use Rattle.elf_headers.proofs.LedgerLaws.{CallReads-then, CallDid-as, CallDid-of, CallDid-sized, CallDid-then}
+use Rattle.elf_table.proofs.LedgerLaws.{CallReads-then, CallDid-as, CallDid-of, CallDid-sized, CallDid-then}
 use Rattle.elf_hash.proofs.find_symbol.find.Goals as goal
 
 pub returns-in_err-header-clause-did : goal.returns-in_err-header-clause-did

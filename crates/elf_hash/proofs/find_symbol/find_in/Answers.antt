@@ -4,9 +4,9 @@ use Rattle.std.proofs.lemmas.Result.{err_from_is_err_and}
 use Rattle.elf_model.specs.Find.{first_hash}
 use Rattle.elf_hash.specs.Lookups.{looked_after, step_bytes}
 use Rattle.elf_hash.specs.declared.place.HashTableLocation.{HashTableLocation}
-use Rattle.elf_headers.proofs.Absent.{none-of}
+use Rattle.elf_table.proofs.Absent.{none-of}
 use Rattle.elf_hash.proofs.FindLaws.{finds_checks, finds_counts, looked_there, place_is_of}
-use Rattle.elf_headers.proofs.LedgerLaws.{CallReads-then, CallDid-as, CallDid-none, CallDid-stop, CallDid-then}
+use Rattle.elf_table.proofs.LedgerLaws.{CallReads-then, CallDid-as, CallDid-none, CallDid-stop, CallDid-then}
 use Rattle.elf_hash.proofs.find_symbol.find_in.Goals as goal
 
 pub returns-in_default-clause-did : goal.returns-in_default-clause-did

@@ -1,7 +1,7 @@
 -- The walk for a symbol that has the name is the lookup of the name.
 use Rattle.std.proofs.Common.{length, arith}
 use Rattle.std.proofs.lemmas.Result.{err_from_is_err_and}
-use Rattle.elf_headers.proofs.LedgerLaws.{CallDid-as}
+use Rattle.elf_table.proofs.LedgerLaws.{CallDid-as}
 use Rattle.elf_hash.proofs.LookupLaws.{looks_answered, looks_failed, named, steps_ask}
 use Rattle.elf_hash.proofs.find_symbol.look_up.Goals as goal
 

@@ -2,7 +2,7 @@
 use Rattle.std.proofs.Common.{ℕ, ◌+◌, ◌/◌, false, sym, ap, ◌∙◌, arith}
 use Rattle.std.proofs.lemmas.Result.{err_from_is_err_and}
 use Rattle.elf_model.specs.Bytes.{field}
-use Rattle.elf_headers.proofs.LedgerLaws.{CallDid-as, CallDid-none, CallDid-stop, CallDid-then}
+use Rattle.elf_table.proofs.LedgerLaws.{CallDid-as, CallDid-none, CallDid-stop, CallDid-then}
 use Rattle.elf_hash.proofs.GnuSteps.{There, along_next, along_start, bucket_is, chain_is, bytes_next, chained_is, meets_found, meets_last, meets_not_there, meets_unread, meets_untried_here, one_most, room_for, spent_most}
 use Rattle.elf_hash.proofs.WalkLaws.{bytes_most, walks}
 use Rattle.elf_hash.proofs.gnu_walk.along_chain.Goals as goal

@@ -1,6 +1,6 @@
 -- Nothing is tried where the table tells that there is nothing, and else the chain is gone along.
 use Rattle.std.proofs.Common.{◌/◌, None, arith}
-use Rattle.elf_headers.proofs.LedgerLaws.{CallDid-as}
+use Rattle.elf_table.proofs.LedgerLaws.{CallDid-as}
 use Rattle.elf_hash.proofs.GnuSteps.{passed_over}
 use Rattle.elf_hash.proofs.WalkLaws.{bytes_most, meets_answer, walks}
 use Rattle.elf_hash.proofs.gnu_walk.gnu_walk.Goals as goal

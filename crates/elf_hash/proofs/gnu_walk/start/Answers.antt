@@ -1,7 +1,7 @@
 -- The filter's word and the bucket's are the file's.
 use Rattle.std.proofs.Common.{sym, ap, ◌∙◌, arith, ℕ}
 use Rattle.elf_model.specs.Bytes.{field}
-use Rattle.elf_headers.proofs.LedgerLaws.{CallDid-as, CallDid-then}
+use Rattle.elf_table.proofs.LedgerLaws.{CallDid-as, CallDid-then}
 use Rattle.elf_hash.proofs.GnuSteps.{bucket_is, filter_is, told_empty, reported_none, told_start}
 use Rattle.elf_hash.proofs.gnu_walk.start.Goals as goal
 

@@ -1,7 +1,7 @@
 -- The walk stands at the word of so many steps, and what it meets there is what the definition's walk gives.
 use Rattle.std.proofs.Common.{◌+◌, ◌<◌, sym, ◌∙◌, arith}
 use Rattle.std.proofs.lemmas.Result.{err_from_is_err_and}
-use Rattle.elf_headers.proofs.LedgerLaws.{CallDid-as, CallDid-stop, CallDid-then}
+use Rattle.elf_table.proofs.LedgerLaws.{CallDid-as, CallDid-stop, CallDid-then}
 use Rattle.elf_hash.proofs.SysvSteps.{along_next, along_start, bucket_is, chain_is, comes, meets_absent, meets_cycle, meets_found, meets_no_index, meets_unread, meets_untried_here}
 use Rattle.elf_hash.proofs.WalkLaws.{bytes_most, bytes_step, walks}
 use Rattle.elf_hash.proofs.sysv_walk.sysv_walk.Goals as goal

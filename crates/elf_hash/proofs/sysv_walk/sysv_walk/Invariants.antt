@@ -2,7 +2,7 @@
 use Rattle.std.proofs.Common.{ℕ, ◌-◌, ◌≤◌, Bool, Result, None}
 use Rattle.elf_model.specs.Chains.{HashTable as Place}
 use Rattle.elf_model.specs.declared.causes.Refusal.{Refusal}
-use Rattle.elf_headers.specs.Ledger.{CallDid}
+use Rattle.elf_table.specs.Ledger.{CallDid}
 use Rattle.elf_hash.specs.Counts.{IsSysv}
 use Rattle.elf_hash.specs.Walks.{walk_bytes}
 use Rattle.elf_hash.proofs.SysvSteps.{Along}

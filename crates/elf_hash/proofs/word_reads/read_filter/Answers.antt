@@ -1,5 +1,5 @@
 -- The eight bytes are the field of the file.
-use Rattle.elf_headers.proofs.LedgerLaws.{CallDid-of}
+use Rattle.elf_table.proofs.LedgerLaws.{CallDid-of}
 use Rattle.elf_hash.proofs.WalkLaws.{filter_read}
 use Rattle.elf_hash.proofs.word_reads.read_filter.Goals as goal
 

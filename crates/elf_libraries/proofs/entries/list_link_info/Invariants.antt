@@ -3,7 +3,7 @@ use Rattle.std.proofs.Common.{◌≡◌, ◌+◌, ◌*◌, ◌≤◌, ℕ, List,
 use Rattle.elf_model.specs.Dynamic.{dynamic_count}
 use Rattle.elf_model.specs.Links.{linked_from, no_link_info}
 use Rattle.elf_source.specs.Source.{ReadsUpTo}
-use Rattle.elf_headers.specs.Load.{HoldsProgramHeaders}
+use Rattle.elf_table.specs.Load.{HoldsProgramHeaders}
 use Rattle.elf_note.specs.DynCursors.{entries_left}
 use Rattle.elf_table.specs.Cursors.{HoldsRows, next_row, unread_bytes}
 use Rattle.elf_table.specs.Tables.{size_of}

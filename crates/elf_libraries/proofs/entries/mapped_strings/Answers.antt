@@ -1,5 +1,5 @@
 -- The address and the size, and the segment that loads the strings.
-use Rattle.elf_headers.proofs.Absent.{none-of}
+use Rattle.elf_table.proofs.Absent.{none-of}
 use Rattle.elf_libraries.proofs.LinkLaws.{strings_found, strings_nowhere, strings_unsized}
 use Rattle.elf_libraries.proofs.entries.mapped_strings.Goals as goal
 

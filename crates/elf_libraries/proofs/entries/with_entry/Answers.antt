@@ -1,7 +1,7 @@
 -- An entry without a text, one whose strings or text are refused, one whose text is kept, and one that is a need too.
 use Rattle.std.proofs.Common.{sym, ◌∙◌, arith, ap}
 use Rattle.std.proofs.lemmas.Result.{err_from_is_err_and}
-use Rattle.elf_headers.proofs.LedgerLaws.{CallDid-as, CallDid-none, CallDid-stop}
+use Rattle.elf_table.proofs.LedgerLaws.{CallDid-as, CallDid-none, CallDid-stop}
 use Rattle.elf_model.specs.Links.{is_link}
 use Rattle.elf_libraries.proofs.LinkLaws.{isnt_tag, names_stop, need_told, text_stops, text_told, with_other}
 use Rattle.elf_libraries.proofs.entries.with_entry.Goals as goal

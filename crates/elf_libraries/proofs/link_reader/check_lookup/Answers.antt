@@ -1,6 +1,6 @@
 -- What a lookup is made in, if there is a hash table.
 use Rattle.std.proofs.Common.{arith}
-use Rattle.elf_headers.proofs.LedgerLaws.{CallDid-as}
+use Rattle.elf_table.proofs.LedgerLaws.{CallDid-as}
 use Rattle.elf_libraries.proofs.ReadingLaws.{lookup_passes, passed_did, passed_tells}
 use Rattle.elf_libraries.proofs.link_reader.check_lookup.Goals as goal
 

@@ -1,7 +1,7 @@
 -- What a lookup is made in, then the entries.
 use Rattle.std.proofs.Common.{ℕ, ◌/◌, ap, arith}
 use Rattle.std.proofs.lemmas.Result.{err_from_is_err_and}
-use Rattle.elf_headers.proofs.LedgerLaws.{CallDid-as, CallDid-then}
+use Rattle.elf_table.proofs.LedgerLaws.{CallDid-as, CallDid-then}
 use Rattle.elf_libraries.proofs.ReadingLaws.{links_as, loaded_is, lookup_stops}
 use Rattle.elf_libraries.proofs.link_reader.link_info_by_segments.Goals as goal
 

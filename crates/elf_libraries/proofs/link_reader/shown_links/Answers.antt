@@ -1,7 +1,7 @@
 -- The load, and what stands behind.
 use Rattle.std.proofs.Common.{ℕ, ◌/◌, ap, arith}
 use Rattle.std.proofs.lemmas.Result.{err_from_is_err_and}
-use Rattle.elf_headers.proofs.LedgerLaws.{CallDid-as, CallDid-then}
+use Rattle.elf_table.proofs.LedgerLaws.{CallDid-as, CallDid-then}
 use Rattle.elf_libraries.proofs.ReadingLaws.{ceiling_is, links_as, load_stops, shown_is}
 use Rattle.elf_libraries.proofs.link_reader.shown_links.Goals as goal
 

@@ -11,7 +11,7 @@ use Rattle.elf_listing.proofs.RowLaws.{WroteUntilStop-first, WroteSome-as}
 use Rattle.elf_listing.proofs.SectionCosts.{slots_below, cost_is}
 use Rattle.elf_listing.proofs.ShowLaws.{WroteSome-then, WroteUntilStop-more, ListingCosts-then, ListingCosts-fault, ListingCosts-out}
 use Rattle.elf_source.proofs.GrowthLaws.{grows_not, grows_then}
-use Rattle.elf_headers.proofs.LoadLaws.{header_most}
+use Rattle.elf_table.proofs.LoadLaws.{header_most}
 use Rattle.elf_listing.proofs.show_file.list.Goals as goal
 
 -- what is answered is no fault

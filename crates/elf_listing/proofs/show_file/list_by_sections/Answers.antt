@@ -13,7 +13,7 @@ use Rattle.elf_listing.proofs.RowLaws.{WroteUntilStop-first, WroteSome-as}
 use Rattle.elf_listing.proofs.SectionCosts.{load_below, load_pays, load_within, loaded_within, loaded_below, rest_pays, view_pays, view_within, view_below, few_headers, viewed_all}
 use Rattle.elf_listing.proofs.ShowLaws.{Whole-none, ListingCosts-then, ListingCosts-fault, ListingCosts-later}
 use Rattle.elf_source.proofs.GrowthLaws.{grows_not}
-use Rattle.elf_headers.proofs.LoadLaws.{load_most}
+use Rattle.elf_table.proofs.LoadLaws.{load_most}
 use Rattle.elf_listing.proofs.show_file.list_by_sections.Goals as goal
 
 pub returns-then-not-intersects-clause-text : goal.returns-then-not-intersects-clause-text

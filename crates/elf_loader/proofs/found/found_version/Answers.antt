@@ -1,9 +1,9 @@
 -- The wanted name, no name, or the name of its number.
 use Rattle.std.proofs.Common.{◌≡◌, ◌+◌, ◌*◌, None, Some, refl, ap, sym, ◌∙◌, arith, option_map}
 use Rattle.std.proofs.lemmas.Result.{err_from_is_err_and}
-use Rattle.elf_headers.proofs.LedgerLaws.{CallReads-none, CallDid-as, CallDid-none}
+use Rattle.elf_table.proofs.LedgerLaws.{CallReads-none, CallDid-as, CallDid-none}
 use Rattle.elf_model.specs.Loader.{asked_name}
-use Rattle.elf_headers.proofs.Absent.{none-of}
+use Rattle.elf_table.proofs.Absent.{none-of}
 use Rattle.elf_options.specs.Wants.{asked_of}
 use Rattle.elf_loader.specs.Tables.{max_versions_of}
 use Rattle.elf_loader.specs.Telling.{telling_bytes, parsed_member_bytes}

@@ -1,8 +1,8 @@
 -- No versions, or the symbol's.
 use Rattle.std.proofs.Common.{arith}
 use Rattle.std.proofs.lemmas.Result.{err_from_is_err_and}
-use Rattle.elf_headers.proofs.LedgerLaws.{CallDid-as, CallDid-none}
-use Rattle.elf_headers.proofs.Absent.{none-of}
+use Rattle.elf_table.proofs.LedgerLaws.{CallDid-as, CallDid-none}
+use Rattle.elf_table.proofs.Absent.{none-of}
 use Rattle.elf_options.specs.Wants.{asked_of}
 use Rattle.elf_loader.proofs.FoundLaws.{finds-failed, finds-none, finds-some}
 use Rattle.elf_loader.proofs.found.version_of.Goals as goal

@@ -1,7 +1,7 @@
 -- The definitions, and then the needs.
 use Rattle.std.proofs.Common.{◌+◌, [], length, ap, arith}
 use Rattle.std.proofs.lemmas.Result.{err_from_is_err_and}
-use Rattle.elf_headers.proofs.LedgerLaws.{CallDid-as, CallDid-then}
+use Rattle.elf_table.proofs.LedgerLaws.{CallDid-as, CallDid-then}
 use Rattle.elf_model.specs.Loader.{compared_with, readings}
 use Rattle.elf_model.specs.Names.{pad64}
 use Rattle.elf_lookup_tables.specs.Symbols.{table_if_any}

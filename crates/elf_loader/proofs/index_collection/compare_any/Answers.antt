@@ -1,6 +1,6 @@
 -- No table, or one.
 use Rattle.std.proofs.Common.{◌+◌, length, arith}
-use Rattle.elf_headers.proofs.LedgerLaws.{CallReads-none, CallDid-as, CallDid-none}
+use Rattle.elf_table.proofs.LedgerLaws.{CallReads-none, CallDid-as, CallDid-none}
 use Rattle.elf_model.specs.Names.{pad64}
 use Rattle.elf_loader.proofs.TablesLaws.{compared-no-table, compared-one-table}
 use Rattle.elf_loader.proofs.index_collection.compare_any.Goals as goal

@@ -1,9 +1,9 @@
 -- No symbol, or the symbol with its version.
 use Rattle.std.proofs.Common.{sym, ap, arith}
 use Rattle.std.proofs.lemmas.Result.{err_from_is_err_and}
-use Rattle.elf_headers.proofs.LedgerLaws.{CallDid-as, CallDid-none}
+use Rattle.elf_table.proofs.LedgerLaws.{CallDid-as, CallDid-none}
 use Rattle.elf_model.specs.Chains.{ChainResult as NoteScan}
-use Rattle.elf_headers.proofs.Absent.{none-of}
+use Rattle.elf_table.proofs.Absent.{none-of}
 use Rattle.elf_loader.proofs.LookLaws.{looks_absent, looks_found, looks_untold}
 use Rattle.elf_options.specs.Wants.{query_of}
 use Rattle.elf_loader.proofs.loader_lookup.answer_of.Goals as goal

@@ -1,7 +1,7 @@
 -- The counts of the table, and the lookup in it.
 use Rattle.std.proofs.Common.{ℕ, ap, arith}
 use Rattle.std.proofs.lemmas.Result.{err_from_is_err_and}
-use Rattle.elf_headers.proofs.LedgerLaws.{CallDid-as, CallDid-then}
+use Rattle.elf_table.proofs.LedgerLaws.{CallDid-as, CallDid-then}
 use Rattle.elf_loader.specs.Lookups.{lookup_bytes}
 use Rattle.elf_loader.proofs.LookLaws.{counts_few, looks_counted, looks_uncounted, place_in}
 use Rattle.elf_options.specs.Wants.{query_of}

@@ -1,7 +1,7 @@
 -- What the lookup is made in, and the lookup there.
 use Rattle.std.proofs.Common.{ℕ, ap, arith}
 use Rattle.std.proofs.lemmas.Result.{err_from_is_err_and}
-use Rattle.elf_headers.proofs.LedgerLaws.{CallDid-as, CallDid-then}
+use Rattle.elf_table.proofs.LedgerLaws.{CallDid-as, CallDid-then}
 use Rattle.elf_loader.specs.Lookups.{lookup_bytes}
 use Rattle.elf_loader.proofs.LookLaws.{looks_scoped, looks_unscoped}
 use Rattle.elf_loader.proofs.ReadLaws.{ceiling_is}

@@ -1,7 +1,7 @@
 -- A record that names a version is compared by its name.
 use Rattle.std.proofs.Common.{ap, sym, Ok, ◌∙◌, arith}
 use Rattle.std.proofs.lemmas.Result.{err_from_is_err_and}
-use Rattle.elf_headers.proofs.LedgerLaws.{CallDid-as, CallDid-none, CallDid-of}
+use Rattle.elf_table.proofs.LedgerLaws.{CallDid-as, CallDid-none, CallDid-of}
 use Rattle.elf_table.specs.Tables.{strings_in}
 use Rattle.elf_loader.proofs.CompareLaws.{one-fault, one-none, one-other, one-wanted}
 use Rattle.elf_loader.proofs.name_comparison.compare_record.Goals as goal

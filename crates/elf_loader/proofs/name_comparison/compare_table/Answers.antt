@@ -1,8 +1,8 @@
 -- Each record that is given is compared, until none is left.
 use Rattle.std.proofs.Common.{◌≡◌, ◌+◌, ◌-◌, ◌*◌, length, arith}
 use Rattle.std.proofs.lemmas.Result.{err_from_is_err_and}
-use Rattle.elf_headers.proofs.Absent.{none-of}
-use Rattle.elf_headers.proofs.LedgerLaws.{CallDid-as, CallDid-none, CallDid-then}
+use Rattle.elf_table.proofs.Absent.{none-of}
+use Rattle.elf_table.proofs.LedgerLaws.{CallDid-as, CallDid-none, CallDid-then}
 use Rattle.elf_model.specs.Loader.{compared_with}
 use Rattle.elf_model.specs.Names.{pad64}
 use Rattle.elf_table.specs.Tables.{strings_in}

@@ -1,9 +1,9 @@
 -- The word is read, where there is one.
 use Rattle.std.proofs.Common.{ap, sym, Ok, ◌∙◌, arith}
-use Rattle.elf_headers.proofs.LedgerLaws.{CallDid-as, CallDid-none, CallDid-stop}
-use Rattle.elf_headers.specs.declared.fault.Fault.TheVariants.{Refused}
+use Rattle.elf_table.proofs.LedgerLaws.{CallDid-as, CallDid-none, CallDid-stop}
+use Rattle.elf_table.specs.declared.fault.Fault.TheVariants.{Refused}
 use Rattle.elf_model.specs.declared.causes.Cause.TheVariants.{VersionCut}
-use Rattle.elf_headers.proofs.Absent.{none-of}
+use Rattle.elf_table.proofs.Absent.{none-of}
 use Rattle.elf_loader.specs.NumberSets.{has_number}
 use Rattle.elf_options.specs.Wants.{asked_of}
 use Rattle.elf_loader.proofs.AnswerLaws.{fits-cut, fits-none, fits-word}

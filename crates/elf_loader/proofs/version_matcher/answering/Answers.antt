@@ -1,7 +1,7 @@
 -- The symbol, its name and the word of its version are read, as far as they decide.
 use Rattle.std.proofs.Common.{Ok, ap, sym, ◌∙◌, arith}
 use Rattle.std.proofs.lemmas.Result.{err_from_is_err_and}
-use Rattle.elf_headers.proofs.LedgerLaws.{CallDid-as, CallDid-of, CallDid-then}
+use Rattle.elf_table.proofs.LedgerLaws.{CallDid-as, CallDid-of, CallDid-then}
 use Rattle.elf_loader.specs.NumberSets.{has_number}
 use Rattle.elf_options.specs.Wants.{query_of}
 use Rattle.elf_loader.proofs.AnswerLaws.{fault-answers, fault-tells, offered-answers, other-answers, symbol-is, unoffered-answers}

@@ -1,6 +1,6 @@
 -- No table, or one.
 use Rattle.std.proofs.Common.{List, None, Ok, arith}
-use Rattle.elf_headers.proofs.LedgerLaws.{CallReads-none, CallDid-as, CallDid-none}
+use Rattle.elf_table.proofs.LedgerLaws.{CallReads-none, CallDid-as, CallDid-none}
 use Rattle.elf_model.specs.Loader.{VersionRecordRead, naming_of}
 use Rattle.elf_loader.specs.Naming.{NamesBefore, NamesFile}
 use Rattle.elf_loader.proofs.NamingLaws.{file-none, names-none}

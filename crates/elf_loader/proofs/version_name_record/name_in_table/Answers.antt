@@ -1,8 +1,8 @@
 -- Each record that is given is looked at, until one has the number or none is left.
 use Rattle.std.proofs.Common.{◌≡◌, ◌-◌, sym, ◌∙◌, arith}
 use Rattle.std.proofs.lemmas.Result.{err_from_is_err_and}
-use Rattle.elf_headers.proofs.Absent.{none-of}
-use Rattle.elf_headers.proofs.LedgerLaws.{CallDid-as, CallDid-none, CallDid-then}
+use Rattle.elf_table.proofs.Absent.{none-of}
+use Rattle.elf_table.proofs.LedgerLaws.{CallDid-as, CallDid-none, CallDid-then}
 use Rattle.elf_model.specs.BoundSymbols.{file_or}
 use Rattle.elf_model.specs.Loader.{naming_of}
 use Rattle.elf_table.specs.Tables.{strings_in}

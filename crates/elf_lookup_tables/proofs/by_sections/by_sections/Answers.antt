@@ -2,7 +2,7 @@
 use Rattle.std.proofs.Common.{ap, ◌∙◌}
 use Rattle.std.specs.Prelude.{option_map}
 use Rattle.elf_lookup_tables.specs.HashSections.{found_at}
-use Rattle.elf_headers.proofs.Absent.{none-of}
+use Rattle.elf_table.proofs.Absent.{none-of}
 use Rattle.elf_lookup_tables.proofs.SectionLaws.{sections_find, sections_none}
 use Rattle.elf_lookup_tables.proofs.SettleLaws.{refuses}
 use Rattle.elf_lookup_tables.proofs.by_sections.by_sections.Goals as goal

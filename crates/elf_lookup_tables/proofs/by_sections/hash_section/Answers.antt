@@ -1,6 +1,6 @@
 -- The first section of the GNU system's type, else the first of the gABI's.
 use Rattle.std.proofs.Common.{sym, ◌∙◌}
-use Rattle.elf_headers.proofs.Absent.{none-of}
+use Rattle.elf_table.proofs.Absent.{none-of}
 use Rattle.elf_lookup_tables.proofs.SectionLaws.{gnu_first, none_first, sysv_first}
 use Rattle.elf_lookup_tables.proofs.by_sections.hash_section.Goals as goal
 

@@ -1,7 +1,7 @@
 -- The entry of the hash table decides.
 use Rattle.elf_hash.specs.HashStyles.{hash_style_of}
 use Rattle.elf_lookup_tables.proofs.LookupTableLaws.{entries_find, entries_none}
-use Rattle.elf_headers.proofs.Absent.{none-of}
+use Rattle.elf_table.proofs.Absent.{none-of}
 use Rattle.elf_model.specs.Records.{segment_at}
 use Rattle.elf_lookup_tables.proofs.SettleLaws.{refuses}
 use Rattle.elf_lookup_tables.proofs.by_segments.by_entries.Goals as goal

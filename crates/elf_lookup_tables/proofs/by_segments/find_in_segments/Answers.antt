@@ -1,7 +1,7 @@
 -- No LOAD segment lies over another, and then what the entries tell.
 use Rattle.std.proofs.Common.{arith}
 use Rattle.std.proofs.lemmas.Result.{err_from_is_err_and}
-use Rattle.elf_headers.proofs.LedgerLaws.{CallDid-as, CallDid-none, CallDid-stop}
+use Rattle.elf_table.proofs.LedgerLaws.{CallDid-as, CallDid-none, CallDid-stop}
 use Rattle.elf_lookup_tables.proofs.FoundLaws.{apart_finds, overlap_refused}
 use Rattle.elf_lookup_tables.proofs.by_segments.find_in_segments.Goals as goal
 

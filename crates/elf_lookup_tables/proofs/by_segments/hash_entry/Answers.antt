@@ -1,5 +1,5 @@
 -- The entry of the GNU system's table, else that of the gABI's.
-use Rattle.elf_headers.proofs.Absent.{none-of}
+use Rattle.elf_table.proofs.Absent.{none-of}
 use Rattle.elf_lookup_tables.proofs.SegmentLaws.{tells_gnu, tells_none, tells_sysv}
 use Rattle.elf_lookup_tables.proofs.by_segments.hash_entry.Goals as goal
 

@@ -1,7 +1,7 @@
 -- An entry more is taken in, and no other behind the last.
 use Rattle.std.proofs.Common.{◌≡◌, ℕ, List, Some, ap, ◌∙◌, arith, rules}
 use Rattle.elf_record.specs.Dyn.{IsDyn}
-use Rattle.elf_headers.proofs.LedgerLaws.{CallDid-of}
+use Rattle.elf_table.proofs.LedgerLaws.{CallDid-of}
 use Rattle.elf_table.specs.Cursors.{next_row, row_at}
 use Rattle.elf_table.specs.Tables.{Rows}
 use Rattle.elf_note.proofs.EntriesLeft.{given, ended}

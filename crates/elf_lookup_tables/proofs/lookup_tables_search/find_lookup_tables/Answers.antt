@@ -4,8 +4,8 @@ use Rattle.std.proofs.lemmas.Result.{err_from_is_err_and}
 use Rattle.elf_model.specs.Checks.{first_refusal, early_checks, load_checks, section_name_checks}
 use Rattle.elf_model.proofs.CheckSteps.{passes_front}
 use Rattle.elf_lookup_tables.specs.Finding.{segments_bytes}
-use Rattle.elf_headers.proofs.LoadLaws.{header_most, load_most, load_slots}
-use Rattle.elf_headers.proofs.LedgerLaws.{CallReads-then, CallDid-as, CallDid-of, CallDid-sized, CallDid-then}
+use Rattle.elf_table.proofs.LoadLaws.{header_most, load_most, load_slots}
+use Rattle.elf_table.proofs.LedgerLaws.{CallReads-then, CallDid-as, CallDid-of, CallDid-sized, CallDid-then}
 use Rattle.elf_lookup_tables.proofs.LoadedLaws.{all_within, cost_loaded, load_within, scope_least, tells_header, tells_load, tells_loaded}
 use Rattle.elf_lookup_tables.proofs.lookup_tables_search.find_lookup_tables.Goals as goal
 

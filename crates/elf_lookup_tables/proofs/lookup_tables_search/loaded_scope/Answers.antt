@@ -2,7 +2,7 @@
 use Rattle.std.proofs.Common.{ap, sym, ◌∙◌, arith}
 use Rattle.std.proofs.lemmas.Result.{err_from_is_err_and}
 use Rattle.elf_record.specs.declared.ehdr.Ehdr.{Ehdr}
-use Rattle.elf_headers.proofs.LedgerLaws.{CallReads-then, CallDid-as, CallDid-none, CallDid-of, CallDid-then}
+use Rattle.elf_table.proofs.LedgerLaws.{CallReads-then, CallDid-as, CallDid-none, CallDid-of, CallDid-then}
 use Rattle.elf_lookup_tables.proofs.FoundLaws.{did_check}
 use Rattle.elf_lookup_tables.proofs.LoadedLaws.{loaded_sections, loaded_segments, read_tells, segments_bytes_is, segments_cost}
 use Rattle.elf_lookup_tables.proofs.lookup_tables_search.loaded_scope.Goals as goal

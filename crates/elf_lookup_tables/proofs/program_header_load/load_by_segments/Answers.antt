@@ -2,8 +2,8 @@
 use Rattle.std.proofs.Common.{ap, ◌∙◌, arith}
 use Rattle.std.proofs.lemmas.Result.{err_from_is_err_and}
 use Rattle.elf_record.specs.declared.ehdr.Ehdr.{Ehdr}
-use Rattle.elf_headers.proofs.LoadLaws.{header_most}
-use Rattle.elf_headers.proofs.LedgerLaws.{CallDid-as, CallDid-of, CallDid-stop, CallDid-then}
+use Rattle.elf_table.proofs.LoadLaws.{header_most}
+use Rattle.elf_table.proofs.LedgerLaws.{CallDid-as, CallDid-of, CallDid-stop, CallDid-then}
 use Rattle.elf_lookup_tables.proofs.LoadingLaws.{all_pass, cost_passed, header_stops, load_none, load_stops, read_stops}
 use Rattle.elf_lookup_tables.proofs.program_header_load.load_by_segments.Goals as goal
 

@@ -1,7 +1,7 @@
 -- The records are those of the first section of the type.
 use Rattle.std.proofs.Common.{rules, sym, ◌∙◌}
 use Rattle.std.proofs.lemmas.Result.{err_from_is_err_and}
-use Rattle.elf_headers.proofs.Absent.{none-of}
+use Rattle.elf_table.proofs.Absent.{none-of}
 use Rattle.elf_lookup_tables.proofs.VersionLaws.{first_are, first_none, first_refused}
 use Rattle.elf_lookup_tables.proofs.SettleLaws.{finds, refuses}
 use Rattle.elf_lookup_tables.proofs.section_versions.first_records.Goals as goal

@@ -1,7 +1,7 @@
 -- The words, then the definitions, then the needs.
 use Rattle.std.proofs.Common.{rules, refl}
 use Rattle.std.proofs.lemmas.Result.{err_from_is_err_and}
-use Rattle.elf_headers.proofs.Absent.{none-of}
+use Rattle.elf_table.proofs.Absent.{none-of}
 use Rattle.elf_lookup_tables.proofs.VersionLaws.{definitions_refuse, needs_refuse, no_versions, versions_are, words_refuse}
 use Rattle.elf_lookup_tables.proofs.SettleLaws.{finds, refuses}
 use Rattle.elf_lookup_tables.proofs.section_versions.section_versions.Goals as goal

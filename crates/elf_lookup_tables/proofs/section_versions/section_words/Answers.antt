@@ -2,7 +2,7 @@
 use Rattle.std.proofs.Common.{rules, sym, refl, ◌∙◌}
 use Rattle.std.proofs.lemmas.Result.{err_from_is_err_and}
 use Rattle.elf_table.proofs.HashSectionLaws.{place_is}
-use Rattle.elf_headers.proofs.Absent.{none-of}
+use Rattle.elf_table.proofs.Absent.{none-of}
 use Rattle.elf_lookup_tables.proofs.VersionLaws.{words_are, words_none, words_refused}
 use Rattle.elf_lookup_tables.proofs.SettleLaws.{finds, refuses}
 use Rattle.elf_lookup_tables.proofs.section_versions.section_words.Goals as goal

@@ -3,7 +3,7 @@ use Rattle.std.proofs.Common.{rules, ap, refl}
 use Rattle.std.proofs.lemmas.Result.{err_from_is_err_and}
 use Rattle.elf_table.specs.Tables.{Rows}
 use Rattle.elf_lookup_tables.proofs.LookupTableLaws.{names_told, strings_refuse, symbols_missing, symbols_refuse, symbols_settle, versions_refuse}
-use Rattle.elf_headers.proofs.Absent.{none-of}
+use Rattle.elf_table.proofs.Absent.{none-of}
 use Rattle.elf_lookup_tables.proofs.SettleLaws.{finds, refuses}
 use Rattle.elf_lookup_tables.proofs.segment_symbols.segment_symbols.Goals as goal
 

@@ -3,7 +3,7 @@ use Rattle.std.proofs.Common.{rules, ap, refl}
 use Rattle.std.proofs.lemmas.Result.{err_from_is_err_and}
 use Rattle.elf_model.specs.Numbers.{DT_VERDEF, DT_VERNEED}
 use Rattle.elf_table.specs.Tables.{Rows}
-use Rattle.elf_headers.proofs.Absent.{none-of}
+use Rattle.elf_table.proofs.Absent.{none-of}
 use Rattle.elf_lookup_tables.proofs.SegmentLaws.{definition_row_refused, need_row_refused, rows_none, rows_versions, words_row_refused}
 use Rattle.elf_lookup_tables.proofs.SettleLaws.{finds, refuses}
 use Rattle.elf_lookup_tables.proofs.segment_symbols.segment_versions.Goals as goal

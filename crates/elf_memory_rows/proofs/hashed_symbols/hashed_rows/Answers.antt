@@ -2,7 +2,7 @@
 use Rattle.std.proofs.Common.{refl, ap, arith}
 use Rattle.std.proofs.lemmas.Result.{err_from_is_err_and}
 use Rattle.elf_hash.specs.declared.place.HashTableLocation.{HashTableLocation}
-use Rattle.elf_headers.proofs.LedgerLaws.{CallReads-more, CallDid-as, CallDid-then}
+use Rattle.elf_table.proofs.LedgerLaws.{CallReads-more, CallDid-as, CallDid-then}
 use Rattle.elf_memory_rows.proofs.HashedLaws.{places_hashed, costs_counts, costs_words, counted, few_counts, place_of, rows_within, uncounted, unread, unscoped}
 use Rattle.elf_memory_rows.specs.Hashed.{hashed_cost}
 use Rattle.elf_memory_rows.specs.declared.rows.RowPosition.{RowPosition}

@@ -3,7 +3,7 @@ use Rattle.std.proofs.Common.{rules, ◌≡◌, ◌-◌, Some, None, Ok, Err, op
 use Rattle.elf_model.specs.Versions.{visited_from, next_position, with_visited}
 use Rattle.elf_model.proofs.VersionSteps.{met-ended}
 use Rattle.elf_source.specs.Source.{SourceState}
-use Rattle.elf_headers.specs.declared.fault.Fault.TheVariants.{Refused}
+use Rattle.elf_table.specs.declared.fault.Fault.TheVariants.{Refused}
 use Rattle.elf_table.specs.Tables.{Rows}
 use Rattle.elf_versions.specs.Reading.{BufferedTable, IsCursorOf, record_position_of, versions_left}
 use Rattle.elf_memory_rows.specs.VersionRecords.{bytes_within, records_left, standing_in}

@@ -1,7 +1,7 @@
 -- One object more, whose lines are all written, or not; and no object is left.
 use Rattle.std.proofs.Common.{◌<◌, ◌+◌, [], drop, get_or, length, refl, sym, ◌∙◌, arith}
 use Rattle.std.proofs.lemmas.Result.{err_from_is_err_and}
-use Rattle.elf_headers.proofs.Absent.{none-of}
+use Rattle.elf_table.proofs.Absent.{none-of}
 use Rattle.elf_model.specs.BoundSymbols.{bound_items, object_items, objects_items}
 use Rattle.elf_needs.specs.Bound.{IsLimited, bound_among}
 use Rattle.elf_needs.proofs.AskLaws.{are_kept, as_many, asks_none, asks_then, limited_from}

@@ -1,6 +1,6 @@
 -- The object of a name is found or not, and looked in.
 use Rattle.std.proofs.Common.{◌<◌, [], length, get_or, Ok, sym, ap, ◌∙◌, arith}
-use Rattle.elf_headers.proofs.Absent.{none-of}
+use Rattle.elf_table.proofs.Absent.{none-of}
 use Rattle.elf_model.specs.LoaderScope.{lookup_tables_of}
 use Rattle.elf_needs.specs.Bound.{bound_among}
 use Rattle.elf_needs.proofs.AskLaws.{as_many, asks_one, file_here, limited_of, spends_same}

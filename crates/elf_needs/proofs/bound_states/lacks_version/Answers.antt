@@ -1,7 +1,7 @@
 -- The needed file's name is read, and its object looked in.
 use Rattle.std.proofs.Common.{[], get_or, ap, ◌∙◌, arith}
 use Rattle.std.proofs.lemmas.Result.{err_from_is_err_and}
-use Rattle.elf_headers.proofs.Absent.{none-of}
+use Rattle.elf_table.proofs.Absent.{none-of}
 use Rattle.elf_model.specs.LoaderScope.{lookup_tables_of}
 use Rattle.elf_needs.specs.Bound.{bound_among}
 use Rattle.elf_needs.proofs.AskLaws.{are_kept, asks_one, asks_then, file_here, spends_same}

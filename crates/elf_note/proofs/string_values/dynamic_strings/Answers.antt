@@ -2,7 +2,7 @@ use Rattle.std.proofs.Common.{◌≡◌, List, ℕ, Some, Option, ap, sym, ◌�
 use Rattle.elf_model.specs.Dynamic.{dynamic_value}
 use Rattle.elf_model.specs.Numbers.{DT_STRSZ, DT_STRTAB}
 use Rattle.elf_record.specs.Dyn.{IsDyn}
-use Rattle.elf_headers.proofs.LedgerLaws.{CallDid-of}
+use Rattle.elf_table.proofs.LedgerLaws.{CallDid-of}
 use Rattle.elf_table.specs.Cursors.{next_row}
 use Rattle.elf_note.specs.DynCursors.{entries_left, first_value}
 use Rattle.elf_note.proofs.EntriesLeft.{given, ended, value-step, value-end}

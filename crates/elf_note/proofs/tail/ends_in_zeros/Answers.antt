@@ -1,5 +1,5 @@
 use Rattle.std.proofs.lemmas.Result.{err_from_is_err_and}
-use Rattle.elf_headers.proofs.FaultLaws.{of-read}
+use Rattle.elf_table.proofs.FaultLaws.{of-read}
 use Rattle.elf_table.proofs.ThroughLaws.{through_err, through_ok, through_skip}
 use Rattle.elf_note.proofs.tail.ends_in_zeros.Goals as goal
 

@@ -1,6 +1,6 @@
 -- The bytes are taken where the window holds them.
 use Rattle.std.proofs.lemmas.Result.{err_from_is_err_and}
-use Rattle.elf_headers.proofs.FaultLaws.{of-read}
+use Rattle.elf_table.proofs.FaultLaws.{of-read}
 use Rattle.elf_table.proofs.ThroughLaws.{through_err, through_ok, through_skip}
 use Rattle.elf_note.proofs.window_bytes.take.Goals as goal
 

@@ -4,7 +4,7 @@ use Rattle.elf_model.specs.Bytes.{slice}
 use Rattle.elf_model.proofs.Searches.{search-more, kept-more, found-here}
 use Rattle.elf_table.specs.Windows.{HoldsBytes}
 use Rattle.elf_table.proofs.Paging.{held-front}
-use Rattle.elf_headers.proofs.FaultLaws.{of-read}
+use Rattle.elf_table.proofs.FaultLaws.{of-read}
 use Rattle.elf_table.proofs.ThroughLaws.{through_err, through_none, through_ok, through_skip, through_then}
 use Rattle.elf_table.proofs.name_search.search_name.Goals as goal
 

@@ -1,6 +1,6 @@
 use Rattle.std.proofs.Common.{◌≡◌, ℕ, ◌+◌, List, Some, length, refl, ◌∙◌, arith, rules}
 use Rattle.elf_model.specs.Bytes.{slice}
-use Rattle.elf_headers.proofs.LedgerLaws.{CallDid-of}
+use Rattle.elf_table.proofs.LedgerLaws.{CallDid-of}
 use Rattle.elf_table.proofs.NameWindows.{piece-of_file, piece-some, Between-next, ReadsUpTo-next}
 use Rattle.elf_table.proofs.Pieces.{alike-more, differ-here}
 use Rattle.elf_table.proofs.names.match_pieces.Goals as goal

@@ -1,8 +1,8 @@
 -- No symbols are known, or how many there are, and what they tell.
 use Rattle.std.proofs.Common.{ℕ, ◌-◌, ◌*◌, ◌≤◌, ap, arith}
 use Rattle.std.proofs.lemmas.Result.{err_from_is_err_and}
-use Rattle.elf_headers.proofs.LedgerLaws.{CallReads-more, CallReads-then, CallDid-as, CallDid-none, CallDid-then}
-use Rattle.elf_headers.proofs.Absent.{none-of}
+use Rattle.elf_table.proofs.LedgerLaws.{CallReads-more, CallReads-then, CallDid-as, CallDid-none, CallDid-then}
+use Rattle.elf_table.proofs.Absent.{none-of}
 use Rattle.elf_hash.specs.SearchedTables.{place_of_table}
 use Rattle.elf_traits.proofs.FindingLaws.{marks_none, marks_some, rest_asked, rows_most}
 use Rattle.elf_traits.proofs.MarkLaws.{marks_as, read_symbol_traits}

@@ -3,7 +3,7 @@ use Rattle.std.proofs.Common.{ℕ, ◌+◌, ◌*◌, Ok, ap, sym, ◌∙◌, ari
 use Rattle.elf_model.specs.declared.traits.Traits.{Traits}
 use Rattle.std.proofs.lemmas.Result.{err_from_is_err_and}
 use Rattle.elf_model.specs.TraitCost.{properties_asked, trait_entries_asked}
-use Rattle.elf_headers.proofs.LedgerLaws.{CallReads-more, CallReads-then, CallDid-as, CallDid-then}
+use Rattle.elf_table.proofs.LedgerLaws.{CallReads-more, CallReads-then, CallDid-as, CallDid-then}
 use Rattle.elf_lookup_tables.specs.Segments.{entries_asked}
 use Rattle.elf_traits.specs.Known.{counts_asked}
 use Rattle.elf_traits.proofs.FindingLaws.{entries_stop, known_is, known_lie, known_stops, marks_stop, symbols_cost, traits_are, word_stops}

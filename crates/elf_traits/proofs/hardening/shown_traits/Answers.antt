@@ -1,7 +1,7 @@
 -- The load, and what stands behind.
 use Rattle.std.proofs.Common.{ℕ, ◌*◌, ap, arith}
 use Rattle.std.proofs.lemmas.Result.{err_from_is_err_and}
-use Rattle.elf_headers.proofs.LedgerLaws.{CallReads-more, CallReads-then, CallDid-as, CallDid-then}
+use Rattle.elf_table.proofs.LedgerLaws.{CallReads-more, CallReads-then, CallDid-as, CallDid-then}
 use Rattle.elf_traits.proofs.FeatureLaws.{product_most, value_of}
 use Rattle.elf_traits.proofs.ShownLaws.{ceiling_is, load_least, load_stops, shown_cost, shown_is}
 use Rattle.elf_traits.proofs.hardening.shown_traits.Goals as goal

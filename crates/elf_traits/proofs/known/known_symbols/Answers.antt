@@ -1,7 +1,7 @@
 -- What a lookup is made in, if there is a hash table, and then its counts.
 use Rattle.std.proofs.Common.{arith}
 use Rattle.std.proofs.lemmas.Result.{err_from_is_err_and}
-use Rattle.elf_headers.proofs.LedgerLaws.{CallReads-more, CallReads-then, CallDid-as, CallDid-then}
+use Rattle.elf_table.proofs.LedgerLaws.{CallReads-more, CallReads-then, CallDid-as, CallDid-then}
 use Rattle.elf_traits.proofs.KnownLaws.{counted_known, counts_refused, counts_within, counts_most, its_place, passed_charges, passed_did, passed_tells}
 use Rattle.elf_traits.proofs.known.known_symbols.Goals as goal
 

@@ -1,7 +1,7 @@
 -- Each property is read and passed, until none is left.
 use Rattle.std.proofs.Common.{◌+◌, ap, sym, ◌∙◌, arith, Ok}
 use Rattle.std.proofs.lemmas.Result.{err_from_is_err_and}
-use Rattle.elf_headers.proofs.LedgerLaws.{CallDid-as, CallDid-none, CallDid-sized, CallDid-then}
+use Rattle.elf_table.proofs.LedgerLaws.{CallDid-as, CallDid-none, CallDid-sized, CallDid-then}
 use Rattle.elf_traits.proofs.PropertyLaws.{left_all, left_more, left_none, word_end}
 use Rattle.elf_traits.proofs.TraitReadLaws.{head_tells, read_tells}
 use Rattle.elf_traits.proofs.properties.features_in.Goals as goal

@@ -1,6 +1,6 @@
 -- So many bytes of the list are gone through, and what is left of it tells the rest.
 use Rattle.std.proofs.Common.{◌-◌, ◌≤◌, None}
-use Rattle.elf_headers.specs.Ledger.{CallDid}
+use Rattle.elf_table.specs.Ledger.{CallDid}
 use Rattle.elf_traits.proofs.PropertyLaws.{LeftOf}
 use Rattle.elf_traits.proofs.properties.features_in.Given as goal
 

@@ -1,7 +1,7 @@
 -- The head does not fit, a word of it is read, the data does not fit; or all is there.
 use Rattle.std.proofs.Common.{arith}
 use Rattle.std.proofs.lemmas.Result.{err_from_is_err_and}
-use Rattle.elf_headers.proofs.LedgerLaws.{CallDid-as, CallDid-none, CallDid-sized, CallDid-stop, CallDid-then}
+use Rattle.elf_table.proofs.LedgerLaws.{CallDid-as, CallDid-none, CallDid-sized, CallDid-stop, CallDid-then}
 use Rattle.elf_traits.proofs.PropertyLaws.{one_stands, too_few, too_long}
 use Rattle.elf_traits.proofs.HeadLaws.{refused_at, word_stops}
 use Rattle.elf_traits.proofs.property.read_head.Goals as goal

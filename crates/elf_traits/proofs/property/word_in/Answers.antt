@@ -1,7 +1,7 @@
 -- The word was found, or the property is of another type, or of another size; or it is read.
 use Rattle.std.proofs.Common.{arith, sym, ◌∙◌}
 use Rattle.std.proofs.lemmas.Result.{err_from_is_err_and}
-use Rattle.elf_headers.proofs.LedgerLaws.{CallDid-as, CallDid-none, CallDid-sized}
+use Rattle.elf_table.proofs.LedgerLaws.{CallDid-as, CallDid-none, CallDid-sized}
 use Rattle.elf_traits.proofs.WordLaws.{kept, missing, other_size, read_word_is, word_read_stops}
 use Rattle.elf_traits.proofs.property.word_in.Goals as goal
 

@@ -1,8 +1,8 @@
 -- A segment has a list, is refused, or the next may have one.
 use Rattle.std.proofs.Common.{◌≡◌, ◌+◌, ◌*◌, ◌<◌, refl, arith, add-mul}
 use Rattle.std.proofs.lemmas.Result.{err_from_is_err_and}
-use Rattle.elf_headers.proofs.LedgerLaws.{CallReads-more, CallReads-then, CallDid-as, CallDid-none, CallDid-then}
-use Rattle.elf_headers.proofs.Absent.{none-of}
+use Rattle.elf_table.proofs.LedgerLaws.{CallReads-more, CallReads-then, CallDid-as, CallDid-none, CallDid-then}
+use Rattle.elf_table.proofs.Absent.{none-of}
 use Rattle.elf_traits.proofs.FeatureLaws.{asked_all, asked_next, lists_begin, lists_end, lists_here, lists_next, lists_stop, product_most, product_next}
 use Rattle.elf_traits.proofs.trait_notes.property_list.Goals as goal
 

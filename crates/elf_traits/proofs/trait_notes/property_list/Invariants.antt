@@ -3,8 +3,8 @@ use Rattle.std.proofs.Common.{◌≡◌, ◌-◌, ◌*◌, ◌≤◌, None}
 use Rattle.elf_model.specs.Cost.{sum_over}
 use Rattle.elf_model.specs.Properties.{listed_from, property_list}
 use Rattle.elf_model.specs.Records.{e_phnum}
-use Rattle.elf_headers.specs.Ledger.{CallReads, CallDid}
-use Rattle.elf_headers.specs.Load.{HoldsProgramHeaders}
+use Rattle.elf_table.specs.Ledger.{CallReads, CallDid}
+use Rattle.elf_table.specs.Load.{HoldsProgramHeaders}
 use Rattle.elf_traits.specs.Lists.{notes_asked}
 use Rattle.elf_traits.proofs.trait_notes.property_list.Given as goal
 

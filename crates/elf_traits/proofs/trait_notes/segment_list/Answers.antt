@@ -2,7 +2,7 @@
 use Rattle.std.proofs.Common.{sym, ◌∙◌, arith}
 use Rattle.std.proofs.lemmas.Bool.{eq-eqb, ne_eqb}
 use Rattle.std.proofs.lemmas.Result.{err_from_is_err_and}
-use Rattle.elf_headers.proofs.LedgerLaws.{CallDid-as, CallDid-none, CallDid-stop}
+use Rattle.elf_table.proofs.LedgerLaws.{CallDid-as, CallDid-none, CallDid-stop}
 use Rattle.elf_traits.proofs.FeatureLaws.{list_other}
 use Rattle.elf_traits.proofs.ListLaws.{count_fitting, segment_asked, segment_fails, segment_told}
 use Rattle.elf_traits.proofs.trait_notes.segment_list.Goals as goal

@@ -4,8 +4,8 @@ use Rattle.std.proofs.lemmas.Bool.{eq-eqb, ne_eqb}
 use Rattle.std.proofs.lemmas.Result.{err_from_is_err_and}
 use Rattle.elf_model.proofs.Slices.{slice-size}
 use Rattle.elf_record.specs.declared.ehdr.Ehdr.{Ehdr}
-use Rattle.elf_headers.proofs.LedgerLaws.{CallReads-more, CallReads-then, CallDid-as, CallDid-none, CallDid-sized, CallDid-then}
-use Rattle.elf_headers.proofs.Absent.{none-of}
+use Rattle.elf_table.proofs.LedgerLaws.{CallReads-more, CallReads-then, CallDid-as, CallDid-none, CallDid-sized, CallDid-then}
+use Rattle.elf_table.proofs.Absent.{none-of}
 use Rattle.elf_traits.proofs.FeatureLaws.{asked_least, asked_list, list_fails, other_machine, value_of, word_none, word_some}
 use Rattle.elf_traits.proofs.trait_notes.x86_feature_word.Goals as goal
 

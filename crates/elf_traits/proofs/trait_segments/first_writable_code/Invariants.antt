@@ -3,7 +3,7 @@ use Rattle.std.proofs.Common.{◌≡◌, ◌-◌, ℕ, List}
 use Rattle.elf_model.specs.Find.{first_that}
 use Rattle.elf_model.specs.Records.{e_phnum}
 use Rattle.elf_model.specs.Traits.{is_writable_code}
-use Rattle.elf_headers.specs.Load.{HoldsProgramHeaders}
+use Rattle.elf_table.specs.Load.{HoldsProgramHeaders}
 use Rattle.elf_traits.proofs.trait_segments.first_writable_code.Given as goal
 
 abbrev pub invariant-segments : goal.invariant-segments

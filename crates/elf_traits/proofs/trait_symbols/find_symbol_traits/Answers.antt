@@ -2,7 +2,7 @@
 use Rattle.std.proofs.Common.{◌≡◌, ℕ, ◌+◌, ◌-◌, ◌*◌, ◌<◌, Ok, sym, ap, ◌∙◌, arith}
 use Rattle.elf_table.specs.Tables.{Rows}
 use Rattle.elf_model.specs.Traits.{SymbolTraitFlags, marks_from, no_symbol_traits}
-use Rattle.elf_headers.proofs.LedgerLaws.{CallDid-as, CallDid-none}
+use Rattle.elf_table.proofs.LedgerLaws.{CallDid-as, CallDid-none}
 use Rattle.elf_traits.proofs.MarkLaws.{marks_as, no_rows, rows_from}
 use Rattle.elf_traits.proofs.SpendLaws.{rows_lie}
 use Rattle.elf_traits.proofs.trait_symbols.find_symbol_traits.Goals as goal

@@ -2,9 +2,9 @@
 use Rattle.std.proofs.Common.{ap, sym, ◌∙◌, arith}
 use Rattle.std.proofs.lemmas.Result.{err_from_is_err_and}
 use Rattle.elf_table.specs.Tables.{Rows}
-use Rattle.elf_headers.proofs.LedgerLaws.{CallDid-as, CallDid-none, CallDid-stop}
+use Rattle.elf_table.proofs.LedgerLaws.{CallDid-as, CallDid-none, CallDid-stop}
 use Rattle.elf_lookup_tables.proofs.FoundLaws.{dynamic_is, index_is, size_within}
-use Rattle.elf_headers.proofs.Absent.{none-of}
+use Rattle.elf_table.proofs.Absent.{none-of}
 use Rattle.elf_traits.proofs.EntryLaws.{entries_refused, entries_within}
 use Rattle.elf_traits.proofs.FindingLaws.{listed_did, listed_finds}
 use Rattle.elf_traits.proofs.ValueLaws.{values_none}

@@ -2,7 +2,7 @@
 use Rattle.std.proofs.Common.{◌≡◌, ℕ, ◌+◌, ap, ◌∙◌, arith}
 use Rattle.std.proofs.lemmas.Result.{err_from_is_err_and}
 use Rattle.elf_model.specs.Bytes.{field}
-use Rattle.elf_headers.proofs.LedgerLaws.{CallDid-as, CallDid-none}
+use Rattle.elf_table.proofs.LedgerLaws.{CallDid-as, CallDid-none}
 use Rattle.elf_versions.specs.Words.{end_of_named_record}
 use Rattle.elf_versions.proofs.WordLaws.{definition-index, own-index}
 use Rattle.elf_versions.proofs.record_reader.read_name.Goals as goal

@@ -1,11 +1,11 @@
 -- The checks are those of the words, and the name is read where they pass.
 use Rattle.std.proofs.Common.{◌≡◌, ℕ, ◌+◌, ap, sym, ◌∙◌, arith}
 use Rattle.std.proofs.lemmas.Result.{err_from_is_err_and}
-use Rattle.elf_headers.specs.declared.fault.Fault.TheVariants.{Refused}
-use Rattle.elf_headers.proofs.LedgerLaws.{CallDid-as, CallDid-stop, CallDid-then}
+use Rattle.elf_table.specs.declared.fault.Fault.TheVariants.{Refused}
+use Rattle.elf_table.proofs.LedgerLaws.{CallDid-as, CallDid-stop, CallDid-then}
 use Rattle.elf_table.specs.Tables.{Rows}
 use Rattle.elf_versions.specs.Reading.{record_position_of}
-use Rattle.elf_headers.proofs.Absent.{none-of}
+use Rattle.elf_table.proofs.Absent.{none-of}
 use Rattle.elf_versions.proofs.WordLaws.{asks-words, asks-name, distance-inside, read-fails, record-checked}
 use Rattle.elf_versions.proofs.record_reader.read_record.Goals as goal
 

@@ -1,7 +1,7 @@
 -- The record's bytes are its words.
 use Rattle.std.proofs.Common.{◌+◌, arith}
 use Rattle.std.proofs.lemmas.Result.{err_from_is_err_and}
-use Rattle.elf_headers.proofs.LedgerLaws.{CallDid-as}
+use Rattle.elf_table.proofs.LedgerLaws.{CallDid-as}
 use Rattle.elf_versions.proofs.record_reader.read_words.Goals as goal
 
 pub returns-in_ok-read-in-Definition : goal.returns-in_ok-read-in-Definition

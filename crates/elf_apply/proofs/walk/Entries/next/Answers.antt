@@ -2,7 +2,7 @@ use Rattle.std.proofs.Common.{rules, refl, ◌∙◌, arith}
 use Rattle.std.proofs.lemmas.Result.{err_from_is_err_and}
 use Rattle.elf_apply.proofs.ReadLaws.{IsReadFault-then}
 use Rattle.elf_apply.proofs.WalkSteps.{asks-none, asks-then, finds-fault}
-use Rattle.elf_headers.proofs.OpenLaws.{still_open}
+use Rattle.elf_table.proofs.OpenLaws.{still_open}
 use Rattle.elf_apply.proofs.walk.Entries.next.Goals as goal
 
 pub steps-init : goal.steps-init

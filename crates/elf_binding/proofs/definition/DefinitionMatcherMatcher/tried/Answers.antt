@@ -1,7 +1,7 @@
 -- The trial of all symbols tells of one, and it is passed over where it is undefined.
 use Rattle.std.proofs.Common.{refl, arith}
 use Rattle.std.proofs.lemmas.Result.{err_from_is_err_and}
-use Rattle.elf_headers.proofs.LedgerLaws.{CallDid-as}
+use Rattle.elf_table.proofs.LedgerLaws.{CallDid-as}
 use Rattle.elf_loader.specs.NumberSets.{has_number}
 use Rattle.elf_model.specs.Loader.{answers}
 use Rattle.elf_options.specs.Wants.{query_of}

@@ -1,6 +1,6 @@
 -- The look for a version, between a limit that is set and taken away.
 use Rattle.std.proofs.Common.{◌*◌, ◌/◌, refl, arith, mul-le-mul_right}
-use Rattle.elf_headers.proofs.LedgerLaws.{CallReads-more}
+use Rattle.elf_table.proofs.LedgerLaws.{CallReads-more}
 use Rattle.elf_loader.proofs.ReadLaws.{most_all}
 use Rattle.elf_model.specs.Loader.{Version}
 use Rattle.elf_model.specs.LoaderFind.{record_cost}

@@ -1,6 +1,6 @@
 -- What a symbol asks for, between a limit that is set and taken away.
 use Rattle.std.proofs.Common.{◌≡◌, refl, arith, mul-le-mul_right}
-use Rattle.elf_headers.proofs.LedgerLaws.{CallReads-more}
+use Rattle.elf_table.proofs.LedgerLaws.{CallReads-more}
 use Rattle.elf_loader.proofs.ReadLaws.{most_all}
 use Rattle.elf_binding.specs.Sought.{reference_bytes}
 use Rattle.elf_binding.proofs.SpendLaws.{spent_off}

@@ -1,6 +1,6 @@
 -- The count between a limit that is set and taken away.
 use Rattle.std.proofs.Common.{◌+◌, ◌≤◌, refl, arith}
-use Rattle.elf_headers.proofs.LedgerLaws.{CallReads-more}
+use Rattle.elf_table.proofs.LedgerLaws.{CallReads-more}
 use Rattle.elf_binding.proofs.SpendLaws.{spent_off}
 use Rattle.elf_binding.proofs.object.Object.symbol_count.Goals as goal
 

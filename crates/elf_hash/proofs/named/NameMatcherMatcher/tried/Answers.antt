@@ -1,7 +1,7 @@
 -- The symbol stands at its row, and its name is compared in the strings of its table.
 use Rattle.std.proofs.Common.{true, false, Ok, Err, ap, ◌∙◌, arith}
 use Rattle.std.proofs.lemmas.Result.{err_from_is_err_and}
-use Rattle.elf_headers.proofs.LedgerLaws.{CallDid-as, CallDid-of, CallDid-then}
+use Rattle.elf_table.proofs.LedgerLaws.{CallDid-as, CallDid-of, CallDid-then}
 use Rattle.elf_hash.proofs.NamedLaws.{tries}
 use Rattle.elf_hash.proofs.named.NameMatcherMatcher.tried.Goals as goal
 

@@ -6,7 +6,7 @@ use Rattle.elf_model.specs.Bytes.{slice}
 use Rattle.elf_model.specs.Notes.{note_align}
 use Rattle.elf_names.proofs.HeldLaws.{still_held}
 use Rattle.elf_names.proofs.SpendsLaws.{SpendsAtMost-none}
-use Rattle.elf_headers.proofs.OpenLaws.{still_open}
+use Rattle.elf_table.proofs.OpenLaws.{still_open}
 use Rattle.elf_listing.proofs.LoopLaws.{account_kept, at_most, spent_unread, step_last, step_more, step_stopped}
 use Rattle.elf_listing.proofs.ViewedLaws.{still_viewed}
 use Rattle.elf_note.specs.NoteCursors.{notes_left}

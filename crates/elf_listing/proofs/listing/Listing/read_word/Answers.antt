@@ -1,6 +1,6 @@
 -- The word is the file's.
 use Rattle.std.proofs.Common.{◌≡◌, ◌+◌, refl, ◌∙◌, arith}
-use Rattle.elf_headers.proofs.OpenLaws.{still_open}
+use Rattle.elf_table.proofs.OpenLaws.{still_open}
 use Rattle.elf_names.proofs.HeldLaws.{still_held}
 use Rattle.elf_names.proofs.SpendsLaws.{SpendsAtMost-reads}
 use Rattle.elf_listing.proofs.NumberedShown.{word_is}

@@ -8,7 +8,7 @@ use Rattle.elf_model.specs.Records.{section_at}
 use Rattle.elf_model.specs.Rows.{relocation_row}
 use Rattle.elf_model.specs.TableKinds.{relocations}
 use Rattle.elf_record.specs.declared.ehdr.Ehdr.{Ehdr}
-use Rattle.elf_headers.specs.Store.{row}
+use Rattle.elf_table.specs.Store.{row}
 use Rattle.elf_listing.proofs.RowLaws.{WroteSome-as}
 use Rattle.elf_listing.proofs.SectionCosts.{section_within}
 use Rattle.elf_listing.proofs.SectionShown.{no_table, table_fails, table_passes}

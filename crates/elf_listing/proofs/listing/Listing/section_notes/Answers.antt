@@ -8,7 +8,7 @@ use Rattle.elf_model.specs.Notes.{note_align, walked}
 use Rattle.elf_model.specs.Records.{section_at, sh_addralign, sh_size}
 use Rattle.elf_model.specs.Rows.{walk_rows}
 use Rattle.elf_model.specs.TableKinds.{section_notes}
-use Rattle.elf_headers.specs.Store.{row}
+use Rattle.elf_table.specs.Store.{row}
 use Rattle.elf_table.specs.Tables.{Rows}
 use Rattle.elf_listing.specs.Parts.{store_sections}
 use Rattle.elf_listing.proofs.RowLaws.{WroteSome-as}

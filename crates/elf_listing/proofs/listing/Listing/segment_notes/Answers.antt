@@ -8,7 +8,7 @@ use Rattle.elf_model.specs.Notes.{note_align, walked}
 use Rattle.elf_model.specs.Records.{segment_at, p_align, p_filesz}
 use Rattle.elf_model.specs.Rows.{walk_rows}
 use Rattle.elf_model.specs.TableKinds.{segment_notes}
-use Rattle.elf_headers.specs.Store.{segment_bytes}
+use Rattle.elf_table.specs.Store.{segment_bytes}
 use Rattle.elf_table.specs.Tables.{Rows}
 use Rattle.elf_listing.specs.Parts.{store_segments}
 use Rattle.elf_listing.proofs.RowLaws.{WroteSome-as}

@@ -2,7 +2,7 @@
 use Rattle.elf_options.specs.Permitted.{style_of}
 use Rattle.std.proofs.Common.{◌≡◌, ◌≤◌, ◌==◌, ℕ, true, false, [], sym, ap, ◌∙◌, arith}
 use Rattle.std.proofs.lemmas.Bool.{ne_eqb}
-use Rattle.elf_headers.specs.Load.{LoadedFile}
+use Rattle.elf_table.specs.Load.{LoadedFile}
 use Rattle.elf_model.specs.Listing.{each, has, SEGMENTS}
 use Rattle.elf_model.specs.Records.{e_phnum, e_phoff}
 use Rattle.elf_model.specs.Rows.{segment_row}

@@ -10,7 +10,7 @@ use Rattle.elf_model.specs.TableKinds.{symbols}
 use Rattle.elf_model.specs.Bytes.{slice}
 use Rattle.elf_table.specs.Tables.{StringTableRange}
 use Rattle.elf_table.proofs.RelocationLaws.{symbols-fail, symbols-pass}
-use Rattle.elf_headers.specs.Store.{row}
+use Rattle.elf_table.specs.Store.{row}
 use Rattle.elf_listing.proofs.RowLaws.{WroteSome-as}
 use Rattle.elf_listing.proofs.SectionCosts.{section_within}
 use Rattle.elf_listing.proofs.SectionShown.{no_table, table_fails, table_passes}

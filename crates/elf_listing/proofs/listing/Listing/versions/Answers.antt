@@ -3,7 +3,7 @@ use Rattle.std.proofs.Common.{rules, ◌≡◌, ◌*◌, ◌+◌, ◌/◌, ◌==
 use Rattle.std.proofs.lemmas.Bool.{eq-eqb, ne_eqb}
 use Rattle.std.proofs.lemmas.Result.{err_from_is_err_and}
 use Rattle.elf_options.specs.Permitted.{style_of}
-use Rattle.elf_headers.proofs.OpenLaws.{still_open}
+use Rattle.elf_table.proofs.OpenLaws.{still_open}
 use Rattle.elf_model.specs.Names.{name_bytes}
 use Rattle.elf_model.specs.Records.{section_at, sh_size}
 use Rattle.elf_model.specs.Versions.{max_records, record_size}

@@ -1,6 +1,6 @@
 -- The trial is what tells whether the symbol answers.
 use Rattle.std.proofs.Common.{arith}
-use Rattle.elf_headers.proofs.LedgerLaws.{CallDid-as}
+use Rattle.elf_table.proofs.LedgerLaws.{CallDid-as}
 use Rattle.elf_loader.specs.NumberSets.{has_number}
 use Rattle.elf_options.specs.Wants.{query_of}
 use Rattle.elf_loader.proofs.AnswerLaws.{tries-as}

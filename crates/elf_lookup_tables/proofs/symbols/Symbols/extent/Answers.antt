@@ -1,6 +1,6 @@
 -- Where symbols and strings begin is what the file tells.
 use Rattle.std.proofs.Common.{◌≡◌, ◌∙◌, sym, arith}
-use Rattle.elf_headers.proofs.LedgerLaws.{CallDid-as}
+use Rattle.elf_table.proofs.LedgerLaws.{CallDid-as}
 use Rattle.elf_lookup_tables.proofs.SymbolCountLaws.{symbols_after}
 use Rattle.elf_lookup_tables.proofs.symbols.Symbols.extent.Goals as goal
 

@@ -2,7 +2,7 @@
 use Rattle.std.proofs.Common.{◌≡◌, ◌==◌, ℕ, ◌<◌, false, List}
 use Rattle.elf_model.specs.HeaderTables.{file_sections, header_field}
 use Rattle.elf_model.specs.Records.{sh_type}
-use Rattle.elf_headers.specs.Load.{HoldsSectionHeaders}
+use Rattle.elf_table.specs.Load.{HoldsSectionHeaders}
 use Rattle.elf_table.specs.Versions.{sections_in}
 use Rattle.elf_table.proofs.file.File.first.Given as goal
 

@@ -1,7 +1,7 @@
 -- The section that is linked to holds symbols, by the headers in the store.
 use Rattle.std.proofs.Common.{sym, ◌∙◌, arith}
 use borrow.Author.Tests.{ltb-true}
-use Rattle.elf_headers.specs.Store.{row}
+use Rattle.elf_table.specs.Store.{row}
 use Rattle.elf_table.proofs.VersionLaws.{both-true, links_there}
 use Rattle.elf_table.proofs.file.File.links_to_symbols.Goals as goal
 use Rattle.elf_table.proofs.file.File.links_to_symbols.Goals.{then-link-ne0, else-link-ne0}

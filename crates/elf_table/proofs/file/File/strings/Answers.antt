@@ -1,7 +1,7 @@
 -- The section that is linked to is a string table in the file, by the headers in the store.
 use Rattle.std.proofs.Common.{ap, arith}
 use Rattle.elf_record.specs.declared.ehdr.Ehdr.{Ehdr}
-use Rattle.elf_headers.specs.Store.{row}
+use Rattle.elf_table.specs.Store.{row}
 use Rattle.elf_table.proofs.VersionLaws.{strings_found}
 use Rattle.elf_table.proofs.file.File.strings.Goals as goal
 

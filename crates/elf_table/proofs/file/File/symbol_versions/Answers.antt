@@ -6,7 +6,7 @@ use Rattle.elf_model.specs.Records.{section_at, sh_link, sh_size}
 use Rattle.elf_model.specs.Tables.{has_symbols}
 use Rattle.elf_model.specs.VersionCost.{has_strings, links}
 use Rattle.elf_model.specs.Checks.{is_symbol_table}
-use Rattle.elf_headers.specs.Store.{row}
+use Rattle.elf_table.specs.Store.{row}
 use Rattle.elf_table.specs.Sections.{symbols_at}
 use Rattle.elf_table.specs.Versions.{sections_in}
 use Rattle.elf_table.proofs.VersionLaws.{both-true, not_empty, not_false, not_true, symbols-stored, symbols_refused, table-refused, unlinked, unversioned, versioned}

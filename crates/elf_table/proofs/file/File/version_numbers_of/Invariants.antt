@@ -3,7 +3,7 @@ use Rattle.std.proofs.Common.{◌≡◌, ◌==◌, ◌&&◌, ℕ, ◌<◌, false
 use Rattle.elf_model.specs.HeaderTables.{file_sections, header_field}
 use Rattle.elf_model.specs.Numbers.{SHT_GNU_VERSYM}
 use Rattle.elf_model.specs.Records.{sh_link, sh_type}
-use Rattle.elf_headers.specs.Load.{HoldsSectionHeaders}
+use Rattle.elf_table.specs.Load.{HoldsSectionHeaders}
 use Rattle.elf_table.specs.Versions.{sections_in}
 use Rattle.elf_table.proofs.file.File.version_numbers_of.Given as goal
 

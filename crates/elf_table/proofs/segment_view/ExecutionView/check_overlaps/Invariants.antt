@@ -2,7 +2,7 @@
 use Rattle.std.proofs.Common.{◌-◌, ◌≡◌, ℕ, ◌≤◌, List}
 use Rattle.elf_model.specs.Checks.{first_refusal}
 use Rattle.elf_model.specs.Overlaps.{overlap_checks}
-use Rattle.elf_headers.specs.Load.{HoldsProgramHeaders}
+use Rattle.elf_table.specs.Load.{HoldsProgramHeaders}
 use Rattle.elf_table.proofs.OverlapLaws.{left}
 use Rattle.elf_table.proofs.segment_view.ExecutionView.check_overlaps.Given as goal
 

@@ -1,7 +1,7 @@
 -- No program header so far is of the kind.
 use Rattle.std.proofs.Common.{◌≡◌, ◌==◌, ℕ, ◌<◌, false, List}
 use Rattle.elf_model.specs.Records.{p_type, segment_at}
-use Rattle.elf_headers.specs.Load.{HoldsProgramHeaders}
+use Rattle.elf_table.specs.Load.{HoldsProgramHeaders}
 use Rattle.elf_table.proofs.segment_view.ExecutionView.first_segment.Given as goal
 
 abbrev pub invariant-loop-index : goal.invariant-loop-index

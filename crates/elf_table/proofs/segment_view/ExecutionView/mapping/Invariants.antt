@@ -1,7 +1,7 @@
 -- None of the program headers so far holds the bytes: the first that does is among those left.
 use Rattle.std.proofs.Common.{◌-◌, ◌≡◌, ℕ, ◌≤◌, List}
 use Rattle.elf_model.specs.Mapped.{mapped_at, mapped_from}
-use Rattle.elf_headers.specs.Load.{HoldsProgramHeaders}
+use Rattle.elf_table.specs.Load.{HoldsProgramHeaders}
 use Rattle.elf_table.proofs.segment_view.ExecutionView.mapping.Given as goal
 
 abbrev pub invariant-segments : goal.invariant-segments

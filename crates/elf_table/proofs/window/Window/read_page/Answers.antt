@@ -3,7 +3,7 @@ use Rattle.std.proofs.lemmas.Slice.{take-put_mid}
 use Rattle.elf_model.specs.Bytes.{slice}
 use Rattle.elf_model.proofs.Slices.{slice-size}
 use Rattle.elf_table.specs.Windows.{frontier}
-use Rattle.elf_headers.proofs.LoadLaws.{fills_onward}
+use Rattle.elf_table.proofs.LoadLaws.{fills_onward}
 use Rattle.elf_table.proofs.Paging.{joined}
 use Rattle.elf_table.proofs.window.Window.read_page.Goals as goal
 

@@ -1,8 +1,8 @@
 -- Nothing is read of a table that is not held, and a read that fails is the call's.
 use Rattle.std.proofs.Common.{arith, rules}
 use Rattle.std.proofs.lemmas.Result.{err_from_is_err_and}
-use Rattle.elf_headers.proofs.LedgerLaws.{CallDid-as, CallDid-none, CallDid-of}
-use Rattle.elf_headers.proofs.FaultLaws.{of-read}
+use Rattle.elf_table.proofs.LedgerLaws.{CallDid-as, CallDid-none, CallDid-of}
+use Rattle.elf_table.proofs.FaultLaws.{of-read}
 use Rattle.elf_versions.proofs.table_buffer.TableBuffer.load.Goals as goal
 
 pub returns-then-size-most : goal.returns-then-size-most

@@ -1,7 +1,7 @@
 -- What is held is the file's, and what is not held is read.
 use Rattle.std.proofs.Common.{◌≡◌, ◌+◌, length, rules, refl, ◌∙◌, arith}
 use Rattle.elf_model.specs.Bytes.{slice}
-use Rattle.elf_headers.proofs.LedgerLaws.{CallDid-as, CallDid-none, CallDid-of}
+use Rattle.elf_table.proofs.LedgerLaws.{CallDid-as, CallDid-none, CallDid-of}
 use Rattle.elf_versions.proofs.HeldBytes.{part-held, read-gives, stop-says}
 use Rattle.elf_versions.proofs.table_buffer.TableBuffer.read.Goals as goal
 

@@ -1,8 +1,8 @@
 -- Behind the last record none is left.
 use Rattle.std.proofs.Common.{arith}
 use Rattle.elf_model.proofs.VersionSteps.{met-ended}
-use Rattle.elf_headers.proofs.LedgerLaws.{CallDid-as, CallDid-none}
-use Rattle.elf_headers.proofs.Absent.{none-of}
+use Rattle.elf_table.proofs.LedgerLaws.{CallDid-as, CallDid-none}
+use Rattle.elf_table.proofs.Absent.{none-of}
 use Rattle.elf_versions.proofs.version_cursor.VersionCursor.advance.Goals as goal
 
 pub returns-in_default-standing-clause-did : goal.returns-in_default-standing-clause-did

@@ -3,8 +3,8 @@ use Rattle.std.proofs.Common.{◌≡◌, ◌⊎◌, ◌+◌, ◌<◌, None, inl,
 use Rattle.std.proofs.lemmas.Result.{err_from_is_err_and}
 use Rattle.elf_model.specs.Versions.{visited_at, no_versions, record_size}
 use Rattle.elf_model.specs.declared.causes.Cause.TheVariants.{VersionCut}
-use Rattle.elf_headers.specs.declared.fault.Fault.TheVariants.{Refused}
-use Rattle.elf_headers.proofs.LedgerLaws.{CallDid-as, CallDid-none, CallDid-stop}
+use Rattle.elf_table.specs.declared.fault.Fault.TheVariants.{Refused}
+use Rattle.elf_table.proofs.LedgerLaws.{CallDid-as, CallDid-none, CallDid-stop}
 use Rattle.elf_versions.specs.Reading.{record_position_of}
 use Rattle.elf_versions.proofs.LeftLaws.{cut-here, step-met, step-pays, step-refused}
 use Rattle.elf_versions.proofs.version_cursor.VersionCursor.meet.Goals as goal

@@ -1,10 +1,10 @@
 -- Each record that is given is taken in, until none is left.
 use Rattle.std.proofs.Common.{◌∷◌, [], ◌++◌, None, Some, Ok, Err, refl, ◌∙◌, arith}
 use Rattle.std.proofs.lemmas.Result.{err_from_is_err_and}
-use Rattle.elf_headers.proofs.LedgerLaws.{CallDid-as, CallDid-none, CallDid-then}
+use Rattle.elf_table.proofs.LedgerLaws.{CallDid-as, CallDid-none, CallDid-then}
 use Rattle.elf_versions.specs.Reading.{versions_left}
 use Rattle.elf_versions.proofs.TakenLaws.{behind-more, end-cut, end-names, going-did, met-none, names-more, stops-all, unread-fewer}
-use Rattle.elf_headers.proofs.Absent.{none-of}
+use Rattle.elf_table.proofs.Absent.{none-of}
 use Rattle.elf_versions.proofs.version_names.VersionNames.take_all.Goals as goal
 
 pub records-init : goal.records-init

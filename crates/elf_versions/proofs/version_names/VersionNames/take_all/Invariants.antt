@@ -1,6 +1,6 @@
 -- The records that were met are taken in, and the others are left.
 use Rattle.std.proofs.Common.{◌≡◌, ◌-◌, ◌≤◌, List, ◌++◌, length, None}
-use Rattle.elf_headers.specs.Ledger.{CallDid}
+use Rattle.elf_table.specs.Ledger.{CallDid}
 use Rattle.elf_model.specs.Versions.{VisitedRecord}
 use Rattle.elf_versions.specs.NumberNames.{NamesNumbers}
 use Rattle.elf_versions.specs.Reading.{IsCursorOf, unread, versions_left}

@@ -1,0 +1,52 @@
+//! Memory for a store of headers: the one thing here that takes memory.
+ghost use Rattle.std.specs.Prelude.{◌≡◌, ◌≤◌, IfOk};
+ghost use Rattle.elf_table.specs.Store.{empty};
+
+use crate::store::{HeaderStore, SLOT_BYTES};
+use std::alloc::{AllocError, Global};
+use std::marker::Model;
+
+/// Memory for the headers of one file, 64 bytes for each slot. It is taken once, when the room is
+/// made.
+#[derive(Drop)]
+pub struct HeaderBuffer {
+    bytes: Vec<u8>,
+    slots: u16,
+}
+
+impl Model for HeaderBuffer {
+    ghost use Rattle.std.specs.Prelude.{ℕ, ◌≡◌, ◌*◌, ◌≤◌, vec_len};
+
+    ghost Value = { ℕ };
+
+    ghost view = { λ r. r.slots };
+
+    ghost invariant = { λ r.
+        (vec_len r.bytes ≡ 64 * r.slots) × (1 ≤ r.slots) × (r.slots ≤ 65279) };
+}
+
+impl HeaderBuffer {
+    /// Room for `headers` slots, 1 to 65,279. Its 64 bytes for each slot are taken from `alloc` here,
+    /// and no other call takes any.
+    ///
+    /// # Errors
+    /// Where memory is refused.
+    pub fn new(alloc: Global, headers: u16) -> Result<HeaderBuffer, AllocError>
+        requires some { 1 ≤ headers }
+        requires permitted { headers ≤ 65279 }
+        ensures { IfOk result (λ room. room ≡ headers) }
+    {
+        let bytes = vec![in alloc; 0u8; SLOT_BYTES * headers as usize]?;
+        Ok(HeaderBuffer {
+            bytes,
+            slots: headers,
+        })
+    }
+
+    /// A store over the room, with as many slots and no header loaded.
+    pub fn store(&mut self) -> HeaderStore<'_>
+        ensures { result ≡ empty self.old }
+    {
+        HeaderStore::over(&mut self.bytes, self.slots)
+    }
+}

@@ -1,0 +1,260 @@
+//! The store of headers, over memory that its caller lends.
+ghost use Rattle.std.specs.Prelude.{◌≡◌, ℕ, ◌+◌, ◌*◌, ◌^◌, if◌then◌else◌, is_ok, ◌<◌, ◌≤◌};
+ghost use Rattle.std.specs.Prelude.{List, Some, length, take, IfOk, IfErr, OnOk};
+ghost use Rattle.elf_model.specs.Bytes.{slice};
+ghost use Rattle.elf_model.specs.Records.{section_at, segment_at};
+ghost use Rattle.elf_record.specs.Phdr.{IsPhdr};
+ghost use Rattle.elf_record.specs.Shdr.{IsShdr};
+ghost use Rattle.elf_source.specs.Source.{ReadsUpTo};
+ghost use Rattle.elf_table.specs.Faults.{IsReadFault, IsOfRead};
+ghost use Rattle.elf_table.specs.Store.{empty, emptied, row, segment_bytes};
+ghost use Rattle.elf_table.specs.Store.{AreRowSlices, HoldsSections, HoldsSegments, rows_from};
+
+use crate::fault::Fault;
+use crate::located_read::fill;
+use elf_record::{Phdr, Shdr};
+use elf_source::{Counted, READ_BYTES, Source};
+use std::marker::Model;
+
+/// The size of a slot, and of a section header, in bytes.
+pub(crate) const SLOT_BYTES: usize = 64;
+/// The size of a program header in bytes.
+const SEGMENT_BYTES: usize = 56;
+
+/// The section headers of one file, 64 bytes each, or its program headers, 56 bytes each, one behind
+/// the other, in memory that is lent.
+#[derive(Drop)]
+pub struct HeaderStore<'a> {
+    bytes: &'a mut [u8],
+    slots: u16,
+    loaded: u16,
+    segments: u16,
+}
+
+impl<'a> Model for HeaderStore<'a> {
+    ghost use Rattle.std.specs.Prelude.{◌≡◌, ◌*◌, ◌≤◌, length};
+    ghost use Rattle.elf_table.specs.Store.{StoreState, rows_from};
+
+    ghost Value = { StoreState };
+
+    ghost view = { λ s. record {
+      slots = s.slots;
+      loaded = s.loaded;
+      rows = rows_from s.bytes.now 0 64 s.loaded;
+      segments = s.segments;
+      segment_rows = rows_from s.bytes.now 0 56 s.segments;
+    } };
+
+    ghost invariant = { λ s.
+        (64 * s.slots ≤ length s.bytes.now) × (s.loaded ≤ s.slots) × (s.segments ≤ s.slots)
+        × (1 ≤ s.slots) × (s.slots ≤ 65279) };
+}
+
+impl<'a> HeaderStore<'a> {
+    /// A store of `headers` slots, 1 to 65,279, with no header loaded, over memory of at least 64
+    /// bytes for each slot. What stands in the memory before is not looked at.
+    #[tactic(auto, unfolding(crate::specs::Store::rows_from))]
+    pub fn over(bytes: &'a mut [u8], headers: u16) -> HeaderStore<'a>
+        requires some { 1 ≤ headers }
+        requires permitted { headers ≤ 65279 }
+        requires room { 64 * headers ≤ length bytes.old }
+        ensures { result ≡ empty headers }
+    {
+        HeaderStore {
+            bytes,
+            slots: headers,
+            loaded: 0,
+            segments: 0,
+        }
+    }
+
+    /// The number of slots, 1 to 65,279. No call changes it.
+    pub fn slots(&self) -> u16
+        ensures value { result ≡ self.now.slots }
+        ensures some { 1 ≤ self.now.slots }
+        ensures permitted { self.now.slots ≤ 65279 }
+    {
+        self.slots
+    }
+
+    /// The size of the slots in bytes, 64 each.
+    pub fn bytes(&self) -> u64
+        ensures { result ≡ 64 * self.now.slots }
+    {
+        64 * u64::from(self.slots)
+    }
+
+    /// The number of section headers that are loaded, at most [`HeaderStore::slots`]; 0 while program
+    /// headers are.
+    pub fn loaded(&self) -> u16
+        ensures value { result ≡ self.now.loaded }
+        ensures within { self.now.loaded ≤ self.now.slots }
+        ensures permitted { self.now.slots ≤ 65279 }
+    {
+        self.loaded
+    }
+
+    /// The number of program headers that are loaded, at most [`HeaderStore::slots`]; 0 while section
+    /// headers are.
+    pub fn segments(&self) -> u16
+        ensures value { result ≡ self.now.segments }
+        ensures within { self.now.segments ≤ self.now.slots }
+        ensures permitted { self.now.slots ≤ 65279 }
+    {
+        self.segments
+    }
+
+    /// The section header of an index below [`HeaderStore::loaded`] (gABI 4, Section Header).
+    pub fn section(&self, i: u16) -> Shdr
+        requires { i < self.now.loaded }
+        ensures fields { IsShdr (row self.now i) 0 result }
+        ensures stands { (file : List ℕ) → HoldsSections file self.now →
+            IsShdr file (section_at file i) result }
+    {
+        Shdr::decode(self.row(i))
+    }
+
+    /// The program header of an index below [`HeaderStore::segments`] (gABI 5, Program Header).
+    pub fn segment(&self, i: u16) -> Phdr
+        requires { i < self.now.segments }
+        ensures fields { IsPhdr (segment_bytes self.now i) 0 result }
+        ensures stands { (file : List ℕ) → HoldsSegments file self.now →
+            IsPhdr file (segment_at file i) result }
+    {
+        Phdr::decode(self.segment_row(i))
+    }
+
+    /// The bytes of the section header of an index below [`HeaderStore::loaded`].
+    #[tactic(auto, using(crate::proofs::RowsHeld::row_front))]
+    fn row(&self, i: u16) -> &[u8; 64]
+        requires { i < self.now.loaded }
+        ensures { result.now ≡ row self.now i }
+    {
+        row_of(self.bytes, i)
+    }
+
+    /// The bytes of the program header of an index below [`HeaderStore::segments`].
+    #[tactic(auto, using(crate::proofs::RowsHeld::row_front))]
+    fn segment_row(&self, i: u16) -> &[u8; 56]
+        requires { i < self.now.segments }
+        ensures { result.now ≡ segment_bytes self.now i }
+    {
+        row_of(self.bytes, i)
+    }
+
+    /// Loads the section headers of a file, `count` of them from the offset `from` on; at a fault
+    /// none is loaded. No program header stays loaded.
+    pub(crate) fn fill<S: Source>(
+        &mut self,
+        src: &mut Counted<S>,
+        count: u16,
+        from: u64,
+    ) -> Result<(), Fault>
+        requires room { count ≤ self.old.slots }
+        requires within { from + 64 * count ≤ src.old.seen.size }
+        requires fits { from + 64 * count < 2 ^ 64 }
+        ensures slots { self.new.slots ≡ self.old.slots }
+        ensures loaded { self.new.loaded ≡ (if is_ok result then count else 0) }
+        ensures segments { self.new.segments ≡ 0 }
+        ensures reads { ReadsUpTo src.old src.new (64 * count) }
+        ensures says { IfErr result (IsReadFault src.old src.new (64 * count)) }
+        ensures fault { IfErr result IsOfRead }
+        ensures rows { (file : List ℕ) → src.old.seen.file ≡ Some file →
+            OnOk result (AreRowSlices file from 64 count self.new.rows) }
+    {
+        self.forget();
+        read_rows(src, self.bytes, SLOT_BYTES, count, from)?;
+        self.loaded = count;
+        Ok(())
+    }
+
+    /// Loads the program headers of a file, `count` of them from the offset `from` on; at a fault
+    /// none is loaded. No section header stays loaded.
+    pub(crate) fn fill_segments<S: Source>(
+        &mut self,
+        src: &mut Counted<S>,
+        count: u16,
+        from: u64,
+    ) -> Result<(), Fault>
+        requires room { count ≤ self.old.slots }
+        requires within { from + 56 * count ≤ src.old.seen.size }
+        requires fits { from + 56 * count < 2 ^ 64 }
+        ensures slots { self.new.slots ≡ self.old.slots }
+        ensures loaded { self.new.loaded ≡ 0 }
+        ensures segments { self.new.segments ≡ (if is_ok result then count else 0) }
+        ensures reads { ReadsUpTo src.old src.new (56 * count) }
+        ensures says { IfErr result (IsReadFault src.old src.new (56 * count)) }
+        ensures fault { IfErr result IsOfRead }
+        ensures rows { (file : List ℕ) → src.old.seen.file ≡ Some file →
+            OnOk result (AreRowSlices file from 56 count self.new.segment_rows) }
+    {
+        self.forget();
+        read_rows(src, self.bytes, SEGMENT_BYTES, count, from)?;
+        self.segments = count;
+        Ok(())
+    }
+
+    /// Lets go of the headers that are loaded.
+    #[tactic(auto, unfolding(crate::specs::Store::rows_from))]
+    pub(crate) fn forget(&mut self)
+        ensures { self.new ≡ emptied self.old }
+    {
+        self.loaded = 0;
+        self.segments = 0;
+    }
+}
+
+/// Reads `count` rows of `size` bytes from the offset `from` on to the front of `bytes`.
+#[tactic(auto, using(crate::proofs::RowsHeld::rows_read_ok))]
+fn read_rows<S: Source>(
+    src: &mut Counted<S>,
+    bytes: &mut [u8],
+    size: usize,
+    count: u16,
+    from: u64,
+) -> Result<(), Fault>
+    requires room { size * count ≤ length bytes.old }
+    requires within { from + size * count ≤ src.old.seen.size }
+    requires fits { from + size * count < 2 ^ 64 }
+    ensures reads { ReadsUpTo src.old src.new (size * count) }
+    ensures says { IfErr result (IsReadFault src.old src.new (size * count)) }
+    ensures fault { IfErr result IsOfRead }
+    ensures rows { (file : List ℕ) → src.old.seen.file ≡ Some file →
+        OnOk result (AreRowSlices file from size count (rows_from bytes.new 0 size count)) }
+{
+    read_front(src, bytes, size * count as usize, from)
+}
+
+/// Reads the bytes from the offset `from` on into the first of `bytes`, so many.
+fn read_front<S: Source>(
+    src: &mut Counted<S>,
+    bytes: &mut [u8],
+    size: usize,
+    from: u64,
+) -> Result<(), Fault>
+    requires room { size ≤ length bytes.old }
+    requires within { from + size ≤ src.old.seen.size }
+    requires fits { from + size < 2 ^ 64 }
+    ensures reads { ReadsUpTo src.old src.new size }
+    ensures says { IfErr result (IsReadFault src.old src.new size) }
+    ensures fault { IfErr result IsOfRead }
+    ensures read { (file : List ℕ) → src.old.seen.file ≡ Some file →
+        OnOk result (take size bytes.new ≡ slice file from size) }
+{
+    let mut done = 0;
+    while done < size {
+        let count = READ_BYTES.min(size - done);
+        fill(src, from + done as u64, &mut bytes[done..done + count])?;
+        done += count;
+    }
+    Ok(())
+}
+
+/// The row of an index, of rows of `N` bytes one behind the other.
+fn row_of<const N: usize>(bytes: &[u8], i: u16) -> &[u8; N]
+    requires { N * i + N ≤ length bytes.now }
+    ensures { result.now ≡ slice bytes.now (N * i) N }
+{
+    let first = N * i as usize;
+    bytes[first..first + N].first_chunk().unwrap()
+}
