@@ -10,7 +10,7 @@ ghost use Rattle.elf_answers.specs.Requests.{RunsFind};
 
 use elf_hash::{Lookup, find};
 use elf_table::{HeaderStore, Limits, RunFault};
-use elf_lines::{show_steps, show_symbol};
+use elf_format::{show_steps, show_symbol};
 use elf_listing::show_stop;
 use elf_model::Format;
 use elf_source::{Counted, Out, Sink, Source};

@@ -1,6 +1,6 @@
 //! A name looked up as a loader does.
 ghost use Rattle.std.specs.Prelude.{◌≡◌, ◌^◌, ◌≤◌, ◌++◌, ℕ, List, length, IfErr, Some, option_map, true};
-ghost use Rattle.elf_fields.specs.Named.{shown_as};
+ghost use Rattle.elf_format.specs.Named.{shown_as};
 ghost use Rattle.elf_listing.specs.Shows.{IsOfOutput};
 ghost use Rattle.elf_loader.specs.FoundVersions.{name_shown, version_found};
 ghost use Rattle.elf_loader.specs.Lookups.{AnswersLoaderLookup};
@@ -19,9 +19,8 @@ ghost use Rattle.elf_answers.specs.Lookups.{resolved_answer};
 ghost use Rattle.elf_answers.specs.Requests.{RunsResolve};
 ghost use Rattle.elf_options.specs.Wants.{asked_of};
 
-use elf_fields::{LinePrefix, show_named};
+use elf_format::{ConstantNames, LinePrefix, show_named, show_steps, symbol_front_in, symbol_version_front_in};
 use elf_table::{HeaderStore, Limits, NameBuf, NameEnd, RunFault};
-use elf_lines::{ConstantNames, show_steps, symbol_front_in, symbol_version_front_in};
 use elf_listing::show_stop;
 use elf_loader::{FoundSymbol, FoundVersion, SymbolLookup, VersionName, look_up};
 use elf_model::Format;

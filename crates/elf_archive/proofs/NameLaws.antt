@@ -15,7 +15,7 @@ use Rattle.elf_model.proofs.Slices.{slice-rest}
 use Rattle.elf_table.specs.Faults.{IsOfRead}
 use Rattle.elf_table.specs.declared.fault.Fault.{Fault}
 use Rattle.elf_table.specs.declared.fault.Fault.TheVariants.{Refused, Source}
-use Rattle.elf_fields.specs.Named.{shown_as}
+use Rattle.elf_format.specs.Named.{shown_as}
 use Rattle.elf_table.specs.NamesRead.{Refuses}
 use Rattle.elf_archive.specs.Members.{NameShown, member_name_cost, told_cost}
 use Rattle.elf_archive.proofs.MemberLaws.{name-of}

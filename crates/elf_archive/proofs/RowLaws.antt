@@ -14,7 +14,7 @@ use Rattle.elf_source.specs.Source.{CountedState}
 use Rattle.elf_table.specs.Faults.{IsReadFault, IsReadRefusal}
 use Rattle.elf_table.specs.declared.fault.Fault.{Fault}
 use Rattle.elf_table.specs.declared.fault.Fault.TheVariants.{Refused}
-use Rattle.elf_fields.specs.Named.{shown_as}
+use Rattle.elf_format.specs.Named.{shown_as}
 use Rattle.elf_archive.specs.Archives.{MagicRead}
 use Rattle.elf_archive.proofs.NameLaws.{bsd_looked, told-short}
 

@@ -6,9 +6,8 @@ ghost use Rattle.elf_archive.specs.Listed.{AnswersAfter, HoldsOrBreaks};
 ghost use Rattle.elf_archive.specs.Members.{member_of};
 
 use crate::member::{FileRange, Member};
-use elf_fields::{Columns, LinePrefix, Object, show_named};
+use elf_format::{Columns, LinePrefix, member_prefix, Object, show_named};
 use elf_table::{NameBuf, RunFault};
-use elf_lines::member_prefix;
 use elf_model::Format;
 use elf_source::{DeferredLine, DeferredSink, Out, OutFault, Sink, SliceSink};
 

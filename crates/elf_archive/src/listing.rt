@@ -19,7 +19,7 @@ use crate::magic_strings::magic;
 use crate::member::{FileRange, Member};
 use crate::parts::list_member;
 use elf_table::{Caps, HeaderStore, NameBuf, RunFault, Style};
-use elf_lines::show_refusal;
+use elf_format::show_refusal;
 use elf_listing::show_stop;
 use elf_record::Parts;
 use elf_source::{Counted, DeferredSink, Out, RangeSource, Sink, Source};

@@ -5,7 +5,7 @@ ghost use Rattle.elf_model.specs.ArchiveCost.{long_name_bytes};
 ghost use Rattle.elf_model.specs.Bytes.{slice};
 ghost use Rattle.elf_model.specs.Notes.{capped};
 ghost use Rattle.elf_table.specs.Faults.{IsOfRead};
-ghost use Rattle.elf_fields.specs.Named.{shown_as};
+ghost use Rattle.elf_format.specs.Named.{shown_as};
 ghost use Rattle.elf_archive.specs.Members.{AsksAtMost, FrontRead, LengthTold, NameShown, NamesInBounds};
 ghost use Rattle.elf_archive.specs.Members.{extent_of_names, member_name_cost, told_cost};
 

@@ -3,10 +3,10 @@ ghost use Rattle.std.specs.Prelude.{◌≡◌, ◌≤◌, length};
 ghost use Rattle.arrayvec.specs.ArrayVec.{array_vec_len};
 ghost use Rattle.elf_model.specs.Fields.{with_fields};
 ghost use Rattle.elf_source.specs.Output.{OutPuts};
-ghost use Rattle.elf_fields.specs.Fronts.{front_of};
+ghost use Rattle.elf_format.specs.Fronts.{front_of};
 ghost use Rattle.elf_model.specs.BindingLines.{binding_front, binding_line, binding_state_name, definer_fields};
 
-use elf_fields::{
+use elf_format::{
     Columns, LineBuf, LinePrefix, Object, Render, begin_named, put_decimal, put_name_or_decimal,
     put_text, show_named,
 };

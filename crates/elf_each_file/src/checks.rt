@@ -7,7 +7,7 @@ ghost use Rattle.elf_each_file.specs.ToldChecks.{Finds, ceiling_of_check, cost_o
 use crate::check_file::check;
 use crate::sorted::check_sorted;
 use elf_table::{Caps, HeaderStore};
-use elf_lines::show_check;
+use elf_format::show_check;
 use elf_many::{FileVisitor, status};
 use elf_model::FileStatus;
 use elf_record::Parts;

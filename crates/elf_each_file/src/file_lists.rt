@@ -8,7 +8,7 @@ use crate::line_prefixes::{find_file_type, front_bytes};
 use crate::headed::list_with_path_line;
 use crate::options::ListOptions;
 use elf_table::{Caps, HeaderStore, Limits, RunFault};
-use elf_lines::show_check;
+use elf_format::show_check;
 use elf_many::{FileVisitor, status};
 use elf_model::{FileMagic, FileStatus, Format};
 use elf_source::{Counted, DeferredSink, Out, OutFault, RangeSource, Sink, Source};

@@ -1,12 +1,12 @@
 //! The line of a path.
 ghost use Rattle.std.specs.Prelude.{◌≡◌, ◌≤◌, length};
-ghost use Rattle.elf_fields.specs.Fronts.{front_of};
+ghost use Rattle.elf_format.specs.Fronts.{front_of};
 ghost use Rattle.elf_model.specs.FileLists.{path_front, path_line};
 ghost use Rattle.elf_archive.specs.Listed.{HoldsOrBreaks};
 ghost use Rattle.elf_source.specs.Output.{OutPuts};
 
 use elf_archive::DEFERRED_LINE_BYTES;
-use elf_fields::{Columns, LinePrefix, Object, Render, begin_named, show_named};
+use elf_format::{Columns, LinePrefix, Object, Render, begin_named, show_named};
 use elf_model::Format;
 use elf_source::{DeferredLine, DeferredSink, Out, OutFault, Sink, SliceSink};
 

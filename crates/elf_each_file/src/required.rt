@@ -3,7 +3,7 @@ ghost use Rattle.std.specs.Prelude.{◌≡◌};
 ghost use Rattle.elf_model.specs.TraitWords.{has_word, is_program, lacking};
 ghost use Rattle.elf_options.specs.Required.{required_word, required_words};
 
-use elf_lines::column_word;
+use elf_format::column_word;
 use elf_model::{ProgramKind, TraitColumn, Traits};
 use elf_options::RequiredTrait;
 

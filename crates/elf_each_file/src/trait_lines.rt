@@ -7,7 +7,7 @@ ghost use Rattle.elf_options.specs.Required.{required_words};
 use crate::file_traits::traits_within;
 use crate::required::lacking;
 use elf_table::{HeaderStore, Limits};
-use elf_lines::{show_check, show_missing_trait, show_traits};
+use elf_format::{show_check, show_missing_trait, show_traits};
 use elf_many::{FileVisitor, status};
 use elf_model::{FileStatus, Format, Traits};
 use elf_source::{Counted, DeferredSink, Out, OutFault, RangeSource, Sink, Source};

@@ -5,9 +5,9 @@ use Rattle.std.proofs.lemmas.List.{drop_all}
 use Rattle.std.proofs.lemmas.Bool.{cases_Bool}
 use Rattle.std.proofs.lemmas.Bool.Decides.{nat_tests}
 use Rattle.elf_model.specs.Lines.{name_byte_text}
-use Rattle.elf_fields.specs.Told.{reported_byte, reported_text}
-use Rattle.elf_fields.specs.Pieces.{TakesBefore}
-use Rattle.elf_fields.proofs.Pieces.{TakesBefore-front, TakesBefore-then}
+use Rattle.elf_format.specs.Told.{reported_byte, reported_text}
+use Rattle.elf_format.specs.Pieces.{TakesBefore}
+use Rattle.elf_format.proofs.Pieces.{TakesBefore-front, TakesBefore-then}
 use Rattle.elf_model.specs.Text.{digit, hex}
 use Rattle.elf_source.specs.Output.{OutState, SinkTakes, SinkTakesPrefix}
 use Rattle.elf_source.proofs.PutsLaws.{SinkTakesPrefix-more}

@@ -2,7 +2,7 @@
 use Rattle.std.specs.Prelude.{ℕ, ◌==◌, ◌&&◌, if◌then◌else◌, List, [], ◌∷◌, ◌++◌, length}
 use Rattle.elf_model.specs.Text.{newline}
 use Rattle.elf_model.specs.Lines.{name_byte_text}
-use Rattle.elf_fields.specs.Told.{reported_text}
+use Rattle.elf_format.specs.Told.{reported_text}
 
 -- a byte of a text, by the byte at its place in another: where both are newlines it stands as it is, else it is spelt as in a name
 unfoldable pub byte_beside : ℕ → ℕ → List ℕ

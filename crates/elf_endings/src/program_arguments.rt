@@ -7,7 +7,7 @@ ghost use Rattle.elf_listing_requests.specs.declared.faults.RequestFault.TheVari
 
 use crate::exit_lines::{BAD_WORDS, ExitLine, NOT_UTF8, OUT_OF_MEMORY, refused};
 use crate::outputs::{ERROR_LINE_BYTES, write_rest};
-use elf_fields::show_escaped_text;
+use elf_format::show_escaped_text;
 use elf_listing_requests::{RequestFault, parse_arguments};
 use elf_source::{Out, OutFault, Sink, WriteSink};
 use std::alloc::{AllocError, Global};

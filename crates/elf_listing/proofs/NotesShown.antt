@@ -11,7 +11,7 @@ use Rattle.elf_model.specs.Style.{Style}
 use Rattle.elf_model.specs.declared.causes.Cause.TheVariants.{NoteCut}
 use Rattle.elf_model.proofs.NoteLaws.{walked-is}
 use Rattle.elf_record.specs.declared.note_head.NoteHead.{NoteHead}
-use Rattle.elf_fields.specs.Named.{shown_as}
+use Rattle.elf_format.specs.Named.{shown_as}
 use Rattle.elf_note.specs.NoteCursors.{AdvancesNote, NoteCursorState, IsNoteFound, NameIs, ShowsNote, StopsNote, notes_from, notes_left, no_notes, cut_at, note_cut}
 use Rattle.elf_note.specs.declared.note_row.NoteRow.{NoteRow}
 use Rattle.elf_source.specs.Output.{OutState}

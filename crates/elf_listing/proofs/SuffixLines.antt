@@ -9,7 +9,7 @@ use Rattle.elf_model.specs.Suffixes.{line_suffixed, suffix_members, suffix_text,
 use Rattle.elf_model.specs.Text.{newline}
 use Rattle.elf_model.specs.declared.formats.Format.{Format}
 use Rattle.elf_model.specs.declared.formats.Format.TheVariants.{Columns, Object}
-use Rattle.elf_fields.specs.Named.{line_tailed, escaped_bytes, tailed_line}
+use Rattle.elf_format.specs.Named.{line_tailed, escaped_bytes, tailed_line}
 use Rattle.elf_table.specs.NamesRead.{shown_by}
 use Rattle.elf_table.specs.declared.names.NameEnd.{NameEnd}
 use Rattle.elf_table.specs.declared.names.NameEnd.TheVariants.{Whole, Cut}
@@ -17,7 +17,7 @@ use Rattle.elf_model.specs.Choice.{EveryRow}
 use Rattle.elf_model.specs.Listing.{lines_of}
 use Rattle.elf_model.specs.Suffixes.{suffixed_row}
 use Rattle.elf_model.specs.declared.causes.Cause.{Cause}
-use Rattle.elf_fields.specs.Named.{shown_as}
+use Rattle.elf_format.specs.Named.{shown_as}
 use Rattle.elf_source.specs.Output.{SinkTakes, SinkTakesPrefix, OutState}
 use Rattle.elf_table.specs.NamesRead.{NameRead}
 use Rattle.elf_listing.specs.Shows.{WroteItems, cut_of}

@@ -6,7 +6,7 @@
 pub const FIXED_BYTES: usize = elf_table::TABLE_BUFFER_BYTES
     + elf_names::NAMES_BUFFER_BYTES
     + elf_note::NOTES_BUFFER_BYTES
-    + elf_fields::LINES_BUFFER_BYTES
+    + elf_format::LINES_BUFFER_BYTES
     + DESCRIPTOR_TEXT_BYTES;
 
 /// The size in bytes of the digits of a note's descriptor, two for each byte that is shown.

@@ -10,9 +10,8 @@ ghost use Rattle.elf_listing.specs.declared.dynamic_row.DynamicStringTable.TheVa
 ghost use Rattle.elf_listing.specs.declared.rows.RowLayout.TheVariants.{Dynamic};
 
 use crate::listing::Listing;
-use elf_fields::{LinePrefix, Render};
+use elf_format::{dynamic_prefix, LinePrefix, Render};
 use elf_table::{ExecutionView, Fault, NameEnd, Names, refused, Row, RunFault};
-use elf_lines::dynamic_prefix;
 use elf_names::NameIndex;
 use elf_note::DynamicStrings;
 use elf_record::numbers::{DT_NEEDED, DT_RPATH, DT_RUNPATH, DT_SONAME};

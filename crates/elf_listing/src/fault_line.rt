@@ -3,7 +3,7 @@ ghost use Rattle.elf_source.specs.Growth.{OutGrows};
 ghost use Rattle.elf_listing.specs.Reports.{ReturnsStop};
 
 use elf_table::RunFault;
-use elf_lines::show_refusal;
+use elf_format::show_refusal;
 use elf_model::Format;
 use elf_source::{Out, Sink};
 

@@ -6,7 +6,7 @@ ghost use Rattle.elf_listing.specs.Viewed.{IsViewed};
 ghost use Rattle.elf_table.specs.Load.{IsOpen};
 
 use elf_table::{File, NameBuf, Style};
-use elf_lines::ConstantNames;
+use elf_format::ConstantNames;
 use elf_names::ReadAhead;
 use elf_source::{Counted, Out, Sink, Source};
 

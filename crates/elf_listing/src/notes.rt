@@ -5,9 +5,8 @@ ghost use Rattle.elf_listing.specs.Notes.{ListsNote, ListsNotes};
 
 use crate::listing::Listing;
 use crate::row::is_cut;
-use elf_fields::{Columns, LinePrefix, Object, Render};
+use elf_format::{Columns, LinePrefix, note_prefix, Object, Render, show_note};
 use elf_table::{RunFault, Table};
-use elf_lines::{note_prefix, show_note};
 use elf_model::Format;
 use elf_note::{NoteCursor, NoteRow};
 use elf_source::{Sink, Source};

@@ -7,9 +7,8 @@ ghost use Rattle.elf_listing.specs.declared.rows.RowLayout.TheVariants.{Versions
 
 use crate::row_selection::Choosing;
 use crate::listing::Listing;
-use elf_fields::{LinePrefix, Render};
+use elf_format::{LinePrefix, Render, symbol_version_prefix};
 use elf_table::{Fault, NameEnd, Names, refused, Row, RunFault};
-use elf_lines::symbol_version_prefix;
 use elf_names::NameIndex;
 use elf_record::{Cause, u16_at, version_number};
 use elf_source::{Sink, Source};

@@ -8,9 +8,8 @@ ghost use Rattle.elf_listing.specs.declared.rows.RowLayout.TheVariants.{Relocati
 
 use crate::row_selection::Choosing;
 use crate::listing::Listing;
-use elf_fields::{LinePrefix, Render};
+use elf_format::{LinePrefix, relocation_prefix, Render};
 use elf_table::{Fault, NameEnd, Names, refused, Row, RunFault, Table};
-use elf_lines::relocation_prefix;
 use elf_names::NameIndex;
 use elf_record::{Cause, Rela};
 use elf_source::{Sink, Source};

@@ -1,6 +1,6 @@
 //! The row of a table, shown.
 ghost use Rattle.std.specs.Prelude.{◌≡◌, ◌≤◌, length};
-ghost use Rattle.elf_fields.specs.Fronts.{front_of};
+ghost use Rattle.elf_format.specs.Fronts.{front_of};
 ghost use Rattle.elf_listing.specs.Choosing.{ShowsRows};
 ghost use Rattle.elf_listing.specs.Kinds.{ListsRow, RowFits};
 ghost use Rattle.elf_listing.specs.Shows.{ListsLine, cut_of};
@@ -8,9 +8,8 @@ ghost use Rattle.elf_listing.specs.declared.rows.RowLayout.TheVariants.{Segments
 
 use crate::row_selection::Choosing;
 use crate::listing::Listing;
-use elf_fields::{LinePrefix, Render, show_named};
+use elf_format::{LinePrefix, Render, segment_row, show_named, symbol_prefix};
 use elf_table::{NameEnd, Names, Row, RunFault};
-use elf_lines::{segment_row, symbol_prefix};
 use elf_names::NameIndex;
 use elf_record::{Phdr, Sym};
 use elf_source::{Sink, Source};

@@ -9,7 +9,7 @@ use crate::listing::Listing;
 use crate::numbered::VersionStrings;
 use crate::row_cursor::RowCursor;
 use crate::suffixes::VersionLookup;
-use elf_fields::{Columns, LinePrefix, Object, Render};
+use elf_format::{Columns, LinePrefix, Object, Render};
 use elf_table::{Names, Row, RunFault, Table};
 use elf_model::Format;
 use elf_source::{Sink, Source};

@@ -8,9 +8,8 @@ ghost use Rattle.elf_listing.specs.declared.parts.Part.TheVariants.{SectionNotes
 use crate::dynamic_row::DynamicStringTable;
 use crate::listing::Listing;
 use crate::rows::RowLayout;
-use elf_fields::{Columns, LinePrefix, Object, Render};
+use elf_format::{Columns, LinePrefix, Object, Render, section_prefix};
 use elf_table::{holds_symbols, RunFault};
-use elf_lines::section_prefix;
 use elf_model::Format;
 use elf_record::numbers::{SHT_DYNAMIC, SHT_NOTE, SHT_RELA};
 use elf_record::sizes::DYNAMIC_BYTES;

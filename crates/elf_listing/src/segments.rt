@@ -7,9 +7,8 @@ ghost use Rattle.elf_listing.specs.declared.parts.Part.TheVariants.{SegmentDynam
 use crate::dynamic_row::DynamicStringTable;
 use crate::listing::Listing;
 use crate::rows::RowLayout;
-use elf_fields::{Columns, Object, Render};
+use elf_format::{Columns, Object, Render, segment_row};
 use elf_table::{ExecutionView, RunFault};
-use elf_lines::segment_row;
 use elf_model::Format;
 use elf_note::dynamic_strings;
 use elf_record::numbers::{PT_DYNAMIC, PT_NOTE};

@@ -1,6 +1,6 @@
 //! Lines that end in a name with its version.
 ghost use Rattle.std.specs.Prelude.{◌≡◌, ◌≤◌, length};
-ghost use Rattle.elf_fields.specs.Fronts.{front_of};
+ghost use Rattle.elf_format.specs.Fronts.{front_of};
 ghost use Rattle.elf_listing.specs.Shows.{cut_of};
 ghost use Rattle.elf_listing.specs.Suffixed.{ListsSuffixed, suffix_read};
 ghost use Rattle.elf_listing.specs.SuffixTexts.{before_version, after_version};
@@ -8,7 +8,7 @@ ghost use Rattle.elf_listing.specs.SuffixTexts.{before_version, after_version};
 use crate::listing::Listing;
 use crate::read_suffix::VersionSuffixEnd;
 use crate::row::is_cut;
-use elf_fields::{LinePrefix, SecondName, show_joined};
+use elf_format::{LinePrefix, SecondName, show_joined};
 use elf_table::{NameBuf, NameEnd, RunFault};
 use elf_model::Format;
 use elf_source::{Sink, Source};

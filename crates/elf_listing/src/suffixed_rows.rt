@@ -7,9 +7,8 @@ ghost use Rattle.elf_listing.specs.declared.rows.RowLayout.TheVariants.{Suffixed
 use crate::row_selection::Choosing;
 use crate::listing::Listing;
 use crate::suffixes::VersionLookup;
-use elf_fields::{LinePrefix, Render};
+use elf_format::{LinePrefix, Render, symbol_prefix};
 use elf_table::{NameBuf, Names, Row, RunFault};
-use elf_lines::symbol_prefix;
 use elf_names::NameIndex;
 use elf_record::Sym;
 use elf_source::{Sink, Source};

@@ -9,9 +9,8 @@ ghost use Rattle.elf_listing.specs.declared.parts.Part.TheVariants.{Definitions,
 
 use crate::row_selection::{AllRows, Choosing, NamedRows};
 use crate::listing::Listing;
-use elf_fields::{Columns, LinePrefix, Object, Render};
+use elf_format::{Columns, LinePrefix, Object, Render, version_prefix};
 use elf_table::{Names, RunFault};
-use elf_lines::version_prefix;
 use elf_model::Format;
 use elf_names::NameIndex;
 use elf_record::VersionKind;

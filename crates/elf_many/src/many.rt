@@ -6,7 +6,7 @@ ghost use Rattle.elf_source.specs.Output.{OutPuts};
 
 use crate::each_file::FileVisitor;
 use crate::statuses::status;
-use elf_lines::{show_check, show_unnamed};
+use elf_format::{show_check, show_unnamed};
 use elf_model::{FileStatus, Format};
 use elf_source::{Counted, DeferredSink, Out, OutFault, RangeSource, Sink, Source};
 use std::io::Write;

@@ -10,7 +10,7 @@ use crate::bound_states::{DefinitionAt, item_of};
 use crate::walk::{DependencyWalk, NeedsFault};
 use elf_binding::{Object, OpenObjects, ReferenceNames, is_budget_fault, is_unbound, show_binding};
 use elf_table::Fault;
-use elf_lines::show_refusal;
+use elf_format::show_refusal;
 use elf_model::Format;
 use elf_source::{Out, Sink, Source};
 

@@ -1,7 +1,7 @@
 //! How a long name is written.
 use crate::source_tests::printer_sink;
 use elf_fakes::FaultScript;
-use elf_lines::show_symbol;
+use elf_format::show_symbol;
 use elf_model::Format;
 use elf_record::Sym;
 use elf_source::Out;

@@ -12,7 +12,7 @@ use elf_endings::{ERROR_LINE_BYTES, write_rest};
 use elf_explain::explain;
 use elf_table::{HeaderStore, NameBuf, NameEnd, RunFault};
 use elf_layout::Addresses;
-use elf_lines::show_missing;
+use elf_format::show_missing;
 use elf_record::Refusal;
 use elf_requests::{Request, Task};
 use elf_source::{Counted, Out, Sink, Source, WriteSink};

@@ -3,7 +3,7 @@ ghost use Rattle.std.specs.Prelude.{◌≡◌, Option};
 ghost use Rattle.elf_model.specs.declared.causes.Cause.{Cause as IsCause};
 ghost use Rattle.elf_calls.specs.Words.{IsNumbered, PutsFront, PutsWord};
 
-use elf_lines::cause_word;
+use elf_format::cause_word;
 use elf_record::Cause;
 
 /// The library's version, 0.1.0: a byte of zeros, and the three numbers in a byte each.

@@ -2,7 +2,7 @@
 use Rattle.std.proofs.Common.{subst}
 use Rattle.elf_model.specs.Lines.{named_line}
 use Rattle.elf_source.specs.Output.{OutPuts}
-use Rattle.elf_fields.specs.Named.{shown_as}
+use Rattle.elf_format.specs.Named.{shown_as}
 use Rattle.elf_loader.specs.FoundVersions.{version_found}
 use Rattle.elf_options.specs.Wants.{asked_of}
 use Rattle.elf_answers.proofs.LookupLaws.{version_line}

@@ -1,7 +1,7 @@
 use Rattle.std.proofs.Common.{◌≡◌, ◌+◌, Ok, refl, sym, ap, ◌∙◌, arith}
 use Rattle.elf_model.specs.Archive.{Broken, bytes_in}
 use Rattle.elf_model.specs.declared.causes.Cause.TheVariants.{MemberCut}
-use Rattle.elf_fields.specs.Named.{shown_as}
+use Rattle.elf_format.specs.Named.{shown_as}
 use Rattle.elf_archive.specs.MemberRows.{extent_in, member_in, walk_at}
 use Rattle.elf_archive.specs.Members.{extent_of}
 use Rattle.elf_archive.specs.declared.rows.MemberRow.{MemberRow}

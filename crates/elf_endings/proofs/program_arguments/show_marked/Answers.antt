@@ -3,8 +3,8 @@ use Rattle.std.proofs.Common.{◌≡◌, ◌≢◌, length, sym, subst, arith}
 use Rattle.std.proofs.lemmas.Bool.Decides.{nat_tests}
 use Rattle.std.proofs.lemmas.Result.{err_from_is_err_and}
 use Rattle.elf_source.specs.Output.{OutPuts}
-use Rattle.elf_fields.specs.Pieces.{TakesBefore}
-use Rattle.elf_fields.proofs.Pieces.{OutPuts-rest}
+use Rattle.elf_format.specs.Pieces.{TakesBefore}
+use Rattle.elf_format.proofs.Pieces.{OutPuts-rest}
 use Rattle.elf_endings.specs.Marked.{bytes_beside}
 use Rattle.elf_endings.proofs.MarkedText.{beside-front, beside-more, beside-none, beside-other, beside-same}
 use Rattle.elf_endings.proofs.program_arguments.show_marked.Goals as goal

@@ -1,6 +1,6 @@
 -- What was written, and the bytes that are left, are the text at each turn.
 use Rattle.std.proofs.Common.{drop}
-use Rattle.elf_fields.specs.Pieces.{TakesBefore}
+use Rattle.elf_format.specs.Pieces.{TakesBefore}
 use Rattle.elf_endings.specs.Marked.{bytes_beside}
 use Rattle.elf_endings.proofs.program_arguments.show_marked.Given as goal
 

@@ -3,7 +3,7 @@ use Rattle.std.proofs.lemmas.Result.{err_from_is_err_and}
 use Rattle.elf_options.specs.Permitted.{style_of}
 use Rattle.elf_model.specs.Lines.{note_line}
 use Rattle.elf_model.specs.Listing.{Line}
-use Rattle.elf_fields.specs.Named.{shown_as}
+use Rattle.elf_format.specs.Named.{shown_as}
 use Rattle.elf_listing.proofs.NotesShown.{named_as, note_is}
 use Rattle.elf_listing.proofs.RowLaws.{Whole-line, WroteUntilStop-line}
 use Rattle.elf_names.proofs.SpendsLaws.{SpendsAtMost-none}

@@ -1,7 +1,7 @@
 -- The line is put whole, or a front of it at a fault.
 use Rattle.std.proofs.Common.{rules, ◌≡◌, ◌≤◌, refl, ◌∙◌, arith}
 use Rattle.std.proofs.lemmas.Result.{err_from_is_err_and}
-use Rattle.elf_fields.specs.Fronts.{front_of}
+use Rattle.elf_format.specs.Fronts.{front_of}
 use Rattle.elf_names.proofs.SpendsLaws.{SpendsAtMost-none}
 use Rattle.elf_source.proofs.GrowthLaws.{grows_put}
 use Rattle.elf_listing.proofs.SuffixLines.{Fronts-suffixed, WroteText-suffixed}

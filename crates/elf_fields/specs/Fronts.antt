@@ -1,6 +1,0 @@
--- What stands before a line's name, as the definitions have it.
-use Rattle.elf_model.specs.Fields.{LinePrefix}
-use Rattle.elf_fields.specs.declared.fields.LinePrefix.{LinePrefix as Built}
-
-abbrev pub front_of : Built → LinePrefix
-front_of built = record { format = built.format; key = built.key.now; text = built.line.items }

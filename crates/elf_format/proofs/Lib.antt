@@ -1,0 +1,12 @@
+pub mod Decimals
+pub mod Digits
+pub mod NameText
+pub mod Pairs
+pub mod Pieces
+pub mod ToldText
+pub mod HexText
+pub mod LackText
+pub mod Names
+pub mod NoteText
+pub mod PutsSteps
+pub mod TagBits

@@ -1,0 +1,7 @@
+-- A name of the column's width takes no more room in an object.
+use Rattle.std.proofs.Common.{arith}
+use Rattle.elf_format.proofs.fields.put_name_or_hex.Goals as goal
+
+pub returns-in-Object-clause-len : goal.returns-in-Object-clause-len
+returns-in-Object-clause-len g c =
+    let most = c.put_name_or_number.ensures.len c.args.width c.requires.short in omega arith

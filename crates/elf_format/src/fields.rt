@@ -1,0 +1,260 @@
+//! The fields of a line, in columns or as the members of a JSON object.
+ghost use Rattle.std.specs.Prelude.{◌≡◌, ◌+◌, ◌≤◌, ◌++◌, ◌∷◌, [], length, max, IfSome};
+ghost use Rattle.std.specs.Prelude.{option_copied};
+ghost use Rattle.arrayvec.specs.ArrayVec.{array_vec_len};
+ghost use Rattle.elf_model.specs.Fields.{begun, closing, with_field};
+ghost use Rattle.elf_model.specs.Fields.Field.{Decimal, Hexadecimal, NameOrDecimal};
+ghost use Rattle.elf_model.specs.Fields.Field.{NameOrHexadecimal, NameOrNumber, Signed, ArgSpec};
+ghost use Rattle.elf_model.specs.Text.{space};
+ghost use Rattle.elf_format.specs.Rooms.{half_room, number_room, text_room};
+
+use crate::columns::{LineBuf, number_sign, put, put_hex, put_left, put_right, put_spaces};
+use crate::objects::{put_key, put_name_or_number, put_number, put_quoted};
+use crate::render::Render;
+use elf_model::Format;
+
+/// What stands before a line's name, how the line is written, and the key of the name.
+#[derive(Drop)]
+pub struct LinePrefix {
+    /// The line up to its name.
+    pub line: LineBuf,
+    /// How it is written.
+    pub format: Format,
+    /// The key of its name in an object.
+    pub key: &'static [u8],
+}
+
+impl LinePrefix {
+    /// Room for the fronts of lines, one after another.
+    pub fn new() -> LinePrefix {
+        LinePrefix {
+            line: LineBuf::new(),
+            format: Format::Columns,
+            key: b"",
+        }
+    }
+}
+
+/// Begins a line anew that ends in a name of a key, with its letter.
+pub fn begin_named<R: Render>(front: &mut LinePrefix, letter: &[u8], key: &'static [u8])
+    requires { length letter.now ≤ 1 }
+    ensures items { front.new.line.items ≡ begun R.FORMAT letter.now }
+    ensures len { array_vec_len front.new.line ≤ 11 }
+    ensures format { front.new.format ≡ R.FORMAT }
+    ensures key { front.new.key.now ≡ key.now }
+{
+    begin::<R>(&mut front.line, letter);
+    front.format = R::FORMAT;
+    front.key = key;
+}
+
+/// Begins a line anew, with its letter.
+#[tactic(auto, unfolding(elf_model::specs::Fields::begun))]
+pub fn begin<R: Render>(line: &mut LineBuf, letter: &[u8])
+    requires { length letter.now ≤ 1 }
+    ensures items { line.new.items ≡ begun R.FORMAT letter.now }
+    ensures len { array_vec_len line.new ≤ 11 }
+{
+    line.clear();
+    match R::FORMAT {
+        Format::Columns => {
+            put(line, letter);
+            line.push(b' ');
+        }
+        Format::Object => {
+            put(line, b"{\"line\":\"");
+            put(line, letter);
+            line.push(b'"');
+        }
+    }
+}
+
+/// Puts a number that stands in decimal at the right of a column of this width, and the byte that
+/// ends the column. A longer number is not cut.
+#[tactic(auto, unfolding(elf_model::specs::Fields::with_field, elf_model::specs::Text::right_decimal))]
+#[inline(always)]
+pub fn put_decimal<R: Render>(line: &mut LineBuf, key: &[u8], width: usize, number: u64, end: u8)
+    requires room { array_vec_len line.old + number_room (length key.now) ≤ 256 }
+    requires width { width ≤ 20 }
+    ensures items { line.new.items
+        ≡ with_field R.FORMAT line.old.items (Decimal key.now width number) (end ∷ []) }
+    ensures len { array_vec_len line.new ≤ array_vec_len line.old + number_room (length key.now) }
+{
+    match R::FORMAT {
+        Format::Columns => put_right(line, width, number, end),
+        Format::Object => put_number(line, key, number),
+    }
+}
+
+/// Puts a number of 16 bits, in decimal at the right of five columns, and the byte that ends the
+/// column.
+#[tactic(auto, unfolding(elf_model::specs::Fields::with_field, elf_model::specs::Text::right_decimal))]
+#[inline(always)]
+pub fn put_half<R: Render>(line: &mut LineBuf, key: &[u8], number: u16, end: u8)
+    requires { array_vec_len line.old + half_room (length key.now) ≤ 256 }
+    ensures items { line.new.items
+        ≡ with_field R.FORMAT line.old.items (Decimal key.now 5 number) (end ∷ []) }
+    ensures len { array_vec_len line.new ≤ array_vec_len line.old + half_room (length key.now) }
+{
+    match R::FORMAT {
+        Format::Columns => put_right(line, 5, u64::from(number), end),
+        Format::Object => put_number(line, key, number),
+    }
+}
+
+/// Puts a number in so many hexadecimal digits, and the byte that ends the column.
+#[tactic(auto, unfolding(elf_model::specs::Fields::with_field))]
+#[inline(always)]
+pub fn put_hexadecimal<R: Render>(line: &mut LineBuf, key: &[u8], digits: u32, number: u64, end: u8)
+    requires room { array_vec_len line.old + number_room (length key.now) ≤ 256 }
+    requires digits { digits ≤ 16 }
+    ensures items { line.new.items
+        ≡ with_field R.FORMAT line.old.items (Hexadecimal key.now digits number) (end ∷ []) }
+    ensures len { array_vec_len line.new ≤ array_vec_len line.old + number_room (length key.now) }
+{
+    match R::FORMAT {
+        Format::Columns => {
+            put_hex(line, digits, number);
+            line.push(end);
+        }
+        Format::Object => put_number(line, key, number),
+    }
+}
+
+/// Puts a number with its sign, and its absolute value in sixteen hexadecimal digits, and a space.
+#[tactic(auto, unfolding(elf_model::specs::Fields::with_field, elf_model::specs::Fields::signed_text))]
+#[inline(always)]
+pub fn put_signed<R: Render>(line: &mut LineBuf, key: &[u8], number: i64)
+    requires { array_vec_len line.old + number_room (length key.now) ≤ 256 }
+    ensures items { line.new.items
+        ≡ with_field R.FORMAT line.old.items (Signed key.now number) space }
+    ensures len { array_vec_len line.new ≤ array_vec_len line.old + number_room (length key.now) }
+{
+    match R::FORMAT {
+        Format::Columns => {
+            line.push(if number < 0 { b'-' } else { b'+' });
+            put_hex(line, 16, number.unsigned_abs());
+            line.push(b' ');
+        }
+        Format::Object => put_number(line, key, number),
+    }
+}
+
+/// Puts a text at the left of a column of this width, and the byte that ends the column. A longer
+/// text is not cut.
+#[tactic(auto, unfolding(elf_model::specs::Fields::with_field))]
+pub fn put_text<R: Render>(line: &mut LineBuf, key: &[u8], width: usize, text: &[u8], end: u8)
+    requires { array_vec_len line.old + text_room (length key.now) (max width (length text.now))
+        ≤ 256 }
+    ensures items { line.new.items
+        ≡ with_field R.FORMAT line.old.items (ArgSpec key.now width text.now) (end ∷ []) }
+    ensures len { array_vec_len line.new
+        ≤ array_vec_len line.old + text_room (length key.now) (max width (length text.now)) }
+{
+    match R::FORMAT {
+        Format::Columns => put_left(line, width, text, end),
+        Format::Object => {
+            put_key(line, key);
+            put_quoted(line, text);
+        }
+    }
+}
+
+/// Puts a name at the left of a column of this width, or a decimal number that has none at the
+/// right of it, and a space.
+#[tactic(auto, unfolding(elf_model::specs::Fields::with_field, elf_model::specs::Text::right_decimal))]
+#[inline(always)]
+pub fn put_name_or_decimal<R: Render>(
+    line: &mut LineBuf,
+    key: &[u8],
+    width: usize,
+    name: Option<&'static str>,
+    number: u64,
+)
+    requires room { array_vec_len line.old + text_room (length key.now) 10 ≤ 256 }
+    requires width { width ≤ 10 }
+    requires short { IfSome name (λ name. length name.now ≤ width) }
+    ensures items { line.new.items ≡ with_field R.FORMAT line.old.items
+        (NameOrDecimal key.now width (option_copied name.entry) number) space }
+    ensures len { array_vec_len line.new
+        ≤ array_vec_len line.old + text_room (length key.now) 10 }
+{
+    match R::FORMAT {
+        Format::Columns => match name {
+            Some(name) => put_left(line, width, name.as_bytes(), b' '),
+            None => put_right(line, width, number, b' '),
+        },
+        Format::Object => put_name_or_number(line, key, name, number),
+    }
+}
+
+/// Puts a name at the left of a column of this width, or the last hexadecimal digits of a number
+/// that has none, and a space.
+#[tactic(auto, using(crate::proofs::Digits::length_hex), unfolding(elf_model::specs::Fields::with_field, elf_model::specs::Text::left_in))]
+pub fn put_name_or_hex<R: Render>(
+    line: &mut LineBuf,
+    key: &[u8],
+    width: usize,
+    digits: u32,
+    name: Option<&'static str>,
+    number: u64,
+)
+    requires room { array_vec_len line.old + text_room (length key.now) (max width 10) ≤ 256 }
+    requires width { width ≤ 16 }
+    requires digits { digits ≤ width }
+    requires short { IfSome name (λ name. length name.now ≤ width) }
+    ensures items { line.new.items ≡ with_field R.FORMAT line.old.items
+        (NameOrHexadecimal key.now width digits (option_copied name.entry) number) space }
+    ensures len { array_vec_len line.new
+        ≤ array_vec_len line.old + text_room (length key.now) (max width 10) }
+{
+    match R::FORMAT {
+        Format::Columns => match name {
+            Some(name) => put_left(line, width, name.as_bytes(), b' '),
+            None => {
+                put_hex(line, digits, number);
+                put_spaces(line, width - digits as usize);
+                line.push(b' ');
+            }
+        },
+        Format::Object => put_name_or_number(line, key, name, number),
+    }
+}
+
+/// Puts a name at the left of a column of ten, or a number that has none behind a sign of one, and
+/// a space.
+#[tactic(auto, unfolding(elf_model::specs::Fields::with_field))]
+pub fn put_name_or_sign<R: Render>(
+    line: &mut LineBuf,
+    key: &[u8],
+    name: Option<&'static str>,
+    number: u32,
+)
+    requires room { array_vec_len line.old + text_room (length key.now) 10 ≤ 256 }
+    requires short { IfSome name (λ name. length name.now ≤ 10) }
+    ensures items { line.new.items ≡ with_field R.FORMAT line.old.items
+        (NameOrNumber key.now 10 (option_copied name.entry) number) space }
+    ensures len { array_vec_len line.new
+        ≤ array_vec_len line.old + text_room (length key.now) 10 }
+{
+    match R::FORMAT {
+        Format::Columns => match name {
+            Some(name) => put_left(line, 10, name.as_bytes(), b' '),
+            None => put_left(line, 10, &number_sign(number), b' '),
+        },
+        Format::Object => put_name_or_number(line, key, name, u64::from(number)),
+    }
+}
+
+/// Puts what ends a line behind its last field, which in columns has a newline behind it.
+#[tactic(auto, unfolding(elf_model::specs::Fields::closing))]
+pub fn put_closing<R: Render>(line: &mut LineBuf)
+    requires { array_vec_len line.old + 2 ≤ 256 }
+    ensures items { line.new.items ≡ line.old.items ++ closing R.FORMAT }
+    ensures len { array_vec_len line.new ≤ array_vec_len line.old + 2 }
+{
+    match R::FORMAT {
+        Format::Columns => {}
+        Format::Object => put(line, b"}\n"),
+    }
+}

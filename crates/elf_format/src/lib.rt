@@ -1,0 +1,53 @@
+//! The fields of a line, each put with its key, in columns or as the member of a JSON object; and
+//! lines that end in a name of any length.
+//!
+//! The lines of a listing: each from its record or answer, and the calls that write one.
+#![tactic(auto)]
+
+mod buffers;
+mod check_rows;
+mod columns;
+mod constant_names;
+mod dynamic_rows;
+mod fields;
+mod hexadecimal;
+mod lack_rows;
+mod lookup_rows;
+mod member_rows;
+mod name_tables;
+mod named;
+mod note_rows;
+mod objects;
+mod relocation_rows;
+mod render;
+mod rows;
+mod section_rows;
+mod segment_rows;
+mod symbol_rows;
+mod told;
+mod trait_rows;
+mod version_rows;
+
+pub use buffers::LINES_BUFFER_BYTES;
+pub use check_rows::{put_fault, show_check, show_unnamed};
+pub use columns::{LineBuf, line_of, number_sign, put, put_where};
+pub use constant_names::ConstantNames;
+pub use dynamic_rows::dynamic_prefix;
+pub use fields::{
+    LinePrefix, begin, begin_named, put_closing, put_decimal, put_half, put_hexadecimal,
+    put_name_or_decimal, put_name_or_hex, put_name_or_sign, put_signed, put_text,
+};
+pub use lack_rows::show_missing;
+pub use lookup_rows::show_steps;
+pub use member_rows::member_prefix;
+pub use named::{SecondName, show_joined, show_named, show_tailed};
+pub use note_rows::{note_prefix, show_note};
+pub use relocation_rows::relocation_prefix;
+pub use render::{Columns, Object, Render};
+pub use rows::{cause_word, header_row, show_refusal};
+pub use section_rows::section_prefix;
+pub use segment_rows::segment_row;
+pub use symbol_rows::{show_symbol, symbol_front_in, symbol_prefix};
+pub use told::show_escaped_text;
+pub use trait_rows::{column_word, show_missing_trait, show_traits};
+pub use version_rows::{symbol_version_front_in, symbol_version_prefix, version_prefix};

@@ -1,0 +1,130 @@
+//! The lines of relocation entries.
+ghost use Rattle.std.specs.Prelude.{◌≡◌, ◌≤◌, ℕ, List, length, IfSome, option_copied};
+ghost use Rattle.elf_model.specs.Text.{name_of};
+ghost use Rattle.elf_model.specs.NameTables.{relocation_names, relocation_types};
+ghost use Rattle.elf_model.specs.LineFronts.{relocation_prefix};
+ghost use Rattle.elf_record.specs.Rela.{IsRela};
+ghost use Rattle.elf_format.specs.Fronts.{front_of};
+
+use crate::name_tables::name_in_either_table;
+use crate::constant_names::ConstantNames;
+use crate::fields::{LinePrefix, begin_named, put_half, put_hexadecimal, put_name_or_sign, put_signed};
+use crate::render::Render;
+use elf_record::Rela;
+use elf_record::gnu_numbers::{
+    R_X86_64_DTPMOD64, R_X86_64_DTPOFF32, R_X86_64_DTPOFF64, R_X86_64_GNU_VTENTRY,
+    R_X86_64_GNU_VTINHERIT, R_X86_64_GOT32, R_X86_64_GOT64, R_X86_64_GOTOFF64, R_X86_64_GOTPC32,
+    R_X86_64_GOTPC32_TLSDESC, R_X86_64_GOTPC64, R_X86_64_GOTPCREL, R_X86_64_GOTPCREL64,
+    R_X86_64_GOTPCRELX, R_X86_64_GOTPLT64, R_X86_64_GOTTPOFF, R_X86_64_IRELATIVE, R_X86_64_PC8,
+    R_X86_64_PC16, R_X86_64_PC32_BND, R_X86_64_PLT32_BND, R_X86_64_PLTOFF64, R_X86_64_RELATIVE64,
+    R_X86_64_REX_GOTPCRELX, R_X86_64_SIZE32, R_X86_64_SIZE64, R_X86_64_TLSDESC,
+    R_X86_64_TLSDESC_CALL, R_X86_64_TLSGD, R_X86_64_TLSLD, R_X86_64_TPOFF32, R_X86_64_TPOFF64,
+};
+use elf_record::numbers::{
+    EM_X86_64, R_X86_64_8, R_X86_64_16, R_X86_64_32, R_X86_64_32S, R_X86_64_64, R_X86_64_COPY,
+    R_X86_64_GLOB_DAT, R_X86_64_JUMP_SLOT, R_X86_64_NONE, R_X86_64_PC32, R_X86_64_PC64,
+    R_X86_64_PLT32, R_X86_64_RELATIVE,
+};
+
+/// The `R` line of a relocation entry up to the name, in place of what the front held: the index of
+/// its section, offset, type on this machine, symbol and addend (gABI 4, Relocation).
+#[tactic(auto, unfolding(elf_model::specs::LineFronts::relocation_prefix))]
+pub fn relocation_prefix<R: Render>(
+    front: &mut LinePrefix,
+    section: u16,
+    entry: &Rela,
+    naming: ConstantNames,
+)
+    ensures front { (file : List ℕ) (at : ℕ) → IsRela file at entry.now → front_of front.new
+        ≡ relocation_prefix R.FORMAT naming.gnu naming.machine file at section }
+    ensures key { length front.new.key.now ≤ 16 }
+{
+    let kind = entry.kind();
+    begin_named::<R>(front, b"R", b"name");
+    let line = &mut front.line;
+    put_half::<R>(line, b"table", section, b' ');
+    put_hexadecimal::<R>(line, b"offset", 16, entry.r_offset, b' ');
+    put_name_or_sign::<R>(line, b"type", name_on_machine(kind, naming), kind);
+    put_hexadecimal::<R>(line, b"symbol", 8, u64::from(entry.symbol()), b' ');
+    put_signed::<R>(line, b"addend", entry.r_addend);
+}
+
+/// The name of a relocation type on the machine. Names are known for x86-64 alone.
+#[tactic(auto, unfolding(elf_model::specs::Text::name_of))]
+fn name_on_machine(kind: u32, naming: ConstantNames) -> Option<&'static str>
+    ensures name { option_copied result
+        ≡ name_of (relocation_names naming.gnu naming.machine) kind }
+    ensures short { IfSome result (λ name. length name.now ≤ 10) }
+{
+    if naming.machine != EM_X86_64 {
+        return None;
+    }
+    relocation_type_name(kind, naming.gnu)
+}
+
+/// The name of a relocation type of x86-64.
+pub(crate) fn relocation_type_name(kind: u32, gnu: bool) -> Option<&'static str>
+    ensures name { option_copied result ≡ name_of (relocation_types gnu) kind }
+    ensures short { IfSome result (λ name. length name.now ≤ 10) }
+{
+    name_in_either_table(
+        &STANDARD_RELOCATION_TYPES,
+        gnu,
+        &FURTHER_RELOCATION_TYPES,
+        u64::from(kind),
+    )
+}
+
+/// The relocation types of x86-64 whose value is stored or that a loader applies (x86-64 psABI,
+/// Relocation Types).
+const STANDARD_RELOCATION_TYPES: [(u64, &str); 13] = [
+    (R_X86_64_NONE as u64, "NONE"),
+    (R_X86_64_64 as u64, "64"),
+    (R_X86_64_PC32 as u64, "PC32"),
+    (R_X86_64_PLT32 as u64, "PLT32"),
+    (R_X86_64_COPY as u64, "COPY"),
+    (R_X86_64_GLOB_DAT as u64, "GLOB_DAT"),
+    (R_X86_64_JUMP_SLOT as u64, "JUMP_SLOT"),
+    (R_X86_64_RELATIVE as u64, "RELATIVE"),
+    (R_X86_64_32 as u64, "32"),
+    (R_X86_64_32S as u64, "32S"),
+    (R_X86_64_16 as u64, "16"),
+    (R_X86_64_8 as u64, "8"),
+    (R_X86_64_PC64 as u64, "PC64"),
+];
+
+/// The further relocation types of x86-64 (x86-64 psABI, Relocation Types).
+const FURTHER_RELOCATION_TYPES: [(u64, &str); 32] = [
+    (R_X86_64_GOT32 as u64, "GOT32"),
+    (R_X86_64_GOTPCREL as u64, "GOTPCREL"),
+    (R_X86_64_PC16 as u64, "PC16"),
+    (R_X86_64_PC8 as u64, "PC8"),
+    (R_X86_64_DTPMOD64 as u64, "DTPMOD64"),
+    (R_X86_64_DTPOFF64 as u64, "DTPOFF64"),
+    (R_X86_64_TPOFF64 as u64, "TPOFF64"),
+    (R_X86_64_TLSGD as u64, "TLSGD"),
+    (R_X86_64_TLSLD as u64, "TLSLD"),
+    (R_X86_64_DTPOFF32 as u64, "DTPOFF32"),
+    (R_X86_64_GOTTPOFF as u64, "GOTTPOFF"),
+    (R_X86_64_TPOFF32 as u64, "TPOFF32"),
+    (R_X86_64_GOTOFF64 as u64, "GOTOFF64"),
+    (R_X86_64_GOTPC32 as u64, "GOTPC32"),
+    (R_X86_64_GOT64 as u64, "GOT64"),
+    (R_X86_64_GOTPCREL64 as u64, "GOTPCREL64"),
+    (R_X86_64_GOTPC64 as u64, "GOTPC64"),
+    (R_X86_64_GOTPLT64 as u64, "GOTPLT64"),
+    (R_X86_64_PLTOFF64 as u64, "PLTOFF64"),
+    (R_X86_64_SIZE32 as u64, "SIZE32"),
+    (R_X86_64_SIZE64 as u64, "SIZE64"),
+    (R_X86_64_GOTPC32_TLSDESC as u64, "GOTPC_TLSD"),
+    (R_X86_64_TLSDESC_CALL as u64, "TLSD_CALL"),
+    (R_X86_64_TLSDESC as u64, "TLSDESC"),
+    (R_X86_64_IRELATIVE as u64, "IRELATIVE"),
+    (R_X86_64_RELATIVE64 as u64, "RELATIVE64"),
+    (R_X86_64_PC32_BND as u64, "PC32_BND"),
+    (R_X86_64_PLT32_BND as u64, "PLT32_BND"),
+    (R_X86_64_GOTPCRELX as u64, "GOTPCRELX"),
+    (R_X86_64_REX_GOTPCRELX as u64, "REX_GOTPCX"),
+    (R_X86_64_GNU_VTINHERIT as u64, "VTINHERIT"),
+    (R_X86_64_GNU_VTENTRY as u64, "VTENTRY"),
+];

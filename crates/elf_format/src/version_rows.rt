@@ -1,0 +1,88 @@
+//! The lines of symbol versions.
+ghost use Rattle.std.specs.Prelude.{◌≡◌, ◌≤◌, if◌then◌else◌, codes, length};
+ghost use Rattle.elf_format.specs.Fronts.{front_of};
+ghost use Rattle.elf_model.specs.VersionRows.{kind_text, version_prefix, symbol_version_prefix};
+
+use crate::render::{Columns, Object, Render};
+use crate::fields::{LinePrefix, begin_named, put_decimal, put_half, put_hexadecimal, put_text};
+use elf_model::Format;
+use elf_record::{VersionKind, version_number};
+
+/// The `V` line of a record of definitions or needs up to its name, in place of what the front held:
+/// the index of its section, its kind, number, flags and hash (Linux Standard Base Core, Symbol
+/// Versioning).
+#[tactic(auto, unfolding(elf_model::specs::VersionRows::version_prefix))]
+pub fn version_prefix<R: Render>(
+    front: &mut LinePrefix,
+    section: u16,
+    kind: VersionKind,
+    number: u16,
+    flags: u16,
+    hash: u32,
+)
+    ensures front { front_of front.new ≡ version_prefix R.FORMAT kind section number flags hash }
+    ensures key { length front.new.key.now ≤ 16 }
+{
+    begin_named::<R>(front, b"V", b"name");
+    let line = &mut front.line;
+    put_half::<R>(line, b"index", section, b' ');
+    put_text::<R>(line, b"kind", 4, kind_name(kind).as_bytes(), b' ');
+    put_half::<R>(line, b"number", number, b' ');
+    put_hexadecimal::<R>(line, b"flags", 4, u64::from(flags), b' ');
+    put_hexadecimal::<R>(line, b"hash", 8, u64::from(hash), b' ');
+}
+
+/// The `X` line of a symbol's version up to its name, in place of what the front held: the index of
+/// the section of version numbers, the symbol's index, and the number with the mark of a hidden
+/// version, of the symbol's `word` (Linux Standard Base Core, Symbol Versioning).
+#[tactic(auto, unfolding(elf_model::specs::VersionRows::symbol_version_prefix))]
+pub fn symbol_version_prefix<R: Render>(front: &mut LinePrefix, section: u16, index: u64, word: u16)
+    ensures front { front_of front.new ≡ symbol_version_prefix R.FORMAT section index word }
+    ensures key { length front.new.key.now ≤ 16 }
+{
+    let number = version_number(word);
+    begin_named::<R>(front, b"X", b"name");
+    let line = &mut front.line;
+    put_half::<R>(line, b"table", section, b' ');
+    put_decimal::<R>(line, b"index", 10, index, b' ');
+    put_half::<R>(line, b"number", number, b' ');
+    put_text::<R>(line, b"hidden", 1, hidden_mark(word == number), b' ');
+}
+
+/// The same in a format that is known only where the program runs.
+pub fn symbol_version_front_in(
+    format: Format,
+    front: &mut LinePrefix,
+    section: u16,
+    index: u64,
+    word: u16,
+)
+    ensures front { front_of front.new ≡ symbol_version_prefix format section index word }
+    ensures key { length front.new.key.now ≤ 16 }
+{
+    match format {
+        Format::Columns => symbol_version_prefix::<Columns>(front, section, index, word),
+        Format::Object => symbol_version_prefix::<Object>(front, section, index, word),
+    }
+}
+
+// The mark of a version that is shown, or hidden.
+fn hidden_mark(shown: bool) -> &'static [u8]
+    ensures mark { result.now ≡ (if shown then codes "-" else codes "H") }
+    ensures short { length result.now ≡ 1 }
+{
+    if shown { b"-" } else { b"H" }
+}
+
+// The word of a kind of record.
+#[tactic(auto, unfolding(elf_model::specs::VersionRows::kind_text))]
+fn kind_name(kind: VersionKind) -> &'static str
+    ensures word { result.now ≡ kind_text kind }
+    ensures short { length result.now ≤ 4 }
+{
+    match kind {
+        VersionKind::Definition => "DEF",
+        VersionKind::File => "FILE",
+        VersionKind::Need => "NEED",
+    }
+}
