@@ -17,7 +17,7 @@ use elf_hash::HashTable;
 use elf_table::{Fault, HeaderStore, NameBuf};
 use elf_lookup_tables::{LookupTables, find_lookup_tables};
 use elf_source::{Counted, Source};
-use elf_versions::VersionRecord;
+use elf_note::VersionRecord;
 use elf_options::Wanted;
 use std::marker::Model;
 

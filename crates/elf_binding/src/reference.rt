@@ -20,7 +20,7 @@ use elf_record::gnu_numbers::STB_GNU_UNIQUE;
 use elf_record::numbers::{SHN_UNDEF, STB_GLOBAL, STB_WEAK};
 use elf_record::{Cause, Sym};
 use elf_source::{Counted, Source};
-use elf_versions::VersionRecord;
+use elf_note::VersionRecord;
 
 /// How many bytes a name of a symbol or a version has at most that is asked for.
 const SOUGHT_CAP: NameLimit = NameLimit { bytes: 4096 };

@@ -16,9 +16,9 @@ use Rattle.elf_source.specs.Source.{CountedState}
 use Rattle.elf_table.specs.Relocations.{RefusedBy}
 use Rattle.elf_table.specs.Sections.{rows}
 use Rattle.elf_table.specs.Tables.{Rows, StringTableRange, strings_in}
-use Rattle.elf_versions.specs.NumberNames.{NamesNumbers, ReadsNumberNames}
-use Rattle.elf_versions.specs.Reading.{StartsVersions, VersionCursorState, versions_left}
-use Rattle.elf_versions.specs.declared.version_names.VersionNameRef.{VersionNameRef}
+use Rattle.elf_note.specs.NumberNames.{NamesNumbers, ReadsNumberNames}
+use Rattle.elf_note.specs.Reading.{StartsVersions, VersionCursorState, versions_left}
+use Rattle.elf_note.specs.declared.version_names.VersionNameRef.{VersionNameRef}
 use Rattle.elf_listing.specs.SymbolVersions.{AreRecordsWhole, NumberedOr, NumbersTaken, TakenIn, TakenOr}
 use Rattle.elf_listing.specs.Versions.{kind_type}
 use Rattle.elf_listing.proofs.VersionSections.{left_all}

@@ -4,8 +4,8 @@ use Rattle.elf_model.specs.Bytes.{slice}
 use Rattle.elf_model.specs.Listing.{ListingItem, each}
 use Rattle.elf_source.specs.Output.{OutState}
 use Rattle.elf_source.specs.Source.{CountedState, ReadsUpTo}
-use Rattle.elf_names.specs.Ahead.{ReadsOnCredit}
-use Rattle.elf_names.proofs.SpendsLaws.{SpendsAtMost-reads, SpendsAtMost-then, SpendsAtMost-to}
+use Rattle.elf_note.specs.Ahead.{ReadsOnCredit}
+use Rattle.elf_note.proofs.SpendsLaws.{SpendsAtMost-reads, SpendsAtMost-then, SpendsAtMost-to}
 use Rattle.elf_table.specs.Faults.{IsAt, IsReadFault}
 use Rattle.elf_table.specs.Cursors.{CursorState, GivesRow, HoldsRows, unread_bytes, next_row, ShowsRow}
 use Rattle.elf_table.specs.Tables.{Rows, size_of}

@@ -4,8 +4,8 @@ use Rattle.elf_source.specs.Source.{CountedState, ReadsUpTo}
 use Rattle.elf_source.specs.Output.{OutState}
 use Rattle.elf_source.proofs.PutsLaws.{SinkTakes-nothing, SinkTakes-then, SinkTakesPrefix-then, SinkTakesPrefix-more}
 use Rattle.elf_source.proofs.ReadsLaws.{ReadsUpTo-to, ReadsUpTo-then, IsSourceFault-then, ExceedsBudget-then, ExceedsBudget-more}
-use Rattle.elf_names.specs.Ahead.{ReadsOnCredit}
-use Rattle.elf_names.proofs.SpendsLaws.{SpendsAtMost-reads, SpendsAtMost-then, SpendsAtMost-to}
+use Rattle.elf_note.specs.Ahead.{ReadsOnCredit}
+use Rattle.elf_note.proofs.SpendsLaws.{SpendsAtMost-reads, SpendsAtMost-then, SpendsAtMost-to}
 use Rattle.elf_table.specs.Faults.{IsAt, IsReadFault}
 use Rattle.elf_model.specs.declared.causes.Refusal.{Refusal}
 use Rattle.elf_table.specs.declared.fault.Fault.{Fault}

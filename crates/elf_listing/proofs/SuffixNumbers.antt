@@ -17,9 +17,9 @@ use Rattle.elf_table.specs.NamesRead.{NameRead}
 use Rattle.elf_table.specs.Tables.{strings_in}
 use Rattle.elf_table.specs.declared.names.NameEnd.{NameEnd}
 use Rattle.elf_table.specs.declared.names.NameEnd.TheVariants.{Whole, Cut}
-use Rattle.elf_versions.specs.NumberNames.{IsNameOfRecord, IsPlaceOfRecord, name_at}
-use Rattle.elf_versions.specs.declared.version_names.VersionNameRef.{VersionNameRef}
-use Rattle.elf_versions.specs.declared.version_names.VersionNameRef.TheVariants.{Nowhere, Defined, Needed}
+use Rattle.elf_note.specs.NumberNames.{IsNameOfRecord, IsPlaceOfRecord, name_at}
+use Rattle.elf_note.specs.declared.version_names.VersionNameRef.{VersionNameRef}
+use Rattle.elf_note.specs.declared.version_names.VersionNameRef.TheVariants.{Nowhere, Defined, Needed}
 use Rattle.elf_listing.specs.SuffixNames.{number_reported}
 use Rattle.elf_listing.specs.Suffixed.{SuffixNamed}
 use Rattle.elf_listing.specs.SymbolVersions.{AreNumbered}

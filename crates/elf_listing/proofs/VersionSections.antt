@@ -16,14 +16,14 @@ use Rattle.elf_model.proofs.VersionSteps.{met-ended}
 use Rattle.elf_table.specs.declared.fault.Fault.{Fault}
 use Rattle.elf_table.specs.declared.fault.Fault.TheVariants.{Refused, Source}
 use Rattle.elf_table.specs.declared.run_fault.RunFault.{RunFault}
-use Rattle.elf_names.proofs.SpendsLaws.{SpendsAtMost-reads, SpendsAtMost-then, SpendsAtMost-to}
+use Rattle.elf_note.proofs.SpendsLaws.{SpendsAtMost-reads, SpendsAtMost-then, SpendsAtMost-to}
 use Rattle.elf_source.specs.Output.{OutState}
 use Rattle.elf_source.specs.Source.{CountedState, ReadsUpTo}
 use Rattle.elf_table.specs.Relocations.{RefusedBy}
 use Rattle.elf_table.specs.Sections.{byte_rows, names_at, rows, string_table_at}
 use Rattle.elf_table.specs.Tables.{Rows, StringTableRange, strings_in}
 use Rattle.elf_table.proofs.RelocationLaws.{passed_first, table-fails}
-use Rattle.elf_versions.specs.Reading.{StartsVersions, VersionCursorState, versions_left}
+use Rattle.elf_note.specs.Reading.{StartsVersions, VersionCursorState, versions_left}
 use Rattle.elf_listing.specs.Shows.{SpentCredit, WroteItems}
 use Rattle.elf_listing.specs.Versions.{records_kind, versions_items}
 use Rattle.elf_listing.proofs.SectionShown.{table_passes}

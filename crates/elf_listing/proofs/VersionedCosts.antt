@@ -24,7 +24,7 @@ use Rattle.elf_listing.specs.Parts.{store_sections}
 use Rattle.elf_listing.specs.Versions.{kind_type}
 use Rattle.elf_model.specs.Versions.{max_records, record_size}
 use Rattle.elf_model.specs.declared.versions.VersionKind.{VersionKind}
-use Rattle.elf_versions.specs.Reading.{bytes_each}
+use Rattle.elf_note.specs.Reading.{bytes_each}
 
 -- the rows of a section, with what finds the names, are what its header counts for
 pub versioned-within : (store : StoreState) (i size place cap symbols : ℕ) (table : Rows) → (sh_type (row store i) 0 == SHT_GNU_VERSYM) ≡ true

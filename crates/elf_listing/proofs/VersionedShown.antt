@@ -29,9 +29,9 @@ use Rattle.elf_model.specs.declared.versions.VersionKind.{VersionKind}
 use Rattle.elf_model.specs.declared.versions.VersionKind.TheVariants.{Definition, File, Need}
 use Rattle.elf_model.proofs.VersionNameLaws.{IsDefinition, back-none, each-none, front-none, named-is, names_are_shown, table-kinds}
 use Rattle.elf_model.proofs.LookupSteps.{first_that-holds}
-use Rattle.elf_versions.specs.NumberNames.{IsNameOfRecord, NamesNumbers, name_at}
-use Rattle.elf_versions.specs.declared.version_names.VersionNameRef.{VersionNameRef}
-use Rattle.elf_versions.specs.declared.version_names.VersionNameRef.TheVariants.{Nowhere, Defined, Needed}
+use Rattle.elf_note.specs.NumberNames.{IsNameOfRecord, NamesNumbers, name_at}
+use Rattle.elf_note.specs.declared.version_names.VersionNameRef.{VersionNameRef}
+use Rattle.elf_note.specs.declared.version_names.VersionNameRef.TheVariants.{Nowhere, Defined, Needed}
 use Rattle.elf_table.specs.Tables.{Rows, StringTableRange, strings_in}
 use Rattle.elf_table.specs.Stops.{stop_of}
 use Rattle.elf_table.specs.declared.fault.Fault.{Fault}

@@ -15,9 +15,9 @@ use Rattle.elf_source.specs.Source.{CountedState, ReadsUpTo}
 use Rattle.elf_table.specs.Ledger.{CallDid}
 use Rattle.elf_options.specs.Permitted.{style_of}
 use Rattle.elf_options.specs.declared.caps.Style.{Style as Shape}
-use Rattle.elf_versions.specs.Reading.{IsCursorOf, GivesVersion, IsVersion, KeepsWalk, LeavesWalk, StepsIn, ReturnsVersion, VersionCursorState, unread, versions_left, why_stopped_now}
-use Rattle.elf_versions.proofs.TakenLaws.{going-did, unread-fewer}
-use Rattle.elf_versions.specs.declared.record.VersionRecord.{VersionRecord}
+use Rattle.elf_note.specs.Reading.{IsCursorOf, GivesVersion, IsVersion, KeepsWalk, LeavesWalk, StepsIn, ReturnsVersion, VersionCursorState, unread, versions_left, why_stopped_now}
+use Rattle.elf_note.proofs.TakenLaws.{going-did, unread-fewer}
+use Rattle.elf_note.specs.declared.record.VersionRecord.{VersionRecord}
 use Rattle.elf_listing.specs.Notes.{WrittenBefore}
 use Rattle.elf_listing.specs.Shows.{WrotePrefix, WroteUntilStop, WroteItems}
 use Rattle.elf_listing.specs.Versions.{versions_items}

@@ -12,7 +12,7 @@ use Rattle.elf_source.specs.Output.{OutState, SinkTakes, SinkTakesPrefix, IsOutF
 use Rattle.elf_source.specs.Growth.{OutGrows}
 use Rattle.elf_source.specs.declared.source.Source.{Ghosts as Sources}
 use Rattle.elf_source.specs.declared.sink.Sink.{Ghosts as Sinks}
-use Rattle.elf_names.specs.Ahead.{ReadsOnCredit}
+use Rattle.elf_note.specs.Ahead.{ReadsOnCredit}
 use Rattle.elf_table.specs.Faults.{IsReadRefusal, IsReadFault}
 use Rattle.elf_table.specs.NamesRead.{NameRead}
 use Rattle.elf_table.specs.declared.fault.Fault.{Fault as Failure}

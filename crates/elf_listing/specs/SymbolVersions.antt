@@ -25,9 +25,9 @@ use Rattle.elf_table.specs.declared.run_fault.RunFault.{RunFault}
 use Rattle.elf_source.specs.declared.source.Source.{Ghosts as Sources}
 use Rattle.elf_source.specs.declared.sink.Sink.{Ghosts as Sinks}
 use Rattle.elf_table.specs.Tables.{Rows, StringTableRange, StringsInBounds, strings_in}
-use Rattle.elf_versions.specs.NumberNames.{NamesNumbers}
-use Rattle.elf_versions.specs.Reading.{bytes_each}
-use Rattle.elf_versions.specs.declared.version_names.VersionNameRef.{VersionNameRef}
+use Rattle.elf_note.specs.NumberNames.{NamesNumbers}
+use Rattle.elf_note.specs.Reading.{bytes_each}
+use Rattle.elf_note.specs.declared.version_names.VersionNameRef.{VersionNameRef}
 use Rattle.elf_listing.specs.Numbered.{NumberedWithin, reported_row}
 use Rattle.elf_listing.specs.Parts.{store_sections}
 use Rattle.elf_listing.specs.Shows.{ListingReads, Lists, WroteSome}

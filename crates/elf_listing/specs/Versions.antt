@@ -13,8 +13,8 @@ use Rattle.elf_options.specs.Permitted.{style_of}
 use Rattle.elf_source.specs.declared.source.Source.{Ghosts as Sources}
 use Rattle.elf_source.specs.declared.sink.Sink.{Ghosts as Sinks}
 use Rattle.elf_table.specs.Tables.{StringTableRange, strings_in}
-use Rattle.elf_versions.specs.Reading.{IsCursorOf, IsVersion, VersionCursorState, bytes_each, unread, versions_left}
-use Rattle.elf_versions.specs.declared.record.VersionRecord.{VersionRecord}
+use Rattle.elf_note.specs.Reading.{IsCursorOf, IsVersion, VersionCursorState, bytes_each, unread, versions_left}
+use Rattle.elf_note.specs.declared.record.VersionRecord.{VersionRecord}
 use Rattle.elf_listing.specs.Parts.{of_sections}
 use Rattle.elf_listing.specs.Shows.{Lists, ListingWrote, WroteSome}
 use Rattle.elf_listing.specs.declared.listing.Listing.{Listing}

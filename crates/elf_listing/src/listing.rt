@@ -1,13 +1,13 @@
 //! What a listing is written with.
 ghost use Rattle.std.specs.Prelude.{◌≡◌, ℕ, List, Some};
 ghost use Rattle.elf_model.specs.Records.{e_machine};
-ghost use Rattle.elf_names.specs.Ahead.{AgreesWith};
+ghost use Rattle.elf_note.specs.Ahead.{AgreesWith};
 ghost use Rattle.elf_listing.specs.Viewed.{IsViewed};
 ghost use Rattle.elf_table.specs.Load.{IsOpen};
 
 use elf_table::{File, NameBuf, Style};
 use elf_format::ConstantNames;
-use elf_names::ReadAhead;
+use elf_note::ReadAhead;
 use elf_source::{Counted, Out, Sink, Source};
 
 /// A source that is read, an output that is written, the file that was loaded, how its rows are

@@ -5,7 +5,7 @@ ghost use Rattle.elf_listing.specs.Fetched.{FetchesName};
 
 use crate::listing::Listing;
 use elf_table::{Fault, NameEnd, Names};
-use elf_names::NameIndex;
+use elf_note::NameIndex;
 use elf_source::{Sink, Source};
 
 impl<S: Source, W: Sink> Listing<'_, '_, '_, '_, S, W> {

@@ -9,10 +9,9 @@ use crate::row_selection::Choosing;
 use crate::listing::Listing;
 use elf_format::{LinePrefix, Render, symbol_version_prefix};
 use elf_table::{Fault, NameEnd, Names, refused, Row, RunFault};
-use elf_names::NameIndex;
+use elf_note::{NameIndex, VersionNameRef, VersionNames};
 use elf_record::{Cause, u16_at, version_number};
 use elf_source::{Sink, Source};
-use elf_versions::{VersionNameRef, VersionNames};
 
 /// Where the names of the numbers of versions are.
 #[derive(Drop)]

@@ -10,7 +10,7 @@ use crate::row_selection::Choosing;
 use crate::listing::Listing;
 use elf_format::{LinePrefix, relocation_prefix, Render};
 use elf_table::{Fault, NameEnd, Names, refused, Row, RunFault, Table};
-use elf_names::NameIndex;
+use elf_note::NameIndex;
 use elf_record::{Cause, Rela};
 use elf_source::{Sink, Source};
 

@@ -10,7 +10,7 @@ use crate::row_selection::Choosing;
 use crate::listing::Listing;
 use elf_format::{LinePrefix, Render, segment_row, show_named, symbol_prefix};
 use elf_table::{NameEnd, Names, Row, RunFault};
-use elf_names::NameIndex;
+use elf_note::NameIndex;
 use elf_record::{Phdr, Sym};
 use elf_source::{Sink, Source};
 

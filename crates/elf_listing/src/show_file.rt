@@ -25,7 +25,7 @@ use bitflags::Flags;
 use elf_format::{Columns, header_row, Object};
 use elf_table::{Caps, File, header, HeaderStore, load, Loaded, NameBuf, RunFault, Style};
 use elf_model::Format;
-use elf_names::ReadAhead;
+use elf_note::ReadAhead;
 use elf_record::{Ehdr, Parts};
 use elf_source::{Counted, Out, Sink, Source};
 

@@ -13,7 +13,7 @@ use crate::read_suffix::VersionSuffixEnd;
 use crate::suffixes::VersionLookup;
 use elf_format::{LinePrefix, relocation_prefix, Render};
 use elf_table::{Fault, NameBuf, NameEnd, Names, refused, Row, RunFault, Table};
-use elf_names::NameIndex;
+use elf_note::NameIndex;
 use elf_record::{Cause, Rela};
 use elf_source::{Sink, Source};
 

@@ -9,7 +9,7 @@ use crate::listing::Listing;
 use crate::suffixes::VersionLookup;
 use elf_format::{LinePrefix, Render, symbol_prefix};
 use elf_table::{NameBuf, Names, Row, RunFault};
-use elf_names::NameIndex;
+use elf_note::NameIndex;
 use elf_record::Sym;
 use elf_source::{Sink, Source};
 

@@ -5,7 +5,7 @@ use crate::listing::Listing;
 use crate::numbered::VersionStrings;
 use elf_table::{Fault, Table};
 use elf_source::{Sink, Source};
-use elf_versions::ALL_PLACES;
+use elf_note::ALL_PLACES;
 
 /// What finds the versions of the symbols of a table (Linux Standard Base Core, Symbol Versioning).
 #[derive(Drop)]

@@ -18,7 +18,7 @@ use elf_record::gnu_numbers::SHT_GNU_VERSYM;
 use elf_record::sizes::SYMBOL_VERSION_BYTES;
 use elf_record::{Cause, Refusal, VersionKind};
 use elf_source::{Sink, Source};
-use elf_versions::{VersionCursor, VersionNames};
+use elf_note::{VersionCursor, VersionNames};
 
 impl<S: Source, W: Sink> Listing<'_, '_, '_, '_, S, W> {
     /// Shows the versions of the symbols of a section, where it holds them: an `X` line each, or the

@@ -12,11 +12,10 @@ use crate::listing::Listing;
 use elf_format::{Columns, LinePrefix, Object, Render, version_prefix};
 use elf_table::{Names, RunFault};
 use elf_model::Format;
-use elf_names::NameIndex;
+use elf_note::{NameIndex, VersionCursor, VersionRecord};
 use elf_record::VersionKind;
 use elf_record::gnu_numbers::{SHT_GNU_VERDEF, SHT_GNU_VERNEED};
 use elf_source::{Sink, Source};
-use elf_versions::{VersionCursor, VersionRecord};
 
 impl<S: Source, W: Sink> Listing<'_, '_, '_, '_, S, W> {
     /// Shows the version definitions of a section, where it holds them: a `V` line each, or the

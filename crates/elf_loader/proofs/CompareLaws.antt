@@ -11,8 +11,8 @@ use Rattle.elf_model.proofs.ReadingLaws.{compared-fault, compared-is, compared-n
 use Rattle.elf_table.specs.declared.fault.Fault.{Fault}
 use Rattle.elf_table.specs.declared.fault.Fault.TheVariants.{Refused, Source}
 use Rattle.elf_table.specs.NamesRead.{Refuses as RefusesName}
-use Rattle.elf_versions.specs.Reading.{IsVersion}
-use Rattle.elf_versions.specs.declared.record.VersionRecord.{VersionRecord}
+use Rattle.elf_note.specs.Reading.{IsVersion}
+use Rattle.elf_note.specs.declared.record.VersionRecord.{VersionRecord}
 use Rattle.elf_loader.specs.Comparing.{CompareProgress, ComparesOne}
 use Rattle.elf_loader.specs.NumberSets.{has_number}
 

@@ -11,9 +11,9 @@ use Rattle.elf_model.proofs.ReadingLaws.{stands-next}
 use Rattle.elf_model.proofs.VersionSteps.{ends-inside, met-ended, met-most, met-record, met-refused}
 use Rattle.elf_lookup_tables.specs.Symbols.{IsVersionRecordTable}
 use Rattle.elf_lookup_tables.specs.declared.symbols.VersionRecordTable.{VersionRecordTable as Given}
-use Rattle.elf_versions.specs.Reading.{GivesVersion, LeadsOn, StartsVersions, VersionCursorState, record_position_of, versions_left}
-use Rattle.elf_versions.specs.declared.record.VersionRecord.{VersionRecord}
-use Rattle.elf_versions.specs.declared.record_position.RecordPosition.{RecordPosition}
+use Rattle.elf_note.specs.Reading.{GivesVersion, LeadsOn, StartsVersions, VersionCursorState, record_position_of, versions_left}
+use Rattle.elf_note.specs.declared.record.VersionRecord.{VersionRecord}
+use Rattle.elf_note.specs.declared.record_position.RecordPosition.{RecordPosition}
 
 -- what a walk stands at is a record that is in the table, or none
 abbrev pub cut_at : RecordCursorState → Refusal

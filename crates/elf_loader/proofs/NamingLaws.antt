@@ -12,9 +12,9 @@ use Rattle.elf_table.specs.declared.fault.Fault.TheVariants.{Refused, Source}
 use Rattle.elf_table.proofs.LedgerLaws.{CallReads-more, CallReads-then}
 use Rattle.elf_lookup_tables.specs.Symbols.{IsVersionRecordTable}
 use Rattle.elf_lookup_tables.specs.declared.symbols.VersionRecordTable.{VersionRecordTable as Given}
-use Rattle.elf_versions.specs.Reading.{SpendsRecord, StartsVersions, ReturnsVersion, VersionCursorState, versions_left}
+use Rattle.elf_note.specs.Reading.{SpendsRecord, StartsVersions, ReturnsVersion, VersionCursorState, versions_left}
 use Rattle.elf_loader.specs.Naming.{HasFile, NamedAs, NamesBefore, NamesFile}
-use Rattle.elf_versions.specs.declared.record.VersionRecord.{VersionRecord}
+use Rattle.elf_note.specs.declared.record.VersionRecord.{VersionRecord}
 use Rattle.elf_loader.specs.declared.version_name_record.VersionNameRecord.{VersionNameRecord}
 use Rattle.elf_loader.proofs.TablesLaws.{more-pays}
 use Rattle.elf_loader.proofs.LeftReadings.{ended-left, left_of, refused-left, start-left}

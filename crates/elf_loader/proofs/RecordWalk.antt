@@ -10,8 +10,8 @@ use Rattle.elf_table.specs.declared.fault.Fault.{Fault}
 use Rattle.elf_lookup_tables.specs.Symbols.{IsVersionRecordTable}
 use Rattle.elf_lookup_tables.specs.declared.symbols.VersionRecordTable.{VersionRecordTable as Given}
 use Rattle.elf_table.specs.Tables.{strings_in}
-use Rattle.elf_versions.specs.Reading.{GivesVersion, BufferedTable, KeepsWalk, LeadsOn, LeavesWalk, SpendsRecord, StartsVersions, VersionCursorState, bytes_each, unheld, unread, versions_left}
-use Rattle.elf_versions.specs.declared.record.VersionRecord.{VersionRecord}
+use Rattle.elf_note.specs.Reading.{GivesVersion, BufferedTable, KeepsWalk, LeadsOn, LeavesWalk, SpendsRecord, StartsVersions, VersionCursorState, bytes_each, unheld, unread, versions_left}
+use Rattle.elf_note.specs.declared.record.VersionRecord.{VersionRecord}
 use Rattle.elf_loader.proofs.LeftReadings.{left_of, read-left, step-left}
 
 -- where such a walk stands

@@ -9,8 +9,8 @@ use Rattle.elf_table.specs.Ledger.{CallReads, CallDid, fault_of_result}
 use Rattle.elf_table.specs.declared.fault.Fault.{Fault}
 use Rattle.elf_table.specs.declared.fault.Fault.TheVariants.{Refused, Source}
 use Rattle.elf_table.specs.Tables.{StringsInBounds, strings_in}
-use Rattle.elf_versions.specs.Reading.{IsVersion}
-use Rattle.elf_versions.specs.declared.record.VersionRecord.{VersionRecord}
+use Rattle.elf_note.specs.Reading.{IsVersion}
+use Rattle.elf_note.specs.declared.record.VersionRecord.{VersionRecord}
 use Rattle.elf_loader.specs.declared.version_name_record.VersionNameRecord.{VersionNameRecord}
 
 -- some records are read that have not the number; the others are left

@@ -54,7 +54,7 @@ fn compare_all<S: Source>(
 /// versions; else none. All records of versions are read then.
 ///
 /// # Errors
-/// The first record that is refused, as [`elf_versions::VersionCursor::advance`] has it, or whose
+/// The first record that is refused, as [`elf_note::VersionCursor::advance`] has it, or whose
 /// name has a fault, at what holds the name: of the definitions and then of the needs.
 pub fn version_indices<S: Source>(
     src: &mut Counted<S>,

@@ -43,7 +43,7 @@ use elf_options::Wanted;
 /// # Errors
 /// The first that fails: what [`find_lookup_tables`] refuses; `HashShape` at the header or entry that locates
 /// the hash table where its counts are no table's of its size; where a version is asked for, what
-/// [`elf_versions::VersionCursor::advance`] refuses of the definitions and the needs, and a fault of
+/// [`elf_note::VersionCursor::advance`] refuses of the definitions and the needs, and a fault of
 /// a version's name at the record that holds it; on the way `HashIndex` at the word that leads to a
 /// symbol index which no symbol and no chain word has, in a table of the gABI `HashCycle` at the
 /// bucket's word where the chain goes round, a fault of a symbol's name at the symbol, `VersionCut`

@@ -30,7 +30,7 @@ pub(crate) struct ResolvedVersionName {
 /// in the file. After a fault `name` holds any bytes.
 ///
 /// # Errors
-/// Those of the records before, as [`elf_versions::VersionCursor::advance`] has them; those of the
+/// Those of the records before, as [`elf_note::VersionCursor::advance`] has them; those of the
 /// name, as [`elf_table::Names::read`] has them, at what holds it; `VersionIndex` at the word where
 /// no record has the number. Else a fault of a read.
 pub(crate) fn parsed_member_name<S: Source>(

@@ -5,13 +5,13 @@ ghost use Rattle.elf_loader.specs.Tables.{OfAnyTable, OfTable, OfTables, max_rec
 ghost use Rattle.elf_model.specs.BoundSymbols.{file_before, file_or};
 ghost use Rattle.elf_model.specs.Versions.{VisitedRecord, max_records, names_version_index};
 ghost use Rattle.elf_lookup_tables.specs.Symbols.{VersionRecordsInBounds, DynamicSymbolsInBounds};
-ghost use Rattle.elf_versions.specs.Reading.{IsVersion};
+ghost use Rattle.elf_note.specs.Reading.{IsVersion};
 
 use elf_table::{Fault, Names};
 use elf_lookup_tables::{Symbols, VersionRecordTable};
 use elf_record::{VersionKind, version_number};
 use elf_source::{Counted, Source};
-use elf_versions::{VersionCursor, VersionRecord};
+use elf_note::{VersionCursor, VersionRecord};
 
 /// A record that names the version of a number, with the strings of its name.
 #[derive(Clone, Copy)]

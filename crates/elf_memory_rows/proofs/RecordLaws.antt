@@ -9,9 +9,9 @@ use Rattle.elf_model.specs.declared.causes.Cause.TheVariants.{VersionCut}
 use Rattle.elf_model.specs.declared.versions.VersionKind.{VersionKind}
 use Rattle.elf_model.specs.declared.versions.VersionKind.TheVariants.{Definition, File, Need}
 use Rattle.elf_table.specs.Tables.{Rows}
-use Rattle.elf_versions.specs.Reading.{Fits, VersionCursorState, record_position_of, versions_left}
-use Rattle.elf_versions.specs.declared.record_position.RecordPosition.{RecordPosition}
-use Rattle.elf_versions.proofs.LeftLaws.{cut-here}
+use Rattle.elf_note.specs.Reading.{Fits, VersionCursorState, record_position_of, versions_left}
+use Rattle.elf_note.specs.declared.record_position.RecordPosition.{RecordPosition}
+use Rattle.elf_note.proofs.LeftLaws.{cut-here}
 use Rattle.elf_memory_rows.specs.VersionRecords.{GoesOnTo, bytes_within, kind_number, records_left, stand_as, standing_in}
 use Rattle.elf_memory_rows.specs.declared.records.VersionRecordPosition.{VersionRecordPosition}
 

@@ -14,7 +14,7 @@ use Rattle.elf_table.specs.Relocations.{RefusedBy}
 use Rattle.elf_table.specs.Sections.{names_at, strings}
 use Rattle.elf_table.specs.Tables.{StringTableRange}
 use Rattle.elf_memory_rows.specs.LoadRefused.{load_refused}
-use Rattle.elf_versions.specs.declared.record_position.RecordPosition.{RecordPosition}
+use Rattle.elf_note.specs.declared.record_position.RecordPosition.{RecordPosition}
 use Rattle.elf_memory_rows.specs.declared.record_row.RecordRow.{RecordRow}
 use Rattle.elf_memory_rows.specs.declared.records.VersionRecordPosition.{VersionRecordPosition}
 use Rattle.elf_memory_rows.specs.declared.rows.RowPosition.{RowPosition}

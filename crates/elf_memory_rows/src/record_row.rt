@@ -1,11 +1,11 @@
 //! A record of symbol versions, as a caller keeps it.
 ghost use Rattle.std.specs.Prelude.{◌≡◌, ℕ, List};
 ghost use Rattle.elf_model.specs.Versions.{VisitedRecord};
-ghost use Rattle.elf_versions.specs.Reading.{IsVersion};
+ghost use Rattle.elf_note.specs.Reading.{IsVersion};
 ghost use Rattle.elf_memory_rows.specs.VersionRecords.{IsRecordRow, kind_number};
 
 use elf_record::VersionKind;
-use elf_versions::VersionRecord;
+use elf_note::VersionRecord;
 
 /// A record of version definitions or needs, field by field (Linux Standard Base Core, Symbol
 /// Versioning). A needed file has no number, no flags and no hash: these are 0.

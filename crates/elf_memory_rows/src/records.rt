@@ -1,8 +1,8 @@
 //! A place in a walk over the records of symbol versions, and steps over them.
 ghost use Rattle.std.specs.Prelude.{◌≡◌, ◌+◌, ◌≤◌, ◌^◌, ◌<◌, IfSome, length, option_map};
 ghost use Rattle.elf_model.specs.declared.versions.VersionKind.TheVariants.{Need};
-ghost use Rattle.elf_versions.specs.Reading.{Fits, KnowsAhead, record_position_of};
-ghost use Rattle.elf_versions.specs.declared.record_position.RecordPosition.{RecordPosition as IsStanding};
+ghost use Rattle.elf_note.specs.Reading.{Fits, KnowsAhead, record_position_of};
+ghost use Rattle.elf_note.specs.declared.record_position.RecordPosition.{RecordPosition as IsStanding};
 ghost use Rattle.elf_memory_rows.specs.VersionRecords.{GoesOnTo, StepsRecord, bytes_within, standing_in};
 
 use crate::record_row::{RecordRow, kind_number};
@@ -11,7 +11,7 @@ use elf_memory::chunk_at;
 use elf_record::sizes::VERSION_NEED_BYTES;
 use elf_record::{Refusal, Verneed, VersionKind};
 use elf_source::{Counted, MemorySource};
-use elf_versions::{RecordPosition, VersionCursor};
+use elf_note::{RecordPosition, VersionCursor};
 
 /// A place in a walk over the records of a table of definitions or needs: plain numbers, which a caller
 /// keeps where it likes and may copy. Each step tests them again, so that no numbers are wrong ones.

@@ -16,7 +16,7 @@ use Rattle.elf_binding.specs.Binds.{ReturnsBinding}
 use Rattle.elf_binding.specs.Sought.{IsReportedAlone, RefusesAs, ReturnsAs, ReturnsSought, ReturnsWhole, asked_if}
 use Rattle.elf_binding.specs.declared.bind_name.BindFault.{BindFault}
 use Rattle.elf_loader.specs.Naming.{IsFileIf}
-use Rattle.elf_versions.specs.declared.record.VersionRecord.{VersionRecord}
+use Rattle.elf_note.specs.declared.record.VersionRecord.{VersionRecord}
 use Rattle.elf_needs.specs.Bound.{ReturnsItem}
 
 pub wanted_is : (wanted : Wanted) (name : List ℕ) (asked : Asked) → wanted.name ≡ name → wanted.asked ≡ asked → wanted ≡ record { name = name; asked = asked }

@@ -1,4 +1,11 @@
+pub mod HeldLaws
+pub mod SpendsLaws
 pub mod EntriesLeft
 pub mod EntriesLoop
 pub mod ShownNames
 pub mod Stepping
+pub mod HeldBytes
+pub mod LeftLaws
+pub mod NameTables
+pub mod TakenLaws
+pub mod WordLaws

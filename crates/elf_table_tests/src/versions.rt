@@ -7,7 +7,7 @@ use elf_fixtures::versioned_library;
 use elf_table::{Fault, Table};
 use elf_record::{Cause, Refusal, VersionKind};
 use elf_source::{Counted, Source};
-use elf_versions::VersionCursor;
+use elf_note::VersionCursor;
 use std::process::Abort;
 
 /// How many records a cursor gives.

@@ -6,7 +6,7 @@ use Rattle.elf_table.specs.Ledger.{CallReads}
 use Rattle.elf_table.specs.declared.fault.Fault.{Fault}
 use Rattle.elf_table.proofs.LedgerLaws.{CallReads-then}
 use Rattle.elf_model.specs.Traits.{SymbolTraitFlags}
-use Rattle.elf_names.specs.Ahead.{ReadAheadState, IsAheadOf}
+use Rattle.elf_note.specs.Ahead.{ReadAheadState, IsAheadOf}
 use Rattle.elf_table.specs.Cursors.{GivesRow, CursorState, next_row, row_at, unread_bytes}
 use Rattle.elf_table.specs.Tables.{Rows, TableInBounds, size_of}
 use Rattle.elf_traits.specs.Marks.{marks_in}

@@ -6,8 +6,8 @@ use Rattle.elf_table.proofs.LedgerLaws.{CallDid-as, CallDid-none, CallDid-then}
 use Rattle.elf_model.specs.Loader.{compared_with}
 use Rattle.elf_model.specs.Names.{pad64}
 use Rattle.elf_table.specs.Tables.{strings_in}
-use Rattle.elf_versions.specs.Reading.{unread}
-use Rattle.elf_versions.proofs.TakenLaws.{going-did}
+use Rattle.elf_note.specs.Reading.{unread}
+use Rattle.elf_note.proofs.TakenLaws.{going-did}
 use Rattle.elf_loader.proofs.LeftReadings.{left_of}
 use Rattle.elf_loader.proofs.RecordWalk.{gone-most, gone_by, walk-gives, walk-next, walk-pays, walk-spends, walk-starts}
 use Rattle.elf_loader.proofs.TableLaws.{ended-as, fault-compares, fault-left, fault-met, spent-read, start-as, step-as}

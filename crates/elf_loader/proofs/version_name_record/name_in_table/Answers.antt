@@ -6,8 +6,8 @@ use Rattle.elf_table.proofs.LedgerLaws.{CallDid-as, CallDid-none, CallDid-then}
 use Rattle.elf_model.specs.BoundSymbols.{file_or}
 use Rattle.elf_model.specs.Loader.{naming_of}
 use Rattle.elf_table.specs.Tables.{strings_in}
-use Rattle.elf_versions.specs.Reading.{unread}
-use Rattle.elf_versions.proofs.TakenLaws.{going-did}
+use Rattle.elf_note.specs.Reading.{unread}
+use Rattle.elf_note.proofs.TakenLaws.{going-did}
 use Rattle.elf_loader.proofs.LeftReadings.{left_of}
 use Rattle.elf_loader.proofs.NamingLaws.{ended-as, fault-left, fault-names, file-ended, file-here, file-later, file-starts, here-as, later-as, spent-read, start-as}
 use Rattle.elf_loader.proofs.RecordWalk.{gone-most, gone_by, walk-gives, walk-next, walk-pays, walk-spends, walk-starts}

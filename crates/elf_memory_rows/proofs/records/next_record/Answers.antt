@@ -5,7 +5,7 @@ use Rattle.elf_model.proofs.VersionSteps.{met-ended}
 use Rattle.elf_source.specs.Source.{SourceState}
 use Rattle.elf_table.specs.declared.fault.Fault.TheVariants.{Refused}
 use Rattle.elf_table.specs.Tables.{Rows}
-use Rattle.elf_versions.specs.Reading.{BufferedTable, IsCursorOf, record_position_of, versions_left}
+use Rattle.elf_note.specs.Reading.{BufferedTable, IsCursorOf, record_position_of, versions_left}
 use Rattle.elf_memory_rows.specs.VersionRecords.{bytes_within, records_left, standing_in}
 use Rattle.elf_memory_rows.proofs.RecordLaws.{goes_on, left_is, visited_inside}
 use Rattle.elf_memory_rows.proofs.records.next_record.Goals as goal

@@ -1,7 +1,7 @@
 -- The symbols that are gone by are told, and those that are left tell the rest.
 use Rattle.std.proofs.Common.{◌≡◌, ◌+◌, ◌*◌, ◌≤◌, ℕ, List, None, Some}
 use Rattle.elf_source.specs.Source.{ReadsUpTo}
-use Rattle.elf_names.specs.Ahead.{IsAheadOf}
+use Rattle.elf_note.specs.Ahead.{IsAheadOf}
 use Rattle.elf_table.specs.Cursors.{HoldsRows, next_row, unread_bytes}
 use Rattle.elf_table.specs.Tables.{strings_in}
 use Rattle.elf_traits.specs.Marks.{marks_in, symbol_traits_of}

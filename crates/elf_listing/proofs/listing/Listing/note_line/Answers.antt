@@ -6,7 +6,7 @@ use Rattle.elf_model.specs.Listing.{Line}
 use Rattle.elf_format.specs.Named.{shown_as}
 use Rattle.elf_listing.proofs.NotesShown.{named_as, note_is}
 use Rattle.elf_listing.proofs.RowLaws.{Whole-line, WroteUntilStop-line}
-use Rattle.elf_names.proofs.SpendsLaws.{SpendsAtMost-none}
+use Rattle.elf_note.proofs.SpendsLaws.{SpendsAtMost-none}
 use Rattle.elf_listing.proofs.listing.Listing.note_line.Goals as goal
 
 pub returns-in_err-show_note : goal.returns-in_err-show_note

@@ -4,7 +4,7 @@ use Rattle.elf_options.specs.Permitted.{style_of}
 use Rattle.elf_model.specs.Bytes.{slice}
 use Rattle.elf_model.specs.Notes.{note_align, walked}
 use Rattle.elf_model.specs.Rows.{walk_rows}
-use Rattle.elf_names.specs.Ahead.{ReadsOnCredit}
+use Rattle.elf_note.specs.Ahead.{ReadsOnCredit}
 use Rattle.elf_note.specs.NoteCursors.{notes_left}
 use Rattle.elf_table.specs.Windows.{HoldsBytes, bytes_left}
 use Rattle.elf_source.specs.Growth.{OutGrows}

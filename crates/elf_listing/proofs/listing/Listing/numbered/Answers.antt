@@ -5,7 +5,7 @@ use Rattle.elf_model.specs.VersionCost.{walks_cost}
 use Rattle.elf_model.specs.declared.versions.VersionKind.TheVariants.{Definition, File}
 use Rattle.elf_model.specs.Numbers.{SHT_GNU_VERDEF}
 use Rattle.elf_model.specs.VersionRows.{first_versions}
-use Rattle.elf_names.proofs.SpendsLaws.{SpendsAtMost-then, SpendsAtMost-to}
+use Rattle.elf_note.proofs.SpendsLaws.{SpendsAtMost-then, SpendsAtMost-to}
 use Rattle.elf_source.proofs.ReadsLaws.{ReadsUpTo-none}
 use Rattle.elf_listing.proofs.FirstTaken.{numbered-cut, numbered-later, or-none}
 use Rattle.elf_listing.proofs.ListsLaws.{SameFile-then}

@@ -4,8 +4,8 @@ use Rattle.std.proofs.lemmas.Bool.{eq-eqb, ne_eqb}
 use Rattle.std.proofs.lemmas.Result.{err_from_is_err_and}
 use Rattle.elf_model.specs.Names.DisplayedName.{Whole}
 use Rattle.elf_model.specs.Records.{st_shndx}
-use Rattle.elf_names.proofs.HeldLaws.{still_ahead}
-use Rattle.elf_names.proofs.SpendsLaws.{SpendsAtMost-none, SpendsAtMost-then}
+use Rattle.elf_note.proofs.HeldLaws.{still_ahead}
+use Rattle.elf_note.proofs.SpendsLaws.{SpendsAtMost-none, SpendsAtMost-then}
 use Rattle.elf_table.proofs.OpenLaws.{still_open}
 use Rattle.elf_listing.proofs.ViewedLaws.{still_viewed}
 use Rattle.elf_listing.proofs.SymbolNamed.{says_behind, read_as, named_zero, named_unlinked, named_beyond, named_there, found_there, refuses_as}

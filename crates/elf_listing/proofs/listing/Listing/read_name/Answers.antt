@@ -1,5 +1,5 @@
 -- The source's file is still the one that was opened, and what is held is that file's.
-use Rattle.elf_names.proofs.HeldLaws.{still_ahead}
+use Rattle.elf_note.proofs.HeldLaws.{still_ahead}
 use Rattle.elf_table.proofs.OpenLaws.{still_open}
 use Rattle.elf_listing.proofs.ViewedLaws.{still_viewed}
 use Rattle.elf_listing.proofs.listing.Listing.read_name.Goals as goal

@@ -1,6 +1,6 @@
 -- The name is looked for in the string table of the record that names the number.
 use Rattle.std.proofs.Common.{rules, ◌≡◌, ◌+◌, ◌<◌, length, refl, sym, ◌∙◌, arith}
-use Rattle.elf_names.proofs.SpendsLaws.{SpendsAtMost-none}
+use Rattle.elf_note.proofs.SpendsLaws.{SpendsAtMost-none}
 use Rattle.elf_listing.proofs.SuffixNumbers.{told_defined, told_needed, told_nowhere}
 use Rattle.elf_listing.proofs.listing.Listing.read_number.Goals as goal
 

@@ -1,8 +1,8 @@
 -- The word is the file's.
 use Rattle.std.proofs.Common.{◌≡◌, ◌+◌, refl, ◌∙◌, arith}
 use Rattle.elf_table.proofs.OpenLaws.{still_open}
-use Rattle.elf_names.proofs.HeldLaws.{still_held}
-use Rattle.elf_names.proofs.SpendsLaws.{SpendsAtMost-reads}
+use Rattle.elf_note.proofs.HeldLaws.{still_held}
+use Rattle.elf_note.proofs.SpendsLaws.{SpendsAtMost-reads}
 use Rattle.elf_listing.proofs.NumberedShown.{word_is}
 use Rattle.elf_listing.proofs.ViewedLaws.{still_viewed}
 use Rattle.elf_listing.proofs.listing.Listing.read_word.Goals as goal

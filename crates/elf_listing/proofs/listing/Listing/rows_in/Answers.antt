@@ -2,8 +2,8 @@
 use Rattle.elf_options.specs.Permitted.{style_of}
 use Rattle.std.proofs.Common.{◌≡◌, ◌+◌, length, refl, ap, ◌∙◌, arith}
 use Rattle.std.proofs.lemmas.Result.{err_from_is_err_and}
-use Rattle.elf_names.proofs.HeldLaws.{still_held}
-use Rattle.elf_names.proofs.SpendsLaws.{SpendsAtMost-none}
+use Rattle.elf_note.proofs.HeldLaws.{still_held}
+use Rattle.elf_note.proofs.SpendsLaws.{SpendsAtMost-none}
 use Rattle.elf_table.proofs.OpenLaws.{still_open}
 use Rattle.elf_listing.proofs.ViewedLaws.{still_viewed}
 use Rattle.elf_table.specs.Cursors.{unread_bytes}

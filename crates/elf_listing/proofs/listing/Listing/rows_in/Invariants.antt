@@ -2,7 +2,7 @@
 use Rattle.elf_options.specs.Permitted.{style_of}
 use Rattle.std.proofs.Common.{◌≡◌, ℕ, ◌+◌, ◌*◌, ◌<◌, ◌≤◌, List, None, Some}
 use Rattle.elf_model.specs.Listing.{each}
-use Rattle.elf_names.specs.Ahead.{ReadsOnCredit}
+use Rattle.elf_note.specs.Ahead.{ReadsOnCredit}
 use Rattle.elf_table.specs.Cursors.{HoldsRows, unread_bytes}
 use Rattle.elf_source.specs.Growth.{OutGrows}
 use Rattle.elf_listing.specs.Kinds.{own_cost, row_items, rows_cost, KindOf}

@@ -8,7 +8,7 @@ use Rattle.elf_table.specs.Store.{segment_bytes}
 use Rattle.elf_table.specs.Tables.{size_of}
 use Rattle.elf_table.specs.Load.{HoldsProgramHeaders}
 use Rattle.elf_table.proofs.OpenLaws.{still_open}
-use Rattle.elf_names.proofs.HeldLaws.{still_held}
+use Rattle.elf_note.proofs.HeldLaws.{still_held}
 use Rattle.elf_listing.proofs.RowLaws.{WroteSome-as, WroteUntilStop-unread-first}
 use Rattle.elf_listing.proofs.SectionCosts.{segment_within}
 use Rattle.elf_listing.proofs.SectionShown.{no_table, segment_passes, table_fails, table_passes, whole_fails}

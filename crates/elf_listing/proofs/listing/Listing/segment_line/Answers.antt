@@ -5,7 +5,7 @@ use Rattle.elf_options.specs.Permitted.{style_of}
 use Rattle.elf_model.specs.Records.{segment_at}
 use Rattle.elf_listing.proofs.RowLaws.{Whole-line, WroteUntilStop-line}
 use Rattle.elf_listing.proofs.SegmentShown.{segment_line_is, views}
-use Rattle.elf_names.proofs.SpendsLaws.{SpendsAtMost-none}
+use Rattle.elf_note.proofs.SpendsLaws.{SpendsAtMost-none}
 use Rattle.elf_source.proofs.GrowthLaws.{grows_front}
 use Rattle.elf_listing.proofs.listing.Listing.segment_line.Goals as goal
 

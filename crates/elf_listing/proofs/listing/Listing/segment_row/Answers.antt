@@ -3,7 +3,7 @@ use Rattle.std.proofs.lemmas.Result.{err_from_is_err_and}
 use Rattle.elf_options.specs.Permitted.{style_of}
 use Rattle.elf_model.specs.Records.{e_phoff}
 use Rattle.elf_listing.proofs.RowLaws.{segment_is, Whole-line, WroteUntilStop-line}
-use Rattle.elf_names.proofs.SpendsLaws.{SpendsAtMost-none}
+use Rattle.elf_note.proofs.SpendsLaws.{SpendsAtMost-none}
 use Rattle.elf_source.proofs.GrowthLaws.{grows_front}
 use Rattle.elf_listing.proofs.listing.Listing.segment_row.Goals as goal
 

@@ -1,5 +1,5 @@
 -- Without a version the line is that of the name alone.
-use Rattle.elf_versions.proofs.WordLaws.{none-of}
+use Rattle.elf_note.proofs.WordLaws.{none-of}
 use Rattle.elf_listing.proofs.RowLaws.{WroteSome-as}
 use Rattle.elf_listing.proofs.SuffixShown.{every-row}
 use Rattle.elf_listing.proofs.listing.Listing.suffixed_line.Goals as goal

@@ -2,9 +2,9 @@
 use Rattle.std.proofs.Common.{◌≡◌, ◌+◌, ◌==◌, [], refl, sym, ap, ◌∙◌, arith}
 use Rattle.std.proofs.lemmas.Result.{err_from_is_err_and}
 use Rattle.std.proofs.lemmas.Bool.{ne_eqb}
-use Rattle.elf_names.proofs.SpendsLaws.{SpendsAtMost-none, SpendsAtMost-to}
+use Rattle.elf_note.proofs.SpendsLaws.{SpendsAtMost-none, SpendsAtMost-to}
 use Rattle.elf_listing.specs.Parts.{store_sections}
-use Rattle.elf_versions.proofs.WordLaws.{none-of}
+use Rattle.elf_note.proofs.WordLaws.{none-of}
 use Rattle.elf_listing.proofs.FirstTaken.{check-says}
 use Rattle.elf_listing.proofs.SectionShown.{section_placed}
 use Rattle.elf_listing.proofs.SuffixFound.{bytes_of, no_symbols, unnumbered, refused_numbers, refused_walks, found_all, walks_of}

@@ -7,13 +7,13 @@ use Rattle.elf_model.specs.HeaderTables.{file_sections, first_typed}
 use Rattle.elf_model.specs.Records.{section_at, sh_size}
 use Rattle.elf_model.specs.Tables.{all_checks}
 use Rattle.elf_model.specs.VersionRows.{first_of_type, version_table}
-use Rattle.elf_names.specs.Ahead.{ReadsOnCredit}
-use Rattle.elf_names.proofs.HeldLaws.{still_held}
-use Rattle.elf_names.proofs.SpendsLaws.{SpendsAtMost-none, SpendsAtMost-reads, SpendsAtMost-then, SpendsAtMost-to}
+use Rattle.elf_note.specs.Ahead.{ReadsOnCredit}
+use Rattle.elf_note.proofs.HeldLaws.{still_held}
+use Rattle.elf_note.proofs.SpendsLaws.{SpendsAtMost-none, SpendsAtMost-reads, SpendsAtMost-then, SpendsAtMost-to}
 use Rattle.elf_source.specs.Source.{CountedState}
 use Rattle.elf_source.proofs.ReadsLaws.{ReadsUpTo-none}
 use Rattle.elf_table.specs.Tables.{StringTableRange, StringsInBounds}
-use Rattle.elf_versions.proofs.WordLaws.{none-of}
+use Rattle.elf_note.proofs.WordLaws.{none-of}
 use Rattle.elf_listing.specs.Versions.{kind_type}
 use Rattle.elf_listing.proofs.FirstTaken.{check-says, empty-section, no-section, of-read, taken-all, taken-cut, taken-none, taken-refused}
 use Rattle.elf_listing.proofs.SectionShown.{range_of_file, section_placed}

@@ -4,13 +4,13 @@ use Rattle.std.proofs.lemmas.Result.{err_from_is_err_and}
 use Rattle.elf_options.specs.Permitted.{style_of}
 use Rattle.elf_table.proofs.OpenLaws.{still_open}
 use Rattle.elf_model.specs.Names.{name_bytes}
-use Rattle.elf_names.proofs.HeldLaws.{still_held}
-use Rattle.elf_names.proofs.SpendsLaws.{SpendsAtMost-none, SpendsAtMost-reads, SpendsAtMost-then, SpendsAtMost-to}
+use Rattle.elf_note.proofs.HeldLaws.{still_held}
+use Rattle.elf_note.proofs.SpendsLaws.{SpendsAtMost-none, SpendsAtMost-reads, SpendsAtMost-then, SpendsAtMost-to}
 use Rattle.elf_source.proofs.GrowthLaws.{grows_not, grows_then}
 use Rattle.elf_table.specs.Tables.{strings_in}
-use Rattle.elf_versions.specs.Reading.{unread, versions_left}
-use Rattle.elf_versions.proofs.TakenLaws.{going-did, unread-fewer}
-use Rattle.elf_versions.proofs.WordLaws.{none-of}
+use Rattle.elf_note.specs.Reading.{unread, versions_left}
+use Rattle.elf_note.proofs.TakenLaws.{going-did, unread-fewer}
+use Rattle.elf_note.proofs.WordLaws.{none-of}
 use Rattle.elf_listing.specs.Versions.{records_cost}
 use Rattle.elf_listing.proofs.LoopLaws.{at_most, spent_unread, step_more, step_stopped}
 use Rattle.elf_listing.proofs.NotesShown.{before_all}

@@ -4,7 +4,7 @@ use Rattle.std.proofs.lemmas.Bool.Decides.{nat_tests}
 use Rattle.std.proofs.lemmas.Result.{err_from_is_err_and}
 use Rattle.elf_model.specs.Names.{name_bytes}
 use Rattle.elf_model.specs.Versions.{VERSYM_SIZE}
-use Rattle.elf_names.proofs.SpendsLaws.{SpendsAtMost-to}
+use Rattle.elf_note.proofs.SpendsLaws.{SpendsAtMost-to}
 use Rattle.elf_table.specs.Tables.{Rows}
 use Rattle.elf_listing.specs.SymbolVersions.{versioned_items}
 use Rattle.elf_listing.proofs.ListsLaws.{Lists-within}

@@ -2,7 +2,7 @@
 use Rattle.std.proofs.Common.{rules, ◌≡◌, ◌≤◌, refl, ◌∙◌, arith}
 use Rattle.std.proofs.lemmas.Result.{err_from_is_err_and}
 use Rattle.elf_format.specs.Fronts.{front_of}
-use Rattle.elf_names.proofs.SpendsLaws.{SpendsAtMost-none}
+use Rattle.elf_note.proofs.SpendsLaws.{SpendsAtMost-none}
 use Rattle.elf_source.proofs.GrowthLaws.{grows_put}
 use Rattle.elf_listing.proofs.SuffixLines.{Fronts-suffixed, WroteText-suffixed}
 use Rattle.elf_listing.proofs.listing.Listing.versioned_line.Goals as goal

@@ -7,9 +7,9 @@ use Rattle.elf_table.proofs.OpenLaws.{still_open}
 use Rattle.elf_model.specs.Names.{name_bytes}
 use Rattle.elf_model.specs.Records.{section_at, sh_size}
 use Rattle.elf_model.specs.Versions.{max_records, record_size}
-use Rattle.elf_names.proofs.HeldLaws.{still_held}
+use Rattle.elf_note.proofs.HeldLaws.{still_held}
 use Rattle.elf_source.proofs.GrowthLaws.{grows_not}
-use Rattle.elf_versions.specs.Reading.{bytes_each}
+use Rattle.elf_note.specs.Reading.{bytes_each}
 use Rattle.elf_listing.specs.Parts.{store_sections}
 use Rattle.elf_listing.specs.Versions.{records_kind}
 use Rattle.elf_listing.proofs.ListsLaws.{Lists-nothing, Lists-refused}

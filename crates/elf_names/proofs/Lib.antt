@@ -1,2 +1,0 @@
-pub mod HeldLaws
-pub mod SpendsLaws

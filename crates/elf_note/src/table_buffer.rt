@@ -1,0 +1,122 @@
+//! The bytes of a table of symbol versions.
+ghost use Rattle.std.specs.Prelude.{◌≡◌, ℕ, ◌+◌, ◌^◌, ◌≤◌, ◌<◌, List, length, false, IfOk, MatchResult, None};
+ghost use Rattle.elf_model.specs.Bytes.{slice};
+ghost use Rattle.elf_table.specs.Faults.{IsOfRead};
+ghost use Rattle.elf_table.specs.Ledger.{CallDid, fault_of_result};
+ghost use Rattle.elf_table.specs.Tables.{TableInBounds};
+ghost use Rattle.elf_note.specs.Reading.{DidHeld, GivesBytes, HasUpTo, IsHeldOf, unheld};
+
+use elf_table::{Fault, fill, Table};
+use elf_source::{Counted, Source};
+use std::marker::Model;
+
+/// How many bytes of a table are held at most.
+pub const VERSIONS_BUFFER_BYTES: usize = 4096;
+
+/// The bytes of a table whose rows are single bytes: all of them are held, or none.
+#[derive(Drop)]
+pub(crate) struct TableBuffer {
+    table: Table,
+    whole: bool,
+    bytes: [u8; VERSIONS_BUFFER_BYTES],
+}
+
+impl Model for TableBuffer {
+    ghost use Rattle.std.specs.Prelude.{◌≡◌, ◌+◌, ◌^◌, ◌<◌, ◌≤◌, true, take};
+    ghost use Rattle.elf_note.specs.Reading.{BufferedTable};
+
+    ghost Value = { BufferedTable };
+
+    ghost view = { λ t. record {
+      table = t.table;
+      whole = t.whole;
+      bytes = take t.table.count t.bytes;
+    } };
+
+    ghost invariant = { λ t. (t.table.entry ≡ 1) × (t.table.at + t.table.count < 2 ^ 64)
+        × (t.whole ≡ true → t.table.count ≤ 4096) };
+}
+
+impl TableBuffer {
+    /// The bytes of `table`, which ends within the source's length. It reads all at once where they
+    /// are no more than `most` and than 4,096, and else nothing.
+    ///
+    /// # Errors
+    /// A fault of the read, or a refusal for want of budget, at the table's first byte.
+    pub(crate) fn load<S: Source>(
+        src: &mut Counted<S>,
+        table: Table,
+        most: u64,
+    ) -> Result<TableBuffer, Fault>
+        requires bytes { table.entry ≡ 1 }
+        requires within { TableInBounds src.old.seen.size table }
+        ensures did { CallDid src.old src.new (fault_of_result result) most
+            (λ file. IfOk result (IsHeldOf file)) }
+        ensures holds { MatchResult result (λ held. (held.table ≡ table)
+            × (src.new.asked + unheld held most ≤ src.old.asked + most)) IsOfRead }
+    {
+        let _ = table.entry();
+        let size = table.len();
+        if size > most || size > VERSIONS_BUFFER_BYTES as u64 {
+            return Ok(TableBuffer::unread(table));
+        }
+        let mut bytes = [0; VERSIONS_BUFFER_BYTES];
+        if size > 0 {
+            fill(src, table.at(), &mut bytes[..size as usize])?;
+        }
+        Ok(TableBuffer {
+            table,
+            whole: true,
+            bytes,
+        })
+    }
+
+    /// The bytes of `table`, none of which are held.
+    pub(crate) fn unread(table: Table) -> TableBuffer
+        requires { table.entry ≡ 1 }
+        ensures its_table { result.table ≡ table }
+        ensures none { result.whole ≡ false }
+    {
+        let _ = table.entry();
+        TableBuffer {
+            table,
+            whole: false,
+            bytes: [0; VERSIONS_BUFFER_BYTES],
+        }
+    }
+
+    /// The table.
+    pub(crate) fn table(&self) -> Table
+        ensures is { result ≡ self.now.table }
+        ensures bytes { self.now.table.entry ≡ 1 }
+        ensures ends { self.now.table.at + self.now.table.count < 2 ^ 64 }
+    {
+        self.table
+    }
+
+    /// Fills `out`, at most 4,096 bytes, with the table's bytes from a place on: without a read where
+    /// they are held, else by one.
+    ///
+    /// # Errors
+    /// A fault of the read, or a refusal for want of budget, at the first of these bytes. Then `out`
+    /// holds any bytes.
+    pub(crate) fn read<S: Source>(
+        &self,
+        src: &mut Counted<S>,
+        place: u64,
+        out: &mut [u8],
+    ) -> Result<(), Fault>
+        requires has { HasUpTo src.old.seen.size self.now (place + length out.old) }
+        requires small { length out.old ≤ 4096 }
+        requires some { 0 < length out.old }
+        ensures did { DidHeld src.old src.new self.now result (length out.old) (λ file.
+            GivesBytes (slice file (self.now.table.at + place) (length out.old)) out.new result) }
+    {
+        if self.whole {
+            let end = place as usize + out.len();
+            out.copy_from_slice(&self.bytes[place as usize..end]);
+            return Ok(());
+        }
+        fill(src, self.table.at() + place, out)
+    }
+}
