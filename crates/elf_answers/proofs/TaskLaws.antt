@@ -23,8 +23,8 @@ use Rattle.elf_table.specs.declared.fault.Fault.{Fault}
 use Rattle.elf_table.specs.declared.fault.Fault.TheVariants.{Refused as Refuses, Source as Unread}
 use Rattle.elf_table.specs.declared.run_fault.RunFault.{RunFault}
 use Rattle.elf_table.specs.declared.run_fault.RunFault.TheVariants.{Refused, Source, Out}
-use Rattle.elf_apply.specs.Applied.{Applies, ApplySays, BudgetTooSmall, text_of}
-use Rattle.elf_apply.specs.declared.apply_section.Applied.{Applied}
+use Rattle.elf_reloc.specs.Applied.{Applies, ApplySays, BudgetTooSmall, text_of}
+use Rattle.elf_reloc.specs.declared.apply_section.Applied.{Applied}
 use Rattle.elf_listing.specs.Reports.{FaultSays, ReturnsStop}
 use Rattle.elf_listing.specs.Shows.{IsOfOutput}
 use Rattle.elf_answers.specs.Answers.{Answers, WholeOrUsedUp, WroteAnswer}

@@ -20,7 +20,7 @@ use Rattle.elf_options.specs.declared.caps.Caps.{Caps}
 use Rattle.elf_options.specs.declared.caps.Limits.{Limits}
 use Rattle.elf_table.specs.declared.run_fault.RunFault.{RunFault}
 use Rattle.elf_hash.specs.Lookups.{find_bytes}
-use Rattle.elf_apply.specs.Applied.{apply_ceiling}
+use Rattle.elf_reloc.specs.Applied.{apply_ceiling}
 use Rattle.elf_listing.specs.Reports.{AsksWithin, FaultSays, KeepsSourceUnlimited}
 use Rattle.elf_requests.specs.declared.requests.Task.{Task}
 use Rattle.elf_requests.specs.declared.requests.Task.TheVariants.{Show, Find, Resolve, Apply, Place}

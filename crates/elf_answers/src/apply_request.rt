@@ -2,7 +2,7 @@
 ghost use Rattle.std.specs.Prelude.{◌≡◌, ◌^◌, ◌≤◌};
 ghost use Rattle.elf_answers.specs.Requests.{RunsApply};
 
-use elf_apply::apply_with;
+use elf_reloc::apply_with;
 use elf_table::{HeaderStore, Limits, RunFault};
 use elf_layout::Addresses;
 use elf_listing::show_stop;

@@ -9,8 +9,8 @@ use Rattle.elf_source.specs.Output.{OutState}
 use Rattle.elf_source.specs.Source.{CountedState, SetsLimit, honest, seen_by}
 use Rattle.elf_table.specs.declared.run_fault.RunFault.{RunFault}
 use Rattle.elf_table.specs.declared.run_fault.RunFault.TheVariants.{Refused, Source, Out}
-use Rattle.elf_apply.specs.Applied.{Applies, ApplySays, BudgetTooSmall, text_of}
-use Rattle.elf_apply.specs.declared.apply_section.Applied.{Applied}
+use Rattle.elf_reloc.specs.Applied.{Applies, ApplySays, BudgetTooSmall, text_of}
+use Rattle.elf_reloc.specs.declared.apply_section.Applied.{Applied}
 use Rattle.elf_calls.specs.Applied.{AppliesFor}
 use Rattle.elf_calls.specs.Lent.{spared}
 use Rattle.elf_calls.specs.Told.{status_from}

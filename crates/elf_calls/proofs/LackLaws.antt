@@ -14,7 +14,7 @@ use Rattle.elf_model.specs.Budget.{IsBudgetRefusal}
 use Rattle.elf_model.specs.Checks.{first_refusal, header_checks, load_checks}
 use Rattle.elf_source.specs.Source.{CountedState, SetsLimit}
 use Rattle.elf_table.specs.Faults.{IsReadRefusal}
-use Rattle.elf_explain.specs.Explained.{explain_bytes, lack_as}
+use Rattle.elf_reloc.specs.Explained.{explain_bytes, lack_as}
 use Rattle.elf_layout.specs.Lent.{Follows, KeysAscend, MayFollow, MayBorrow, lent_name, name_order}
 use Rattle.elf_layout.specs.declared.lent.LentName.{LentName}
 use Rattle.elf_table.specs.declared.names.NameEnd.{NameEnd}

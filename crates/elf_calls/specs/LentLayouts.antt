@@ -12,7 +12,7 @@ use Rattle.elf_model.specs.declared.causes.Refusal.{Refusal}
 use Rattle.elf_model.specs.declared.missing.LayoutAddress.{LayoutAddress}
 use Rattle.elf_model.specs.declared.missing.LayoutAddress.TheVariants.{Place, Named, Entry}
 use Rattle.elf_model.specs.declared.relocation_types.RelocationBase.TheVariants.{Symbol, Linkage, Table, Thread}
-use Rattle.elf_explain.specs.Explained.{explain_bytes}
+use Rattle.elf_reloc.specs.Explained.{explain_bytes}
 use Rattle.elf_layout.specs.Kept.{borrowed_as}
 use Rattle.elf_layout.specs.Lent.{KeysAscend, MayBorrow, borrowed_index, named, placed}
 use Rattle.elf_layout.specs.declared.addresses.BorrowedLayout.{BorrowedLayout}

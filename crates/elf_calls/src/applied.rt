@@ -6,7 +6,7 @@ ghost use Rattle.elf_calls.specs.Applied.{AppliesIn};
 use crate::lent_sink::ProbeSink;
 use crate::listing::CallOutcome;
 use crate::call_status::status_from;
-use elf_apply::apply_with;
+use elf_reloc::apply_with;
 use elf_table::HeaderStore;
 use elf_layout::Addresses;
 use elf_source::{Counted, MemorySource, Out};

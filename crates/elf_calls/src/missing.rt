@@ -1,6 +1,6 @@
 //! What a layout lacks, as C has it.
 ghost use Rattle.std.specs.Prelude.{◌≡◌, ◌≤◌, None, Some, length, take};
-ghost use Rattle.elf_explain.specs.Explained.{lack_as};
+ghost use Rattle.elf_reloc.specs.Explained.{lack_as};
 ghost use Rattle.elf_calls.specs.LentLayouts.{ReturnsMissing, helpful, apply_input_of};
 ghost use Rattle.elf_calls.specs.Resolved.{cut_number};
 

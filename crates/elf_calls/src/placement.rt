@@ -1,7 +1,7 @@
 //! A section of a file in memory in a layout of any size, and what that lacks where it is refused.
 ghost use Rattle.std.specs.Prelude.{◌≡◌, ◌+◌, ◌-◌, ◌≤◌, IfSome, length, option_map};
 ghost use Rattle.elf_model.specs.ApplyCost.{apply_cost_by_order};
-ghost use Rattle.elf_explain.specs.Explained.{explain_bytes};
+ghost use Rattle.elf_reloc.specs.Explained.{explain_bytes};
 ghost use Rattle.elf_calls.specs.Applied.{AppliesFor};
 ghost use Rattle.elf_memory_rows.specs.Ends.{no_end};
 ghost use Rattle.elf_calls.specs.LentLayouts.{CountsWritten, ExplainsRefusal, ExplainsTold};
@@ -11,7 +11,7 @@ use crate::counts::short;
 use crate::listing::CallOutcome;
 use crate::missing::CallerMissing;
 use crate::call_status::Told;
-use elf_explain::explain;
+use elf_reloc::explain;
 use elf_table::{Fault, HeaderStore, NameBuf};
 use elf_memory_rows::End;
 use elf_record::Refusal;

@@ -1,1 +1,9 @@
 pub mod Types
+pub mod Applied
+pub mod Costs
+pub mod Entries
+pub mod InOrder
+pub mod Passes
+pub mod Walk
+pub mod Windows
+pub mod Explained

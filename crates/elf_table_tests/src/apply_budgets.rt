@@ -1,5 +1,5 @@
 //! Where a limit on what may be asked for refuses a section, and how much was asked for by then.
-use elf_apply::{Applied, apply};
+use elf_reloc::{Applied, apply};
 use elf_fixtures::one_call;
 use elf_table::{HeaderBuffer, HeaderStore, RunFault};
 use elf_layout::{Item, Layout};

@@ -1,6 +1,6 @@
 //! A source whose entries rise in the first pass, and fall in the second.
 
-use elf_apply::apply;
+use elf_reloc::apply;
 use elf_fixtures::{falling_relocations, rising_relocations};
 use elf_table::{HeaderBuffer, RunFault};
 use elf_layout::Layout;

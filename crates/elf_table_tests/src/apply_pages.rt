@@ -1,6 +1,6 @@
 //! How often the source is read and the writer called for an applied section.
 
-use elf_apply::apply;
+use elf_reloc::apply;
 use elf_fakes::{FaultScript, FaultySource, ShortWriter};
 use elf_fixtures::{rising_relocations, with_bytes};
 use elf_table::HeaderBuffer;

@@ -5,11 +5,11 @@ ghost use Rattle.elf_model.specs.ExplainLine.{explanation};
 ghost use Rattle.elf_source.specs.Source.{ReadsUpTo, SetsLimit};
 ghost use Rattle.elf_listing.specs.Reports.{KeepsSourceUnlimited};
 ghost use Rattle.elf_listing.specs.Shows.{StopSays};
-ghost use Rattle.elf_explain.specs.Explained.{explain_bytes, may_be_missing};
+ghost use Rattle.elf_reloc.specs.Explained.{explain_bytes, may_be_missing};
 ghost use Rattle.elfsee.specs.Explaining.{AsksRest, WroteUpTo, asks_why, lack_in, budget_rest};
 
 use elf_endings::{ERROR_LINE_BYTES, write_rest};
-use elf_explain::explain;
+use elf_reloc::explain;
 use elf_table::{HeaderStore, NameBuf, NameEnd, RunFault};
 use elf_layout::Addresses;
 use elf_format::show_missing;

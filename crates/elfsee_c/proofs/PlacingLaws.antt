@@ -3,7 +3,7 @@ use Rattle.std.proofs.Common.{◌≡◌, ℕ, ◌+◌, ◌≤◌, List, Option}
 use Rattle.std.specs.Prelude.{IfSome}
 use Rattle.elf_model.specs.ApplyCost.{apply_cost_by_order}
 use Rattle.elf_model.specs.Placing.{Layout}
-use Rattle.elf_explain.specs.Explained.{explain_bytes}
+use Rattle.elf_reloc.specs.Explained.{explain_bytes}
 use Rattle.elf_calls.specs.Applied.{AppliesFor}
 use Rattle.elf_calls.specs.LentLayouts.{ExplainsTold, MayBorrowLayout, PlacesInMemory, lent_layout}
 use Rattle.elf_calls.specs.Limits.{AreInRange, budget_of, headers_of}

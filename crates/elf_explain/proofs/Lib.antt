@@ -1,4 +1,0 @@
-pub mod EntryLaws
-pub mod ExplainLaws
-pub mod LackLaws
-pub mod NamingLaws

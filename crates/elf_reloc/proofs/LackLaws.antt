@@ -1,0 +1,63 @@
+-- What an entry lacks, step by step.
+use Rattle.std.proofs.Common.{◌≡◌, ◌≢◌, ℕ, ◌/◌, ◌%◌, ◌^◌, ◌==◌, Bool, true, false, List, Option, None, Some, Result, Ok, Err, refl, sym, ap, ◌∙◌, arith}
+use Rattle.std.proofs.lemmas.Bool.Decides.{nat_tests}
+use Rattle.elf_model.specs.Apply.{symbol_checks}
+use Rattle.elf_model.specs.Checks.{first_refusal}
+use Rattle.elf_model.specs.Explain.{missing, missing_of, wanted}
+use Rattle.elf_model.specs.Placing.{Layout}
+use Rattle.elf_model.specs.Records.{r_sym, r_type}
+use Rattle.elf_model.specs.Values.{kind_of}
+use Rattle.elf_model.specs.declared.causes.Refusal.{Refusal}
+use Rattle.elf_model.specs.declared.relocation_types.RelocationType.{RelocationType}
+use Rattle.elf_model.specs.Tables.{linked_at, strings_of}
+use Rattle.elf_model.specs.declared.missing.Missing.{Missing}
+use Rattle.elf_model.specs.declared.missing.LayoutAddress.{LayoutAddress}
+use Rattle.elf_table.specs.Tables.{StringTableRange, strings_in}
+use Rattle.elf_record.specs.declared.rela.Rela.{Rela}
+use Rattle.elf_reloc.specs.Explained.{EntryRead, NamesEntrySymbol, LackOf, Lacks}
+use Rattle.elf_reloc.specs.declared.missing_item.MissingItem.{MissingItem}
+use Rattle.elf_reloc.specs.declared.missing_item.RelocationSymbol.{RelocationSymbol}
+
+module _ (file : List ℕ) (header : ℕ) (layout : Layout) (section : ℕ) (refusal : Refusal) where
+  -- the type is none that stores a value
+  pub untyped : kind_of (r_type file refusal.at) ≡ None → missing file header layout section refusal ≡ None
+  unfolding missing
+  untyped h = rw (h, missing) refl
+
+  -- the symbol is none
+  pub unlinked : first_refusal (symbol_checks file header refusal.at) ≢ None → missing file header layout section refusal ≡ None
+  unfolding missing
+  unlinked h = grind arith
+
+  -- the symbol is known
+  pub missing_by : (named : RelocationSymbol) (type : RelocationType) → NamesEntrySymbol file header refusal.at named → kind_of (r_type file refusal.at) ≡ Some type
+      → missing file header layout section refusal ≡ missing_of (r_type file refusal.at) named.name (wanted refusal.cause type layout section named.symbol)
+  unfolding missing
+  missing_by named type is kind = grind (arith, nat_tests, is.passed, is.zero, is.fields)
+
+-- the name of a symbol stands in the table that its section links to
+names_of : (file : List ℕ) (header rela : ℕ) (named : RelocationSymbol) → NamesEntrySymbol file header rela named → named.name ≢ 0
+    → strings_in file named.names ≡ strings_of file (linked_at file header)
+names_of file header rela named is some = (is.fields (λ zero. some (is.zero zero).0)).2
+
+-- what is missing, by what is wanted
+pub lacks_by : (file : List ℕ) (header rela kind : ℕ) (named : RelocationSymbol) (wanted : Option LayoutAddress) (missed : Option Missing) (found : Option MissingItem)
+    → NamesEntrySymbol file header rela named → missed ≡ missing_of kind named.name wanted → LackOf kind named wanted found → Lacks file header missed found
+unfolding missing_of
+lacks_by file header rela kind named wanted missed None is same lack = same ∙ lack
+lacks_by file header rela kind named None missed (Some lacking) is same lack = absurd (cc)
+lacks_by file header rela kind named (Some wanted) missed (Some lacking) is same lack =
+    let here : named.name ≡ lacking.missing.name = grind arith in
+    (same ∙ lack.0, λ some. ap (λ (n : StringTableRange). strings_in file n) lack.1 ∙ names_of file header rela named is (λ zero. some (sym here ∙ zero)))
+
+-- the type of an entry, and its symbol, as the code has them
+pub type_is : (file : List ℕ) (at : ℕ) (entry : Rela) {kind : ℕ} → EntryRead file at (Ok entry) → kind ≡ entry.r_info % 2 ^ 32 → kind ≡ r_type file at
+type_is file at entry read is = is ∙ ap (λ (n : ℕ). n % 2 ^ 32) read.r_info
+
+pub symbol_is : (file : List ℕ) (at : ℕ) (entry : Rela) {symbol : ℕ} → EntryRead file at (Ok entry) → symbol ≡ entry.r_info / 2 ^ 32 → symbol ≡ r_sym file at
+symbol_is file at entry read is = is ∙ ap (λ (n : ℕ). n / 2 ^ 32) read.r_info
+
+-- nothing is there
+pub none_of : {X : Type 0} (o : Option X) → ((x : X) → o ≡ Some x → ⊥) → o ≡ None
+none_of None h = refl
+none_of (Some x) h = absurd (h x refl)

@@ -1,0 +1,39 @@
+-- The file header, the load, and what stands behind.
+use Rattle.std.proofs.Common.{sym, ◌∙◌, arith}
+use Rattle.std.proofs.lemmas.Result.{err_from_is_err_and}
+use Rattle.elf_model.specs.Explain.{explained}
+use Rattle.elf_table.proofs.LedgerLaws.{CallDid-as, CallDid-none, CallDid-of, CallDid-then}
+use Rattle.elf_table.proofs.LoadLaws.{header_most, load_slots}
+use Rattle.elf_reloc.proofs.ExplainLaws.{header_explains, load_explains, loaded_explains, never}
+use Rattle.elf_reloc.proofs.explanation.explain.Goals as goal
+
+pub returns-then-not-may_be_missing-clause-did : goal.returns-then-not-may_be_missing-clause-did
+returns-then-not-may_be_missing-clause-did g c =
+    CallDid-as _ (omega arith) (CallDid-none c.args.src.now)
+    (λ file read costs. sym (never file c.args.section c.args.layout.now c.args.refusal (sym c.may_be_missing.ensures ∙ c.if-not-may_be_missing.true)))
+
+pub returns-in_err-header-clause-did : goal.returns-in_err-header-clause-did
+returns-in_err-header-clause-did g c =
+    let p = err_from_is_err_and c.from_residual.result c.from_residual.ensures.1 in
+    let most = header_most c.args.src.now.seen.size in
+    rw (p.1, p.2)
+    (CallDid-as _ (omega (arith, most)) (CallDid-of c.header.ensures.reads c.in_err-header.ensures.says c.in_err-header.ensures.read)
+    (λ file read costs. header_explains file _ (explained file c.args.section c.args.layout.now c.args.refusal) _ _ read))
+
+pub returns-in_err-loaded-clause-did : goal.returns-in_err-loaded-clause-did
+returns-in_err-loaded-clause-did g c =
+    let p = err_from_is_err_and c.from_residual-in_err-loaded.result c.from_residual-in_err-loaded.ensures.1 in
+    let most = header_most c.args.src.now.seen.size in
+    let slots = load_slots c.in_ok-header.header c.header.new.src.seen.size c.args.store.now.slots in
+    rw (p.1, p.2)
+    (CallDid-as _ (omega (arith, most, slots))
+    (CallDid-then (CallDid-of c.header.ensures.reads tt c.in_ok-header.ensures.read) (CallDid-of c.load.ensures.reads c.in_err-loaded.ensures.says c.in_err-loaded.ensures.held))
+    (λ file told costs. load_explains file _ (explained file c.args.section c.args.layout.now c.args.refusal) _ _ c.load.new.store told.0.0 c.load.ensures.slots (told.1 told.0.1)))
+
+pub returns-clause-did : goal.returns-clause-did
+returns-clause-did g c =
+    let most = header_most c.args.src.now.seen.size in
+    let slots = load_slots c.in_ok-header.header c.header.new.src.seen.size c.args.store.now.slots in
+    let loaded = CallDid-then (CallDid-of c.header.ensures.reads tt c.in_ok-header.ensures.read) (CallDid-of c.load.ensures.reads tt c.in_ok-loaded.ensures.held) in
+    CallDid-as _ (omega (arith, most, slots)) (CallDid-then loaded c.explain_loaded.ensures)
+    (λ file told costs. loaded_explains file _ _ c.explain_loaded.result _ (told.1 (told.0.1 told.0.0.1)))

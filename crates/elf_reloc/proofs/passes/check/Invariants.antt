@@ -1,0 +1,20 @@
+-- What is left gives the answer.
+use Rattle.std.proofs.Common.{Some, ◌≡◌, ℕ, ◌+◌, ◌≤◌, List, true}
+use Rattle.elf_source.specs.Source.{ReadsUpTo}
+use Rattle.elf_reloc.specs.Passes.{folded, rising}
+use Rattle.elf_reloc.specs.Walk.{IsWalkAlive, ReadsEntries, entries_from, changes_left, changes_all, walk_left, walk_all, steps_left}
+use Rattle.elf_reloc.proofs.passes.check.Given as goal
+
+abbrev pub invariant-entries : goal.invariant-entries
+invariant-entries g l = record {
+  most : ReadsUpTo l.fn.src l.src (walk_all l.target);
+  counts : l.entries.count + entries_from l.target l.entries.next ≡ entries_from l.target 0;
+  asked : l.src.asked + walk_left l.target l.entries ≤ l.fn.src.asked + walk_all l.target;
+  still : IsWalkAlive l.fn.src.seen.size l.target l.entries;
+  reads : (file : List ℕ) → l.fn.src.seen.file ≡ Some file → ReadsEntries file l.target l.entries;
+  left : (file : List ℕ) → l.fn.src.seen.file ≡ Some file
+      → folded rising (l.rises, l.low) (changes_left file l.target l.entries) ≡ folded rising (true, 0) (changes_all file l.target);
+}
+
+abbrev pub decreases-entries : goal.decreases-entries
+decreases-entries g l = steps_left l.target l.entries

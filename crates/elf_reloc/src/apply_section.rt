@@ -1,0 +1,292 @@
+//! Relocations applied to a section.
+ghost use Rattle.std.specs.Prelude.{◌≡◌, ◌+◌, ◌*◌, ◌≤◌, ◌==◌, ◌||◌, nat_lt, not, true, ℕ};
+ghost use Rattle.std.specs.Prelude.{List, length, None, Some, IfOk, IfErr};
+ghost use Rattle.elf_model.specs.Apply.{applied, has_no_bytes, is_compressed};
+ghost use Rattle.elf_model.specs.ApplyCost.{apply_cost_by_order, entries_for};
+ghost use Rattle.elf_record.specs.Shdr.{IsShdr};
+ghost use Rattle.elf_source.specs.Growth.{OutGrows};
+ghost use Rattle.elf_table.specs.Faults.{IsOfCheck};
+ghost use Rattle.elf_table.specs.Load.{HoldsSectionHeaders};
+ghost use Rattle.elf_reloc.specs.Applied.{Applies, AppliesFile, AppliesLoaded, AppliesTarget};
+ghost use Rattle.elf_reloc.specs.Applied.{ApplySays, HasSection, HeldIs, MayApply, RoomFor};
+ghost use Rattle.elf_reloc.specs.Applied.{ReadsWithin, BudgetTooSmall, WritesWithin, WroteMost};
+ghost use Rattle.elf_reloc.specs.Applied.{apply_ceiling, passes_cost, write_passes};
+ghost use Rattle.elf_reloc.specs.InOrder.{OffsetsAscend};
+ghost use Rattle.elf_reloc.specs.Walk.{entries_from, walk_all};
+ghost use Rattle.elf_reloc.specs.Windows.{Copies, MayWrite, NotForBudget, OfPatches, WritesBytes};
+ghost use Rattle.elf_reloc.specs.Windows.{windows};
+
+use crate::entry::ApplyTarget;
+use crate::in_order::write_one_pass;
+use crate::passes::{Checked, check};
+use crate::windows::write_by_windows;
+use elf_table::{ends_outside, Fault, File, header, HeaderStore, load, Loaded, refused, RunFault};
+use elf_layout::{Addresses, Layout};
+use elf_record::numbers::{EM_X86_64, ET_REL, SHT_NOBITS, SHT_NULL};
+use elf_record::{Cause, Refusal, SectionFlags, Shdr};
+use elf_source::{Counted, Out, Sink, Source};
+
+/// What was applied.
+#[derive(Clone, Copy)]
+pub struct Applied {
+    /// How many bytes the section has, all of which were written.
+    pub size: u64,
+    /// How many relocation entries there are for the section, those that store nothing too.
+    pub entries: u128,
+}
+
+/// Where the bytes of a section stand, and how many there are; none for a section without bytes in
+/// the file.
+#[tactic(auto, unfolding(crate::proofs::Words::request))]
+fn held(file: &File<'_>, section: u16) -> Result<(u64, u64), Fault>
+    ensures refusal { IfErr result IsOfCheck }
+    ensures within { IfOk result (λ found. found.0 + found.1 ≤ file.now.loaded.size) }
+    ensures held { (bytes : List ℕ) → HoldsSectionHeaders bytes file.now.loaded file.now.store.now →
+        HeldIs bytes section result }
+{
+    let header = file.loaded.header();
+    if header.e_type != ET_REL {
+        return refused(0x10, Cause::NotRel);
+    }
+    if header.e_machine != EM_X86_64 {
+        return refused(0x12, Cause::NotRel);
+    }
+    if !is_section(section, header.e_shnum) {
+        return refused(0x3c, Cause::BadLink);
+    }
+    let found = file.section(section);
+    if is_compressed(&found) {
+        return refused(file.place(section), Cause::Unsupported);
+    }
+    if has_no_bytes(&found) {
+        return Ok((0, 0));
+    }
+    let size = file.loaded.size();
+    if ends_outside(size, found.sh_offset, found.sh_size) {
+        return refused(file.place(section), Cause::TableOutside);
+    }
+    Ok((found.sh_offset, found.sh_size))
+}
+
+/// Whether an index names a section that has relocations: section 0 has none.
+fn is_section(section: u16, count: u16) -> bool
+    ensures { result ≡ not (section == 0 || not (nat_lt section count)) }
+{
+    section != 0 && section < count
+}
+
+/// Whether a section holds no bytes in the file (gABI 4, Section Types).
+fn has_no_bytes(header: &Shdr) -> bool
+    ensures { (bytes : List ℕ) (at : ℕ) → IsShdr bytes at header.now →
+        result ≡ has_no_bytes bytes at }
+{
+    header.sh_type == SHT_NOBITS || header.sh_type == SHT_NULL
+}
+
+/// Whether a section is compressed, so that relocation entries speak of other bytes than those that
+/// stand in the file (gABI 4, Section Compression).
+fn is_compressed(header: &Shdr) -> bool
+    ensures { (bytes : List ℕ) (at : ℕ) → IsShdr bytes at header.now →
+        result ≡ is_compressed bytes at }
+{
+    header.sh_flags & SectionFlags::COMPRESSED.0 == SectionFlags::COMPRESSED.0
+}
+
+/// Writes the section, whose bytes stand at the file offset `at`: in one pass where the offsets of
+/// the entries never fall, else window by window.
+fn write_section<S: Source, W: Sink>(
+    src: &mut Counted<S>,
+    target: &ApplyTarget<'_>,
+    at: u64,
+    rises: bool,
+    out: &mut Out<W>,
+) -> Result<(), RunFault>
+    requires { MayWrite src.old target.now at src.old.seen.size }
+    ensures once { rises ≡ true →
+        src.new.asked ≤ src.old.asked + (walk_all target.now + target.now.size) }
+    ensures did { Copies src.old src.new out.old out.new result NotForBudget
+        (windows target.now.size * walk_all target.now + target.now.size) target.now.size }
+    ensures text { (file : List ℕ) → src.old.seen.file ≡ Some file → OfPatches target.now at
+        (λ patches text. (rises ≡ true → OffsetsAscend 0 patches) →
+        WritesBytes out.old out.new result text) file }
+{
+    if rises && target.size > 0 {
+        return write_one_pass(src, target, at, out);
+    }
+    write_by_windows(src, target, at, out)
+}
+
+/// How many passes through the entries write so many bytes: one for each window, and at most one
+/// where the offsets of the entries never fall.
+fn write_passes(rises: bool, size: u64) -> u64
+    ensures { result ≡ write_passes rises size }
+{
+    let windows = size.div_ceil(64);
+    if rises { windows.min(1) } else { windows }
+}
+
+/// Whether what is left of a limit has room for what the passes that write may ask for at most.
+fn has_room<S: Source>(src: &Counted<S>, target: &ApplyTarget<'_>, checked: &Checked) -> bool
+    requires { checked.now.entries ≡ entries_from target.now 0 }
+    ensures { RoomFor src.now (passes_cost target.now
+        (write_passes checked.now.rises target.now.size)) result }
+{
+    let Some(left) = src.left() else {
+        return true;
+    };
+    let each = 48 + target.layout.names_cost();
+    let passes = u128::from(write_passes(checked.rises, target.size));
+    let walks = passes.saturating_mul(checked.entries.saturating_mul(each));
+    walks.saturating_add(u128::from(target.size)) <= u128::from(left)
+}
+
+/// Writes the section, whose entries were checked and whose bytes stand at the file offset `at`.
+/// Where a limit has no room for it, it is refused before the first byte; else the limit is taken
+/// away, as the passes ask for no more than it has left.
+fn write_checked<S: Source, W: Sink>(
+    src: &mut Counted<S>,
+    target: &ApplyTarget<'_>,
+    at: u64,
+    checked: &Checked,
+    out: &mut Out<W>,
+) -> Result<(), RunFault>
+    requires may { HasSection src.old target.now at }
+    requires counted { checked.now.entries ≡ entries_from target.now 0 }
+    ensures { WritesWithin src.old src.new out.old out.new result target.now at checked.now.rises }
+{
+    if !has_room(src, target, checked) {
+        return Err(RunFault::Refused(Refusal {
+            at,
+            cause: Cause::Budget,
+        }));
+    }
+    src.limit(None);
+    write_section(src, target, at, checked.rises, out)
+}
+
+/// Checks all entries, and then writes the section, whose bytes stand at the file offset `at`.
+fn apply_target<S: Source, W: Sink>(
+    src: &mut Counted<S>,
+    target: &ApplyTarget<'_>,
+    at: u64,
+    out: &mut Out<W>,
+) -> Result<Applied, RunFault>
+    requires { HasSection src.old target.now at }
+    ensures { AppliesTarget src.old src.new out.old out.new result target.now at }
+{
+    let checked = check(src, target)?;
+    write_checked(src, target, at, &checked, out)?;
+    Ok(Applied {
+        size: target.size,
+        entries: checked.entries,
+    })
+}
+
+/// Writes a section of a loaded file with its relocations applied.
+fn apply_loaded<S: Source, W: Sink>(
+    src: &mut Counted<S>,
+    store: &HeaderStore,
+    loaded: Loaded,
+    section: u16,
+    layout: &Addresses<'_>,
+    out: &mut Out<W>,
+) -> Result<Applied, RunFault>
+    requires { MayApply src.old loaded store.now }
+    ensures { AppliesLoaded src.old src.new out.old out.new result store.now.slots section
+        layout.now }
+{
+    let file = File { loaded, store };
+    let found = held(&file, section)?;
+    let target = ApplyTarget {
+        file,
+        layout,
+        section,
+        size: found.1,
+    };
+    apply_target(src, &target, found.0, out)
+}
+
+/// Writes the bytes of a section of a relocatable file for x86-64 with its relocations applied:
+/// those of all sections of entries with addends whose sh_info is the section, in the order of
+/// their index, so that the later of two entries that overlap stands (gABI 4, Relocation; x86-64
+/// psABI, Relocation). A section of the type NOBITS or NULL has no bytes. The store is loaded with
+/// the file's section headers. All entries are checked before the first byte is written; then the
+/// section is written in one pass where their offsets never fall, and else window by window, 64
+/// bytes each. Where a limit is set on the source no byte past it is asked for; afterwards no limit
+/// is set.
+///
+/// # Errors
+/// The first refusal, with nothing written where the file is known: the header's and the load's;
+/// `NotRel` at 0x10 for a file that is not relocatable, at 0x12 for another machine; `BadLink` at
+/// 0x3c for section 0 or an index that no section has; at the section's header `Unsupported` where
+/// it is compressed, then `TableOutside`; then, section by section of entries, its table's checks,
+/// and for each entry, at its offset, `Unsupported`, `PlaceOutside`, `BadLink`, `SymbolIndex`,
+/// `Undefined` or `Unsupported` for a symbol whose value or entry is not known, `Unplaced`,
+/// `Overflow`; the fault of a name that is compared is at its symbol's offset. A fault of the source
+/// or of the output: what went out is a front of the section. `Budget`, with nothing written, only
+/// where a limit is set that the cost would pass: at the offset of the read that it has no room for,
+/// or at the section's own offset in the file where what is left of it is less than what the passes
+/// that write may ask for. Then more of the limit may be left unused.
+pub fn apply<S: Source, W: Sink>(
+    src: &mut Counted<S>,
+    store: &mut HeaderStore,
+    section: u16,
+    layout: &Layout,
+    out: &mut Out<W>,
+) -> Result<Applied, RunFault>
+    ensures slots { store.new.slots ≡ store.old.slots }
+    ensures says { IfErr result (ApplySays src.old src.new out.new
+        (apply_ceiling src.old.seen.size store.old.slots layout.now)) }
+    ensures text { (file : List ℕ) → src.old.seen.file ≡ Some file →
+        Applies out.old out.new result (length (entries_for file section))
+        (applied file store.old.slots section layout.now) }
+    // Never for want of budget where the cost fits.
+    ensures enough { (file : List ℕ) → src.old.seen.file ≡ Some file → IfErr result
+        (BudgetTooSmall src.old (apply_cost_by_order file store.old.slots section layout.now)) }
+    ensures cost { (file : List ℕ) → src.old.seen.file ≡ Some file → src.new.asked
+        ≤ src.old.asked + apply_cost_by_order file store.old.slots section layout.now }
+    // For every source; never past a limit that was set.
+    ensures reads { ReadsWithin src.old src.new
+        (apply_ceiling src.old.seen.size store.old.slots layout.now) }
+    ensures free { src.new.most ≡ None }
+    ensures grows { OutGrows out.old out.new }
+    ensures wrote { WroteMost out.old out.new result src.old.seen.size }
+{
+    apply_with(src, store, section, &Addresses::fixed(layout), out)
+}
+
+/// The same as [`apply`], with its errors, in addresses that are kept otherwise: those that a caller
+/// lends too. What it may ask for is by how they are kept.
+pub fn apply_with<S: Source, W: Sink>(
+    src: &mut Counted<S>,
+    store: &mut HeaderStore,
+    section: u16,
+    layout: &Addresses<'_>,
+    out: &mut Out<W>,
+) -> Result<Applied, RunFault>
+    ensures slots { store.new.slots ≡ store.old.slots }
+    ensures applies { AppliesFile src.old src.new out.old out.new result store.old.slots section
+        layout.now }
+    ensures free { src.new.most ≡ None }
+{
+    let result = apply_within(src, store, section, layout, out);
+    src.limit(None);
+    result
+}
+
+/// Writes the bytes of a section within the limit, where one is set.
+fn apply_within<S: Source, W: Sink>(
+    src: &mut Counted<S>,
+    store: &mut HeaderStore,
+    section: u16,
+    layout: &Addresses<'_>,
+    out: &mut Out<W>,
+) -> Result<Applied, RunFault>
+    ensures slots { store.new.slots ≡ store.old.slots }
+    ensures applies { AppliesFile src.old src.new out.old out.new result store.old.slots section
+        layout.now }
+{
+    let header = header(src)?;
+    let loaded = load(src, store, &header)?;
+    apply_loaded(src, store, loaded, section, layout, out)
+}

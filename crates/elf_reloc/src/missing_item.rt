@@ -1,0 +1,225 @@
+//! What an entry lacks in a layout.
+ghost use Rattle.std.specs.Prelude.{◌≡◌, ◌+◌, ◌≤◌, ℕ, List, IfOk, IfSome};
+ghost use Rattle.elf_model.specs.Explain.{missing_for_type, missing, name_wanted, missing_place};
+ghost use Rattle.elf_model.specs.Explain.{missing_ifunc_entry, wanted};
+ghost use Rattle.elf_model.specs.Records.{r_sym};
+ghost use Rattle.elf_table.specs.Ledger.{CallDid, fault_of_result};
+ghost use Rattle.elf_table.specs.Relocations.{RefersTo};
+ghost use Rattle.elf_table.specs.Tables.{StringsInBounds, SymbolTableInBounds};
+ghost use Rattle.elf_reloc.specs.Explained.{EntryRead, EntryWithin, LackOf, LacksRead};
+ghost use Rattle.elf_reloc.specs.Explained.{EntrySymbolRead};
+
+use crate::entries::LinkedSymbolTable;
+use elf_table::{Fault, fill, Names};
+use elf_layout::Addresses;
+use elf_model::{Formula, LayoutAddress, Missing, RelocationBase, RelocationType};
+use elf_record::gnu_numbers::STT_GNU_IFUNC;
+use elf_record::numbers::{SHN_LORESERVE, SHN_UNDEF};
+use elf_record::{Cause, Refusal, Rela};
+use crate::relocation_types::{relocation_type, takes_place};
+use elf_source::{Counted, Source};
+
+/// The symbol that an entry names: where its name begins, its section index and its type, which
+/// symbol 0 does not have, the string table of its name, and the file offset at which it stands.
+#[derive(Clone, Copy)]
+pub(crate) struct RelocationSymbol {
+    pub(crate) name: u32,
+    pub(crate) symbol: Option<(u16, u8)>,
+    pub(crate) names: Names,
+    pub(crate) at: u64,
+}
+
+/// What an entry lacks, with the string table of its symbol's name, and the symbol's file offset.
+#[derive(Clone, Copy)]
+pub(crate) struct MissingItem {
+    pub(crate) missing: Missing,
+    pub(crate) names: Names,
+    pub(crate) at: u64,
+}
+
+/// What the entry at a refusal's offset lacks, which refers to these symbols, for a section: by the
+/// entry and its symbol, 24 bytes each.
+///
+/// # Errors
+/// A fault of a read, or a refusal for want of budget, at the offset that was asked for.
+pub(crate) fn lacking_at<S: Source>(
+    src: &mut Counted<S>,
+    layout: &Addresses<'_>,
+    section: u16,
+    refusal: Refusal,
+    linked: LinkedSymbolTable,
+) -> Result<Option<MissingItem>, Fault>
+    requires { EntryWithin src.old.seen.size refusal.at linked }
+    ensures did { CallDid src.old src.new (fault_of_result result) 48
+        (λ file. (header : ℕ) → RefersTo file header linked →
+        LacksRead file header (missing file header layout.now section refusal) result) }
+    ensures within { IfOk result (λ found.
+        IfSome found (λ lacking. StringsInBounds src.old.seen.size lacking.names)) }
+{
+    let entry = read_entry(src, refusal.at)?;
+    let kind = entry.kind();
+    let Some(found) = relocation_type(kind) else {
+        return Ok(None);
+    };
+    let Some(named) = read_symbol(src, linked, entry.symbol())? else {
+        return Ok(None);
+    };
+    let wanted = wanted(refusal.cause, found, layout, section, named.symbol);
+    Ok(lacking_of(kind, &named, wanted))
+}
+
+/// The relocation entry at the file offset `at` (gABI 4, Relocation): one read of 24 bytes.
+///
+/// # Errors
+/// A fault of the read, or a refusal for want of budget, at that offset.
+fn read_entry<S: Source>(src: &mut Counted<S>, at: u64) -> Result<Rela, Fault>
+    requires { at + 24 ≤ src.old.seen.size }
+    ensures { CallDid src.old src.new (fault_of_result result) 24 (λ file. EntryRead file at result) }
+{
+    let mut bytes = [0; 24];
+    fill(src, at, &mut bytes)?;
+    Ok(Rela::decode(&bytes))
+}
+
+/// The symbol of an index, which an entry names: symbol 0, of which nothing is read, or one of the
+/// symbols that are linked to; None where there is no such symbol.
+///
+/// # Errors
+/// A fault of the read, or a refusal for want of budget, at the symbol's offset.
+fn read_symbol<S: Source>(
+    src: &mut Counted<S>,
+    linked: LinkedSymbolTable,
+    symbol: u32,
+) -> Result<Option<RelocationSymbol>, Fault>
+    requires { IfSome linked (SymbolTableInBounds src.old.seen.size) }
+    ensures did { CallDid src.old src.new (fault_of_result result) 24
+        (λ file. (header rela : ℕ) → RefersTo file header linked → symbol ≡ r_sym file rela →
+        EntrySymbolRead file header rela result) }
+    ensures within { IfOk result (λ found.
+        IfSome found (λ named. StringsInBounds src.old.seen.size named.names)) }
+{
+    if symbol == 0 {
+        return Ok(Some(RelocationSymbol {
+            name: 0,
+            symbol: None,
+            names: Names::new(0, 0),
+            at: 0,
+        }));
+    }
+    let Some((symbols, names)) = linked else {
+        return Ok(None);
+    };
+    let index = u64::from(symbol);
+    if index >= symbols.len() {
+        return Ok(None);
+    }
+    let at = symbols.place(index);
+    let fields = symbols.symbol(src, index)?;
+    Ok(Some(RelocationSymbol {
+        name: fields.st_name,
+        symbol: Some((fields.st_shndx, fields.kind())),
+        names,
+        at,
+    }))
+}
+
+/// What an entry of the type of a number lacks, which names this symbol, where something is wanted.
+#[tactic(auto, unfolding(elf_model::specs::Explain::missing_of))]
+fn lacking_of(
+    kind: u32,
+    named: &RelocationSymbol,
+    wanted: Option<LayoutAddress>,
+) -> Option<MissingItem>
+    ensures { LackOf kind named.now wanted result }
+{
+    let wanted = wanted?;
+    Some(MissingItem {
+        missing: Missing {
+            kind,
+            name: named.name,
+            wanted,
+        },
+        names: named.names,
+        at: named.at,
+    })
+}
+
+/// What is wanted where an entry of a type was refused for a cause, by the section index of its
+/// symbol and the symbol's type. For want of a section's address: that of the section that is
+/// relocated where the formula takes P and it has none, else that of the symbol's section. For want
+/// of a name's: what the type's base takes of it; for want of an entry: that.
+#[tactic(auto, unfolding(elf_model::specs::Explain::wanted))]
+fn wanted(
+    cause: Cause,
+    found: RelocationType,
+    layout: &Addresses<'_>,
+    section: u16,
+    symbol: Option<(u16, u8)>,
+) -> Option<LayoutAddress>
+    ensures { result ≡ wanted cause found layout.now section symbol }
+{
+    match cause {
+        Cause::Unplaced => missing_place(found.formula, layout, section, symbol),
+        Cause::Undefined => name_wanted(found.base, symbol),
+        Cause::Unsupported => missing_for_type(found.base, symbol),
+        _ => None,
+    }
+}
+
+/// The section without an address: that which is relocated where the formula takes P, else the
+/// symbol's, where its index is one of a section.
+#[tactic(auto, unfolding(elf_model::specs::Explain::missing_place, elf_model::specs::Explain::symbol_place))]
+fn missing_place(
+    formula: Formula,
+    layout: &Addresses<'_>,
+    section: u16,
+    symbol: Option<(u16, u8)>,
+) -> Option<LayoutAddress>
+    ensures { result ≡ missing_place formula layout.now section symbol }
+{
+    if takes_place(formula) && layout.section_address(section).is_none() {
+        return Some(LayoutAddress::Place(section));
+    }
+    let (index, _) = symbol?;
+    if index != SHN_UNDEF && index < SHN_LORESERVE && layout.section_address(index).is_none() {
+        return Some(LayoutAddress::Place(index));
+    }
+    None
+}
+
+/// What a base takes of a symbol's name is wanted; nothing where the entry names symbol 0.
+#[tactic(auto, unfolding(elf_model::specs::Explain::name_wanted))]
+fn name_wanted(base: RelocationBase, symbol: Option<(u16, u8)>) -> Option<LayoutAddress>
+    ensures { result ≡ name_wanted base symbol }
+{
+    match symbol {
+        Some(_) => Some(LayoutAddress::Named(base)),
+        None => None,
+    }
+}
+
+/// The entry that is wanted of a symbol where the relocation entry is not applied without: that
+/// which the base takes, where S has none; nothing where the entry names symbol 0.
+#[tactic(auto, unfolding(elf_model::specs::Explain::missing_for_type))]
+fn missing_for_type(base: RelocationBase, symbol: Option<(u16, u8)>) -> Option<LayoutAddress>
+    ensures { result ≡ missing_for_type base symbol }
+{
+    let (_, kind) = symbol?;
+    match base {
+        RelocationBase::Symbol => missing_ifunc_entry(kind),
+        RelocationBase::Linkage => Some(LayoutAddress::Entry),
+        RelocationBase::Table | RelocationBase::Thread => Some(LayoutAddress::Named(base)),
+    }
+}
+
+/// What S of a type that is specific to the system wants: of an indirect function its procedure
+/// linkage table entry; nothing helps with another.
+#[tactic(auto, unfolding(elf_model::specs::Explain::missing_ifunc_entry))]
+fn missing_ifunc_entry(kind: u8) -> Option<LayoutAddress>
+    ensures { result ≡ missing_ifunc_entry kind }
+{
+    if kind == STT_GNU_IFUNC {
+        return Some(LayoutAddress::Entry);
+    }
+    None
+}

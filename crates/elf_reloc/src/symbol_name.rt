@@ -1,0 +1,59 @@
+//! The name of the symbol that an entry names.
+ghost use Rattle.std.specs.Prelude.{◌≡◌, ℕ, List, [], IfErr};
+ghost use Rattle.elf_model.specs.Explain.{resolved_symbol_name};
+ghost use Rattle.elf_model.specs.Names.{pad64};
+ghost use Rattle.elf_table.specs.Ledger.{CallDid, fault_of_result};
+ghost use Rattle.elf_table.specs.Tables.{StringsInBounds, strings_in};
+ghost use Rattle.elf_reloc.specs.Explained.{ReturnsSymbolName, WithoutName};
+
+use crate::missing_item::MissingItem;
+use elf_table::{Fault, NameBuf, NameEnd, NameLimit};
+use elf_layout::ITEM_NAME_BYTES;
+use elf_record::Cause;
+use elf_source::{Counted, Source};
+
+/// Reads the name of the symbol into `name`, its first 255 bytes; where `st_name` is 0 it has none,
+/// and nothing is read (gABI 4, Symbol Table). None where the name has a fault. Then, and after a
+/// fault, `name` holds any bytes.
+///
+/// # Errors
+/// A fault of a read, or a refusal for want of budget, at the offset that was asked for.
+pub(crate) fn read_name<S: Source>(
+    src: &mut Counted<S>,
+    lacking: &MissingItem,
+    name: &mut NameBuf,
+) -> Result<Option<NameEnd>, Fault>
+    requires { StringsInBounds src.old.seen.size lacking.now.names }
+    ensures { CallDid src.old src.new (fault_of_result result) (pad64 256)
+        (λ file. ReturnsSymbolName (resolved_symbol_name (strings_in file lacking.now.names)
+        lacking.now.missing.name) result name.new) }
+{
+    let off = lacking.missing.name;
+    if off == 0 {
+        name.clear();
+        return Ok(Some(NameEnd::Whole));
+    }
+    let cap = NameLimit {
+        bytes: ITEM_NAME_BYTES as u16,
+    };
+    match lacking
+        .names
+        .read(src, u64::from(off), lacking.at, cap, name)
+    {
+        Ok(end) => Ok(Some(end)),
+        Err(fault) => unless_refused(fault),
+    }
+}
+
+/// No name where a check refuses it.
+///
+/// # Errors
+/// Any other fault, as it is.
+fn unless_refused(fault: Fault) -> Result<Option<NameEnd>, Fault>
+    ensures { WithoutName fault result }
+{
+    match fault {
+        Fault::Refused(refusal) if refusal.cause != Cause::Budget => Ok(None),
+        fault => Err(fault),
+    }
+}
