@@ -1,6 +1,6 @@
 //! What is left of an output: it is tried once, and the program ends as that goes.
 
-use elf_endings::{ExitLine, end_answer};
+use elf_cli::{ExitLine, end_answer};
 use elf_fakes::{FaultScript, InjectedFault, ShortWriter};
 use elf_table::RunFault;
 use elf_source::{OutFault, SourceFault};

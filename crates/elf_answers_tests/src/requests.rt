@@ -1,7 +1,7 @@
 //! Requests carried out on files in memory, and where each read fails or the output ends early.
 
 use elf_answers::run;
-use elf_endings::outcome;
+use elf_cli::outcome;
 use elf_source::{Counted, FailSource, MemorySource, Out, OutFault, SliceSink, Source, SourceFault, WriteSink};
 use elf_table::{HeaderBuffer, HeaderStore, Limits, NameLimit, RunFault, Style};
 use elf_record::Parts;

@@ -1,6 +1,6 @@
 //! Requests over two files that answer in turn, as where a file changes between two reads.
 use crate::requests::{LISTED, carry_out, listing, request};
-use elf_endings::outcome;
+use elf_cli::outcome;
 use elf_source::TurnSource;
 use elf_fixtures::{hash_with_cycle, one_symbol_table, overlapping_relocations, with_bytes};
 use elf_table::HeaderBuffer;

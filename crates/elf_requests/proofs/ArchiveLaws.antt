@@ -2,8 +2,8 @@
 use Rattle.std.proofs.Common.{◌≡◌, ℕ, Bool, true, false, Some, sym, ◌∙◌}
 use Rattle.clap.specs.Walk.{Text}
 use Rattle.elf_model.specs.Text.{name_of}
-use Rattle.elf_listing_requests.specs.Options.{member_part_names}
-use Rattle.elf_listing_requests.proofs.ReadLaws.{in_table}
+use Rattle.elf_cli.specs.Options.{member_part_names}
+use Rattle.elf_cli.proofs.ReadLaws.{in_table}
 use Rattle.elf_requests.specs.Archives.{is_member_part}
 
 -- a text that names no part of an archive is the name of no set of parts

@@ -8,8 +8,8 @@ use Rattle.clap.specs.Walk.{Row, Text, first_of}
 use Rattle.elf_requests.specs.Archives.{IsArchiving}
 use Rattle.elf_requests.specs.Asked.{AsksBy, AsksNothing, HasFault, IsTask}
 use Rattle.elf_requests.specs.AskedTraits.{IsTraitsAsked, LacksWord}
-use Rattle.elf_listing_requests.specs.Listings.{NoneAsked}
-use Rattle.elf_listing_requests.specs.RowNames.{has_name_option}
+use Rattle.elf_cli.specs.Listings.{NoneAsked}
+use Rattle.elf_cli.specs.RowNames.{has_name_option}
 use Rattle.elf_requests.specs.AskedNames.{AreBadNames, ChoosesBadly, IsChoosing, takes_names}
 use Rattle.elf_requests.specs.AskedNeeds.{IsNeedsAsked}
 use Rattle.elf_requests.specs.Lists.{IsListAsked}
@@ -17,7 +17,7 @@ use Rattle.elf_requests.specs.Checks.{HasAnyFault, IsAsked, IsChecking, NothingA
 use Rattle.elf_requests.specs.declared.checks.ParsedCommand.{ParsedCommand}
 use Rattle.elf_requests.specs.declared.checks.ParsedCommand.TheVariants.{File, Laid, Chosen, Check, List as Listings, Traits, Needs, Archive, Version}
 use Rattle.elf_requests.specs.declared.requests.Request.{Request}
-use Rattle.elf_listing_requests.specs.declared.faults.RequestFault.{RequestFault}
+use Rattle.elf_cli.specs.declared.faults.RequestFault.{RequestFault}
 use Rattle.elf_requests.specs.declared.requests.Task.{Task}
 use Rattle.elf_requests.specs.declared.requests.Task.TheVariants.{Show, Find, Resolve, Apply, Place}
 

@@ -4,7 +4,7 @@ use Rattle.std.specs.Borrow.{Bor}
 use Rattle.clap.specs.Walk.{Text, texts}
 use Rattle.elf_model.specs.Placing.{Layout}
 use Rattle.elf_requests.specs.Layouts.{LaysWords, PutsItem, RefusesItem}
-use Rattle.elf_listing_requests.specs.declared.faults.RequestFault.{RequestFault}
+use Rattle.elf_cli.specs.declared.faults.RequestFault.{RequestFault}
 
 -- a word that is refused decides
 pub refused_at : (words : List (Bor Text)) (i : ℕ) (d : Bor Text) (old : Layout) (fault : RequestFault) (result : Result Layout RequestFault) → i < length words

@@ -3,11 +3,11 @@ use Rattle.std.proofs.Common.{◌≢◌, List, Option, Some, codes, inl, inr}
 use Rattle.std.specs.Borrow.{Bor}
 use Rattle.clap.specs.Walk.{Row, Text}
 use Rattle.elf_options.specs.declared.caps.Limits.{Limits}
-use Rattle.elf_listing_requests.specs.Listings.{IsListing}
-use Rattle.elf_listing_requests.specs.Options.{AreLimitOptions}
-use Rattle.elf_listing_requests.specs.declared.listings.ListingRequest.{ListingRequest}
+use Rattle.elf_cli.specs.Listings.{IsListing}
+use Rattle.elf_cli.specs.Options.{AreLimitOptions}
+use Rattle.elf_cli.specs.declared.listings.ListingRequest.{ListingRequest}
 use Rattle.elf_requests.specs.Asked.{AsksNothing, HasFault, IsTask}
-use Rattle.elf_listing_requests.specs.declared.faults.RequestFault.{RequestFault}
+use Rattle.elf_cli.specs.declared.faults.RequestFault.{RequestFault}
 use Rattle.elf_requests.specs.declared.requests.Task.{Task}
 use Rattle.elf_requests.specs.declared.requests.Task.TheVariants.{Show, Find, Resolve, Apply, Place}
 

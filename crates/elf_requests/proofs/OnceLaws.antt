@@ -9,8 +9,8 @@ use Rattle.elf_model.specs.Placing.{Layout}
 use Rattle.elf_layout.specs.Spelled.{ParsesItem}
 use Rattle.elf_layout.proofs.ItemLaws.{SameItem, one_item}
 use Rattle.elf_requests.specs.Layouts.{LaysWords, RefusesItem}
-use Rattle.elf_listing_requests.specs.declared.faults.RequestFault.{RequestFault}
-use Rattle.elf_listing_requests.specs.declared.faults.RequestFault.TheVariants.{Memory, BadName, BadItem, BadTrait, LayoutFull, LayoutRepeat, NamesFull, Words as Told}
+use Rattle.elf_cli.specs.declared.faults.RequestFault.{RequestFault}
+use Rattle.elf_cli.specs.declared.faults.RequestFault.TheVariants.{Memory, BadName, BadItem, BadTrait, LayoutFull, LayoutRepeat, NamesFull, Words as Told}
 
 lacks_none : {K : Type 0} (items : List (K × ℕ)) (key other : K) → key ≡ other → LacksKey items key → HasKey items other → ⊥
 lacks_none items key other same lacks (k, x, within, here, has) = lacks k x within (ap (λ i. i.0) here ∙ has ∙ sym same)

@@ -9,8 +9,8 @@ use Rattle.elf_options.specs.Required.{required_words}
 use Rattle.elf_options.specs.Spelled.{parsed_trait_word}
 use Rattle.elf_options.specs.declared.required.RequiredTrait.{RequiredTrait}
 use Rattle.elf_requests.specs.AskedTraits.{AreRequired, IsWordFault, LacksWord, onto_first, pieces}
-use Rattle.elf_listing_requests.specs.declared.faults.RequestFault.{RequestFault}
-use Rattle.elf_listing_requests.specs.declared.faults.RequestFault.TheVariants.{BadTrait, Memory}
+use Rattle.elf_cli.specs.declared.faults.RequestFault.{RequestFault}
+use Rattle.elf_cli.specs.declared.faults.RequestFault.TheVariants.{BadTrait, Memory}
 
 -- a byte that is no comma stands at the front of the first piece
 piece_onto : (byte : ℕ) (bytes : Text) → byte ≢ 44 → pieces (byte ∷ bytes) ≡ onto_first byte (pieces bytes)

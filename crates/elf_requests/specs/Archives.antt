@@ -5,7 +5,7 @@ use Rattle.clap.specs.Walk.{Row, Text, first_of}
 use Rattle.elf_model.specs.Listing.{all_parts}
 use Rattle.elf_model.specs.Text.{name_of as name_in_table}
 use Rattle.elf_record.specs.declared.parts.Parts.{Parts}
-use Rattle.elf_listing_requests.specs.Options.{AreLimitOptions, IsStyle, has_gnu_option, member_part_names}
+use Rattle.elf_cli.specs.Options.{AreLimitOptions, IsStyle, has_gnu_option, member_part_names}
 use Rattle.elf_requests.specs.AskedNames.{AreRows}
 use Rattle.elf_requests.specs.declared.checks.ArchiveRequest.{ArchiveRequest}
 

@@ -6,13 +6,13 @@ use Rattle.elf_model.specs.Loader.{is_complete, parse_query}
 use Rattle.elf_model.specs.declared.formats.Format.{Format}
 use Rattle.elf_model.specs.NameLaws.{IsWanted}
 use Rattle.elf_model.specs.Placing.{Layout, no_items}
-use Rattle.elf_listing_requests.specs.Listings.{IsOfFile}
-use Rattle.elf_listing_requests.specs.Options.{AreLimitOptions, AreParts, HasNumber, IsStyle, asked_format, has_gnu_option, is_option_set, gnu_option_is_missing}
-use Rattle.elf_listing_requests.specs.RowNames.{has_name_option}
+use Rattle.elf_cli.specs.Listings.{IsOfFile}
+use Rattle.elf_cli.specs.Options.{AreLimitOptions, AreParts, HasNumber, IsStyle, asked_format, has_gnu_option, is_option_set, gnu_option_is_missing}
+use Rattle.elf_cli.specs.RowNames.{has_name_option}
 use Rattle.elf_requests.specs.Layouts.{LaysWords}
 use Rattle.elf_requests.specs.declared.requests.Request.{Request}
-use Rattle.elf_listing_requests.specs.declared.faults.RequestFault.{RequestFault}
-use Rattle.elf_listing_requests.specs.declared.faults.RequestFault.TheVariants.{BadName}
+use Rattle.elf_cli.specs.declared.faults.RequestFault.{RequestFault}
+use Rattle.elf_cli.specs.declared.faults.RequestFault.TheVariants.{BadName}
 use Rattle.elf_requests.specs.declared.requests.Task.{Task}
 use Rattle.elf_requests.specs.declared.requests.LookupSymbol.{LookupSymbol}
 use Rattle.elf_requests.specs.declared.requests.Task.TheVariants.{Show, Find, Resolve, Apply, Place}

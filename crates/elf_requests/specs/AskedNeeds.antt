@@ -1,7 +1,7 @@
 -- What the words of a command line ask for, of what a program needs.
 use Rattle.std.specs.Prelude.{◌≡◌, List, [], codes, Some, unwrap_or}
 use Rattle.clap.specs.Walk.{Row, Text, first_of}
-use Rattle.elf_listing_requests.specs.Options.{AreLimitOptions, asked_format, is_option_set}
+use Rattle.elf_cli.specs.Options.{AreLimitOptions, asked_format, is_option_set}
 use Rattle.elf_requests.specs.declared.checks.NeedsRequest.{NeedsRequest}
 
 -- the folders that libraries are looked for in last, where no others are given

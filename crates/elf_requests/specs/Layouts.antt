@@ -6,8 +6,8 @@ use Rattle.elf_layout.specs.declared.layout.Item.{Item}
 use Rattle.elf_layout.specs.declared.layout.LayoutFault.TheVariants.{Full, Repeat}
 use Rattle.elf_model.specs.Placing.{Layout}
 use Rattle.elf_layout.specs.Spelled.{ParsesItem}
-use Rattle.elf_listing_requests.specs.declared.faults.RequestFault.{RequestFault}
-use Rattle.elf_listing_requests.specs.declared.faults.RequestFault.TheVariants.{BadItem, LayoutFull, LayoutRepeat}
+use Rattle.elf_cli.specs.declared.faults.RequestFault.{RequestFault}
+use Rattle.elf_cli.specs.declared.faults.RequestFault.TheVariants.{BadItem, LayoutFull, LayoutRepeat}
 
 -- a word spells an item, which is put behind those of its sort
 abbrev pub PutsItem : Text → Layout → Layout → Type 0

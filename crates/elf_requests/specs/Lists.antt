@@ -1,7 +1,7 @@
 -- What the words of a command line ask for, of listings of many files.
 use Rattle.std.specs.Prelude.{◌≡◌, List, codes}
 use Rattle.clap.specs.Walk.{Row, Text, first_of}
-use Rattle.elf_listing_requests.specs.Options.{AreLimitOptions, AreParts, IsStyle, is_option_set}
+use Rattle.elf_cli.specs.Options.{AreLimitOptions, AreParts, IsStyle, is_option_set}
 use Rattle.elf_requests.specs.AskedNames.{AreRows}
 use Rattle.elf_requests.specs.Files.{AreFiles}
 use Rattle.elf_requests.specs.declared.checks.ListRequest.{ListRequest}

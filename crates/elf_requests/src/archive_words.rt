@@ -5,8 +5,8 @@ ghost use Rattle.clap.specs.Words.{found_of};
 ghost use Rattle.elf_model.specs.Text.{name_of};
 ghost use Rattle.elf_record.specs.declared.parts.Parts.{Parts};
 ghost use Rattle.elf_requests.specs.Archives.{AreMemberParts, IsArchiving};
-ghost use Rattle.elf_listing_requests.specs.Listings.{NoneAsked};
-ghost use Rattle.elf_listing_requests.specs.Options.{member_part_names};
+ghost use Rattle.elf_cli.specs.Listings.{NoneAsked};
+ghost use Rattle.elf_cli.specs.Options.{member_part_names};
 ghost use Rattle.elf_requests.specs.Archives.{is_member_part};
 ghost use Rattle.elf_requests.specs.AskedNames.{AreNamesIf, AreRows};
 ghost use Rattle.elf_requests.specs.Checks.{ParsesTo};
@@ -15,7 +15,7 @@ ghost use Rattle.elf_requests.specs.declared.checks.NameArgs.{NameArgs};
 use crate::checks::{ArchiveRequest, NameArgs, ParsedCommand};
 use crate::name_words::names_of;
 use clap::ArgMatches;
-use elf_listing_requests::{
+use elf_cli::{
     RequestFault, chosen_parts_of, has_gnu_option, limits_of, style_of, text_of, whole,
 };
 use elf_record::Parts;

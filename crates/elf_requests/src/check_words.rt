@@ -2,14 +2,14 @@
 ghost use Rattle.std.specs.Prelude.{◌≡◌, IfSome, Some, None, codes};
 ghost use Rattle.clap.specs.Walk.{rows_of};
 ghost use Rattle.clap.specs.Words.{found_of};
-ghost use Rattle.elf_listing_requests.specs.Listings.{NoneAsked};
+ghost use Rattle.elf_cli.specs.Listings.{NoneAsked};
 ghost use Rattle.elf_requests.specs.Checks.{ParsesTo, IsChecking};
 ghost use Rattle.elf_requests.specs.Files.{AreFiles};
 
 use crate::checks::{CheckRequest, ParsedCommand, PathArgs};
 use crate::file_words::files_of;
 use clap::ArgMatches;
-use elf_listing_requests::{RequestFault, is_set, limits_of, parts_of, style_of};
+use elf_cli::{RequestFault, is_set, limits_of, parts_of, style_of};
 use std::alloc::{AllocError, Global};
 
 /// What `check` with these arguments asks for, or None where there is neither a path nor a file with

@@ -7,7 +7,7 @@ ghost use Rattle.elf_requests.specs.declared.checks.PathArgs.{PathArgs};
 
 use crate::checks::PathArgs;
 use clap::ArgMatches;
-use elf_listing_requests::text_of;
+use elf_cli::text_of;
 use std::alloc::{AllocError, Global};
 
 /// The files that are asked for, or None where there is neither a path nor a file with paths.

@@ -5,7 +5,7 @@ ghost use Rattle.elf_requests.specs.Layouts.{LaysWords, PutsItem, RefusesItem};
 ghost use Rattle.clap.specs.Walk.{texts};
 
 use elf_layout::{Layout, LayoutFault, item};
-use elf_listing_requests::RequestFault;
+use elf_cli::RequestFault;
 
 /// Lays out the items that words give, from the first to the last, and no other items.
 ///

@@ -2,8 +2,8 @@
 ghost use Rattle.std.specs.Prelude.{◌≡◌, IfSome, Ok, Option, Some, None, codes};
 ghost use Rattle.clap.specs.Walk.{rows_of};
 ghost use Rattle.clap.specs.Words.{found_of};
-ghost use Rattle.elf_listing_requests.specs.Listings.{NoneAsked};
-ghost use Rattle.elf_listing_requests.specs.Options.{AreParts};
+ghost use Rattle.elf_cli.specs.Listings.{NoneAsked};
+ghost use Rattle.elf_cli.specs.Options.{AreParts};
 ghost use Rattle.elf_record.specs.declared.parts.Parts.{Parts};
 ghost use Rattle.elf_requests.specs.AskedNames.{AreNamesIf, AreRows};
 ghost use Rattle.elf_requests.specs.Checks.{ParsesTo};
@@ -15,7 +15,7 @@ use crate::checks::{ListRequest, NameArgs, ParsedCommand, PathArgs};
 use crate::file_words::files_of;
 use crate::name_words::names_of;
 use clap::ArgMatches;
-use elf_listing_requests::{RequestFault, chosen_parts_of, is_set, limits_of, parts_of, style_of};
+use elf_cli::{RequestFault, chosen_parts_of, is_set, limits_of, parts_of, style_of};
 use elf_record::Parts;
 use std::alloc::{AllocError, Global};
 

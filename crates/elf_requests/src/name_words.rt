@@ -2,8 +2,8 @@
 ghost use Rattle.std.specs.Prelude.{◌≡◌, ◌≤◌, IfErr, IfOk, length, true, false};
 ghost use Rattle.clap.specs.Walk.{rows_of, texts};
 ghost use Rattle.clap.specs.Words.{found_of};
-ghost use Rattle.elf_listing_requests.specs.Options.{has_versions_option};
-ghost use Rattle.elf_listing_requests.specs.RowNames.{has_name_option, name_words};
+ghost use Rattle.elf_cli.specs.Options.{has_versions_option};
+ghost use Rattle.elf_cli.specs.RowNames.{has_name_option, name_words};
 ghost use Rattle.elf_requests.specs.AskedNames.{AreBadNames, AreBadWords, AreNamesAsked, AreNamesIf, AreTexts};
 ghost use Rattle.elf_requests.specs.Asked.{IsText};
 ghost use Rattle.elf_requests.specs.AskedNames.{HasBadText, IsNameFault};
@@ -11,7 +11,7 @@ ghost use Rattle.elf_requests.specs.AskedNames.{HasBadText, IsNameFault};
 use crate::checks::NameArgs;
 use crate::file_words::words_of;
 use clap::ArgMatches;
-use elf_listing_requests::{RequestFault, has_name_option, has_versions_option, text_of};
+use elf_cli::{RequestFault, has_name_option, has_versions_option, text_of};
 use elf_options::is_valid_row_name;
 use std::alloc::{AllocError, Global};
 

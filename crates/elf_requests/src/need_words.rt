@@ -2,13 +2,13 @@
 ghost use Rattle.std.specs.Prelude.{◌≡◌, IfSome, None, Ok, Some, codes, unwrap_or};
 ghost use Rattle.clap.specs.Walk.{first_of, rows_of};
 ghost use Rattle.clap.specs.Words.{found_of};
-ghost use Rattle.elf_listing_requests.specs.Listings.{NoneAsked};
+ghost use Rattle.elf_cli.specs.Listings.{NoneAsked};
 ghost use Rattle.elf_requests.specs.AskedNeeds.{IsNeedsAsked};
 ghost use Rattle.elf_requests.specs.Checks.{ParsesTo};
 
 use crate::checks::{NeedsRequest, ParsedCommand};
 use clap::ArgMatches;
-use elf_listing_requests::{format_of, is_set, limits_of, text_of};
+use elf_cli::{format_of, is_set, limits_of, text_of};
 
 /// The folders that libraries are looked for in last, where the words give none.
 const DEFAULT_FOLDERS: &str =

@@ -2,9 +2,9 @@
 ghost use Rattle.std.specs.Prelude.{◌≡◌, IfSome, None, Ok, Some, codes, false};
 ghost use Rattle.clap.specs.Walk.{rows_of};
 ghost use Rattle.clap.specs.Words.{found_of};
-ghost use Rattle.elf_listing_requests.specs.Options.{AreLimitOptions, IsStyle};
-ghost use Rattle.elf_listing_requests.specs.RowNames.{AreChosenParts, has_name_option};
-ghost use Rattle.elf_listing_requests.specs.declared.listings.ListingRequest.{ListingRequest};
+ghost use Rattle.elf_cli.specs.Options.{AreLimitOptions, IsStyle};
+ghost use Rattle.elf_cli.specs.RowNames.{AreChosenParts, has_name_option};
+ghost use Rattle.elf_cli.specs.declared.listings.ListingRequest.{ListingRequest};
 ghost use Rattle.elf_requests.specs.Asked.{IsFileNamed};
 ghost use Rattle.elf_requests.specs.AskedNames.{AreNamesAsked};
 ghost use Rattle.elf_requests.specs.Checks.{ParsesTo};
@@ -13,7 +13,7 @@ use crate::checks::{Choosing, NameArgs, ParsedCommand};
 use crate::name_words::names_of;
 use crate::words::parse_listing;
 use clap::ArgMatches;
-use elf_listing_requests::{
+use elf_cli::{
     ListingRequest, RequestFault, chosen_parts_of, limits_of, style_of, text_of,
 };
 use std::alloc::Global;

@@ -8,12 +8,12 @@ ghost use Rattle.elf_options.specs.Spelled.{parsed_trait_word};
 ghost use Rattle.elf_requests.specs.AskedTraits.{AreRequired, IsWordFault};
 ghost use Rattle.elf_requests.specs.Checks.{ParsesTo};
 ghost use Rattle.elf_requests.specs.Files.{AreFiles};
-ghost use Rattle.elf_listing_requests.specs.declared.faults.RequestFault.TheVariants.{BadTrait, Memory};
+ghost use Rattle.elf_cli.specs.declared.faults.RequestFault.TheVariants.{BadTrait, Memory};
 
 use crate::checks::{ParsedCommand, PathArgs, TraitsRequest};
 use crate::file_words::files_of;
 use clap::ArgMatches;
-use elf_listing_requests::{RequestFault, format_of, limits_of, text_of};
+use elf_cli::{RequestFault, format_of, limits_of, text_of};
 use elf_options::{RequiredTrait, parsed_trait_word};
 use std::alloc::{AllocError, Global};
 

@@ -4,7 +4,7 @@ ghost use Rattle.std.specs.Prelude.{Option, Some, codes, map};
 ghost use Rattle.std.specs.Borrow.{Bor};
 ghost use Rattle.clap.specs.Walk.{Text, rows_of};
 ghost use Rattle.clap.specs.Words.{found_of, subcommand_rows_of};
-ghost use Rattle.elf_listing_requests.specs.Options.{AreLimitOptions};
+ghost use Rattle.elf_cli.specs.Options.{AreLimitOptions};
 ghost use Rattle.elf_requests.specs.Asked.{AsksBy, ResolvesTo, IsFileNamed, IsText, IsLookupTask, item_words};
 ghost use Rattle.elf_requests.specs.Answered.{IsRefusal, WordsAsk, WordsRefused};
 ghost use Rattle.elf_requests.specs.Checks.{ParsesTo, IsAsked};
@@ -24,7 +24,7 @@ use crate::show_words::show_asked;
 use crate::trait_words::traits_asked;
 use clap::ArgMatches;
 use elf_layout::Layout;
-use elf_listing_requests::{
+use elf_cli::{
     RequestFault, find_without_gnu, format_of, has_gnu_option, is_set, limits_of, listing_of,
     parse_arguments, text_of, u16_option_of, unasked,
 };

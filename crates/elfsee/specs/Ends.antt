@@ -15,9 +15,9 @@ use Rattle.elf_listing.specs.Reports.{KeepsSourceUnlimited}
 use Rattle.elf_archive.specs.Listed.{ArchiveSays, AsksInArchive, ReportsArchive}
 use Rattle.elf_many.specs.declared.lists.ListFault.{ListFault}
 use Rattle.elf_many.specs.declared.lists.ListFault.TheVariants as list
-use Rattle.elf_endings.specs.Endings.{Ends, PutsRest, wants_rest}
-use Rattle.elf_endings.specs.declared.outputs.Ended.{Ended}
-use Rattle.elf_endings.specs.declared.outputs.Ended.TheVariants.{Status, Told, Unwritten}
+use Rattle.elf_cli.specs.Endings.{Ends, PutsRest, wants_rest}
+use Rattle.elf_cli.specs.declared.outputs.Ended.{Ended}
+use Rattle.elf_cli.specs.declared.outputs.Ended.TheVariants.{Status, Told, Unwritten}
 use Rattle.elf_answers.specs.ArchiveAnswers.{refused_by}
 
 -- there was no memory

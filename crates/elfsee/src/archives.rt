@@ -9,7 +9,7 @@ ghost use Rattle.elfsee.specs.Naming.{EndsWithoutNames};
 use crate::names::{read_list, sorted_names};
 use elf_answers::archive_status;
 use elf_archive::show_archive;
-use elf_endings::{ExitLine, OUT_OF_MEMORY, OUTPUT_BYTES, end_answer, open};
+use elf_cli::{ExitLine, OUT_OF_MEMORY, OUTPUT_BYTES, end_answer, open};
 use elf_table::{Caps, HeaderBuffer, HeaderStore, Limits, Style};
 use elf_options::style_with_names;
 use elf_record::Parts;

@@ -5,7 +5,7 @@ ghost use Rattle.elf_layout.specs.Listed.{AreReordered, AreSorted, Gathers};
 ghost use Rattle.elfsee.specs.Layouts.{EndsItems, EndsBadLine, PlacesIn};
 
 use crate::answer_request;
-use elf_endings::{ExitLine, OUT_OF_MEMORY};
+use elf_cli::{ExitLine, OUT_OF_MEMORY};
 use elf_layout::{Addresses, BorrowedLayout, Items, Layout, LayoutFileFault, TextEnd, read_text};
 use elf_requests::{ApplyWithLayout, Request, Task};
 use std::alloc::Global;

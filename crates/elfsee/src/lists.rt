@@ -9,7 +9,7 @@ ghost use Rattle.elfsee.specs.Naming.{EndsWithoutNames};
 use crate::many::visit_files;
 use crate::names::{read_list, sorted_names};
 use elf_each_file::{HELD_BYTES, ListFiles, ListOptions};
-use elf_endings::{ExitLine, OUT_OF_MEMORY};
+use elf_cli::{ExitLine, OUT_OF_MEMORY};
 use elf_table::{Caps, HeaderBuffer};
 use elf_options::style_with_names;
 use elf_requests::{ListRequest, PathArgs};

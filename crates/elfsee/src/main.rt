@@ -11,14 +11,14 @@ mod needs;
 
 ghost use Rattle.std.specs.Prelude.{◌≡◌, ◌⊎◌, IfErr, IfOk, map, string_bytes};
 ghost use Rattle.elf_answers.specs.Requests.{RunsTask};
-ghost use Rattle.elf_endings.specs.Endings.{EndsWords};
+ghost use Rattle.elf_cli.specs.Endings.{EndsWords};
 ghost use Rattle.elf_requests.specs.Answered.{WordsAsk};
 ghost use Rattle.elfsee.specs.Ends.{EndsRunOver, EndsWithoutFile, EndsWithoutMemory, told_refusal};
-ghost use Rattle.elf_listing_requests.specs.declared.faults.RequestFault.{RequestFault};
+ghost use Rattle.elf_cli.specs.declared.faults.RequestFault.{RequestFault};
 
 use archives::list_archive;
 use elf_answers::run;
-use elf_endings::{
+use elf_cli::{
     ExitLine, OUT_OF_MEMORY, OUTPUT_BYTES, end_answer, exit, open, read_words, report_refused,
     tell_version,
 };

@@ -3,7 +3,7 @@ ghost use Rattle.std.specs.Prelude.{◌≡◌, ◌<◌, IfErr};
 ghost use Rattle.elfsee.specs.Ends.{EndsList, EndsWithoutMemory, StopsCheck};
 
 use elf_each_file::{CheckFiles, CheckOptions, TraitOptions, TraitReport};
-use elf_endings::{
+use elf_cli::{
     CANNOT_OPEN, Ended, ExitLine, LineSink, OUT_OF_MEMORY, OUTPUT_BYTES, PIPE_BYTES, READ_FAULT,
     end_lines,
 };

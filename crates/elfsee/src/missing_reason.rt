@@ -8,7 +8,7 @@ ghost use Rattle.elf_listing.specs.Shows.{StopSays};
 ghost use Rattle.elf_reloc.specs.Explained.{explain_bytes, may_be_missing};
 ghost use Rattle.elfsee.specs.Explaining.{AsksRest, WroteUpTo, asks_why, lack_in, budget_rest};
 
-use elf_endings::{ERROR_LINE_BYTES, write_rest};
+use elf_cli::{ERROR_LINE_BYTES, write_rest};
 use elf_reloc::explain;
 use elf_table::{HeaderStore, NameBuf, NameEnd, RunFault};
 use elf_layout::Addresses;

@@ -6,8 +6,7 @@ ghost use Rattle.elf_options.specs.Names.{NeverDescend, texts_of};
 ghost use Rattle.elfsee.specs.Naming.{EndsNames, EndsWithoutNames, ShowsRowsOf};
 
 use crate::answer_request;
-use elf_endings::{ExitLine, OUT_OF_MEMORY};
-use elf_listing_requests::ListingRequest;
+use elf_cli::{ExitLine, ListingRequest, OUT_OF_MEMORY};
 use elf_options::{NamesFault, gather_names, read_names, style_with_names};
 use elf_requests::{Choosing, NameArgs, Request, Task};
 use std::alloc::Global;

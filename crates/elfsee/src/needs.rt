@@ -1,6 +1,6 @@
 //! What a program needs.
 
-use elf_endings::{
+use elf_cli::{
     CANNOT_OPEN, Ended, ExitLine, OUT_OF_MEMORY, OUTPUT_BYTES, READ_FAULT, end_run, open,
 };
 use elf_table::{HeaderBuffer, HeaderStore};

@@ -4,14 +4,10 @@
 
 ghost use Rattle.std.specs.Prelude.{◌≡◌};
 
-use elf_endings::{
-    ExitLine, OUT_OF_MEMORY, OUTPUT_BYTES, end_answer, exit, open, read_words, report_refused,
-    tell_version,
-};
+use elf_cli::{end_answer, exit, ExitLine, ListingRequest, open, OUT_OF_MEMORY, OUTPUT_BYTES, parse_show, read_words, report_refused, ShowRequest, tell_version};
 use elf_fixtures::sample;
 use elf_table::{Caps, HeaderBuffer, HeaderStore};
 use elf_listing::show;
-use elf_listing_requests::{ListingRequest, ShowRequest, parse_show};
 use elf_source::{Counted, MemorySource, Out, Source, WriteSink};
 use std::alloc::Global;
 use std::io::{self, BufWriter, Stderr, Write};

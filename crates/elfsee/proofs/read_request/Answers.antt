@@ -1,6 +1,6 @@
 -- What is told of words ends as those of bad words do, or for want of memory.
 use Rattle.std.proofs.Common.{inl, inr}
-use Rattle.elf_listing_requests.specs.declared.faults.RequestFault.TheVariants.{Memory}
+use Rattle.elf_cli.specs.declared.faults.RequestFault.TheVariants.{Memory}
 use Rattle.elfsee.proofs.read_request.Goals as goal
 
 pub returns-in-Err-clause-refused : goal.returns-in-Err-clause-refused

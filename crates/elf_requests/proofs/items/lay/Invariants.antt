@@ -1,7 +1,7 @@
 use Rattle.std.proofs.Common.{drop, Result}
 use Rattle.elf_model.specs.Placing.{Layout, no_items}
 use Rattle.elf_requests.specs.Layouts.{LaysWords}
-use Rattle.elf_listing_requests.specs.declared.faults.RequestFault.{RequestFault}
+use Rattle.elf_cli.specs.declared.faults.RequestFault.{RequestFault}
 use Rattle.clap.specs.Walk.{texts}
 use Rattle.elf_requests.proofs.items.lay.Given as goal
 

@@ -3,7 +3,7 @@ use Rattle.std.proofs.Common.{ap, subst, ◌∙◌, ◌≤◌, [], codes, length
 use Rattle.clap.specs.Walk.{rows_of}
 use Rattle.clap.specs.Words.{found_of}
 use Rattle.clap.proofs.WalkLemmas.{raw_values-rows}
-use Rattle.elf_listing_requests.specs.RowNames.{name_words}
+use Rattle.elf_cli.specs.RowNames.{name_words}
 use Rattle.elf_requests.specs.AskedNames.{AreBadWords, AreTexts}
 use Rattle.elf_requests.proofs.name_words.check_names.Goals as goal
 

@@ -1,0 +1,4 @@
+use Rattle.elf_cli.proofs.commands.list.Goals as goal
+
+pub returns : goal.returns
+returns c = c.clap_command_of.ensures

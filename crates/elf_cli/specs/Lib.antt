@@ -1,0 +1,12 @@
+pub mod Building
+pub mod CommandLine
+pub mod Described
+pub mod Faults
+pub mod Listings
+pub mod Options
+pub mod Reading
+pub mod RowNames
+pub mod Endings
+pub mod Lines
+pub mod Marked
+pub mod Version

@@ -1,0 +1,291 @@
+//! The commands of the command line, with what each takes among its words.
+ghost use Rattle.std.specs.Prelude.{◌≡◌, IfOk};
+ghost use Rattle.clap.specs.Simple.{App};
+ghost use Rattle.clap.specs.Words.{app_of};
+ghost use Rattle.clap.specs.declared.builder.value_parser.ValueParser.TheVariants.{Names};
+ghost use Rattle.elf_cli.specs.Building.{IsBuilt};
+ghost use Rattle.elf_cli.specs.CommandLine.{Words};
+ghost use Rattle.elf_cli.specs.Described.{add_subcommands};
+ghost use Rattle.elf_cli.specs.CommandLine.{archive_command, check_command, find_command, list_command, program};
+ghost use Rattle.elf_cli.specs.CommandLine.{needs_command, sample_command, show_command, traits_command};
+ghost use Rattle.elf_cli.specs.CommandLine.{with_many_files, with_one_file, without_command};
+
+use crate::builder::{CommandSpec, add_subcommands, clap_command_of, new_command, with_command};
+use crate::arguments::{
+    AS_LOADED, AS_LOADER, BINDINGS, BY_SEGMENTS, DEFAULT, EXPLAIN, FILE, GNU, HEADERS, INSIDE,
+    ITEM, JSON, LAYOUT, LIBRARY_PATH, LIST, MAX_READ, NAME, NAME_LIST, NAMES, ONLY, PATH, REQUIRE,
+    ROOT, ROW_NAME, SECTION, WITH_VERSIONS,
+};
+use crate::texts::{ABOUT, CHECKED, FOUND, HARDENED, ITEMS, LISTED, MEMBERS, MORE, NEEDED, SHOWN};
+use clap::Command;
+use clap::builder::ValueParser;
+use std::alloc::{AllocError, Global};
+
+const SHOW: CommandSpec = CommandSpec {
+    name: "show",
+    about: "List a file, whole or one part of it",
+    more: SHOWN,
+    words: &[
+        HEADERS,
+        NAMES,
+        MAX_READ,
+        ONLY,
+        GNU,
+        BY_SEGMENTS,
+        JSON,
+        WITH_VERSIONS,
+        ROW_NAME,
+        NAME_LIST,
+        FILE,
+    ],
+};
+
+const SAMPLE: CommandSpec = CommandSpec {
+    name: "sample",
+    about: "List a small file that the program carries",
+    more: "Example: elfsee sample --only header",
+    words: &[
+        HEADERS,
+        NAMES,
+        MAX_READ,
+        ONLY,
+        GNU,
+        BY_SEGMENTS,
+        JSON,
+        WITH_VERSIONS,
+    ],
+};
+
+const FIND: CommandSpec = CommandSpec {
+    name: "find",
+    about: "Look a name up by the file's own hash table",
+    more: FOUND,
+    words: &[HEADERS, MAX_READ, AS_LOADER, AS_LOADED, JSON, FILE, NAME],
+};
+
+const APPLY: CommandSpec = CommandSpec {
+    name: "apply",
+    about: "Write a section's bytes with its relocations applied",
+    more: ITEMS,
+    words: &[HEADERS, MAX_READ, LAYOUT, EXPLAIN, FILE, SECTION, ITEM],
+};
+
+const CHECK: CommandSpec = CommandSpec {
+    name: "check",
+    about: "Check many files: which are at fault, where and why",
+    more: CHECKED,
+    words: &[
+        HEADERS,
+        NAMES,
+        MAX_READ,
+        ONLY,
+        GNU,
+        BY_SEGMENTS,
+        JSON,
+        INSIDE,
+        LIST,
+        PATH,
+    ],
+};
+
+const LIST_FILES: CommandSpec = CommandSpec {
+    name: "list",
+    about: "List many files, each whole or one part of it",
+    more: LISTED,
+    words: &[
+        HEADERS,
+        NAMES,
+        MAX_READ,
+        ONLY,
+        GNU,
+        BY_SEGMENTS,
+        JSON,
+        WITH_VERSIONS,
+        ROW_NAME,
+        NAME_LIST,
+        INSIDE,
+        LIST,
+        PATH,
+    ],
+};
+
+const TRAITS: CommandSpec = CommandSpec {
+    name: "traits",
+    about: "Tell of many files how each is hardened",
+    more: HARDENED,
+    words: &[HEADERS, MAX_READ, REQUIRE, JSON, LIST, PATH],
+};
+
+const NEEDS: CommandSpec = CommandSpec {
+    name: "needs",
+    about: "Tell which libraries a program needs, and where they are",
+    more: NEEDED,
+    words: &[
+        HEADERS,
+        MAX_READ,
+        LIBRARY_PATH,
+        DEFAULT,
+        ROOT,
+        BINDINGS,
+        JSON,
+        FILE,
+    ],
+};
+
+const ARCHIVE: CommandSpec = CommandSpec {
+    name: "archive",
+    about: "List the members of an archive, such as a static library, and what is in each",
+    more: MEMBERS,
+    words: &[
+        HEADERS,
+        NAMES,
+        MAX_READ,
+        ONLY,
+        GNU,
+        BY_SEGMENTS,
+        JSON,
+        WITH_VERSIONS,
+        ROW_NAME,
+        NAME_LIST,
+        FILE,
+    ],
+};
+
+const VERSION: CommandSpec = CommandSpec {
+    name: "version",
+    about: "Tell the version of this program",
+    more: "Example: elfsee version",
+    words: &[],
+};
+
+static OF_ONE_FILE: [CommandSpec; 4] = [SHOW, SAMPLE, FIND, APPLY];
+
+static OF_MANY_FILES: [CommandSpec; 4] = [CHECK, LIST_FILES, TRAITS, NEEDS];
+
+/// The command line, with the names of the parts of a listing, and of those of an archive's: all
+/// commands with their arguments and help, as `clap` reads words by them.
+///
+/// # Errors
+/// There is no memory for it; nothing of it is left then.
+pub fn command_line<'a>(
+    alloc: Global,
+    parts: &'a [&'a str],
+    member_parts: &'a [&'a str],
+) -> Result<Command<'a>, AllocError>
+    ensures { IfOk result (λ command. app_of command
+        ≡ program (record { listed = parts.entry; archived = member_parts.entry })) }
+{
+    let program = program(alloc)?;
+    let command = add_subcommands(alloc, program, of_one_file(), ValueParser::Names(parts))?;
+    let command = add_subcommands(alloc, command, of_many_files(), ValueParser::Names(parts))?;
+    let command = with_command(alloc, command, &ARCHIVE, ValueParser::Names(member_parts))?;
+    with_command(alloc, command, &VERSION, ValueParser::Names(parts))
+}
+
+/// The commands that read one file, but for the one that lists an archive.
+fn of_one_file() -> &'static [CommandSpec]
+    ensures { (parts : Words)
+        → add_subcommands (Names parts) without_command result.now ≡ with_one_file parts }
+{
+    &OF_ONE_FILE
+}
+
+/// The commands that read many files.
+fn of_many_files() -> &'static [CommandSpec]
+    ensures { (parts : Words) (app : App)
+        → add_subcommands (Names parts) app result.now ≡ with_many_files parts app }
+{
+    &OF_MANY_FILES
+}
+
+/// The program, without its commands.
+fn program<'a>(alloc: Global) -> Result<Command<'a>, AllocError>
+    ensures { IfOk result (λ command. app_of command ≡ without_command) }
+{
+    let program = new_command(alloc, "elfsee", ABOUT, MORE)
+        .subcommand_value_name("show|sample|find|apply|check|list|traits|needs|archive|version")
+        .no_binary_name(true)
+        .subcommand_required(true)
+        .arg_required_else_help(true);
+    program.bin_name("elfsee")
+}
+
+/// The command that lists a file, with the names of the parts that it can list alone.
+///
+/// # Errors
+/// There is no memory for it; nothing of it is left then.
+pub fn show<'a>(alloc: Global, parts: &'a [&'a str]) -> Result<Command<'a>, AllocError>
+    ensures { IfOk result (IsBuilt (show_command parts.entry)) }
+{
+    clap_command_of(alloc, &SHOW, ValueParser::Names(parts))
+}
+
+/// The command that lists the sample, with the names of the parts that it can list alone.
+///
+/// # Errors
+/// There is no memory for it; nothing of it is left then.
+pub fn sample<'a>(alloc: Global, parts: &'a [&'a str]) -> Result<Command<'a>, AllocError>
+    ensures { IfOk result (IsBuilt (sample_command parts.entry)) }
+{
+    clap_command_of(alloc, &SAMPLE, ValueParser::Names(parts))
+}
+
+/// The command that looks a name up.
+///
+/// # Errors
+/// There is no memory for it; nothing of it is left then.
+pub fn find<'a>(alloc: Global) -> Result<Command<'a>, AllocError>
+    ensures { IfOk result (IsBuilt find_command) }
+{
+    clap_command_of(alloc, &FIND, ValueParser::Names(&[]))
+}
+
+/// The command that checks many files, with the names of the parts that it can go by.
+///
+/// # Errors
+/// There is no memory for it; nothing of it is left then.
+pub fn check<'a>(alloc: Global, parts: &'a [&'a str]) -> Result<Command<'a>, AllocError>
+    ensures { IfOk result (IsBuilt (check_command parts.entry)) }
+{
+    clap_command_of(alloc, &CHECK, ValueParser::Names(parts))
+}
+
+/// The command that lists many files, with the names of the parts that it can list alone.
+///
+/// # Errors
+/// There is no memory for it; nothing of it is left then.
+pub fn list<'a>(alloc: Global, parts: &'a [&'a str]) -> Result<Command<'a>, AllocError>
+    ensures { IfOk result (IsBuilt (list_command parts.entry)) }
+{
+    clap_command_of(alloc, &LIST_FILES, ValueParser::Names(parts))
+}
+
+/// The command that lists how files are hardened.
+///
+/// # Errors
+/// There is no memory for it; nothing of it is left then.
+pub fn traits<'a>(alloc: Global) -> Result<Command<'a>, AllocError>
+    ensures { IfOk result (IsBuilt traits_command) }
+{
+    clap_command_of(alloc, &TRAITS, ValueParser::Names(&[]))
+}
+
+/// The command that lists which libraries a program needs.
+///
+/// # Errors
+/// There is no memory for it; nothing of it is left then.
+pub fn needs<'a>(alloc: Global) -> Result<Command<'a>, AllocError>
+    ensures { IfOk result (IsBuilt needs_command) }
+{
+    clap_command_of(alloc, &NEEDS, ValueParser::Names(&[]))
+}
+
+/// The command that lists an archive, with the names of its parts: the members, and those of a listing.
+///
+/// # Errors
+/// There is no memory for it; nothing of it is left then.
+pub fn archive<'a>(alloc: Global, parts: &'a [&'a str]) -> Result<Command<'a>, AllocError>
+    ensures { IfOk result (IsBuilt (archive_command parts.entry)) }
+{
+    clap_command_of(alloc, &ARCHIVE, ValueParser::Names(parts))
+}

@@ -1,0 +1,43 @@
+//! The commands and options of the command line, as they are described to `clap`.
+//!
+//! Words, as the command line reads them, and what of them a program takes that only lists one file.
+//!
+//! What the programs share: their words, the files that they open, what they write last, and how they end.
+#![tactic(auto)]
+
+mod arg_specs;
+mod arguments;
+mod builder;
+mod commands;
+mod exit_lines;
+mod faults;
+mod files;
+mod line_sink;
+mod listings;
+mod no_request;
+mod option_values;
+mod outputs;
+mod parser;
+mod program_arguments;
+mod row_names;
+mod texts;
+mod version;
+
+pub use commands::{archive, check, command_line, find, list, needs, sample, show, traits};
+pub use exit_lines::{CANNOT_OPEN, ExitLine, OUT_OF_MEMORY, READ_FAULT, exit, outcome};
+pub use faults::RequestFault;
+pub use files::open;
+pub use line_sink::LineSink;
+pub use listings::{ListingRequest, ShowRequest, listing_of, parse_show};
+pub use no_request::unasked;
+pub use option_values::{
+    find_without_gnu, format_of, has_gnu_option, has_versions_option, is_set, limits_of, parts_of,
+    style_of, text_of, u16_option_of, whole,
+};
+pub use outputs::{
+    ERROR_LINE_BYTES, Ended, OUTPUT_BYTES, PIPE_BYTES, end_answer, end_lines, end_run, write_rest,
+};
+pub use parser::parse_arguments;
+pub use program_arguments::{read_words, report_refused};
+pub use row_names::{chosen_parts_of, has_name_option, is_given};
+pub use version::tell_version;

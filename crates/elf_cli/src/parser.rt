@@ -1,0 +1,59 @@
+//! Words, as the command line reads them.
+ghost use Rattle.std.specs.Prelude.{◌≡◌, IfErr, IfOk, map};
+ghost use Rattle.clap.specs.Words.{app_of, subcommand_rows_of};
+ghost use Rattle.elf_cli.specs.CommandLine.{PartWords, program};
+ghost use Rattle.elf_cli.specs.Reading.{ArePartNames, AreRead, AreRefused};
+
+use crate::faults::RequestFault;
+use clap::{ArgMatches, Command};
+use crate::commands::command_line;
+use std::alloc::{AllocError, Global};
+use std::convert::AsStr;
+
+/// The names of the parts of a listing, in its order, the GNU system's last.
+pub(crate) static PARTS: [&str; 8] = [
+    "header", "sections", "segments", "symbols", "relocs", "notes", "dynamic", "versions",
+];
+
+/// The names of the parts of an archive's listing: its members alone, and those of a listing.
+pub(crate) static MEMBER_PARTS: [&str; 9] = [
+    "members", "header", "sections", "segments", "symbols", "relocs", "notes", "dynamic",
+    "versions",
+];
+
+/// What the command line makes of words, without the program's name: a command with the values of its
+/// arguments.
+///
+/// # Errors
+/// `Words` for words that the command line refuses, or that ask for help; `Memory` where there is none for
+/// reading them.
+pub fn parse_arguments<'a, S: AsStr>(
+    alloc: Global,
+    words: &'a [S],
+) -> Result<ArgMatches<'a>, RequestFault>
+    ensures read { IfOk result (λ matches.
+        AreRead (map S.text words.entry.now) (subcommand_rows_of matches)) }
+    ensures refused { IfErr result (AreRefused (map S.text words.entry.now)) }
+{
+    match command_line(alloc, PARTS.as_slice(), MEMBER_PARTS.as_slice()) {
+        Ok(mut commands) => read_by(&mut commands, words),
+        Err(AllocError) => Err(RequestFault::Memory),
+    }
+}
+
+/// Reads words by a command line, which has the names of the parts that there are.
+fn read_by<'a, S: AsStr>(
+    commands: &mut Command<'a>,
+    words: &'a [S],
+) -> Result<ArgMatches<'a>, RequestFault>
+    ensures read { (parts : PartWords) → app_of commands.old ≡ program parts → ArePartNames parts
+        → IfOk result
+        (λ matches. AreRead (map S.text words.entry.now) (subcommand_rows_of matches)) }
+    ensures refused { (parts : PartWords) → app_of commands.old ≡ program parts
+        → ArePartNames parts → IfErr result (AreRefused (map S.text words.entry.now)) }
+{
+    match commands.try_get_matches_from_mut(words) {
+        Ok(matches) => Ok(matches),
+        Err(error) => Err(error.into()),
+    }
+}

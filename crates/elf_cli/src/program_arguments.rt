@@ -1,0 +1,162 @@
+//! The words of a program, and what is said of wrong ones.
+ghost use Rattle.std.specs.Prelude.{◌≡◌, ◌≢◌, ◌⊎◌, All, IfErr, IfOk, [], codes, string_bytes};
+ghost use Rattle.elf_source.specs.Output.{OutPuts};
+ghost use Rattle.elf_cli.specs.Endings.{EndsWords};
+ghost use Rattle.elf_cli.specs.Marked.{byte_beside, told_beside};
+ghost use Rattle.elf_cli.specs.declared.faults.RequestFault.TheVariants.{Memory};
+
+use crate::exit_lines::{BAD_WORDS, ExitLine, NOT_UTF8, OUT_OF_MEMORY, refused};
+use crate::outputs::{ERROR_LINE_BYTES, write_rest};
+use elf_format::show_escaped_text;
+use crate::faults::RequestFault;
+use crate::parser::parse_arguments;
+use elf_source::{Out, OutFault, Sink, WriteSink};
+use std::alloc::{AllocError, Global};
+use std::env;
+use std::io::{BufWriter, ErrorKind, Stderr};
+use std::rt::Env;
+
+/// A newline of a word, as it is spelt.
+const NEWLINE: &str = "\\x0a";
+
+/// The words behind the program's name.
+///
+/// # Errors
+/// How the program ends where they are no text, or there is no memory for them.
+pub fn read_words<R: Env + AllocGlobal>(rt: &R) -> Result<Vec<String>, ExitLine>
+    ensures told { IfErr result (λ ending. (ending.1.now ≡ codes "elfsee: out of memory")
+        ⊎ (ending.1.now ≡ codes "elfsee: words are not UTF-8")) }
+{
+    let mut words = match env::args(rt) {
+        Ok(words) => words,
+        Err(fault) if fault.kind() == ErrorKind::OutOfMemory => return Err(OUT_OF_MEMORY),
+        Err(_) => return Err(NOT_UTF8),
+    };
+    let _program = words.next();
+    match words.collect(rt.alloc()) {
+        Ok(words) => Ok(words),
+        Err(_) => Err(OUT_OF_MEMORY),
+    }
+}
+
+/// Tells why words are no request, and answers how the program ends: by the fault, or where there is no
+/// memory for telling what is wrong with the words, as for want of it. What is wrong with them, and help,
+/// is written to `errors`.
+pub fn report_refused(
+    alloc: Global,
+    fault: &RequestFault,
+    words: &[String],
+    errors: Stderr,
+) -> ExitLine
+    ensures { EndsWords fault.now result.0 result.1.now
+        ⊎ EndsWords Memory result.0 result.1.now }
+{
+    match fault {
+        RequestFault::Words(told) => report_words(alloc, told, words, errors),
+        _ => refused(fault),
+    }
+}
+
+/// Writes what is wrong with words, or help, with each byte of a word spelt so that no terminal acts on
+/// it, and answers how the program ends. Where it can't be written, the status alone says so.
+fn report_words(alloc: Global, told: &clap::Error, words: &[String], errors: Stderr) -> ExitLine
+    ensures { ((result.0 ≡ 2) × (result.1.now ≡ []))
+        ⊎ ((result.0 ≡ 3) × (result.1.now ≡ codes "elfsee: out of memory")) }
+{
+    match tell(alloc, told, words, errors) {
+        Ok(()) => BAD_WORDS,
+        Err(AllocError) => OUT_OF_MEMORY,
+    }
+}
+
+/// Writes what is wrong with words, or help. Where it can't be written, nothing is said.
+///
+/// # Errors
+/// There is no memory for the text; nothing is written then.
+fn tell(
+    alloc: Global,
+    told: &clap::Error,
+    words: &[String],
+    errors: Stderr,
+) -> Result<(), AllocError> {
+    let text = format!(in alloc; "{told}")?;
+    let marked = marked_text(alloc, words)?;
+    let Ok(errors) = BufWriter::with_capacity(alloc, ERROR_LINE_BYTES, errors) else {
+        return Err(AllocError);
+    };
+    let mut out = Out::new(WriteSink::new(errors));
+    let _ = show_marked(text.as_bytes(), marked.as_bytes(), &mut out);
+    let _ = write_rest(out.into_inner().into_inner(), true);
+    Ok(())
+}
+
+/// What is wrong with the same words with a carriage return in the place of each newline: so the newlines
+/// of words are told from those between lines. Empty where no word has one, or nothing is wrong.
+///
+/// # Errors
+/// There is no memory for the text.
+fn marked_text(alloc: Global, words: &[String]) -> Result<String, AllocError>
+    ensures { All (λ word. All (λ byte. byte ≢ 10) (string_bytes word)) words.now →
+        IfOk result (λ text. string_bytes text ≡ []) }
+{
+    if !words.iter().any(|word| word.as_str().contains('\n')) {
+        return Ok(String::new(alloc));
+    }
+    let mut others: Vec<String> = Vec::new(alloc);
+    for word in words {
+        let other = marked_word(alloc, word.as_str())?;
+        if others.push(other).is_err() {
+            return Err(AllocError);
+        }
+    }
+    match parse_arguments(alloc, others.as_slice()) {
+        Ok(_) => Ok(String::new(alloc)),
+        Err(RequestFault::Words(told)) => format!(in alloc; "{told}"),
+        Err(_) => Err(AllocError),
+    }
+}
+
+/// A word with a carriage return in the place of each newline.
+///
+/// # Errors
+/// There is no memory for it.
+fn marked_word(alloc: Global, word: &str) -> Result<String, AllocError> {
+    let mut other = String::new(alloc);
+    for letter in word.chars() {
+        other.push(if letter == '\n' { '\r' } else { letter })?;
+    }
+    Ok(other)
+}
+
+/// Writes what is wrong with words, by what is wrong with them where their newlines are changed: a
+/// newline that is changed there too is a word's, and is spelt. Where that has another length, each
+/// newline stands as it is.
+///
+/// # Errors
+/// A fault of the output, with a front of the text written.
+fn show_marked<W: Sink>(text: &[u8], marked: &[u8], out: &mut Out<W>) -> Result<(), OutFault>
+    ensures { OutPuts out.old out.new result (told_beside text.now marked.now) }
+{
+    if text.len() != marked.len() {
+        return show_escaped_text(text, out);
+    }
+    for i in 0..text.len() {
+        show_byte(text[i], marked[i], out)?;
+    }
+    out.put(&[])
+}
+
+/// Writes a byte of a text: as it is where it is a newline, and the byte at its place in the other text
+/// is one too; else spelt as in a name.
+///
+/// # Errors
+/// A fault of the output, with a front of the byte's text written.
+#[tactic(auto, unfolding(crate::specs::Marked::byte_beside))]
+fn show_byte<W: Sink>(byte: u8, mark: u8, out: &mut Out<W>) -> Result<(), OutFault>
+    ensures { OutPuts out.old out.new result (byte_beside byte mark) }
+{
+    if byte == b'\n' && mark != b'\n' {
+        return out.put(NEWLINE.as_bytes());
+    }
+    show_escaped_text(&[byte], out)
+}

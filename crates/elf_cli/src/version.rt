@@ -1,0 +1,46 @@
+//! The version of the program.
+ghost use Rattle.elf_cli.specs.Version.{VersionEnds, version_line};
+ghost use Rattle.elf_source.specs.Output.{OutPuts};
+
+use crate::exit_lines::{ExitLine, OUT_OF_MEMORY};
+use crate::outputs::{OUTPUT_BYTES, end_answer};
+use elf_table::RunFault;
+use elf_source::{Out, OutFault, Sink, WriteSink};
+use std::io::{self, BufWriter, Write};
+
+/// The line of the version: the program's name and three numbers.
+const VERSION: &str = "elfsee 0.1.0\n";
+
+/// Makes what memory is needed, and writes the line of the version to standard output.
+///
+/// # Errors
+/// There is no memory; nothing is written then.
+pub fn tell_version<R: Print + AllocGlobal>(rt: &R) -> Result<ExitLine, ExitLine> {
+    match BufWriter::with_capacity(rt.alloc(), OUTPUT_BYTES, io::writer(rt)) {
+        Ok(output) => Ok(version_into(output)),
+        Err(_) => Err(OUT_OF_MEMORY),
+    }
+}
+
+/// Writes the line of the version, and what is left of the output.
+fn version_into<W: Write + Drop>(output: BufWriter<W>) -> ExitLine
+    ensures { VersionEnds result.0 result.1.now }
+{
+    let mut out = Out::new(WriteSink::new(output));
+    let answer = match write_version(&mut out) {
+        Ok(()) => Ok(0),
+        Err(fault) => Err(RunFault::Out(fault)),
+    };
+    let (ending, _output) = end_answer(&answer, out.into_inner().into_inner());
+    ending
+}
+
+/// Writes the line of the version.
+///
+/// # Errors
+/// The output takes no more: it took a front of the line.
+pub(crate) fn write_version<W: Sink>(out: &mut Out<W>) -> Result<(), OutFault>
+    ensures { OutPuts out.old out.new result version_line }
+{
+    out.put(VERSION.as_bytes())
+}

@@ -1,8 +1,0 @@
-use Rattle.std.proofs.Common.{drop, ◌≡◌}
-use Rattle.clap.specs.Words.{app_of}
-use Rattle.elf_command_line.specs.Described.{add_subcommands}
-use Rattle.elf_command_line.proofs.builder.add_subcommands.Given as goal
-
--- the rest of the commands makes of the command so far what all of them make of the first
-abbrev pub invariant-loop-one : goal.invariant-loop-one
-invariant-loop-one l = add_subcommands l.part (app_of l.whole) (drop l.one-index l.below) ≡ add_subcommands l.part (app_of l.fn.command) l.below

@@ -1,4 +1,0 @@
-use Rattle.elf_command_line.proofs.commands.check.Goals as goal
-
-pub returns : goal.returns
-returns c = c.clap_command_of.ensures

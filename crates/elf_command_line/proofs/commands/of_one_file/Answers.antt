@@ -1,5 +1,0 @@
-use Rattle.std.proofs.Common.{refl}
-use Rattle.elf_command_line.proofs.commands.of_one_file.Goals as goal
-
-pub returns : goal.returns
-returns c = λ parts. refl

@@ -1,4 +1,0 @@
-pub mod Endings
-pub mod Lines
-pub mod Marked
-pub mod Version

@@ -1,3 +1,0 @@
-pub mod FaultLaws
-pub mod ReadLaws
-pub mod RowNameLaws
