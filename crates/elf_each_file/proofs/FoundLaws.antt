@@ -17,7 +17,7 @@ use Rattle.elf_model.proofs.StyleLemmas.{from_length}
 use Rattle.elf_source.specs.Source.{CountedState, SetsLimit}
 use Rattle.elf_source.proofs.LimitLaws.{budget_below}
 use Rattle.elf_table.specs.declared.fault.Fault.TheVariants.{Refused}
-use Rattle.elf_traits.specs.TraitStages.{FindsTraits}
+use Rattle.elf_loader.specs.TraitStages.{FindsTraits}
 use Rattle.elf_many.specs.Checked.{FindsShort, short_refusal}
 use Rattle.elf_many.proofs.StateLaws.{judged_long}
 use Rattle.elf_each_file.specs.Found.{FindsWithin, IsFoundWithin, traits_found}

@@ -9,7 +9,7 @@ use elf_table::{Fault, HeaderStore, Limits};
 use elf_many::{refused_state, short_file_status};
 use elf_model::{FileStatus, Traits};
 use elf_source::{Counted, Source};
-use elf_traits::find_traits;
+use elf_loader::find_traits;
 
 /// How many bytes a file header has.
 const HEADER_BYTES: u64 = 64;

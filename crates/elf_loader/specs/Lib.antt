@@ -6,3 +6,9 @@ pub mod Naming
 pub mod Telling
 pub mod FoundVersions
 pub mod Lookups
+pub mod Entries
+pub mod Features
+pub mod TraitStages
+pub mod Known
+pub mod Lists
+pub mod Marks

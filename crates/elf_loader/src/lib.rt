@@ -1,25 +1,41 @@
 //! The lookup of a name in a file as a loader of the GNU system does it: by the symbol's record, its
 //! name and its version. No call takes memory.
+//!
+//! How a file is hardened, as a loader of the GNU system sees it: by its program headers, its dynamic
+//! entries, the properties in its notes and its dynamic symbols. No call takes memory.
 #![tactic(auto)]
 
-mod version_matcher;
-mod index_collection;
-mod name_comparison;
-mod version_match;
+mod exported;
+mod flags;
 mod found;
+mod hardening;
+mod index_collection;
+mod known;
 mod loader_lookup;
 mod lookup;
-mod version_name_record;
-mod version_index_set;
-mod exported;
+mod name_comparison;
+mod properties;
+mod property;
 mod resolved_version_name;
+mod symbol_names;
+mod symbol_traits;
+mod trait_notes;
+mod trait_segments;
+mod trait_symbols;
+mod trait_tags;
+mod traits;
+mod version_index_set;
+mod version_match;
+mod version_matcher;
+mod version_name_record;
 
-pub use version_matcher::VersionMatcher;
-pub use index_collection::version_indices;
-pub use version_match::read_half;
+pub use exported::is_exported;
 pub use found::{FoundVersion, VersionName};
+pub use hardening::find_traits;
+pub use index_collection::version_indices;
 pub use loader_lookup::look_up;
 pub use lookup::{FoundSymbol, SymbolLookup};
-pub use version_name_record::{VersionNameRecord, name_of};
 pub use version_index_set::VersionIndexSet;
-pub use exported::is_exported;
+pub use version_match::read_half;
+pub use version_matcher::VersionMatcher;
+pub use version_name_record::{VersionNameRecord, name_of};

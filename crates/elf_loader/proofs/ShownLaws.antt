@@ -1,0 +1,57 @@
+-- What a file that tells of no section headers tells, up to its load, and what asking for it costs.
+use Rattle.std.proofs.Common.{◌≡◌, ℕ, ◌+◌, ◌*◌, ◌/◌, ◌≤◌, List, ◌++◌, Option, None, Some, Err, refl, ap, arith, mul-add}
+use Rattle.elf_model.specs.Checks.{first_refusal, before_headers, header_checks, load_checks}
+use Rattle.elf_model.specs.LoaderFind.{segments_asked}
+use Rattle.elf_model.specs.Records.{e_phnum, e_shnum}
+use Rattle.elf_model.specs.TraitCost.{properties_asked, segment_traits_cost, symbols_asked, trait_entries_asked, traits_ceiling}
+use Rattle.elf_model.specs.Traits.{loaded_traits, traits_by_segments}
+use Rattle.elf_model.specs.declared.causes.Refusal.{Refusal}
+use Rattle.elf_model.specs.declared.traits.Traits.{Traits}
+use Rattle.elf_table.specs.Store.{StoreState}
+use Rattle.elf_table.specs.declared.fault.Fault.{Fault}
+use Rattle.elf_table.specs.declared.fault.Fault.TheVariants.{Refused, Source}
+use Rattle.elf_lookup_tables.specs.Loading.{LoadsSegments, segments_load_cost}
+use Rattle.elf_lookup_tables.specs.Segments.{entries_asked}
+use Rattle.elf_lookup_tables.proofs.LoadedLaws.{segments_cost}
+use Rattle.elf_lookup_tables.proofs.LoadingLaws.{cost_passed, early_pass}
+use Rattle.elf_loader.specs.Features.{ReturnsValue}
+
+-- all that is asked for is within what is never passed
+pub ceiling_is : (size headers : ℕ) → traits_ceiling size headers ≡ 64 + (headers * 56 + headers * size) + 4 * size + 16 + size / 24 * 88
+unfolding traits_ceiling
+ceiling_is size headers = ap (λ (n : ℕ). 64 + n + 4 * size + 16 + size / 24 * 88) (mul-add headers 56 size)
+
+module _ (file : List ℕ) (headers : ℕ) where
+  refused : (refusal : Refusal) → first_refusal (header_checks file ++ load_checks file headers) ≡ Some refusal → traits_by_segments file headers ≡ Err refusal
+  unfolding traits_by_segments
+  refused refusal e = rw (e, traits_by_segments) refl
+
+  pub shown_is : first_refusal (header_checks file ++ load_checks file headers) ≡ None → loaded_traits file ≡ traits_by_segments file headers
+  unfolding traits_by_segments
+  shown_is e = rw (e, traits_by_segments) refl
+
+  pub load_stops : (fault : Fault) (store : StoreState) → LoadsSegments file headers store (Err fault) → ReturnsValue {X = Traits} (traits_by_segments file headers) (Err fault)
+  load_stops (Refused refusal) store loads = λ other. refused refusal (loads other)
+  load_stops (Source fault at) store loads = tt
+
+  -- what it costs: the load, and where its early checks pass what stands behind
+  pub load_least : e_shnum file ≡ 0 → segments_load_cost file headers ≤ segment_traits_cost file headers
+  unfolding segment_traits_cost
+  load_least none = go (first_refusal (before_headers file headers)) refl
+    where
+      go : (first : Option Refusal) → first_refusal (before_headers file headers) ≡ first → segments_load_cost file headers ≤ segment_traits_cost file headers
+      go None e =
+          let cost : segment_traits_cost file headers ≡ 64 + segments_asked file + trait_entries_asked file + properties_asked file + symbols_asked file = rw (e, segment_traits_cost) refl in
+          let load : segments_load_cost file headers ≡ 64 + 56 * e_phnum file = rw e refl in
+          omega (arith, cost, load, segments_cost file none)
+      go (Some refusal) e =
+          let cost : segment_traits_cost file headers ≡ 64 = rw (e, segment_traits_cost) refl in
+          let load : segments_load_cost file headers ≡ 64 = rw e refl in
+          omega (arith, cost, load)
+
+  pub shown_cost : e_shnum file ≡ 0 → first_refusal (header_checks file ++ load_checks file headers) ≡ None
+      → segment_traits_cost file headers ≡ segments_load_cost file headers + (entries_asked file + trait_entries_asked file + properties_asked file + symbols_asked file)
+  unfolding segment_traits_cost
+  shown_cost none passes =
+      let cost : segment_traits_cost file headers ≡ 64 + segments_asked file + trait_entries_asked file + properties_asked file + symbols_asked file = rw (early_pass file headers passes, segment_traits_cost) refl in
+      omega (arith, cost, cost_passed file headers passes, segments_cost file none)

@@ -1,0 +1,108 @@
+//! The traits of a file.
+ghost use Rattle.std.specs.Prelude.{◌≡◌, ℕ, ◌<◌, ◌^◌, Ok};
+ghost use Rattle.elf_table.specs.Ledger.{CallDid, fault_of_result};
+ghost use Rattle.elf_table.specs.Load.{HoldsProgramHeaders};
+ghost use Rattle.elf_model.specs.Records.{e_shnum};
+ghost use Rattle.elf_model.specs.TraitCost.{traits_ceiling};
+ghost use Rattle.elf_loader.specs.TraitStages.{FindsMarks, FindsShown, FindsTraits, FindsViewed};
+ghost use Rattle.elf_loader.specs.TraitStages.{marks_bytes, view_bytes};
+ghost use Rattle.elf_loader.specs.Known.{KnownLie, ReturnsKnown};
+
+use crate::trait_tags::trait_entries;
+use crate::known::{CountedSymbols, known_symbols};
+use crate::symbol_traits::{SymbolTraits, no_symbol_traits};
+use crate::trait_notes::x86_feature_word;
+use crate::trait_symbols::find_symbol_traits;
+use crate::traits::traits_with;
+use elf_table::{ExecutionView, Fault, HeaderStore};
+use elf_lookup_tables::load_by_segments;
+use elf_model::Traits;
+use elf_source::{Counted, Source};
+
+/// How a file is hardened, as a loader of the GNU system sees it: by its program headers, its first
+/// segment of dynamic entries, the first list of properties in its notes, and its dynamic symbols,
+/// which are those that its hash table knows. The fields of its header that locate section headers are
+/// hidden meanwhile. The program headers are loaded into the store.
+///
+/// Where the source's file is known the traits are the file's own, and so is the refusal; no more is
+/// asked for than they cost, also where the source fails.
+///
+/// # Errors
+/// The first that fails: those of [`load_by_segments`]; `LoadOverlap` at the program header
+/// of a LOAD segment that lies over another; those of the first segment of dynamic entries; those of
+/// the hash table, of the symbols and of their strings, each at the dynamic entry that locates it;
+/// of a file of x86-64 `TableOutside` at the program header of a segment of notes that ends past the
+/// end of the file, and `NoteCut` where no note stands before a list of properties, or no property in
+/// it; a fault of a symbol's name, at the symbol. Else a fault of the source, or `Budget` where a
+/// limit has no room for a read, at the offset that was asked for.
+pub fn find_traits<S: Source>(
+    src: &mut Counted<S>,
+    store: &mut HeaderStore,
+) -> Result<Traits, Fault>
+    ensures did { CallDid src.old src.new (fault_of_result result)
+        (traits_ceiling src.old.seen.size store.old.slots)
+        (λ file. FindsTraits file store.old.slots src.old src.new result) }
+    ensures slots { store.new.slots ≡ store.old.slots }
+{
+    let hides = src.hides();
+    src.mask_section_headers(true);
+    let found = shown_traits(src, store);
+    src.mask_section_headers(hides);
+    found
+}
+
+/// The traits of the file that the source shows, whose header locates no section headers.
+///
+/// # Errors
+/// Those of [`find_traits`].
+fn shown_traits<S: Source>(src: &mut Counted<S>, store: &mut HeaderStore) -> Result<Traits, Fault>
+    ensures did { CallDid src.old src.new (fault_of_result result)
+        (traits_ceiling src.old.seen.size store.old.slots)
+        (λ file. e_shnum file ≡ 0 →
+        FindsShown file store.old.slots src.old src.new result) }
+    ensures slots { store.new.slots ≡ store.old.slots }
+{
+    let loaded = load_by_segments(src, store)?;
+    find_traits_by_segments(src, &ExecutionView { loaded, store })
+}
+
+/// The traits of a file whose program headers are loaded.
+///
+/// # Errors
+/// Those of [`find_traits`] behind the load.
+fn find_traits_by_segments<S: Source>(
+    src: &mut Counted<S>,
+    view: &ExecutionView<'_>,
+) -> Result<Traits, Fault>
+    requires size { view.now.loaded.size ≡ src.old.seen.size }
+    requires small { view.now.loaded.size < 2 ^ 63 }
+    ensures { CallDid src.old src.new (fault_of_result result)
+        (view_bytes view.now.store.now.segments src.old.seen.size)
+        (λ file. HoldsProgramHeaders file view.now.loaded view.now.store.now →
+        FindsViewed file src.old src.new result) }
+{
+    let known = known_symbols(src, view)?;
+    let entries = trait_entries(src, view)?;
+    let word = x86_feature_word(src, view)?;
+    let marks = counted_symbol_traits(src, known)?;
+    Ok(traits_with(view, &entries, word, marks))
+}
+
+/// The marks of the symbols that a loader knows, if there are such.
+///
+/// # Errors
+/// Those of [`find_symbol_traits`]. Else a fault of a read.
+fn counted_symbol_traits<S: Source>(
+    src: &mut Counted<S>,
+    known: Option<CountedSymbols>,
+) -> Result<SymbolTraits, Fault>
+    requires { KnownLie src.old.seen.size known }
+    ensures { CallDid src.old src.new (fault_of_result result) (marks_bytes src.old.seen.size)
+        (λ file. ReturnsKnown file (Ok known) → FindsMarks file src.old src.new result) }
+{
+    let Some(known) = known else {
+        return Ok(no_symbol_traits());
+    };
+    let count = known.symbols.extent(src, &known.table)?;
+    find_symbol_traits(src, &known.symbols, count)
+}

@@ -1,0 +1,61 @@
+//! The symbols of a file that a loader knows.
+ghost use Rattle.std.specs.Prelude.{◌≡◌, ℕ, ◌+◌, ◌<◌, ◌^◌, IfOk};
+ghost use Rattle.elf_table.specs.Ledger.{CallDid, fault_of_result};
+ghost use Rattle.elf_table.specs.Load.{HoldsProgramHeaders};
+ghost use Rattle.elf_loader.specs.Known.{FindsKnown, KnownLie, passed_over};
+
+use elf_hash::{HashTable, counts};
+use elf_table::{ExecutionView, Fault};
+use elf_lookup_tables::{Symbols, find_in_segments};
+use elf_record::{Cause, Refusal};
+use elf_source::{Counted, Source};
+
+/// The symbols that a loader knows, with the hash table that it looks them up by. It holds no bytes.
+#[derive(Clone, Copy)]
+pub(crate) struct CountedSymbols {
+    /// The symbols.
+    pub(crate) symbols: Symbols,
+    /// The hash table, with its counts.
+    pub(crate) table: HashTable,
+}
+
+/// The symbols that a loader knows; none in a file without a hash table.
+///
+/// # Errors
+/// Those of [`find_in_segments`] but `NoHash`, and those of [`counts`].
+pub(crate) fn known_symbols<S: Source>(
+    src: &mut Counted<S>,
+    view: &ExecutionView<'_>,
+) -> Result<Option<CountedSymbols>, Fault>
+    requires size { view.now.loaded.size ≡ src.old.seen.size }
+    requires small { view.now.loaded.size < 2 ^ 63 }
+    ensures did { CallDid src.old src.new (fault_of_result result) (src.old.seen.size + 16)
+        (λ file. HoldsProgramHeaders file view.now.loaded view.now.store.now →
+        FindsKnown file src.old src.new result) }
+    ensures within { IfOk result (KnownLie src.old.seen.size) }
+{
+    let scope = match find_in_segments(src, view) {
+        Ok(scope) => scope,
+        Err(fault) => return without_hash(fault),
+    };
+    let table = counts(src, &scope.hash)?;
+    Ok(Some(CountedSymbols {
+        symbols: scope.symbols,
+        table,
+    }))
+}
+
+/// No symbols where there is no hash table, else the fault.
+fn without_hash(fault: Fault) -> Result<Option<CountedSymbols>, Fault>
+    ensures { result ≡ passed_over fault }
+{
+    match fault {
+        Fault::Refused(
+            Refusal {
+                at: _,
+                cause: Cause::NoHash,
+            },
+        ) => Ok(None),
+        _ => Err(fault),
+    }
+}

@@ -1,0 +1,35 @@
+//! The marks of hardening that one symbol has.
+ghost use Rattle.std.specs.Prelude.{◌≡◌};
+ghost use Rattle.elf_model.specs.Traits.{marked_by, no_symbol_traits};
+ghost use Rattle.elf_loader.specs.Marks.{symbol_traits_of};
+
+use crate::symbol_names::{is_fortify_call, is_stack_protector};
+
+/// The marks of symbols.
+#[derive(Clone, Copy)]
+pub(crate) struct SymbolTraits {
+    /// One is a guard's.
+    pub(crate) canary: bool,
+    /// One that is undefined is a checked call's.
+    pub(crate) fortify: bool,
+}
+
+/// The marks with those of one more symbol, by its name, and whether it is undefined.
+pub(crate) fn marked_by(marks: SymbolTraits, name: &[u8], undefined: bool) -> SymbolTraits
+    ensures { symbol_traits_of result ≡ marked_by (symbol_traits_of marks) name.now undefined }
+{
+    SymbolTraits {
+        canary: marks.canary || is_stack_protector(name),
+        fortify: marks.fortify || (undefined && is_fortify_call(name)),
+    }
+}
+
+/// The marks of no symbol.
+pub(crate) fn no_symbol_traits() -> SymbolTraits
+    ensures { symbol_traits_of result ≡ no_symbol_traits }
+{
+    SymbolTraits {
+        canary: false,
+        fortify: false,
+    }
+}

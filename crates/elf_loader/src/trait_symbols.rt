@@ -1,0 +1,125 @@
+//! The marks of hardening that the symbols of a file have.
+ghost use Rattle.std.specs.Prelude.{◌≡◌, ℕ, ◌+◌, ◌-◌, ◌*◌, ◌≤◌, List, length, IfErr};
+ghost use Rattle.elf_table.specs.Faults.{IsReadFault};
+ghost use Rattle.elf_table.specs.Ledger.{CallDid, fault_of_result};
+ghost use Rattle.elf_model.specs.Loader.{Symbols as AreSymbolsOf};
+ghost use Rattle.elf_model.specs.Traits.{marks_from, no_symbol_traits};
+ghost use Rattle.elf_note.specs.Ahead.{IsAheadOf, ReadsOnCredit, WhereAgrees};
+ghost use Rattle.elf_record.specs.Sym.{IsSym};
+ghost use Rattle.elf_lookup_tables.specs.Symbols.{IsDynamicSymbols, DynamicSymbolsInBounds};
+ghost use Rattle.elf_table.specs.Tables.{TableInBounds, StringsInBounds, strings_in};
+ghost use Rattle.elf_model.specs.Bytes.{slice};
+ghost use Rattle.elf_loader.specs.Marks.{ReturnsMarks, marks_in, symbol_traits_of, marks_with};
+
+use crate::symbol_traits::{SymbolTraits, marked_by, no_symbol_traits};
+use crate::symbol_names::NAME_CAP;
+use elf_table::{Cursor, Fault, NameBuf, NameEnd, Names, Row, Table};
+use elf_lookup_tables::Symbols;
+use elf_note::{NameIndex, ReadAhead};
+use elf_record::Sym;
+use elf_record::numbers::SHN_UNDEF;
+use elf_record::sizes::SYMBOL_BYTES;
+use elf_source::{Counted, Source};
+
+/// The marks of so many symbols, all but the first, which is none (gABI 4, Symbol Table). There are no
+/// fewer. Each with its name asks for 88 bytes at most.
+///
+/// # Errors
+/// Those of [`ReadAhead::name`], at the symbol. Else a fault of a read.
+pub(crate) fn find_symbol_traits<S: Source>(
+    src: &mut Counted<S>,
+    symbols: &Symbols,
+    count: u64,
+) -> Result<SymbolTraits, Fault>
+    requires few { count ≤ symbols.now.table.count }
+    requires lie { DynamicSymbolsInBounds src.old.seen.size symbols.now }
+    ensures { CallDid src.old src.new (fault_of_result result) ((count - 1) * 88)
+        (λ file. (told : AreSymbolsOf) → IsDynamicSymbols file told symbols.now →
+        ReturnsMarks (marks_from file told no_symbol_traits 1 (count - 1)) result) }
+{
+    if count < 2 {
+        return Ok(no_symbol_traits());
+    }
+    let rows = rows_after_first(&symbols.table, count);
+    symbol_traits_of_rows(src, rows, symbols.names, no_symbol_traits())
+}
+
+/// So many rows of a table of symbols but for the first of them; there are two at least.
+fn rows_after_first(table: &Table, count: u64) -> Table
+    requires entry { table.now.entry ≡ 24 }
+    requires some { 2 ≤ count }
+    requires few { count ≤ table.now.count }
+    ensures { result ≡ record { at = table.now.at + 24; count = count - 1; entry = 24 } }
+{
+    let _ = table.entry();
+    Table::new(table.place(1), count - 1, SYMBOL_BYTES)
+}
+
+/// The marks of the symbols of a table, with those before.
+///
+/// # Errors
+/// Those of [`ReadAhead::name`], at the symbol. Else a fault of a read.
+fn symbol_traits_of_rows<S: Source>(
+    src: &mut Counted<S>,
+    rows: Table,
+    names: Names,
+    before: SymbolTraits,
+) -> Result<SymbolTraits, Fault>
+    requires entry { rows.entry ≡ 24 }
+    requires within { TableInBounds src.old.seen.size rows }
+    requires names { StringsInBounds src.old.seen.size names }
+    ensures { CallDid src.old src.new (fault_of_result result) (rows.count * 88)
+        (λ file. ReturnsMarks (marks_in file rows.at (strings_in file names) (symbol_traits_of before)
+        rows.count) result) }
+{
+    let mut ahead = ReadAhead::new();
+    let mut name = NameBuf::new();
+    let mut marks = before;
+    let mut cursor = Cursor::new(rows);
+    'symbols: while cursor.advance(src)? {
+        marks = with_symbol(src, &mut ahead, &mut name, &cursor.row(), names, marks)?;
+    }
+    Ok(marks)
+}
+
+/// The marks with those of the symbol whose bytes a row has, 24 of them.
+///
+/// # Errors
+/// Those of [`ReadAhead::name`].
+fn with_symbol<S: Source>(
+    src: &mut Counted<S>,
+    ahead: &mut ReadAhead,
+    name: &mut NameBuf,
+    row: &Row<'_>,
+    names: Names,
+    marks: SymbolTraits,
+) -> Result<SymbolTraits, Fault>
+    requires bytes { length row.now.bytes.now ≡ 24 }
+    requires names { StringsInBounds src.old.seen.size names }
+    ensures spends { ReadsOnCredit src.old src.new ahead.old.credit ahead.new.credit 64 }
+    ensures says { IfErr result (IsReadFault src.old src.new (ahead.old.credit + 64)) }
+    ensures agrees { WhereAgrees src.old.seen.file ahead.old (λ file. IsAheadOf file ahead.new) }
+    ensures tells { WhereAgrees src.old.seen.file ahead.old (λ file.
+        row.now.bytes.now ≡ slice file row.now.at 24 →
+        ReturnsMarks (marks_with file row.now.at (strings_in file names) (symbol_traits_of marks)) result) }
+{
+    let symbol = symbol_in(row);
+    let index = NameIndex {
+        names,
+        off: u64::from(symbol.st_name),
+        at: row.at,
+    };
+    match ahead.name(src, index, NAME_CAP, name)? {
+        NameEnd::Whole => Ok(marked_by(marks, name.bytes(), symbol.st_shndx == SHN_UNDEF)),
+        NameEnd::Cut => Ok(marks),
+    }
+}
+
+/// The symbol whose bytes a row has, 24 of them.
+fn symbol_in(row: &Row<'_>) -> Sym
+    requires { length row.now.bytes.now ≡ 24 }
+    ensures { (file : List ℕ) (at : ℕ) → row.now.bytes.now ≡ slice file at 24 →
+        IsSym file at result }
+{
+    Sym::decode(row.bytes.first_chunk().unwrap())
+}

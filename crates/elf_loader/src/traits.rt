@@ -1,0 +1,171 @@
+//! The traits by what was read of a file.
+ghost use Rattle.std.specs.Prelude.{◌≡◌, ℕ, List, is_some, unwrap_or, Option};
+ghost use Rattle.elf_table.specs.Load.{HoldsProgramHeaders};
+ghost use Rattle.elf_model.specs.TraitNumbers.{has_bits};
+ghost use Rattle.elf_model.specs.Traits.{binds_now, has_text_relocations, kind_of_shared, path_of};
+ghost use Rattle.elf_model.specs.Traits.{program_kind, relro_of, segment_traits, traits_with};
+ghost use Rattle.elf_loader.specs.Entries.{AreTraitEntries};
+ghost use Rattle.elf_loader.specs.Marks.{symbol_traits_of};
+
+use crate::trait_tags::TraitTags;
+use crate::flags::has_bits;
+use crate::symbol_traits::SymbolTraits;
+use crate::trait_segments::{has_segment, has_wx_load, is_stack_executable};
+use elf_model::{ProgramKind, Relro, SearchPath, SegmentTraits, Traits};
+use elf_record::numbers::{ET_CORE, ET_DYN, ET_EXEC, ET_REL, PT_INTERP};
+use elf_table::ExecutionView;
+
+/// The type of the segment that is read-only once it is relocated (Linux Standard Base Core, Program
+/// Header).
+const PT_GNU_RELRO: u32 = 0x6474_e552;
+/// The flag of DT_FLAGS of relocations that change a segment which is not writable (gABI 5,
+/// DT_FLAGS).
+const DF_TEXTREL: u64 = 0x4;
+/// The flag of DT_FLAGS of symbols that are all bound at once.
+const DF_BIND_NOW: u64 = 0x8;
+/// The same of DT_FLAGS_1, of the GNU system.
+const DF_1_NOW: u64 = 0x1;
+/// The flag of DT_FLAGS_1 of a program that stands at any address.
+const DF_1_PIE: u64 = 0x800_0000;
+/// The feature of x86 that indirect branches go to marked places alone (x86-64 psABI, Program
+/// Property).
+const FEATURE_IBT: u64 = 0x1;
+/// The feature of x86 that returns go by a shadow stack.
+const FEATURE_SHSTK: u64 = 0x2;
+
+/// The traits of a file, by the word of its features of x86 and the marks of its symbols.
+#[tactic(auto, unfolding(elf_model::specs::Traits::traits_with))]
+pub(crate) fn traits_with(
+    view: &ExecutionView<'_>,
+    entries: &TraitTags,
+    word: u32,
+    marks: SymbolTraits,
+) -> Traits
+    ensures { (file : List ℕ) → HoldsProgramHeaders file view.now.loaded view.now.store.now →
+        AreTraitEntries file entries.now → result ≡ traits_with file word (symbol_traits_of marks) }
+{
+    Traits {
+        kind: program_kind(view, entries),
+        segments: segment_traits(view, entries),
+        ibt: has_bits(u64::from(word), FEATURE_IBT),
+        shstk: has_bits(u64::from(word), FEATURE_SHSTK),
+        canary: marks.canary,
+        fortify: marks.fortify,
+        path: path_of(entries),
+    }
+}
+
+/// What a file is, by its type (gABI 4, ELF Header).
+#[tactic(auto, unfolding(elf_model::specs::Traits::program_kind))]
+fn program_kind(view: &ExecutionView<'_>, entries: &TraitTags) -> ProgramKind
+    ensures { (file : List ℕ) → HoldsProgramHeaders file view.now.loaded view.now.store.now →
+        AreTraitEntries file entries.now → result ≡ program_kind file }
+{
+    let kind = view.loaded.header().e_type;
+    if kind == ET_DYN {
+        kind_of_shared(view, entries)
+    } else if kind == ET_EXEC {
+        if has_segment(view, PT_INTERP) {
+            ProgramKind::Exec
+        } else {
+            ProgramKind::Static
+        }
+    } else if kind == ET_REL {
+        ProgramKind::Object
+    } else if kind == ET_CORE {
+        ProgramKind::Core
+    } else {
+        ProgramKind::Other
+    }
+}
+
+/// What a file is that may stand at any address: a library where it has a name as one; else a program
+/// where it asks for an interpreter, and where it says so.
+#[tactic(auto, unfolding(elf_model::specs::Traits::kind_of_shared))]
+fn kind_of_shared(view: &ExecutionView<'_>, entries: &TraitTags) -> ProgramKind
+    ensures { (file : List ℕ) → HoldsProgramHeaders file view.now.loaded view.now.store.now →
+        AreTraitEntries file entries.now → result ≡ kind_of_shared file }
+{
+    if entries.soname.is_some() {
+        return ProgramKind::Lib;
+    }
+    if has_segment(view, PT_INTERP) {
+        return ProgramKind::Pie;
+    }
+    if value_has(entries.flags_1, DF_1_PIE) {
+        return ProgramKind::Static;
+    }
+    ProgramKind::Lib
+}
+
+/// The traits by program headers, where there are any.
+#[tactic(auto, unfolding(elf_model::specs::Traits::segment_traits))]
+fn segment_traits(view: &ExecutionView<'_>, entries: &TraitTags) -> Option<SegmentTraits>
+    ensures { (file : List ℕ) → HoldsProgramHeaders file view.now.loaded view.now.store.now →
+        AreTraitEntries file entries.now → result ≡ segment_traits file }
+{
+    if view.segments() == 0 {
+        return None;
+    }
+    Some(SegmentTraits {
+        relro: relro_of(view, entries),
+        stack_executable: is_stack_executable(view),
+        pages_writable: has_wx_load(view),
+        text_patched: has_text_relocations(entries),
+    })
+}
+
+/// How much is read-only once it is relocated.
+#[tactic(auto, unfolding(elf_model::specs::Traits::relro_of))]
+fn relro_of(view: &ExecutionView<'_>, entries: &TraitTags) -> Relro
+    ensures { (file : List ℕ) → HoldsProgramHeaders file view.now.loaded view.now.store.now →
+        AreTraitEntries file entries.now → result ≡ relro_of file }
+{
+    if !has_segment(view, PT_GNU_RELRO) {
+        return Relro::Absent;
+    }
+    if binds_now(entries) {
+        return Relro::Full;
+    }
+    Relro::Partial
+}
+
+/// Whether all symbols are bound before the program begins.
+#[tactic(auto, unfolding(elf_model::specs::Traits::binds_now))]
+fn binds_now(entries: &TraitTags) -> bool
+    ensures { (file : List ℕ) → AreTraitEntries file entries.now → result ≡ binds_now file }
+{
+    entries.bind_now.is_some()
+        || value_has(entries.flags, DF_BIND_NOW)
+        || value_has(entries.flags_1, DF_1_NOW)
+}
+
+/// Whether relocations change a segment that is not writable.
+#[tactic(auto, unfolding(elf_model::specs::Traits::has_text_relocations))]
+fn has_text_relocations(entries: &TraitTags) -> bool
+    ensures { (file : List ℕ) → AreTraitEntries file entries.now →
+        result ≡ has_text_relocations file }
+{
+    entries.textrel.is_some() || value_has(entries.flags, DF_TEXTREL)
+}
+
+/// Where libraries are looked for first.
+#[tactic(auto, unfolding(elf_model::specs::Traits::path_of))]
+fn path_of(entries: &TraitTags) -> SearchPath
+    ensures { (file : List ℕ) → AreTraitEntries file entries.now → result ≡ path_of file }
+{
+    if entries.runpath.is_some() {
+        return SearchPath::Runpath;
+    }
+    if entries.rpath.is_some() {
+        return SearchPath::Rpath;
+    }
+    SearchPath::Absent
+}
+
+/// Whether the value of an entry has all of some flags; one that is not there has none.
+fn value_has(value: Option<u64>, bits: u64) -> bool
+    ensures { result ≡ has_bits (unwrap_or value 0) bits }
+{
+    has_bits(value.unwrap_or(0), bits)
+}
