@@ -13,8 +13,8 @@ use Rattle.elf_table.specs.declared.run_fault.RunFault.{RunFault}
 use Rattle.elf_table.specs.declared.run_fault.RunFault.TheVariants.{Refused}
 use Rattle.elf_listing.specs.Reports.{KeepsSourceUnlimited}
 use Rattle.elf_archive.specs.Listed.{ArchiveSays, AsksInArchive, ReportsArchive}
-use Rattle.elf_many.specs.declared.lists.ListFault.{ListFault}
-use Rattle.elf_many.specs.declared.lists.ListFault.TheVariants as list
+use Rattle.elf_walk.specs.declared.lists.ListFault.{ListFault}
+use Rattle.elf_walk.specs.declared.lists.ListFault.TheVariants as list
 use Rattle.elf_cli.specs.Endings.{Ends, PutsRest, wants_rest}
 use Rattle.elf_cli.specs.declared.outputs.Ended.{Ended}
 use Rattle.elf_cli.specs.declared.outputs.Ended.TheVariants.{Status, Told, Unwritten}

@@ -8,7 +8,7 @@ ghost use Rattle.elfsee.specs.Naming.{EndsWithoutNames};
 
 use crate::many::visit_files;
 use crate::names::{read_list, sorted_names};
-use elf_each_file::{HELD_BYTES, ListFiles, ListOptions};
+use elf_walk::{HELD_BYTES, ListFiles, ListOptions};
 use elf_cli::{ExitLine, OUT_OF_MEMORY};
 use elf_table::{Caps, HeaderBuffer};
 use elf_options::style_with_names;

@@ -1,6 +1,0 @@
--- What came was put.
-use Rattle.elf_folder.proofs.GatherLaws.{GatheredSoFar}
-use Rattle.elf_folder.proofs.dir_walk.gather_from.Given as goal
-
-abbrev pub invariant-loop-turn : goal.invariant-loop-turn
-invariant-loop-turn g l = GatheredSoFar l.unnamed l.fn.batch l.batch

@@ -1,0 +1,66 @@
+-- The check of a file by its sort, and what that asks for.
+use Rattle.std.proofs.Common.{◌≡◌, ℕ, ◌+◌, ◌≤◌, nat_lt, Bool, true, false, if◌then◌else◌, List, Option, None, Some, arith}
+use Rattle.std.specs.Prelude.{IfSome}
+use Rattle.elf_model.specs.ArchiveCost.{archive_ceiling}
+use Rattle.elf_model.specs.Cost.{style_ceiling}
+use Rattle.elf_model.specs.FileLists.{front_size}
+use Rattle.elf_model.specs.Style.{Style}
+use Rattle.elf_model.specs.declared.states.FileStatus.{FileStatus}
+use Rattle.elf_model.specs.declared.states.FileStatus.TheVariants as state
+use Rattle.elf_source.specs.Source.{CountedState}
+use Rattle.elf_options.specs.Permitted.{style_of}
+use Rattle.elf_options.specs.declared.caps.Caps.{Caps}
+use Rattle.elf_walk.specs.Checked.{FailsRead}
+use Rattle.elf_walk.specs.Fronts.{front_asked}
+use Rattle.elf_walk.specs.CheckedFile.{AsksNoMore, check_ceiling}
+use Rattle.elf_walk.specs.Members.{FindsSorted, FindsSortedState}
+
+-- what a file asks for, by the ceiling of an archive of as many bytes
+check_most : (short : Bool) (size headers : ℕ) (style : Style) → (if short then 4 else style_ceiling size headers style) ≤ archive_ceiling size headers style
+unfolding archive_ceiling
+check_most true size headers style = omega arith
+check_most false size headers style = omega arith
+
+pub asks_as_archive : (caps : Caps) (old new : CountedState) → AsksNoMore (check_ceiling old.seen.size caps.limits.headers (style_of caps.style)) caps.limits.budget old new
+    → AsksNoMore (archive_ceiling old.seen.size caps.limits.headers (style_of caps.style)) caps.limits.budget old new
+asks_as_archive caps old new asks =
+    let most : check_ceiling old.seen.size caps.limits.headers (style_of caps.style) ≤ archive_ceiling old.seen.size caps.limits.headers (style_of caps.style) =
+    check_most (nat_lt old.seen.size 64) old.seen.size caps.limits.headers (style_of caps.style) in
+    record { ceiling = omega (arith, asks.ceiling, most); budget = asks.budget }
+
+-- nothing more is asked for
+some_within : (budget : Option ℕ) (old new : ℕ) → new ≡ old → IfSome budget (λ bytes. new ≤ old + bytes)
+some_within None old new is = tt
+some_within (Some bytes) old new is = omega (arith, is)
+
+pub asks_nothing : (caps : Caps) (old new : CountedState) → new.asked ≡ old.asked → AsksNoMore (archive_ceiling old.seen.size caps.limits.headers (style_of caps.style)) caps.limits.budget old new
+asks_nothing caps old new is = record { ceiling = omega (arith, is); budget = some_within caps.limits.budget old.asked new.asked is }
+
+-- the bytes that tell what a file is are eight at most
+front_few : (short room : Bool) (n : ℕ) → n ≤ 8 → (if short then 0 else if room then n else 0) ≤ 8
+front_few true room n few = omega arith
+front_few false true n few = few
+front_few false false n few = omega arith
+
+size_few : (t : Bool) → (if t then 4 else 8) ≤ 8
+size_few true = omega arith
+size_few false = omega arith
+
+pub front_eight : (budget : Option ℕ) (size : ℕ) → front_asked true budget size ≤ 8
+front_eight budget size = front_few (nat_lt size 4) _ (front_size true size) (size_few (nat_lt size 8))
+
+-- a state that is found
+pub sorted_found : (caps : Caps) (parts : ℕ) (file : List ℕ) (found : FileStatus) → FindsSortedState caps parts file found → FindsSorted caps parts file found
+sorted_found caps parts file state.Ok finds = finds
+sorted_found caps parts file (state.Refused refusal) finds = finds
+sorted_found caps parts file state.NoElf finds = finds
+sorted_found caps parts file state.Unread finds = tt
+sorted_found caps parts file state.Memory finds = finds
+
+-- a file that was not read behind reads that did not fail
+pub state_after : (a b c : CountedState) (found : FileStatus) → a.seen.failures ≤ b.seen.failures → FailsRead b c found → FailsRead a c found
+state_after a b c state.Ok fewer fails = tt
+state_after a b c (state.Refused refusal) fewer fails = tt
+state_after a b c state.NoElf fewer fails = tt
+state_after a b c state.Unread fewer fails = λ honest. let rose = fails honest in omega (arith, fewer, rose)
+state_after a b c state.Memory fewer fails = fails

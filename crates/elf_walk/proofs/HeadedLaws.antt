@@ -1,0 +1,144 @@
+-- A listing behind the line of a path, by what was written of both.
+use Rattle.std.proofs.Common.{◌≡◌, ℕ, Bool, false, List, [], ◌∷◌, Option, None, Some, Result, Ok, Err, refl, ◌∙◌, inl}
+use Rattle.std.specs.Prelude.{IfErr}
+use Rattle.elf_model.specs.Archive.{archive_items}
+use Rattle.elf_model.specs.Choice.{RowFilter, EveryRow, RowsOf}
+use Rattle.elf_model.specs.FileLists.{headed, members_alone}
+use Rattle.elf_model.specs.Listing.{fault_of, report_of}
+use Rattle.elf_model.specs.Loader.{Wanted}
+use Rattle.elf_model.specs.Report.{listing}
+use Rattle.elf_model.specs.Style.{Style}
+use Rattle.elf_model.specs.declared.causes.Refusal.{Refusal}
+use Rattle.elf_model.specs.declared.states.FileMagic.{FileMagic}
+use Rattle.elf_model.specs.declared.states.FileMagic.TheVariants as sort
+use Rattle.elf_source.specs.Growth.{OutGrows}
+use Rattle.elf_source.specs.Output.{FailsOutput, EndsLine, KeepsDeferred, OutState, SinkTakes, SinkTakesPrefix, before_text}
+use Rattle.elf_source.specs.Source.{CountedState}
+use Rattle.elf_source.specs.declared.faults.OutFault.{OutFault}
+use Rattle.elf_source.specs.declared.holding_sink.DeferredLine.{DeferredLine}
+use Rattle.elf_source.proofs.LineLaws.{broken_takes, line_ends, line_fails, line_front}
+use Rattle.elf_source.proofs.PutsLaws.{SinkTakes-then, SinkTakesPrefix-then, SinkTakesPrefix-more}
+use Rattle.elf_options.specs.Permitted.{style_of}
+use Rattle.elf_options.specs.declared.caps.Caps.{Caps}
+use Rattle.elf_options.specs.declared.caps.Limits.{Limits}
+use Rattle.elf_table.specs.declared.run_fault.RunFault.{RunFault}
+use Rattle.elf_table.specs.declared.run_fault.RunFault.TheVariants.{Refused, Source, Out}
+use Rattle.elf_listing.specs.Reports.{WroteReport, WroteText}
+use Rattle.elf_archive.specs.Listed.{AnswersAfter, ArchiveSays, ReportsArchive}
+use Rattle.elf_walk.specs.Lists.{IsListedText, ListsHeaded, ListsSort, ReturnsRefused, WroteHeaded, lists_refused}
+
+-- something is what is listed
+pub record SomeListed (kind : FileMagic) (file : List ℕ) (limits : Limits) (style : Style) (parts : ℕ) : Type 0 where
+  pub text : List ℕ
+  pub fault : Option Refusal
+  pub listed : IsListedText kind limits.budget file limits.headers style parts text fault
+
+some_listed : (kind : FileMagic) (file : List ℕ) (limits : Limits) (style : Style) (parts : ℕ) → SomeListed kind file limits style parts
+some_listed kind file limits style parts = by_kind kind limits.budget refl
+  where
+    by_kind : (kind : FileMagic) (budget : Option ℕ) → limits.budget ≡ budget → SomeListed kind file limits style parts
+    by_kind sort.Elf None is = record {
+      text = report_of style.format (listing file limits.headers style parts);
+      fault = fault_of (listing file limits.headers style parts);
+      listed = rw is (record { text_is = refl; fault_is = refl });
+    }
+    by_kind sort.Elf (Some bytes) is = record {
+      text = report_of style.format (listing file limits.headers style parts);
+      fault = fault_of (listing file limits.headers style parts);
+      listed = rw is (inl record { text_is = refl; fault_is = refl });
+    }
+    by_kind sort.Archive None is = record {
+      text = report_of style.format (archive_items (members_alone style.choice) file limits.headers style parts);
+      fault = fault_of (archive_items (members_alone style.choice) file limits.headers style parts);
+      listed = rw is (record { text_is = refl; fault_is = refl });
+    }
+    by_kind sort.Archive (Some bytes) is = record {
+      text = report_of style.format (archive_items (members_alone style.choice) file limits.headers style parts);
+      fault = fault_of (archive_items (members_alone style.choice) file limits.headers style parts);
+      listed = rw is (inl record { text_is = refl; fault_is = refl });
+    }
+    by_kind sort.Foreign budget is = record { text = []; fault = None; listed = (refl, refl) }
+
+-- the output failed at the line
+pub path_stops : (kind : FileMagic) (line file : List ℕ) (limits : Limits) (style : Style) (parts : ℕ) (old new : OutState) (fault : OutFault)
+    → ((text : List ℕ) → SinkTakesPrefix old new (headed style.choice line text)) → ListsHeaded kind line file limits style parts old new (Err (Out fault))
+path_stops kind line file limits style parts old new fault front =
+    let some = some_listed kind file limits style parts in
+    record { text = some.text; fault = some.fault; listed = some.listed; wrote = front some.text; refused = tt }
+
+-- with a front of it, or with nothing
+pub line_begun : (line : List ℕ) (choice : RowFilter) (old new : OutState) → choice ≡ EveryRow → SinkTakesPrefix old new line → (text : List ℕ) → SinkTakesPrefix old new (headed choice line text)
+line_begun line choice old new every front text = rw every (SinkTakesPrefix-more line text front)
+
+pub line_unheld : (line : List ℕ) (choice : RowFilter) (old new : OutState) (fault : OutFault) → FailsOutput old new fault → (text : List ℕ) → SinkTakesPrefix old new (headed choice line text)
+line_unheld line choice old new fault breaks text = record { front = []; rest = headed choice line text; split = refl; takes = broken_takes old new fault breaks }
+
+-- the line stands before each listing
+pub every_headed : (kind : FileMagic) (line file : List ℕ) (limits : Limits) (style : Style) (parts : ℕ) (old mid new : OutState) (result : Result Bool RunFault) → style.choice ≡ EveryRow
+    → SinkTakes old mid line → ListsSort kind file limits style parts mid new result → ListsHeaded kind line file limits style parts old new result
+every_headed kind line file limits style parts old mid new result every p q =
+    record { text = q.text; fault = q.fault; listed = q.listed; wrote = rw every (by_result result q.wrote); refused = q.refused }
+  where
+    by_result : (result : Result Bool RunFault) → WroteText mid new result q.text q.fault → WroteHeaded EveryRow line old new result q.text q.fault
+    by_result (Ok x) wrote = (SinkTakes-then line q.text p wrote.0, wrote.1)
+    by_result (Err (Refused refusal)) wrote = (SinkTakes-then line q.text p wrote.0, wrote.1)
+    by_result (Err (Source fault at)) wrote = (wrote.front, wrote.rest, wrote.split, SinkTakes-then line wrote.front p wrote.takes)
+    by_result (Err (Out fault)) wrote = SinkTakesPrefix-then line q.text p wrote
+
+-- by names the line stands before a text that has some byte
+headed_names : (names : List Wanted) (line text : List ℕ) → headed (RowsOf names) line text ≡ before_text line text
+headed_names names line [] = refl
+headed_names names line (byte ∷ text) = refl
+
+module _ (old mid before last : OutState) (line : List ℕ) (held : DeferredLine) (p : KeepsDeferred old mid line held) (ends : EndsLine held before last) where
+  -- the line that was held, and the listing behind it
+  pub held_headed : (kind : FileMagic) (file : List ℕ) (limits : Limits) (style : Style) (parts : ℕ) (names : List Wanted) (listed result : Result Bool RunFault) → style.choice ≡ RowsOf names
+      → AnswersAfter listed last result → ListsSort kind file limits style parts mid before listed → ListsHeaded kind line file limits style parts old last result
+  held_headed kind file limits style parts names listed result named is q = by_result listed is q.wrote q.refused
+    where
+      whole : (bytes : List ℕ) → SinkTakes mid before bytes → SinkTakes old last (headed style.choice line bytes)
+      whole bytes takes = rw (named, headed_names names line bytes) (line_ends old mid before line held p last bytes takes ends)
+
+      by_result : (listed : Result Bool RunFault) → AnswersAfter listed last result → WroteText mid before listed q.text q.fault
+          → ReturnsRefused listed (lists_refused kind file limits.headers style parts) → ListsHeaded kind line file limits style parts old last result
+      by_result (Ok refused) is wrote told = rw is (record { text = q.text; fault = q.fault; listed = q.listed; wrote = (whole q.text wrote.0, wrote.1); refused = told })
+      by_result (Err (Refused refusal)) is wrote told =
+          rw is (record { text = q.text; fault = q.fault; listed = q.listed; wrote = (whole q.text wrote.0, wrote.1); refused = tt })
+      by_result (Err (Source fault at)) is wrote told =
+          rw is (record { text = q.text; fault = q.fault; listed = q.listed; wrote = (wrote.front, wrote.rest, wrote.split, whole wrote.front wrote.takes); refused = tt })
+      by_result (Err (Out fault)) is wrote told =
+          rw is.1 (record {
+            text = q.text;
+            fault = q.fault;
+            listed = q.listed;
+            wrote = rw (named, headed_names names line q.text) (line_front old mid before line held p last q.text wrote ends);
+            refused = tt;
+          })
+
+  -- what a stop says of the source and the output
+  pub held_says : (a b : CountedState) (listed result : Result Bool RunFault) → OutGrows mid before → AnswersAfter listed last result → IfErr listed (ArchiveSays a b before) → IfErr result (ArchiveSays a b last)
+  held_says a b (Ok refused) result grows is says = rw is tt
+  held_says a b (Err (Refused refusal)) result grows is says = rw is tt
+  held_says a b (Err (Source fault at)) result grows is says = rw is says
+  held_says a b (Err (Out fault)) result grows is says =
+      rw is.1 (record { failed = line_fails old mid before line held p last grows.bytes grows.takes ends ∙ says.failed; tells = is.2 })
+
+-- an ELF file's own listing
+pub elf_ended : (file : List ℕ) (caps : Caps) (parts : ℕ) (old new : OutState) (x : Unit {0}) → WroteReport file caps parts old new (Ok x)
+    → ListsSort sort.Elf file caps.limits (style_of caps.style) parts old new (Ok false)
+elf_ended file caps parts old new x q = record { text = q.text; fault = q.fault; listed = q.listed; wrote = q.wrote; refused = refl }
+
+pub elf_stopped : (file : List ℕ) (caps : Caps) (parts : ℕ) (old new : OutState) (stop : RunFault) → WroteReport {X = Unit {0}} file caps parts old new (Err stop)
+    → ListsSort sort.Elf file caps.limits (style_of caps.style) parts old new (Err stop)
+elf_stopped file caps parts old new stop q = record { text = q.text; fault = q.fault; listed = q.listed; wrote = by_stop stop q.wrote; refused = tt }
+  where
+    by_stop : (stop : RunFault) → WroteText {X = Unit {0}} old new (Err stop) q.text q.fault → WroteText {X = Bool} old new (Err stop) q.text q.fault
+    by_stop (Refused refusal) wrote = wrote
+    by_stop (Source fault at) wrote = wrote
+    by_stop (Out fault) wrote = wrote
+
+-- an archive's
+pub archive_listed : (file : List ℕ) (caps : Caps) (parts : ℕ) (old new : OutState) (result : Result Bool RunFault) → ReportsArchive (members_alone (style_of caps.style).choice) file caps parts old new result
+    → ListsSort sort.Archive file caps.limits (style_of caps.style) parts old new result
+archive_listed file caps parts old new (Ok any) q = record { text = q.text; fault = q.fault; listed = q.listed; wrote = q.wrote; refused = q.refused any refl }
+archive_listed file caps parts old new (Err stop) q = record { text = q.text; fault = q.fault; listed = q.listed; wrote = q.wrote; refused = tt }

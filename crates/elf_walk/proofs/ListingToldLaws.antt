@@ -1,0 +1,65 @@
+-- What is told of a file, and what that asks for.
+use Rattle.std.proofs.Common.{◌≡◌, ℕ, ◌+◌, ◌-◌, ◌≤◌, Bool, true, false, not, if◌then◌else◌, List, Option, None, Some, Result, Ok, Err, nat_lt, refl, arith}
+use Rattle.std.specs.Prelude.{IfSome, IfErr}
+use Rattle.std.proofs.lemmas.Bool.Decides.{nat_tests}
+use Rattle.elf_model.specs.FileLists.{budget_after, front_size}
+use Rattle.elf_model.specs.declared.states.FileMagic.{FileMagic}
+use Rattle.elf_model.specs.declared.states.FileMagic.TheVariants as sort
+use Rattle.elf_model.specs.declared.states.FileStatus.TheVariants.{Unread}
+use Rattle.elf_source.specs.Output.{OutState}
+use Rattle.elf_source.specs.Source.{CountedState, IsSourceFault, Keeps}
+use Rattle.elf_source.specs.declared.faults.OutFault.{OutFault}
+use Rattle.elf_source.specs.declared.faults.SourceFault.{SourceFault}
+use Rattle.elf_source.specs.declared.faults.SourceFault.TheVariants.{Device, Ended}
+use Rattle.elf_walk.specs.Checked.{FailsRead}
+use Rattle.elf_walk.specs.Fronts.{front_asked}
+use Rattle.elf_table.specs.declared.run_fault.RunFault.{RunFault}
+use Rattle.elf_table.specs.declared.run_fault.RunFault.TheVariants.{Refused, Source, Out}
+use Rattle.elf_model.specs.declared.formats.Format.{Format}
+use Rattle.elf_archive.specs.Listed.{ArchiveSays}
+use Rattle.elf_walk.specs.ToldListings.{EndsListing, ListsFile, ToldOf}
+use Rattle.elf_walk.specs.declared.options.ListOptions.{ListOptions}
+
+-- the bytes that tell what a file is, and what is left behind them, are within a budget
+within_both : (members : Bool) (bytes size : ℕ) (t u : Bool) → nat_lt size 4 ≡ t → nat_lt bytes (front_size members size) ≡ u
+    → (if t then 0 else if not u then front_size members size else 0) + (if u then bytes else bytes - front_size members size) ≤ bytes
+within_both members bytes size true true st bt = omega arith
+within_both members bytes size true false st bt = omega arith
+within_both members bytes size false true st bt = omega arith
+within_both members bytes size false false st bt = let most : front_size members size ≤ bytes = grind (arith, nat_tests) in omega (arith, most)
+
+pub front_within : (members : Bool) (budget : Option ℕ) (size before after : ℕ) → after ≤ before + front_asked members budget size → IfSome budget (λ bytes. after ≤ before + bytes)
+front_within members None size before after asks = tt
+front_within members (Some bytes) size before after asks =
+    let both = within_both members bytes size (nat_lt size 4) (nat_lt bytes (front_size members size)) refl refl in omega (arith, asks, both)
+
+pub sort_within : (members : Bool) (budget left : Option ℕ) (size before between after : ℕ) → left ≡ budget_after budget (front_size members size)
+    → between ≤ before + front_asked members budget size → IfSome left (λ bytes. after ≤ between + bytes) → IfSome budget (λ bytes. after ≤ before + bytes)
+sort_within members None left size before between after is asks more = tt
+sort_within members (Some bytes) left size before between after is asks more =
+    let rest = rw is at more in
+    let both = within_both members bytes size (nat_lt size 4) (nat_lt bytes (front_size members size)) refl refl in omega (arith, asks, rest, both)
+
+-- a read that failed
+pub fault_fails : (before after : CountedState) (fault : SourceFault) → IsSourceFault before.seen after.seen fault → FailsRead before after Unread
+fault_fails before after Device rose = λ honest. rose
+fault_fails before after Ended never = λ honest. absurd (never honest)
+
+pub fault_after : (a b c : CountedState) → Keeps a.seen b.seen → FailsRead b c Unread → FailsRead a c Unread
+fault_after a b c keeps fails = λ honest. let rose = fails honest in omega (arith, keeps.no_fewer, rose)
+
+-- what is told of a file that is not of another kind
+pub file_told : (kind : FileMagic) (rule : ListOptions) (path : List ℕ) (before : CountedState) (old new : OutState) (answer : Result ℕ OutFault) → (kind ≡ sort.Foreign → ⊥)
+    → ListsFile kind rule path before old new answer → ToldOf (Some kind) rule path before old new answer
+file_told sort.Elf rule path before old new answer other lists = lists
+file_told sort.Archive rule path before old new answer other lists = lists
+file_told sort.Foreign rule path before old new answer other lists = absurd (other refl)
+
+-- a listing that ended in a failed read
+pub end_fails : (format : Format) (path : List ℕ) (result : Result Bool RunFault) (old new : OutState) (answer : Result ℕ OutFault) (a b : CountedState) → EndsListing format path result old new answer
+    → IfErr result (ArchiveSays a b old) → answer ≡ Ok 3 → FailsRead a b Unread
+end_fails format path (Ok true) old new answer a b ends says is = let e = ends.1 in absurd (cc)
+end_fails format path (Ok false) old new answer a b ends says is = let e = ends.1 in absurd (cc)
+end_fails format path (Err (Refused refusal)) old new answer a b ends says is = let e = ends.1 in absurd (cc)
+end_fails format path (Err (Source fault at)) old new answer a b ends says is = fault_fails a b fault says
+end_fails format path (Err (Out fault)) old new answer a b ends says is = let e = ends.1 in absurd (cc)

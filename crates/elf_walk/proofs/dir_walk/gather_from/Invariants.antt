@@ -1,0 +1,6 @@
+-- What came was put.
+use Rattle.elf_walk.proofs.GatherLaws.{GatheredSoFar}
+use Rattle.elf_walk.proofs.dir_walk.gather_from.Given as goal
+
+abbrev pub invariant-loop-turn : goal.invariant-loop-turn
+invariant-loop-turn g l = GatheredSoFar l.unnamed l.fn.batch l.batch

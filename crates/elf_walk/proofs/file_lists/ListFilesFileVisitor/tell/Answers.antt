@@ -1,0 +1,68 @@
+-- What is told of a file, by what it is.
+use Rattle.std.proofs.Common.{rules, ◌≡◌, None, Some, Ok, false, refl, sym, subst, ◌∙◌, arith}
+use Rattle.elf_model.specs.declared.states.FileMagic.TheVariants as sort
+use Rattle.elf_walk.specs.ToldListings.{ReturnsListing}
+use Rattle.elf_walk.specs.declared.options.ListOptions.{ListOptions}
+use Rattle.elf_walk.proofs.ListingToldLaws.{end_fails, fault_after, fault_fails, file_told, front_within, sort_within}
+use Rattle.elf_walk.proofs.file_lists.ListFilesFileVisitor.tell.Goals as goal
+
+pub returns-in-Err-clause-tells : goal.returns-in-Err-clause-tells
+returns-in-Err-clause-tells g c =
+    let rule = c.self.inside.rule in
+    let asks = c.in-Err.ensures.asks in
+    subst (λ (r : ListOptions). ReturnsListing r c.args.path.now c.args.src.now c.find_file_type.new.src c.args.out.now c.report_unread.new.out c.report_unread.result) c.self.view_is (record {
+      kind = None;
+      finds = λ file held. tt;
+      told = c.report_unread.ensures;
+      read = λ is. fault_fails c.args.src.now c.find_file_type.new.src c.in-Err.field-0 c.in-Err.ensures.fails;
+      cost = λ file held. omega (arith, asks);
+      ceiling = omega (arith, asks);
+      budget = front_within rule.members rule.caps.limits.budget c.args.src.now.seen.size c.args.src.now.asked c.find_file_type.new.src.asked asks;
+    })
+
+pub returns-then-lacks_elf_magic-clause-tells : goal.returns-then-lacks_elf_magic-clause-tells
+returns-then-lacks_elf_magic-clause-tells g c =
+    let rule = c.self.inside.rule in
+    let asks = c.in-Ok.ensures.asks in
+    let foreign : c.in-Ok.sort ≡ sort.Foreign = search rules in
+    subst (λ (r : ListOptions). ReturnsListing r c.args.path.now c.args.src.now c.find_file_type.new.src c.args.out.now c.args.out.now (Ok 0)) c.self.view_is (record {
+      kind = Some sort.Foreign;
+      finds = λ file held. sym foreign ∙ c.in-Ok.ensures.finds file held;
+      told = (refl, refl);
+      read = λ is. absurd (cc);
+      cost = λ file held. omega (arith, asks);
+      ceiling = omega (arith, asks);
+      budget = front_within rule.members rule.caps.limits.budget c.args.src.now.seen.size c.args.src.now.asked c.find_file_type.new.src.asked asks;
+    })
+
+pub returns-clause-tells : goal.returns-clause-tells
+returns-clause-tells g c =
+    let rule = c.self.inside.rule in
+    let asks = c.in-Ok.ensures.asks in
+    let keeps = c.in-Ok.ensures.keeps in
+    let none : c.lacks_elf_magic.result ≡ false = search rules in
+    let limits = rw c.length-size.ensures.value at c.behind-rule.ensures.limits in
+    let style = c.behind-rule.ensures.style in
+    let parts = c.behind-rule.ensures.parts in
+    let most = rw (keeps.same_size, limits.headers, style) at c.list_with_path_line-listed.ensures.asks.ceiling in
+    subst (λ (r : ListOptions). ReturnsListing r c.args.path.now c.args.src.now c.list_with_path_line-listed.new.src c.args.out.now c.end_list.new.out c.end_list.result) c.self.view_is (record {
+      kind = Some c.in-Ok.sort;
+      finds = λ file held. c.in-Ok.ensures.finds file held;
+      told = file_told c.in-Ok.sort rule c.args.path.now c.args.src.now c.args.out.now c.end_list.new.out c.end_list.result (c.lacks_elf_magic.ensures.no none) (record {
+        limits = c.behind-rule.result.caps.limits;
+        behind = limits;
+        result = c.list_with_path_line-listed.result;
+        between = c.list_with_path_line-listed.new.out;
+        lists = λ file held. rw (style, parts) at (c.list_with_path_line-listed.ensures.lists file (keeps.same_file ∙ held));
+        ends = c.end_list.ensures;
+      });
+      read = λ is. fault_after c.args.src.now c.find_file_type.new.src c.list_with_path_line-listed.new.src keeps
+          (end_fails rule.caps.style.format c.args.path.now c.list_with_path_line-listed.result c.list_with_path_line-listed.new.out c.end_list.new.out c.end_list.result c.find_file_type.new.src c.list_with_path_line-listed.new.src
+          c.end_list.ensures c.list_with_path_line-listed.ensures.says is);
+      cost = λ file held.
+          let cost = rw (limits.headers, style, parts) at (c.list_with_path_line-listed.ensures.cost file (keeps.same_file ∙ held)) in
+          omega (arith, asks, cost);
+      ceiling = omega (arith, asks, most);
+      budget = sort_within rule.members rule.caps.limits.budget c.behind-rule.result.caps.limits.budget c.args.src.now.seen.size c.args.src.now.asked c.find_file_type.new.src.asked c.list_with_path_line-listed.new.src.asked
+          limits.budget asks c.list_with_path_line-listed.ensures.asks.budget;
+    })

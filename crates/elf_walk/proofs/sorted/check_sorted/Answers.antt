@@ -1,0 +1,79 @@
+-- The state of a file behind the bytes that tell its sort.
+use Rattle.std.proofs.Common.{ℕ, true, List, Option, Some, refl, sym, ap, subst, ◌∙◌, arith}
+use Rattle.elf_model.specs.declared.states.FileMagic.{FileMagic}
+use Rattle.elf_options.specs.Permitted.{style_of}
+use Rattle.elf_walk.proofs.ListingToldLaws.{fault_fails, front_within, sort_within}
+use Rattle.elf_walk.specs.Members.{FindsBySort, IsCapsAfter, cost_by}
+use Rattle.elf_walk.proofs.FileMagicLaws.{front_eight, sorted_found, state_after}
+use Rattle.elf_walk.proofs.sorted.check_sorted.Goals as goal
+
+pub returns-in-Err : goal.returns-in-Err
+returns-in-Err g c =
+    let few = front_eight c.args.caps.limits.budget c.args.src.now.seen.size in
+    let asks = c.in-Err.ensures.asks in
+    record {
+      slots = refl;
+      leaves = record { keeps = c.in-Err.ensures.keeps; free = c.in-Err.ensures.free };
+      state = λ file held. tt;
+      cost = λ file held. omega (arith, asks, few);
+      read = fault_fails c.args.src.now c.find_file_type.new.src c.in-Err.field-0 c.in-Err.ensures.fails;
+      asks = record {
+        ceiling = omega (arith, asks, few);
+        budget = front_within true c.args.caps.limits.budget c.args.src.now.seen.size c.args.src.now.asked c.find_file_type.new.src.asked asks;
+      };
+    }
+
+pub check_by_type-requires-clause-small : goal.check_by_type-requires-clause-small
+check_by_type-requires-clause-small g c =
+    let few = front_eight c.args.caps.limits.budget c.args.src.now.seen.size in
+    (c.requires.small.0 ∙ sym c.behind-left.ensures.headers, omega (arith, c.requires.small.1, c.in-Ok.ensures.asks, few))
+
+pub check_by_type-requires-clause-whole : goal.check_by_type-requires-clause-whole
+check_by_type-requires-clause-whole g c =
+    let keeps = c.in-Ok.ensures.keeps in
+    record {
+      whole = keeps.same_whole ∙ (c.requires.whole.whole ∙ (ap (λ (size : ℕ). Some (record { size = size; file = c.args.src.now.seen.file })) (sym keeps.same_size)
+          ∙ ap (λ (file : Option (List ℕ)). Some (record { size = c.find_file_type.new.src.seen.size; file = file })) (sym keeps.same_file)));
+      shows = c.in-Ok.ensures.shows ∙ c.requires.whole.shows;
+    }
+
+pub returns : goal.returns
+returns g c =
+    let keeps = c.in-Ok.ensures.keeps in
+    let did = c.check_by_type.ensures in
+    let more = did.leaves.keeps in
+    let few = front_eight c.args.caps.limits.budget c.args.src.now.seen.size in
+    record {
+      slots = did.slots;
+      leaves = record {
+        keeps = record {
+          same_size = more.same_size ∙ keeps.same_size;
+          no_fewer = omega (arith, more.no_fewer, keeps.no_fewer);
+          same_file = more.same_file ∙ keeps.same_file;
+          same_whole = more.same_whole ∙ keeps.same_whole;
+        };
+        free = did.leaves.free;
+      };
+      state = λ file held.
+          let sized = c.args.src.now.seen.sized file held in
+          let finds = did.state file (keeps.same_file ∙ held) in
+          sorted_found c.args.caps c.args.parts.0 file c.check_by_type.result (record {
+            left = c.behind-left.result;
+            behind = subst (λ (n : ℕ). IsCapsAfter c.args.caps n c.behind-left.result) (c.length-size.ensures.value ∙ sym sized) c.behind-left.ensures;
+            finds = subst (λ (s : FileMagic). FindsBySort s c.behind-left.result c.args.parts.0 file c.check_by_type.result) (c.in-Ok.ensures.finds file held) finds;
+          });
+      cost = λ file held.
+          let most = rw (c.behind-left.ensures.headers, c.behind-left.ensures.style) at (did.cost file (keeps.same_file ∙ held)) in
+          let same = ap (λ (s : FileMagic). cost_by s file c.args.caps.limits.headers (style_of c.args.caps.style) c.args.parts.0) (c.in-Ok.ensures.finds file held) in
+          omega (arith, c.in-Ok.ensures.asks, few, most, same);
+      read = state_after c.args.src.now c.find_file_type.new.src c.check_by_type.new.src c.check_by_type.result keeps.no_fewer did.read;
+      asks = record {
+        ceiling =
+            let most = rw (keeps.same_size, c.behind-left.ensures.headers, c.behind-left.ensures.style) at did.asks.ceiling in
+            omega (arith, c.in-Ok.ensures.asks, few, most);
+        budget =
+            let left = rw c.length-size.ensures.value at c.behind-left.ensures.budget in
+            sort_within true c.args.caps.limits.budget c.behind-left.result.limits.budget c.args.src.now.seen.size c.args.src.now.asked c.find_file_type.new.src.asked c.check_by_type.new.src.asked
+            left c.in-Ok.ensures.asks did.asks.budget;
+      };
+    }

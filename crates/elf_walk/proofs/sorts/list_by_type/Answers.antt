@@ -1,0 +1,30 @@
+-- A file's listing by its sort.
+use Rattle.std.proofs.Common.{Bool, subst}
+use Rattle.std.proofs.lemmas.Result.{err_from_is_err_and}
+use Rattle.elf_archive.specs.Listed.{ReportsArchive}
+use Rattle.elf_walk.proofs.HeadedLaws.{archive_listed, elf_ended, elf_stopped}
+use Rattle.elf_walk.proofs.sorts.list_by_type.Goals as goal
+
+pub returns-in_err-show-in-Elf-clause-lists : goal.returns-in_err-show-in-Elf-clause-lists
+returns-in_err-show-in-Elf-clause-lists g c = λ file held.
+    let p = err_from_is_err_and c.from_residual.result c.from_residual.ensures.1 in
+    rw (c.in-Elf.is, p.1, p.2) (elf_stopped file c.args.caps c.args.parts.0 c.args.out.now c.show.new.out c.in_err-show-in-Elf.field-0.0 (c.in_err-show-in-Elf.ensures.text file held))
+
+pub returns-in_err-show-in-Elf-clause-cost : goal.returns-in_err-show-in-Elf-clause-cost
+returns-in_err-show-in-Elf-clause-cost g c = λ file held. rw c.in-Elf.is (c.in_err-show-in-Elf.ensures.cost file held)
+
+pub returns-in_ok-show-in-Elf-clause-lists : goal.returns-in_ok-show-in-Elf-clause-lists
+returns-in_ok-show-in-Elf-clause-lists g c = λ file held.
+    rw c.in-Elf.is (elf_ended file c.args.caps c.args.parts.0 c.args.out.now c.show.new.out c.in_ok-show-in-Elf.field-0 (c.in_ok-show-in-Elf.ensures.text file held))
+
+pub returns-in_ok-show-in-Elf-clause-cost : goal.returns-in_ok-show-in-Elf-clause-cost
+returns-in_ok-show-in-Elf-clause-cost g c = λ file held. rw c.in-Elf.is (c.in_ok-show-in-Elf.ensures.cost file held)
+
+pub returns-in-Archive-clause-lists : goal.returns-in-Archive-clause-lists
+returns-in-Archive-clause-lists g c = λ file held.
+    let text =
+    subst (λ (alone : Bool). ReportsArchive alone file c.args.caps c.args.parts.0 c.args.out.now c.show_archive.new.out c.show_archive.result) c.are_alone-alone.ensures (c.show_archive.ensures.text file held) in
+    rw c.in-Archive.is (archive_listed file c.args.caps c.args.parts.0 c.args.out.now c.show_archive.new.out c.show_archive.result text)
+
+pub returns-in-Archive-clause-cost : goal.returns-in-Archive-clause-cost
+returns-in-Archive-clause-cost g c = λ file held. rw c.in-Archive.is (c.show_archive.ensures.cost file held)

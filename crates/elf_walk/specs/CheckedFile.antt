@@ -1,0 +1,43 @@
+-- What the check of one file did.
+use Rattle.std.specs.Prelude.{ℕ, ◌≡◌, ◌+◌, ◌≤◌, nat_lt, if◌then◌else◌, List, length, Option, Some, IfSome, ⊤}
+use Rattle.elf_model.specs.Checking.{IsStateOf}
+use Rattle.elf_model.specs.Cost.{listing_cost, style_ceiling}
+use Rattle.elf_model.specs.Records.{FILE_HEADER_SIZE, ELF_MAGIC_SIZE}
+use Rattle.elf_model.specs.Style.{Style}
+use Rattle.elf_model.specs.declared.states.FileStatus.{FileStatus}
+use Rattle.elf_model.specs.declared.states.FileStatus.TheVariants as state
+use Rattle.elf_source.specs.Source.{CountedState}
+use Rattle.elf_options.specs.Permitted.{style_of}
+use Rattle.elf_options.specs.declared.caps.Caps.{Caps}
+use Rattle.elf_listing.specs.Reports.{KeepsSourceUnlimited}
+use Rattle.elf_walk.specs.Checked.{FailsRead}
+
+-- THE STATE that is found of a file: that of its listing within the budget, unless a read failed
+abbrev pub FindsState : Caps → ℕ → List ℕ → FileStatus → Type 0
+FindsState caps parts file state.Unread = ⊤
+FindsState caps parts file found = IsStateOf caps.limits.budget file caps.limits.headers (style_of caps.style) parts found
+
+-- what a file's check may ask for: of one that is too short for a file header its first bytes
+abbrev pub check_cost : List ℕ → ℕ → Style → ℕ → ℕ
+check_cost file headers style parts =
+    if nat_lt (length file) FILE_HEADER_SIZE then ELF_MAGIC_SIZE else listing_cost file headers style parts
+
+-- the same of every source
+abbrev pub check_ceiling : (size headers : ℕ) → Style → ℕ
+check_ceiling size headers style = if nat_lt size FILE_HEADER_SIZE then ELF_MAGIC_SIZE else style_ceiling size headers style
+
+-- what is asked for: no more than a ceiling, and no more than the budget
+pub record AsksNoMore (most : ℕ) (allowed : Option ℕ) (old new : CountedState) : Type 0 where
+  pub ceiling : new.asked ≤ old.asked + most
+  pub budget : IfSome allowed (λ bytes. new.asked ≤ old.asked + bytes)
+
+-- WHAT THE CHECK OF A FILE DID. For every source: the store has as many slots, the source is kept and no limit is left, the file
+-- is unread only where a read failed, and no more is asked for than the ceiling and the budget. Where the file is known: the
+-- state that was found, and what that may ask for
+pub record ChecksFile (headers now : ℕ) (caps : Caps) (parts : ℕ) (old new : CountedState) (found : FileStatus) (finds : Caps → ℕ → List ℕ → FileStatus → Type 0) (costs : List ℕ → ℕ → Style → ℕ → ℕ) (most : ℕ → ℕ → Style → ℕ) : Type 0 where
+  pub slots : now ≡ headers
+  pub leaves : KeepsSourceUnlimited old new
+  pub state : (file : List ℕ) → old.seen.file ≡ Some file → finds caps parts file found
+  pub cost : (file : List ℕ) → old.seen.file ≡ Some file → new.asked ≤ old.asked + costs file caps.limits.headers (style_of caps.style) parts
+  pub read : FailsRead old new found
+  pub asks : AsksNoMore (most old.seen.size caps.limits.headers (style_of caps.style)) caps.limits.budget old new

@@ -1,0 +1,43 @@
+//! The check of one file.
+ghost use Rattle.std.specs.Prelude.{◌≡◌, ◌≤◌, ◌^◌};
+ghost use Rattle.elf_walk.specs.CheckedFile.{ChecksFile, FindsState, check_ceiling, check_cost};
+
+use elf_table::{Caps, HeaderStore, RunFault};
+use elf_listing::show;
+use crate::short::{refused_state, short_file_status};
+use elf_model::FileStatus;
+use elf_record::Parts;
+use elf_source::{Counted, NullSink, Out, Source};
+
+/// How many bytes a file header has.
+const HEADER_BYTES: u64 = 64;
+
+/// Checks one file: goes through its listing, as far as `parts` has it, and answers the state that
+/// the first fault gives, or that there is none. Nothing is written. The store has a slot for each
+/// header that the caps permit; what it and the source held before is of no account, and at most
+/// 2^127 bytes were asked of the source. Where the caps have a budget no more is read; afterwards
+/// no limit is set.
+pub fn check<S: Source>(
+    src: &mut Counted<S>,
+    store: &mut HeaderStore,
+    caps: Caps,
+    parts: Parts,
+) -> FileStatus
+    requires { (store.old.slots ≡ caps.limits.headers) × (src.old.asked ≤ 2 ^ 127) }
+    ensures { ChecksFile store.old.slots store.new.slots caps.entry parts.0 src.old src.new result
+        FindsState check_cost check_ceiling }
+{
+    if src.length() < HEADER_BYTES {
+        return short_file_status(src, caps.limits.budget);
+    }
+    let mut out = Out::new(NullSink);
+    let listed = show(src, store, caps, parts, &mut out);
+    let _sink = out.into_inner();
+    match listed {
+        Ok(()) => FileStatus::Ok,
+        Err(RunFault::Refused(refusal)) => refused_state(refusal),
+        Err(RunFault::Source { .. }) => FileStatus::Unread,
+        // Not reached: the sink never fails.
+        Err(RunFault::Out(_)) => FileStatus::Unread,
+    }
+}

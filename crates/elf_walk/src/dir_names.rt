@@ -1,0 +1,172 @@
+//! Names in memory that is taken once.
+ghost use Rattle.std.specs.Prelude.{◌≡◌, ◌+◌, ◌≤◌, ◌<◌, ◌++◌, ◌∷◌, [], true, false, IfOk, IfSome, IsNone, OnOk, length, slice_index_or};
+ghost use Rattle.std.specs.List.Sorted.{IsPermutation, IsSorted};
+ghost use Rattle.elf_model.specs.Bytes.{slice};
+ghost use Rattle.elf_walk.specs.Order.{order};
+ghost use Rattle.elf_walk.specs.Held.{IsEnough, IsSmallFolder, LeavesRoom, bytes_held, repeats};
+
+use std::alloc::{AllocError, Global};
+use std::marker::Model;
+
+/// The most bytes of a name in a folder.
+pub const FOLDER_NAME_BYTES: usize = 255;
+
+/// How many names are held at once.
+const MOST_NAMES: usize = 32_768;
+
+/// How many bytes of names are held at once.
+const MOST_BYTES: usize = 720_896;
+
+/// How many names are kept where there are more.
+pub const KEPT_NAMES: usize = 20_480;
+
+/// How many bytes of names are kept where there are more.
+pub const KEPT_BYTES: usize = 589_824;
+
+/// Names one behind the other.
+#[derive(Drop)]
+pub struct DirNames {
+    bytes: Vec<u8>,
+    places: Vec<NameSpan>,
+}
+
+/// Where a name lies among the bytes.
+#[derive(Clone, Copy)]
+struct NameSpan {
+    start: u32,
+    len: u8,
+}
+
+impl Model for DirNames {
+    ghost use Rattle.std.specs.Prelude.{◌≡◌, ◌≤◌, ◌+◌, ℕ, List, map, All, length, sum_by};
+    ghost use Rattle.elf_model.specs.Bytes.{slice};
+
+    ghost Value = { List (List ℕ) };
+
+    ghost view = { λ n. map (λ p. slice n.bytes.items p.start p.len) n.places.items };
+
+    ghost invariant = { λ n. (All (λ p. p.start + p.len ≤ length n.bytes.items) n.places.items)
+        × (sum_by (λ p. p.len) n.places.items ≡ length n.bytes.items) };
+}
+
+impl DirNames {
+    /// No name. The memory is taken from `alloc` here.
+    ///
+    /// # Errors
+    /// Where memory is refused.
+    pub(crate) fn new(alloc: Global) -> Result<DirNames, AllocError>
+        ensures { IfOk result (λ names. names ≡ []) }
+    {
+        let bytes = Vec::with_capacity(alloc, MOST_BYTES)?;
+        let places = Vec::with_capacity(alloc, MOST_NAMES)?;
+        Ok(DirNames { bytes, places })
+    }
+
+    /// Forgets all names.
+    pub(crate) fn clear(&mut self)
+        ensures { self.new ≡ [] }
+    {
+        self.bytes.clear();
+        self.places.clear();
+    }
+
+    /// How many names there are.
+    pub fn len(&self) -> usize
+        ensures { result ≡ length self.now }
+    {
+        self.places.len()
+    }
+
+    /// How many bytes the names have together.
+    fn size(&self) -> usize
+        ensures { result ≡ bytes_held self.now }
+    {
+        self.bytes.len()
+    }
+
+    /// The name at an index.
+    pub fn get(&self, index: usize) -> Option<&[u8]>
+        ensures some { IfSome result (λ n. (index < length self.now)
+            × (n.now ≡ slice_index_or self.now index []) × (length n.now ≤ 255)) }
+        ensures none { IsNone result → length self.now ≤ index }
+    {
+        match self.places.get(index) {
+            Some(place) => Some(name_at(&self.bytes, *place)),
+            None => None,
+        }
+    }
+
+    /// Whether there is no room for one more name.
+    pub(crate) fn is_full(&self) -> bool
+        ensures { result ≡ false → LeavesRoom self.now }
+    {
+        self.len() >= MOST_NAMES || self.size() > MOST_BYTES - FOLDER_NAME_BYTES
+    }
+
+    /// Whether these are as many names as are kept where there are more.
+    pub(crate) fn is_enough(&self) -> bool
+        ensures none { self.now ≡ [] → result ≡ false }
+        ensures enough { result ≡ true → IsEnough self.now }
+        ensures few { result ≡ false → 0 < length self.now → IsSmallFolder self.now }
+    {
+        self.len() > 0 && (self.len() >= KEPT_NAMES || self.size() >= KEPT_BYTES)
+    }
+
+    /// Puts a name behind the others.
+    ///
+    /// # Errors
+    /// Where memory is refused, or the name has more than 255 bytes; the names stay.
+    pub(crate) fn push(&mut self, name: &[u8]) -> Result<(), AllocError>
+        ensures pushed { OnOk result (self.new ≡ self.old ++ name.now ∷ []) }
+        ensures short { OnOk result (length name.now ≤ 255) }
+    {
+        let (Ok(start), Ok(len)) = (u32::try_from(self.bytes.len()), u8::try_from(name.len()))
+        else {
+            return Err(AllocError);
+        };
+        self.bytes.extend_from_slice(name)?;
+        if self.places.push(NameSpan { start, len }).is_err() {
+            self.bytes.truncate(start as usize);
+            return Err(AllocError);
+        }
+        Ok(())
+    }
+
+    /// Puts the names in the order of their bytes.
+    pub(crate) fn sort(&mut self)
+        ensures permutation { IsPermutation self.old self.new }
+        ensures sorted { IsSorted order self.new }
+    {
+        let bytes = self.bytes.as_slice();
+        self.places.sort_unstable_by(|one, other| name_at(bytes, *one).cmp(name_at(bytes, *other)));
+    }
+
+    /// Whether a name is the one before it.
+    pub(crate) fn repeats(&self, index: usize) -> bool
+        requires { index < length self.now }
+        ensures { result ≡ repeats self.now index }
+    {
+        if index == 0 {
+            return false;
+        }
+        let (Some(name), Some(before)) = (self.get(index), self.get(index - 1)) else {
+            return false;
+        };
+        name == before
+    }
+}
+
+/// The name at a place among bytes.
+fn name_at(bytes: &[u8], place: NameSpan) -> &[u8]
+    ensures piece { result.now ≡ slice bytes.now place.start place.len }
+    ensures short { length result.now ≤ 255 }
+{
+    let start = place.start as usize;
+    let len = usize::from(place.len);
+    let rest = if start < bytes.len() {
+        &bytes[start..]
+    } else {
+        &[]
+    };
+    if len < rest.len() { &rest[..len] } else { rest }
+}

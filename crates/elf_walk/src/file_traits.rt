@@ -1,0 +1,52 @@
+//! The traits of one file among many.
+ghost use Rattle.std.specs.Prelude.{◌≡◌, ◌+◌, ◌≤◌, ◌^◌, ℕ, List, None, Some, IfErr};
+ghost use Rattle.elf_source.specs.Source.{Keeps};
+ghost use Rattle.elf_walk.specs.Checked.{FailsRead};
+ghost use Rattle.elf_walk.specs.CheckedFile.{AsksNoMore};
+ghost use Rattle.elf_walk.specs.Found.{FindsWithin, file_traits_ceiling, file_traits_cost};
+
+use elf_table::{Fault, HeaderStore, Limits};
+use crate::short::{refused_state, short_file_status};
+use elf_model::{FileStatus, Traits};
+use elf_source::{Counted, Source};
+use elf_loader::find_traits;
+
+/// How many bytes a file header has.
+const HEADER_BYTES: u64 = 64;
+
+/// The traits of a file, as far as its limits permit. The store has a slot for each header that they
+/// permit; what it and the source held before is of no account, and at most 2^127 bytes were asked of
+/// the source. Afterwards no limit is set.
+///
+/// # Errors
+/// The state of a file that has none: of another kind, refused, or not read.
+pub fn traits_within<S: Source>(
+    src: &mut Counted<S>,
+    store: &mut HeaderStore,
+    limits: Limits,
+) -> Result<Traits, FileStatus>
+    requires { (store.old.slots ≡ limits.headers) × (src.old.asked ≤ 2 ^ 127) }
+    ensures slots { store.new.slots ≡ store.old.slots }
+    ensures keeps { Keeps src.old.seen src.new.seen }
+    ensures free { src.new.most ≡ None }
+    ensures finds { (file : List ℕ) → src.old.seen.file ≡ Some file →
+        FindsWithin limits.budget limits.headers file result }
+    ensures cost { (file : List ℕ) → src.old.seen.file ≡ Some file →
+        src.new.asked ≤ src.old.asked + file_traits_cost file limits.headers }
+    // For every source.
+    ensures read { IfErr result (FailsRead src.old src.new) }
+    ensures asks { AsksNoMore (file_traits_ceiling src.old.seen.size limits.headers) limits.budget
+        src.old src.new }
+{
+    if src.length() < HEADER_BYTES {
+        return Err(short_file_status(src, limits.budget));
+    }
+    src.limit(limits.budget);
+    let found = find_traits(src, store);
+    src.limit(None);
+    match found {
+        Ok(traits) => Ok(traits),
+        Err(Fault::Refused(refusal)) => Err(refused_state(refusal)),
+        Err(Fault::Source { .. }) => Err(FileStatus::Unread),
+    }
+}

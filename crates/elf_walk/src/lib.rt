@@ -1,0 +1,68 @@
+//! The names in a folder in their order, in memory of a fixed size: those of a pass over a folder, those
+//! that wait, and a path that is put together of them; and entries that end in NUL.
+//!
+//! Many files told of one after another: paths, folders, and lists of entries that end in NUL; and what is
+//! done with each file, which is one trait.
+//!
+//! What is done with each of many files: its check, its listing behind the line of its path, or the line of how
+//! it is hardened. Store and buffers are used again for the next file.
+#![tactic(auto)]
+
+mod batch;
+mod check_file;
+mod checks;
+mod dir_entries;
+mod dir_laws;
+mod dir_names;
+mod dir_walk;
+mod each_file;
+mod file_lists;
+mod file_traits;
+mod headed;
+mod line_prefixes;
+mod lists;
+mod many;
+mod members;
+mod open_failure;
+mod open_file;
+mod options;
+mod path;
+mod path_lines;
+mod paths;
+mod required;
+mod short;
+mod sorted;
+mod sorts;
+mod stack;
+mod statuses;
+mod trait_lines;
+mod walk;
+
+pub use batch::{DirEntryName, NameBatch, Put};
+pub use check_file::check;
+pub use checks::{CheckFiles, CheckOptions};
+pub use dir_entries::{ends_at, entry_end};
+pub use dir_laws::{all_names, entry_is_found, last_is_found, order_ascends, pass_keeps};
+pub use dir_names::{DirNames, FOLDER_NAME_BYTES, KEPT_BYTES, KEPT_NAMES};
+pub use dir_walk::gather;
+pub use each_file::FileVisitor;
+pub use file_lists::{ListFiles, budget_after};
+pub use file_traits::traits_within;
+pub use headed::list_with_path_line;
+pub use line_prefixes::{find_file_type, front_bytes};
+pub use lists::{ListFault, visit_list};
+pub use many::FileRun;
+pub use members::check_archive;
+pub use open_failure::unopened;
+pub use options::ListOptions;
+pub use path::{PATH_BYTES, PathText, join};
+pub use path_lines::{HELD_BYTES, show_path};
+pub use paths::visit_path;
+pub use required::lacking;
+pub use short::{refused_state, short_file_status};
+pub use sorted::check_sorted;
+pub use sorts::list_by_type;
+pub use stack::{STACK_BYTES, Stack, count_fitting};
+pub use statuses::status;
+pub use trait_lines::{TraitOptions, TraitReport};
+pub use walk::{DEPTH, DirWalk};

@@ -1,0 +1,133 @@
+//! What a file is, by its first bytes.
+ghost use Rattle.std.specs.Prelude.{◌≡◌, ◌+◌, ◌≤◌, ◌==◌, ℕ, List, None, Some, IfErr, IfOk, if◌then◌else◌};
+ghost use Rattle.elf_model.specs.Archive.{ARCHIVE_MAGIC};
+ghost use Rattle.elf_model.specs.Bytes.{field};
+ghost use Rattle.elf_model.specs.FileLists.{file_magic, front_size, may_read_bytes};
+ghost use Rattle.elf_model.specs.Records.{has_elf_magic};
+ghost use Rattle.elf_model.specs.declared.states.FileMagic.TheVariants.{Archive, Elf, Foreign};
+ghost use Rattle.elf_source.specs.Source.{IsSourceFault, FillsUnlimited, Keeps};
+ghost use Rattle.elf_walk.specs.Fronts.{front_asked};
+
+use elf_model::FileMagic;
+use elf_record::{u64_at, word};
+use elf_source::{Counted, Source, SourceFault};
+
+/// The number of an ELF file's magic number (gABI 4, ELF Identification), and how many bytes it has.
+const ELF_MAGIC: u32 = 0x464c_457f;
+
+const ELF_MAGIC_BYTES: u64 = 4;
+
+/// The magic string of an archive, `!<arch>` and a newline, as a number, and how many bytes it has.
+const ARCHIVE_MAGIC: u64 = 0x0a3e_6863_7261_3c21;
+
+const ARCHIVE_MAGIC_BYTES: u64 = 8;
+
+/// What a file is, by its first bytes: four, or where archives are gone into and there are as many,
+/// eight. One read, or none where the file or the budget has fewer. Afterwards no limit is set.
+///
+/// # Errors
+/// A fault of the source.
+#[tactic(auto, unfolding(elf_model::specs::FileLists::file_magic))]
+pub fn find_file_type<S: Source>(
+    src: &mut Counted<S>,
+    members: bool,
+    budget: Option<u64>,
+) -> Result<FileMagic, SourceFault>
+    ensures keeps { Keeps src.old.seen src.new.seen }
+    ensures shows { src.new.hides ≡ src.old.hides }
+    ensures free { src.new.most ≡ None }
+    ensures asks { src.new.asked ≤ src.old.asked + front_asked members budget src.old.seen.size }
+    ensures fails { IfErr result (IsSourceFault src.old.seen src.new.seen) }
+    ensures finds { (file : List ℕ) → src.old.seen.file ≡ Some file →
+        IfOk result (λ sort. sort ≡ file_magic members budget file) }
+{
+    src.limit(None);
+    let size = src.length();
+    if size < ELF_MAGIC_BYTES {
+        return Ok(FileMagic::Foreign);
+    }
+    let front = front_bytes(members, size);
+    if !may_read_bytes(budget, front) {
+        return Ok(FileMagic::Elf);
+    }
+    let sort = if front == ARCHIVE_MAGIC_BYTES {
+        sort_with_members(src)
+    } else {
+        sort_alone(src)
+    };
+    src.limit(None);
+    sort
+}
+
+/// How many of its first bytes tell what a file of so many bytes is.
+pub fn front_bytes(members: bool, size: u64) -> u64
+    ensures { result ≡ front_size members size }
+{
+    if members && size >= ARCHIVE_MAGIC_BYTES {
+        ARCHIVE_MAGIC_BYTES
+    } else {
+        ELF_MAGIC_BYTES
+    }
+}
+
+/// Whether a budget has so many bytes.
+fn may_read_bytes(budget: Option<u64>, count: u64) -> bool
+    ensures { result ≡ may_read_bytes budget count }
+{
+    match budget {
+        None => true,
+        Some(bytes) => bytes >= count,
+    }
+}
+
+/// What a file of four bytes or more is, where archives are not gone into.
+///
+/// # Errors
+/// A fault of the source.
+fn sort_alone<S: Source>(src: &mut Counted<S>) -> Result<FileMagic, SourceFault>
+    requires { 4 ≤ src.old.seen.size }
+    ensures fills { FillsUnlimited src.old src.new 4 }
+    ensures fails { IfErr result (IsSourceFault src.old.seen src.new.seen) }
+    ensures finds { (file : List ℕ) → src.old.seen.file ≡ Some file →
+        IfOk result (λ sort. sort ≡ (if has_elf_magic file then Elf else Foreign)) }
+{
+    let mut bytes = [0; 4];
+    src.fill(0, &mut bytes)?;
+    if word(&bytes) == ELF_MAGIC {
+        return Ok(FileMagic::Elf);
+    }
+    Ok(FileMagic::Foreign)
+}
+
+/// What a file of eight bytes or more is, where archives are gone into.
+///
+/// # Errors
+/// A fault of the source.
+#[tactic(auto, using(crate::proofs::LinePrefixLaws::front_word, crate::proofs::LinePrefixLaws::front_words))]
+fn sort_with_members<S: Source>(src: &mut Counted<S>) -> Result<FileMagic, SourceFault>
+    requires { 8 ≤ src.old.seen.size }
+    ensures fills { FillsUnlimited src.old src.new 8 }
+    ensures fails { IfErr result (IsSourceFault src.old.seen src.new.seen) }
+    ensures finds { (file : List ℕ) → src.old.seen.file ≡ Some file →
+        IfOk result (λ sort. sort ≡ (if has_elf_magic file then Elf
+        else if field file 0 8 == ARCHIVE_MAGIC then Archive else Foreign)) }
+{
+    let mut bytes = [0; 8];
+    src.fill(0, &mut bytes)?;
+    if first_word(&bytes) == ELF_MAGIC {
+        return Ok(FileMagic::Elf);
+    }
+    if u64_at(&bytes, 0) == ARCHIVE_MAGIC {
+        return Ok(FileMagic::Archive);
+    }
+    Ok(FileMagic::Foreign)
+}
+
+/// The number in the first four of eight bytes.
+fn first_word(bytes: &[u8; 8]) -> u32
+    ensures { result ≡ field bytes.now 0 4 }
+{
+    let mut front = [0; 4];
+    front.copy_from_slice(&bytes[..4]);
+    word(&front)
+}

@@ -1,0 +1,58 @@
+//! One file, opened and told of.
+ghost use Rattle.std.specs.Prelude.{◌≡◌, ◌⊎◌, IfErr};
+ghost use Rattle.elf_walk.specs.Telling.{StandsWhole, ReturnsFile};
+ghost use Rattle.elf_model.specs.declared.states.FileStatus.TheVariants.{Memory, Unread};
+
+use crate::each_file::FileVisitor;
+use crate::many::FileRun;
+use crate::open_failure::unopened;
+use elf_model::FileStatus;
+use elf_source::{
+    Counted, FileReader, OutFault, RangeSource, Sink, Source, StreamSource, opened_path,
+};
+use std::fs;
+use std::io::Write;
+use std::os::unix::fs::FileExt;
+use std::rt::Files;
+
+/// Opens the file at a path, and tells of it.
+///
+/// # Errors
+/// A fault of the output.
+pub(crate) fn visit_file<R: Files, W: Sink, E: Write + Drop, A: FileVisitor + Drop>(
+    rt: &R,
+    many: &mut FileRun<W, E, A>,
+    path: &str,
+) -> Result<(), OutFault>
+where
+    R::File: FileExt,
+    ensures { ReturnsFile (A.tells many.old.rule) path.now result many.old many.new }
+{
+    match open(rt, path) {
+        Ok(source) => many.report_source(&mut whole(source), path.as_bytes()),
+        Err(state) => many.report_state(state, path.as_bytes()),
+    }
+}
+
+/// Opens a file that is read at offsets; for `-` that on standard input.
+///
+/// # Errors
+/// The state of a file that can't be opened, or whose length can't be found.
+fn open<R: Files>(rt: &R, path: &str) -> Result<StreamSource<FileReader<R::File>>, FileStatus>
+where
+    R::File: FileExt,
+    ensures { IfErr result (λ state. (state ≡ Unread) ⊎ (state ≡ Memory)) }
+{
+    match fs::open(rt, opened_path(path)) {
+        Ok(file) => StreamSource::over(FileReader::new(file)).map_err(|_| FileStatus::Unread),
+        Err(error) => Err(unopened(&error)),
+    }
+}
+
+/// A source as a file is told of by it: a range of all its bytes, of which nothing was asked.
+fn whole<S: Source>(source: S) -> Counted<RangeSource<S>>
+    ensures whole { StandsWhole result }
+    ensures unasked { result.asked ≡ 0 }
+{
+    Counted::new(RangeSource::new(source))
+}

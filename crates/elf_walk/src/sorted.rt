@@ -1,0 +1,75 @@
+//! The check of a file by what it is, where archives are gone into.
+ghost use Rattle.std.specs.Prelude.{◌≡◌, ◌≤◌, ◌^◌};
+ghost use Rattle.elf_archive.specs.Listed.{IsAll};
+ghost use Rattle.elf_model.specs.ArchiveCost.{archive_ceiling};
+ghost use Rattle.elf_walk.specs.CheckedFile.{ChecksFile};
+ghost use Rattle.elf_walk.specs.Members.{FindsBySort, FindsSorted, IsCapsAfter};
+ghost use Rattle.elf_walk.specs.Members.{cost_by, sorted_ceiling, sorted_cost};
+
+use crate::check_file::check;
+use crate::members::check_archive;
+use crate::{budget_after, find_file_type, front_bytes};
+use elf_table::{Caps, HeaderStore, Limits};
+use elf_model::{FileMagic, FileStatus};
+use elf_record::Parts;
+use elf_source::{Counted, RangeSource, Source};
+
+/// Checks one file, of which its first bytes tell what it is: an ELF file as [`check`] does, an archive
+/// with its members as [`check_archive`] does; a file of another kind is no ELF file. These bytes count
+/// towards the budget. Of the source and the store the same holds as for `check_archive`.
+pub fn check_sorted<S: Source>(
+    src: &mut Counted<RangeSource<S>>,
+    store: &mut HeaderStore,
+    caps: Caps,
+    parts: Parts,
+) -> FileStatus
+    requires small { (store.old.slots ≡ caps.limits.headers) × (src.old.asked ≤ 2 ^ 126) }
+    requires whole { IsAll src.old }
+    ensures { ChecksFile store.old.slots store.new.slots caps.entry parts.0 src.old src.new result
+        FindsSorted (sorted_cost caps.entry) sorted_ceiling }
+{
+    let size = src.length();
+    let sort = match find_file_type(src, true, caps.limits.budget) {
+        Ok(sort) => sort,
+        Err(_) => return FileStatus::Unread,
+    };
+    let left = behind(caps, size);
+    check_by_type(src, store, left, parts, sort)
+}
+
+/// Checks one file of a sort. Afterwards no limit is set.
+fn check_by_type<S: Source>(
+    src: &mut Counted<RangeSource<S>>,
+    store: &mut HeaderStore,
+    caps: Caps,
+    parts: Parts,
+    sort: FileMagic,
+) -> FileStatus
+    requires small { (store.old.slots ≡ caps.limits.headers) × (src.old.asked ≤ 2 ^ 127) }
+    requires whole { IsAll src.old }
+    ensures { ChecksFile store.old.slots store.new.slots caps.entry parts.0 src.old src.new result
+        (FindsBySort sort) (cost_by sort) archive_ceiling }
+{
+    match sort {
+        FileMagic::Elf => check(src, store, caps, parts),
+        FileMagic::Archive => check_archive(src, store, caps, parts),
+        FileMagic::Foreign => {
+            src.limit(None);
+            FileStatus::NoElf
+        }
+    }
+}
+
+/// The caps for what stands behind the bytes that tell what a file of so many bytes is: of the budget is
+/// left what they did not take.
+fn behind<'n>(caps: Caps<'n>, size: u64) -> Caps<'n>
+    ensures { IsCapsAfter caps.entry size result }
+{
+    Caps {
+        limits: Limits {
+            headers: caps.limits.headers,
+            budget: budget_after(caps.limits.budget, front_bytes(true, size)),
+        },
+        style: caps.style,
+    }
+}

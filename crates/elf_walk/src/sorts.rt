@@ -1,0 +1,69 @@
+//! The listing of a file, by its sort.
+ghost use Rattle.std.specs.Prelude.{◌≡◌, ◌+◌, ◌≤◌, ◌^◌, ℕ, List, Some, IfErr};
+ghost use Rattle.elf_archive.specs.Listed.{ArchiveSays, IsAll};
+ghost use Rattle.elf_options.specs.Permitted.{style_of};
+ghost use Rattle.elf_listing.specs.Reports.{KeepsSourceUnlimited};
+ghost use Rattle.elf_walk.specs.CheckedFile.{AsksNoMore};
+ghost use Rattle.elf_walk.specs.Lists.{ListsSort, sort_ceiling, sort_cost};
+ghost use Rattle.elf_model.specs.FileLists.{members_alone};
+ghost use Rattle.elf_source.specs.Growth.{OutGrows};
+
+use elf_archive::show_archive;
+use elf_table::{Caps, HeaderStore, RunFault, Style};
+use elf_listing::show;
+use elf_model::FileMagic;
+use elf_record::Parts;
+use elf_source::{Counted, DeferredSink, Out, RangeSource, Sink, Source};
+
+/// Writes the listing of a file of a sort: of an ELF file its own, of an archive that of its members, whose
+/// lines stand alone where all rows are shown, of another file nothing. The last line is that of its refusal, if it has one. Answers whether the listing
+/// of a member was refused. The source is a range of all bytes of the file, with nothing hidden; of it and
+/// the store the same holds as for [`show_archive`].
+///
+/// # Errors
+/// As of [`show`] and [`show_archive`].
+pub fn list_by_type<S: Source, W: Sink>(
+    src: &mut Counted<RangeSource<S>>,
+    store: &mut HeaderStore,
+    caps: Caps,
+    parts: Parts,
+    sort: FileMagic,
+    out: &mut Out<DeferredSink<W>>,
+) -> Result<bool, RunFault>
+    requires small { (store.old.slots ≡ caps.limits.headers) × (src.old.asked ≤ 2 ^ 127) }
+    requires whole { IsAll src.old }
+    ensures slots { store.new.slots ≡ store.old.slots }
+    ensures grows { OutGrows out.old out.new }
+    ensures leaves { KeepsSourceUnlimited src.old src.new }
+    ensures says { IfErr result (ArchiveSays src.old src.new out.new) }
+    ensures lists { (file : List ℕ) → src.old.seen.file ≡ Some file →
+        ListsSort sort file caps.entry.limits (style_of caps.entry.style) parts.0
+        out.old out.new result }
+    ensures cost { (file : List ℕ) → src.old.seen.file ≡ Some file →
+        src.new.asked ≤ src.old.asked
+        + sort_cost sort file caps.entry.limits.headers (style_of caps.entry.style) parts.0 }
+    ensures asks { AsksNoMore (sort_ceiling sort src.old.seen.size caps.entry.limits.headers
+        (style_of caps.entry.style)) caps.entry.limits.budget src.old src.new }
+{
+    match sort {
+        FileMagic::Elf => {
+            show(src, store, caps, parts, out)?;
+            Ok(false)
+        }
+        FileMagic::Archive => {
+            let alone = are_alone(&caps.style);
+            show_archive(src, store, caps, parts, alone, out)
+        }
+        FileMagic::Foreign => {
+            src.limit(None);
+            Ok(false)
+        }
+    }
+}
+
+/// Whether the lines of members stand alone.
+fn are_alone(style: &Style) -> bool
+    ensures { result ≡ members_alone (style_of style.now).choice }
+{
+    !style.choice.by_name
+}

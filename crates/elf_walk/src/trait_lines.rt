@@ -1,0 +1,108 @@
+//! The lines of each of many files.
+ghost use Rattle.std.specs.Prelude.{◌≡◌, IfOk};
+ghost use Rattle.elf_source.specs.Output.{OutPuts};
+ghost use Rattle.elf_model.specs.TraitWords.{traits_status, traits_text};
+ghost use Rattle.elf_options.specs.Required.{required_words};
+
+use crate::file_traits::traits_within;
+use crate::required::lacking;
+use elf_table::{HeaderStore, Limits};
+use elf_format::{show_check, show_missing_trait, show_traits};
+use crate::each_file::FileVisitor;
+use crate::statuses::status;
+use elf_model::{FileStatus, Format, Traits};
+use elf_source::{Counted, DeferredSink, Out, OutFault, RangeSource, Sink, Source};
+use elf_options::RequiredTrait;
+use std::marker::Model;
+
+/// The rule by which files' traits are told of.
+#[derive(Clone, Copy)]
+pub struct TraitOptions<'a> {
+    /// How much of a file may be read.
+    pub limits: Limits,
+    /// How lines are written.
+    pub format: Format,
+    /// The words that are required of a program or library.
+    pub required: &'a [RequiredTrait<'a>],
+}
+
+/// Tells how each of many files is hardened, and what it lacks of what is required.
+#[derive(Drop)]
+pub struct TraitReport<'a> {
+    store: HeaderStore<'a>,
+    rule: TraitOptions<'a>,
+}
+
+impl<'a> Model for TraitReport<'a> {
+    ghost use Rattle.std.specs.Prelude.{◌≡◌};
+    ghost use Rattle.elf_walk.specs.declared.trait_lines.TraitOptions.{TraitOptions};
+
+    ghost Value = { TraitOptions };
+
+    ghost view = { λ t. t.rule };
+
+    ghost invariant = { λ t. t.store.slots ≡ t.rule.limits.headers };
+}
+
+impl<'a> TraitReport<'a> {
+    /// The lines by a rule, with a store, which has a slot for each header that the rule permits.
+    pub fn new(store: HeaderStore<'a>, rule: TraitOptions<'a>) -> Self
+        requires { store.slots ≡ rule.limits.headers }
+        ensures { result ≡ rule.entry }
+    {
+        TraitReport { store, rule }
+    }
+}
+
+impl<'a> FileVisitor for TraitReport<'a> {
+    type Rule = TraitOptions<'a>;
+
+    ghost use Rattle.elf_walk.specs.ToldTraits.{ReturnsTraits};
+
+    ghost rule = { λ t. t };
+
+    ghost tells = { ReturnsTraits };
+
+    fn tell<S: Source, W: Sink>(
+        &mut self,
+        src: &mut Counted<RangeSource<S>>,
+        path: &[u8],
+        out: &mut Out<DeferredSink<W>>,
+    ) -> Result<u8, OutFault> {
+        match traits_within(src, &mut self.store, self.rule.limits) {
+            Ok(traits) => show_lines(traits, &self.rule, path, out),
+            Err(FileStatus::NoElf) => Ok(0),
+            Err(state) => {
+                show_check(state, path, self.rule.format, out)?;
+                Ok(status(state))
+            }
+        }
+    }
+}
+
+/// Writes the line of a file's traits, and that of what it lacks, and answers the exit status that this
+/// calls for.
+///
+/// # Errors
+/// A fault of the output, with a front of the lines written.
+#[tactic(auto, unfolding(elf_model::specs::TraitWords::traits_text, elf_model::specs::TraitWords::traits_status))]
+fn show_lines<W: Sink>(
+    traits: Traits,
+    rule: &TraitOptions<'_>,
+    path: &[u8],
+    out: &mut Out<W>,
+) -> Result<u8, OutFault>
+    ensures puts { OutPuts out.old out.new result
+        (traits_text rule.now.format traits (required_words rule.now.required.now) path.now) }
+    ensures status { IfOk result
+        (λ status. status ≡ traits_status traits (required_words rule.now.required.now)) }
+{
+    show_traits(traits, path, rule.format, out)?;
+    match lacking(traits, rule.required) {
+        None => Ok(0),
+        Some(column) => match show_missing_trait(traits, column, rule.format, out) {
+            Ok(()) => Ok(1),
+            Err(fault) => Err(fault),
+        },
+    }
+}
