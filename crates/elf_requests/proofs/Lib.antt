@@ -7,3 +7,6 @@ pub mod ListingLaws
 pub mod OnceLaws
 pub mod PieceLaws
 pub mod RowLaws
+pub mod AnswerLaws
+pub mod TaskLaws
+pub mod LookupLaws

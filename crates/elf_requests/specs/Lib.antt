@@ -8,3 +8,7 @@ pub mod Checks
 pub mod Files
 pub mod Layouts
 pub mod Lists
+pub mod Answers
+pub mod Lookups
+pub mod Requests
+pub mod ArchiveAnswers

@@ -1,24 +1,34 @@
 //! What can be asked for on a command line, and the words that ask for it.
+//!
+//! A request carried out: a listing, a lookup of a name or as a loader does it, or a section with its
+//! relocations applied; and what the listing of an archive answers.
 #![tactic(auto)]
 
+mod apply_request;
+mod archive_request;
 mod archive_words;
 mod check_words;
 mod checks;
 mod file_words;
+mod find_request;
 mod items;
 mod list_words;
 mod name_words;
 mod names;
 mod need_words;
 mod requests;
+mod resolve_request;
+mod run_request;
 mod show_words;
 mod trait_words;
 mod words;
 
+pub use archive_request::archive_status;
 pub use checks::{
     ApplyWithLayout, ArchiveRequest, CheckRequest, Choosing, ListRequest, NameArgs, NeedsRequest,
     ParsedCommand, PathArgs, TraitsRequest,
 };
 pub use names::{checked_name, checked_symbol};
 pub use requests::{LookupName, LookupSymbol, Request, Task};
+pub use run_request::run;
 pub use words::request;

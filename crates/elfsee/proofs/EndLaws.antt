@@ -11,7 +11,7 @@ use Rattle.elf_options.specs.declared.caps.Caps.{Caps}
 use Rattle.elf_table.specs.declared.run_fault.RunFault.{RunFault}
 use Rattle.elf_listing.specs.Reports.{KeepsSourceUnlimited}
 use Rattle.elf_archive.specs.Listed.{ArchiveSays, AsksInArchive, ReportsArchive}
-use Rattle.elf_answers.specs.ArchiveAnswers.{refused_by}
+use Rattle.elf_requests.specs.ArchiveAnswers.{refused_by}
 use Rattle.elfsee.specs.Ends.{RunsArchive}
 
 -- what a stop says is so of a status's answer too

@@ -18,7 +18,7 @@ use Rattle.elf_walk.specs.declared.lists.ListFault.TheVariants as list
 use Rattle.elf_cli.specs.Endings.{Ends, PutsRest, wants_rest}
 use Rattle.elf_cli.specs.declared.outputs.Ended.{Ended}
 use Rattle.elf_cli.specs.declared.outputs.Ended.TheVariants.{Status, Told, Unwritten}
-use Rattle.elf_answers.specs.ArchiveAnswers.{refused_by}
+use Rattle.elf_requests.specs.ArchiveAnswers.{refused_by}
 
 -- there was no memory
 abbrev pub EndsWithoutMemory : ℕ → List ℕ → Type 0

@@ -10,14 +10,14 @@ mod names;
 mod needs;
 
 ghost use Rattle.std.specs.Prelude.{◌≡◌, ◌⊎◌, IfErr, IfOk, map, string_bytes};
-ghost use Rattle.elf_answers.specs.Requests.{RunsTask};
+ghost use Rattle.elf_requests.specs.Requests.{RunsTask};
 ghost use Rattle.elf_cli.specs.Endings.{EndsWords};
 ghost use Rattle.elf_requests.specs.Answered.{WordsAsk};
 ghost use Rattle.elfsee.specs.Ends.{EndsRunOver, EndsWithoutFile, EndsWithoutMemory, told_refusal};
 ghost use Rattle.elf_cli.specs.declared.faults.RequestFault.{RequestFault};
 
 use archives::list_archive;
-use elf_answers::run;
+use elf_requests::{ParsedCommand, Request, request, run};
 use elf_cli::{
     ExitLine, OUT_OF_MEMORY, OUTPUT_BYTES, end_answer, exit, open, read_words, report_refused,
     tell_version,
@@ -26,7 +26,6 @@ use elf_fixtures::sample;
 use elf_table::{HeaderBuffer, HeaderStore, RunFault};
 use elf_layout::Layout;
 use elf_record::Refusal;
-use elf_requests::{ParsedCommand, Request, request};
 use elf_source::{Counted, MemorySource, Out, Sink, Source, WriteSink};
 use missing_reason::report_missing_reason;
 use layouts::apply_laid;

@@ -1,4 +1,0 @@
-pub mod Answers
-pub mod Lookups
-pub mod Requests
-pub mod ArchiveAnswers

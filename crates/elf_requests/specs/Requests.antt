@@ -1,0 +1,86 @@
+-- What a request does: what it gives of a file, what it costs, and what it asks for.
+use Rattle.std.specs.Prelude.{ℕ, ◌≡◌, ◌≤◌, ◌+◌, ⊤, Bool, List, length, Option, Some, Result, IfErr, IfSome}
+use Rattle.elf_model.specs.Answer.{IsShown, show_answer_by}
+use Rattle.elf_model.specs.ApplyCost.{apply_cost_by_order}
+use Rattle.elf_model.specs.Cost.{listing_cost}
+use Rattle.elf_model.specs.Find.{find_cost}
+use Rattle.elf_model.specs.FindApplyAnswer.{IsAnswered, apply_answer, find_answer}
+use Rattle.elf_model.specs.Loader.{parse_query}
+use Rattle.elf_model.specs.LoaderAnswer.{loader_answer}
+use Rattle.elf_model.specs.LoaderFind.{loader_ceiling, loader_cost}
+use Rattle.elf_model.specs.Placing.{Layout}
+use Rattle.elf_model.specs.Style.{looked_at}
+use Rattle.elf_model.specs.declared.formats.Format.{Format}
+use Rattle.elf_model.specs.declared.formats.Format.TheVariants.{Columns}
+use Rattle.elf_source.specs.Growth.{OutGrows}
+use Rattle.elf_source.specs.Source.{CountedState}
+use Rattle.elf_source.specs.Output.{OutState}
+use Rattle.elf_options.specs.Permitted.{style_of}
+use Rattle.elf_options.specs.declared.caps.Caps.{Caps}
+use Rattle.elf_options.specs.declared.caps.Limits.{Limits}
+use Rattle.elf_table.specs.declared.run_fault.RunFault.{RunFault}
+use Rattle.elf_hash.specs.Lookups.{find_bytes}
+use Rattle.elf_reloc.specs.Applied.{apply_ceiling}
+use Rattle.elf_listing.specs.Reports.{AsksWithin, FaultSays, KeepsSourceUnlimited}
+use Rattle.elf_requests.specs.declared.requests.Task.{Task}
+use Rattle.elf_requests.specs.declared.requests.Task.TheVariants.{Show, Find, Resolve, Apply, Place}
+use Rattle.elf_requests.specs.Answers.{Answers, WholeOrUsedUp}
+
+-- no more is asked for than n bytes, and than the budget
+pub record AsksUpTo (budget : Option ℕ) (old new : CountedState) (n : ℕ) : Type 0 where
+  pub most : new.asked ≤ old.asked + n
+  pub within : IfSome budget (λ bytes. new.asked ≤ old.asked + bytes)
+
+-- WHAT A TASK DID. For every source: what was written stays, the source is kept and no limit is left, a fault says what is so,
+-- and this is asked for. Where the file is known: it gives this of it, and asks for no more than this costs
+pub record Runs (old new : CountedState) (before after : OutState) (result : Result ℕ RunFault) (CountsRead : Type 0) (costs : List ℕ → ℕ) (Gives : List ℕ → Type 0) : Type 0 where
+  pub grows : OutGrows before after
+  pub leaves : KeepsSourceUnlimited old new
+  pub says : IfErr result (FaultSays old new after)
+  pub asks : CountsRead
+  pub cost : (file : List ℕ) → old.seen.file ≡ Some file → new.asked ≤ old.asked + costs file
+  pub text : (file : List ℕ) → old.seen.file ≡ Some file → Gives file
+
+-- a listing, by its caps and its parts
+abbrev pub RunsShow : Caps → ℕ → CountedState → CountedState → OutState → OutState → Result ℕ RunFault → Type 0
+RunsShow caps parts old new before after result =
+    Runs old new before after result (AsksWithin caps parts old new result) (λ file. listing_cost file caps.limits.headers (style_of caps.style) parts)
+    (λ file. Answers before after result (IsShown caps.limits.budget file caps.limits.headers (style_of caps.style) parts)
+    (WholeOrUsedUp caps.limits.budget old new result (show_answer_by file caps.limits.headers (style_of caps.style) parts)))
+
+-- a lookup of a name, which is answered in a format
+abbrev pub RunsFind : Limits → List ℕ → Format → CountedState → CountedState → OutState → OutState → Result ℕ RunFault → Type 0
+RunsFind limits wanted format old new before after result =
+    Runs old new before after result (AsksUpTo limits.budget old new (find_bytes old.seen.size limits.headers (length wanted)))
+    (λ file. find_cost file limits.headers wanted)
+    (λ file. Answers before after result
+    (IsAnswered format limits.budget (length file) (find_cost file limits.headers wanted) (find_answer format file limits.headers wanted))
+    (WholeOrUsedUp limits.budget old new result (find_answer format file limits.headers wanted)))
+
+-- a lookup as a loader does it, of a name alone or with a version, by the program headers alone or not
+abbrev pub RunsResolve : Limits → List ℕ → Bool → Format → CountedState → CountedState → OutState → OutState → Result ℕ RunFault → Type 0
+RunsResolve limits text by_segments format old new before after result =
+    Runs old new before after result (AsksUpTo limits.budget old new (loader_ceiling old.seen.size limits.headers (parse_query text)))
+    (λ file. loader_cost (looked_at by_segments file) limits.headers (parse_query text))
+    (λ file. Answers before after result
+    (IsAnswered format limits.budget (length file) (loader_cost (looked_at by_segments file) limits.headers (parse_query text))
+    (loader_answer format (looked_at by_segments file) limits.headers text))
+    (WholeOrUsedUp limits.budget old new result (loader_answer format (looked_at by_segments file) limits.headers text)))
+
+-- a section with its relocations applied
+abbrev pub RunsApply : Limits → ℕ → Layout → CountedState → CountedState → OutState → OutState → Result ℕ RunFault → Type 0
+RunsApply limits section layout old new before after result =
+    Runs old new before after result (AsksUpTo limits.budget old new (apply_ceiling old.seen.size limits.headers layout))
+    (λ file. apply_cost_by_order file limits.headers section layout)
+    (λ file. Answers before after result
+    (IsAnswered Columns limits.budget (length file) (apply_cost_by_order file limits.headers section layout) (apply_answer file limits.headers section layout))
+    (λ answer. ⊤))
+
+-- a task, within its limits
+abbrev pub RunsTask : Limits → Task → CountedState → CountedState → OutState → OutState → Result ℕ RunFault → Type 0
+RunsTask limits (Show parts style) old new before after result = RunsShow (record { limits = limits; style = style }) parts.0 old new before after result
+RunsTask limits (Find wanted format) old new before after result = RunsFind limits wanted.bytes.now format old new before after result
+RunsTask limits (Resolve wanted by_segments format) old new before after result =
+    RunsResolve limits wanted.text.now by_segments format old new before after result
+RunsTask limits (Apply section layout explain) old new before after result = RunsApply limits section layout.now old new before after result
+RunsTask limits (Place section addresses explain) old new before after result = RunsApply limits section addresses.now old new before after result

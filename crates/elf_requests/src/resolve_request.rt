@@ -1,0 +1,178 @@
+//! A name looked up as a loader does.
+ghost use Rattle.std.specs.Prelude.{◌≡◌, ◌^◌, ◌≤◌, ◌++◌, ℕ, List, length, IfErr, Some, option_map, true};
+ghost use Rattle.elf_format.specs.Named.{shown_as};
+ghost use Rattle.elf_listing.specs.Shows.{IsOfOutput};
+ghost use Rattle.elf_loader.specs.FoundVersions.{name_shown, version_found};
+ghost use Rattle.elf_loader.specs.Lookups.{AnswersLoaderLookup};
+ghost use Rattle.elf_model.specs.LineFronts.{symbol_prefix};
+ghost use Rattle.elf_model.specs.Lines.{named_line};
+ghost use Rattle.elf_model.specs.Loader.{asked_name};
+ghost use Rattle.elf_model.specs.LoaderAnswer.{found_version_line};
+ghost use Rattle.elf_model.specs.LoaderFind.{LoaderLookup};
+ghost use Rattle.elf_model.specs.Names.DisplayedName.{Whole};
+ghost use Rattle.elf_model.specs.Records.{e_machine};
+ghost use Rattle.elf_record.specs.Sym.{IsSym};
+ghost use Rattle.elf_source.specs.Growth.{OutGrows};
+ghost use Rattle.elf_source.specs.Output.{IsOutFault, OutPuts};
+ghost use Rattle.elf_requests.specs.Answers.{WroteAnswer};
+ghost use Rattle.elf_requests.specs.Lookups.{resolved_answer};
+ghost use Rattle.elf_requests.specs.Requests.{RunsResolve};
+ghost use Rattle.elf_options.specs.Wants.{asked_of};
+
+use elf_format::{ConstantNames, LinePrefix, show_named, show_steps, symbol_front_in, symbol_version_front_in};
+use elf_table::{HeaderStore, Limits, NameBuf, NameEnd, RunFault};
+use elf_listing::show_stop;
+use elf_loader::{FoundSymbol, FoundVersion, SymbolLookup, VersionName, look_up};
+use elf_model::Format;
+use elf_source::{Counted, Out, OutFault, Sink, Source};
+use elf_options::{Asked, Wanted, parse_query};
+
+/// How a name is looked up, and how that is answered.
+#[derive(Clone, Copy)]
+pub(crate) struct LookupStyle {
+    /// Whether what it is looked up in is found by the program headers also where there are section
+    /// headers.
+    pub by_segments: bool,
+    /// How a line is written.
+    pub format: Format,
+}
+
+/// Looks a name up in a file as a loader does, alone or with a version: `text` is NAME, NAME@VERSION
+/// or NAME@@VERSION. Writes the symbol's line, in the names of the GNU system, the line of its
+/// version, where the file has versions, and how many symbols were tried; or that number alone where
+/// no symbol answers, or the line of the refusal. Answers the status: 0 where a symbol was found, else
+/// 1. The text has at most 4,096 bytes. Where there is a budget no more is read; afterwards no limit
+/// is set.
+///
+/// # Errors
+/// A refusal, whose line was written, a fault of the source, with nothing written, or of the
+/// output, with a front of the text written.
+pub(crate) fn resolve<S: Source, W: Sink>(
+    src: &mut Counted<S>,
+    store: &mut HeaderStore,
+    limits: Limits,
+    text: &[u8],
+    style: LookupStyle,
+    out: &mut Out<W>,
+) -> Result<u8, RunFault>
+    requires slots { (store.old.slots ≡ limits.headers) × (src.old.asked ≤ 2 ^ 127) }
+    requires most { length text.now ≤ 4096 }
+    ensures slots { store.new.slots ≡ store.old.slots }
+    ensures runs { RunsResolve limits text.now style.by_segments style.format
+        src.old src.new out.old out.new result }
+{
+    let wanted = parse_query(text);
+    let mut name = NameBuf::new();
+    src.limit(limits.budget);
+    let found = look_up(src, store, &wanted, style.by_segments, &mut name);
+    src.limit(None);
+    match found {
+        Ok(lookup) => show_resolved(&lookup, &wanted, &name, style.format, out),
+        Err(fault) => Err(show_stop(fault.into(), style.format, out)),
+    }
+}
+
+/// Writes the lines of a lookup's answer, and answers its status.
+///
+/// # Errors
+/// A fault of the output, with a front of the lines written.
+fn show_resolved<W: Sink>(
+    lookup: &SymbolLookup,
+    wanted: &Wanted<'_>,
+    name: &NameBuf,
+    format: Format,
+    out: &mut Out<W>,
+) -> Result<u8, RunFault>
+    ensures grows { OutGrows out.old out.new }
+    ensures fails { IfErr result (IsOfOutput out.new) }
+    ensures text { (file : List ℕ) (looked : LoaderLookup) → AnswersLoaderLookup file
+        (asked_of wanted.now.asked) name.now looked lookup.now → WroteAnswer out.old out.new result
+        (resolved_answer format file wanted.now.name.now looked) }
+{
+    match lookup {
+        SymbolLookup::Found(found) => {
+            show_found(found, wanted, name, format, out)?;
+            show_steps(true, found.tried, format, out)?;
+            Ok(0)
+        }
+        SymbolLookup::Absent { tried } => {
+            show_steps(false, *tried, format, out)?;
+            Ok(1)
+        }
+    }
+}
+
+/// Writes the line of a symbol that is found, under the wanted name, and that of its version.
+///
+/// # Errors
+/// A fault of the output, with a front of the lines written.
+fn show_found<W: Sink>(
+    found: &FoundSymbol,
+    wanted: &Wanted<'_>,
+    name: &NameBuf,
+    format: Format,
+    out: &mut Out<W>,
+) -> Result<(), OutFault>
+    ensures grows { OutGrows out.old out.new }
+    ensures fails { IfErr result (IsOutFault out.new) }
+    ensures puts { (file : List ℕ) (at : ℕ) → IsSym file at found.now.symbol →
+        found.now.machine ≡ e_machine file →
+        let front = symbol_prefix format true
+        (e_machine file) file at found.now.section found.now.index in
+        let version = option_map
+        (version_found (asked_of wanted.now.asked) name.now) found.now.version in
+        OutPuts out.old out.new result (named_line front (Whole wanted.now.name.now)
+        ++ found_version_line format found.now.index version) }
+{
+    let naming = ConstantNames {
+        gnu: true,
+        machine: found.machine,
+    };
+    let mut front = LinePrefix::new();
+    symbol_front_in(
+        format,
+        &mut front,
+        found.section,
+        found.index,
+        &found.symbol,
+        naming,
+    );
+    show_named(&mut front, wanted.name, false, out)?;
+    let Some(version) = &found.version else {
+        return Ok(());
+    };
+    show_version(found.index, version, &wanted.asked, name, format, out)
+}
+
+/// Writes the line of the version of the symbol of an index.
+///
+/// # Errors
+/// A fault of the output, with a front of the line written.
+fn show_version<W: Sink>(
+    index: u64,
+    version: &FoundVersion,
+    asked: &Asked<'_>,
+    name: &NameBuf,
+    format: Format,
+    out: &mut Out<W>,
+) -> Result<(), OutFault>
+    ensures puts { let version = version_found (asked_of asked.now) name.now version.now in
+        OutPuts out.old out.new result (found_version_line format index (Some version)) }
+{
+    let mut front = LinePrefix::new();
+    symbol_version_front_in(format, &mut front, version.index, index, version.word);
+    let (bytes, is_cut) = version_name(version.name, asked, name);
+    show_named(&mut front, bytes, is_cut, out)
+}
+
+/// The name of a version, and whether it is cut.
+fn version_name<'a>(version: VersionName, asked: &Asked<'a>, name: &'a NameBuf) -> (&'a [u8], bool)
+    ensures { shown_as result.1 result.0.now
+        ≡ name_shown (asked_name (asked_of asked.now)) name.now version }
+{
+    match version {
+        VersionName::Wanted => (asked.name().unwrap_or(&[]), false),
+        VersionName::Unnamed => (&[], false),
+        VersionName::Told(end) => (name.bytes(), end == NameEnd::Cut),
+    }
+}
