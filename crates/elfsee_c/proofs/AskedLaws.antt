@@ -4,15 +4,15 @@ use Rattle.std.specs.Prelude.{IfSome}
 use Rattle.elf_model.specs.Budget.{IsBudgeted}
 use Rattle.elf_model.specs.Cost.{listing_cost}
 use Rattle.elf_model.specs.Style.{Style}
-use Rattle.elf_calls.specs.Asked.{AsksListing, GivesListing, BorrowedTexts, caller_style, parts_in, style_in}
-use Rattle.elf_calls.specs.Limits.{AreCaps, budget_of, headers_of}
-use Rattle.elf_calls.specs.Shown.{FillsMemory, HasStyledListing, ShowsInMemory}
-use Rattle.elf_calls.specs.Told.{IsStatus}
-use Rattle.elf_calls.specs.declared.caller_listing.CallerListing.{CallerListing}
-use Rattle.elf_memory_rows.specs.declared.end.End.{End}
-use Rattle.elf_calls.specs.declared.limits.CallerLimits.{CallerLimits}
-use Rattle.elf_calls.specs.declared.call_status.Told.{Told}
-use Rattle.elf_calls.specs.declared.call_status.Told.TheVariants.{Done, Refused, Full, BadCall}
+use Rattle.elf_capi.specs.Asked.{AsksListing, GivesListing, BorrowedTexts, caller_style, parts_in, style_in}
+use Rattle.elf_capi.specs.Limits.{AreCaps, budget_of, headers_of}
+use Rattle.elf_capi.specs.Shown.{FillsMemory, HasStyledListing, ShowsInMemory}
+use Rattle.elf_capi.specs.Told.{IsStatus}
+use Rattle.elf_capi.specs.declared.caller_listing.CallerListing.{CallerListing}
+use Rattle.elf_capi.specs.declared.end.End.{End}
+use Rattle.elf_capi.specs.declared.limits.CallerLimits.{CallerLimits}
+use Rattle.elf_capi.specs.declared.call_status.Told.{Told}
+use Rattle.elf_capi.specs.declared.call_status.Told.TheVariants.{Done, Refused, Full, BadCall}
 
 module _ (file : List ℕ) (limits : CallerLimits) (room : ℕ) (asked : List ℕ) (names : Option BorrowedTexts) (listing : CallerListing) (gives : GivesListing asked names (Some listing)) where
   -- what fills the memory

@@ -4,15 +4,15 @@ use Rattle.std.specs.Prelude.{IfSome}
 use Rattle.elf_model.specs.ApplyCost.{apply_cost_by_order}
 use Rattle.elf_model.specs.Placing.{Layout}
 use Rattle.elf_reloc.specs.Explained.{explain_bytes}
-use Rattle.elf_calls.specs.Applied.{AppliesFor}
-use Rattle.elf_calls.specs.LentLayouts.{ExplainsTold, MayBorrowLayout, PlacesInMemory, lent_layout}
-use Rattle.elf_calls.specs.Limits.{AreInRange, budget_of, headers_of}
-use Rattle.elf_memory_rows.specs.declared.end.End.{End}
-use Rattle.elf_calls.specs.declared.lent_layout.CallerLayout.{CallerLayout}
-use Rattle.elf_calls.specs.declared.limits.CallerLimits.{CallerLimits}
-use Rattle.elf_calls.specs.declared.missing.CallerMissing.{CallerMissing}
-use Rattle.elf_calls.specs.declared.call_status.Told.{Told}
-use Rattle.elf_calls.specs.declared.call_status.Told.TheVariants.{Done, Refused, Full, BadCall}
+use Rattle.elf_capi.specs.Applied.{AppliesFor}
+use Rattle.elf_capi.specs.LentLayouts.{ExplainsTold, MayBorrowLayout, PlacesInMemory, lent_layout}
+use Rattle.elf_capi.specs.Limits.{AreInRange, budget_of, headers_of}
+use Rattle.elf_capi.specs.declared.end.End.{End}
+use Rattle.elf_capi.specs.declared.lent_layout.CallerLayout.{CallerLayout}
+use Rattle.elf_capi.specs.declared.limits.CallerLimits.{CallerLimits}
+use Rattle.elf_capi.specs.declared.missing.CallerMissing.{CallerMissing}
+use Rattle.elf_capi.specs.declared.call_status.Told.{Told}
+use Rattle.elf_capi.specs.declared.call_status.Told.TheVariants.{Done, Refused, Full, BadCall}
 
 -- by each answer
 places_by : (file : List ℕ) (limits : CallerLimits) (section : ℕ) (layout : CallerLayout) (room : ℕ) (before out : List ℕ) (end : End) (missing : CallerMissing) (told : Told)

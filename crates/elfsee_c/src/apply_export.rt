@@ -1,14 +1,10 @@
 //! The export that writes a section of a file in memory with its relocations applied.
 ghost use Rattle.std.specs.Prelude.{◌≡◌, ◌≤◌, length};
-ghost use Rattle.elf_calls.specs.Applied.{AppliesInMemory, IsApplied};
+ghost use Rattle.elf_capi.specs.Applied.{AppliesInMemory, IsApplied};
 
-use elf_calls::{
-    ApplyInput, CallOutcome, CallerLimits, Job, Told, layout_from, limits_of, report_status, short,
-    write_section,
-};
+use elf_capi::{ApplyInput, CallerLimits, CallOutcome, End, Job, layout_from, limits_of, report_status, short, Told, write_section};
 use elf_table::HeaderStore;
 use elf_layout::{Addresses, Layout};
-use elf_memory_rows::End;
 
 /// The largest index of a section.
 const LAST_INDEX: u32 = 65_535;

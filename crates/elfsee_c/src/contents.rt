@@ -1,9 +1,9 @@
 //! The export that tells where a section's bytes lie in a file in memory.
 ghost use Rattle.elf_memory.specs.SectionBytes.{ReadsSectionBytes};
-ghost use Rattle.elf_memory_rows.specs.Ends.{ReturnsRead};
+ghost use Rattle.elf_capi.specs.Ends.{ReturnsRead};
 
 use elf_memory::{ByteRange, section_bytes};
-use elf_memory_rows::{End, tell};
+use elf_capi::{End, tell};
 
 /// Tells where the bytes of a section lie in a file that lies in memory. No other section header is
 /// looked at (gABI 4, Section Header).

@@ -1,9 +1,9 @@
 //! The export that tells how much of a file a listing asks for at most.
 ghost use Rattle.std.specs.Prelude.{◌≡◌};
 ghost use Rattle.elf_model.specs.Cost.{ceiling};
-ghost use Rattle.elf_calls.specs.Costs.{IsCost};
+ghost use Rattle.elf_capi.specs.Costs.{IsCost};
 
-use elf_calls::{CallerLimits, short};
+use elf_capi::{CallerLimits, short};
 use elf_table::Caps;
 
 /// How many bytes of a file of `file_len` bytes a listing asks for at most, whatever the bytes are:

@@ -1,13 +1,12 @@
 //! The export that looks a name up in a file in memory.
 ghost use Rattle.std.specs.Prelude.{◌≡◌, ◌≤◌, IfSome, length};
 ghost use Rattle.elf_model.specs.Find.{find_cost};
-ghost use Rattle.elf_calls.specs.Found.{CallLooks, HasLookup};
-ghost use Rattle.elf_calls.specs.Limits.{budget_of, headers_of};
+ghost use Rattle.elf_capi.specs.Found.{CallLooks, HasLookup};
+ghost use Rattle.elf_capi.specs.Limits.{budget_of, headers_of};
 
-use elf_calls::{CallerLimits, LookupFields, limits_of, look_in, report_found};
+use elf_capi::{CallerLimits, End, limits_of, look_in, LookupFields, report_found};
 use elf_hash::Lookup;
 use elf_table::HeaderStore;
-use elf_memory_rows::End;
 use elf_record::Refusal;
 
 /// The most bytes of a name that is looked up.

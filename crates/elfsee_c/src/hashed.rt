@@ -1,12 +1,11 @@
 //! The export that opens the symbols which a loader knows of a file in memory.
 ghost use Rattle.std.specs.Prelude.{◌≡◌, ◌≤◌, IfSome, length};
-ghost use Rattle.elf_memory_rows.specs.Hashed.{hashed_cost};
-ghost use Rattle.elf_calls.specs.HashedRows.{HasHashed, OpensHashed, by_flags};
-ghost use Rattle.elf_calls.specs.Limits.{budget_of, headers_of};
+ghost use Rattle.elf_capi.specs.Hashed.{hashed_cost};
+ghost use Rattle.elf_capi.specs.HashedRows.{HasHashed, OpensHashed, by_flags};
+ghost use Rattle.elf_capi.specs.Limits.{budget_of, headers_of};
 
-use elf_calls::{CallerLimits, limits_of, open_hashed};
+use elf_capi::{CallerLimits, End, limits_of, open_hashed, report_opened, RowPosition};
 use elf_table::HeaderStore;
-use elf_memory_rows::{End, RowPosition, report_opened};
 use elf_record::Refusal;
 
 /// By the program headers also where there are section headers.

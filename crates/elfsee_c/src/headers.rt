@@ -1,9 +1,9 @@
 //! The exports that read the headers of a file in memory.
 ghost use Rattle.elf_memory.specs.Headers.{ReadsHeader, ReadsSection, ReadsSegment};
-ghost use Rattle.elf_memory_rows.specs.Ends.{ReturnsRead};
+ghost use Rattle.elf_capi.specs.Ends.{ReturnsRead};
 
 use elf_memory::{Header, Section, Segment, read_header, read_section, read_segment};
-use elf_memory_rows::{End, tell};
+use elf_capi::{End, tell};
 
 /// Reads the file header of a file that lies in memory (gABI 4, ELF Header).
 ///

@@ -1,10 +1,10 @@
 //! The exports that go by the program headers of a file in memory, with no section headers.
 ghost use Rattle.elf_memory.specs.MappedBytes.{ReadsMapped};
-ghost use Rattle.elf_memory_rows.specs.SegmentDynamic.{ReadsSegmentDynamic};
-ghost use Rattle.elf_memory_rows.specs.Ends.{ReturnsRead};
+ghost use Rattle.elf_capi.specs.SegmentDynamic.{ReadsSegmentDynamic};
+ghost use Rattle.elf_capi.specs.Ends.{ReturnsRead};
 
 use elf_memory::{ByteRange, find_mapped};
-use elf_memory_rows::{End, RowPosition, segment_dynamic, tell};
+use elf_capi::{End, RowPosition, segment_dynamic, tell};
 
 /// Checks the dynamic entries of a segment, and sets `rows` before the first: as many as up to and
 /// with the first DT_NULL, without a string table (gABI 5, Dynamic Section).

@@ -1,9 +1,9 @@
 //! The exports that go over the members of an archive in memory.
 ghost use Rattle.elf_archive.specs.MemberRows.{OpensMembers, StepsMember};
-ghost use Rattle.elf_memory_rows.specs.Ends.{ReturnsRead};
+ghost use Rattle.elf_capi.specs.Ends.{ReturnsRead};
 
 use elf_archive::{MemberPosition, MemberRow, next_member, open_members};
-use elf_memory_rows::{End, tell};
+use elf_capi::{End, tell};
 
 /// Checks that a file that lies in memory is an archive, and sets `members` before its first member.
 ///

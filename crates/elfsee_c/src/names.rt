@@ -1,12 +1,11 @@
 //! The exports that tell where names in string tables lie.
 ghost use Rattle.std.specs.Prelude.{length};
 ghost use Rattle.elf_memory.specs.Names.{FindsName};
-ghost use Rattle.elf_memory_rows.specs.Ends.{ReturnsOpened, ReturnsRead};
-ghost use Rattle.elf_calls.specs.CallOpenings.{OpensNames};
+ghost use Rattle.elf_capi.specs.Ends.{ReturnsOpened, ReturnsRead};
+ghost use Rattle.elf_capi.specs.CallOpenings.{OpensNames};
 
-use elf_calls::{CallerLimits, limits_of};
+use elf_capi::{CallerLimits, End, limits_of, names_in, report_opened, tell};
 use elf_memory::{ByteRange, find_name};
-use elf_memory_rows::{End, names_in, report_opened, tell};
 
 /// Finds where the name at an offset in a string table lies, without its NUL. The string table is
 /// the bytes of `strings`, as far as they lie within the file (gABI 4, String Table).

@@ -1,9 +1,9 @@
 //! The exports that go over the notes of a file in memory.
 ghost use Rattle.elf_memory.specs.NoteRows.{ReadsSectionNotes, ReadsSegmentNotes, TakesNote};
-ghost use Rattle.elf_memory_rows.specs.Ends.{ReturnsRead};
+ghost use Rattle.elf_capi.specs.Ends.{ReturnsRead};
 
 use elf_memory::{Note, NotePosition, next_note, section_notes, segment_notes};
-use elf_memory_rows::{End, tell};
+use elf_capi::{End, tell};
 
 /// Checks that the notes of a section lie within the file, and sets `notes` before the first. No
 /// other section header is looked at (gABI 5, Note Section).

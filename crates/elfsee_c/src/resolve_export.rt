@@ -1,15 +1,14 @@
 //! The export that looks a name up in a file in memory as a loader does.
 ghost use Rattle.std.specs.Prelude.{◌≡◌, ◌≤◌, IfSome, length};
 ghost use Rattle.elf_model.specs.LoaderFind.{loader_cost};
-ghost use Rattle.elf_memory_rows.specs.Ends.{ReturnsNone};
-ghost use Rattle.elf_calls.specs.Limits.{budget_of, headers_of};
-ghost use Rattle.elf_calls.specs.Queries.{IsPermitted, asks_of, wanted_by};
-ghost use Rattle.elf_calls.specs.Resolved.{IsResolved, Resolves, ResolvesIn, ReturnsResolved, file_of, nothing_resolved};
+ghost use Rattle.elf_capi.specs.Ends.{ReturnsNone};
+ghost use Rattle.elf_capi.specs.Limits.{budget_of, headers_of};
+ghost use Rattle.elf_capi.specs.Queries.{IsPermitted, asks_of, wanted_by};
+ghost use Rattle.elf_capi.specs.Resolved.{IsResolved, Resolves, ResolvesIn, ReturnsResolved, file_of, nothing_resolved};
 
-use elf_calls::{CallerLimits, Query, Resolved, limits_of, report_resolved, resolve_in};
+use elf_capi::{CallerLimits, End, limits_of, Query, report_resolved, resolve_in, Resolved};
 use elf_table::{HeaderStore, NameBuf};
 use elf_loader::SymbolLookup;
-use elf_memory_rows::End;
 use elf_record::Refusal;
 
 /// Looks a name up in a file that lies in memory, alone or with a version, as a loader of the GNU

@@ -1,17 +1,13 @@
 //! The exports that list a file in memory.
 ghost use Rattle.std.specs.Prelude.{◌≡◌, ◌≤◌, ℕ, IfSome, List, None, Option, Some, length};
 ghost use Rattle.elf_model.specs.Cost.{listing_cost};
-ghost use Rattle.elf_calls.specs.Asked.{AsksListing, GivesListing, BorrowedTexts, caller_style};
-ghost use Rattle.elf_calls.specs.Asked.{parts_in, style_in};
-ghost use Rattle.elf_calls.specs.Limits.{AreCaps, budget_of, headers_of};
-ghost use Rattle.elf_calls.specs.Shown.{HasAskedListing, HasListing, ShowsInMemory};
+ghost use Rattle.elf_capi.specs.Asked.{AsksListing, GivesListing, BorrowedTexts, caller_style};
+ghost use Rattle.elf_capi.specs.Asked.{parts_in, style_in};
+ghost use Rattle.elf_capi.specs.Limits.{AreCaps, budget_of, headers_of};
+ghost use Rattle.elf_capi.specs.Shown.{HasAskedListing, HasListing, ShowsInMemory};
 
-use elf_calls::{
-    CallOutcome, CallerLimits, CallerListing, Told, caps_of, list, listing_of, named_listing_of,
-    report_status, short,
-};
+use elf_capi::{CallerLimits, CallerListing, CallOutcome, caps_of, End, list, listing_of, named_listing_of, report_status, short, Told};
 use elf_table::HeaderStore;
-use elf_memory_rows::End;
 use elf_record::Parts;
 
 /// Lists a file that lies in memory into memory of the caller, as far as `parts` has it. `room` is

@@ -1,15 +1,15 @@
 //! The exports that read the next rows of a table of a file in memory.
 ghost use Rattle.std.specs.Prelude.{◌<◌, ℕ, length, slice_index_or};
-ghost use Rattle.elf_memory_rows.specs.Entries.{IsDynamic, IsRelocation};
-ghost use Rattle.elf_memory_rows.specs.Rows.{StepsRows, next_at};
-ghost use Rattle.elf_memory_rows.specs.Symbols.{IsSymbol};
-ghost use Rattle.elf_memory_rows.specs.VersionRecords.{IsVersionWord};
-ghost use Rattle.elf_memory_rows.specs.declared.dynamic.Dynamic.{Dynamic as OneDynamic};
-ghost use Rattle.elf_memory_rows.specs.declared.relocations.Relocation.{Relocation as OneRelocation};
-ghost use Rattle.elf_memory_rows.specs.declared.symbol.Symbol.{Symbol as OneSymbol};
-ghost use Rattle.elf_memory_rows.specs.declared.version_words.VersionWord.{VersionWord as OneWord};
+ghost use Rattle.elf_capi.specs.Entries.{IsDynamic, IsRelocation};
+ghost use Rattle.elf_capi.specs.Rows.{StepsRows, next_at};
+ghost use Rattle.elf_capi.specs.Symbols.{IsSymbol};
+ghost use Rattle.elf_capi.specs.VersionRecords.{IsVersionWord};
+ghost use Rattle.elf_capi.specs.declared.dynamic.Dynamic.{Dynamic as OneDynamic};
+ghost use Rattle.elf_capi.specs.declared.relocations.Relocation.{Relocation as OneRelocation};
+ghost use Rattle.elf_capi.specs.declared.symbol.Symbol.{Symbol as OneSymbol};
+ghost use Rattle.elf_capi.specs.declared.version_words.VersionWord.{VersionWord as OneWord};
 
-use elf_memory_rows::{Dynamic, Relocation, RowPosition, Symbol, VersionWord, next_rows};
+use elf_capi::{Dynamic, Relocation, RowPosition, Symbol, VersionWord, next_rows};
 
 /// Reads the next symbols to the front of `out`, as many as there are and as it has room for, steps
 /// over them, and answers how many (gABI 4, Symbol Table).

@@ -1,11 +1,10 @@
 //! The exports that open the rows of a section of a file in memory.
 ghost use Rattle.std.specs.Prelude.{length};
-ghost use Rattle.elf_memory_rows.specs.declared.kind.RowKind.TheVariants.{Symbols, Relocations, Dynamic, VersionWords};
-ghost use Rattle.elf_calls.specs.CallOpenings.{OpensRows};
-ghost use Rattle.elf_memory_rows.specs.Ends.{ReturnsOpened};
+ghost use Rattle.elf_capi.specs.declared.kind.RowKind.TheVariants.{Symbols, Relocations, Dynamic, VersionWords};
+ghost use Rattle.elf_capi.specs.CallOpenings.{OpensRows};
+ghost use Rattle.elf_capi.specs.Ends.{ReturnsOpened};
 
-use elf_calls::{CallerLimits, limits_of};
-use elf_memory_rows::{End, RowKind, RowPosition, report_opened, rows_in};
+use elf_capi::{CallerLimits, End, limits_of, report_opened, RowKind, RowPosition, rows_in};
 
 /// Checks the table of symbols that a section of a file is, and sets `rows` before its first. So many
 /// headers are permitted as the limits say, and as the room has 64 bytes for; no byte of it is looked at.

@@ -1,7 +1,7 @@
 //! The exports that tell of the library: its version, and the words of causes.
 ghost use Rattle.std.specs.Prelude.{◌≡◌, Option};
 ghost use Rattle.elf_model.specs.declared.causes.Cause.{Cause as IsCause};
-ghost use Rattle.elf_calls.specs.Words.{IsNumbered, PutsFront, PutsWord};
+ghost use Rattle.elf_capi.specs.Words.{IsNumbered, PutsFront, PutsWord};
 
 use elf_format::cause_word;
 use elf_record::Cause;

@@ -1,13 +1,10 @@
 //! The exports that go over the version definitions and needs of a file in memory.
 ghost use Rattle.std.specs.Prelude.{length};
-ghost use Rattle.elf_memory_rows.specs.VersionRecords.{StepsRecord};
-ghost use Rattle.elf_memory_rows.specs.Ends.{ReturnsOpened, ReturnsRead};
-ghost use Rattle.elf_calls.specs.CallOpenings.{OpensRecords};
+ghost use Rattle.elf_capi.specs.VersionRecords.{StepsRecord};
+ghost use Rattle.elf_capi.specs.Ends.{ReturnsOpened, ReturnsRead};
+ghost use Rattle.elf_capi.specs.CallOpenings.{OpensRecords};
 
-use elf_calls::{CallerLimits, limits_of};
-use elf_memory_rows::{
-    End, RecordRow, VersionRecordPosition, next_record, records_in, report_opened, tell,
-};
+use elf_capi::{CallerLimits, End, limits_of, next_record, RecordRow, records_in, report_opened, tell, VersionRecordPosition};
 
 /// Checks the table of version definitions or needs that a section of a file is, and sets `records`
 /// before its first. So many headers are permitted as the limits say, and as the room has 64 bytes for;

@@ -1,24 +1,20 @@
 //! The exports that read rows within a budget: what they read counts, over all tables.
 ghost use Rattle.std.specs.Prelude.{◌≡◌, ◌≤◌, ◌<◌, ℕ, IfSome, length, slice_index_or};
-ghost use Rattle.elf_memory_rows.specs.Entries.{IsDynamic, IsRelocation};
-ghost use Rattle.elf_memory_rows.specs.Rows.{next_at};
-ghost use Rattle.elf_memory_rows.specs.SegmentDynamic.{ReadsSegmentDynamic};
-ghost use Rattle.elf_memory_rows.specs.Symbols.{IsSymbol};
-ghost use Rattle.elf_memory_rows.specs.VersionRecords.{IsVersionWord};
-ghost use Rattle.elf_memory_rows.specs.declared.dynamic.Dynamic.{Dynamic as OneDynamic};
-ghost use Rattle.elf_memory_rows.specs.declared.kind.RowKind.TheVariants.{Dynamic as DynamicRows};
-ghost use Rattle.elf_memory_rows.specs.declared.relocations.Relocation.{Relocation as OneRelocation};
-ghost use Rattle.elf_memory_rows.specs.declared.symbol.Symbol.{Symbol as OneSymbol};
-ghost use Rattle.elf_memory_rows.specs.declared.version_words.VersionWord.{VersionWord as OneWord};
-ghost use Rattle.elf_calls.specs.Limits.{budget_of};
-ghost use Rattle.elf_calls.specs.CallOpenings.{OpensRows};
-ghost use Rattle.elf_calls.specs.Within.{OpensAlways, OpensEntries, StepsBudgeted, ReturnsEntries};
+ghost use Rattle.elf_capi.specs.Entries.{IsDynamic, IsRelocation};
+ghost use Rattle.elf_capi.specs.Rows.{next_at};
+ghost use Rattle.elf_capi.specs.SegmentDynamic.{ReadsSegmentDynamic};
+ghost use Rattle.elf_capi.specs.Symbols.{IsSymbol};
+ghost use Rattle.elf_capi.specs.VersionRecords.{IsVersionWord};
+ghost use Rattle.elf_capi.specs.declared.dynamic.Dynamic.{Dynamic as OneDynamic};
+ghost use Rattle.elf_capi.specs.declared.kind.RowKind.TheVariants.{Dynamic as DynamicRows};
+ghost use Rattle.elf_capi.specs.declared.relocations.Relocation.{Relocation as OneRelocation};
+ghost use Rattle.elf_capi.specs.declared.symbol.Symbol.{Symbol as OneSymbol};
+ghost use Rattle.elf_capi.specs.declared.version_words.VersionWord.{VersionWord as OneWord};
+ghost use Rattle.elf_capi.specs.Limits.{budget_of};
+ghost use Rattle.elf_capi.specs.CallOpenings.{OpensRows};
+ghost use Rattle.elf_capi.specs.Within.{OpensAlways, OpensEntries, StepsBudgeted, ReturnsEntries};
 
-use elf_calls::{CallerLimits, count_entries, entries_left, limits_of, next_within};
-use elf_memory_rows::{
-    Dynamic, End, Relocation, RowPosition, Symbol, VersionWord, dynamic_within, report_opened,
-    segment_dynamic_within,
-};
+use elf_capi::{CallerLimits, count_entries, Dynamic, dynamic_within, End, entries_left, limits_of, next_within, Relocation, report_opened, RowPosition, segment_dynamic_within, Symbol, VersionWord};
 use elf_record::Refusal;
 
 /// Checks the table of dynamic entries that a section of a file is, as

@@ -1,7 +1,7 @@
 -- What the arguments permit and lend is what the call is made with.
 use Rattle.std.proofs.Common.{◌≡◌, length, ap, ◌∙◌}
 use Rattle.elf_table.specs.Store.{StoreState}
-use Rattle.elf_calls.specs.Limits.{headers_of}
+use Rattle.elf_capi.specs.Limits.{headers_of}
 use Rattle.elfsee_c.proofs.PlacingLaws.{places}
 use Rattle.elfsee_c.proofs.place_export.place_in.Goals as goal
 

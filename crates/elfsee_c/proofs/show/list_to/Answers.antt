@@ -1,6 +1,6 @@
 -- What is asked for is listed; else nothing is.
 use Rattle.std.proofs.Common.{length, subst}
-use Rattle.elf_calls.specs.Asked.{GivesListing}
+use Rattle.elf_capi.specs.Asked.{GivesListing}
 use Rattle.elfsee_c.proofs.AskedLaws.{costs_asked, shows_asked}
 use Rattle.elfsee_c.proofs.show.list_to.Goals as goal
 

@@ -1,6 +1,6 @@
 -- What was opened is told, and its entries count.
 use Rattle.std.proofs.Common.{ap, Some, ◌∙◌, ◌*◌}
-use Rattle.elf_calls.specs.Within.{asked_more, entries_looked}
+use Rattle.elf_capi.specs.Within.{asked_more, entries_looked}
 use Rattle.elfsee_c.proofs.within.elfsee_segment_dynamic_within.Goals as goal
 
 pub returns-clause-tells : goal.returns-clause-tells

@@ -1,0 +1,29 @@
+-- The symbols of a hash table in a file in memory, of which what its header tells of section headers is hidden or not.
+use Rattle.std.proofs.Common.{◌≡◌, ℕ, Bool, true, false, List, Option, Some, Err, refl, ap, ◌∙◌, arith}
+use Rattle.elf_model.specs.Style.{looked_at}
+use Rattle.elf_model.specs.declared.causes.Refusal.{Refusal}
+use Rattle.elf_source.specs.Source.{CountedState, SourceState, SetsLimit, file_by, honest}
+use Rattle.elf_table.specs.declared.fault.Fault.TheVariants.{Refused as Refuses}
+use Rattle.elf_capi.specs.Hashed.{FindsHashed, hashed_cost}
+use Rattle.elf_capi.specs.HashedRows.{ReadsHashed}
+use Rattle.elf_capi.proofs.BudgetLaws.{wanting}
+
+shown : (hides : Bool) (file : List ℕ) → file_by hides (Some file) ≡ Some (looked_at hides file)
+shown true file = refl
+shown false file = refl
+
+-- the file that is seen
+pub shown_in : (hides : Bool) (file : List ℕ) (src : CountedState) → src.hides ≡ hides → src.source ≡ honest file → src.seen.file ≡ Some (looked_at hides file)
+shown_in hides file src hidden source =
+    let by : src.seen.file ≡ file_by src.hides src.source.file = ap (λ (s : SourceState). s.file) src.is_seen in
+    (rw (hidden, source) at by) ∙ shown hides file
+
+-- a refusal is the file's own, or the budget is less than finding the symbols costs
+pub refused_hashed : (file : List ℕ) (headers size : ℕ) (budget : Option ℕ) (s0 s1 s2 : CountedState) (refusal : Refusal) → SetsLimit s0 s1 budget → s0.asked ≡ 0 → size ≡ s1.seen.size
+    → FindsHashed file headers s1 s2 (Err (Refuses refusal)) → ReadsHashed file headers budget size (Err refusal)
+refused_hashed file headers size budget s0 s1 s2 refusal set first sized finds = (
+  finds.tells,
+  λ is.
+      let says = finds.costs.says is in
+      wanting budget s0 s1 (hashed_cost file headers) size says.1.most refusal set first says.1.is_set says.1.above (omega (arith, sized, says.0)),
+)

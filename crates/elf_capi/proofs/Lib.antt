@@ -1,0 +1,14 @@
+pub mod HashedLaws
+pub mod ListedLaws
+pub mod RecordLaws
+pub mod RecordTables
+pub mod ApplyingLaws
+pub mod AskedLaws
+pub mod BudgetLaws
+pub mod FindingLaws
+pub mod HashedCallLaws
+pub mod ItemLaws
+pub mod LackLaws
+pub mod ListingLaws
+pub mod NameLaws
+pub mod ResolvingLaws

@@ -1,0 +1,120 @@
+-- What a loader's lookup in a file in memory gives its caller.
+use Rattle.std.specs.Prelude.{ℕ, ◌≡◌, ◌≤◌, true, false, List, length, Option, None, Some, Result, Ok, Err, IfSome}
+use Rattle.elf_loader.specs.Lookups.{AnswersLoaderLookup}
+use Rattle.elf_loader.specs.declared.found.FoundVersion.{FoundVersion}
+use Rattle.elf_loader.specs.declared.found.VersionName.{VersionName}
+use Rattle.elf_loader.specs.declared.found.VersionName.TheVariants.{Wanted as IsWanted, Unnamed, Told}
+use Rattle.elf_loader.specs.declared.lookup.FoundSymbol.{FoundSymbol}
+use Rattle.elf_loader.specs.declared.lookup.SymbolLookup.{SymbolLookup}
+use Rattle.elf_loader.specs.declared.lookup.SymbolLookup.TheVariants.{Found, Absent}
+use Rattle.elf_model.specs.Budget.{IsBudgetRefusal}
+use Rattle.elf_model.specs.Hash.{Refused}
+use Rattle.elf_model.specs.Loader.{Wanted, is_hidden}
+use Rattle.elf_model.specs.LoaderFind.{loader_cost, loader_looked}
+use Rattle.elf_model.specs.Style.{looked_at}
+use Rattle.elf_model.specs.Versions.{number_in}
+use Rattle.elf_model.specs.declared.causes.Refusal.{Refusal}
+use Rattle.elf_capi.specs.Symbols.{HasFields}
+use Rattle.elf_table.specs.declared.names.NameEnd.{NameEnd}
+use Rattle.elf_table.specs.declared.names.NameEnd.TheVariants.{Whole, Cut}
+use Rattle.elf_capi.specs.Found.{no_symbol}
+use Rattle.elf_capi.specs.Ends.{ReturnsCause, ReturnsNone}
+use Rattle.elf_capi.specs.Limits.{AreInRange, budget_of, headers_of}
+use Rattle.elf_capi.specs.Queries.{QueryAsked, IsPermitted, goes_by_segments, wanted_by}
+use Rattle.elf_capi.specs.Wants.{IsWanting}
+use Rattle.elf_capi.specs.declared.end.End.{End}
+use Rattle.elf_capi.specs.declared.limits.CallerLimits.{CallerLimits}
+use Rattle.elf_capi.specs.declared.resolved.Resolved.{Resolved}
+
+-- nothing was found, and so many symbols were tried
+abbrev pub nothing_resolved : ℕ → Resolved
+nothing_resolved tried = record {
+  symbol = no_symbol;
+  index = 0;
+  tried = tried;
+  version = record { at = 0; len = 0 };
+  has_version = 0;
+  is_hidden = 0;
+  is_cut = 0;
+  section = 0;
+  words = 0;
+  number = 0;
+  none = 0;
+  none_behind = 0;
+}
+
+-- the file that a lookup is made in: with zeros where its header tells of section headers, where it is one by the program headers
+abbrev pub file_of : QueryAsked → List ℕ → List ℕ
+file_of asks file = looked_at (goes_by_segments asks.flags) file
+
+-- a lookup within a budget, in a file of so many bytes and with so many headers permitted: its answer, with the name of a version
+-- in these bytes; or its refusal, unless that is for want of budget, which comes only where the lookup costs more
+abbrev pub ResolvesIn : List ℕ → ℕ → Option ℕ → ℕ → Wanted → List ℕ → Result SymbolLookup Refusal → Type 0
+ResolvesIn file headers budget size wanted told (Ok lookup) =
+    AnswersLoaderLookup file wanted.asked told (loader_looked file headers wanted) lookup
+ResolvesIn file headers budget size wanted told (Err refusal) =
+    ((IsBudgetRefusal refusal → ⊥) → (loader_looked file headers wanted).lookup.answer ≡ Refused refusal)
+    × (IsBudgetRefusal refusal → IsWanting budget (loader_cost file headers wanted) size refusal)
+
+-- limits in their ranges, room for a header, flags that are known, and a name and a version of at most 4,096 bytes
+abbrev MayResolve : CallerLimits → ℕ → QueryAsked → Type 0
+MayResolve limits room asks = AreInRange limits room × IsPermitted asks
+
+-- a lookup in a file; or what was passed is outside its ranges, and nothing is asked for
+abbrev pub Resolves : List ℕ → CallerLimits → ℕ → QueryAsked → List ℕ → ℕ → Option (Result SymbolLookup Refusal) → Type 0
+Resolves file limits room asks told asked None = (MayResolve limits room asks → ⊥) × (asked ≡ 0)
+Resolves file limits room asks told asked (Some answer) =
+    MayResolve limits room asks
+    × ResolvesIn (file_of asks file) (headers_of limits room) (budget_of limits) (length file) (wanted_by asks) told answer
+
+-- the numbers of a symbol
+abbrev pub HasSymbol : Resolved → FoundSymbol → Type 0
+HasSymbol resolved found =
+    HasFields found.symbol resolved.symbol × (resolved.index ≡ found.index) × (resolved.tried ≡ found.tried)
+    × (resolved.section ≡ found.section) × (resolved.none ≡ 0) × (resolved.none_behind ≡ 0)
+
+-- they stay
+abbrev pub SameSymbol : Resolved → Resolved → Type 0
+SameSymbol old new =
+    (new.symbol ≡ old.symbol) × (new.index ≡ old.index) × (new.tried ≡ old.tried)
+    × (new.section ≡ old.section) × (new.none ≡ old.none) × (new.none_behind ≡ old.none_behind)
+
+-- a name has more bytes than those that are told
+abbrev pub cut_number : NameEnd → ℕ
+cut_number Whole = 0
+cut_number Cut = 1
+
+-- the name of a version: so many bytes from an offset on, where it is told, and no bytes where it is the wanted one or none
+abbrev ReturnsName : Resolved → ℕ → ℕ → VersionName → Type 0
+ReturnsName resolved at told IsWanted = (resolved.version ≡ record { at = 0; len = 0 }) × (resolved.is_cut ≡ 0)
+ReturnsName resolved at told Unnamed = (resolved.version ≡ record { at = 0; len = 0 }) × (resolved.is_cut ≡ 0)
+ReturnsName resolved at told (Told end) = (resolved.version ≡ record { at = at; len = told }) × (resolved.is_cut ≡ cut_number end)
+
+-- the numbers of a version, of whose name so many bytes are held; all 0 where there are no versions
+abbrev pub ReturnsFoundVersion : Resolved → ℕ → Option FoundVersion → Type 0
+ReturnsFoundVersion resolved told None =
+    (resolved.has_version ≡ 0) × (resolved.is_hidden ≡ 0) × (resolved.words ≡ 0) × (resolved.number ≡ 0)
+    × (resolved.version ≡ record { at = 0; len = 0 }) × (resolved.is_cut ≡ 0)
+ReturnsFoundVersion resolved told (Some version) =
+    (resolved.has_version ≡ 1) × (resolved.is_hidden ≡ elim (is_hidden version.word) [ true ↦ 1 | false ↦ 0 ])
+    × (resolved.words ≡ version.index) × (resolved.number ≡ number_in version.word)
+    × ReturnsName resolved version.name_at told version.name
+
+-- what is told as numbers
+abbrev pub ReturnsResolved : ℕ → Resolved → End → ℕ → Option (Result SymbolLookup Refusal) → Type 0
+ReturnsResolved status resolved end told (Some (Ok (Found found))) =
+    (status ≡ 0) × HasSymbol resolved found × ReturnsFoundVersion resolved told found.version × ReturnsNone end
+ReturnsResolved status resolved end told (Some (Ok (Absent tried))) = (status ≡ 2) × (resolved ≡ nothing_resolved tried) × ReturnsNone end
+ReturnsResolved status resolved end told (Some (Err refusal)) = (status ≡ 1) × (resolved ≡ nothing_resolved 0) × ReturnsCause end refusal
+ReturnsResolved status resolved end told None = (status ≡ 4) × (resolved ≡ nothing_resolved 0) × ReturnsNone end
+
+-- WHAT A CALLER HAS of a loader's lookup, with so many bytes of room: what it answers, as the numbers have it, with what is told of
+-- the name of a version
+pub record IsResolved (file : List ℕ) (limits : CallerLimits) (room : ℕ) (asks : QueryAsked) (status : ℕ) (resolved : Resolved) (end : End) : Type 0 where
+  pub told : List ℕ
+  pub answer : Option (Result SymbolLookup Refusal)
+  pub resolves : Resolves file limits room asks told end.asked answer
+  pub tells : ReturnsResolved status resolved end (length told) answer
+  pub nothing : (end.written ≡ 0) × (end.none ≡ 0)
+  pub cost : end.asked ≤ loader_cost (file_of asks file) (headers_of limits room) (wanted_by asks)
+  pub budget : IfSome (budget_of limits) (λ bytes. end.asked ≤ bytes)

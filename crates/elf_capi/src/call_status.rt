@@ -1,0 +1,52 @@
+//! What a caller is told of a listing, or of a section with its relocations applied.
+ghost use Rattle.std.specs.Prelude.{◌≡◌};
+ghost use Rattle.elf_capi.specs.Ends.{ReturnsNone};
+ghost use Rattle.elf_capi.specs.Told.{IsStatus, status_from};
+
+use elf_table::RunFault;
+use crate::end::End;
+use elf_record::Refusal;
+
+/// What a call that writes to memory did.
+#[derive(Clone, Copy)]
+pub enum Told {
+    /// All of it was written.
+    Done,
+    /// The file or what was asked of it is refused, or the read budget is used up.
+    Refused(Refusal),
+    /// The memory has too few bytes for it.
+    Full,
+    /// A number is outside its range.
+    BadCall,
+}
+
+/// What a call did by its answer, and by whether there were more bytes than memory for them. Neither a
+/// fault of a source in memory nor one of an output that is not full comes.
+pub fn status_from<T>(answer: &Result<T, RunFault>, full: bool) -> Told
+    ensures { result ≡ status_from answer.now full }
+{
+    match answer {
+        _ if full => Told::Full,
+        Ok(_) => Told::Done,
+        Err(RunFault::Refused(refusal)) => Told::Refused(*refusal),
+        Err(RunFault::Source { .. } | RunFault::Out(_)) => Told::Full,
+    }
+}
+
+/// Tells it as numbers, and answers the status: 0, 1, 3 or 4.
+pub fn report_status(told: Told, end: &mut End) -> u32
+    requires { ReturnsNone end.old × (end.old.none ≡ 0) }
+    ensures status { IsStatus result end.new told }
+    ensures written { end.new.written ≡ end.old.written }
+    ensures asked { end.new.asked ≡ end.old.asked }
+{
+    match told {
+        Told::Done => 0,
+        Told::Refused(refusal) => {
+            end.refuse(refusal);
+            1
+        }
+        Told::Full => 3,
+        Told::BadCall => 4,
+    }
+}

@@ -1,0 +1,77 @@
+//! The dynamic entries of a table that are listed.
+ghost use Rattle.std.specs.Prelude.{◌≡◌, ◌==◌, ◌+◌, ◌*◌, ◌<◌, ◌≤◌, length};
+ghost use Rattle.elf_model.specs.Numbers.{DT_NULL};
+ghost use Rattle.elf_model.specs.Records.{d_tag};
+ghost use Rattle.elf_capi.specs.ListedEntries.{CountsListed, ListsWithin, all_listed};
+
+use crate::rows::RowPosition;
+use elf_memory::chunk_at;
+use elf_record::numbers::DT_NULL;
+use elf_record::{Cause, Dyn, Refusal};
+
+/// Of rows that are all entries of a table those that are listed: up to and with the first DT_NULL, or
+/// all.
+pub(crate) fn listed_rows(file: &[u8], all: RowPosition) -> RowPosition
+    requires { 0 < all.count → all.at + all.count * 16 ≤ length file.now }
+    ensures { result ≡ all_listed file.now all }
+{
+    let mut rows = all;
+    match listed_count(file, all.at, all.count, all.count) {
+        Some(count) => rows.count = count,
+        // No more are listed than there are.
+        None => (),
+    }
+    rows
+}
+
+/// The same, where no more than `most` entries have to be looked at.
+///
+/// # Errors
+/// `Budget` where more have to be, at the first of these.
+pub(crate) fn listed_within(
+    file: &[u8],
+    all: RowPosition,
+    most: u64,
+) -> Result<RowPosition, Refusal>
+    requires { 0 < all.count → all.at + all.count * 16 ≤ length file.now }
+    ensures { ListsWithin file.now all most result }
+{
+    let mut rows = all;
+    match listed_count(file, all.at, all.count, most) {
+        Some(count) => {
+            rows.count = count;
+            Ok(rows)
+        }
+        None => Err(Refusal {
+            at: all.at + 16 * most,
+            cause: Cause::Budget,
+        }),
+    }
+}
+
+/// How many of `count` entries from the offset `at` on are listed; None where they are more than
+/// `most`.
+fn listed_count(file: &[u8], at: u64, count: u64, most: u64) -> Option<u64>
+    requires { 0 < count → at + count * 16 ≤ length file.now }
+    ensures { CountsListed file.now at count most result }
+{
+    let mut done = 0;
+    while done < count {
+        if done == most {
+            return None;
+        }
+        if is_null(file, (at + 16 * done) as usize) {
+            return Some(done + 1);
+        }
+        done += 1;
+    }
+    Some(count)
+}
+
+/// Whether the entry at an offset of the file has the tag DT_NULL.
+fn is_null(file: &[u8], at: usize) -> bool
+    requires { at + 16 ≤ length file.now }
+    ensures { result ≡ (d_tag file.now at == DT_NULL) }
+{
+    Dyn::decode(chunk_at(file, at)).d_tag.cast_unsigned() == DT_NULL
+}

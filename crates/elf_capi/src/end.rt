@@ -1,0 +1,48 @@
+//! How a call ended, as C sees it.
+ghost use Rattle.std.specs.Prelude.{◌≡◌};
+ghost use Rattle.elf_capi.specs.Ends.{ReturnsCause};
+
+use crate::causes::cause_number;
+use elf_record::Refusal;
+
+/// How a call ended, and what it took.
+#[repr(C)]
+#[derive(Clone, Copy)]
+pub struct End {
+    /// The file offset that the refusal names, in bytes; 0 where there is none.
+    pub at: u64,
+    /// How many bytes were written to the memory for them.
+    pub written: u64,
+    /// How many bytes of the file were asked for, at most 2^64 - 1.
+    pub asked: u64,
+    /// The cause of the refusal, as a number; 0 where there is none.
+    pub cause: u32,
+    /// 0.
+    pub none: u32,
+}
+
+impl End {
+    /// No refusal, nothing written and nothing asked for.
+    pub fn clear(&mut self)
+        ensures { self.new ≡ record { at = 0; written = 0; asked = 0; cause = 0; none = 0 } }
+    {
+        *self = End {
+            at: 0,
+            written: 0,
+            asked: 0,
+            cause: 0,
+            none: 0,
+        };
+    }
+
+    /// Tells of a refusal.
+    pub fn refuse(&mut self, refusal: Refusal)
+        ensures told { ReturnsCause self.new refusal }
+        ensures written { self.new.written ≡ self.old.written }
+        ensures asked { self.new.asked ≡ self.old.asked }
+        ensures none { self.new.none ≡ self.old.none }
+    {
+        self.at = refusal.at;
+        self.cause = cause_number(refusal.cause);
+    }
+}

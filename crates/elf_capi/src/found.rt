@@ -1,0 +1,53 @@
+//! What a lookup answers, as C sees it.
+ghost use Rattle.std.specs.Prelude.{◌≡◌};
+ghost use Rattle.elf_capi.specs.Found.{no_symbol, nothing_after};
+
+use crate::symbol::Symbol;
+
+/// What a lookup found; all 0 where it found nothing, but for the steps.
+#[repr(C)]
+#[derive(Clone, Copy)]
+pub struct LookupFields {
+    /// The symbol.
+    pub symbol: Symbol,
+    /// Its index in its section.
+    pub index: u32,
+    /// How many names were compared.
+    pub steps: u32,
+    /// The index of the section that has the symbol.
+    pub section: u16,
+    /// 0.
+    pub none: u16,
+    /// 0.
+    pub none_behind: u32,
+}
+
+impl LookupFields {
+    /// Nothing was found, and no name compared.
+    pub fn clear(&mut self)
+        ensures { self.new ≡ nothing_after 0 }
+    {
+        *self = LookupFields {
+            symbol: no_symbol(),
+            index: 0,
+            steps: 0,
+            section: 0,
+            none: 0,
+            none_behind: 0,
+        };
+    }
+}
+
+/// A symbol of zeros, where none was found.
+pub fn no_symbol() -> Symbol
+    ensures { result ≡ no_symbol }
+{
+    Symbol {
+        value: 0,
+        size: 0,
+        name: 0,
+        section: 0,
+        info: 0,
+        other: 0,
+    }
+}

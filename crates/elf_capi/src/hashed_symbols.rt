@@ -1,0 +1,61 @@
+//! The symbols that a loader knows of a file.
+ghost use Rattle.std.specs.Prelude.{◌≡◌, ◌+◌, ◌*◌, ◌<◌, ◌≤◌, IfOk};
+ghost use Rattle.elf_table.specs.Ledger.{CallDid, fault_of_result};
+ghost use Rattle.elf_capi.specs.Hashed.{FindsHashed, hashed_bytes};
+
+use crate::rows::RowPosition;
+use elf_hash::counts;
+use elf_table::{Fault, HeaderStore};
+use elf_lookup_tables::{Symbols, find_lookup_tables};
+use elf_record::sizes::SYMBOL_BYTES;
+use elf_source::{Counted, Source};
+
+/// The symbols that a file's hash table is of, which a loader looks names up among: by the section
+/// headers, or where there are none by the program headers and their dynamic entries ([`find_lookup_tables`]).
+/// How many there are: in a table of the gABI as many as it has chains, in one of the GNU system up to
+/// the end of the last chain, or where no symbol is found in it those before their strings (gABI 5, Hash
+/// Table). The place that is given stands
+/// before the first, with their string table. The headers are loaded into the store.
+///
+/// Where the source's file is known the answer is the file's own, and so is the refusal.
+///
+/// # Errors
+/// The first that fails: those of [`find_lookup_tables`], then those of [`counts`]. Else a fault of the source,
+/// or `Budget` where a limit has no room for a read, at the offset that was asked for.
+pub fn hashed_rows<S: Source>(
+    src: &mut Counted<S>,
+    store: &mut HeaderStore,
+) -> Result<RowPosition, Fault>
+    ensures did { CallDid src.old src.new (fault_of_result result)
+        (hashed_bytes src.old.seen.size store.old.slots)
+        (λ file. FindsHashed file store.old.slots src.old src.new result) }
+    ensures slots { store.new.slots ≡ store.old.slots }
+    ensures within { IfOk result (λ rows.
+        0 < rows.count → rows.at + 24 * rows.count ≤ src.old.seen.size) }
+{
+    let scope = find_lookup_tables(src, store)?;
+    let table = counts(src, &scope.hash)?;
+    let count = scope.symbols.extent(src, &table)?;
+    Ok(rows_of(&scope.symbols, count))
+}
+
+/// A place before the first of so many symbols.
+fn rows_of(symbols: &Symbols, count: u64) -> RowPosition
+    ensures { result ≡ record {
+      at = symbols.now.table.at;
+      count = count;
+      index = 0;
+      entry = 24;
+      strings_at = symbols.now.names.at;
+      strings_len = symbols.now.names.size;
+    } }
+{
+    RowPosition {
+        at: symbols.table.at(),
+        count,
+        index: 0,
+        entry: SYMBOL_BYTES,
+        strings_at: symbols.names.at(),
+        strings_len: symbols.names.size(),
+    }
+}

@@ -1,0 +1,85 @@
+//! The rows of tables of an ELF64 file that lies in memory, as a caller keeps them: symbols, relocation
+//! entries, dynamic entries and symbol versions, field by field, and places in tables that are plain
+//! numbers. No number that a caller sets is a wrong one: each step tests them. What a read answers is told
+//! in the numbers that C has.
+//!
+//! What the calls of the library do, over memory that a caller lends, in the numbers that C has: limits,
+//! items and listings as a caller says them, what is written into lent memory, and how a call ends.
+#![tactic(auto)]
+
+mod applied;
+mod asked;
+mod call_status;
+mod caller_listing;
+mod causes;
+mod counts;
+mod dynamic;
+mod dynamic_table;
+mod end;
+mod found;
+mod hashed_call;
+mod hashed_symbols;
+mod held;
+mod held_tables;
+mod items;
+mod kind;
+mod lent_layout;
+mod lent_sink;
+mod limits;
+mod listing;
+mod load_checks;
+mod loader_lookup;
+mod lookup_call;
+mod missing;
+mod name_list;
+mod placement;
+mod query;
+mod record_row;
+mod record_tables;
+mod records;
+mod relocations;
+mod resolved;
+mod row_status;
+mod rows;
+mod section_names;
+mod segment_entries;
+mod spent;
+mod symbol;
+mod table_row;
+mod tables;
+mod version_words;
+
+pub use applied::{ApplyInput, write_section};
+pub use asked::{listing_of, named_listing_of};
+pub use call_status::{Told, report_status};
+pub use caller_listing::CallerListing;
+pub use counts::short;
+pub use dynamic::Dynamic;
+pub use end::End;
+pub use found::LookupFields;
+pub use hashed_call::open_hashed;
+pub use hashed_symbols::hashed_rows;
+pub use items::{CallerItem, Job, layout_from};
+pub use kind::RowKind;
+pub use lent_layout::CallerLayout;
+pub use limits::{CallerLimits, caps_of, limits_of};
+pub use listing::{CallOutcome, list};
+pub use loader_lookup::{report_resolved, resolve_in};
+pub use lookup_call::{look_in, report_found};
+pub use missing::CallerMissing;
+pub use placement::place_section;
+pub use query::Query;
+pub use record_row::RecordRow;
+pub use record_tables::records_in;
+pub use records::{VersionRecordPosition, next_record};
+pub use relocations::Relocation;
+pub use resolved::Resolved;
+pub use row_status::{report_opened, tell};
+pub use rows::RowPosition;
+pub use section_names::names_in;
+pub use segment_entries::{segment_dynamic, segment_dynamic_within};
+pub use spent::{count_entries, entries_left, next_within};
+pub use symbol::Symbol;
+pub use table_row::{TableRow, next_rows};
+pub use tables::{dynamic_within, rows_in};
+pub use version_words::VersionWord;

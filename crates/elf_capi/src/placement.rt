@@ -1,0 +1,108 @@
+//! A section of a file in memory in a layout of any size, and what that lacks where it is refused.
+ghost use Rattle.std.specs.Prelude.{◌≡◌, ◌+◌, ◌-◌, ◌≤◌, IfSome, length, option_map};
+ghost use Rattle.elf_model.specs.ApplyCost.{apply_cost_by_order};
+ghost use Rattle.elf_reloc.specs.Explained.{explain_bytes};
+ghost use Rattle.elf_capi.specs.Applied.{AppliesFor};
+ghost use Rattle.elf_capi.specs.Ends.{no_end};
+ghost use Rattle.elf_capi.specs.LentLayouts.{CountsWritten, ExplainsRefusal, ExplainsTold};
+
+use crate::applied::{ApplyInput, write_section};
+use crate::counts::short;
+use crate::listing::CallOutcome;
+use crate::missing::CallerMissing;
+use crate::call_status::Told;
+use elf_reloc::explain;
+use elf_table::{Fault, HeaderStore, NameBuf};
+use crate::end::End;
+use elf_record::Refusal;
+use elf_source::{Counted, MemorySource};
+
+/// Writes a section to the front of some memory, tells in `missing` what its layout lacks where it is
+/// refused, and answers how that ended. The counts are written to `end`.
+pub fn place_section(
+    file: &[u8],
+    store: &mut HeaderStore,
+    wanted: &ApplyInput<'_>,
+    out: &mut [u8],
+    missing: &mut CallerMissing,
+    end: &mut End,
+) -> Told
+    requires { end.old ≡ no_end }
+    ensures applies { AppliesFor file.now store.old.slots wanted.now.budget wanted.now.section
+        wanted.now.layout.now out.new end.new.written result }
+    ensures explains { ExplainsTold file.now store.old.slots wanted.now.budget wanted.now.section
+        wanted.now.layout.now (apply_cost_by_order file.now store.old.slots
+        wanted.now.section wanted.now.layout.now) result missing.new }
+    ensures written { CountsWritten end.new result }
+    ensures within { end.new.written ≤ length out.new }
+    ensures cost { end.new.asked ≤ apply_cost_by_order file.now store.old.slots
+        wanted.now.section wanted.now.layout.now + explain_bytes store.old.slots }
+    ensures budget { IfSome wanted.now.budget (λ bytes. end.new.asked ≤ bytes) }
+    ensures clear { (end.new.cause ≡ 0) × (end.new.at ≡ 0) × (end.new.none ≡ 0) }
+{
+    let mut outcome = CallOutcome {
+        told: Told::BadCall,
+        asked: 0,
+    };
+    let written = write_section(file, store, wanted, out, &mut outcome);
+    if let Told::Refused(refusal) = outcome.told {
+        let more = tell_lack(file, store, wanted, outcome.asked, refusal, missing);
+        end.asked = short(outcome.asked.saturating_add(more));
+        return Told::Refused(refusal);
+    }
+    missing.clear();
+    end.asked = short(outcome.asked);
+    end.written = written as u64;
+    outcome.told
+}
+
+/// Tells in `missing` what the layout lacks where a section was refused, for which `asked` bytes were
+/// asked for, and answers how many more were. Nothing is told where the budget has no room to find out.
+fn tell_lack(
+    file: &[u8],
+    store: &mut HeaderStore,
+    wanted: &ApplyInput<'_>,
+    asked: u128,
+    refusal: Refusal,
+    missing: &mut CallerMissing,
+) -> u128
+    requires { IfSome wanted.now.budget (λ bytes. asked ≤ bytes) }
+    ensures explains { ExplainsRefusal file.now store.old.slots wanted.now.budget
+        wanted.now.section wanted.now.layout.now asked refusal missing.new }
+    ensures cost { result ≤ explain_bytes store.old.slots }
+    ensures budget { IfSome wanted.now.budget (λ bytes. asked + result ≤ bytes) }
+{
+    missing.clear();
+    let mut src = Counted::new(MemorySource::new(file));
+    src.limit(rest_of(wanted.budget, asked));
+    let mut name = NameBuf::new();
+    let found = explain(
+        &mut src,
+        store,
+        wanted.section,
+        wanted.layout,
+        refusal,
+        &mut name,
+    );
+    let more = src.asked();
+    let _ = src.into_inner();
+    match found {
+        Ok(Some((lack, end))) => {
+            missing.tell(&lack, end, name.bytes());
+            more
+        }
+        Ok(None) => more,
+        Err(Fault::Refused(_)) => more,
+        Err(Fault::Source { .. }) => unreachable!(),
+    }
+}
+
+/// What is left of a budget behind so many bytes.
+fn rest_of(budget: Option<u64>, asked: u128) -> Option<u64>
+    ensures { result ≡ option_map (λ bytes. bytes - asked) budget }
+{
+    match budget {
+        Some(bytes) => Some(u128::from(bytes).saturating_sub(asked) as u64),
+        None => None,
+    }
+}

@@ -1,0 +1,78 @@
+//! The records of symbol versions of a section, behind the checks of its table.
+ghost use Rattle.std.specs.Prelude.{◌≡◌, ℕ, List};
+ghost use Rattle.elf_record.specs.Shdr.{IsShdr};
+ghost use Rattle.elf_capi.specs.VersionRecords.{ReadsRecords, first_kind, starting};
+
+use crate::load_checks::held_file;
+use crate::record_row::kind_number;
+use crate::records::VersionRecordPosition;
+use elf_table::{Fault, Names};
+use elf_record::gnu_numbers::{SHT_GNU_VERDEF, SHT_GNU_VERNEED};
+use elf_record::{Refusal, Shdr, VersionKind};
+use elf_note::record_bytes;
+
+/// Checks the table of version definitions or needs that a section of a file that lies in memory is, and
+/// gives a place before its first record; None where the file has no such section, or one of another
+/// type than GNU_verdef and GNU_verneed. No more section headers are read than those of the section
+/// names, of the section, and of what it links to (Linux Standard Base Core, Symbol Versioning).
+///
+/// # Errors
+/// The first check that fails of those that a listing makes up to the table's first record, with so
+/// many headers permitted.
+pub fn records_in(
+    file: &[u8],
+    headers: u16,
+    section: u16,
+) -> Result<Option<VersionRecordPosition>, Refusal>
+    ensures { ReadsRecords file.now headers section result }
+{
+    let held = match held_file(file, headers) {
+        Ok(held) => held,
+        Err(refusal) => return Err(refusal),
+    };
+    if section >= held.sections() {
+        return Ok(None);
+    }
+    let header = held.section(section);
+    let Some(kind) = first_kind(&header) else {
+        return Ok(None);
+    };
+    match held.record_names(section) {
+        Ok(names) => Ok(Some(first_records(&header, kind, held.place(section), names))),
+        Err(Fault::Refused(refusal)) => Err(refusal),
+        // No check is a fault of the source.
+        Err(Fault::Source { .. }) => Ok(None),
+    }
+}
+
+/// The kind of the first record of a section, by its type.
+fn first_kind(header: &Shdr) -> Option<VersionKind>
+    ensures { (file : List ℕ) (at : ℕ) → IsShdr file at header.now → result ≡ first_kind file at }
+{
+    match header.sh_type {
+        SHT_GNU_VERDEF => Some(VersionKind::Definition),
+        SHT_GNU_VERNEED => Some(VersionKind::File),
+        _ => None,
+    }
+}
+
+/// A place before the first record of a section whose header stands at a file offset; behind the last
+/// where it is empty.
+fn first_records(header: &Shdr, kind: VersionKind, at: u64, names: Names) -> VersionRecordPosition
+    ensures { (file : List ℕ) (place : ℕ) → IsShdr file place header.now → at ≡ place →
+        result ≡ starting file kind place names }
+{
+    let size = header.sh_size;
+    VersionRecordPosition {
+        at: header.sh_offset,
+        size,
+        place: 0,
+        from: at,
+        owner: 0,
+        left: size / record_bytes(kind),
+        strings_at: names.at(),
+        strings_len: names.size(),
+        kind: if size == 0 { 0 } else { kind_number(kind) },
+        none: 0,
+    }
+}

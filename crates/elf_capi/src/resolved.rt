@@ -1,0 +1,98 @@
+//! What a loader's lookup answers, as C sees it.
+ghost use Rattle.std.specs.Prelude.{◌≡◌, Some};
+ghost use Rattle.elf_capi.specs.Resolved.{HasSymbol, SameSymbol, ReturnsFoundVersion, nothing_resolved};
+
+use crate::found::no_symbol;
+use elf_loader::{FoundSymbol, FoundVersion, VersionName};
+use elf_memory::ByteRange;
+use crate::symbol::Symbol;
+use elf_record::version_number;
+use elf_table::NameEnd;
+
+/// What a loader's lookup found; all 0 where it found nothing, but for the symbols that were tried.
+#[repr(C)]
+#[derive(Clone, Copy)]
+pub struct Resolved {
+    /// The symbol.
+    pub symbol: Symbol,
+    /// Its index among the symbols.
+    pub index: u64,
+    /// How many symbols were tried.
+    pub tried: u64,
+    /// Where the name of its version lies in the file, or the first 256 bytes of it; no bytes where a
+    /// version was asked for, where it has no name and where there are no versions.
+    pub version: ByteRange,
+    /// 1 where the file has versions of symbols, else 0.
+    pub has_version: u32,
+    /// 1 where a name alone does not take the version, else 0.
+    pub is_hidden: u32,
+    /// 1 where the name of the version has more bytes, else 0.
+    pub is_cut: u32,
+    /// The index of the section that has the symbol, or of the program header of the dynamic entries.
+    pub section: u16,
+    /// The index of the section of the words of versions, or of that program header.
+    pub words: u16,
+    /// The number of the version, below 2^15.
+    pub number: u16,
+    /// 0.
+    pub none: u16,
+    /// 0.
+    pub none_behind: u32,
+}
+
+impl Resolved {
+    /// Nothing was found, and no symbol tried.
+    pub fn clear(&mut self)
+        ensures { self.new ≡ nothing_resolved 0 }
+    {
+        *self = Resolved {
+            symbol: no_symbol(),
+            index: 0,
+            tried: 0,
+            version: ByteRange { at: 0, len: 0 },
+            has_version: 0,
+            is_hidden: 0,
+            is_cut: 0,
+            section: 0,
+            words: 0,
+            number: 0,
+            none: 0,
+            none_behind: 0,
+        };
+    }
+
+    /// Tells of a symbol; of the name of its version `told` bytes are held.
+    pub fn tell(&mut self, found: &FoundSymbol, told: u64)
+        requires { self.old ≡ nothing_resolved 0 }
+        ensures symbol { HasSymbol self.new found.now }
+        ensures version { ReturnsFoundVersion self.new told found.now.version }
+    {
+        self.symbol = Symbol::of(&found.symbol);
+        self.index = found.index;
+        self.tried = found.tried;
+        self.section = found.section;
+        if let Some(version) = &found.version {
+            self.tell_version(version, told);
+        }
+    }
+
+    /// Tells of a version.
+    fn tell_version(&mut self, version: &FoundVersion, told: u64)
+        requires none { (self.old.version ≡ record { at = 0; len = 0 }) × (self.old.is_cut ≡ 0) }
+        ensures version { ReturnsFoundVersion self.new told (Some version.now) }
+        ensures others { SameSymbol self.old self.new }
+    {
+        let number = version_number(version.word);
+        self.has_version = 1;
+        self.is_hidden = u32::from(version.word != number);
+        self.words = version.index;
+        self.number = number;
+        if let VersionName::Told(end) = version.name {
+            self.version = ByteRange {
+                at: version.name_at,
+                len: told,
+            };
+            self.is_cut = u32::from(end == NameEnd::Cut);
+        }
+    }
+}

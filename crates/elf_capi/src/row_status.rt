@@ -1,0 +1,51 @@
+//! What a read of a row and the opening of a table answer, as C sees it.
+ghost use Rattle.elf_capi.specs.Ends.{IsOpenedTable, IsRowReported};
+
+use crate::end::End;
+use elf_record::Refusal;
+
+/// The status of a row that was read.
+const OK: u32 = 0;
+/// The status of a file that is refused.
+const REFUSED: u32 = 1;
+/// The status of a row that is not there.
+const ABSENT: u32 = 2;
+/// The status of a call with a number outside its range.
+const BAD_CALL: u32 = 4;
+
+/// Writes the row that was read to `row`, the refusal, where there is one, to `end`, and answers
+/// the status.
+pub fn tell<T: Copy>(read: Result<Option<T>, Refusal>, row: &mut T, end: &mut End) -> u32
+    ensures { IsRowReported result row.old row.new end.new read }
+{
+    end.clear();
+    match read {
+        Ok(Some(found)) => {
+            *row = found;
+            OK
+        }
+        Ok(None) => ABSENT,
+        Err(refusal) => {
+            end.refuse(refusal);
+            REFUSED
+        }
+    }
+}
+
+/// Writes what was opened to `place`, the refusal, where there is one, to `end`, and answers the
+/// status. None is a call with a number outside its range.
+pub fn report_opened<T: Copy>(
+    opened: Option<Result<Option<T>, Refusal>>,
+    place: &mut T,
+    end: &mut End,
+) -> u32
+    ensures { IsOpenedTable result place.old place.new end.new opened }
+{
+    match opened {
+        Some(read) => tell(read, place, end),
+        None => {
+            end.clear();
+            BAD_CALL
+        }
+    }
+}

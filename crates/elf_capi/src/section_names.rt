@@ -1,0 +1,28 @@
+//! Where the string table of the section names lies.
+ghost use Rattle.elf_capi.specs.TableOpenings.{ReadsSectionNames};
+
+use crate::load_checks::held_file;
+use elf_memory::ByteRange;
+use elf_record::Refusal;
+
+/// Where the string table of the section names of a file that lies in memory lies; None where there is
+/// none (gABI 4, ELF Header).
+///
+/// # Errors
+/// The first check that fails of those that a listing makes until the section headers are loaded,
+/// with so many headers permitted.
+pub fn names_in(file: &[u8], headers: u16) -> Result<Option<ByteRange>, Refusal>
+    ensures { ReadsSectionNames file.now headers result }
+{
+    let held = match held_file(file, headers) {
+        Ok(held) => held,
+        Err(refusal) => return Err(refusal),
+    };
+    match held.names {
+        Some(names) => Ok(Some(ByteRange {
+            at: names.at(),
+            len: names.size(),
+        })),
+        None => Ok(None),
+    }
+}

@@ -1,0 +1,107 @@
+//! Rows within a budget: how much of it they have left, and what they count.
+ghost use Rattle.std.specs.Prelude.{◌≡◌, ◌*◌, ◌/◌, ◌<◌, ◌≤◌, ℕ, IfSome, length, min, slice_index_or};
+ghost use Rattle.elf_capi.specs.Rows.{next_at};
+ghost use Rattle.elf_capi.specs.Limits.{budget_of};
+ghost use Rattle.elf_capi.specs.Within.{StepsBudgeted, asked_more, budget_left, entries_looked, step_end};
+
+use crate::counts::short;
+use crate::limits::{CallerLimits, budget_of};
+use crate::end::End;
+use crate::rows::RowPosition;
+use crate::table_row::{TableRow, next_rows};
+use elf_record::sizes::DYNAMIC_BYTES;
+use elf_record::{Cause, Refusal};
+
+/// Reads the next rows to the front of `out` and steps over them, as [`next_rows`] does, and no more
+/// than the budget of the limits has left; answers how many. Their bytes count in `asked`. Where more
+/// rows are left, and room for them, the budget ended it: then `end` tells so, at the next row.
+pub fn next_within<R: TableRow>(
+    file: &[u8],
+    limits: &CallerLimits,
+    asked: &mut u64,
+    rows: &mut RowPosition,
+    out: &mut [R],
+    end: &mut End,
+) -> usize
+    ensures steps { StepsBudgeted (length file.now) R.BYTES limits.now asked.old asked.new
+        rows.old rows.new (length out.old) result end.new }
+    ensures budget { IfSome (budget_of limits.now)
+        (λ bytes. asked.old ≤ bytes → asked.new ≤ bytes) }
+    ensures read { (k : ℕ) (none : R) → k < result →
+        R.stands file.now (next_at rows.old R.BYTES k) (slice_index_or out.new k none) }
+{
+    let room = room_left(limits, *asked, R::BYTES, out.len());
+    let count = next_rows(file, rows, &mut out[..room]);
+    count_bytes(u128::from(R::BYTES) * count as u128, asked);
+    tell_rest(file.len(), rows, R::BYTES, out.len() - count, end);
+    count
+}
+
+/// How many bytes may still be read where `asked` were asked for; 2^64 - 1 where there is no budget.
+fn budget_left(limits: &CallerLimits, asked: u64) -> u64
+    ensures { result ≡ budget_left (budget_of limits.now) asked }
+{
+    match budget_of(limits) {
+        Some(budget) => budget.saturating_sub(asked),
+        None => u64::MAX,
+    }
+}
+
+/// How many dynamic entries that are.
+pub fn entries_left(limits: &CallerLimits, asked: u64) -> u64
+    ensures { result ≡ budget_left (budget_of limits.now) asked / 16 }
+{
+    budget_left(limits, asked) / DYNAMIC_BYTES
+}
+
+/// How many entries of `entry` bytes that are, no more than there is room for.
+fn room_left(limits: &CallerLimits, asked: u64, entry: u64, room: usize) -> usize
+    requires { 0 < entry }
+    ensures { result ≡ min room (budget_left (budget_of limits.now) asked / entry) }
+{
+    (budget_left(limits, asked) / entry).min(room as u64) as usize
+}
+
+/// Counts so many bytes more; `asked` stays at 2^64 - 1 where it would pass that.
+fn count_bytes(bytes: u128, asked: &mut u64)
+    ensures { asked.new ≡ asked_more asked.old bytes }
+{
+    *asked = short(u128::from(*asked).saturating_add(bytes));
+}
+
+/// Counts the dynamic entries that an opening looked at, of which it might look at `most`.
+pub fn count_entries(
+    opened: &Option<Result<Option<RowPosition>, Refusal>>,
+    most: u64,
+    asked: &mut u64,
+)
+    ensures { asked.new ≡ asked_more asked.old (16 * entries_looked most opened.now) }
+{
+    let looked = match opened {
+        Some(Ok(Some(rows))) => rows.count,
+        Some(
+            Err(
+                Refusal {
+                    cause: Cause::Budget,
+                    ..
+                },
+            ),
+        ) => most,
+        _ => 0,
+    };
+    count_bytes(16 * u128::from(looked), asked);
+}
+
+/// Tells whether the budget ended a step: where more rows are left, and room for `free` rows.
+fn tell_rest(size: usize, rows: &RowPosition, entry: u64, free: usize, end: &mut End)
+    requires { 0 < entry }
+    ensures { end.new ≡ step_end size entry rows.now free }
+{
+    end.clear();
+    if free > 0 && rows.next(size, entry, 1) > 0 {
+        end.refuse(Refusal {
+            at: rows.at + entry * rows.index,
+            cause: Cause::Budget,
+        });
+    }
+}

@@ -1,0 +1,56 @@
+//! Rows of one size, and steps over them.
+ghost use Rattle.std.specs.Prelude.{◌≡◌, ◌+◌, ◌*◌, ◌<◌, ◌≤◌, ℕ, List, length, slice_index_or};
+ghost use Rattle.elf_capi.specs.Rows.{StepsRows, next_at};
+
+use crate::rows::RowPosition;
+
+/// A row of a table whose entries have one size.
+pub trait TableRow: Copy {
+    /// The size of an entry in bytes.
+    const BYTES: u64;
+
+    /// The size of an entry in bytes.
+    ghost BYTES: { ℕ };
+
+    /// In a file it is the entry that stands at an offset.
+    ghost stands: { List ℕ → ℕ → Self → Type 0 };
+
+    /// The entry at an offset of a file.
+    fn read(file: &[u8], at: usize) -> Self
+        requires { at + BYTES ≤ length file.now }
+        ensures { stands file.now at result };
+
+    /// An entry has bytes.
+    ghost some: { 0 < BYTES };
+}
+
+/// Reads the next rows to the front of `out`, as many as there are and as it has room for, steps
+/// over them, and answers how many.
+pub fn next_rows<R: TableRow>(file: &[u8], rows: &mut RowPosition, out: &mut [R]) -> usize
+    ensures steps { StepsRows (length file.now) R.BYTES rows.old rows.new
+        (length out.old) result }
+    ensures read { (k : ℕ) (none : R) → k < result →
+        R.stands file.now (next_at rows.old R.BYTES k) (slice_index_or out.new k none) }
+{
+    let count = rows.next(file.len(), R::BYTES, out.len());
+    if count > 0 {
+        let first = rows.at + R::BYTES * rows.index;
+        read_rows(file, first as usize, count, out);
+        rows.index += count as u64;
+    }
+    count
+}
+
+/// Reads so many rows from the offset `first` on to the front of `out`.
+fn read_rows<R: TableRow>(file: &[u8], first: usize, count: usize, out: &mut [R])
+    requires within { first + R.BYTES * count ≤ length file.now }
+    requires room { count ≤ length out.old }
+    ensures { (k : ℕ) (none : R) → k < count →
+        R.stands file.now (first + R.BYTES * k) (slice_index_or out.new k none) }
+{
+    let mut done = 0;
+    while done < count {
+        out[done] = R::read(file, first + R::BYTES as usize * done);
+        done += 1;
+    }
+}

@@ -1,0 +1,134 @@
+//! The rows of a section, behind the checks of its table.
+ghost use Rattle.std.specs.Prelude.{◌≡◌, ◌<◌, IfErr, min};
+ghost use Rattle.elf_model.specs.Records.{section_at};
+ghost use Rattle.elf_table.specs.Faults.{IsOfCheck};
+ghost use Rattle.elf_capi.specs.declared.kind.RowKind.TheVariants.{Dynamic};
+ghost use Rattle.elf_capi.specs.ListedEntries.{ReadsListed};
+ghost use Rattle.elf_capi.specs.TableOpenings.{OpensTable, ReadsRows, linked_names};
+
+use crate::dynamic_table::{listed_rows, listed_within};
+use crate::held::MemoryFile;
+use crate::kind::{RowKind, holds};
+use crate::load_checks::held_file;
+use crate::rows::RowPosition;
+use elf_table::{Fault, Names, Table};
+use elf_record::Refusal;
+
+/// Checks the table of a kind that a section of a file that lies in memory is, and gives a place
+/// before its first row; None where the file has no such section or it holds no such rows. With
+/// relocation entries the string table is that of the symbols that they refer to, and of dynamic
+/// entries there are as many as up to and with the first DT_NULL. No more section headers are read
+/// than those of the section names, of the section, and of what it links to.
+///
+/// # Errors
+/// The first check that fails of those that a listing makes up to the table's first row, with so
+/// many headers permitted.
+pub fn rows_in(
+    file: &[u8],
+    headers: u16,
+    section: u16,
+    kind: RowKind,
+) -> Result<Option<RowPosition>, Refusal>
+    ensures { ReadsRows kind file.now headers section result }
+{
+    let held = match held_file(file, headers) {
+        Ok(held) => held,
+        Err(refusal) => return Err(refusal),
+    };
+    if section >= held.sections() || !holds(&held.section(section), kind) {
+        return Ok(None);
+    }
+    match opened(&held, section, kind) {
+        Ok(rows) => Ok(Some(rows)),
+        Err(Fault::Refused(refusal)) => Err(refusal),
+        // No check is a fault of the source.
+        Err(Fault::Source { .. }) => Ok(None),
+    }
+}
+
+/// Checks the table of dynamic entries that a section of a file that lies in memory is, as [`rows_in`]
+/// does, where no more than `most` entries have to be looked at to know which are listed.
+///
+/// # Errors
+/// As for [`rows_in`], and then `Budget` where more have to be, at the first of these.
+pub fn dynamic_within(
+    file: &[u8],
+    headers: u16,
+    section: u16,
+    most: u64,
+) -> Result<Option<RowPosition>, Refusal>
+    ensures { ReadsListed (ReadsRows Dynamic file.now headers section) most result }
+{
+    let held = match held_file(file, headers) {
+        Ok(held) => held,
+        Err(refusal) => return Err(refusal),
+    };
+    if section >= held.sections() || !holds(&held.section(section), RowKind::Dynamic) {
+        return Ok(None);
+    }
+    match held.dynamic(section) {
+        Ok(found) => match listed_within(file, RowPosition::of(found.0, found.1), most) {
+            Ok(rows) => Ok(Some(rows)),
+            Err(refusal) => Err(refusal),
+        },
+        Err(Fault::Refused(refusal)) => Err(refusal),
+        // No check is a fault of the source.
+        Err(Fault::Source { .. }) => Ok(None),
+    }
+}
+
+/// The rows of a section of a file.
+///
+/// # Errors
+/// The first check of its table that fails.
+fn opened(held: &MemoryFile<'_>, section: u16, kind: RowKind) -> Result<RowPosition, Fault>
+    requires { section < held.now.header.e_shnum }
+    ensures opens { let file = held.now.bytes.now in
+        OpensTable kind file (section_at file section) result }
+    ensures refusal { IfErr result IsOfCheck }
+{
+    match kind {
+        RowKind::Symbols => {
+            let (table, names) = held.symbols(section)?;
+            Ok(RowPosition::of(table, names))
+        }
+        RowKind::Relocations => {
+            let (table, linked) = held.relocations(section)?;
+            Ok(RowPosition::of(table, names_of(linked)))
+        }
+        RowKind::Dynamic => {
+            let (table, names) = held.dynamic(section)?;
+            Ok(listed_rows(held.bytes, RowPosition::of(table, names)))
+        }
+        RowKind::VersionWords => {
+            let (table, symbols) = held.version_words(section)?;
+            Ok(words_of(table, symbols))
+        }
+    }
+}
+
+/// The words of the versions of so many symbols, as far as there are some.
+fn words_of(words: Table, symbols: u64) -> RowPosition
+    ensures { result ≡ record {
+      at = words.at;
+      count = min words.count symbols;
+      index = 0;
+      entry = words.entry;
+      strings_at = 0;
+      strings_len = 0;
+    } }
+{
+    let mut rows = RowPosition::of(words, Names::new(0, 0));
+    rows.count = rows.count.min(symbols);
+    rows
+}
+
+/// The string table of symbols; no bytes where there are no symbols.
+fn names_of(symbols: Option<(Table, Names)>) -> Names
+    ensures { result ≡ linked_names symbols }
+{
+    match symbols {
+        Some((_, names)) => names,
+        None => Names::new(0, 0),
+    }
+}

@@ -1,0 +1,36 @@
+//! The words of symbols' versions.
+ghost use Rattle.std.proofs.Common.{rules};
+ghost use Rattle.elf_capi.specs.VersionRecords.{IsVersionWord};
+
+use crate::table_row::TableRow;
+use elf_record::sizes::SYMBOL_VERSION_BYTES;
+use elf_record::{u16_at, version_number};
+
+/// The version of a symbol (Linux Standard Base Core, Symbol Versioning).
+#[repr(C)]
+#[derive(Clone, Copy)]
+pub struct VersionWord {
+    /// Its number, below 2^15; 0 and 1 are no version's.
+    pub number: u16,
+    /// 1 where a name alone does not take the symbol, else 0.
+    pub is_hidden: u16,
+}
+
+impl TableRow for VersionWord {
+    const BYTES: u64 = SYMBOL_VERSION_BYTES;
+
+    ghost BYTES = { 2 };
+
+    ghost stands = { IsVersionWord };
+
+    ghost some = { Prim.search rules };
+
+    fn read(file: &[u8], at: usize) -> VersionWord {
+        let word = u16_at(file, at);
+        let number = version_number(word);
+        VersionWord {
+            number,
+            is_hidden: u16::from(word != number),
+        }
+    }
+}

@@ -1,4 +1,0 @@
-pub mod HashedLaws
-pub mod ListedLaws
-pub mod RecordLaws
-pub mod RecordTables
