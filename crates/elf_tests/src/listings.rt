@@ -1,7 +1,7 @@
 //! A whole listing, and listings whose reads and writes fail in turn.
 
 use crate::requests::{LISTED, carry_out, check_answer, check_outputs, check_reads, listing};
-use elf_fakes::ChunkedReader;
+use crate::pieces::ChunkedReader;
 use elf_fixtures::{
     hash_with_cycle, library_without_sections, note_segment, one_call, one_symbol_table,
 };

@@ -2,7 +2,7 @@
 ghost use Rattle.std.specs.Prelude.{◌≡◌};
 ghost use Rattle.elf_table.specs.Tables.{TableInBounds};
 
-use elf_fakes::FaultySource;
+use crate::faulty_source::FaultySource;
 use elf_fixtures::versioned_library;
 use elf_table::{Fault, Table};
 use elf_record::{Cause, Refusal, VersionKind};

@@ -1,5 +1,5 @@
 use Rattle.std.proofs.Common.{◌≡◌}
-use Rattle.elf_table_tests.proofs.tables.rows_given.Given as goal
+use Rattle.elf_tests.proofs.tables.rows_given.Given as goal
 
 abbrev pub invariant-loop-row : goal.invariant-loop-row
 invariant-loop-row g l = record {

@@ -2,7 +2,8 @@
 //! asked for; that a fault of the reader is told, and leaves no place behind from which the next read
 //! would go on; and how often the reader is asked.
 use crate::source_tests::{FAILS, file_stream, fill_at, stream};
-use elf_fakes::{FaultScript, InjectedFault, stands_at};
+use crate::script::{FaultScript, InjectedFault};
+use crate::tape::stands_at;
 use elf_source::{Source, SourceFault};
 use std::alloc::Global;
 use std::io::ErrorKind;

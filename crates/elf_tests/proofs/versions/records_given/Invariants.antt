@@ -1,5 +1,5 @@
 use Rattle.std.proofs.Common.{◌≡◌}
-use Rattle.elf_table_tests.proofs.versions.records_given.Given as goal
+use Rattle.elf_tests.proofs.versions.records_given.Given as goal
 
 abbrev pub invariant-records : goal.invariant-records
 invariant-records g l = record {

@@ -2,7 +2,7 @@
 ghost use Rattle.std.specs.Prelude.{◌≡◌};
 ghost use Rattle.elf_table.specs.Tables.{TableInBounds};
 
-use elf_fakes::FaultySource;
+use crate::faulty_source::FaultySource;
 use elf_table::{Cursor, Fault, Table};
 use elf_source::{Counted, Source};
 use std::process::Abort;

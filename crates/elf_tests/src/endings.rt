@@ -1,7 +1,8 @@
 //! What is left of an output: it is tried once, and the program ends as that goes.
 
 use elf_cli::{ExitLine, end_answer};
-use elf_fakes::{FaultScript, InjectedFault, ShortWriter};
+use crate::script::{FaultScript, InjectedFault};
+use crate::printer::ShortWriter;
 use elf_table::RunFault;
 use elf_source::{OutFault, SourceFault};
 use std::io::{BufWriter, ErrorKind, Write};

@@ -1,7 +1,7 @@
 //! How often a source is read for a lookup along a chain of all symbols.
 ghost use Rattle.std.specs.Prelude.{◌<◌};
 
-use elf_fakes::FaultySource;
+use crate::faulty_source::FaultySource;
 use elf_fixtures::bare_header;
 use elf_hash::find;
 use elf_table::HeaderBuffer;

@@ -1,7 +1,9 @@
 //! How often the source is read and the writer called for an applied section.
 
 use elf_reloc::apply;
-use elf_fakes::{FaultScript, FaultySource, ShortWriter};
+use crate::script::FaultScript;
+use crate::faulty_source::FaultySource;
+use crate::printer::ShortWriter;
 use elf_fixtures::{rising_relocations, with_bytes};
 use elf_table::HeaderBuffer;
 use elf_layout::Layout;

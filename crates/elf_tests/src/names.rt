@@ -1,5 +1,5 @@
 //! How often a source is read for a name that is read or compared alone, and which read fails.
-use elf_fakes::FaultySource;
+use crate::faulty_source::FaultySource;
 use elf_table::{Fault, NameBuf, NameEnd, NameLimit, Names};
 use elf_note::{NameIndex, ReadAhead};
 use elf_source::{Counted, SourceFault};

@@ -1,5 +1,5 @@
 //! What no clause says of a load: that the store can be made, and how much each read takes.
-use elf_fakes::FaultySource;
+use crate::faulty_source::FaultySource;
 use elf_fixtures::tables_over_headers;
 use elf_table::{Fault, HeaderBuffer, HeaderStore, Loaded, header, load};
 use elf_source::{Counted, Source, SourceFault};

@@ -1,5 +1,5 @@
 //! How often a source is read for the program headers of a file without sections.
-use elf_fakes::FaultySource;
+use crate::faulty_source::FaultySource;
 use elf_fixtures::library_without_sections;
 use elf_table::{HeaderBuffer, header, load};
 use elf_source::Counted;

@@ -1,6 +1,6 @@
 use Rattle.std.proofs.Common.{◌≡◌}
 use Rattle.elf_table.specs.Windows.{bytes_left}
-use Rattle.elf_table_tests.proofs.notes.notes_given.Given as goal
+use Rattle.elf_tests.proofs.notes.notes_given.Given as goal
 
 abbrev pub invariant-notes : goal.invariant-notes
 invariant-notes g l = record {

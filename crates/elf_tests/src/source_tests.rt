@@ -1,5 +1,7 @@
 //! What no clause says: that sources and sinks over a device fail only where it does, and then how.
-use elf_fakes::{EndlessReader, FaultScript, InjectedFault, ShortWriter};
+use crate::tape::EndlessReader;
+use crate::script::{FaultScript, InjectedFault};
+use crate::printer::ShortWriter;
 use elf_source::{
     FileReader, Out, OutFault, SeekReader, Sink, SinkFault, Source, SourceFault, StreamSource,
     WriteSink,

@@ -1,5 +1,5 @@
 //! How often a source is read for names and symbols, in order, with gaps, again and scattered.
-use elf_fakes::FaultySource;
+use crate::faulty_source::FaultySource;
 use elf_table::{Fault, NameBuf, NameEnd, NameLimit, Names, Table};
 use elf_note::{NameIndex, ReadAhead};
 use elf_source::Counted;
