@@ -1,22 +1,59 @@
 //! Worked examples of the definitions: whole listings, their order, their costs and their budgets, of files
 //! that are written out. Each is the contract of a function with an empty body, and the prover computes
 //! it.
+//!
+//! Worked examples of the definitions: what stands in tables, that is fields, names, notes, dynamic entries
+//! and hash tables, the answers of lookups, and the traits of a file: what it is, what its segments, dynamic
+//! entries, properties and symbols say of how it is hardened, and what is required of it. Each is the
+//! contract of a function with an empty body, and the prover computes it.
+//!
+//! Worked examples of the definitions: relocation entries as they are listed, the values that they store,
+//! symbols and places in layouts, applied sections and their costs. Each is the contract of a function
+//! with an empty body, and the prover computes it.
 #![tactic(auto)]
 
+mod allowed_rows;
+mod answer_rows;
+mod apply_cost_rows;
+mod apply_order_rows;
+mod apply_rows;
+mod dynamic_rows;
 mod examples;
+mod explain_rows;
+mod field_rows;
+mod function_rows;
+mod gnu_rows;
+mod hash_rows;
+mod kind_rows;
+mod layout_rows;
 mod listed_archives;
 mod listed_bsd_names;
 mod listed_budgets;
 mod listed_checks;
 mod listed_costs;
+mod listed_dynamic;
 mod listed_files;
 mod listed_headers;
 mod listed_members;
+mod listed_notes;
 mod listed_objects;
 mod listed_order;
 mod listed_overlaps;
 mod listed_parts;
+mod listed_relocations;
 mod listed_sections;
 mod listed_segments;
 mod listed_symbols;
 mod listed_tags;
+mod lookup_rows;
+mod name_rows;
+mod note_rows;
+mod place_rows;
+mod property_rows;
+mod required_rows;
+mod segment_rows;
+mod symbol_rows;
+mod table_rows;
+mod value_rows;
+
+

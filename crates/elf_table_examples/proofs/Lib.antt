@@ -1,2 +1,0 @@
-pub mod OnTableExamples
-pub mod OnTraits

@@ -1,7 +1,0 @@
--- What opens the words of the examples, beside those of the definitions.
-use Rattle.elf_table_examples.specs.ExamplesFields.{places_as_bytes}
-use Rattle.elf_table_examples.specs.ExamplesNotes.{note_head, counting}
-
-unfoldable pub on_examples : Unit {0}
-unfolding places_as_bytes note_head counting
-on_examples = tt
