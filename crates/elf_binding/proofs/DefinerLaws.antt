@@ -25,9 +25,9 @@ use Rattle.elf_hash.specs.declared.hash_style.HashStyle.{HashStyle}
 use Rattle.elf_hash.specs.declared.hash_style.HashStyle.TheVariants.{Gnu, Sysv}
 use Rattle.elf_hash.specs.declared.table.HashTable.{HashTable}
 use Rattle.elf_hash.specs.declared.chain_result.ChainResult.{ChainResult}
-use Rattle.elf_lookup_tables.specs.LookupTablesFound.{IsLookupTables}
-use Rattle.elf_lookup_tables.specs.declared.lookup_tables.LookupTables.{LookupTables}
-use Rattle.elf_lookup_tables.specs.declared.symbols.Symbols.{Symbols}
+use Rattle.elf_hash.specs.LookupTablesFound.{IsLookupTables}
+use Rattle.elf_hash.specs.declared.lookup_tables.LookupTables.{LookupTables}
+use Rattle.elf_hash.specs.declared.symbols.Symbols.{Symbols}
 use Rattle.elf_loader.specs.Answering.{IsSymbolWithVersym}
 use Rattle.elf_loader.specs.Comparing.{CollectsNumbers}
 use Rattle.elf_loader.specs.Lookups.{match_bytes}

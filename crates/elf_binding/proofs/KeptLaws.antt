@@ -5,9 +5,9 @@ use Rattle.elf_source.specs.Source.{CountedState}
 use Rattle.elf_table.specs.Ledger.{CallDid}
 use Rattle.elf_table.specs.declared.fault.Fault.{Fault}
 use Rattle.elf_table.specs.declared.fault.Fault.TheVariants.{Refused, Source}
-use Rattle.elf_lookup_tables.specs.Finding.{FindsScope}
-use Rattle.elf_lookup_tables.specs.LookupTablesFound.{FindsLookupTables, LookupTablesInBounds}
-use Rattle.elf_lookup_tables.specs.declared.lookup_tables.LookupTables.{LookupTables}
+use Rattle.elf_hash.specs.Finding.{FindsScope}
+use Rattle.elf_hash.specs.LookupTablesFound.{FindsLookupTables, LookupTablesInBounds}
+use Rattle.elf_hash.specs.declared.lookup_tables.LookupTables.{LookupTables}
 use Rattle.elf_binding.specs.Kept.{IsKept, ReturnsKept}
 
 -- what was found in a source is what is kept of it

@@ -13,10 +13,10 @@ use Rattle.elf_source.specs.Source.{CountedState}
 use Rattle.elf_loader.specs.Comparing.{CollectsNumbers, comparing_bytes}
 use Rattle.elf_loader.specs.Tables.{max_records_of, max_versions_of}
 use Rattle.elf_loader.specs.NumberSets.{has_number}
-use Rattle.elf_lookup_tables.specs.Symbols.{AreVersionRecordTables, AreVersymTable, IsDynamicSymbols, table_if_any}
-use Rattle.elf_lookup_tables.specs.declared.symbols.VersionRecordTable.{VersionRecordTable}
-use Rattle.elf_lookup_tables.specs.declared.symbols.Symbols.{Symbols}
-use Rattle.elf_lookup_tables.specs.declared.symbols.VersionWords.{VersionWords}
+use Rattle.elf_hash.specs.Symbols.{AreVersionRecordTables, AreVersymTable, IsDynamicSymbols, table_if_any}
+use Rattle.elf_hash.specs.declared.symbols.VersionRecordTable.{VersionRecordTable}
+use Rattle.elf_hash.specs.declared.symbols.Symbols.{Symbols}
+use Rattle.elf_hash.specs.declared.symbols.VersionWords.{VersionWords}
 use Rattle.elf_binding.specs.Lacking.{definition_if, definitions_of}
 use Rattle.elf_binding.specs.Sought.{RefusesAs, ReturnsAs}
 

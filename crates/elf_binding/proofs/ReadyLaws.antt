@@ -10,9 +10,9 @@ use Rattle.elf_model.specs.declared.causes.Cause.TheVariants.{NameOutside}
 use Rattle.elf_table.specs.Tables.{strings_in}
 use Rattle.std.proofs.lemmas.Bool.{eqb-false, eqb-true, ltb-true, ne_eqb}
 use Rattle.elf_model.specs.declared.causes.Refusal.{Refusal}
-use Rattle.elf_lookup_tables.specs.Symbols.{AreVersionRecordTables, IsDynamicSymbols, table_if_any}
-use Rattle.elf_lookup_tables.specs.declared.symbols.VersionRecordTable.{VersionRecordTable}
-use Rattle.elf_lookup_tables.specs.declared.symbols.Symbols.{Symbols}
+use Rattle.elf_hash.specs.Symbols.{AreVersionRecordTables, IsDynamicSymbols, table_if_any}
+use Rattle.elf_hash.specs.declared.symbols.VersionRecordTable.{VersionRecordTable}
+use Rattle.elf_hash.specs.declared.symbols.Symbols.{Symbols}
 use Rattle.elf_model.proofs.Slices.{slice-size}
 use Rattle.elf_model.specs.Checks.{first_refusal}
 use Rattle.elf_model.specs.LoaderFind.{counts_check, record_cost}
@@ -20,8 +20,8 @@ use Rattle.elf_model.specs.Names.{pad64}
 use Rattle.elf_table.specs.NamesRead.{ComparesName}
 use Rattle.elf_hash.specs.SearchedTables.{IsTable}
 use Rattle.elf_hash.specs.declared.table.HashTable.{HashTable}
-use Rattle.elf_lookup_tables.specs.LookupTablesFound.{IsLookupTables}
-use Rattle.elf_lookup_tables.specs.declared.lookup_tables.LookupTables.{LookupTables}
+use Rattle.elf_hash.specs.LookupTablesFound.{IsLookupTables}
+use Rattle.elf_hash.specs.declared.lookup_tables.LookupTables.{LookupTables}
 use Rattle.elf_binding.specs.Ready.{EndsInNul, HasNoNul, IsReadyIf, NamesEnd, has_zero, ready_bytes, table_where}
 
 -- bytes whose last one is a NUL

@@ -25,9 +25,9 @@ use Rattle.elf_table.specs.declared.fault.Fault.TheVariants.{Refused, Source}
 use Rattle.elf_table.specs.Cursors.{row_at}
 use Rattle.elf_table.specs.NamesRead.{Refuses as RefusesName}
 use Rattle.elf_table.specs.Tables.{strings_in}
-use Rattle.elf_lookup_tables.specs.Symbols.{AreVersymTable, IsDynamicSymbols}
-use Rattle.elf_lookup_tables.specs.declared.symbols.Symbols.{Symbols}
-use Rattle.elf_lookup_tables.specs.declared.symbols.VersionWords.{VersionWords}
+use Rattle.elf_hash.specs.Symbols.{AreVersymTable, IsDynamicSymbols}
+use Rattle.elf_hash.specs.declared.symbols.Symbols.{Symbols}
+use Rattle.elf_hash.specs.declared.symbols.VersionWords.{VersionWords}
 use Rattle.elf_loader.specs.Naming.{NamesBefore}
 use Rattle.elf_loader.specs.declared.version_name_record.VersionNameRecord.{VersionNameRecord}
 use Rattle.elf_binding.specs.Sought.{RefusesAs, ReturnsSought, ReturnsWhole, asked_if}

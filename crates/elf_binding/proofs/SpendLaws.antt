@@ -11,8 +11,8 @@ use Rattle.elf_table.specs.declared.fault.Fault.{Fault}
 use Rattle.elf_table.specs.declared.fault.Fault.TheVariants.{Refused, Source}
 use Rattle.elf_table.proofs.LedgerLaws.{CallReads-more}
 use Rattle.elf_loader.specs.Lookups.{lookup_bytes}
-use Rattle.elf_lookup_tables.specs.LookupTablesFound.{IsLookupTables, LookupTablesInBounds}
-use Rattle.elf_lookup_tables.specs.declared.lookup_tables.LookupTables.{LookupTables}
+use Rattle.elf_hash.specs.LookupTablesFound.{IsLookupTables, LookupTablesInBounds}
+use Rattle.elf_hash.specs.declared.lookup_tables.LookupTables.{LookupTables}
 use Rattle.elf_binding.specs.Definers.{DefinesAfter}
 use Rattle.elf_hash.specs.declared.table.HashTable.{HashTable}
 use Rattle.std.specs.Result.{result_unwrap_or}

@@ -11,10 +11,10 @@ use Rattle.elf_hash.specs.declared.answer.SymbolMatch.{SymbolMatch}
 use Rattle.elf_table.specs.Ledger.{CallReads, CallDid, fault_of_result}
 use Rattle.elf_table.specs.declared.fault.Fault.{Fault}
 use Rattle.elf_table.specs.declared.fault.Fault.TheVariants.{Refused, Source}
-use Rattle.elf_lookup_tables.specs.LookupTablesFound.{IsLookupTables}
-use Rattle.elf_lookup_tables.specs.Symbols.{IsDynamicSymbols}
-use Rattle.elf_lookup_tables.specs.declared.lookup_tables.LookupTables.{LookupTables}
-use Rattle.elf_lookup_tables.specs.declared.symbols.Symbols.{Symbols}
+use Rattle.elf_hash.specs.LookupTablesFound.{IsLookupTables}
+use Rattle.elf_hash.specs.Symbols.{IsDynamicSymbols}
+use Rattle.elf_hash.specs.declared.lookup_tables.LookupTables.{LookupTables}
+use Rattle.elf_hash.specs.declared.symbols.Symbols.{Symbols}
 
 -- it is the trial of the symbols of a file: of each it says whether it defines what is wanted
 pub record SaysDefines (file : List ℕ) (symbols : Symbols) (wanted : Wanted) (is_wanted : ℕ → Bool) (says : ℕ → Result Bool Refusal) : Type 0 where

@@ -9,9 +9,9 @@ use Rattle.elf_table.specs.declared.fault.Fault.TheVariants.{Refused, Source}
 use Rattle.elf_hash.specs.SearchedTables.{place_of_table}
 use Rattle.elf_hash.specs.declared.table.HashTable.{HashTable}
 use Rattle.elf_binding.specs.Ready.{IsReadyIf}
-use Rattle.elf_lookup_tables.specs.Finding.{scope_cost}
-use Rattle.elf_lookup_tables.specs.LookupTablesFound.{IsLookupTables, LookupTablesInBounds}
-use Rattle.elf_lookup_tables.specs.declared.lookup_tables.LookupTables.{LookupTables}
+use Rattle.elf_hash.specs.Finding.{scope_cost}
+use Rattle.elf_hash.specs.LookupTablesFound.{IsLookupTables, LookupTablesInBounds}
+use Rattle.elf_hash.specs.declared.lookup_tables.LookupTables.{LookupTables}
 
 -- its source, and how many headers were permitted where what a lookup is made in was found
 pub record LookupObjectState : Type 0 where

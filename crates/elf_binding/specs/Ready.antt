@@ -8,7 +8,7 @@ use Rattle.elf_model.specs.LoaderScope.{LookupTables as IsScopeOf}
 use Rattle.elf_model.specs.Names.{same}
 use Rattle.elf_table.specs.declared.fault.Fault.{Fault}
 use Rattle.elf_table.specs.Tables.{strings_in}
-use Rattle.elf_lookup_tables.specs.declared.symbols.VersionRecordTable.{VersionRecordTable}
+use Rattle.elf_hash.specs.declared.symbols.VersionRecordTable.{VersionRecordTable}
 use Rattle.elf_hash.specs.SearchedTables.{IsTable}
 use Rattle.elf_hash.specs.declared.table.HashTable.{HashTable}
 

@@ -10,14 +10,13 @@ ghost use Rattle.elf_loader.specs.NumberSets.{has_number};
 ghost use Rattle.elf_model.specs.Bindings.{definer_by, definition_in, definer_walk};
 ghost use Rattle.elf_model.specs.LoaderFind.{record_cost, version_indices};
 ghost use Rattle.elf_model.specs.Names.{pad64};
-ghost use Rattle.elf_lookup_tables.specs.Symbols.{DynamicSymbolsInBounds};
+ghost use Rattle.elf_hash.specs.Symbols.{DynamicSymbolsInBounds};
 ghost use Rattle.elf_options.specs.Wants.{query_of};
 
 use crate::ready::has_nul;
-use elf_hash::{ChainResult, HashTable, Matcher, SymbolMatch, counts, excludes, walk};
+use elf_hash::{ChainResult, counts, excludes, HashTable, LookupTables, Matcher, SymbolMatch, walk};
 use elf_table::Fault;
 use elf_loader::{VersionIndexSet, VersionMatcher, version_indices};
-use elf_lookup_tables::LookupTables;
 use elf_record::numbers::SHN_UNDEF;
 use elf_source::{Counted, Source};
 use elf_options::Wanted;

@@ -2,19 +2,18 @@
 ghost use Rattle.std.specs.Prelude.{◌≡◌, ◌+◌, ◌≤◌, List};
 ghost use Rattle.elf_binding.specs.Sought.{ReturnsAs};
 ghost use Rattle.elf_table.specs.Ledger.{CallDid, fault_of_result};
-ghost use Rattle.elf_lookup_tables.specs.LookupTablesFound.{IsLookupTables};
+ghost use Rattle.elf_hash.specs.LookupTablesFound.{IsLookupTables};
 ghost use Rattle.elf_model.specs.Bindings.{symbols_hashed};
 ghost use Rattle.elf_model.specs.LoaderScope.{LookupTables as IsScopeOf};
 
-use elf_hash::counts;
+use elf_hash::{counts, LookupTables};
 use elf_table::Fault;
-use elf_lookup_tables::LookupTables;
 use elf_source::{Counted, Source};
 
 /// How many symbols a file has, by its hash table, of those that there is room for.
 ///
 /// # Errors
-/// Those of [`counts`], and of [`elf_lookup_tables::Symbols::extent`].
+/// Those of [`counts`], and of [`elf_hash::Symbols::extent`].
 pub(crate) fn hashed_symbols<S: Source>(
     src: &mut Counted<S>,
     scope: &LookupTables,

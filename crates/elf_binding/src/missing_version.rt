@@ -8,11 +8,11 @@ ghost use Rattle.elf_loader.specs.Tables.{max_versions_of};
 ghost use Rattle.elf_model.specs.BoundSymbols.{lacks_version};
 ghost use Rattle.elf_model.specs.Loader.{Version};
 ghost use Rattle.elf_model.specs.LoaderScope.{LookupTables as IsScopeOf};
-ghost use Rattle.elf_lookup_tables.specs.Symbols.{IsDynamicSymbols, DynamicSymbolsInBounds};
+ghost use Rattle.elf_hash.specs.Symbols.{IsDynamicSymbols, DynamicSymbolsInBounds};
 
 use elf_table::Fault;
 use elf_loader::version_indices;
-use elf_lookup_tables::{Symbols, VersionRecordTable};
+use elf_hash::{Symbols, VersionRecordTable};
 use elf_record::VersionKind;
 use elf_source::{Counted, Source};
 use elf_options::Asked;

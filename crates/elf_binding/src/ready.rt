@@ -4,14 +4,13 @@ ghost use Rattle.elf_binding.specs.Ready.{HasNoNul, NamesEnd, ReturnsReady, read
 ghost use Rattle.elf_hash.specs.SearchedTables.{place_of_table};
 ghost use Rattle.elf_table.specs.Ledger.{CallDid, fault_of_result};
 ghost use Rattle.elf_model.specs.LoaderScope.{LookupTables as IsScopeOf};
-ghost use Rattle.elf_lookup_tables.specs.LookupTablesFound.{IsLookupTables, LookupTablesInBounds};
-ghost use Rattle.elf_lookup_tables.specs.Symbols.{VersionRecordsInBounds};
+ghost use Rattle.elf_hash.specs.LookupTablesFound.{IsLookupTables, LookupTablesInBounds};
+ghost use Rattle.elf_hash.specs.Symbols.{VersionRecordsInBounds};
 ghost use Rattle.elf_options.specs.Wants.{asked_of};
 
-use elf_hash::{HashTable, counts};
+use elf_hash::{counts, HashTable, LookupTables, VersionRecordTable};
 use elf_table::Fault;
 use elf_loader::version_indices;
-use elf_lookup_tables::{LookupTables, VersionRecordTable};
 use elf_source::{Counted, Source};
 use elf_options::Asked;
 

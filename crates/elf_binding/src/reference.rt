@@ -10,12 +10,12 @@ ghost use Rattle.elf_model.specs.Loader.{Symbols as AreSymbolsOf, is_among, read
 ghost use Rattle.elf_model.specs.Names.{name_bytes};
 ghost use Rattle.elf_model.specs.Numbers.{STB_GLOBAL, STB_WEAK, STB_GNU_UNIQUE};
 ghost use Rattle.elf_record.specs.Sym.{IsSym};
-ghost use Rattle.elf_lookup_tables.specs.Symbols.{IsDynamicSymbols, DynamicSymbolsInBounds};
+ghost use Rattle.elf_hash.specs.Symbols.{IsDynamicSymbols, DynamicSymbolsInBounds};
 ghost use Rattle.elf_table.specs.Tables.{StringsInBounds, strings_in};
 
 use elf_table::{Fault, NameBuf, NameEnd, NameLimit, Names, refused};
 use elf_loader::{name_of, read_half};
-use elf_lookup_tables::Symbols;
+use elf_hash::Symbols;
 use elf_record::gnu_numbers::STB_GNU_UNIQUE;
 use elf_record::numbers::{SHN_UNDEF, STB_GLOBAL, STB_WEAK};
 use elf_record::{Cause, Sym};

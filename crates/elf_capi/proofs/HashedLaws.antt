@@ -15,10 +15,10 @@ use Rattle.elf_table.proofs.LedgerLaws.{CallReads-then}
 use Rattle.elf_table.specs.Ledger.{CallReads, IsRead}
 use Rattle.elf_table.specs.declared.fault.Fault.{Fault}
 use Rattle.elf_table.specs.declared.fault.Fault.TheVariants.{Refused, Source}
-use Rattle.elf_lookup_tables.specs.Finding.{scope_cost}
-use Rattle.elf_lookup_tables.specs.LookupTablesFound.{IsLookupTables, FindsLookupTables}
-use Rattle.elf_lookup_tables.specs.Symbols.{IsDynamicSymbols}
-use Rattle.elf_lookup_tables.specs.declared.lookup_tables.LookupTables.{LookupTables}
+use Rattle.elf_hash.specs.Finding.{scope_cost}
+use Rattle.elf_hash.specs.LookupTablesFound.{IsLookupTables, FindsLookupTables}
+use Rattle.elf_hash.specs.Symbols.{IsDynamicSymbols}
+use Rattle.elf_hash.specs.declared.lookup_tables.LookupTables.{LookupTables}
 use Rattle.elf_capi.specs.Hashed.{PlacesHashed, ReturnsHashedRows, hashed_cost, hashed_of}
 use Rattle.elf_capi.specs.declared.rows.RowPosition.{RowPosition}
 

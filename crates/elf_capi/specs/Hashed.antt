@@ -10,7 +10,7 @@ use Rattle.elf_table.specs.Ledger.{CallReads, fault_of_result}
 use Rattle.elf_table.specs.declared.fault.Fault.{Fault}
 use Rattle.elf_table.specs.declared.fault.Fault.TheVariants.{Refused, Source}
 use Rattle.elf_hash.specs.Extents.{extent_bytes}
-use Rattle.elf_lookup_tables.specs.Finding.{scope_cost}
+use Rattle.elf_hash.specs.Finding.{scope_cost}
 use Rattle.elf_table.specs.Tables.{strings_in}
 use Rattle.elf_capi.specs.declared.rows.RowPosition.{RowPosition}
 

@@ -4,9 +4,8 @@ ghost use Rattle.elf_table.specs.Ledger.{CallDid, fault_of_result};
 ghost use Rattle.elf_capi.specs.Hashed.{FindsHashed, hashed_bytes};
 
 use crate::rows::RowPosition;
-use elf_hash::counts;
+use elf_hash::{counts, find_lookup_tables, Symbols};
 use elf_table::{Fault, HeaderStore};
-use elf_lookup_tables::{Symbols, find_lookup_tables};
 use elf_record::sizes::SYMBOL_BYTES;
 use elf_source::{Counted, Source};
 

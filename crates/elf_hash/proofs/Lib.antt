@@ -7,3 +7,13 @@ pub mod NamedLaws
 pub mod SearchedTableLaws
 pub mod SysvSteps
 pub mod WalkLaws
+pub mod EntryLaws
+pub mod FoundLaws
+pub mod LoadedLaws
+pub mod LoadingLaws
+pub mod LookupTableLaws
+pub mod SectionLaws
+pub mod SegmentLaws
+pub mod SettleLaws
+pub mod VersionLaws
+mod SymbolCountLaws

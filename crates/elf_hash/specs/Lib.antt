@@ -6,3 +6,12 @@ pub mod SearchedTables
 pub mod Tables
 pub mod Trials
 pub mod Walks
+pub mod Entries
+pub mod Finding
+pub mod Headers
+pub mod HashSections
+pub mod Loading
+pub mod LookupTablesFound
+pub mod Segments
+pub mod Symbols
+pub mod Versions

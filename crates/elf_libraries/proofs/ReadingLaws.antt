@@ -20,9 +20,9 @@ use Rattle.elf_table.specs.declared.fault.Fault.{Fault}
 use Rattle.elf_table.specs.declared.fault.Fault.TheVariants.{Refused, Source}
 use Rattle.elf_note.specs.DynCursors.{AreStrings}
 use Rattle.elf_note.specs.declared.string_values.DynamicStrings.{DynamicStrings}
-use Rattle.elf_lookup_tables.proofs.SettleLaws.{checked_fails}
-use Rattle.elf_lookup_tables.specs.Loading.{LoadsSegments}
-use Rattle.elf_lookup_tables.specs.LookupTablesFound.{FindsLookupTables}
+use Rattle.elf_hash.proofs.SettleLaws.{checked_fails}
+use Rattle.elf_hash.specs.Loading.{LoadsSegments}
+use Rattle.elf_hash.specs.LookupTablesFound.{FindsLookupTables}
 use Rattle.elf_table.specs.Sections.{rows}
 use Rattle.elf_table.specs.Tables.{Rows}
 use Rattle.elf_table.specs.Views.{dynamic_table_at}

@@ -12,7 +12,7 @@ ghost use Rattle.elf_libraries.specs.Reading.{ReturnsLookupRefusal, linked_in_se
 use crate::entries::{DynamicTexts, list_link_info, no_link_info};
 use crate::links::{LinkInfo, LinkInfoStore};
 use elf_table::{ExecutionView, Fault, fill, HeaderStore};
-use elf_lookup_tables::{find_in_segments, load_by_segments};
+use elf_hash::{find_in_segments, load_by_segments};
 use elf_note::dynamic_strings;
 use elf_record::numbers::PT_DYNAMIC;
 use elf_record::{Cause, Refusal, u16_at, word};

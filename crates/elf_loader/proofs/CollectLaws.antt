@@ -8,8 +8,8 @@ use Rattle.elf_table.specs.Ledger.{CallReads}
 use Rattle.elf_table.specs.declared.fault.Fault.{Fault}
 use Rattle.elf_table.specs.declared.fault.Fault.TheVariants.{Refused, Source}
 use Rattle.elf_table.proofs.LedgerLaws.{CallReads-more}
-use Rattle.elf_lookup_tables.specs.Symbols.{AreVersymTable}
-use Rattle.elf_lookup_tables.specs.declared.symbols.VersionWords.{VersionWords}
+use Rattle.elf_hash.specs.Symbols.{AreVersymTable}
+use Rattle.elf_hash.specs.declared.symbols.VersionWords.{VersionWords}
 use Rattle.elf_loader.specs.Comparing.{CollectsNumbers, CompareCosts}
 use Rattle.elf_loader.specs.NumberSets.{has_number}
 

@@ -11,8 +11,8 @@ use Rattle.elf_table.specs.declared.fault.Fault.TheVariants.{Refused, Source}
 use Rattle.elf_table.specs.Sections.{rows}
 use Rattle.elf_table.specs.Tables.{Rows, size_of}
 use Rattle.elf_table.specs.Views.{dynamic_table_at}
-use Rattle.elf_lookup_tables.proofs.FoundLaws.{dynamic_is}
-use Rattle.elf_lookup_tables.proofs.SettleLaws.{checked_fails}
+use Rattle.elf_hash.proofs.FoundLaws.{dynamic_is}
+use Rattle.elf_hash.proofs.SettleLaws.{checked_fails}
 use Rattle.elf_loader.specs.Entries.{ReturnsTraitEntries}
 
 module _ (file : List ℕ) (i : ℕ) (e : dynamic_segment_index file ≡ Some i) where

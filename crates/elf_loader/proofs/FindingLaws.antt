@@ -20,7 +20,7 @@ use Rattle.elf_hash.specs.Extents.{extent_bytes}
 use Rattle.elf_loader.specs.Features.{ReturnsValue}
 use Rattle.elf_loader.specs.TraitStages.{marks_asked, marks_told}
 use Rattle.elf_hash.specs.SearchedTables.{place_of_table}
-use Rattle.elf_lookup_tables.proofs.FoundLaws.{size_within}
+use Rattle.elf_hash.proofs.FoundLaws.{size_within}
 use Rattle.elf_loader.specs.Known.{KnownLie, KnownLies, ReturnsKnown, counts_asked}
 use Rattle.elf_loader.specs.Marks.{ReturnsMarks, symbol_traits_of}
 use Rattle.elf_loader.specs.declared.known.CountedSymbols.{CountedSymbols}

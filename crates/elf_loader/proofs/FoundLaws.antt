@@ -18,8 +18,8 @@ use Rattle.elf_table.specs.Ledger.{CallReads}
 use Rattle.elf_table.specs.declared.fault.Fault.{Fault}
 use Rattle.elf_table.specs.declared.fault.Fault.TheVariants.{Refused, Source}
 use Rattle.elf_table.proofs.LedgerLaws.{CallReads-more, CallReads-none}
-use Rattle.elf_lookup_tables.specs.Symbols.{AreVersymTable, IsVersymTable}
-use Rattle.elf_lookup_tables.specs.declared.symbols.VersionWords.{VersionWords as Words}
+use Rattle.elf_hash.specs.Symbols.{AreVersymTable, IsVersymTable}
+use Rattle.elf_hash.specs.declared.symbols.VersionWords.{VersionWords as Words}
 use Rattle.elf_table.specs.Cursors.{row_at}
 use Rattle.elf_loader.specs.FoundVersions.{FindsVersion, IsVersionFound, LookupSpends, IsRelocationReported, name_shown}
 use Rattle.elf_loader.specs.Telling.{ReturnsVersionName, parsed_member_bytes}

@@ -14,8 +14,8 @@ use Rattle.elf_hash.specs.HashStyles.{hash_style_of}
 use Rattle.elf_hash.specs.SearchedTables.{HasCounts, IsPlaceIn, counts_bytes}
 use Rattle.elf_hash.specs.declared.hash_style.HashStyle.{HashStyle as Kind}
 use Rattle.elf_hash.specs.declared.table.HashTable.{HashTable}
-use Rattle.elf_lookup_tables.specs.LookupTablesFound.{IsLookupTables, FindsLookupTables}
-use Rattle.elf_lookup_tables.specs.declared.lookup_tables.LookupTables.{LookupTables}
+use Rattle.elf_hash.specs.LookupTablesFound.{IsLookupTables, FindsLookupTables}
+use Rattle.elf_hash.specs.declared.lookup_tables.LookupTables.{LookupTables}
 use Rattle.elf_loader.specs.Known.{AreKnown, ReturnsKnown, counts_asked, passed_over}
 
 -- a file without a hash table is passed over: then a call did not stop

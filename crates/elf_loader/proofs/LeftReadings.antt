@@ -9,8 +9,8 @@ use Rattle.elf_model.specs.declared.causes.Cause.TheVariants.{VersionCut}
 use Rattle.elf_model.specs.declared.causes.Refusal.{Refusal}
 use Rattle.elf_model.proofs.ReadingLaws.{stands-next}
 use Rattle.elf_model.proofs.VersionSteps.{ends-inside, met-ended, met-most, met-record, met-refused}
-use Rattle.elf_lookup_tables.specs.Symbols.{IsVersionRecordTable}
-use Rattle.elf_lookup_tables.specs.declared.symbols.VersionRecordTable.{VersionRecordTable as Given}
+use Rattle.elf_hash.specs.Symbols.{IsVersionRecordTable}
+use Rattle.elf_hash.specs.declared.symbols.VersionRecordTable.{VersionRecordTable as Given}
 use Rattle.elf_note.specs.Reading.{GivesVersion, LeadsOn, StartsVersions, VersionCursorState, record_position_of, versions_left}
 use Rattle.elf_note.specs.declared.record.VersionRecord.{VersionRecord}
 use Rattle.elf_note.specs.declared.record_position.RecordPosition.{RecordPosition}

@@ -25,9 +25,9 @@ use Rattle.elf_hash.specs.declared.hash_style.HashStyle.TheVariants.{Gnu, Sysv}
 use Rattle.elf_hash.specs.declared.table.HashTable.{HashTable}
 use Rattle.elf_hash.specs.declared.chain_result.ChainResult.{ChainResult}
 use Rattle.elf_hash.proofs.SearchedTableLaws.{walk_in_is}
-use Rattle.elf_lookup_tables.specs.Finding.{scope_cost}
-use Rattle.elf_lookup_tables.specs.LookupTablesFound.{FindsLookupTables, IsLookupTables}
-use Rattle.elf_lookup_tables.specs.declared.lookup_tables.LookupTables.{LookupTables}
+use Rattle.elf_hash.specs.Finding.{scope_cost}
+use Rattle.elf_hash.specs.LookupTablesFound.{FindsLookupTables, IsLookupTables}
+use Rattle.elf_hash.specs.declared.lookup_tables.LookupTables.{LookupTables}
 use Rattle.elf_loader.specs.Answering.{IsSymbolWithVersym}
 use Rattle.elf_loader.specs.Comparing.{CollectsNumbers}
 use Rattle.elf_loader.specs.FoundVersions.{FindsVersion, IsVersionFound}

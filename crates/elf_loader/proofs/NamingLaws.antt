@@ -10,8 +10,8 @@ use Rattle.elf_table.specs.Ledger.{CallReads}
 use Rattle.elf_table.specs.declared.fault.Fault.{Fault}
 use Rattle.elf_table.specs.declared.fault.Fault.TheVariants.{Refused, Source}
 use Rattle.elf_table.proofs.LedgerLaws.{CallReads-more, CallReads-then}
-use Rattle.elf_lookup_tables.specs.Symbols.{IsVersionRecordTable}
-use Rattle.elf_lookup_tables.specs.declared.symbols.VersionRecordTable.{VersionRecordTable as Given}
+use Rattle.elf_hash.specs.Symbols.{IsVersionRecordTable}
+use Rattle.elf_hash.specs.declared.symbols.VersionRecordTable.{VersionRecordTable as Given}
 use Rattle.elf_note.specs.Reading.{SpendsRecord, StartsVersions, ReturnsVersion, VersionCursorState, versions_left}
 use Rattle.elf_loader.specs.Naming.{HasFile, NamedAs, NamesBefore, NamesFile}
 use Rattle.elf_note.specs.declared.record.VersionRecord.{VersionRecord}

@@ -14,9 +14,9 @@ use Rattle.elf_model.specs.declared.causes.Refusal.{Refusal}
 use Rattle.elf_model.specs.declared.versions.VersionKind.{VersionKind}
 use Rattle.elf_model.specs.declared.versions.VersionKind.TheVariants.{Definition, File, Need}
 use Rattle.elf_hash.specs.Walks.{walk_bytes}
-use Rattle.elf_lookup_tables.specs.Symbols.{VersionRecordsInBounds, DynamicSymbolsInBounds}
-use Rattle.elf_lookup_tables.specs.declared.symbols.VersionRecordTable.{VersionRecordTable}
-use Rattle.elf_lookup_tables.specs.declared.symbols.Symbols.{Symbols}
+use Rattle.elf_hash.specs.Symbols.{VersionRecordsInBounds, DynamicSymbolsInBounds}
+use Rattle.elf_hash.specs.declared.symbols.VersionRecordTable.{VersionRecordTable}
+use Rattle.elf_hash.specs.declared.symbols.Symbols.{Symbols}
 use Rattle.elf_loader.specs.Comparing.{comparing_bytes}
 use Rattle.elf_loader.specs.FoundVersions.{LookupSpends}
 use Rattle.elf_loader.specs.Lookups.{lookup_bytes, match_bytes}

@@ -7,8 +7,8 @@ use Rattle.elf_model.specs.declared.causes.Refusal.{Refusal}
 use Rattle.elf_model.specs.declared.versions.VersionKind.{VersionKind}
 use Rattle.elf_model.specs.declared.versions.VersionKind.TheVariants.{Definition, File, Need}
 use Rattle.elf_table.specs.declared.fault.Fault.{Fault}
-use Rattle.elf_lookup_tables.specs.Symbols.{IsVersionRecordTable}
-use Rattle.elf_lookup_tables.specs.declared.symbols.VersionRecordTable.{VersionRecordTable as Given}
+use Rattle.elf_hash.specs.Symbols.{IsVersionRecordTable}
+use Rattle.elf_hash.specs.declared.symbols.VersionRecordTable.{VersionRecordTable as Given}
 use Rattle.elf_table.specs.Tables.{strings_in}
 use Rattle.elf_note.specs.Reading.{GivesVersion, BufferedTable, KeepsWalk, LeadsOn, LeavesWalk, SpendsRecord, StartsVersions, VersionCursorState, bytes_each, unheld, unread, versions_left}
 use Rattle.elf_note.specs.declared.record.VersionRecord.{VersionRecord}

@@ -10,10 +10,10 @@ use Rattle.elf_model.specs.declared.traits.Traits.{Traits}
 use Rattle.elf_table.specs.Store.{StoreState}
 use Rattle.elf_table.specs.declared.fault.Fault.{Fault}
 use Rattle.elf_table.specs.declared.fault.Fault.TheVariants.{Refused, Source}
-use Rattle.elf_lookup_tables.specs.Loading.{LoadsSegments, segments_load_cost}
-use Rattle.elf_lookup_tables.specs.Segments.{entries_asked}
-use Rattle.elf_lookup_tables.proofs.LoadedLaws.{segments_cost}
-use Rattle.elf_lookup_tables.proofs.LoadingLaws.{cost_passed, early_pass}
+use Rattle.elf_hash.specs.Loading.{LoadsSegments, segments_load_cost}
+use Rattle.elf_hash.specs.Segments.{entries_asked}
+use Rattle.elf_hash.proofs.LoadedLaws.{segments_cost}
+use Rattle.elf_hash.proofs.LoadingLaws.{cost_passed, early_pass}
 use Rattle.elf_loader.specs.Features.{ReturnsValue}
 
 -- all that is asked for is within what is never passed

@@ -6,8 +6,8 @@ use Rattle.elf_table.specs.Ledger.{CallReads}
 use Rattle.elf_table.specs.declared.fault.Fault.{Fault}
 use Rattle.elf_table.specs.declared.fault.Fault.TheVariants.{Refused, Source}
 use Rattle.elf_table.proofs.LedgerLaws.{CallReads-more, CallReads-then}
-use Rattle.elf_lookup_tables.specs.Symbols.{AreVersionRecordTables, IsVersionRecordTable}
-use Rattle.elf_lookup_tables.specs.declared.symbols.VersionRecordTable.{VersionRecordTable}
+use Rattle.elf_hash.specs.Symbols.{AreVersionRecordTables, IsVersionRecordTable}
+use Rattle.elf_hash.specs.declared.symbols.VersionRecordTable.{VersionRecordTable}
 use Rattle.elf_loader.specs.Comparing.{CompareCosts}
 use Rattle.elf_loader.specs.Tables.{readings_before}
 use Rattle.elf_loader.proofs.CompareLaws.{as-none, as-then}

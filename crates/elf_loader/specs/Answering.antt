@@ -5,10 +5,10 @@ use Rattle.elf_model.specs.declared.causes.Refusal.{Refusal}
 use Rattle.elf_record.specs.Sym.{IsSym}
 use Rattle.elf_model.specs.Bytes.{field}
 use Rattle.elf_model.specs.Loader.{Symbols as AreSymbolsOf, Wanted, answers}
-use Rattle.elf_lookup_tables.specs.Symbols.{IsDynamicSymbols}
+use Rattle.elf_hash.specs.Symbols.{IsDynamicSymbols}
 use Rattle.elf_table.specs.Cursors.{row_at}
-use Rattle.elf_lookup_tables.specs.declared.symbols.Symbols.{Symbols}
-use Rattle.elf_lookup_tables.specs.declared.symbols.VersionWords.{VersionWords}
+use Rattle.elf_hash.specs.declared.symbols.Symbols.{Symbols}
+use Rattle.elf_hash.specs.declared.symbols.VersionWords.{VersionWords}
 use Rattle.elf_hash.specs.declared.answer.SymbolMatch.{SymbolMatch}
 use Rattle.elf_hash.specs.declared.answer.VersymEntry.{VersymEntry}
 use Rattle.elf_loader.specs.declared.version_match.VersionMatch.{VersionMatch}

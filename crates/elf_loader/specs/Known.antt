@@ -8,8 +8,8 @@ use Rattle.elf_table.specs.Ledger.{CallReads, fault_of_result}
 use Rattle.elf_table.specs.declared.fault.Fault.{Fault}
 use Rattle.elf_table.specs.declared.fault.Fault.TheVariants.{Refused, Source}
 use Rattle.elf_hash.specs.SearchedTables.{IsTable, HashTableInBounds, place_of_table}
-use Rattle.elf_lookup_tables.specs.Segments.{entries_asked}
-use Rattle.elf_lookup_tables.specs.Symbols.{IsDynamicSymbols, DynamicSymbolsInBounds}
+use Rattle.elf_hash.specs.Segments.{entries_asked}
+use Rattle.elf_hash.specs.Symbols.{IsDynamicSymbols, DynamicSymbolsInBounds}
 use Rattle.elf_loader.specs.declared.known.CountedSymbols.{CountedSymbols}
 
 -- a fault of the tables that a lookup searches: without a hash table there are no symbols

@@ -12,8 +12,8 @@ use Rattle.elf_source.specs.Source.{CountedState}
 use Rattle.elf_table.specs.Ledger.{CallReads, CallDid, fault_of_result}
 use Rattle.elf_table.specs.declared.fault.Fault.{Fault}
 use Rattle.elf_table.specs.declared.fault.Fault.TheVariants.{Refused, Source}
-use Rattle.elf_lookup_tables.specs.LookupTablesFound.{IsLookupTables, LookupTablesInBounds}
-use Rattle.elf_lookup_tables.specs.declared.lookup_tables.LookupTables.{LookupTables as ScopeCode}
+use Rattle.elf_hash.specs.LookupTablesFound.{IsLookupTables, LookupTablesInBounds}
+use Rattle.elf_hash.specs.declared.lookup_tables.LookupTables.{LookupTables as ScopeCode}
 use Rattle.elf_loader.specs.FoundVersions.{IsRelocationReported, version_found}
 use Rattle.elf_loader.specs.Telling.{parsed_member_bytes}
 use Rattle.elf_loader.specs.declared.lookup.SymbolLookup.{SymbolLookup}

@@ -2,9 +2,9 @@
 use Rattle.std.specs.Prelude.{ℕ, ◌+◌, List, [], ◌∷◌, ◌++◌, Option, None, Some}
 use Rattle.elf_model.specs.Loader.{VersionRecordTable as IsTableOf, VersionRecordRead, readings, readings_of}
 use Rattle.elf_model.specs.Versions.{max_records}
-use Rattle.elf_lookup_tables.specs.Symbols.{AreVersionRecordTables, IsVersionRecordTable, table_if_any}
-use Rattle.elf_lookup_tables.specs.declared.symbols.VersionRecordTable.{VersionRecordTable}
-use Rattle.elf_lookup_tables.specs.declared.symbols.Symbols.{Symbols}
+use Rattle.elf_hash.specs.Symbols.{AreVersionRecordTables, IsVersionRecordTable, table_if_any}
+use Rattle.elf_hash.specs.declared.symbols.VersionRecordTable.{VersionRecordTable}
+use Rattle.elf_hash.specs.declared.symbols.Symbols.{Symbols}
 
 -- the records that a walk over some tables reads, in front of others
 unfoldable pub readings_before : List ℕ → List IsTableOf → List VersionRecordRead → List VersionRecordRead

@@ -10,7 +10,7 @@ use Rattle.elf_source.specs.Source.{CountedState}
 use Rattle.elf_table.specs.Ledger.{CallReads, fault_of_result}
 use Rattle.elf_table.specs.declared.fault.Fault.{Fault}
 use Rattle.elf_hash.specs.Extents.{extent_bytes}
-use Rattle.elf_lookup_tables.specs.Segments.{entries_asked}
+use Rattle.elf_hash.specs.Segments.{entries_asked}
 use Rattle.elf_loader.specs.Features.{ReturnsValue}
 use Rattle.elf_loader.specs.Marks.{ReturnsMarks}
 use Rattle.elf_loader.specs.declared.symbol_traits.SymbolTraits.{SymbolTraits}

@@ -8,12 +8,11 @@ ghost use Rattle.elf_loader.specs.Telling.{telling_bytes};
 ghost use Rattle.elf_options.specs.Wants.{asked_of};
 ghost use Rattle.elf_model.specs.Loader.{VersionWords as AreWordsOf};
 ghost use Rattle.elf_model.specs.LoaderScope.{LookupTables as IsScopeOf};
-ghost use Rattle.elf_lookup_tables.specs.Symbols.{IsDynamicSymbols, IsVersymTable, DynamicSymbolsInBounds};
+ghost use Rattle.elf_hash.specs.Symbols.{IsDynamicSymbols, IsVersymTable, DynamicSymbolsInBounds};
 
 use crate::resolved_version_name::parsed_member_name;
-use elf_hash::{ChainMatch, VersymEntry};
+use elf_hash::{ChainMatch, Symbols, VersionWords, VersymEntry};
 use elf_table::{Fault, NameBuf, NameEnd};
-use elf_lookup_tables::{Symbols, VersionWords};
 use elf_record::version_number;
 use elf_source::{Counted, Source};
 use elf_options::Asked;

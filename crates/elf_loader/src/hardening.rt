@@ -15,7 +15,7 @@ use crate::trait_notes::x86_feature_word;
 use crate::trait_symbols::find_symbol_traits;
 use crate::traits::traits_with;
 use elf_table::{ExecutionView, Fault, HeaderStore};
-use elf_lookup_tables::load_by_segments;
+use elf_hash::load_by_segments;
 use elf_model::Traits;
 use elf_source::{Counted, Source};
 

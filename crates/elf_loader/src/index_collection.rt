@@ -7,12 +7,12 @@ ghost use Rattle.elf_options.specs.Wants.{asked_of};
 ghost use Rattle.elf_model.specs.Loader.{asked_name};
 ghost use Rattle.elf_model.specs.LoaderFind.{record_cost, version_indices};
 ghost use Rattle.elf_model.specs.LoaderScope.{LookupTables as IsScopeOf};
-ghost use Rattle.elf_lookup_tables.specs.Symbols.{IsDynamicSymbols, VersionRecordsInBounds, DynamicSymbolsInBounds};
+ghost use Rattle.elf_hash.specs.Symbols.{IsDynamicSymbols, VersionRecordsInBounds, DynamicSymbolsInBounds};
 
 use crate::name_comparison::compare_table;
 use crate::version_index_set::VersionIndexSet;
 use elf_table::Fault;
-use elf_lookup_tables::{Symbols, VersionRecordTable};
+use elf_hash::{Symbols, VersionRecordTable};
 use elf_source::{Counted, Source};
 use elf_options::Asked;
 

@@ -4,9 +4,8 @@ ghost use Rattle.elf_table.specs.Ledger.{CallDid, fault_of_result};
 ghost use Rattle.elf_table.specs.Load.{HoldsProgramHeaders};
 ghost use Rattle.elf_loader.specs.Known.{FindsKnown, KnownLie, passed_over};
 
-use elf_hash::{HashTable, counts};
+use elf_hash::{counts, find_in_segments, HashTable, Symbols};
 use elf_table::{ExecutionView, Fault};
-use elf_lookup_tables::{Symbols, find_in_segments};
 use elf_record::{Cause, Refusal};
 use elf_source::{Counted, Source};
 

@@ -13,7 +13,7 @@ ghost use Rattle.elf_model.specs.Loader.{asked_name};
 ghost use Rattle.elf_model.specs.LoaderFind.{loaded_in, looked_by, record_cost, walk_in};
 ghost use Rattle.elf_model.specs.LoaderFind.{version_indices};
 ghost use Rattle.elf_model.specs.Style.{looked_at};
-ghost use Rattle.elf_lookup_tables.specs.LookupTablesFound.{LookupTablesInBounds};
+ghost use Rattle.elf_hash.specs.LookupTablesFound.{LookupTablesInBounds};
 ghost use Rattle.elf_options.specs.Wants.{asked_of, query_of};
 
 use crate::version_matcher::VersionMatcher;
@@ -21,9 +21,8 @@ use crate::index_collection::version_indices;
 use crate::found::version_of;
 use crate::lookup::{FoundSymbol, SymbolLookup};
 use crate::version_index_set::VersionIndexSet;
-use elf_hash::{ChainResult, HashTable, counts, walk};
+use elf_hash::{ChainResult, counts, find_lookup_tables, HashTable, LookupTables, walk};
 use elf_table::{Fault, HeaderStore, NameBuf};
-use elf_lookup_tables::{LookupTables, find_lookup_tables};
 use elf_source::{Counted, Source};
 use elf_options::Wanted;
 

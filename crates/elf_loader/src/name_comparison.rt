@@ -6,13 +6,13 @@ ghost use Rattle.elf_loader.specs.Tables.{OfTable};
 ghost use Rattle.elf_model.specs.Loader.{VersionRecordRead, Meets, compared_with};
 ghost use Rattle.elf_model.specs.Names.{pad64};
 ghost use Rattle.elf_model.specs.Versions.{VisitedRecord, VERSION_NUMBERS, max_records, number_in};
-ghost use Rattle.elf_lookup_tables.specs.Symbols.{VersionRecordsInBounds};
+ghost use Rattle.elf_hash.specs.Symbols.{VersionRecordsInBounds};
 ghost use Rattle.elf_table.specs.Tables.{StringsInBounds, strings_in};
 ghost use Rattle.elf_note.specs.Reading.{IsVersion};
 
 use crate::version_index_set::VersionIndexSet;
 use elf_table::{Fault, Names};
-use elf_lookup_tables::VersionRecordTable;
+use elf_hash::VersionRecordTable;
 use elf_record::version_number;
 use elf_source::{Counted, Source};
 use elf_note::{VersionCursor, VersionRecord};

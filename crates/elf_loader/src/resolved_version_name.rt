@@ -5,11 +5,11 @@ ghost use Rattle.elf_loader.specs.Tables.{max_versions_of};
 ghost use Rattle.elf_loader.specs.Telling.{ReturnsVersionName, parsed_member_bytes};
 ghost use Rattle.elf_model.specs.Loader.{VersionWords as AreWordsOf, naming_of, readings, versym_at};
 ghost use Rattle.elf_model.specs.LoaderScope.{LookupTables as IsScopeOf};
-ghost use Rattle.elf_lookup_tables.specs.Symbols.{IsDynamicSymbols, DynamicSymbolsInBounds};
+ghost use Rattle.elf_hash.specs.Symbols.{IsDynamicSymbols, DynamicSymbolsInBounds};
 
 use crate::version_name_record::name_of;
 use elf_table::{Fault, NameBuf, NameEnd, NameLimit, refused};
-use elf_lookup_tables::Symbols;
+use elf_hash::Symbols;
 use elf_record::Cause;
 use elf_source::{Counted, Source};
 

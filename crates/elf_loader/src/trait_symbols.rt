@@ -6,7 +6,7 @@ ghost use Rattle.elf_model.specs.Loader.{Symbols as AreSymbolsOf};
 ghost use Rattle.elf_model.specs.Traits.{marks_from, no_symbol_traits};
 ghost use Rattle.elf_note.specs.Ahead.{IsAheadOf, ReadsOnCredit, WhereAgrees};
 ghost use Rattle.elf_record.specs.Sym.{IsSym};
-ghost use Rattle.elf_lookup_tables.specs.Symbols.{IsDynamicSymbols, DynamicSymbolsInBounds};
+ghost use Rattle.elf_hash.specs.Symbols.{IsDynamicSymbols, DynamicSymbolsInBounds};
 ghost use Rattle.elf_table.specs.Tables.{TableInBounds, StringsInBounds, strings_in};
 ghost use Rattle.elf_model.specs.Bytes.{slice};
 ghost use Rattle.elf_loader.specs.Marks.{ReturnsMarks, marks_in, symbol_traits_of, marks_with};
@@ -14,7 +14,7 @@ ghost use Rattle.elf_loader.specs.Marks.{ReturnsMarks, marks_in, symbol_traits_o
 use crate::symbol_traits::{SymbolTraits, marked_by, no_symbol_traits};
 use crate::symbol_names::NAME_CAP;
 use elf_table::{Cursor, Fault, NameBuf, NameEnd, Names, Row, Table};
-use elf_lookup_tables::Symbols;
+use elf_hash::Symbols;
 use elf_note::{NameIndex, ReadAhead};
 use elf_record::Sym;
 use elf_record::numbers::SHN_UNDEF;

@@ -6,14 +6,13 @@ ghost use Rattle.elf_loader.specs.NumberSets.{has_number};
 ghost use Rattle.elf_options.specs.Wants.{asked_of};
 ghost use Rattle.elf_model.specs.Bytes.{field, slice};
 ghost use Rattle.elf_model.specs.Loader.{VersionWords as AreWordsOf, fits, version_fits};
-ghost use Rattle.elf_lookup_tables.specs.Symbols.{AreVersymTable};
+ghost use Rattle.elf_hash.specs.Symbols.{AreVersymTable};
 ghost use Rattle.elf_table.specs.Tables.{TableInBounds};
 ghost use Rattle.std.specs.Prelude.{Option};
 
 use crate::version_index_set::VersionIndexSet;
-use elf_hash::VersymEntry;
+use elf_hash::{VersionWords, VersymEntry};
 use elf_table::{Fault, fill, refused};
-use elf_lookup_tables::VersionWords;
 use elf_record::{Cause, u16_at, version_number};
 use elf_source::{Counted, Source};
 use elf_options::Asked;

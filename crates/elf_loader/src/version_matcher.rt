@@ -6,14 +6,13 @@ ghost use Rattle.elf_loader.specs.NumberSets.{has_number};
 ghost use Rattle.elf_options.specs.Wants.{query_of};
 ghost use Rattle.elf_model.specs.Loader.{Symbols as AreSymbolsOf, answers};
 ghost use Rattle.elf_model.specs.Names.{pad64};
-ghost use Rattle.elf_lookup_tables.specs.Symbols.{IsDynamicSymbols, DynamicSymbolsInBounds};
+ghost use Rattle.elf_hash.specs.Symbols.{IsDynamicSymbols, DynamicSymbolsInBounds};
 
 use crate::version_match::version_fits;
 use crate::version_index_set::VersionIndexSet;
 use crate::exported::is_exported;
-use elf_hash::{Matcher, SymbolMatch};
+use elf_hash::{Matcher, SymbolMatch, Symbols};
 use elf_table::Fault;
-use elf_lookup_tables::Symbols;
 use elf_source::{Counted, Source};
 use elf_options::Wanted;
 

@@ -4,11 +4,11 @@ ghost use Rattle.elf_loader.specs.Naming.{HasFile, IsFileIf, NamedInBounds, Name
 ghost use Rattle.elf_loader.specs.Tables.{OfAnyTable, OfTable, OfTables, max_records_of, max_versions_of};
 ghost use Rattle.elf_model.specs.BoundSymbols.{file_before, file_or};
 ghost use Rattle.elf_model.specs.Versions.{VisitedRecord, max_records, names_version_index};
-ghost use Rattle.elf_lookup_tables.specs.Symbols.{VersionRecordsInBounds, DynamicSymbolsInBounds};
+ghost use Rattle.elf_hash.specs.Symbols.{VersionRecordsInBounds, DynamicSymbolsInBounds};
 ghost use Rattle.elf_note.specs.Reading.{IsVersion};
 
 use elf_table::{Fault, Names};
-use elf_lookup_tables::{Symbols, VersionRecordTable};
+use elf_hash::{Symbols, VersionRecordTable};
 use elf_record::{VersionKind, version_number};
 use elf_source::{Counted, Source};
 use elf_note::{VersionCursor, VersionRecord};

@@ -3,7 +3,7 @@ use Rattle.std.proofs.Common.{ℕ, ◌/◌, ap, sym, ◌∙◌, arith}
 use Rattle.std.proofs.lemmas.Result.{err_from_is_err_and}
 use Rattle.elf_table.proofs.Absent.{none-of}
 use Rattle.elf_table.proofs.LedgerLaws.{CallDid-as, CallDid-none, CallDid-stop, CallDid-then}
-use Rattle.elf_lookup_tables.proofs.FoundLaws.{dynamic_is, index_is, size_within}
+use Rattle.elf_hash.proofs.FoundLaws.{dynamic_is, index_is, size_within}
 use Rattle.elf_libraries.proofs.LoopLaws.{read_links_stop}
 use Rattle.elf_libraries.proofs.ReadingLaws.{entries_are, links_as, rows_most, segments_none, table_stops}
 use Rattle.elf_libraries.proofs.link_reader.entry_links.Goals as goal

@@ -4,7 +4,7 @@ use Rattle.elf_model.specs.declared.traits.Traits.{Traits}
 use Rattle.std.proofs.lemmas.Result.{err_from_is_err_and}
 use Rattle.elf_model.specs.TraitCost.{properties_asked, trait_entries_asked}
 use Rattle.elf_table.proofs.LedgerLaws.{CallReads-more, CallReads-then, CallDid-as, CallDid-then}
-use Rattle.elf_lookup_tables.specs.Segments.{entries_asked}
+use Rattle.elf_hash.specs.Segments.{entries_asked}
 use Rattle.elf_loader.specs.Known.{counts_asked}
 use Rattle.elf_loader.proofs.FindingLaws.{entries_stop, known_is, known_lie, known_stops, marks_stop, symbols_cost, traits_are, word_stops}
 use Rattle.elf_loader.proofs.hardening.find_traits_by_segments.Goals as goal

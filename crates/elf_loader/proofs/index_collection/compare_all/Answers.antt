@@ -4,7 +4,7 @@ use Rattle.std.proofs.lemmas.Result.{err_from_is_err_and}
 use Rattle.elf_table.proofs.LedgerLaws.{CallDid-as, CallDid-then}
 use Rattle.elf_model.specs.Loader.{compared_with, readings}
 use Rattle.elf_model.specs.Names.{pad64}
-use Rattle.elf_lookup_tables.specs.Symbols.{table_if_any}
+use Rattle.elf_hash.specs.Symbols.{table_if_any}
 use Rattle.elf_loader.specs.Tables.{max_records_of, readings_before}
 use Rattle.elf_loader.proofs.TablesLaws.{compares-fault, compares-then, part, read-parted, sum-pays}
 use Rattle.elf_loader.proofs.index_collection.compare_all.Goals as goal

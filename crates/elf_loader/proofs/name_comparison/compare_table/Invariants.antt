@@ -3,7 +3,7 @@ use Rattle.std.proofs.Common.{◌+◌, ◌*◌, List, length, None}
 use Rattle.elf_table.specs.Ledger.{CallDid}
 use Rattle.elf_model.specs.Loader.{VersionRecordRead, VersionRecordTable as IsTableOf, compared_with, readings_of}
 use Rattle.elf_model.specs.Names.{pad64}
-use Rattle.elf_lookup_tables.specs.Symbols.{IsVersionRecordTable}
+use Rattle.elf_hash.specs.Symbols.{IsVersionRecordTable}
 use Rattle.elf_note.specs.Reading.{IsCursorOf}
 use Rattle.elf_loader.specs.Comparing.{CompareProgress}
 use Rattle.elf_loader.proofs.LeftReadings.{left_of}

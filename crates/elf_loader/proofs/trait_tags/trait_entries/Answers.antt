@@ -3,7 +3,7 @@ use Rattle.std.proofs.Common.{ap, sym, ◌∙◌, arith}
 use Rattle.std.proofs.lemmas.Result.{err_from_is_err_and}
 use Rattle.elf_table.specs.Tables.{Rows}
 use Rattle.elf_table.proofs.LedgerLaws.{CallDid-as, CallDid-none, CallDid-stop}
-use Rattle.elf_lookup_tables.proofs.FoundLaws.{dynamic_is, index_is, size_within}
+use Rattle.elf_hash.proofs.FoundLaws.{dynamic_is, index_is, size_within}
 use Rattle.elf_table.proofs.Absent.{none-of}
 use Rattle.elf_loader.proofs.EntryLaws.{entries_refused, entries_within}
 use Rattle.elf_loader.proofs.FindingLaws.{listed_did, listed_finds}

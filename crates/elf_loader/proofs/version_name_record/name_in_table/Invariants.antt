@@ -4,7 +4,7 @@ use Rattle.elf_table.specs.Ledger.{CallDid}
 use Rattle.elf_model.specs.BoundSymbols.{file_before}
 use Rattle.elf_model.specs.Loader.{VersionRecordRead, VersionRecordTable as IsTableOf, naming_of, readings_of}
 use Rattle.elf_model.specs.Versions.{VisitedRecord}
-use Rattle.elf_lookup_tables.specs.Symbols.{IsVersionRecordTable}
+use Rattle.elf_hash.specs.Symbols.{IsVersionRecordTable}
 use Rattle.elf_note.specs.Reading.{IsCursorOf}
 use Rattle.elf_loader.specs.Naming.{IsFileIf, NamedAs}
 use Rattle.elf_loader.proofs.LeftReadings.{left_of}

@@ -3,7 +3,7 @@ use Rattle.std.proofs.Common.{[], ap, ◌∙◌, arith}
 use Rattle.std.proofs.lemmas.Result.{err_from_is_err_and}
 use Rattle.elf_table.proofs.LedgerLaws.{CallDid-as, CallDid-then}
 use Rattle.elf_model.specs.Loader.{naming_of}
-use Rattle.elf_lookup_tables.specs.Symbols.{table_if_any}
+use Rattle.elf_hash.specs.Symbols.{table_if_any}
 use Rattle.elf_table.proofs.Absent.{none-of}
 use Rattle.elf_loader.specs.Tables.{max_records_of, readings_before}
 use Rattle.elf_loader.proofs.NamingLaws.{fault-of, file-some, file-then, names-then, some-of}

@@ -1,0 +1,66 @@
+-- The first of dynamic entries with each of the tags that locate a lookup's tables.
+use Rattle.std.specs.Prelude.{ℕ, zero, suc, ◌≡◌, ◌+◌, ◌==◌, true, false, List, Option, None, Some, option_map}
+use Rattle.elf_model.specs.Dynamic.{dynamic_count}
+use Rattle.elf_model.specs.LoaderScope.{tagged_row}
+use Rattle.elf_model.specs.Numbers.{DT_HASH, DT_GNU_HASH, DT_SYMTAB, DT_STRTAB, DT_STRSZ, DT_VERSYM, DT_VERDEF, DT_VERNEED}
+use Rattle.elf_model.specs.Records.{d_tag, d_un}
+use Rattle.elf_model.specs.Tables.{DYNAMIC_SIZE}
+use Rattle.elf_table.specs.Tables.{Rows}
+use Rattle.elf_hash.specs.declared.dyn_entry.DynamicTags.{DynamicTags}
+use Rattle.elf_hash.specs.declared.dyn_entry.DynEntry.{DynEntry}
+
+-- the entry at an offset
+abbrev pub dynamic_entry_at : List ℕ → ℕ → DynEntry
+dynamic_entry_at file at = record { at = at; value = d_un file at }
+
+-- the same, where it has a tag
+abbrev pub entry_here : List ℕ → ℕ → ℕ → Option DynEntry
+entry_here file at tag = elim (d_tag file at == tag) [ true ↦ Some (dynamic_entry_at file at) | false ↦ None ]
+
+-- an entry, or another where there is none
+abbrev pub first_entry : Option DynEntry → Option DynEntry → Option DynEntry
+first_entry (Some entry) other = Some entry
+first_entry None other = other
+
+-- the first of the n entries at an offset that has a tag
+unfoldable pub tagged_entry : List ℕ → ℕ → ℕ → ℕ → Option DynEntry
+tagged_entry file at zero tag = None
+tagged_entry file at (suc n) tag = elim (d_tag file at == tag) [ true ↦ Some (dynamic_entry_at file at) | false ↦ tagged_entry file (at + DYNAMIC_SIZE) n tag ]
+
+-- the first listed entry with a tag, of those of a table
+abbrev pub listed_entry : List ℕ → Rows → ℕ → Option DynEntry
+listed_entry file table tag = tagged_entry file table.at (dynamic_count file table.at table.count) tag
+
+-- something is so of the entry with each tag
+pub record EachTag (P : Option DynEntry → ℕ → Type 0) (found : DynamicTags) : Type 0 where
+  pub hash : P found.hash DT_HASH
+  pub gnu_hash : P found.gnu_hash DT_GNU_HASH
+  pub symtab : P found.symtab DT_SYMTAB
+  pub strtab : P found.strtab DT_STRTAB
+  pub strsz : P found.strsz DT_STRSZ
+  pub versym : P found.versym DT_VERSYM
+  pub verdef : P found.verdef DT_VERDEF
+  pub verneed : P found.verneed DT_VERNEED
+
+-- no entry
+abbrev pub no_entries : DynamicTags
+no_entries = record { hash = None; gnu_hash = None; symtab = None; strtab = None; strsz = None; versym = None; verdef = None; verneed = None }
+
+-- the entry at an offset is taken in behind others
+pub record TakesEntry (file : List ℕ) (at : ℕ) (old new : DynamicTags) : Type 0 where
+  pub hash : new.hash ≡ first_entry old.hash (entry_here file at DT_HASH)
+  pub gnu_hash : new.gnu_hash ≡ first_entry old.gnu_hash (entry_here file at DT_GNU_HASH)
+  pub symtab : new.symtab ≡ first_entry old.symtab (entry_here file at DT_SYMTAB)
+  pub strtab : new.strtab ≡ first_entry old.strtab (entry_here file at DT_STRTAB)
+  pub strsz : new.strsz ≡ first_entry old.strsz (entry_here file at DT_STRSZ)
+  pub versym : new.versym ≡ first_entry old.versym (entry_here file at DT_VERSYM)
+  pub verdef : new.verdef ≡ first_entry old.verdef (entry_here file at DT_VERDEF)
+  pub verneed : new.verneed ≡ first_entry old.verneed (entry_here file at DT_VERNEED)
+
+-- they are the first listed entries of a table
+abbrev pub AreListed : List ℕ → Rows → DynamicTags → Type 0
+AreListed file table found = EachTag (λ entry tag. entry ≡ listed_entry file table tag) found
+
+-- they are those of the segment whose program header stands at an offset
+abbrev pub AreTaggedEntries : List ℕ → ℕ → DynamicTags → Type 0
+AreTaggedEntries file at found = EachTag (λ entry tag. entry ≡ option_map (dynamic_entry_at file) (tagged_row file at tag)) found

@@ -1,0 +1,35 @@
+-- The tables that a lookup searches in a file, and what finding them costs.
+use Rattle.std.specs.Prelude.{ℕ, ◌+◌, ◌*◌, ◌==◌, true, false, List, None, Some, Result}
+use Rattle.elf_model.specs.Checks.{first_refusal, before_headers}
+use Rattle.elf_model.specs.Cost.{cost_where}
+use Rattle.elf_model.specs.LoaderFind.{segments_asked}
+use Rattle.elf_model.specs.LoaderScope.{LookupTables as IsScopeOf, scope_by_sections, lookup_tables_by_segments, lookup_tables_of}
+use Rattle.elf_model.specs.Records.{FILE_HEADER_SIZE, SECTION_HEADER_SIZE, PROGRAM_HEADER_SIZE, e_shnum}
+use Rattle.elf_model.specs.declared.causes.Refusal.{Refusal}
+use Rattle.elf_record.specs.declared.ehdr.Ehdr.{Ehdr}
+use Rattle.elf_source.specs.Source.{CountedState}
+use Rattle.elf_table.specs.Ledger.{CallReads, fault_of_result}
+use Rattle.elf_table.specs.declared.fault.Fault.{Fault}
+use Rattle.elf_hash.specs.LookupTablesFound.{FindsLookupTables}
+use Rattle.elf_hash.specs.declared.lookup_tables.LookupTables.{LookupTables}
+
+-- the tables that a lookup searches in a file whose load checks pass
+abbrev pub scope_loaded : List ℕ → Result IsScopeOf Refusal
+scope_loaded file = elim (e_shnum file == 0) [ true ↦ lookup_tables_by_segments file | false ↦ scope_by_sections file ]
+
+-- how many bytes it may ask for, with so many headers permitted: the file header, and where the early checks pass the headers
+abbrev pub scope_cost : List ℕ → ℕ → ℕ
+scope_cost file headers = elim (first_refusal (before_headers file headers)) [
+  | Some refusal ↦ FILE_HEADER_SIZE
+  | None ↦ FILE_HEADER_SIZE + SECTION_HEADER_SIZE * e_shnum file + segments_asked file
+]
+
+-- THE TABLES THAT A LOOKUP SEARCHES in a file, where it is known
+pub record FindsScope (file : List ℕ) (headers : ℕ) (old new : CountedState) (result : Result LookupTables Fault) : Type 0 where
+  pub costs : CallReads old new (fault_of_result result) (scope_cost file headers)
+  pub finds : FindsLookupTables file (lookup_tables_of file headers) result
+
+-- how many bytes are asked for behind the section headers in a file of this size: the program headers and the dynamic entries,
+-- where there are no sections
+abbrev pub segments_bytes : Ehdr → ℕ → ℕ
+segments_bytes header size = cost_where (header.e_shnum == 0) (PROGRAM_HEADER_SIZE * header.e_phnum + size)

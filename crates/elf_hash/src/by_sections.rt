@@ -1,0 +1,91 @@
+//! The tables that a lookup searches, by the section headers.
+ghost use Rattle.std.specs.Prelude.{◌≡◌, ◌<◌, ◌^◌, ℕ, List, IfSome};
+ghost use Rattle.std.specs.Option.{option_map};
+ghost use Rattle.elf_model.specs.LoaderScope.{hash_section, scope_by_sections, section_checks, section_lookup_tables};
+ghost use Rattle.elf_model.specs.Records.{section_at};
+ghost use Rattle.elf_table.specs.Load.{HoldsSectionHeaders};
+ghost use Rattle.elf_table.specs.HashSections.{ChecksThenValue};
+ghost use Rattle.elf_hash.specs.HashStyles.{hash_style_of};
+ghost use Rattle.elf_hash.specs.Headers.{FindsIn, HasHeader};
+ghost use Rattle.elf_hash.specs.HashSections.{found_at};
+ghost use Rattle.elf_hash.specs.LookupTablesFound.{FindsLookupTables, IsLookupTables, LookupTablesInBounds};
+
+use crate::lookup_tables::LookupTables;
+use crate::section_versions::section_versions;
+use crate::symbols::Symbols;
+use crate::hash_style::HashStyle;
+use crate::place::HashTableLocation;
+use elf_table::{Fault, File, refused};
+use elf_record::Cause;
+use elf_record::gnu_numbers::SHT_GNU_HASH;
+use elf_record::numbers::SHT_HASH;
+
+/// The tables that a lookup searches, by the section headers. No bytes are read.
+///
+/// # Errors
+/// The first that fails: `NoHash` at 0x28 where there is no section with a hash table; the checks of
+/// the hash table's section and of the symbols that it links to, as [`File::hashed`]; those of the
+/// tables of versions.
+pub(crate) fn by_sections(file: &File<'_>) -> Result<LookupTables, Fault>
+    requires small { file.now.loaded.size < 2 ^ 63 }
+    ensures { FindsIn HoldsSectionHeaders file.now.loaded file.now.store.now result LookupTablesInBounds
+        (λ bytes. FindsLookupTables bytes (scope_by_sections bytes) result) }
+{
+    let Some((kind, section)) = hash_section(file) else {
+        return refused(0x28, Cause::NoHash);
+    };
+    section_lookup_tables(file, kind, section)
+}
+
+/// The first section with a hash table of the GNU system, else the first with one of the gABI.
+fn hash_section(file: &File<'_>) -> Option<(HashStyle, u16)>
+    ensures below { IfSome result (λ found. found.1 < file.now.store.now.loaded) }
+    ensures held { (bytes : List ℕ) → HoldsSectionHeaders bytes file.now.loaded file.now.store.now →
+        hash_section bytes ≡ option_map (found_at bytes) result }
+{
+    if let Some(section) = file.first(SHT_GNU_HASH) {
+        return Some((HashStyle::Gnu, section));
+    }
+    let Some(section) = file.first(SHT_HASH) else {
+        return None;
+    };
+    Some((HashStyle::Sysv, section))
+}
+
+/// The tables that a lookup searches, by a section with a hash table.
+///
+/// # Errors
+/// The first check that fails: those of [`File::hashed`], then of the tables of versions.
+fn section_lookup_tables(
+    file: &File<'_>,
+    kind: HashStyle,
+    section: u16,
+) -> Result<LookupTables, Fault>
+    requires { HasHeader section file.now.store.now.loaded file.now.loaded.size }
+    ensures { FindsIn HoldsSectionHeaders file.now.loaded file.now.store.now result LookupTablesInBounds (λ bytes.
+        ChecksThenValue (section_checks bytes (hash_style_of kind) (section_at bytes section))
+        (IsLookupTables bytes (section_lookup_tables bytes (hash_style_of kind) (section_at bytes section)))
+        result) }
+{
+    let (index, (table, names)) = file.hashed(section, kind.min_hash_bytes())?;
+    let header = file.section(section);
+    let versions = section_versions(file, header.sh_link)?;
+    Ok(LookupTables {
+        machine: file.loaded.header().e_machine,
+        hash: HashTableLocation {
+            kind,
+            head: file.place(section),
+            at: header.sh_offset,
+            size: header.sh_size,
+            symbols: table.len(),
+        },
+        symbols: Symbols {
+            index,
+            table,
+            names,
+            words: versions.words,
+            definitions: versions.definitions,
+            needs: versions.needs,
+        },
+    })
+}

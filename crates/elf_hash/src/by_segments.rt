@@ -1,0 +1,140 @@
+//! The tables that a lookup searches, by the program headers.
+ghost use Rattle.std.specs.Prelude.{◌≡◌, ◌<◌, ◌^◌, ℕ, List};
+ghost use Rattle.elf_model.specs.LoaderScope.{lookup_tables_by_segments, scope_in_segments, has_wide_kind, segment_checks, segment_lookup_tables};
+ghost use Rattle.elf_model.specs.Records.{d_un, segment_at};
+ghost use Rattle.elf_table.specs.Load.{HoldsProgramHeaders};
+ghost use Rattle.elf_table.specs.HashSections.{ChecksThenValue};
+ghost use Rattle.elf_hash.specs.Entries.{AreTaggedEntries};
+ghost use Rattle.elf_hash.specs.HashStyles.{hash_style_of};
+ghost use Rattle.elf_hash.specs.Headers.{FindsIn, HasHeader, IsOfSource};
+ghost use Rattle.elf_hash.specs.LookupTablesFound.{FindsLookupTables, IsLookupTables, LookupTablesInBounds};
+ghost use Rattle.elf_hash.specs.Segments.{FindsSegments, ReturnsHash, scope_by_entries};
+
+use crate::dynamic_tags::first_entries;
+use crate::dyn_entry::{DynEntry, DynamicTags};
+use crate::lookup_tables::LookupTables;
+use crate::segment_symbols::segment_symbols;
+use crate::hash_style::HashStyle;
+use crate::place::HashTableLocation;
+use elf_table::{ExecutionView, Fault, refused};
+use elf_record::Cause;
+use elf_record::numbers::{EM_ALPHA, PT_DYNAMIC};
+use elf_source::{Counted, Source};
+
+/// The tables that a lookup searches by the program headers: by the dynamic entries of the first
+/// segment of such, which are read, each byte at most once.
+///
+/// # Errors
+/// The first that fails: the check of [`ExecutionView::check_overlaps`]; `NoHash` at 0x20 where there is
+/// no such segment, and where none of its entries locates a hash table; before the latter the checks
+/// of [`ExecutionView::dynamic`]; then those of the entries. Else a fault of a read, or a refusal for
+/// want of budget, at an entry's offset.
+pub fn find_in_segments<S: Source>(
+    src: &mut Counted<S>,
+    view: &ExecutionView<'_>,
+) -> Result<LookupTables, Fault>
+    requires { IsOfSource src.old view.now.loaded }
+    ensures { FindsSegments view.now lookup_tables_by_segments src.old src.new result }
+{
+    view.check_overlaps()?;
+    in_segments(src, view)
+}
+
+/// The same behind the check that no LOAD segment lies over another.
+fn in_segments<S: Source>(
+    src: &mut Counted<S>,
+    view: &ExecutionView<'_>,
+) -> Result<LookupTables, Fault>
+    requires { IsOfSource src.old view.now.loaded }
+    ensures { FindsSegments view.now scope_in_segments src.old src.new result }
+{
+    let Some(segment) = view.first_segment(PT_DYNAMIC) else {
+        return refused(0x20, Cause::NoHash);
+    };
+    let table = view.dynamic(segment)?;
+    let found = first_entries(src, table)?;
+    by_entries(view, segment, &found)
+}
+
+/// The tables that a lookup searches, by the entries of a segment.
+fn by_entries(
+    view: &ExecutionView<'_>,
+    segment: u16,
+    found: &DynamicTags,
+) -> Result<LookupTables, Fault>
+    requires { HasHeader segment view.now.store.now.segments view.now.loaded.size }
+    ensures { FindsIn HoldsProgramHeaders view.now.loaded view.now.store.now result LookupTablesInBounds (λ bytes.
+        AreTaggedEntries bytes (segment_at bytes segment) found.now →
+        FindsLookupTables bytes (scope_by_entries bytes segment (segment_at bytes segment)) result) }
+{
+    let Some((kind, row)) = hash_entry(found) else {
+        return refused(0x20, Cause::NoHash);
+    };
+    segment_lookup_tables(view, segment, found, kind, &row)
+}
+
+/// The entry that locates a hash table: of the GNU system's, else of the gABI's.
+fn hash_entry(found: &DynamicTags) -> Option<(HashStyle, DynEntry)>
+    ensures { (bytes : List ℕ) (at : ℕ) → AreTaggedEntries bytes at found.now →
+        ReturnsHash bytes at result }
+{
+    if let Some(row) = found.gnu_hash {
+        return Some((HashStyle::Gnu, row));
+    }
+    let Some(row) = found.hash else {
+        return None;
+    };
+    Some((HashStyle::Sysv, row))
+}
+
+/// The tables that a lookup searches, by the entry that locates the hash table and the others.
+///
+/// # Errors
+/// The first that fails: those of [`ExecutionView::rest`] for the hash table; `HashShape` at its entry
+/// where it is too small for its counts, and where its words have 8 bytes; those of the symbols.
+fn segment_lookup_tables(
+    view: &ExecutionView<'_>,
+    segment: u16,
+    found: &DynamicTags,
+    kind: HashStyle,
+    row: &DynEntry,
+) -> Result<LookupTables, Fault>
+    requires { HasHeader segment view.now.store.now.segments view.now.loaded.size }
+    ensures { FindsIn HoldsProgramHeaders view.now.loaded view.now.store.now result LookupTablesInBounds (λ bytes.
+        AreTaggedEntries bytes (segment_at bytes segment) found.now →
+        d_un bytes row.now.at ≡ row.now.value →
+        ChecksThenValue (segment_checks bytes (hash_style_of kind) (segment_at bytes segment) row.now.at)
+        (IsLookupTables bytes
+        (segment_lookup_tables bytes (hash_style_of kind) segment (segment_at bytes segment) row.now.at))
+        result) }
+{
+    let hash = view.rest(row.value, row.at)?;
+    let wide = has_64_bit_words(view, kind);
+    if hash.len() < kind.min_hash_bytes() || wide {
+        return refused(row.at, Cause::HashShape);
+    }
+    let symbols = segment_symbols(view, segment, found, row.at)?;
+    Ok(LookupTables {
+        machine: view.loaded.header().e_machine,
+        hash: HashTableLocation {
+            kind,
+            head: row.at,
+            at: hash.at(),
+            size: hash.len(),
+            symbols: symbols.table.len(),
+        },
+        symbols,
+    })
+}
+
+/// Whether the words of a hash table have 8 bytes: in files of Alpha those of the gABI's have. No
+/// entry has their size.
+fn has_64_bit_words(view: &ExecutionView<'_>, kind: HashStyle) -> bool
+    ensures { (bytes : List ℕ) → HoldsProgramHeaders bytes view.now.loaded view.now.store.now →
+        result ≡ has_wide_kind bytes (hash_style_of kind) }
+{
+    match kind {
+        HashStyle::Gnu => false,
+        HashStyle::Sysv => view.loaded.header().e_machine == EM_ALPHA,
+    }
+}

@@ -1,0 +1,86 @@
+//! The dynamic entries that tell of a lookup's tables.
+ghost use Rattle.std.specs.Prelude.{◌≡◌, ℕ, List, IfErr, IfOk};
+ghost use Rattle.elf_record.specs.Dyn.{IsDyn};
+ghost use Rattle.elf_table.specs.Faults.{IsOfRead};
+ghost use Rattle.elf_table.specs.Ledger.{CallDid, fault_of_result};
+ghost use Rattle.elf_table.specs.Tables.{TableInBounds, size_of};
+ghost use Rattle.elf_hash.specs.Entries.{AreListed, TakesEntry, entry_here, first_entry, no_entries};
+
+use crate::dyn_entry::{DynEntry, DynamicTags};
+use elf_table::{Fault, Table};
+use elf_note::{dynamic_rows, entry_in};
+use elf_record::Dyn;
+use elf_record::gnu_numbers::{DT_GNU_HASH, DT_VERDEF, DT_VERNEED, DT_VERSYM};
+use elf_record::numbers::{DT_HASH, DT_STRSZ, DT_STRTAB, DT_SYMTAB};
+use elf_source::{Counted, Source};
+
+/// Goes over the dynamic entries of a table, whose rows have 16 bytes, up to and with the first
+/// DT_NULL, and answers the first entry with each of the tags that tell of a lookup's tables. It asks
+/// for each byte of the table at most once.
+///
+/// # Errors
+/// A fault of a read, or a refusal for want of budget, at an entry's offset.
+pub(crate) fn first_entries<S: Source>(
+    src: &mut Counted<S>,
+    table: Table,
+) -> Result<DynamicTags, Fault>
+    requires rows { table.entry ≡ 16 }
+    requires within { TableInBounds src.old.seen.size table }
+    ensures did { CallDid src.old src.new (fault_of_result result) (size_of table)
+        (λ file. IfOk result (AreListed file table)) }
+    ensures fault { IfErr result IsOfRead }
+{
+    let mut found = nothing();
+    let mut cursor = dynamic_rows(table);
+    'entries: while cursor.advance(src)? {
+        let row = cursor.row();
+        found = with_entry(&found, row.at, &entry_in(&row));
+    }
+    Ok(found)
+}
+
+/// No entry.
+fn nothing() -> DynamicTags
+    ensures { result ≡ no_entries }
+{
+    DynamicTags {
+        hash: None,
+        gnu_hash: None,
+        symtab: None,
+        strtab: None,
+        strsz: None,
+        versym: None,
+        verdef: None,
+        verneed: None,
+    }
+}
+
+/// The first entries, with one behind those that they are of.
+fn with_entry(found: &DynamicTags, at: u64, entry: &Dyn) -> DynamicTags
+    ensures { (file : List ℕ) → IsDyn file at entry.now → TakesEntry file at found.now result }
+{
+    DynamicTags {
+        hash: first_of(found.hash, DT_HASH, at, entry),
+        gnu_hash: first_of(found.gnu_hash, DT_GNU_HASH, at, entry),
+        symtab: first_of(found.symtab, DT_SYMTAB, at, entry),
+        strtab: first_of(found.strtab, DT_STRTAB, at, entry),
+        strsz: first_of(found.strsz, DT_STRSZ, at, entry),
+        versym: first_of(found.versym, DT_VERSYM, at, entry),
+        verdef: first_of(found.verdef, DT_VERDEF, at, entry),
+        verneed: first_of(found.verneed, DT_VERNEED, at, entry),
+    }
+}
+
+/// An entry that was found, or this one where it has the tag.
+fn first_of(found: Option<DynEntry>, tag: u64, at: u64, entry: &Dyn) -> Option<DynEntry>
+    ensures { (file : List ℕ) → IsDyn file at entry.now →
+        result ≡ first_entry found (entry_here file at tag) }
+{
+    if found.is_none() && entry.d_tag.cast_unsigned() == tag {
+        return Some(DynEntry {
+            at,
+            value: entry.d_un,
+        });
+    }
+    found
+}

@@ -1,0 +1,168 @@
+//! The tables of versions by the section headers.
+ghost use Rattle.std.specs.Prelude.{◌≡◌, ◌<◌, ◌^◌, ℕ, List, [], IfErr, IfSome};
+ghost use Rattle.elf_model.specs.LoaderScope.{checks_of_type, has_bytes, records_of_type, section_words, version_checks, words_section};
+ghost use Rattle.elf_model.specs.Numbers.{SHT_GNU_VERDEF, SHT_GNU_VERNEED};
+ghost use Rattle.elf_model.specs.Records.{section_at, sh_link};
+ghost use Rattle.elf_model.specs.Tables.{all_checks};
+ghost use Rattle.elf_model.specs.VersionRows.{version_table};
+ghost use Rattle.elf_model.specs.declared.versions.VersionKind.TheVariants.{Definition, File as NeededFile, Need};
+ghost use Rattle.elf_table.specs.Load.{HoldsSectionHeaders};
+ghost use Rattle.elf_table.specs.HashSections.{ChecksThenValue};
+ghost use Rattle.elf_table.specs.Sections.{string_table_at};
+ghost use Rattle.elf_table.specs.Tables.{TableInBounds, StringsInBounds};
+ghost use Rattle.elf_hash.specs.Headers.{FindsIn, HasHeader};
+ghost use Rattle.elf_hash.specs.Symbols.{AreVersymTable, IsVersionRecordTable, VersionRecordsInBounds};
+ghost use Rattle.elf_hash.specs.Versions.{AreInFront, AreVersions, VersionsInBounds, records_at, words_checks};
+
+use crate::symbols::{VersionRecordTable, VersionWords};
+use crate::versions::VersionTables;
+use elf_table::{Fault, File, Names, refused, Table};
+use elf_record::gnu_numbers::{SHT_GNU_VERDEF, SHT_GNU_VERNEED, SHT_GNU_VERSYM};
+use elf_record::sizes::SYMBOL_VERSION_BYTES;
+use elf_record::{Cause, VersionKind};
+
+/// The tables of versions of the symbols that the section of a hash table links to: of the first
+/// sections of their types, the words, the definitions and the needs; nothing where there are no
+/// words, or where neither the definitions nor the needs have a byte.
+///
+/// # Errors
+/// The first check that fails: those of the words, of the definitions, of the needs.
+pub(crate) fn section_versions(file: &File<'_>, link: u32) -> Result<VersionTables, Fault>
+    requires small { file.now.loaded.size < 2 ^ 63 }
+    ensures { FindsIn HoldsSectionHeaders file.now.loaded file.now.store.now result VersionsInBounds (λ bytes.
+        (at : ℕ) → sh_link bytes at ≡ link → ChecksThenValue (version_checks bytes at)
+        (AreVersions bytes (section_words bytes)
+        (records_of_type bytes SHT_GNU_VERDEF Definition
+        (records_of_type bytes SHT_GNU_VERNEED NeededFile []))) result) }
+{
+    let Some(words) = section_words(file, link)? else {
+        return Ok(VersionTables {
+            words: None,
+            definitions: None,
+            needs: None,
+        });
+    };
+    let definitions = first_records(file, SHT_GNU_VERDEF, VersionKind::Definition)?;
+    let needs = first_records(file, SHT_GNU_VERNEED, VersionKind::File)?;
+    Ok(VersionTables {
+        words: Some(words),
+        definitions,
+        needs,
+    })
+}
+
+/// The words of symbols' versions of the first section of such, if there is one, and one of
+/// definitions or of needs.
+///
+/// # Errors
+/// At its header: those of [`File::table`]; `BadLink` where its link is another than `link`.
+fn section_words(file: &File<'_>, link: u32) -> Result<Option<VersionWords>, Fault>
+    ensures { FindsIn HoldsSectionHeaders file.now.loaded file.now.store.now result
+        (λ size found. IfSome found (λ words. TableInBounds size words.words))
+        (λ bytes. (at : ℕ) → sh_link bytes at ≡ link →
+        ChecksThenValue (words_checks bytes at) (AreVersymTable (section_words bytes)) result) }
+{
+    let Some(section) = words_section(file) else {
+        return Ok(None);
+    };
+    let words = file.table(section, SYMBOL_VERSION_BYTES)?;
+    let head = file.place(section);
+    if file.section(section).sh_link != link {
+        return refused(head, Cause::BadLink);
+    }
+    Ok(Some(VersionWords {
+        words,
+        head,
+        index: section,
+    }))
+}
+
+/// The first section of the words of symbols' versions, where there are definitions or needs. Without
+/// them no word names a version, and a loader does not look at the words.
+fn words_section(file: &File<'_>) -> Option<u16>
+    ensures below { IfSome result (λ section. section < file.now.store.now.loaded) }
+    ensures held { (bytes : List ℕ) → HoldsSectionHeaders bytes file.now.loaded file.now.store.now →
+        result ≡ words_section bytes }
+{
+    if has_bytes(file, SHT_GNU_VERDEF) || has_bytes(file, SHT_GNU_VERNEED) {
+        return file.first(SHT_GNU_VERSYM);
+    }
+    None
+}
+
+/// Whether there is a section of a type, and the first of them has a byte.
+fn has_bytes(file: &File<'_>, sh_type: u32) -> bool
+    ensures { (bytes : List ℕ) → HoldsSectionHeaders bytes file.now.loaded file.now.store.now →
+        result ≡ has_bytes bytes sh_type }
+{
+    let Some(section) = file.first(sh_type) else {
+        return false;
+    };
+    file.section(section).sh_size != 0
+}
+
+/// The definitions, or the needs, of the first section of a type, if there is one.
+///
+/// # Errors
+/// Those of [`section_records`].
+fn first_records(
+    file: &File<'_>,
+    sh_type: u32,
+    kind: VersionKind,
+) -> Result<Option<VersionRecordTable>, Fault>
+    requires kind { kind ≡ Need → ⊥ }
+    requires small { file.now.loaded.size < 2 ^ 63 }
+    ensures { FindsIn HoldsSectionHeaders file.now.loaded file.now.store.now result
+        (λ size found. IfSome found (VersionRecordsInBounds size)) (λ bytes.
+        ChecksThenValue (checks_of_type bytes sh_type (all_checks version_table bytes))
+        (AreInFront bytes (records_of_type bytes sh_type kind)) result) }
+{
+    let Some(section) = file.first(sh_type) else {
+        return Ok(None);
+    };
+    let records = section_records(file, section, kind)?;
+    Ok(Some(records))
+}
+
+/// The definitions, or the needs, of a section. One of size 0 is not checked.
+///
+/// # Errors
+/// `TableOutside` at its header where it ends past the end of the file; those of [`File::strings`].
+fn section_records(
+    file: &File<'_>,
+    section: u16,
+    kind: VersionKind,
+) -> Result<VersionRecordTable, Fault>
+    requires header { HasHeader section file.now.store.now.loaded file.now.loaded.size }
+    requires kind { kind ≡ Need → ⊥ }
+    ensures { FindsIn HoldsSectionHeaders file.now.loaded file.now.store.now result VersionRecordsInBounds (λ bytes.
+        ChecksThenValue (all_checks version_table bytes (section_at bytes section))
+        (IsVersionRecordTable bytes (records_at bytes kind (section_at bytes section))) result) }
+{
+    let header = file.section(section);
+    let head = file.place(section);
+    let table = file.bytes(header.sh_offset, header.sh_size, head)?;
+    let names = record_names(file, section, table)?;
+    Ok(VersionRecordTable {
+        kind,
+        head,
+        table,
+        names,
+    })
+}
+
+/// The string table of the names of records, where there is a byte of them.
+///
+/// # Errors
+/// Those of [`File::strings`].
+fn record_names(file: &File<'_>, section: u16, table: Table) -> Result<Names, Fault>
+    requires below { section < file.now.store.now.loaded }
+    ensures some { IfErr result (λ fault. 0 < table.count) }
+    ensures finds { FindsIn HoldsSectionHeaders file.now.loaded file.now.store.now result StringsInBounds
+        (λ bytes. 0 < table.count → result ≡ string_table_at bytes (section_at bytes section)) }
+{
+    if table.is_empty() {
+        return Ok(Names::new(table.at(), 0));
+    }
+    file.strings(section)
+}

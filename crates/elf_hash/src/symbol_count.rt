@@ -1,0 +1,31 @@
+//! How many symbols a lookup has.
+ghost use Rattle.std.specs.Prelude.{◌≡◌, ◌+◌, ◌≤◌, IfOk};
+ghost use Rattle.elf_table.specs.Ledger.{CallDid, fault_of_result};
+ghost use Rattle.elf_hash.specs.Extents.{ReturnsExtent};
+ghost use Rattle.elf_hash.specs.SearchedTables.{IsTable, HashTableInBounds, place_of_table};
+ghost use Rattle.elf_hash.specs.Symbols.{IsDynamicSymbols};
+ghost use Rattle.elf_model.specs.LoaderScope.{LookupTables};
+
+use crate::symbols::Symbols;
+use crate::table::HashTable;
+use crate::extent::symbol_extent;
+use elf_table::Fault;
+use elf_source::{Counted, Source};
+
+impl Symbols {
+    /// How many symbols there are by their hash table, as [`symbol_extent`] counts them, and no more than
+    /// there is room for.
+    ///
+    /// # Errors
+    /// A fault of a read, or a refusal for want of budget, at the offset that was asked for.
+    pub fn extent<S: Source>(&self, src: &mut Counted<S>, table: &HashTable) -> Result<u64, Fault>
+        requires within { HashTableInBounds src.old.seen.size table.now }
+        requires count { self.now.table.count ≡ (place_of_table table.now).symbols }
+        ensures did { CallDid src.old src.new (fault_of_result result) (place_of_table table.now).size
+            (λ file. (scope : LookupTables) → IsTable file scope table.now →
+            IsDynamicSymbols file scope.symbols self.now → ReturnsExtent file scope src.old src.new result) }
+        ensures few { IfOk result (λ count. count ≤ self.now.table.count) }
+    {
+        symbol_extent(src, table, self.table.at(), self.names.at())
+    }
+}

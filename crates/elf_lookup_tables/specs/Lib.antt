@@ -1,9 +1,0 @@
-pub mod Entries
-pub mod Finding
-pub mod Headers
-pub mod HashSections
-pub mod Loading
-pub mod LookupTablesFound
-pub mod Segments
-pub mod Symbols
-pub mod Versions
