@@ -6,12 +6,12 @@ use Rattle.elf_model.specs.Loader.{Wanted}
 use Rattle.elf_source.specs.Source.{CountedState}
 use Rattle.elf_table.specs.declared.fault.Fault.{Fault}
 use Rattle.elf_table.specs.declared.fault.Fault.TheVariants.{Refused, Source}
-use Rattle.elf_binding.specs.Binds.{AreObjectFiles, AskedFirst, BindsAcross, asked_of_all, reached}
-use Rattle.elf_binding.specs.Kept.{LookupObjectState}
-use Rattle.elf_binding.specs.Looks.{FailsIn, FaultLeaves, SpendsBudget, SpendsAtMost}
-use Rattle.elf_binding.proofs.OpenLaws.{pays_then}
-use Rattle.elf_binding.specs.declared.bind_name.BindFault.{BindFault}
-use Rattle.elf_binding.specs.declared.bind_name.BindResult.{BindResult}
+use Rattle.elf_needs.specs.Binds.{AreObjectFiles, AskedFirst, BindsAcross, asked_of_all, reached}
+use Rattle.elf_needs.specs.Kept.{LookupObjectState}
+use Rattle.elf_needs.specs.Looks.{FailsIn, FaultLeaves, SpendsBudget, SpendsAtMost}
+use Rattle.elf_needs.proofs.OpenLaws.{pays_then}
+use Rattle.elf_needs.specs.declared.bind_name.BindFault.{BindFault}
+use Rattle.elf_needs.specs.declared.bind_name.BindResult.{BindResult}
 use Rattle.elf_needs.specs.Bound.{AsksAll, IsLimited, OnlyLimited, SameObject}
 
 same_none : (o : LookupObjectState) → SameObject o o

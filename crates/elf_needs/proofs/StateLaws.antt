@@ -12,9 +12,9 @@ use Rattle.elf_model.specs.declared.states.BindingState.{BindingState}
 use Rattle.elf_model.specs.declared.states.BindingState.TheVariants as state
 use Rattle.elf_table.specs.declared.fault.Fault.{Fault}
 use Rattle.elf_table.specs.declared.fault.Fault.TheVariants.{Refused, Source}
-use Rattle.elf_binding.specs.Binds.{ReturnsBinding}
-use Rattle.elf_binding.specs.Sought.{IsReportedAlone, RefusesAs, ReturnsAs, ReturnsSought, ReturnsWhole, asked_if}
-use Rattle.elf_binding.specs.declared.bind_name.BindFault.{BindFault}
+use Rattle.elf_needs.specs.Binds.{ReturnsBinding}
+use Rattle.elf_needs.specs.Sought.{IsReportedAlone, RefusesAs, ReturnsAs, ReturnsSought, ReturnsWhole, asked_if}
+use Rattle.elf_needs.specs.declared.bind_name.BindFault.{BindFault}
 use Rattle.elf_loader.specs.Naming.{IsFileIf}
 use Rattle.elf_note.specs.declared.record.VersionRecord.{VersionRecord}
 use Rattle.elf_needs.specs.Bound.{ReturnsItem}

@@ -11,9 +11,9 @@ use Rattle.elf_model.specs.Loader.{Symbols}
 use Rattle.elf_model.specs.LoaderFind.{counts_check}
 use Rattle.elf_model.specs.LoaderScope.{LookupTables as IsScopeOf, lookup_tables_of}
 use Rattle.elf_model.specs.Traits.{hashed_symbol_count}
-use Rattle.elf_binding.specs.Binds.{AreObjectFiles}
-use Rattle.elf_binding.specs.Kept.{LookupObjectState}
-use Rattle.elf_binding.specs.Sought.{CountsHashed, RefusesAs}
+use Rattle.elf_needs.specs.Binds.{AreObjectFiles}
+use Rattle.elf_needs.specs.Kept.{LookupObjectState}
+use Rattle.elf_needs.specs.Sought.{CountsHashed, RefusesAs}
 use Rattle.elf_model.specs.declared.causes.Refusal.{Refusal}
 use Rattle.elf_model.specs.declared.formats.Format.{Format}
 use Rattle.elf_model.specs.declared.states.BindingState.{BindingState}

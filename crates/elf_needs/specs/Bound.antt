@@ -12,10 +12,10 @@ use Rattle.elf_model.specs.declared.states.BindingState.{BindingState}
 use Rattle.elf_source.specs.Output.{IsOutFault, SinkTakes, SinkTakesPrefix, OutState}
 use Rattle.elf_table.specs.declared.fault.Fault.{Fault}
 use Rattle.elf_table.specs.declared.fault.Fault.TheVariants.{Refused, Source}
-use Rattle.elf_binding.specs.Binds.{AreObjectFiles, asked_of_all}
-use Rattle.elf_binding.specs.Kept.{LookupObjectState}
-use Rattle.elf_binding.specs.Looks.{SpendsBudget}
-use Rattle.elf_binding.specs.declared.reference.SymbolReference.{SymbolReference}
+use Rattle.elf_needs.specs.Binds.{AreObjectFiles, asked_of_all}
+use Rattle.elf_needs.specs.Kept.{LookupObjectState}
+use Rattle.elf_needs.specs.Looks.{SpendsBudget}
+use Rattle.elf_needs.specs.declared.reference.SymbolReference.{SymbolReference}
 use Rattle.elf_loader.specs.Naming.{IsFileIf}
 use Rattle.elf_needs.specs.Called.{called_by}
 use Rattle.elf_needs.specs.declared.search_scope.SearchScope.{SearchScope}

@@ -1,10 +1,10 @@
 -- What files are asked for while objects are looked for, and what that leaves of a budget that is for all of them.
 use Rattle.std.specs.Prelude.{ℕ, ◌≡◌, ◌+◌, ◌≤◌, List, Option, None, Some, Result, Ok, Err}
 use Rattle.elf_source.specs.Source.{CountedState}
-use Rattle.elf_binding.specs.Binds.{asked_of_all}
-use Rattle.elf_binding.specs.Kept.{LookupObjectState}
-use Rattle.elf_binding.specs.Looks.{SpendsBudget}
-use Rattle.elf_binding.specs.Opens.{SpendsBudgetAtLeast}
+use Rattle.elf_needs.specs.Binds.{asked_of_all}
+use Rattle.elf_needs.specs.Kept.{LookupObjectState}
+use Rattle.elf_needs.specs.Looks.{SpendsBudget}
+use Rattle.elf_needs.specs.Opens.{SpendsBudgetAtLeast}
 use Rattle.elf_needs.specs.declared.object_file.ReadAccount.{ReadAccount}
 
 -- WHAT A CALL ASKED A FILE FOR, for every source: what is left of the budget falls by it, and no file is closed

@@ -1,6 +1,6 @@
 //! From where the symbols come that the objects of a program ask others for.
 ghost use Rattle.std.specs.Prelude.{◌≡◌, ◌<◌, ℕ, [], List, Ok, get_or, length};
-ghost use Rattle.elf_binding.specs.Binds.{AreObjectFiles};
+ghost use Rattle.elf_needs.specs.Binds.{AreObjectFiles};
 ghost use Rattle.elf_model.specs.BoundSymbols.{before_items, bound_item, bound_items, object_items};
 ghost use Rattle.elf_model.specs.LoaderScope.{LookupTables as IsScopeOf, lookup_tables_of};
 ghost use Rattle.elf_needs.specs.Bound.{AsksAll, IsLimited, ReturnsFault, WritesSymbol, WritesBindings, WritesLines, bound_among, bound_of, status_after};
@@ -8,7 +8,12 @@ ghost use Rattle.elf_needs.specs.Bound.{AsksAll, IsLimited, ReturnsFault, Writes
 use crate::search_scope::{SearchScope, WriteEnd, either, failing, index_at};
 use crate::bound_states::{DefinitionAt, item_of};
 use crate::walk::{DependencyWalk, NeedsFault};
-use elf_binding::{Object, OpenObjects, ReferenceNames, is_budget_fault, is_unbound, show_binding};
+use crate::object::Object;
+use crate::open_objects::OpenObjects;
+use crate::reference_names::ReferenceNames;
+use crate::faults::is_budget_fault;
+use crate::binding_states::is_unbound;
+use crate::binding_rows::show_binding;
 use elf_table::Fault;
 use elf_format::show_refusal;
 use elf_model::Format;

@@ -1,17 +1,19 @@
 //! What binds a symbol that an object of a program asks others for.
 ghost use Rattle.std.specs.Prelude.{◌≡◌, ◌<◌, ◌≤◌, ℕ, [], List, Option, None, Some, Ok, IfErr, get_or, length};
-ghost use Rattle.elf_binding.specs.Binds.{AreObjectFiles};
-ghost use Rattle.elf_binding.specs.Sought.{ReturnsAs, asked_if};
+ghost use Rattle.elf_needs.specs.Binds.{AreObjectFiles};
+ghost use Rattle.elf_needs.specs.Sought.{ReturnsAs, asked_if};
 ghost use Rattle.elf_model.specs.BoundSymbols.{bound_item, missing_version_requested, object_lacks, state_in};
 ghost use Rattle.elf_model.specs.Loader.{asked_name};
 ghost use Rattle.elf_model.specs.LoaderScope.{LookupTables as IsScopeOf, lookup_tables_of};
 ghost use Rattle.elf_needs.specs.Bound.{AsksAll, OfSought, OnlyLimited, ReturnsItem, bound_among};
 
 use crate::search_scope::{SearchScope, index_at, place_of};
-use elf_binding::{
-    BindFault, BindResult, Object, ReferenceNames, SymbolReference, bind, is_reported_alone,
-    show_name, unbound_state,
-};
+use crate::bind_name::{BindFault, BindResult, bind};
+use crate::object::Object;
+use crate::reference_names::{ReferenceNames, show_name};
+use crate::reference::SymbolReference;
+use crate::faults::is_reported_alone;
+use crate::binding_states::unbound_state;
 use elf_table::Fault;
 use elf_model::BindingState;
 use elf_source::Source;

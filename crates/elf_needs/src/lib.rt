@@ -1,25 +1,80 @@
+//! The libraries of a program, as a loader of the GNU system sees them: what a file needs, by its program headers
+//! and its first segment of dynamic entries, and the paths that are tried for a name, one after another.
+//! Texts are kept in memory that is taken once; nothing is opened here.
+//!
+//! From where the symbols come that a file asks others for: names looked for over several files in
+//! order, as a loader of the GNU system does, and the line of each. What a lookup in each file is made in
+//! is found once and kept. Files that stay open for that are read by pages, of which some are kept. Memory
+//! is taken where room for objects is made, and nowhere else.
+//!
 //! What a program needs: its objects in the order of a loader of the GNU system, each looked for in the
 //! folders that the loader would search, and a line for each; and from where each symbol comes that they ask
 //! others for. Nothing is run or loaded. The memory is taken
 //! once.
 #![tactic(auto)]
 
-mod search_scope;
+mod bind_name;
+mod binding_rows;
+mod binding_states;
 mod bindings;
 mod bound_states;
+mod budget;
+mod buffers;
+mod cached_source;
 mod candidates;
+mod definition;
+mod entries;
+mod faults;
+mod folder_entries;
+mod folders;
+mod hashed;
 mod known_object;
+mod library_search;
+mod link_reader;
+mod links;
+mod missing_version;
+mod needers;
+mod object;
 mod object_file;
 mod object_rows;
-mod buffers;
+mod open_objects;
+mod page;
+mod paths;
+mod ready;
+mod reference;
+mod reference_names;
 mod search_dirs;
+mod search_scope;
 mod states;
+mod texts;
+mod tokens;
+mod tries;
 mod walk;
+pub mod worked_links;
+pub mod worked_paths;
 
-pub use elf_binding::OpenObjects;
-pub use known_object::MOST_OBJECTS;
-pub use object_rows::{show_object, show_too_many};
+pub use bind_name::{BindFault, BindResult, bind};
+pub use binding_rows::show_binding;
+pub use binding_states::{is_unbound, unbound_state};
+pub use budget::spend_budget;
 pub use buffers::NeedsBuffers;
+pub use cached_source::{CachedSource, PAGES};
+pub use faults::{is_budget_fault, is_reported_alone};
+pub use folders::SearchPathList;
+pub use known_object::MOST_OBJECTS;
+pub use library_search::LibrarySearch;
+pub use link_reader::{machine_of, read_link_info};
+pub use links::{LinkInfo, LinkInfoStore, Need};
+pub use needers::{NeedingObject, SearchPaths, gather_dirs};
+pub use object::Object;
+pub use object_rows::{show_object, show_too_many};
+pub use open_objects::OpenObjects;
+pub use page::PAGE_BYTES;
+pub use paths::{CandidatePath, dir_of_path, named_path};
+pub use reference::SymbolReference;
+pub use reference_names::{ReferenceNames, show_name};
 pub use search_dirs::SearchDirs;
 pub use states::ObjectState;
+pub use texts::StringArena;
+pub use tries::CandidatePaths;
 pub use walk::{DependencyWalk, Listed, NeedsFault, NeedsOptions, OpenFiles};

@@ -3,9 +3,10 @@ ghost use Rattle.std.specs.Prelude.{◌≡◌, ◌≤◌};
 ghost use Rattle.elf_needs.specs.Budget.{AsksFile};
 ghost use Rattle.elf_source.specs.Source.{counted};
 
-use elf_binding::spend_budget;
+use crate::budget::spend_budget;
 use elf_table::{Fault, HeaderStore};
-use elf_libraries::{LinkInfo, LinkInfoStore, machine_of, read_link_info};
+use crate::links::{LinkInfo, LinkInfoStore};
+use crate::link_reader::{machine_of, read_link_info};
 use elf_source::{Counted, Source};
 use std::marker::Model;
 

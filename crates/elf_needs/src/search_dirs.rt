@@ -6,9 +6,9 @@ use crate::candidates::{FileSource, candidate};
 use crate::known_object::{KnownObject, MOST_OBJECTS, ObjectList};
 use crate::object_file::{ObjectFile, ReadAccount};
 use crate::walk::NeedsFault;
-use elf_libraries::{
-    CandidatePath, LibrarySearch, NeedingObject, SearchPaths, gather_dirs, named_path,
-};
+use crate::paths::{CandidatePath, named_path};
+use crate::library_search::LibrarySearch;
+use crate::needers::{NeedingObject, SearchPaths, gather_dirs};
 use memchr::memchr;
 use std::os::unix::fs::FileExt;
 use std::rt::Files;

@@ -3,7 +3,7 @@ use Rattle.std.proofs.Common.{◌≡◌, ℕ, ◌-◌, List, [], get_or, Ok}
 use Rattle.elf_model.specs.Bindings.{symbols_hashed}
 use Rattle.elf_model.specs.BoundSymbols.{items_from}
 use Rattle.elf_model.specs.LoaderScope.{LookupTables as IsScopeOf, lookup_tables_of}
-use Rattle.elf_binding.specs.Binds.{AreObjectFiles}
+use Rattle.elf_needs.specs.Binds.{AreObjectFiles}
 use Rattle.elf_needs.specs.Bound.{AsksAll, WritesSoFar, bound_among}
 use Rattle.elf_needs.proofs.bindings.bind_object.Given as goal
 

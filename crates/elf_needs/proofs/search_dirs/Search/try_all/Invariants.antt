@@ -1,6 +1,6 @@
 -- Each try leaves fewer, and what is left of the budget falls by no less than what the files before this one were asked for.
 use Rattle.std.proofs.Common.{◌≤◌, length}
-use Rattle.elf_binding.specs.Opens.{SpendsBudgetAtLeast}
+use Rattle.elf_needs.specs.Opens.{SpendsBudgetAtLeast}
 use Rattle.elf_needs.proofs.search_dirs.Search.try_all.Given as goal
 
 abbrev pub invariant-loop-search : goal.invariant-loop-search

@@ -1,9 +1,0 @@
-pub mod Binds
-pub mod Definers
-pub mod Kept
-pub mod Lacking
-pub mod Looks
-pub mod Opens
-pub mod Ready
-pub mod Sought
-pub mod Pages

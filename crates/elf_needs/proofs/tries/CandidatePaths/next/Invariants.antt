@@ -1,0 +1,11 @@
+-- The paths that are left are those that there were.
+use Rattle.std.proofs.Common.{◌≡◌}
+use Rattle.elf_needs.specs.Searching.{entry_paths}
+use Rattle.elf_needs.specs.Steps.{left_bytes, left_entries, origin_of}
+use Rattle.elf_needs.proofs.tries.CandidatePaths.next.Given as goal
+
+abbrev pub invariant-loop-self : goal.invariant-loop-self
+invariant-loop-self l = l.fn.self ≡ entry_paths l.self-inside.root.now l.self-inside.name.now (origin_of l.self-inside.origin) (left_entries l.self-inside.left)
+
+abbrev pub decreases-loop-self : goal.decreases-loop-self
+decreases-loop-self l = left_bytes l.self-inside.left

@@ -1,0 +1,96 @@
+-- What dynamic entries tell of how a file is linked, and what is kept of it.
+use Rattle.std.specs.Prelude.{ℕ, ◌≡◌, ◌<◌, ◌==◌, Bool, true, false, List, [], ◌∷◌, ◌++◌, length, slice_index_or, Option, None, Some, Result, Ok, Err}
+use Rattle.elf_model.specs.Budget.{IsBudgetRefusal}
+use Rattle.elf_model.specs.Links.{LinkState, NeededName, TextRoom, has_room}
+use Rattle.elf_model.specs.Names.{DisplayedName}
+use Rattle.elf_model.specs.Names.DisplayedName.{Whole, Cut}
+use Rattle.elf_model.specs.Numbers.{DT_RPATH, DT_RUNPATH, DT_SONAME}
+use Rattle.elf_model.specs.declared.causes.Cause.{Cause}
+use Rattle.elf_model.specs.declared.causes.Cause.TheVariants.{TooLong}
+use Rattle.elf_model.specs.declared.causes.Refusal.{Refusal}
+use Rattle.elf_table.specs.declared.fault.Fault.{Fault}
+use Rattle.elf_table.specs.declared.fault.Fault.TheVariants.{Refused, Source}
+use Rattle.elf_table.specs.Tables.{StringTableRange, strings_in}
+use Rattle.elf_needs.specs.Held.{LinkInfoState, with_text}
+use Rattle.elf_needs.specs.declared.links.LinkInfo.{LinkInfo}
+use Rattle.elf_needs.specs.declared.links.Need.{Need}
+
+-- the text of the entry at an offset, by what is shown of it
+abbrev pub text_by : TextRoom → ℕ → Result DisplayedName Cause → Result (List ℕ) Refusal
+text_by room at text = elim text [
+  | Err cause ↦ Err (record { at = at; cause = cause })
+  | Ok (Cut front) ↦ Err (record { at = at; cause = TooLong })
+  | Ok (Whole text) ↦ elim (has_room room text) [
+    | false ↦ Err (record { at = at; cause = TooLong })
+    | true ↦ Ok text
+  ]
+]
+
+-- a text is kept behind the others
+pub record KeepsText (told : Result (List ℕ) Refusal) (old new : LinkInfoState) (index : ℕ) : Type 0 where
+  pub text : List ℕ
+  pub reported_text : told ≡ Ok text
+  pub kept : new ≡ record { held = with_text old.held text; needs = old.needs }
+  pub its_index : index ≡ length old.held.texts
+  pub few : length new.needs < length new.held.texts
+
+-- a text that is told is kept, or it is refused, unless that is for want of budget
+abbrev pub ReturnsText : Result (List ℕ) Refusal → LinkInfoState → LinkInfoState → Result ℕ Fault → Type 0
+ReturnsText told old new (Ok index) = KeepsText told old new index
+ReturnsText told old new (Err (Refused refusal)) = (IsBudgetRefusal refusal → ⊥) → told ≡ Err refusal
+ReturnsText told old new (Err (Source fault at)) = Unit {0}
+
+-- a string table is the one that is told, or its refusal
+abbrev pub ReturnsStrings : List ℕ → Result (List ℕ) Refusal → Result StringTableRange Fault → Type 0
+ReturnsStrings file told (Ok names) = told ≡ Ok (strings_in file names)
+ReturnsStrings file told (Err (Refused refusal)) = told ≡ Err refusal
+ReturnsStrings file told (Err (Source fault at)) = ⊥
+
+-- an index that was told, or one where an entry has a tag
+abbrev pub first_index : Option ℕ → Bool → ℕ → Option ℕ
+first_index (Some told) is index = Some told
+first_index None true index = Some index
+first_index None false index = None
+
+-- with the text of an entry of a tag
+abbrev pub with_index : LinkInfo → (tag index : ℕ) → LinkInfo
+with_index links tag index = record {
+  soname = first_index links.soname (tag == DT_SONAME) index;
+  rpath = first_index links.rpath (tag == DT_RPATH) index;
+  runpath = first_index links.runpath (tag == DT_RUNPATH) index;
+}
+
+-- a text of an index, if there is one, is a text that is told
+abbrev pub IsHeldText : List (List ℕ) → Option ℕ → Option (List ℕ) → Type 0
+IsHeldText texts None told = told ≡ None
+IsHeldText texts (Some index) told = (index < length texts) × (told ≡ Some (slice_index_or texts index []))
+
+-- a need, whose name is of an index
+pub record IsNeed (texts : List (List ℕ)) (need : Need) (told : NeededName) : Type 0 where
+  pub at : need.at ≡ told.at
+  pub below : need.name < length texts
+  pub name : slice_index_or texts need.name [] ≡ told.name
+
+abbrev pub AreNeeds : List (List ℕ) → List Need → List NeededName → Type 0
+AreNeeds texts [] [] = Unit {0}
+AreNeeds texts (need ∷ needs) (told ∷ others) = IsNeed texts need told × AreNeeds texts needs others
+AreNeeds texts [] (told ∷ others) = ⊥
+AreNeeds texts (need ∷ needs) [] = ⊥
+
+-- WHAT IS KEPT OF A FILE, behind what is held already: its needs and its texts are those that are told
+pub record KeepsLinks (old new : LinkInfoState) (links : LinkInfo) (state : LinkState) : Type 0 where
+  pub more : List (List ℕ)
+  pub texts : new.held.texts ≡ old.held.texts ++ more
+  pub needed : List Need
+  pub needs : new.needs ≡ old.needs ++ needed
+  pub are : AreNeeds new.held.texts needed state.links.needed
+  pub soname : IsHeldText new.held.texts links.soname state.links.soname
+  pub rpath : IsHeldText new.held.texts links.rpath state.links.rpath
+  pub runpath : IsHeldText new.held.texts links.runpath state.links.runpath
+  pub room : new.held.room ≡ state.room
+
+-- what is told is kept, or it is refused, unless that is for want of budget
+abbrev pub ReturnsLinks : Result LinkState Refusal → LinkInfoState → LinkInfoState → Result LinkInfo Fault → Type 0
+ReturnsLinks told old new (Ok links) = (state : LinkState) × (told ≡ Ok state) × KeepsLinks old new links state
+ReturnsLinks told old new (Err (Refused refusal)) = (IsBudgetRefusal refusal → ⊥) → told ≡ Err refusal
+ReturnsLinks told old new (Err (Source fault at)) = Unit {0}

@@ -1,0 +1,56 @@
+-- What is kept of a file in which names are looked up.
+use Rattle.std.specs.Prelude.{ℕ, ◌≡◌, List, Option, None, Some, Result, Ok, Err, IfSome}
+use Rattle.elf_model.specs.Budget.{IsBudgetRefusal}
+use Rattle.elf_model.specs.LoaderScope.{LookupTables as IsScopeOf, lookup_tables_of}
+use Rattle.elf_source.specs.Source.{CountedState, SourceState}
+use Rattle.elf_table.specs.Ledger.{CallReads}
+use Rattle.elf_table.specs.declared.fault.Fault.{Fault}
+use Rattle.elf_table.specs.declared.fault.Fault.TheVariants.{Refused, Source}
+use Rattle.elf_hash.specs.SearchedTables.{place_of_table}
+use Rattle.elf_hash.specs.declared.table.HashTable.{HashTable}
+use Rattle.elf_needs.specs.Ready.{IsReadyIf}
+use Rattle.elf_hash.specs.Finding.{scope_cost}
+use Rattle.elf_hash.specs.LookupTablesFound.{IsLookupTables, LookupTablesInBounds}
+use Rattle.elf_hash.specs.declared.lookup_tables.LookupTables.{LookupTables}
+
+-- its source, and how many headers were permitted where what a lookup is made in was found
+pub record LookupObjectState : Type 0 where
+  pub src : CountedState
+  pub headers : ℕ
+
+-- what a lookup is made in is what the definitions find in a file
+pub record IsScopeIn (file : List ℕ) (headers : ℕ) (scope : LookupTables) : Type 0 where
+  pub told : IsScopeOf
+  pub found : lookup_tables_of file headers ≡ Ok told
+  pub is : IsLookupTables file told scope
+
+-- the table of a scope, if there is one, is ready for lookups in a file
+abbrev pub IsReadyIn : List ℕ → LookupTables → Option HashTable → Type 0
+IsReadyIn file scope ready = (told : IsScopeOf) → IsLookupTables file told scope → IsReadyIf file told ready
+
+-- WHAT IS KEPT is what a lookup in the source's file is made in, and lies within the source; and its table, where that is ready
+pub record IsKept (seen : SourceState) (headers : ℕ) (scope : LookupTables) (ready : Option HashTable) : Type 0 where
+  pub lies : LookupTablesInBounds seen.size scope
+  pub known : (file : List ℕ) → seen.file ≡ Some file → IsScopeIn file headers scope
+  pub placed : IfSome ready (λ table. place_of_table table ≡ scope.hash)
+  pub ready_in : (file : List ℕ) → seen.file ≡ Some file → IsReadyIn file scope ready
+
+-- the source, kept or given back, and why it is given back
+abbrev pub source_of : Result LookupObjectState (CountedState × Fault) → CountedState
+source_of (Ok kept) = kept.src
+source_of (Err back) = back.0
+
+abbrev pub why_back : Result LookupObjectState (CountedState × Fault) → Option Fault
+why_back (Ok kept) = None
+why_back (Err back) = Some back.1
+
+-- where it is given back it is for the definition's refusal, unless that is for want of budget
+abbrev pub ReturnsKept : List ℕ → (headers : ℕ) → Result LookupObjectState (CountedState × Fault) → Type 0
+ReturnsKept file headers (Ok kept) = kept.headers ≡ headers
+ReturnsKept file headers (Err (src, Refused refusal)) = (IsBudgetRefusal refusal → ⊥) → lookup_tables_of file headers ≡ Err refusal
+ReturnsKept file headers (Err (src, Source fault at)) = Unit {0}
+
+-- WHAT A LOOKUP IS MADE IN IS FOUND ONCE, in a known file
+pub record KeepsScope (file : List ℕ) (headers : ℕ) (old : CountedState) (result : Result LookupObjectState (CountedState × Fault)) : Type 0 where
+  pub costs : CallReads old (source_of result) (why_back result) (scope_cost file headers)
+  pub tells : ReturnsKept file headers result

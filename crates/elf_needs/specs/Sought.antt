@@ -1,0 +1,110 @@
+-- What a symbol of a file asks others for, as it is read.
+use Rattle.std.specs.Prelude.{ℕ, ◌≡◌, ◌+◌, ◌*◌, ◌/◌, ◌<◌, Bool, true, false, List, Option, None, Some, Result, Ok, Err, IfOk, IfSome}
+use Rattle.elf_model.specs.Bindings.{SOUGHT_BYTES, is_weak, reference_at, symbols_hashed, whole_name}
+use Rattle.elf_model.specs.BoundSymbols.{file_of_version, lacks_version}
+use Rattle.elf_model.specs.Budget.{IsBudgetRefusal}
+use Rattle.elf_model.specs.Loader.{Asked, NoVersion, Version, Wanted, symbol_offset}
+use Rattle.elf_model.specs.LoaderFind.{record_cost}
+use Rattle.elf_model.specs.LoaderScope.{LookupTables as IsScopeOf, lookup_tables_of}
+use Rattle.elf_model.specs.Names.{name_bytes}
+use Rattle.elf_model.specs.Versions.{VisitedRecord}
+use Rattle.elf_model.specs.declared.causes.Refusal.{Refusal}
+use Rattle.elf_table.specs.Ledger.{fault_of_result}
+use Rattle.elf_table.specs.declared.fault.Fault.{Fault}
+use Rattle.elf_table.specs.declared.fault.Fault.TheVariants.{Refused, Source}
+use Rattle.elf_loader.specs.Naming.{IsFileIf}
+use Rattle.elf_needs.specs.Kept.{LookupObjectState}
+use Rattle.elf_needs.specs.Looks.{SpendsBudget, SpendsAtMost}
+use Rattle.elf_needs.specs.declared.reference.SymbolReference.{SymbolReference}
+use Rattle.elf_needs.specs.declared.reference.VersionReference.{VersionReference}
+
+-- the refusal is the definition's, unless that is for want of budget
+abbrev pub RefusesAs : {X : Type 0} → Result X Refusal → Fault → Type 0
+RefusesAs told (Refused refusal) = (IsBudgetRefusal refusal → ⊥) → told ≡ Err refusal
+RefusesAs told (Source fault at) = Unit {0}
+
+-- the answer is the definition's; or the refusal, unless that is for want of budget
+abbrev pub ReturnsAs : {X : Type 0} → Result X Refusal → Result X Fault → Type 0
+ReturnsAs told (Ok found) = told ≡ Ok found
+ReturnsAs told (Err fault) = RefusesAs told fault
+
+-- a fault is no refusal of a file: a read failed, or the budget is used up
+abbrev pub IsReportedAlone : Fault → Type 0
+IsReportedAlone (Refused refusal) = IsBudgetRefusal refusal
+IsReportedAlone (Source fault at) = Unit {0}
+
+-- a whole name is read
+abbrev pub ReturnsWhole : Result (List ℕ) Refusal → List ℕ → Result (Unit {0}) Fault → Type 0
+ReturnsWhole told name (Ok x) = told ≡ Ok name
+ReturnsWhole told name (Err fault) = RefusesAs told fault
+
+-- the version by its number is read
+abbrev pub ReturnsAsked : {X : Type 0} → Result Asked Refusal → List ℕ → Result X Fault → Type 0
+ReturnsAsked told version (Ok x) = told ≡ Ok (Version version)
+ReturnsAsked told version (Err fault) = RefusesAs told fault
+
+-- a version, or none
+abbrev pub asked_if : Bool → List ℕ → Asked
+asked_if true version = Version version
+asked_if false version = NoVersion
+
+abbrev pub ReturnsVersionIf : Result Asked Refusal → List ℕ → Result VersionReference Fault → Type 0
+ReturnsVersionIf told version (Ok asked) = told ≡ Ok (asked_if asked.versioned version)
+ReturnsVersionIf told version (Err fault) = RefusesAs told fault
+
+-- what a symbol asks others for is read: nothing, or the name with the version, and whether it is weak
+abbrev pub ReturnsSought : Result (Option Wanted) Refusal → (weak : Bool) → (name version : List ℕ) → Result (Option SymbolReference) Fault → Type 0
+ReturnsSought told weak name version (Ok None) = told ≡ Ok None
+ReturnsSought told weak name version (Ok (Some sought)) =
+    (told ≡ Ok (Some (record { name = name; asked = asked_if sought.versioned version }))) × (sought.weak ≡ weak)
+ReturnsSought told weak name version (Err fault) = RefusesAs told fault
+
+-- the record of the needed file, of whose versions one is asked for, is the one that is told
+abbrev pub SeeksOf : List ℕ → Option VisitedRecord → Result (Option SymbolReference) Fault → Type 0
+SeeksOf file told result = IfOk result (λ found. IfSome found (λ sought. IsFileIf file told sought.file))
+
+-- how many bytes that may ask for in a source of this size, whatever its bytes are: the symbol, its name, the word of its version,
+-- the records of versions and the name of one
+abbrev pub reference_bytes : ℕ → ℕ
+reference_bytes size = 24 + name_bytes SOUGHT_BYTES + (2 + size / 8 * 28 + name_bytes SOUGHT_BYTES)
+
+-- WHAT LOOKING AT ONE SYMBOL OF A FILE DID: no more than that is asked for, what is left of the budget falls by it, and in a known
+-- file the answer is the definition's, of a symbol that there is
+pub record Seeks (index : ℕ) (name version : List ℕ) (old new : LookupObjectState) (left_old left_new : Option ℕ) (result : Result (Option SymbolReference) Fault) : Type 0 where
+  pub costs : SpendsAtMost old.src new.src left_old (fault_of_result result) (reference_bytes old.src.seen.size)
+  pub same_headers : new.headers ≡ old.headers
+  pub pays : SpendsBudget left_old left_new old.src.asked new.src.asked
+  pub known :
+      (file : List ℕ) (told : IsScopeOf) → old.src.seen.file ≡ Some file → lookup_tables_of file old.headers ≡ Ok told → index < told.table.symbols
+      → ReturnsSought (reference_at file told.symbols index) (is_weak file (symbol_offset told.symbols index)) name version result
+  pub of_file :
+      (file : List ℕ) (told : IsScopeOf) → old.src.seen.file ≡ Some file → lookup_tables_of file old.headers ≡ Ok told → index < told.table.symbols
+      → SeeksOf file (file_of_version file told.symbols index) result
+
+-- WHAT COUNTING THE SYMBOLS OF A FILE DID: no more is asked for than the counts and the words of the table
+pub record CountsHashed (old new : LookupObjectState) (left_old left_new : Option ℕ) (result : Result ℕ Fault) : Type 0 where
+  pub costs : SpendsAtMost old.src new.src left_old (fault_of_result result) (16 + old.src.seen.size)
+  pub same_headers : new.headers ≡ old.headers
+  pub pays : SpendsBudget left_old left_new old.src.asked new.src.asked
+  pub known :
+      (file : List ℕ) → old.src.seen.file ≡ Some file
+      → (told : IsScopeOf) × (lookup_tables_of file old.headers ≡ Ok told) × ReturnsAs (symbols_hashed file told) result
+
+-- WHAT A READ OF THE NAME OF A NEEDED FILE DID, which stands at an index of the symbols' strings
+pub record ReadsFileName (index at : ℕ) (name : List ℕ) (old new : LookupObjectState) (left_old left_new : Option ℕ) (result : Result (Unit {0}) Fault) : Type 0 where
+  pub costs : SpendsAtMost old.src new.src left_old (fault_of_result result) (name_bytes SOUGHT_BYTES)
+  pub same_headers : new.headers ≡ old.headers
+  pub pays : SpendsBudget left_old left_new old.src.asked new.src.asked
+  pub known :
+      (file : List ℕ) (told : IsScopeOf) → old.src.seen.file ≡ Some file → lookup_tables_of file old.headers ≡ Ok told → 0 < told.table.symbols
+      → ReturnsWhole (whole_name told.symbols.strings index at) name result
+
+-- WHAT A LOOK FOR A VERSION AMONG THE DEFINITIONS DID: no more is asked for than the records and as many names, and in a known file
+-- the answer is the definition's
+pub record LooksForVersion (version : List ℕ) (old new : LookupObjectState) (left_old left_new : Option ℕ) (result : Result Bool Fault) : Type 0 where
+  pub costs : SpendsAtMost old.src new.src left_old (fault_of_result result) (old.src.seen.size / 8 * record_cost (Version version))
+  pub same_headers : new.headers ≡ old.headers
+  pub pays : SpendsBudget left_old left_new old.src.asked new.src.asked
+  pub known :
+      (file : List ℕ) → old.src.seen.file ≡ Some file
+      → (told : IsScopeOf) × (lookup_tables_of file old.headers ≡ Ok told) × ReturnsAs (lacks_version file told.symbols version) result

@@ -1,0 +1,194 @@
+//! The symbol of a file that defines a name.
+ghost use Rattle.std.specs.Prelude.{◌≡◌, ℕ, ◌+◌, ◌*◌, ◌/◌, ◌≤◌, length, IfSome};
+ghost use Rattle.elf_needs.specs.Definers.{DefinesOn, SaysDefines, definer_with, the_defined};
+ghost use Rattle.elf_needs.specs.Ready.{HasNoNul, IsReadyTable, IsReadyIf};
+ghost use Rattle.elf_hash.specs.SearchedTables.{IsTable, place_of_table};
+ghost use Rattle.elf_hash.specs.Walks.{index_of, walk_bytes};
+ghost use Rattle.elf_loader.specs.Answering.{IsSymbolWithVersym};
+ghost use Rattle.elf_loader.specs.Lookups.{MayLookOn, lookup_bytes, match_bytes};
+ghost use Rattle.elf_loader.specs.NumberSets.{has_number};
+ghost use Rattle.elf_model.specs.Bindings.{definer_by, definition_in, definer_walk};
+ghost use Rattle.elf_model.specs.LoaderFind.{record_cost, version_indices};
+ghost use Rattle.elf_model.specs.Names.{pad64};
+ghost use Rattle.elf_hash.specs.Symbols.{DynamicSymbolsInBounds};
+ghost use Rattle.elf_options.specs.Wants.{query_of};
+
+use crate::ready::has_nul;
+use elf_hash::{ChainResult, counts, excludes, HashTable, LookupTables, Matcher, SymbolMatch, walk};
+use elf_table::Fault;
+use elf_loader::{VersionIndexSet, VersionMatcher, version_indices};
+use elf_record::numbers::SHN_UNDEF;
+use elf_source::{Counted, Source};
+use elf_options::Wanted;
+
+/// The trial of symbols by what is wanted of them, of which those that are undefined don't answer.
+#[derive(Clone, Copy)]
+struct DefinitionMatcher<'a> {
+    /// The trial of all.
+    offered: VersionMatcher<'a>,
+}
+
+impl<'a> Matcher for DefinitionMatcher<'a> {
+    ghost symbols = { λ t. t.offered.symbols.now.table.count };
+
+    ghost cost = { λ t. 26 + pad64 (length t.offered.wanted.now.name.now + 1) };
+
+    ghost stands = { λ t file. IsSymbolWithVersym file t.offered.symbols.now };
+
+    ghost lies = { λ t size.
+        DynamicSymbolsInBounds size t.offered.symbols.now
+        × (length t.offered.wanted.now.name.now ≤ 4096) };
+
+    ghost is_of = { λ t file says.
+        SaysDefines file t.offered.symbols.now (query_of t.offered.wanted.now)
+        (has_number t.offered.numbers.now) says };
+
+    fn tried<S: Source>(
+        &self,
+        src: &mut Counted<S>,
+        index: u64,
+    ) -> Result<Option<SymbolMatch>, Fault> {
+        Ok(if_defined(self.offered.tried(src, index)?))
+    }
+}
+
+/// The answer of a trial, unless its symbol is undefined.
+fn if_defined(answer: Option<SymbolMatch>) -> Option<SymbolMatch>
+    ensures { result ≡ the_defined answer }
+{
+    match answer {
+        Some(answer) if answer.symbol.st_shndx != SHN_UNDEF => Some(answer),
+        _ => None,
+    }
+}
+
+/// Looks for the symbol that defines what is wanted, in what a lookup is made in, as a loader of the
+/// GNU system does: the first of the name's chain that has the name, is offered to others, is not
+/// undefined and whose version fits. Answers its index.
+///
+/// # Errors
+/// Those of [`elf_loader::look_up`] behind what it is made in, but for those of telling the name of the
+/// symbol's version, which is not told.
+pub(crate) fn find_definer<S: Source>(
+    src: &mut Counted<S>,
+    scope: &LookupTables,
+    ready: &Option<HashTable>,
+    wanted: &Wanted<'_>,
+) -> Result<Option<u64>, Fault>
+    requires may { MayLookOn src.old scope.now (query_of wanted.now) }
+    requires place { IfSome ready.now (λ table. place_of_table table ≡ scope.now.hash) }
+    ensures { DefinesOn src.old src.new scope.now (query_of wanted.now) result 28
+        (lookup_bytes 28 src.old.seen.size (query_of wanted.now)) (λ file told leaves.
+        IsReadyIf file told ready.now → leaves 0 (definition_in file told (query_of wanted.now))) }
+{
+    match ready {
+        Some(table) if !has_nul(&wanted.asked) => definition_unless(src, scope, table, wanted),
+        _ => definition_counted(src, scope, wanted),
+    }
+}
+
+/// Reads the counts of the hash table, and looks in it.
+///
+/// # Errors
+/// Those of [`counts`], and of [`definition_in_table`].
+fn definition_counted<S: Source>(
+    src: &mut Counted<S>,
+    scope: &LookupTables,
+    wanted: &Wanted<'_>,
+) -> Result<Option<u64>, Fault>
+    requires { MayLookOn src.old scope.now (query_of wanted.now) }
+    ensures { DefinesOn src.old src.new scope.now (query_of wanted.now) result 28
+        (lookup_bytes 28 src.old.seen.size (query_of wanted.now))
+        (λ file told leaves. leaves 0 (definition_in file told (query_of wanted.now))) }
+{
+    let table = counts(src, &scope.hash)?;
+    definition_in_table(src, scope, &table, wanted)
+}
+
+/// Looks in a hash table whose counts, and whose file's records of versions, have no fault, unless the
+/// table excludes the name.
+///
+/// # Errors
+/// Those of [`definition_in_table`].
+fn definition_unless<S: Source>(
+    src: &mut Counted<S>,
+    scope: &LookupTables,
+    table: &HashTable,
+    wanted: &Wanted<'_>,
+) -> Result<Option<u64>, Fault>
+    requires may { MayLookOn src.old scope.now (query_of wanted.now) }
+    requires place { place_of_table table.now ≡ scope.now.hash }
+    requires plain { HasNoNul (query_of wanted.now).asked }
+    ensures { DefinesOn src.old src.new scope.now (query_of wanted.now) result 28
+        (lookup_bytes 28 src.old.seen.size (query_of wanted.now)) (λ file told leaves.
+        IsReadyTable file told table.now →
+        leaves 0 (definition_in file told (query_of wanted.now))) }
+{
+    if excludes(src, table, wanted.name)? {
+        return Ok(None);
+    }
+    definition_in_table(src, scope, table, wanted)
+}
+
+/// Looks in a hash table with its counts: tells the numbers of the version that is asked for, and goes
+/// along the chain.
+///
+/// # Errors
+/// Those of [`version_indices`], and of [`definition_along`].
+fn definition_in_table<S: Source>(
+    src: &mut Counted<S>,
+    scope: &LookupTables,
+    table: &HashTable,
+    wanted: &Wanted<'_>,
+) -> Result<Option<u64>, Fault>
+    requires may { MayLookOn src.old scope.now (query_of wanted.now) }
+    requires place { place_of_table table.now ≡ scope.now.hash }
+    ensures { DefinesOn src.old src.new scope.now (query_of wanted.now) result 12
+        (lookup_bytes 12 src.old.seen.size (query_of wanted.now)) (λ file told leaves.
+        IsTable file told table.now → leaves 0 (definer_with file told (query_of wanted.now)
+        (version_indices file told (query_of wanted.now).asked))) }
+{
+    let numbers = version_indices(src, &scope.symbols, &wanted.asked)?;
+    definition_along(src, scope, table, wanted, &numbers)
+}
+
+/// Goes along the chain of the wanted name for the symbol that defines it.
+///
+/// # Errors
+/// Those of [`walk`].
+fn definition_along<S: Source>(
+    src: &mut Counted<S>,
+    scope: &LookupTables,
+    table: &HashTable,
+    wanted: &Wanted<'_>,
+    numbers: &VersionIndexSet,
+) -> Result<Option<u64>, Fault>
+    requires may { MayLookOn src.old scope.now (query_of wanted.now) }
+    requires place { place_of_table table.now ≡ scope.now.hash }
+    ensures { DefinesOn src.old src.new scope.now (query_of wanted.now) result 12
+        (walk_bytes 12 (scope.now.hash.size / 4) (scope.now.hash.size / 4)
+        (match_bytes (query_of wanted.now))) (λ file told leaves. (before : ℕ) →
+        IsTable file told table.now → leaves (before * record_cost (query_of wanted.now).asked)
+        (definer_by before (definer_walk file told (query_of wanted.now)
+        (has_number numbers.now)))) }
+{
+    let trial = DefinitionMatcher {
+        offered: VersionMatcher {
+            symbols: &scope.symbols,
+            wanted,
+            numbers,
+        },
+    };
+    let walked = walk(src, table, wanted.name, &trial)?;
+    Ok(index_found(&walked))
+}
+
+/// The index of the symbol that a walk finds.
+fn index_found(walked: &ChainResult) -> Option<u64>
+    ensures { result ≡ index_of walked.now.found }
+{
+    match walked.found {
+        Some(found) => Some(found.index),
+        None => None,
+    }
+}

@@ -1,0 +1,24 @@
+//! Faults that are told of no file alone.
+ghost use Rattle.std.specs.Prelude.{MatchBool};
+ghost use Rattle.elf_needs.specs.Sought.{IsReportedAlone};
+ghost use Rattle.elf_model.specs.Budget.{IsBudgetRefusal};
+
+use elf_table::Fault;
+use elf_record::{Cause, Refusal};
+
+/// Whether a fault of a lookup is no refusal of the file: a read failed, or the budget is used up.
+pub fn is_reported_alone(fault: Fault) -> bool
+    ensures { MatchBool result (IsReportedAlone fault) (IsReportedAlone fault → ⊥) }
+{
+    match fault {
+        Fault::Refused(refusal) => is_budget_fault(refusal),
+        Fault::Source { .. } => true,
+    }
+}
+
+/// Whether a refusal is that the budget is used up.
+pub fn is_budget_fault(refusal: Refusal) -> bool
+    ensures { MatchBool result (IsBudgetRefusal refusal) (IsBudgetRefusal refusal → ⊥) }
+{
+    matches!(refusal.cause, Cause::Budget)
+}

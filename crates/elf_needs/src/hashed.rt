@@ -1,0 +1,30 @@
+//! How many symbols a file has.
+ghost use Rattle.std.specs.Prelude.{◌≡◌, ◌+◌, ◌≤◌, List};
+ghost use Rattle.elf_needs.specs.Sought.{ReturnsAs};
+ghost use Rattle.elf_table.specs.Ledger.{CallDid, fault_of_result};
+ghost use Rattle.elf_hash.specs.LookupTablesFound.{IsLookupTables};
+ghost use Rattle.elf_model.specs.Bindings.{symbols_hashed};
+ghost use Rattle.elf_model.specs.LoaderScope.{LookupTables as IsScopeOf};
+
+use elf_hash::{counts, LookupTables};
+use elf_table::Fault;
+use elf_source::{Counted, Source};
+
+/// How many symbols a file has, by its hash table, of those that there is room for.
+///
+/// # Errors
+/// Those of [`counts`], and of [`elf_hash::Symbols::extent`].
+pub(crate) fn hashed_symbols<S: Source>(
+    src: &mut Counted<S>,
+    scope: &LookupTables,
+) -> Result<u64, Fault>
+    requires within { scope.now.hash.at + scope.now.hash.size ≤ src.old.seen.size }
+    requires count { scope.now.symbols.table.count ≡ scope.now.hash.symbols }
+    ensures { CallDid src.old src.new (fault_of_result result) (16 + scope.now.hash.size)
+        (λ file. (told : IsScopeOf) → IsLookupTables file told scope.now →
+        ReturnsAs (symbols_hashed file told) result) }
+{
+    let table = counts(src, &scope.hash)?;
+    let count = scope.symbols.extent(src, &table)?;
+    Ok(count.min(scope.hash.symbols))
+}

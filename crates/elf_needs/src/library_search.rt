@@ -1,0 +1,63 @@
+//! The paths that are tried in all folders.
+ghost use Rattle.std.specs.Prelude.{◌≡◌, ◌∷◌, [], true, false};
+ghost use Rattle.elf_needs.specs.Searching.{searched_paths};
+ghost use Rattle.elf_needs.specs.Steps.{dirs_in};
+
+use crate::folders::SearchPathList;
+use crate::paths::CandidatePath;
+use crate::tries::CandidatePaths;
+use std::marker::Model;
+
+/// The paths of a name in texts of folders that were not tried yet.
+#[derive(Drop)]
+pub struct LibrarySearch<'a> {
+    root: &'a [u8],
+    name: &'a [u8],
+    lists: &'a [SearchPathList<'a>],
+    /// The index of the next text.
+    at: usize,
+    /// What is left of the one before it.
+    tries: CandidatePaths<'a>,
+}
+
+impl<'a> Model for LibrarySearch<'a> {
+    ghost use Rattle.std.specs.Prelude.{List, ℕ, ◌++◌, drop};
+    ghost use Rattle.elf_needs.specs.Searching.{searched_paths};
+    ghost use Rattle.elf_needs.specs.Steps.{dirs_in};
+
+    ghost Value = { List (List ℕ) };
+
+    ghost view = { λ s. s.tries
+        ++ searched_paths s.root.now s.name.now (dirs_in (drop s.at s.lists.now)) };
+}
+
+impl<'a> LibrarySearch<'a> {
+    /// The paths of a name in texts of folders, below a root: what stands before each folder that is written
+    /// with a slash at its front.
+    pub fn new(root: &'a [u8], name: &'a [u8], lists: &'a [SearchPathList<'a>]) -> LibrarySearch<'a>
+        ensures { result ≡ searched_paths root.now name.now (dirs_in lists.now) }
+    {
+        LibrarySearch {
+            root,
+            name,
+            lists,
+            at: 0,
+            tries: CandidatePaths::none(root, name),
+        }
+    }
+
+    /// Makes the next path. Answers whether there is one; else what the path holds means nothing.
+    pub fn next(&mut self, path: &mut CandidatePath) -> bool
+        ensures next { result ≡ true → self.old ≡ path.new.items ∷ self.new }
+        ensures none { result ≡ false → self.old ≡ [] }
+    {
+        while !self.tries.next(path) {
+            if self.at >= self.lists.len() {
+                return false;
+            }
+            self.tries = CandidatePaths::new(self.root, self.name, self.lists[self.at]);
+            self.at += 1;
+        }
+        true
+    }
+}

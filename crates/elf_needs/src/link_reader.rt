@@ -1,0 +1,174 @@
+//! What one file needs.
+ghost use Rattle.std.specs.Prelude.{◌≡◌, ◌<◌, ◌^◌, ◌+◌, ◌*◌, ◌/◌, ℕ, List};
+ghost use Rattle.elf_table.specs.Ledger.{CallDid, fault_of_result};
+ghost use Rattle.elf_table.specs.Load.{HoldsProgramHeaders};
+ghost use Rattle.elf_model.specs.Links.{links_by_segments, links_ceiling, links_of};
+ghost use Rattle.elf_model.specs.Links.{loaded_links, lookup_refusal};
+ghost use Rattle.elf_model.specs.Records.{e_shnum};
+ghost use Rattle.elf_source.specs.Source.{ReadsUpTo};
+ghost use Rattle.elf_needs.specs.Entries.{ReturnsLinks};
+ghost use Rattle.elf_needs.specs.Reading.{ReturnsLookupRefusal, linked_in_segments, lookup_passed};
+
+use crate::entries::{DynamicTexts, list_link_info, no_link_info};
+use crate::links::{LinkInfo, LinkInfoStore};
+use elf_table::{ExecutionView, Fault, fill, HeaderStore};
+use elf_hash::{find_in_segments, load_by_segments};
+use elf_note::dynamic_strings;
+use elf_record::numbers::PT_DYNAMIC;
+use elf_record::{Cause, Refusal, u16_at, word};
+use elf_source::{Counted, Source};
+
+/// How many bytes of a file tell its class, its encoding and its machine (gABI 4, ELF Header).
+const FRONT_BYTES: usize = 20;
+/// The number of the magic number's four bytes (gABI 4, ELF Identification).
+const MAGIC: u32 = 0x464c_457f;
+/// The class of files of 64 bits, at byte 4, and the encoding that is little-endian, at byte 5.
+const CLASS_64: u8 = 2;
+
+const LITTLE_ENDIAN: u8 = 1;
+
+/// The machine of a file of 64 bits that is little-endian; None of any other file.
+///
+/// # Errors
+/// A fault of a read, or a refusal for want of budget.
+pub fn machine_of<S: Source>(src: &mut Counted<S>) -> Result<Option<u16>, Fault>
+    ensures { ReadsUpTo src.old src.new 20 }
+{
+    if src.length() < FRONT_BYTES as u64 {
+        return Ok(None);
+    }
+    let mut front = [0; FRONT_BYTES];
+    fill(src, 0, &mut front)?;
+    if word(&[front[0], front[1], front[2], front[3]]) != MAGIC
+        || front[4] != CLASS_64
+        || front[5] != LITTLE_ENDIAN
+    {
+        return Ok(None);
+    }
+    Ok(Some(u16_at(&front, 18)))
+}
+
+/// How a file is linked, as a loader sees it: by its program headers, whatever its section headers are. The
+/// texts and the needs are kept in the store of links, behind those that are there; where this fails some
+/// may stand there that nothing tells of.
+///
+/// Where the source's file is known what is told and kept is the file's own, and so is the refusal.
+///
+/// # Errors
+/// The first that fails: those of [`load_by_segments`]; of [`find_in_segments`], but `NoHash`;
+/// of the first segment of dynamic entries; of each entry with a text, at the entry: its string table, its
+/// text, and `TooLong` where that has more than 4,096 bytes or finds no room. Else a fault of a read, or a
+/// refusal for want of budget.
+pub fn read_link_info<S: Source>(
+    src: &mut Counted<S>,
+    store: &mut HeaderStore,
+    links: &mut LinkInfoStore,
+) -> Result<LinkInfo, Fault>
+    ensures did { CallDid src.old src.new (fault_of_result result)
+        (links_ceiling src.old.seen.size store.old.slots)
+        (λ file. ReturnsLinks (links_of file store.old.slots links.old.held.room)
+        links.old links.new result) }
+    ensures slots { store.new.slots ≡ store.old.slots }
+{
+    let hides = src.hides();
+    src.mask_section_headers(true);
+    let found = shown_links(src, store, links);
+    src.mask_section_headers(hides);
+    found
+}
+
+/// The same of the file that the source shows, whose header locates no section headers.
+///
+/// # Errors
+/// Those of [`read_link_info`].
+fn shown_links<S: Source>(
+    src: &mut Counted<S>,
+    store: &mut HeaderStore,
+    links: &mut LinkInfoStore,
+) -> Result<LinkInfo, Fault>
+    ensures did { CallDid src.old src.new (fault_of_result result)
+        (links_ceiling src.old.seen.size store.old.slots)
+        (λ file. e_shnum file ≡ 0 →
+        ReturnsLinks (links_by_segments file store.old.slots links.old.held.room)
+        links.old links.new result) }
+    ensures slots { store.new.slots ≡ store.old.slots }
+{
+    let loaded = load_by_segments(src, store)?;
+    link_info_by_segments(src, &ExecutionView { loaded, store }, links)
+}
+
+/// The same of a file whose program headers are loaded.
+///
+/// # Errors
+/// Those of [`read_link_info`] behind the load.
+fn link_info_by_segments<S: Source>(
+    src: &mut Counted<S>,
+    view: &ExecutionView<'_>,
+    links: &mut LinkInfoStore,
+) -> Result<LinkInfo, Fault>
+    requires size { view.now.loaded.size ≡ src.old.seen.size }
+    requires small { view.now.loaded.size < 2 ^ 63 }
+    ensures { CallDid src.old src.new (fault_of_result result)
+        (3 * src.old.seen.size + src.old.seen.size / 16 * 4160)
+        (λ file. HoldsProgramHeaders file view.now.loaded view.now.store.now →
+        ReturnsLinks (loaded_links file links.old.held.room) links.old links.new result) }
+{
+    check_lookup(src, view)?;
+    entry_links(src, view, links)
+}
+
+/// What the first segment of dynamic entries tells; nothing where there is none.
+///
+/// # Errors
+/// Those of [`ExecutionView::dynamic`], and those of the entries.
+fn entry_links<S: Source>(
+    src: &mut Counted<S>,
+    view: &ExecutionView<'_>,
+    links: &mut LinkInfoStore,
+) -> Result<LinkInfo, Fault>
+    requires { view.now.loaded.size ≡ src.old.seen.size }
+    ensures { CallDid src.old src.new (fault_of_result result)
+        (2 * src.old.seen.size + src.old.seen.size / 16 * 4160)
+        (λ file. HoldsProgramHeaders file view.now.loaded view.now.store.now →
+        ReturnsLinks (linked_in_segments file links.old.held.room) links.old links.new result) }
+{
+    let Some(segment) = view.first_segment(PT_DYNAMIC) else {
+        return Ok(no_link_info());
+    };
+    let table = view.dynamic(segment)?;
+    let told = dynamic_strings(table, src)?;
+    let strings = DynamicTexts { view, told };
+    list_link_info(src, &strings, table, links)
+}
+
+/// Checks what a lookup is made in; a file without a hash table has none.
+///
+/// # Errors
+/// Those of [`find_in_segments`] but `NoHash`.
+fn check_lookup<S: Source>(src: &mut Counted<S>, view: &ExecutionView<'_>) -> Result<(), Fault>
+    requires size { view.now.loaded.size ≡ src.old.seen.size }
+    requires small { view.now.loaded.size < 2 ^ 63 }
+    ensures { CallDid src.old src.new (fault_of_result result) src.old.seen.size
+        (λ file. HoldsProgramHeaders file view.now.loaded view.now.store.now →
+        ReturnsLookupRefusal (lookup_refusal file) result) }
+{
+    match find_in_segments(src, view) {
+        Ok(_) => Ok(()),
+        Err(fault) => without_hash(fault),
+    }
+}
+
+/// No fault where there is no hash table, else the fault.
+fn without_hash(fault: Fault) -> Result<(), Fault>
+    ensures { result ≡ lookup_passed fault }
+{
+    match fault {
+        Fault::Refused(
+            Refusal {
+                at: _,
+                cause: Cause::NoHash,
+            },
+        ) => Ok(()),
+        _ => Err(fault),
+    }
+}

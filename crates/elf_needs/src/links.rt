@@ -1,0 +1,146 @@
+//! What a file needs, and where that is kept.
+ghost use Rattle.std.specs.Prelude.{◌≡◌, ◌<◌, ◌++◌, ◌∷◌, [], ◌&&◌, ℕ, List, IfOk, IfSome, IsNone, is_some, nat_lt, length, slice_get, slice_index_or, if◌then◌else◌};
+ghost use Rattle.elf_table.specs.Ledger.{CallDid, fault_of_result};
+ghost use Rattle.elf_model.specs.Links.{LINK_TEXT_BYTES};
+ghost use Rattle.elf_model.specs.Names.{shown};
+ghost use Rattle.elf_needs.specs.Held.{with_text};
+ghost use Rattle.elf_needs.specs.Entries.{ReturnsText, text_by};
+ghost use Rattle.elf_table.specs.Tables.{StringsInBounds, strings_in};
+
+use crate::texts::StringArena;
+use elf_table::{Fault, NameBuf, NameEnd, NameLimit, Names, refused};
+use elf_record::Cause;
+use elf_source::{Counted, Source};
+use std::alloc::{AllocError, Global};
+use std::marker::Model;
+
+/// How many bytes of a text are read: a longer one is refused.
+const TEXT_CAP: NameLimit = NameLimit { bytes: 4096 };
+
+/// A library that a file needs.
+#[derive(Clone, Copy)]
+pub struct Need {
+    /// The file offset of the dynamic entry that tells of it.
+    pub at: u64,
+    /// The index of its name.
+    pub name: u32,
+}
+
+/// What the dynamic entries of a file tell of how it is linked (gABI 5, Dynamic Section). A text is told by
+/// its index.
+#[derive(Clone, Copy)]
+pub struct LinkInfo {
+    /// DT_SONAME: its name as a library.
+    pub soname: Option<u32>,
+    /// DT_RPATH: where libraries are looked for.
+    pub rpath: Option<u32>,
+    /// DT_RUNPATH: the same, in its place.
+    pub runpath: Option<u32>,
+}
+
+/// The texts of many files, and what they need, one behind the other, in memory that is taken once.
+#[derive(Drop)]
+pub struct LinkInfoStore {
+    texts: StringArena,
+    needs: Vec<Need>,
+    /// The text that is read.
+    name: NameBuf,
+}
+
+impl Model for LinkInfoStore {
+    ghost use Rattle.std.specs.Prelude.{◌≤◌, ◌+◌, length, vec_capacity};
+    ghost use Rattle.elf_needs.specs.Held.{LinkInfoState};
+
+    ghost Value = { LinkInfoState };
+
+    ghost view = { λ n. record { held = n.texts; needs = n.needs.items } };
+
+    ghost invariant = { λ n. (length n.needs.items ≤ length n.texts.texts)
+        × (length n.texts.texts + n.texts.room.texts ≤ vec_capacity n.needs) };
+}
+
+impl LinkInfoStore {
+    /// Room for so many texts of so many bytes together, and as many needs. The memory is taken from
+    /// `alloc` here: `bytes`, and 24 for each text.
+    ///
+    /// # Errors
+    /// Where memory is refused.
+    pub fn new(alloc: Global, bytes: u32, texts: u32) -> Result<LinkInfoStore, AllocError>
+        ensures { IfOk result (λ store. store ≡ record {
+          held = record { texts = []; room = record { bytes = bytes; texts = texts } };
+          needs = [];
+        }) }
+    {
+        Ok(LinkInfoStore {
+            texts: StringArena::new(alloc, bytes, texts)?,
+            needs: Vec::with_capacity(alloc, texts as usize)?,
+            name: NameBuf::new(),
+        })
+    }
+
+    /// The text of an index; where there is none of that index the empty text.
+    pub fn text(&self, index: u32) -> &[u8]
+        ensures { result.now ≡ slice_index_or self.now.held.texts index [] }
+    {
+        self.texts.get(index)
+    }
+
+    /// How many needs there are, of all files.
+    pub fn needs(&self) -> usize
+        ensures { result ≡ length self.now.needs }
+    {
+        self.needs.len()
+    }
+
+    /// The need of an index, if there is one.
+    pub fn need(&self, index: usize) -> Option<Need>
+        ensures { result ≡ slice_get self.now.needs index }
+    {
+        match self.needs.get(index) {
+            Some(need) => Some(*need),
+            None => None,
+        }
+    }
+
+    /// Reads the text at an index of a string table, for the entry at a file offset, and keeps it. Answers
+    /// its index.
+    ///
+    /// # Errors
+    /// Those of [`Names::read`], and `TooLong` at the entry where it has more than 4,096 bytes or finds no
+    /// room.
+    pub(crate) fn read<S: Source>(
+        &mut self,
+        src: &mut Counted<S>,
+        names: Names,
+        off: u64,
+        at: u64,
+    ) -> Result<u32, Fault>
+        requires { StringsInBounds src.old.seen.size names }
+        ensures did { CallDid src.old src.new (fault_of_result result) 4160 (λ file. ReturnsText
+            (text_by self.old.held.room at (shown (strings_in file names) off LINK_TEXT_BYTES))
+            self.old self.new result) }
+    {
+        match names.read(src, off, at, TEXT_CAP, &mut self.name)? {
+            NameEnd::Cut => refused(at, Cause::TooLong),
+            NameEnd::Whole => match self.texts.push(self.name.bytes()) {
+                Some(text) => Ok(text),
+                None => refused(at, Cause::TooLong),
+            },
+        }
+    }
+
+    /// Keeps a need, whose name is the text that was kept last. Answers whether there is room for it.
+    pub(crate) fn push_needed(&mut self, need: Need) -> bool
+        ensures kept { result ≡ nat_lt (length self.old.needs) (length self.old.held.texts) }
+        ensures need { self.new ≡ (if result then record {
+          held = self.old.held;
+          needs = self.old.needs ++ need ∷ [];
+        } else self.old) }
+    {
+        if self.needs.len() >= self.texts.len() {
+            return false;
+        }
+        self.needs.push(need).unwrap();
+        true
+    }
+}

@@ -1,0 +1,79 @@
+//! Whether a file lacks a version.
+ghost use Rattle.std.specs.Prelude.{◌≡◌, ◌≤◌, length, MatchBool};
+ghost use Rattle.elf_needs.specs.Lacking.{HasNoTable, definition_if, definitions_of};
+ghost use Rattle.elf_needs.specs.Sought.{ReturnsAs};
+ghost use Rattle.elf_table.specs.Ledger.{CallDid, fault_of_result};
+ghost use Rattle.elf_loader.specs.Comparing.{comparing_bytes};
+ghost use Rattle.elf_loader.specs.Tables.{max_versions_of};
+ghost use Rattle.elf_model.specs.BoundSymbols.{lacks_version};
+ghost use Rattle.elf_model.specs.Loader.{Version};
+ghost use Rattle.elf_model.specs.LoaderScope.{LookupTables as IsScopeOf};
+ghost use Rattle.elf_hash.specs.Symbols.{IsDynamicSymbols, DynamicSymbolsInBounds};
+
+use elf_table::Fault;
+use elf_loader::version_indices;
+use elf_hash::{Symbols, VersionRecordTable};
+use elf_record::VersionKind;
+use elf_source::{Counted, Source};
+use elf_options::Asked;
+
+/// Whether a file defines versions, and none by a name of at most 4,096 bytes.
+///
+/// # Errors
+/// Those of [`version_indices`], of the definitions.
+pub(crate) fn lacks_version<S: Source>(
+    src: &mut Counted<S>,
+    symbols: &Symbols,
+    version: &[u8],
+) -> Result<bool, Fault>
+    requires most { length version.now ≤ 4096 }
+    requires lies { DynamicSymbolsInBounds src.old.seen.size symbols.now }
+    ensures { CallDid src.old src.new (fault_of_result result)
+        (comparing_bytes (Version version.now) (max_versions_of symbols.now))
+        (λ file. (told : IsScopeOf) → IsDynamicSymbols file told.symbols symbols.now →
+        ReturnsAs (lacks_version file told.symbols version.now) result) }
+{
+    if symbols.words.is_none() {
+        return Ok(false);
+    }
+    let own = definitions_of(symbols);
+    if is_bare(&own) {
+        return Ok(false);
+    }
+    let numbers = version_indices(src, &own, &Asked::Version(version))?;
+    Ok(numbers.is_empty())
+}
+
+/// Whether symbols have no table of records.
+fn is_bare(symbols: &Symbols) -> bool
+    ensures { MatchBool result (HasNoTable symbols.now) (HasNoTable symbols.now → ⊥) }
+{
+    symbols.definitions.is_none() && symbols.needs.is_none()
+}
+
+/// The symbols with those of their tables of records alone that are definitions.
+fn definitions_of(symbols: &Symbols) -> Symbols
+    ensures { result ≡ definitions_of symbols.now }
+{
+    Symbols {
+        index: symbols.index,
+        table: symbols.table,
+        names: symbols.names,
+        words: symbols.words,
+        definitions: definition_if(symbols.definitions),
+        needs: definition_if(symbols.needs),
+    }
+}
+
+/// A table of records, if there is one and it is of definitions.
+fn definition_if(records: Option<VersionRecordTable>) -> Option<VersionRecordTable>
+    ensures { result ≡ definition_if records }
+{
+    match records {
+        Some(table) => match table.kind {
+            VersionKind::Definition => Some(table),
+            VersionKind::File | VersionKind::Need => None,
+        },
+        None => None,
+    }
+}

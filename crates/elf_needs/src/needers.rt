@@ -1,0 +1,128 @@
+//! The folders in which a library is looked for that an object needs.
+ghost use Rattle.std.specs.Prelude.{◌≡◌, ◌<◌, ◌≤◌, ◌+◌, ◌++◌, [], length, option_map};
+ghost use Rattle.std.specs.List.{cons_option};
+ghost use Rattle.elf_needs.specs.Searching.{first_runpath, given_dirs, rpath_dirs, rpath_of, runpath_of, search_dirs};
+ghost use Rattle.elf_needs.specs.Steps.{dirs_in, dirs_of, needer_of, needers_of};
+
+use crate::folders::SearchPathList;
+use arrayvec::ArrayVec;
+
+/// An object that needs others: its DT_RPATH and its DT_RUNPATH, if it has such, and the folder that it is
+/// in (gABI 5, Shared Object Dependencies).
+#[derive(Clone, Copy)]
+pub struct NeedingObject<'a> {
+    /// Its DT_RPATH.
+    pub rpath: Option<&'a [u8]>,
+    /// Its DT_RUNPATH.
+    pub runpath: Option<&'a [u8]>,
+    /// The folder that it is in.
+    pub folder: &'a [u8],
+}
+
+impl<'a> Default for NeedingObject<'a> {
+    ghost is_default = { λ n. n.folder.now ≡ [] };
+
+    fn default() -> Self {
+        NeedingObject {
+            rpath: None,
+            runpath: None,
+            folder: b"",
+        }
+    }
+}
+
+/// Texts of folders, in the order in which they are searched.
+pub type SearchPaths<'a> = ArrayVec<SearchPathList<'a>, 515>;
+
+/// What an object's own DT_RPATH names: nothing where it has DT_RUNPATH.
+fn rpath_of<'a>(needer: &NeedingObject<'a>) -> Option<SearchPathList<'a>>
+    ensures { option_map dirs_of result ≡ rpath_of (needer_of needer.now) }
+{
+    if needer.runpath.is_some() {
+        return None;
+    }
+    match needer.rpath {
+        Some(text) => Some(SearchPathList {
+            text,
+            origin: Some(needer.folder),
+        }),
+        None => None,
+    }
+}
+
+/// What an object's DT_RUNPATH names.
+fn runpath_of<'a>(needer: &NeedingObject<'a>) -> Option<SearchPathList<'a>>
+    ensures { option_map dirs_of result ≡ runpath_of (needer_of needer.now) }
+{
+    match needer.runpath {
+        Some(text) => Some(SearchPathList {
+            text,
+            origin: Some(needer.folder),
+        }),
+        None => None,
+    }
+}
+
+/// Folders that a command line tells.
+fn given_dirs(text: &[u8]) -> SearchPathList<'_>
+    ensures { dirs_of result ≡ given_dirs text.now }
+{
+    SearchPathList { text, origin: None }
+}
+
+/// What DT_RUNPATH of the first of some objects names.
+#[tactic(auto, unfolding(crate::specs::Searching::first_runpath))]
+fn first_runpath<'a>(needers: &[NeedingObject<'a>]) -> Option<SearchPathList<'a>>
+    ensures { option_map dirs_of result ≡ first_runpath (needers_of needers.now) }
+{
+    match needers.first() {
+        Some(needer) => runpath_of(needer),
+        None => None,
+    }
+}
+
+/// Puts folders, if there are such, behind others.
+fn put_dirs<'a>(lists: &mut SearchPaths<'a>, folders: Option<SearchPathList<'a>>)
+    requires { length lists.old.items < 515 }
+    ensures folders { dirs_in lists.new.items
+        ≡ dirs_in lists.old.items ++ cons_option (option_map dirs_of folders.entry) [] }
+    ensures len { length lists.new.items ≤ length lists.old.items + 1 }
+{
+    if let Some(folders) = folders {
+        lists.push(folders);
+    }
+}
+
+/// Puts the texts of the folders in which a library is looked for that an object needs, the first of at most
+/// 512; behind it stands the object that first needed it, and so on.
+pub fn gather_dirs<'a>(
+    needers: &[NeedingObject<'a>],
+    library: &'a [u8],
+    default: &'a [u8],
+    lists: &mut SearchPaths<'a>,
+)
+    requires { length needers.now ≤ 512 }
+    ensures { dirs_in lists.new.items
+        ≡ search_dirs library.now default.now (needers_of needers.now) }
+{
+    let runpath = first_runpath(needers);
+    lists.clear();
+    if runpath.is_none() {
+        gather_rpaths(needers, lists);
+    }
+    put_dirs(lists, Some(given_dirs(library)));
+    put_dirs(lists, runpath);
+    put_dirs(lists, Some(given_dirs(default)));
+}
+
+/// Puts what DT_RPATH names of objects behind no folders.
+fn gather_rpaths<'a>(needers: &[NeedingObject<'a>], lists: &mut SearchPaths<'a>)
+    requires few { length needers.now ≤ 512 }
+    requires none { lists.old.items ≡ [] }
+    ensures folders { dirs_in lists.new.items ≡ rpath_dirs (needers_of needers.now) }
+    ensures few { length lists.new.items ≤ 512 }
+{
+    for needer in needers {
+        put_dirs(lists, rpath_of(needer));
+    }
+}

@@ -1,0 +1,200 @@
+//! A file that names are looked for in.
+ghost use Rattle.std.specs.Prelude.{◌≡◌, ◌≤◌, ◌+◌, ◌*◌, length, true};
+ghost use Rattle.elf_table.specs.Ledger.{CallDid};
+ghost use Rattle.elf_needs.specs.Kept.{KeepsScope, source_of, why_back};
+ghost use Rattle.elf_needs.specs.Looks.{LooksInObject, Prepares};
+ghost use Rattle.elf_needs.specs.Sought.{CountsHashed, LooksForVersion, ReadsFileName, Seeks};
+ghost use Rattle.elf_loader.specs.Lookups.{AreShort};
+ghost use Rattle.elf_options.specs.Wants.{query_of};
+
+use crate::definition::find_definer;
+use crate::hashed::hashed_symbols;
+use crate::missing_version::lacks_version;
+use crate::ready::ready_table;
+use crate::reference::{SymbolReference, reference_of, whole_name};
+use crate::budget::spend_budget;
+use elf_hash::{find_lookup_tables, HashTable, LookupTables};
+use elf_table::{Fault, HeaderStore, NameBuf};
+use elf_source::{Counted, Source};
+use elf_note::VersionRecord;
+use elf_options::Wanted;
+use std::marker::Model;
+
+/// A file that names are looked for in: its source, and what a lookup in it is made in.
+#[derive(Drop)]
+pub struct Object<S: Source> {
+    source: Counted<S>,
+    scope: LookupTables,
+    headers: u16,
+    // The hash table with its counts, where no lookup is refused before its walk, once that is known.
+    ready: Option<HashTable>,
+}
+
+impl<S: Source> Model for Object<S> {
+    ghost use Rattle.elf_needs.specs.Kept.{IsKept, LookupObjectState};
+
+    ghost Value = { LookupObjectState };
+
+    ghost view = { λ o. record { src = o.source; headers = o.headers } };
+
+    ghost invariant = { λ o. IsKept o.source.seen o.headers o.scope o.ready };
+}
+
+impl<S: Source> Object<S> {
+    /// Finds what a lookup in a file is made in, as [`find_lookup_tables`] does, once, and keeps it: by its program
+    /// headers, since the source hides where section headers are. The headers are loaded into the store, which
+    /// is free again afterwards.
+    ///
+    /// # Errors
+    /// Those of [`find_lookup_tables`]; the source is given back.
+    pub fn open(
+        source: Counted<S>,
+        store: &mut HeaderStore,
+    ) -> Result<Object<S>, (Counted<S>, Fault)>
+        requires by_segments { source.hides ≡ true }
+        ensures did { CallDid source (source_of result) (why_back result)
+            (64 + 64 * store.old.slots + source.seen.size)
+            (λ file. KeepsScope file store.old.slots source result) }
+        ensures slots { store.new.slots ≡ store.old.slots }
+    {
+        let mut source = source;
+        match find_lookup_tables(&mut source, store) {
+            Ok(scope) => Ok(Object {
+                source,
+                scope,
+                headers: store.slots(),
+                ready: None,
+            }),
+            Err(fault) => Err((source, fault)),
+        }
+    }
+
+    /// Reads once what its lookups have in common: the counts of the hash table, and whether the records
+    /// of versions have no fault. What is refused or fails is passed over, and each lookup tells it. No
+    /// more is asked for than what is left of a budget, where there is one; what was asked for is taken
+    /// off. Afterwards no limit is set.
+    pub fn prepare(&mut self, left: &mut Option<u64>)
+        ensures { Prepares self.old self.new left.old left.new }
+    {
+        let asked = self.source.asked();
+        self.source.limit(*left);
+        let ready = ready_table(&mut self.source, &self.scope);
+        self.source.limit(None);
+        spend_budget(left, self.source.asked() - asked);
+        self.ready = ready.unwrap_or(None);
+    }
+
+    /// How many bytes were asked of its source.
+    pub fn asked(&self) -> u128
+        ensures { result ≡ self.now.src.asked }
+    {
+        self.source.asked()
+    }
+
+    /// Looks for the symbol that defines a name, and asks for no more than what is left of a budget,
+    /// where there is one. What was asked for is taken off. Afterwards no limit is set.
+    ///
+    /// # Errors
+    /// Those of [`find_definer`].
+    pub(crate) fn look(
+        &mut self,
+        left: &mut Option<u64>,
+        wanted: &Wanted<'_>,
+    ) -> Result<Option<u64>, Fault>
+        requires { AreShort (query_of wanted.now) }
+        ensures { LooksInObject (query_of wanted.now) self.old self.new left.old left.new result }
+    {
+        let asked = self.source.asked();
+        self.source.limit(*left);
+        let found = find_definer(&mut self.source, &self.scope, &self.ready, wanted);
+        self.source.limit(None);
+        spend_budget(left, self.source.asked() - asked);
+        found
+    }
+
+    /// How many symbols it has, by its hash table, of those that there is room for: the first is none (gABI
+    /// 4, Symbol Table). No more is asked for than what is left of a budget, where there is one; what was
+    /// asked for is taken off. Afterwards no limit is set.
+    ///
+    /// # Errors
+    /// Those of [`hashed_symbols`].
+    pub fn symbol_count(&mut self, left: &mut Option<u64>) -> Result<u64, Fault>
+        ensures { CountsHashed self.old self.new left.old left.new result }
+    {
+        let asked = self.source.asked();
+        self.source.limit(*left);
+        let count = hashed_symbols(&mut self.source, &self.scope);
+        self.source.limit(None);
+        spend_budget(left, self.source.asked() - asked);
+        count
+    }
+
+    /// What the symbol of an index asks others for: its name, into `name`, and the version that it asks
+    /// for, into `version`; None where it asks for nothing, and behind the last symbol that there is room
+    /// for. No more is asked for than what is left of a budget, where there is one; what was asked for is
+    /// taken off. Afterwards no limit is set.
+    ///
+    /// # Errors
+    /// Those of [`reference_symbol`].
+    pub fn sought(
+        &mut self,
+        left: &mut Option<u64>,
+        index: u64,
+        name: &mut NameBuf,
+        version: &mut NameBuf,
+    ) -> Result<Option<SymbolReference>, Fault>
+        ensures { Seeks index name.new version.new self.old self.new left.old left.new result }
+    {
+        let asked = self.source.asked();
+        self.source.limit(*left);
+        let sought = reference_of(&mut self.source, &self.scope.symbols, index, name, version);
+        self.source.limit(None);
+        spend_budget(left, self.source.asked() - asked);
+        sought
+    }
+
+    /// Reads the name of the needed file whose record is told by [`Object::sought`]. No more is asked for
+    /// than what is left of a budget, where there is one; what was asked for is taken off. Afterwards no
+    /// limit is set.
+    ///
+    /// # Errors
+    /// Those of the name, at the record: `NameOutside`, `NameUnended`, and `TooLong` where it has more than
+    /// 4,096 bytes. Else a fault of a read, or a refusal for want of budget.
+    pub fn needed_file(
+        &mut self,
+        left: &mut Option<u64>,
+        file: &VersionRecord,
+        name: &mut NameBuf,
+    ) -> Result<(), Fault>
+        ensures { ReadsFileName file.now.name file.now.named_at name.new self.old self.new left.old
+            left.new result }
+    {
+        let asked = self.source.asked();
+        self.source.limit(*left);
+        let off = u64::from(file.name);
+        let names = self.scope.symbols.names;
+        let read = whole_name(&mut self.source, names, off, file.named_at, name);
+        self.source.limit(None);
+        spend_budget(left, self.source.asked() - asked);
+        read
+    }
+
+    /// Whether it defines versions, and none by a name of at most 4,096 bytes. No more is asked for than
+    /// what is left of a budget, where there is one; what was asked for is taken off. Afterwards no limit
+    /// is set.
+    ///
+    /// # Errors
+    /// The first record of its definitions that is refused, or whose name has a fault, at what holds the
+    /// name. Else a fault of a read, or a refusal for want of budget.
+    pub fn lacks_version(&mut self, left: &mut Option<u64>, version: &[u8]) -> Result<bool, Fault>
+        requires { length version.now ≤ 4096 }
+        ensures { LooksForVersion version.now self.old self.new left.old left.new result }
+    {
+        let asked = self.source.asked();
+        self.source.limit(*left);
+        let lacks = lacks_version(&mut self.source, &self.scope.symbols, version);
+        self.source.limit(None);
+        spend_budget(left, self.source.asked() - asked);
+        lacks
+    }
+}

@@ -1,0 +1,146 @@
+//! Paths that are made of folders and names.
+ghost use Rattle.std.specs.Prelude.{◌≡◌, ◌==◌, ◌∷◌, ◌++◌, ◌≤◌, [], length, Some, None, true, false, slice_index};
+ghost use Rattle.elf_needs.specs.Searching.{MOST_PATH_BYTES, PATH_SLASH, after_dir, root_before, entry_path, expanded, IsDirOf, dir_of_entry, if_short, is_rooted};
+ghost use Rattle.elf_needs.specs.Steps.{IsMade, PutsText, origin_of};
+
+use crate::tokens::token_in;
+use arrayvec::ArrayVec;
+use memchr::memrchr;
+
+/// A path that is tried, at most as long as one can be opened.
+pub type CandidatePath = ArrayVec<u8, 4095>;
+
+/// Puts bytes behind a path. Answers whether there is room for them: else nothing changes.
+fn put(path: &mut CandidatePath, bytes: &[u8]) -> bool
+    ensures puts { PutsText path.old.items path.new.items (Some bytes.now) result }
+    ensures within { result ≡ true → length path.new.items ≤ MOST_PATH_BYTES }
+{
+    path.try_extend_from_slice(bytes).is_ok()
+}
+
+/// Puts a byte behind a path. Answers whether there is room for it: else nothing changes.
+fn put_byte(path: &mut CandidatePath, byte: u8) -> bool
+    ensures { PutsText path.old.items path.new.items (Some (byte ∷ [])) result }
+{
+    path.try_push(byte).is_ok()
+}
+
+/// Whether a text begins with a slash.
+fn is_rooted(text: &[u8]) -> bool
+    ensures { result ≡ is_rooted text.now }
+{
+    !text.is_empty() && text[0] == b'/'
+}
+
+/// Puts a text behind a path, with what stands for its tokens. Answers whether each `$` begins one and
+/// there is room for it all.
+fn put_expanded(path: &mut CandidatePath, text: &[u8], origin: &[u8]) -> bool
+    ensures { PutsText path.old.items path.new.items (expanded origin.now 0 text.now) result }
+{
+    let mut at = 0;
+    while at < text.len() {
+        if text[at] != b'$' {
+            if !put_byte(path, text[at]) {
+                return false;
+            }
+            at += 1;
+            continue;
+        }
+        let Some(token) = token_in(origin, &text[at + 1..]) else {
+            return false;
+        };
+        if !put(path, token.value) {
+            return false;
+        }
+        at += 1 + token.size;
+    }
+    true
+}
+
+/// Puts the folder that an entry names behind a path.
+#[tactic(auto, unfolding(crate::specs::Searching::dir_of_entry))]
+fn put_dir(path: &mut CandidatePath, entry: &[u8], origin: Option<&[u8]>) -> bool
+    ensures { PutsText path.old.items path.new.items
+        (dir_of_entry (origin_of origin.entry) entry.now) result }
+{
+    match origin {
+        None => put(path, entry),
+        Some(origin) => put_expanded(path, entry, origin),
+    }
+}
+
+/// Puts what stands below another root before a text that begins with a slash.
+fn push_root(path: &mut CandidatePath, root: &[u8], text: &[u8]) -> bool
+    ensures { PutsText path.old.items path.new.items (Some (root_before root.now text.now)) result }
+{
+    if is_rooted(text) {
+        return put(path, root);
+    }
+    true
+}
+
+/// Puts what stands between a folder and a name in it.
+#[tactic(auto, unfolding(crate::specs::Searching::after_dir))]
+fn put_after(path: &mut CandidatePath) -> bool
+    ensures { PutsText path.old.items path.new.items (Some (after_dir path.old.items)) result }
+{
+    if path.is_empty() {
+        return put(path, b"./");
+    }
+    put(path, b"/")
+}
+
+/// Puts a name behind the folder that it is in.
+fn put_name(path: &mut CandidatePath, name: &[u8]) -> bool
+    ensures puts { PutsText path.old.items path.new.items
+        (Some (after_dir path.old.items ++ name.now)) result }
+    ensures within { result ≡ true → length path.new.items ≤ MOST_PATH_BYTES }
+{
+    put_after(path) && put(path, name)
+}
+
+/// Makes the path of a name in the folder that an entry names, below a root. Answers whether there is such
+/// a path; else what the path holds means nothing.
+pub(crate) fn put_entry(
+    path: &mut CandidatePath,
+    root: &[u8],
+    name: &[u8],
+    entry: &[u8],
+    origin: Option<&[u8]>,
+) -> bool
+    ensures { IsMade path.new.items
+        (entry_path root.now name.now (origin_of origin.entry) entry.now) result }
+{
+    path.clear();
+    if !push_root(path, root, entry) {
+        return false;
+    }
+    if !put_dir(path, entry, origin) {
+        return false;
+    }
+    put_name(path, name)
+}
+
+/// Makes the path that a name with a slash in it is, below a root. Answers whether it can be opened; else
+/// what the path holds means nothing.
+pub fn named_path(path: &mut CandidatePath, root: &[u8], name: &[u8]) -> bool
+    ensures { IsMade path.new.items (if_short (root_before root.now name.now ++ name.now)) result }
+{
+    path.clear();
+    if !push_root(path, root, name) {
+        return false;
+    }
+    put(path, name)
+}
+
+/// The folder of a path: what stands before its last slash, `/` where nothing does, and the current folder
+/// where there is none.
+pub fn dir_of_path(path: &[u8]) -> &[u8]
+    ensures { IsDirOf path.now result.now }
+{
+    match memrchr(b'/', path) {
+        Some(0) => b"/",
+        Some(place) => &path[..place],
+        None => b".",
+    }
+}

@@ -1,0 +1,228 @@
+//! What a symbol of a file asks others for.
+ghost use Rattle.std.specs.Prelude.{◌≡◌, ℕ, ◌+◌, ◌*◌, ◌<◌, ◌∷◌, [], List, None, Some, IfOk};
+ghost use Rattle.elf_needs.specs.Sought.{SeeksOf, ReturnsAsked, ReturnsSought, ReturnsVersionIf, ReturnsWhole};
+ghost use Rattle.elf_table.specs.Ledger.{CallDid, fault_of_result};
+ghost use Rattle.elf_loader.specs.Naming.{IsFileIf};
+ghost use Rattle.elf_loader.specs.Tables.{max_versions_of};
+ghost use Rattle.elf_model.specs.Bindings.{SOUGHT_BYTES, is_reference, is_weak, reference_at, reference_by_index, reference_version, whole_name};
+ghost use Rattle.elf_model.specs.BoundSymbols.{file_before, file_of_version};
+ghost use Rattle.elf_model.specs.Loader.{Symbols as AreSymbolsOf, is_among, readings, symbol_offset};
+ghost use Rattle.elf_model.specs.Names.{name_bytes};
+ghost use Rattle.elf_model.specs.Numbers.{STB_GLOBAL, STB_WEAK, STB_GNU_UNIQUE};
+ghost use Rattle.elf_record.specs.Sym.{IsSym};
+ghost use Rattle.elf_hash.specs.Symbols.{IsDynamicSymbols, DynamicSymbolsInBounds};
+ghost use Rattle.elf_table.specs.Tables.{StringsInBounds, strings_in};
+
+use elf_table::{Fault, NameBuf, NameEnd, NameLimit, Names, refused};
+use elf_loader::{name_of, read_half};
+use elf_hash::Symbols;
+use elf_record::gnu_numbers::STB_GNU_UNIQUE;
+use elf_record::numbers::{SHN_UNDEF, STB_GLOBAL, STB_WEAK};
+use elf_record::{Cause, Sym};
+use elf_source::{Counted, Source};
+use elf_note::VersionRecord;
+
+/// How many bytes a name of a symbol or a version has at most that is asked for.
+const SOUGHT_CAP: NameLimit = NameLimit { bytes: 4096 };
+
+/// A symbol that others are asked for.
+#[derive(Clone, Copy)]
+pub struct SymbolReference {
+    /// Whether it is weak: it may be defined by none.
+    pub weak: bool,
+    /// Whether it asks for a version.
+    pub versioned: bool,
+    /// The record of the needed file of which it asks for that version, if it is of one.
+    pub file: Option<VersionRecord>,
+}
+
+/// The version that a symbol asks for.
+#[derive(Clone, Copy)]
+struct VersionReference {
+    /// Whether it asks for one.
+    versioned: bool,
+    /// The record of the needed file that it is of, if it is of one.
+    file: Option<VersionRecord>,
+}
+
+/// No version.
+const NO_VERSION: VersionReference = VersionReference {
+    versioned: false,
+    file: None,
+};
+
+/// What the symbol of an index asks others for: its name, into `name`, and where it asks for a version
+/// that, into `version`. None where it asks for nothing: it is defined, or local, or has no name. After
+/// a fault they hold any bytes.
+///
+/// # Errors
+/// At the symbol: those of its name, as [`Names::read`] has them, and `TooLong` where that has more than
+/// 4,096 bytes. `VersionCut` at what tells of the words of versions where it has none. Those of the
+/// records up to the first that has the number of its version; `VersionIndex` at the word where none
+/// has; at what holds the name of the version the same as of the symbol's. Else a fault of a read.
+pub(crate) fn reference_symbol<S: Source>(
+    src: &mut Counted<S>,
+    symbols: &Symbols,
+    index: u64,
+    name: &mut NameBuf,
+    version: &mut NameBuf,
+) -> Result<Option<SymbolReference>, Fault>
+    requires below { index < symbols.now.table.count }
+    requires lies { DynamicSymbolsInBounds src.old.seen.size symbols.now }
+    ensures did { CallDid src.old src.new (fault_of_result result) (24 + name_bytes SOUGHT_BYTES
+        + (2 + max_versions_of symbols.now * 28 + name_bytes SOUGHT_BYTES))
+        (λ file. (told : AreSymbolsOf) → IsDynamicSymbols file told symbols.now →
+        ReturnsSought (reference_at file told index) (is_weak file (symbol_offset told index))
+        name.new version.new result) }
+    ensures file { (bytes : List ℕ) → src.old.seen.file ≡ Some bytes → (told : AreSymbolsOf) →
+        IsDynamicSymbols bytes told symbols.now → SeeksOf bytes (file_of_version bytes told index) result }
+{
+    let symbol = symbols.table.symbol(src, index)?;
+    if !is_reference(&symbol) {
+        return Ok(None);
+    }
+    let place = symbols.table.place(index);
+    whole_name(src, symbols.names, u64::from(symbol.st_name), place, name)?;
+    let asked = reference_version(src, symbols, index, version)?;
+    Ok(Some(SymbolReference {
+        weak: is_weak(&symbol),
+        versioned: asked.versioned,
+        file: asked.file,
+    }))
+}
+
+/// The same, and None behind the last symbol that there is room for.
+///
+/// # Errors
+/// Those of [`reference_symbol`].
+pub(crate) fn reference_of<S: Source>(
+    src: &mut Counted<S>,
+    symbols: &Symbols,
+    index: u64,
+    name: &mut NameBuf,
+    version: &mut NameBuf,
+) -> Result<Option<SymbolReference>, Fault>
+    requires lies { DynamicSymbolsInBounds src.old.seen.size symbols.now }
+    ensures did { CallDid src.old src.new (fault_of_result result) (24 + name_bytes SOUGHT_BYTES
+        + (2 + max_versions_of symbols.now * 28 + name_bytes SOUGHT_BYTES))
+        (λ file. (told : AreSymbolsOf) → IsDynamicSymbols file told symbols.now →
+        index < symbols.now.table.count →
+        ReturnsSought (reference_at file told index) (is_weak file (symbol_offset told index))
+        name.new version.new result) }
+    ensures file { (bytes : List ℕ) → src.old.seen.file ≡ Some bytes → (told : AreSymbolsOf) →
+        IsDynamicSymbols bytes told symbols.now → SeeksOf bytes (file_of_version bytes told index) result }
+{
+    if index >= symbols.table.len() {
+        return Ok(None);
+    }
+    reference_symbol(src, symbols, index, name, version)
+}
+
+/// Whether a symbol asks others for something: it is undefined, global, weak or unique, and has a name.
+#[tactic(auto, unfolding(elf_model::specs::Bindings::is_reference))]
+fn is_reference(symbol: &Sym) -> bool
+    ensures { (file : List ℕ) (at : ℕ) → IsSym file at symbol.now → result ≡ is_reference file at }
+{
+    symbol.st_shndx == SHN_UNDEF && has_reference_binding(symbol.binding()) && symbol.st_name != 0
+}
+
+// Whether a binding is one of symbols that others are asked for.
+fn has_reference_binding(binding: u8) -> bool
+    ensures { result ≡ is_among binding (STB_GLOBAL ∷ STB_WEAK ∷ STB_GNU_UNIQUE ∷ []) }
+{
+    binding == STB_GLOBAL || binding == STB_WEAK || binding == STB_GNU_UNIQUE
+}
+
+/// Whether a symbol may be defined by none.
+fn is_weak(symbol: &Sym) -> bool
+    ensures { (file : List ℕ) (at : ℕ) → IsSym file at symbol.now → result ≡ is_weak file at }
+{
+    symbol.binding() == STB_WEAK
+}
+
+/// Reads a whole name of at most 4,096 bytes.
+///
+/// # Errors
+/// At `at`: those of [`Names::read`], and `TooLong`.
+pub(crate) fn whole_name<S: Source>(
+    src: &mut Counted<S>,
+    names: Names,
+    off: u64,
+    at: u64,
+    name: &mut NameBuf,
+) -> Result<(), Fault>
+    requires { StringsInBounds src.old.seen.size names }
+    ensures { CallDid src.old src.new (fault_of_result result) (name_bytes SOUGHT_BYTES)
+        (λ file. ReturnsWhole (whole_name (strings_in file names) off at) name.new result) }
+{
+    match names.read(src, off, at, SOUGHT_CAP, name)? {
+        NameEnd::Whole => Ok(()),
+        NameEnd::Cut => refused(at, Cause::TooLong),
+    }
+}
+
+/// Whether the symbol of an index asks for a version, which is read.
+///
+/// # Errors
+/// Those of [`reference_symbol`] behind its name.
+fn reference_version<S: Source>(
+    src: &mut Counted<S>,
+    symbols: &Symbols,
+    index: u64,
+    version: &mut NameBuf,
+) -> Result<VersionReference, Fault>
+    requires lies { DynamicSymbolsInBounds src.old.seen.size symbols.now }
+    ensures did { CallDid src.old src.new (fault_of_result result)
+        (2 + max_versions_of symbols.now * 28 + name_bytes SOUGHT_BYTES)
+        (λ file. (told : AreSymbolsOf) → IsDynamicSymbols file told symbols.now →
+        ReturnsVersionIf (reference_version file told index) version.new result) }
+    ensures file { (bytes : List ℕ) → src.old.seen.file ≡ Some bytes → (told : AreSymbolsOf) →
+        IsDynamicSymbols bytes told symbols.now →
+        IfOk result (λ asked. IsFileIf bytes (file_of_version bytes told index) asked.file) }
+{
+    let Some(words) = &symbols.words else {
+        return Ok(NO_VERSION);
+    };
+    if index >= words.words.len() {
+        return refused(words.head, Cause::VersionCut);
+    }
+    let place = words.words.place(index);
+    let number = read_half(src, place)? % (1 << 15);
+    if number < 2 {
+        return Ok(NO_VERSION);
+    }
+    let file = by_number(src, symbols, number, place, version)?;
+    Ok(VersionReference {
+        versioned: true,
+        file,
+    })
+}
+
+/// Reads the name of the version of a number, which a word at a file offset has. Answers the record of
+/// the needed file that it is of, if it is of one.
+///
+/// # Errors
+/// Those of [`reference_symbol`] behind the word.
+fn by_number<S: Source>(
+    src: &mut Counted<S>,
+    symbols: &Symbols,
+    number: u16,
+    at: u64,
+    version: &mut NameBuf,
+) -> Result<Option<VersionRecord>, Fault>
+    requires lies { DynamicSymbolsInBounds src.old.seen.size symbols.now }
+    ensures did { CallDid src.old src.new (fault_of_result result)
+        (max_versions_of symbols.now * 28 + name_bytes SOUGHT_BYTES)
+        (λ file. (told : AreSymbolsOf) → IsDynamicSymbols file told symbols.now →
+        ReturnsAsked (reference_by_index file told.records number at) version.new result) }
+    ensures file { (bytes : List ℕ) → src.old.seen.file ≡ Some bytes → (told : AreSymbolsOf) →
+        IsDynamicSymbols bytes told symbols.now → IfOk result
+        (IsFileIf bytes (file_before bytes number None (readings bytes told.records))) }
+{
+    let Some(named) = name_of(src, symbols, number)? else {
+        return refused(at, Cause::VersionIndex);
+    };
+    let off = u64::from(named.record.name);
+    whole_name(src, named.names, off, named.record.named_at, version)?;
+    Ok(named.file)
+}

@@ -1,0 +1,68 @@
+//! Tokens in the name of a folder.
+ghost use Rattle.std.specs.Prelude.{◌≡◌, ◌≤◌, length, not, option_map, slice_index, IfSome};
+ghost use Rattle.elf_needs.specs.Searching.{is_name_byte, token_in, token_size};
+ghost use Rattle.elf_needs.specs.Steps.{token_of};
+
+/// A token: what stands for it, and how many bytes it has behind its `$`.
+#[derive(Clone, Copy)]
+pub(crate) struct StringToken<'a> {
+    /// What stands for it.
+    pub value: &'a [u8],
+    /// How many bytes it has.
+    pub size: usize,
+}
+
+/// The token that bytes behind a `$` begin with, if they do.
+#[tactic(auto, unfolding(crate::specs::Searching::token_in))]
+pub(crate) fn token_in<'a>(origin: &'a [u8], bytes: &[u8]) -> Option<StringToken<'a>>
+    ensures token { option_map token_of result ≡ token_in origin.now bytes.now }
+    ensures within { IfSome result (λ token. token.size ≤ length bytes.now) }
+{
+    if let Some(size) = token_size(bytes, b"ORIGIN", b"{ORIGIN}") {
+        let value = origin;
+        return Some(StringToken { value, size });
+    }
+    if let Some(size) = token_size(bytes, b"LIB", b"{LIB}") {
+        let value = b"lib/x86_64-linux-gnu";
+        return Some(StringToken { value, size });
+    }
+    if let Some(size) = token_size(bytes, b"PLATFORM", b"{PLATFORM}") {
+        let value = b"x86_64";
+        return Some(StringToken { value, size });
+    }
+    None
+}
+
+/// How many bytes a token has with which bytes begin: the name in braces, or a name that ends there.
+#[tactic(auto, unfolding(crate::specs::Searching::token_size))]
+fn token_size(bytes: &[u8], name: &[u8], braced: &[u8]) -> Option<usize>
+    ensures size { result ≡ token_size bytes.now name.now braced.now }
+    ensures within { IfSome result (λ size. size ≤ length bytes.now) }
+{
+    if bytes.starts_with(braced) {
+        return Some(braced.len());
+    }
+    if bytes.starts_with(name) && ends_name(bytes, name.len()) {
+        return Some(name.len());
+    }
+    None
+}
+
+/// Whether no byte of a name stands at a place.
+#[tactic(auto, unfolding(crate::specs::Searching::is_name_byte))]
+fn ends_name(bytes: &[u8], place: usize) -> bool
+    ensures { result ≡ not (is_name_byte (slice_index bytes.now place)) }
+{
+    !(place < bytes.len() && is_name_byte(bytes[place]))
+}
+
+/// Whether a byte may stand in a name: a letter, a digit, or `_`.
+#[tactic(auto, unfolding(crate::specs::Searching::is_name_byte))]
+fn is_name_byte(byte: u8) -> bool
+    ensures { result ≡ is_name_byte byte }
+{
+    (byte >= 48 && byte < 58)
+        || (byte >= 65 && byte < 91)
+        || (byte >= 97 && byte < 123)
+        || byte == 95
+}

@@ -1,0 +1,78 @@
+//! The paths that are tried in the folders of a text.
+ghost use Rattle.std.specs.Prelude.{◌≡◌, ◌∷◌, [], true, false};
+ghost use Rattle.elf_needs.specs.Searching.{dir_paths};
+ghost use Rattle.elf_needs.specs.Steps.{dirs_of};
+
+use crate::folder_entries::first_entry;
+use crate::folders::SearchPathList;
+use crate::paths::{CandidatePath, put_entry};
+use std::marker::Model;
+
+/// The paths of a name in the folders of a text that were not tried yet.
+#[derive(Drop)]
+pub struct CandidatePaths<'a> {
+    root: &'a [u8],
+    name: &'a [u8],
+    origin: Option<&'a [u8]>,
+    /// What is left of the text.
+    left: Option<&'a [u8]>,
+}
+
+impl<'a> Model for CandidatePaths<'a> {
+    ghost use Rattle.std.specs.Prelude.{List, ℕ};
+    ghost use Rattle.elf_needs.specs.Searching.{entry_paths};
+    ghost use Rattle.elf_needs.specs.Steps.{left_entries, origin_of};
+
+    ghost Value = { List (List ℕ) };
+
+    ghost view = { λ t. entry_paths t.root.now t.name.now (origin_of t.origin) (left_entries t.left) };
+}
+
+impl<'a> CandidatePaths<'a> {
+    /// The paths of a name in the folders of a text, below a root: what stands before each folder that is
+    /// written with a slash at its front.
+    #[tactic(auto, unfolding(crate::specs::Searching::entries_of, crate::specs::Searching::entry_paths))]
+    pub fn new(root: &'a [u8], name: &'a [u8], folders: SearchPathList<'a>) -> CandidatePaths<'a>
+        ensures { result ≡ dir_paths root.now name.now (dirs_of folders.entry) }
+    {
+        let left = if folders.text.is_empty() {
+            None
+        } else {
+            Some(folders.text)
+        };
+        CandidatePaths {
+            root,
+            name,
+            origin: folders.origin,
+            left,
+        }
+    }
+
+    /// No path of a name.
+    #[tactic(auto, unfolding(crate::specs::Searching::entry_paths))]
+    pub(crate) fn none(root: &'a [u8], name: &'a [u8]) -> CandidatePaths<'a>
+        ensures { result ≡ [] }
+    {
+        CandidatePaths {
+            root,
+            name,
+            origin: None,
+            left: None,
+        }
+    }
+
+    /// Makes the next path. Answers whether there is one; else what the path holds means nothing.
+    pub fn next(&mut self, path: &mut CandidatePath) -> bool
+        ensures next { result ≡ true → self.old ≡ path.new.items ∷ self.new }
+        ensures none { result ≡ false → self.old ≡ [] }
+    {
+        while let Some(text) = self.left {
+            let entry = first_entry(text);
+            self.left = entry.behind;
+            if put_entry(path, self.root, self.name, entry.text, self.origin) {
+                return true;
+            }
+        }
+        false
+    }
+}
