@@ -10,9 +10,9 @@ ghost use Rattle.elf_archive.specs.Members.{extent_of_names, names_passed, step_
 use crate::fields::{MEMBER_HEADER_BYTES, data_within, is_name_table, padded_end};
 use crate::member::{FileRange, Member};
 use crate::names::read_name;
-use elf_table::{Fault, fill, NameBuf, NameLimit, refused};
 use elf_record::Cause;
 use elf_source::{Counted, Source};
+use elf_table::{Fault, NameBuf, NameLimit, fill, refused};
 use std::marker::Model;
 
 /// The size of the magic string in bytes: the first member's header stands behind it.

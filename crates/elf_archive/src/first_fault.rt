@@ -13,9 +13,9 @@ ghost use Rattle.elf_archive.specs.Listed.{AsksInArchive, GoesThrough, IsAll};
 use crate::cursor::MemberCursor;
 use crate::magic_strings::magic;
 use crate::parts::{list_member, placed};
-use elf_table::{Caps, HeaderStore, NameBuf, RunFault, Style};
 use elf_record::Parts;
 use elf_source::{Counted, NullSink, Out, RangeSource, Sink, Source};
+use elf_table::{Caps, HeaderStore, NameBuf, RunFault, Style};
 
 /// Goes over an archive and through the listing of each member that is an ELF file, as far as `parts` has
 /// it, up to the first fault. Nothing is written. The source is a range of all bytes of the archive, with

@@ -6,10 +6,10 @@ ghost use Rattle.elf_archive.specs.Listed.{AnswersAfter, HoldsOrBreaks};
 ghost use Rattle.elf_archive.specs.Members.{member_of};
 
 use crate::member::{FileRange, Member};
-use elf_format::{Columns, LinePrefix, member_prefix, Object, show_named};
-use elf_table::{NameBuf, RunFault};
+use elf_format::{Columns, LinePrefix, Object, member_prefix, show_named};
 use elf_model::Format;
 use elf_source::{DeferredLine, DeferredSink, Out, OutFault, Sink, SliceSink};
+use elf_table::{NameBuf, RunFault};
 
 /// The most bytes that a line has which is held back: a name of 4,096 bytes, each spelt in five at most, and
 /// what stands around it.

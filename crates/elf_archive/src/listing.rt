@@ -18,11 +18,11 @@ use crate::lines::{defer_member_line, end_listed, show_member};
 use crate::magic_strings::magic;
 use crate::member::{FileRange, Member};
 use crate::parts::list_member;
-use elf_table::{Caps, HeaderStore, NameBuf, RunFault, Style};
 use elf_format::show_refusal;
 use elf_listing::show_stop;
 use elf_record::Parts;
 use elf_source::{Counted, DeferredSink, Out, RangeSource, Sink, Source};
+use elf_table::{Caps, HeaderStore, NameBuf, RunFault, Style};
 
 /// What is listed of members: how rows are shown, which parts of a listing, and whether their lines stand
 /// alone.

@@ -9,9 +9,9 @@ ghost use Rattle.elf_archive.specs.Members.{AsksAtMost, IsInBounds, extent_of};
 
 use crate::cursor::MAGIC_BYTES;
 use crate::member::FileRange;
-use elf_table::{Fault, fill, refused};
 use elf_record::{Cause, u64_at, word};
 use elf_source::{Counted, Source};
+use elf_table::{Fault, fill, refused};
 
 /// The magic string of an archive, `!<arch>` and a newline.
 const ARCHIVE_MAGIC: u64 = 0x0a3e_6863_7261_3c21;

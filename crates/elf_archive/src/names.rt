@@ -14,9 +14,9 @@ use crate::fields::{
     short_length, slashless_length, trimmed_length,
 };
 use crate::member::FileRange;
-use elf_table::{Fault, fill, NameBuf, NameLimit, refused};
 use elf_record::Cause;
 use elf_source::{Counted, READ_BYTES, Source};
+use elf_table::{Fault, NameBuf, NameLimit, fill, refused};
 
 /// The most bytes of a name outside its field that are looked at: a slash and a newline more than are
 /// shown.

@@ -8,10 +8,10 @@ ghost use Rattle.elf_archive.specs.Members.{extent_of};
 
 use crate::magic_strings::begins_elf;
 use crate::member::FileRange;
-use elf_table::{HeaderStore, RunFault, Style};
 use elf_listing::list;
 use elf_record::{Cause, Parts, Refusal};
 use elf_source::{Counted, Out, RangeSource, Sink, Source};
+use elf_table::{HeaderStore, RunFault, Style};
 
 /// Lists a member that is an ELF file, where parts of a listing are asked for, and answers its listing's
 /// own refusal, with an offset of the member; the line of that is not written. The member's data are

@@ -17,10 +17,10 @@ use crate::fields::{
 use crate::magic_strings::magic;
 use crate::member::FileRange;
 use crate::names::{LONG_NAME_BYTES, long_length};
-use elf_table::Fault;
 use elf_memory::{ByteRange, bytes_of, chunk_at};
 use elf_record::{Cause, Refusal};
 use elf_source::{Counted, MemorySource};
+use elf_table::Fault;
 
 /// The most bytes of a name that a row tells.
 const NAME_CAP: u16 = 4096;

@@ -3,13 +3,13 @@ ghost use Rattle.std.specs.Prelude.{◌≡◌, ◌≤◌, IfSome, length};
 ghost use Rattle.elf_model.specs.ApplyCost.{apply_cost_by_order};
 ghost use Rattle.elf_capi.specs.Applied.{AppliesIn};
 
+use crate::call_status::status_from;
 use crate::lent_sink::ProbeSink;
 use crate::listing::CallOutcome;
-use crate::call_status::status_from;
-use elf_reloc::apply_with;
-use elf_table::HeaderStore;
 use elf_layout::Addresses;
+use elf_reloc::apply_with;
 use elf_source::{Counted, MemorySource, Out};
+use elf_table::HeaderStore;
 
 /// A section that is to be written, the addresses that it is written for, and how many bytes may be read,
 /// where that is limited.

@@ -3,9 +3,9 @@ ghost use Rattle.std.specs.Prelude.{◌≡◌};
 ghost use Rattle.elf_capi.specs.Ends.{ReturnsNone};
 ghost use Rattle.elf_capi.specs.Told.{IsStatus, status_from};
 
-use elf_table::RunFault;
 use crate::end::End;
 use elf_record::Refusal;
+use elf_table::RunFault;
 
 /// What a call that writes to memory did.
 #[derive(Clone, Copy)]

@@ -1,10 +1,10 @@
 //! A listing, as a caller asks for it.
 ghost use Rattle.elf_options.specs.Names.{NeverDescend};
 
-use elf_table::{NameLimit, Style};
 use elf_model::Format;
 use elf_options::{RowFilter, style_with_names};
 use elf_record::Parts;
+use elf_table::{NameLimit, Style};
 
 /// A listing, as a caller asks for it: which parts it has, and how its rows are shown, but for how
 /// many bytes of a name.

@@ -5,11 +5,11 @@ ghost use Rattle.elf_capi.specs.Hashed.{hashed_cost};
 ghost use Rattle.elf_capi.specs.HashedRows.{ReadsHashed};
 
 use crate::counts::short;
-use elf_table::{Fault, HeaderStore};
-use crate::rows::RowPosition;
 use crate::hashed_symbols::hashed_rows;
+use crate::rows::RowPosition;
 use elf_record::Refusal;
 use elf_source::{Counted, MemorySource};
+use elf_table::{Fault, HeaderStore};
 
 /// Finds them within a read budget, where there is one: with `by_segments` by the program headers also
 /// where there are section headers. `asked` is set to how many bytes were asked for.

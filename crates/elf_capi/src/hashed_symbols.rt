@@ -4,10 +4,10 @@ ghost use Rattle.elf_table.specs.Ledger.{CallDid, fault_of_result};
 ghost use Rattle.elf_capi.specs.Hashed.{FindsHashed, hashed_bytes};
 
 use crate::rows::RowPosition;
-use elf_hash::{counts, find_lookup_tables, Symbols};
-use elf_table::{Fault, HeaderStore};
+use elf_hash::{Symbols, counts, find_lookup_tables};
 use elf_record::sizes::SYMBOL_BYTES;
 use elf_source::{Counted, Source};
+use elf_table::{Fault, HeaderStore};
 
 /// The symbols that a file's hash table is of, which a loader looks names up among: by the section
 /// headers, or where there are none by the program headers and their dynamic entries ([`find_lookup_tables`]).

@@ -11,9 +11,11 @@ ghost use Rattle.elf_capi.specs.DynamicTables.{IsDynamicTable};
 ghost use Rattle.elf_capi.specs.VersionRecords.{FindsRecords, SymbolsLink};
 
 use crate::held::MemoryFile;
-use elf_table::{checked_strings, checked_table, ends_outside, Fault, holds_symbols, Names, refused, Table};
 use elf_record::Cause;
 use elf_record::sizes::{DYNAMIC_BYTES, RELOCATION_BYTES, SYMBOL_BYTES, SYMBOL_VERSION_BYTES};
+use elf_table::{
+    Fault, Names, Table, checked_strings, checked_table, ends_outside, holds_symbols, refused,
+};
 
 impl MemoryFile<'_> {
     /// The section as a table of rows of `entry` bytes, 1 to 4,096. One of size 0 is not checked.

@@ -4,12 +4,12 @@ ghost use Rattle.elf_model.specs.Cost.{listing_cost};
 ghost use Rattle.elf_options.specs.Permitted.{style_of};
 ghost use Rattle.elf_capi.specs.Shown.{ListsInMemory};
 
-use crate::lent_sink::ProbeSink;
 use crate::call_status::{Told, status_from};
-use elf_table::{Caps, HeaderStore};
+use crate::lent_sink::ProbeSink;
 use elf_listing::show;
 use elf_record::Parts;
 use elf_source::{Counted, MemorySource, Out};
+use elf_table::{Caps, HeaderStore};
 
 /// What a call that writes to memory did, and how many bytes of the file it asked for.
 #[derive(Clone, Copy)]

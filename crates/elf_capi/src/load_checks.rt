@@ -5,10 +5,10 @@ ghost use Rattle.elf_table.specs.Load.{PassesLoadChecks};
 ghost use Rattle.elf_capi.specs.TableOpenings.{LoadsFile, NamesSections};
 
 use crate::held::{MemoryFile, section_header};
-use elf_table::{check_before_load, checked_strings, Fault, Names};
 use elf_memory::checked_header;
 use elf_record::sizes::SECTION_HEADER_BYTES;
 use elf_record::{Ehdr, Refusal};
+use elf_table::{Fault, Names, check_before_load, checked_strings};
 
 /// The file, where its headers pass the checks of a load.
 ///

@@ -6,13 +6,13 @@ ghost use Rattle.elf_capi.specs.Queries.{IsPermitted, asks_of, wanted_by};
 ghost use Rattle.elf_capi.specs.Resolved.{ResolvesIn, ReturnsResolved, file_of, nothing_resolved};
 
 use crate::counts::short;
+use crate::end::End;
 use crate::query::Query;
 use crate::resolved::Resolved;
-use elf_table::{Fault, HeaderStore, NameBuf};
 use elf_loader::{SymbolLookup, look_up};
-use crate::end::End;
 use elf_record::Refusal;
 use elf_source::{Counted, MemorySource};
+use elf_table::{Fault, HeaderStore, NameBuf};
 
 /// Looks it up within a read budget, where there is one.
 ///

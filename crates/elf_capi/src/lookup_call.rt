@@ -5,13 +5,13 @@ ghost use Rattle.elf_capi.specs.Ends.{ReturnsNone};
 ghost use Rattle.elf_capi.specs.Found.{LooksIn, ReturnsLooked, nothing_after};
 
 use crate::counts::short;
-use crate::found::LookupFields;
-use elf_hash::{Lookup, find};
-use elf_table::{Fault, HeaderStore};
 use crate::end::End;
+use crate::found::LookupFields;
 use crate::symbol::Symbol;
+use elf_hash::{Lookup, find};
 use elf_record::Refusal;
 use elf_source::{Counted, MemorySource};
+use elf_table::{Fault, HeaderStore};
 
 /// Looks a name of at most 4,096 bytes up within a read budget, where there is one.
 ///

@@ -7,15 +7,15 @@ ghost use Rattle.elf_capi.specs.Ends.{no_end};
 ghost use Rattle.elf_capi.specs.LentLayouts.{CountsWritten, ExplainsRefusal, ExplainsTold};
 
 use crate::applied::{ApplyInput, write_section};
+use crate::call_status::Told;
 use crate::counts::short;
+use crate::end::End;
 use crate::listing::CallOutcome;
 use crate::missing::CallerMissing;
-use crate::call_status::Told;
-use elf_reloc::explain;
-use elf_table::{Fault, HeaderStore, NameBuf};
-use crate::end::End;
 use elf_record::Refusal;
+use elf_reloc::explain;
 use elf_source::{Counted, MemorySource};
+use elf_table::{Fault, HeaderStore, NameBuf};
 
 /// Writes a section to the front of some memory, tells in `missing` what its layout lacks where it is
 /// refused, and answers how that ended. The counts are written to `end`.

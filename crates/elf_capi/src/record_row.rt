@@ -4,8 +4,8 @@ ghost use Rattle.elf_model.specs.Versions.{VisitedRecord};
 ghost use Rattle.elf_note.specs.Reading.{IsVersion};
 ghost use Rattle.elf_capi.specs.VersionRecords.{IsRecordRow, kind_number};
 
-use elf_record::VersionKind;
 use elf_note::VersionRecord;
+use elf_record::VersionKind;
 
 /// A record of version definitions or needs, field by field (Linux Standard Base Core, Symbol
 /// Versioning). A needed file has no number, no flags and no hash: these are 0.

@@ -6,10 +6,10 @@ ghost use Rattle.elf_capi.specs.VersionRecords.{ReadsRecords, first_kind, starti
 use crate::load_checks::held_file;
 use crate::record_row::kind_number;
 use crate::records::VersionRecordPosition;
-use elf_table::{Fault, Names};
+use elf_note::record_bytes;
 use elf_record::gnu_numbers::{SHT_GNU_VERDEF, SHT_GNU_VERNEED};
 use elf_record::{Refusal, Shdr, VersionKind};
-use elf_note::record_bytes;
+use elf_table::{Fault, Names};
 
 /// Checks the table of version definitions or needs that a section of a file that lies in memory is, and
 /// gives a place before its first record; None where the file has no such section, or one of another

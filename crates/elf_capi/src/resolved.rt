@@ -3,9 +3,9 @@ ghost use Rattle.std.specs.Prelude.{◌≡◌, Some};
 ghost use Rattle.elf_capi.specs.Resolved.{HasSymbol, SameSymbol, ReturnsFoundVersion, nothing_resolved};
 
 use crate::found::no_symbol;
+use crate::symbol::Symbol;
 use elf_loader::{FoundSymbol, FoundVersion, VersionName};
 use elf_memory::ByteRange;
-use crate::symbol::Symbol;
 use elf_record::version_number;
 use elf_table::NameEnd;
 

@@ -6,11 +6,11 @@ ghost use Rattle.elf_memory.specs.declared.segment.Segment.{Segment as IsOne};
 
 use crate::dynamic_table::{listed_rows, listed_within};
 use crate::rows::RowPosition;
-use elf_table::ends_outside;
 use elf_memory::{Segment, segment_at, segment_place};
 use elf_record::numbers::PT_DYNAMIC;
 use elf_record::sizes::DYNAMIC_BYTES;
 use elf_record::{Cause, Refusal};
+use elf_table::ends_outside;
 
 /// A place before the first dynamic entry of a segment of a file that lies in memory, with as many as
 /// up to and with the first DT_NULL; None where it has no such segment, or one of another type than

@@ -5,8 +5,8 @@ ghost use Rattle.elf_capi.specs.Limits.{budget_of};
 ghost use Rattle.elf_capi.specs.Within.{StepsBudgeted, asked_more, budget_left, entries_looked, step_end};
 
 use crate::counts::short;
-use crate::limits::{CallerLimits, budget_of};
 use crate::end::End;
+use crate::limits::{CallerLimits, budget_of};
 use crate::rows::RowPosition;
 use crate::table_row::{TableRow, next_rows};
 use elf_record::sizes::DYNAMIC_BYTES;

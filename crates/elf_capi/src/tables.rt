@@ -11,8 +11,8 @@ use crate::held::MemoryFile;
 use crate::kind::{RowKind, holds};
 use crate::load_checks::held_file;
 use crate::rows::RowPosition;
-use elf_table::{Fault, Names, Table};
 use elf_record::Refusal;
+use elf_table::{Fault, Names, Table};
 
 /// Checks the table of a kind that a section of a file that lies in memory is, and gives a place
 /// before its first row; None where the file has no such section or it holds no such rows. With

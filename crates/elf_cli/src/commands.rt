@@ -10,12 +10,12 @@ ghost use Rattle.elf_cli.specs.CommandLine.{archive_command, check_command, find
 ghost use Rattle.elf_cli.specs.CommandLine.{needs_command, sample_command, show_command, traits_command};
 ghost use Rattle.elf_cli.specs.CommandLine.{with_many_files, with_one_file, without_command};
 
-use crate::builder::{CommandSpec, add_subcommands, clap_command_of, new_command, with_command};
 use crate::arguments::{
     AS_LOADED, AS_LOADER, BINDINGS, BY_SEGMENTS, DEFAULT, EXPLAIN, FILE, GNU, HEADERS, INSIDE,
     ITEM, JSON, LAYOUT, LIBRARY_PATH, LIST, MAX_READ, NAME, NAME_LIST, NAMES, ONLY, PATH, REQUIRE,
     ROOT, ROW_NAME, SECTION, WITH_VERSIONS,
 };
+use crate::builder::{CommandSpec, add_subcommands, clap_command_of, new_command, with_command};
 use crate::texts::{ABOUT, CHECKED, FOUND, HARDENED, ITEMS, LISTED, MEMBERS, MORE, NEEDED, SHOWN};
 use clap::Command;
 use clap::builder::ValueParser;

@@ -3,8 +3,8 @@ ghost use Rattle.std.specs.Prelude.{◌≡◌, IfErr, IfOk};
 ghost use Rattle.std.specs.Process.{exit_status as status_of};
 ghost use Rattle.elf_cli.specs.Endings.{error_line, exit_status, refused_line, refused_status};
 
-use elf_table::RunFault;
 use crate::faults::RequestFault;
+use elf_table::RunFault;
 use std::process::ExitCode;
 
 /// An exit status, and a line for standard error, which is empty where there is nothing to say.

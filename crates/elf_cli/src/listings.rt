@@ -18,8 +18,8 @@ use crate::option_values::{limits_of, parts_of, style_of, text_of};
 use crate::parser::parse_arguments;
 use crate::row_names::has_name_option;
 use clap::ArgMatches;
-use elf_table::{Limits, Style};
 use elf_record::Parts;
+use elf_table::{Limits, Style};
 use std::alloc::Global;
 use std::convert::AsStr;
 

@@ -4,13 +4,13 @@ ghost use Rattle.clap.specs.Values.{kind_of};
 ghost use Rattle.clap.specs.declared.error.kind.ErrorKind.TheVariants.{Format};
 ghost use Rattle.elf_cli.specs.Faults.{IsUnasked};
 
+use crate::commands::{archive, check, find, list, sample, show, traits};
 use crate::faults::RequestFault;
 use crate::option_values::{find_without_gnu, has_gnu_option, text_of, versions_without_gnu};
 use crate::parser::{MEMBER_PARTS, PARTS};
 use crate::row_names::{chosen_parts_of, has_name_option, is_given};
 use clap::error::ErrorKind;
 use clap::{ArgMatches, Command, Error};
-use crate::commands::{archive, check, find, list, sample, show, traits};
 use std::alloc::{AllocError, Global};
 
 /// What a command of many files is told without a path, as other commands are of their FILE.

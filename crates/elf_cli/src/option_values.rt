@@ -14,10 +14,10 @@ ghost use Rattle.elf_options.specs.declared.caps.Limits.{Limits};
 ghost use Rattle.elf_options.specs.declared.caps.Style.{Style};
 
 use clap::ArgMatches;
-use elf_table::{Limits, NameLimit, Style};
 use elf_model::Format;
-use elf_record::Parts;
 use elf_options::RowFilter;
+use elf_record::Parts;
+use elf_table::{Limits, NameLimit, Style};
 
 /// The limits that the options ask for.
 pub fn limits_of(options: &ArgMatches<'_>) -> Option<Limits>

@@ -5,8 +5,8 @@ ghost use Rattle.elf_cli.specs.Endings.{Ends, EndsRun, PutsRest, wants_rest, wan
 
 use crate::exit_lines::{ExitLine, READ_FAULT, WRITE_FAULT, outcome};
 use crate::line_sink::LineSink;
-use elf_table::RunFault;
 use elf_source::{Out, Sink, WriteSink};
+use elf_table::RunFault;
 use std::io::{BufWriter, Write};
 
 /// How many bytes of output are kept before they are written.

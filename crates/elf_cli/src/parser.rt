@@ -4,9 +4,9 @@ ghost use Rattle.clap.specs.Words.{app_of, subcommand_rows_of};
 ghost use Rattle.elf_cli.specs.CommandLine.{PartWords, program};
 ghost use Rattle.elf_cli.specs.Reading.{ArePartNames, AreRead, AreRefused};
 
+use crate::commands::command_line;
 use crate::faults::RequestFault;
 use clap::{ArgMatches, Command};
-use crate::commands::command_line;
 use std::alloc::{AllocError, Global};
 use std::convert::AsStr;
 

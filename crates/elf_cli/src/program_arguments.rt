@@ -6,10 +6,10 @@ ghost use Rattle.elf_cli.specs.Marked.{byte_beside, told_beside};
 ghost use Rattle.elf_cli.specs.declared.faults.RequestFault.TheVariants.{Memory};
 
 use crate::exit_lines::{BAD_WORDS, ExitLine, NOT_UTF8, OUT_OF_MEMORY, refused};
-use crate::outputs::{ERROR_LINE_BYTES, write_rest};
-use elf_format::show_escaped_text;
 use crate::faults::RequestFault;
+use crate::outputs::{ERROR_LINE_BYTES, write_rest};
 use crate::parser::parse_arguments;
+use elf_format::show_escaped_text;
 use elf_source::{Out, OutFault, Sink, WriteSink};
 use std::alloc::{AllocError, Global};
 use std::env;

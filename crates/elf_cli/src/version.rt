@@ -4,8 +4,8 @@ ghost use Rattle.elf_source.specs.Output.{OutPuts};
 
 use crate::exit_lines::{ExitLine, OUT_OF_MEMORY};
 use crate::outputs::{OUTPUT_BYTES, end_answer};
-use elf_table::RunFault;
 use elf_source::{Out, OutFault, Sink, WriteSink};
+use elf_table::RunFault;
 use std::io::{self, BufWriter, Write};
 
 /// The line of the version: the program's name and three numbers.

@@ -55,5 +55,3 @@ mod segment_rows;
 mod symbol_rows;
 mod table_rows;
 mod value_rows;
-
-

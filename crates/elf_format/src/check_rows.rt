@@ -7,11 +7,13 @@ ghost use Rattle.elf_model.specs.Fields.{with_fields};
 ghost use Rattle.elf_source.specs.Output.{OutPuts};
 ghost use Rattle.elf_format.specs.Fronts.{front_of};
 
-use crate::rows::cause_word;
-use crate::render::{Columns, Object, Render};
 use crate::columns::{LineBuf, put};
-use crate::fields::{LinePrefix, begin, begin_named, put_closing, put_decimal, put_hexadecimal, put_text};
+use crate::fields::{
+    LinePrefix, begin, begin_named, put_closing, put_decimal, put_hexadecimal, put_text,
+};
 use crate::named::show_named;
+use crate::render::{Columns, Object, Render};
+use crate::rows::cause_word;
 use elf_model::{FileStatus, Format};
 use elf_source::{Out, OutFault, Sink};
 

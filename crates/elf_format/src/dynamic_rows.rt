@@ -6,8 +6,8 @@ ghost use Rattle.elf_model.specs.LineFronts.{dynamic_prefix};
 ghost use Rattle.elf_record.specs.Dyn.{IsDyn};
 ghost use Rattle.elf_format.specs.Fronts.{front_of};
 
-use crate::name_tables::name_in_either_table;
 use crate::fields::{LinePrefix, begin_named, put_decimal, put_hexadecimal, put_name_or_hex};
+use crate::name_tables::name_in_either_table;
 use crate::render::Render;
 use elf_record::Dyn;
 use elf_record::gnu_numbers::{

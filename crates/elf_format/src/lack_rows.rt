@@ -8,10 +8,10 @@ ghost use Rattle.elf_model.specs.NameTables.{number_sign, relocation_types};
 ghost use Rattle.elf_source.specs.Output.{OutPuts};
 ghost use Rattle.elf_format.specs.Named.{shown_as};
 
-use crate::relocation_rows::relocation_type_name;
 use crate::columns::{LineBuf, line_of, number_sign, put};
 use crate::fields::LinePrefix;
 use crate::named::show_tailed;
+use crate::relocation_rows::relocation_type_name;
 use elf_model::{Format, LayoutAddress, Missing, RelocationBase};
 use elf_source::{Out, OutFault, Sink};
 use itoa::Buffer;

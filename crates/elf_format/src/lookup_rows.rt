@@ -3,9 +3,9 @@ ghost use Rattle.std.specs.Prelude.{◌≡◌};
 ghost use Rattle.elf_model.specs.Lines.{steps_line};
 ghost use Rattle.elf_source.specs.Output.{OutPuts};
 
-use crate::render::{Columns, Object, Render};
 use crate::columns::LineBuf;
 use crate::fields::{begin, put_closing, put_decimal, put_text};
+use crate::render::{Columns, Object, Render};
 use elf_model::Format;
 use elf_source::{Out, OutFault, Sink};
 

@@ -11,8 +11,8 @@ ghost use Rattle.elf_format.specs.Named.{shown_as};
 
 use crate::columns::{LineBuf, put, put_where};
 use crate::fields::{LinePrefix, begin_named, put_closing, put_half, put_hexadecimal, put_text};
-use crate::render::{Object, Render};
 use crate::named::show_tailed;
+use crate::render::{Object, Render};
 use elf_model::Format;
 use elf_record::NoteHead;
 use elf_source::{Out, OutFault, Sink};

@@ -6,9 +6,11 @@ ghost use Rattle.elf_model.specs.LineFronts.{relocation_prefix};
 ghost use Rattle.elf_record.specs.Rela.{IsRela};
 ghost use Rattle.elf_format.specs.Fronts.{front_of};
 
-use crate::name_tables::name_in_either_table;
 use crate::constant_names::ConstantNames;
-use crate::fields::{LinePrefix, begin_named, put_half, put_hexadecimal, put_name_or_sign, put_signed};
+use crate::fields::{
+    LinePrefix, begin_named, put_half, put_hexadecimal, put_name_or_sign, put_signed,
+};
+use crate::name_tables::name_in_either_table;
 use crate::render::Render;
 use elf_record::Rela;
 use elf_record::gnu_numbers::{

@@ -7,10 +7,10 @@ ghost use Rattle.elf_model.specs.NameTables.{file_types};
 ghost use Rattle.elf_record.specs.Ehdr.{IsEhdr};
 ghost use Rattle.elf_source.specs.Output.{OutPuts};
 
-use crate::name_tables::name_of;
-use crate::render::{Columns, Object, Render};
 use crate::columns::LineBuf;
 use crate::fields::{begin, put_closing, put_half, put_hexadecimal, put_name_or_hex, put_text};
+use crate::name_tables::name_of;
+use crate::render::{Columns, Object, Render};
 use elf_model::Format;
 use elf_record::numbers::{ET_CORE, ET_DYN, ET_EXEC, ET_NONE, ET_REL};
 use elf_record::{Cause, Ehdr, Refusal};

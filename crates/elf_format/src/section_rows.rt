@@ -9,10 +9,12 @@ ghost use Rattle.elf_model.specs.LineFronts.{section_prefix};
 ghost use Rattle.elf_record.specs.Shdr.{IsShdr};
 ghost use Rattle.elf_format.specs.Fronts.{front_of};
 
-use crate::name_tables::name_in_either_table;
-use crate::constant_names::ConstantNames;
 use crate::columns::{LineBuf, put_where};
-use crate::fields::{LinePrefix, begin_named, put_half, put_hexadecimal, put_name_or_hex, put_text};
+use crate::constant_names::ConstantNames;
+use crate::fields::{
+    LinePrefix, begin_named, put_half, put_hexadecimal, put_name_or_hex, put_text,
+};
+use crate::name_tables::name_in_either_table;
 use crate::render::Render;
 use elf_record::gnu_numbers::{
     SHF_EXCLUDE, SHF_GNU_MBIND, SHF_GNU_RETAIN, SHF_X86_64_LARGE, SHT_GNU_ATTRIBUTES, SHT_GNU_HASH,

@@ -7,11 +7,11 @@ ghost use Rattle.elf_model.specs.NameTables.{segment_flags_text, segment_types};
 ghost use Rattle.elf_model.specs.Lines.{segment_line};
 ghost use Rattle.elf_record.specs.Phdr.{IsPhdr};
 
-use crate::name_tables::name_in_either_table;
-use bitflags::Flags;
 use crate::columns::LineBuf;
-use crate::render::Render;
 use crate::fields::{begin, put_closing, put_half, put_hexadecimal, put_name_or_hex, put_text};
+use crate::name_tables::name_in_either_table;
+use crate::render::Render;
+use bitflags::Flags;
 use elf_record::gnu_numbers::{
     PT_GNU_EH_FRAME, PT_GNU_PROPERTY, PT_GNU_RELRO, PT_GNU_SFRAME, PT_GNU_STACK,
 };

@@ -11,11 +11,13 @@ ghost use Rattle.elf_record.specs.Sym.{IsSym};
 ghost use Rattle.elf_format.specs.Fronts.{front_of};
 ghost use Rattle.elf_source.specs.Output.{IsOutFault, OutPuts};
 
-use crate::name_tables::{name_in_either_table, name_of};
 use crate::constant_names::ConstantNames;
-use crate::render::{Columns, Object, Render};
-use crate::fields::{LinePrefix, begin_named, put_decimal, put_half, put_hexadecimal, put_name_or_decimal};
+use crate::fields::{
+    LinePrefix, begin_named, put_decimal, put_half, put_hexadecimal, put_name_or_decimal,
+};
+use crate::name_tables::{name_in_either_table, name_of};
 use crate::named::show_named;
+use crate::render::{Columns, Object, Render};
 use elf_model::Format;
 use elf_record::Sym;
 use elf_record::gnu_numbers::{SHN_X86_64_LCOMMON, STB_GNU_UNIQUE, STT_GNU_IFUNC};

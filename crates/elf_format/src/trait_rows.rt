@@ -10,10 +10,10 @@ ghost use Rattle.elf_format.specs.Fronts.{front_of};
 ghost use Rattle.elf_format.specs.Rooms.{text_room};
 ghost use Rattle.elf_source.specs.Output.{OutPuts};
 
-use crate::render::{Columns, Object, Render};
 use crate::columns::{LineBuf, line_of, put};
 use crate::fields::{LinePrefix, begin, begin_named, put_closing, put_text};
 use crate::named::show_named;
+use crate::render::{Columns, Object, Render};
 use elf_model::{Format, ProgramKind, Relro, SearchPath, SegmentTraits, TraitColumn, Traits};
 use elf_source::{Out, OutFault, Sink};
 

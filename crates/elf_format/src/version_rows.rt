@@ -3,8 +3,8 @@ ghost use Rattle.std.specs.Prelude.{◌≡◌, ◌≤◌, if◌then◌else◌, c
 ghost use Rattle.elf_format.specs.Fronts.{front_of};
 ghost use Rattle.elf_model.specs.VersionRows.{kind_text, version_prefix, symbol_version_prefix};
 
-use crate::render::{Columns, Object, Render};
 use crate::fields::{LinePrefix, begin_named, put_decimal, put_half, put_hexadecimal, put_text};
+use crate::render::{Columns, Object, Render};
 use elf_model::Format;
 use elf_record::{VersionKind, version_number};
 

@@ -10,15 +10,15 @@ ghost use Rattle.elf_hash.specs.Headers.{FindsIn, HasHeader};
 ghost use Rattle.elf_hash.specs.HashSections.{found_at};
 ghost use Rattle.elf_hash.specs.LookupTablesFound.{FindsLookupTables, IsLookupTables, LookupTablesInBounds};
 
+use crate::hash_style::HashStyle;
 use crate::lookup_tables::LookupTables;
+use crate::place::HashTableLocation;
 use crate::section_versions::section_versions;
 use crate::symbols::Symbols;
-use crate::hash_style::HashStyle;
-use crate::place::HashTableLocation;
-use elf_table::{Fault, File, refused};
 use elf_record::Cause;
 use elf_record::gnu_numbers::SHT_GNU_HASH;
 use elf_record::numbers::SHT_HASH;
+use elf_table::{Fault, File, refused};
 
 /// The tables that a lookup searches, by the section headers. No bytes are read.
 ///

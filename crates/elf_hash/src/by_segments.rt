@@ -10,16 +10,16 @@ ghost use Rattle.elf_hash.specs.Headers.{FindsIn, HasHeader, IsOfSource};
 ghost use Rattle.elf_hash.specs.LookupTablesFound.{FindsLookupTables, IsLookupTables, LookupTablesInBounds};
 ghost use Rattle.elf_hash.specs.Segments.{FindsSegments, ReturnsHash, scope_by_entries};
 
-use crate::dynamic_tags::first_entries;
 use crate::dyn_entry::{DynEntry, DynamicTags};
-use crate::lookup_tables::LookupTables;
-use crate::segment_symbols::segment_symbols;
+use crate::dynamic_tags::first_entries;
 use crate::hash_style::HashStyle;
+use crate::lookup_tables::LookupTables;
 use crate::place::HashTableLocation;
-use elf_table::{ExecutionView, Fault, refused};
+use crate::segment_symbols::segment_symbols;
 use elf_record::Cause;
 use elf_record::numbers::{EM_ALPHA, PT_DYNAMIC};
 use elf_source::{Counted, Source};
+use elf_table::{ExecutionView, Fault, refused};
 
 /// The tables that a lookup searches by the program headers: by the dynamic entries of the first
 /// segment of such, which are read, each byte at most once.

@@ -6,17 +6,17 @@ ghost use Rattle.elf_hash.specs.Walks.{WalksChain, walk_bytes};
 ghost use Rattle.elf_model.specs.LoaderScope.{LookupTables};
 ghost use Rattle.elf_model.specs.declared.causes.Refusal.{Refusal};
 
-use crate::table_counts::{gnu_counts, sysv_counts};
+use crate::chain_result::ChainResult;
 use crate::gnu_walk::{gnu_walk, start};
 use crate::hash_functions::{gnu_hash, sysv_hash};
 use crate::hash_style::HashStyle;
+use crate::matcher::Matcher;
 use crate::place::HashTableLocation;
 use crate::sysv_walk::sysv_walk;
 use crate::table::HashTable;
-use crate::matcher::Matcher;
-use crate::chain_result::ChainResult;
-use elf_table::Fault;
+use crate::table_counts::{gnu_counts, sysv_counts};
 use elf_source::{Counted, Source};
+use elf_table::Fault;
 
 /// Reads the counts of the hash table at a place: four words of a table of the GNU system, two of one
 /// of the gABI (5, Hash Table). The table ends at or below the source's length.

@@ -7,12 +7,12 @@ ghost use Rattle.elf_table.specs.Tables.{TableInBounds, size_of};
 ghost use Rattle.elf_hash.specs.Entries.{AreListed, TakesEntry, entry_here, first_entry, no_entries};
 
 use crate::dyn_entry::{DynEntry, DynamicTags};
-use elf_table::{Fault, Table};
 use elf_note::{dynamic_rows, entry_in};
 use elf_record::Dyn;
 use elf_record::gnu_numbers::{DT_GNU_HASH, DT_VERDEF, DT_VERNEED, DT_VERSYM};
 use elf_record::numbers::{DT_HASH, DT_STRSZ, DT_STRTAB, DT_SYMTAB};
 use elf_source::{Counted, Source};
+use elf_table::{Fault, Table};
 
 /// Goes over the dynamic entries of a table, whose rows have 16 bytes, up to and with the first
 /// DT_NULL, and answers the first entry with each of the tags that tell of a lookup's tables. It asks

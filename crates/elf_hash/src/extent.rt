@@ -12,12 +12,12 @@ ghost use Rattle.elf_model.specs.Traits.{before_strings, gnu_symbols, max_bucket
 use crate::gnu_table::GnuTable;
 use crate::gnu_walk::is_chain_end;
 use crate::place::HashTableLocation;
-use crate::word_reads::read_word;
 use crate::table::HashTable;
-use elf_table::{Cursor, Fault, Row};
+use crate::word_reads::read_word;
 use elf_record::sizes::SYMBOL_BYTES;
 use elf_record::word;
 use elf_source::{Counted, Source};
+use elf_table::{Cursor, Fault, Row};
 
 /// How many symbols there are by a hash table, and no more than there is room for: of the gABI's (5,
 /// Hash Table) as many as there are chains; of the GNU system's those before the first that it knows,

@@ -9,20 +9,20 @@ ghost use Rattle.elf_model.specs.Hash.{looked_up};
 ghost use Rattle.elf_model.specs.SysvWalk.{section_table_of};
 ghost use Rattle.elf_table.specs.Load.{HoldsSectionHeaders};
 
+use crate::chain_result::ChainResult;
 use crate::checks::{checked, first_hash};
-use crate::table_counts::sysv_counts;
-use crate::hash_section::HashSection;
 use crate::hash_functions::sysv_hash;
+use crate::hash_section::HashSection;
 use crate::hash_style::HashStyle;
 use crate::lookup::Lookup;
 use crate::named::NameMatcher;
 use crate::place::HashTableLocation;
 use crate::sysv_table::SysvTable;
 use crate::sysv_walk::sysv_walk;
-use crate::chain_result::ChainResult;
-use elf_table::{Fault, File, header, HeaderStore, load, refused};
+use crate::table_counts::sysv_counts;
 use elf_record::Cause;
 use elf_source::{Counted, Source};
+use elf_table::{Fault, File, HeaderStore, header, load, refused};
 
 /// Looks a name up in a file by its hash table: that of the first HASH section, with the symbols
 /// that it links to (gABI 5, Hash Table). The answer is the first symbol of that name in its chain,

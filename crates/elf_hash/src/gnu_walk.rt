@@ -10,13 +10,13 @@ ghost use Rattle.elf_model.specs.GnuHash.{is_chain_end, gnu_looked_up, hash_bits
 ghost use Rattle.elf_model.specs.declared.causes.Refusal.{Refusal};
 
 use crate::answer::SymbolMatch;
-use crate::gnu_table::GnuTable;
-use crate::word_reads::{read_filter, read_word};
-use crate::matcher::Matcher;
 use crate::chain_result::{ChainMatch, ChainResult};
-use elf_table::{Fault, refused};
+use crate::gnu_table::GnuTable;
+use crate::matcher::Matcher;
+use crate::word_reads::{read_filter, read_word};
 use elf_record::Cause;
 use elf_source::{Counted, Source};
+use elf_table::{Fault, refused};
 
 /// Looks for the symbol that answers among those of a hash: not at all where the filter or an empty
 /// bucket tells that there is none, else along their chain.

@@ -1,6 +1,6 @@
 //! The tables that a lookup searches.
-use crate::symbols::Symbols;
 use crate::place::HashTableLocation;
+use crate::symbols::Symbols;
 
 /// The tables that a lookup searches: a hash table, and the symbols that it is of. It holds no bytes.
 #[derive(Clone, Copy)]

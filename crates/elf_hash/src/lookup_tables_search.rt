@@ -10,8 +10,8 @@ ghost use Rattle.elf_hash.specs.LookupTablesFound.{FindsLookupTables, LookupTabl
 use crate::by_sections::by_sections;
 use crate::by_segments::find_in_segments;
 use crate::lookup_tables::LookupTables;
-use elf_table::{ExecutionView, Fault, File, header, HeaderStore, load, Loaded};
 use elf_source::{Counted, Source};
+use elf_table::{ExecutionView, Fault, File, HeaderStore, Loaded, header, load};
 
 /// The tables that a loader of the GNU system searches in one file (gABI 5, Dynamic Linking;
 /// Linux Standard Base Core, Symbol Versioning). By the section headers: the hash table of the first

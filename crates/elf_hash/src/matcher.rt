@@ -6,8 +6,8 @@ ghost use Rattle.elf_hash.specs.Trials.{TriesSymbol};
 ghost use Rattle.elf_hash.specs.declared.answer.SymbolMatch.{SymbolMatch};
 
 use crate::answer::SymbolMatch;
-use elf_table::Fault;
 use elf_source::{Counted, Source};
+use elf_table::Fault;
 
 /// Tells of symbols whether they answer, as a walk along a chain asks of one after another.
 pub trait Matcher {

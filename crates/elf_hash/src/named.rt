@@ -8,8 +8,8 @@ ghost use Rattle.elf_table.specs.Tables.{SymbolTableInBounds};
 
 use crate::answer::SymbolMatch;
 use crate::matcher::Matcher;
-use elf_table::{Fault, Names, Table};
 use elf_source::{Counted, Source};
+use elf_table::{Fault, Names, Table};
 
 /// The symbols of a table that have a name, whatever their versions and places: one read of a symbol,
 /// and its name is compared.

@@ -4,9 +4,9 @@ ghost use Rattle.elf_table.specs.Ledger.{CallDid, fault_of_result};
 ghost use Rattle.elf_hash.specs.Loading.{FitsSource, LoadsShown};
 ghost use Rattle.elf_model.specs.Records.{e_shnum};
 
-use elf_table::{Fault, HeaderStore, Loaded, header, load, refused};
 use elf_record::Cause;
 use elf_source::{Counted, Source};
+use elf_table::{Fault, HeaderStore, Loaded, header, load, refused};
 
 /// Loads the program headers of the file that the source shows into the store: of a file whose header
 /// locates no section headers, as where these are hidden ([`Counted::mask_section_headers`]). Where the

@@ -16,10 +16,10 @@ ghost use Rattle.elf_hash.specs.Versions.{AreInFront, AreVersions, VersionsInBou
 
 use crate::symbols::{VersionRecordTable, VersionWords};
 use crate::versions::VersionTables;
-use elf_table::{Fault, File, Names, refused, Table};
 use elf_record::gnu_numbers::{SHT_GNU_VERDEF, SHT_GNU_VERNEED, SHT_GNU_VERSYM};
 use elf_record::sizes::SYMBOL_VERSION_BYTES;
 use elf_record::{Cause, VersionKind};
+use elf_table::{Fault, File, Names, Table, refused};
 
 /// The tables of versions of the symbols that the section of a hash table links to: of the first
 /// sections of their types, the words, the definitions and the needs; nothing where there are no

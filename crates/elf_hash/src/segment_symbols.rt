@@ -15,9 +15,9 @@ ghost use Rattle.elf_hash.specs.Versions.{AreInFront, AreVersions, VersionsInBou
 use crate::dyn_entry::{DynEntry, DynamicTags};
 use crate::symbols::{Symbols, VersionRecordTable, VersionWords};
 use crate::versions::VersionTables;
-use elf_table::{ExecutionView, Fault, Names, refused, Table};
 use elf_record::sizes::{SYMBOL_BYTES, SYMBOL_VERSION_BYTES};
 use elf_record::{Cause, VersionKind};
+use elf_table::{ExecutionView, Fault, Names, Table, refused};
 
 /// The symbols that the entries of a segment locate, with their names and versions. `row` is the
 /// file offset of the entry of the hash table.

@@ -6,11 +6,11 @@ ghost use Rattle.elf_hash.specs.SearchedTables.{IsTable, HashTableInBounds, plac
 ghost use Rattle.elf_hash.specs.Symbols.{IsDynamicSymbols};
 ghost use Rattle.elf_model.specs.LoaderScope.{LookupTables};
 
+use crate::extent::symbol_extent;
 use crate::symbols::Symbols;
 use crate::table::HashTable;
-use crate::extent::symbol_extent;
-use elf_table::Fault;
 use elf_source::{Counted, Source};
+use elf_table::Fault;
 
 impl Symbols {
     /// How many symbols there are by their hash table, as [`symbol_extent`] counts them, and no more than

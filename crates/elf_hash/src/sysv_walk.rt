@@ -8,13 +8,13 @@ ghost use Rattle.elf_model.specs.SysvWalk.{is_sysv_index, sysv_walked};
 ghost use Rattle.elf_model.specs.declared.causes.Refusal.{Refusal};
 
 use crate::answer::SymbolMatch;
-use crate::word_reads::read_word;
-use crate::sysv_table::SysvTable;
-use crate::matcher::Matcher;
 use crate::chain_result::{ChainMatch, ChainResult};
-use elf_table::{Fault, refused};
+use crate::matcher::Matcher;
+use crate::sysv_table::SysvTable;
+use crate::word_reads::read_word;
 use elf_record::Cause;
 use elf_source::{Counted, Source};
+use elf_table::{Fault, refused};
 
 /// Goes along the chain of a hash, up to the symbol that answers or to the chain's end.
 ///

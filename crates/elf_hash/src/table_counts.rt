@@ -7,11 +7,11 @@ ghost use Rattle.elf_model.specs.Chains.{HashTable as Place};
 
 use crate::gnu_table::GnuTable;
 use crate::place::HashTableLocation;
-use crate::word_reads::read_word;
 use crate::sysv_table::SysvTable;
-use elf_table::{Fault, refused};
+use crate::word_reads::read_word;
 use elf_record::Cause;
 use elf_source::{Counted, Source};
+use elf_table::{Fault, refused};
 
 /// Reads the four counts of a table of the GNU system.
 ///

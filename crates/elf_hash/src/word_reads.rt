@@ -3,9 +3,9 @@ ghost use Rattle.std.specs.Prelude.{◌+◌, ◌≤◌};
 ghost use Rattle.elf_table.specs.Ledger.{CallDid, IsRead, fault_of_result};
 ghost use Rattle.elf_model.specs.Bytes.{field};
 
-use elf_table::{Fault, fill};
 use elf_record::{u64_at, word};
 use elf_source::{Counted, Source};
+use elf_table::{Fault, fill};
 
 /// Reads the word at an offset, and only its four bytes.
 ///

@@ -10,12 +10,12 @@ ghost use Rattle.elf_listing.specs.declared.dynamic_row.DynamicStringTable.TheVa
 ghost use Rattle.elf_listing.specs.declared.rows.RowLayout.TheVariants.{Dynamic};
 
 use crate::listing::Listing;
-use elf_format::{dynamic_prefix, LinePrefix, Render};
-use elf_table::{ExecutionView, Fault, NameEnd, Names, refused, Row, RunFault};
+use elf_format::{LinePrefix, Render, dynamic_prefix};
 use elf_note::{DynamicStrings, NameIndex};
 use elf_record::numbers::{DT_NEEDED, DT_RPATH, DT_RUNPATH, DT_SONAME};
 use elf_record::{Cause, Dyn};
 use elf_source::{Sink, Source};
+use elf_table::{ExecutionView, Fault, NameEnd, Names, Row, RunFault, refused};
 
 /// Where the strings of dynamic entries are looked for.
 #[derive(Clone, Copy)]

@@ -2,10 +2,10 @@
 ghost use Rattle.elf_source.specs.Growth.{OutGrows};
 ghost use Rattle.elf_listing.specs.Reports.{ReturnsStop};
 
-use elf_table::RunFault;
 use elf_format::show_refusal;
 use elf_model::Format;
 use elf_source::{Out, Sink};
+use elf_table::RunFault;
 
 /// Writes the line of a refusal that stopped a call, and of any other stop nothing. Answers the
 /// stop; or the output's fault where the line could not be written, with a front of it written.

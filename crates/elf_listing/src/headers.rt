@@ -6,8 +6,8 @@ ghost use Rattle.elf_listing.specs.Parts.{Awaits, listed_by};
 
 use crate::listing::Listing;
 use crate::parts::Part;
-use elf_table::RunFault;
 use elf_source::{Sink, Source};
+use elf_table::RunFault;
 
 impl<S: Source, W: Sink> Listing<'_, '_, '_, '_, S, W> {
     /// Shows a part of each header in the order of the headers, up to the first that is refused.

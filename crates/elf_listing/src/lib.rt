@@ -2,8 +2,8 @@
 #![tactic(auto)]
 
 mod buffers;
-mod row_selection;
 mod dynamic_row;
+mod fault_line;
 mod headers;
 mod listing;
 mod names;
@@ -14,6 +14,7 @@ mod read_suffix;
 mod relocation_row;
 mod row;
 mod row_cursor;
+mod row_selection;
 mod rows;
 mod sections;
 mod segments;
@@ -24,10 +25,9 @@ mod suffixed_rows;
 mod suffixed_tables;
 mod suffixes;
 mod symbol_versions;
-mod fault_line;
-mod versions;
 mod table_view;
+mod versions;
 
 pub use buffers::{FIXED_BYTES, SUFFIX_BYTES, VERSION_BYTES};
-pub use show_file::{list, show};
 pub use fault_line::show_stop;
+pub use show_file::{list, show};

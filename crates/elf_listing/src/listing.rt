@@ -5,10 +5,10 @@ ghost use Rattle.elf_note.specs.Ahead.{AgreesWith};
 ghost use Rattle.elf_listing.specs.Viewed.{IsViewed};
 ghost use Rattle.elf_table.specs.Load.{IsOpen};
 
-use elf_table::{File, NameBuf, Style};
 use elf_format::ConstantNames;
 use elf_note::ReadAhead;
 use elf_source::{Counted, Out, Sink, Source};
+use elf_table::{File, NameBuf, Style};
 
 /// A source that is read, an output that is written, the file that was loaded, how its rows are
 /// shown, a buffer for a name, and the names and symbols that were read ahead. What shows

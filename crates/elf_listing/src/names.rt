@@ -4,9 +4,9 @@ ghost use Rattle.elf_table.specs.Tables.{StringsInBounds};
 ghost use Rattle.elf_listing.specs.Fetched.{FetchesName};
 
 use crate::listing::Listing;
-use elf_table::{Fault, NameEnd, Names};
 use elf_note::NameIndex;
 use elf_source::{Sink, Source};
+use elf_table::{Fault, NameEnd, Names};
 
 impl<S: Source, W: Sink> Listing<'_, '_, '_, '_, S, W> {
     /// Reads the name at an index of a string table into the listing's buffer (gABI 4, String

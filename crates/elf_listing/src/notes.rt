@@ -5,11 +5,11 @@ ghost use Rattle.elf_listing.specs.Notes.{ListsNote, ListsNotes};
 
 use crate::listing::Listing;
 use crate::row::is_cut;
-use elf_format::{Columns, LinePrefix, note_prefix, Object, Render, show_note};
-use elf_table::{RunFault, Table};
+use elf_format::{Columns, LinePrefix, Object, Render, note_prefix, show_note};
 use elf_model::Format;
 use elf_note::{NoteCursor, NoteRow};
 use elf_source::{Sink, Source};
+use elf_table::{RunFault, Table};
 
 impl<S: Source, W: Sink> Listing<'_, '_, '_, '_, S, W> {
     /// Shows the notes of a table of single bytes, an `N` line each, up to the place where no note

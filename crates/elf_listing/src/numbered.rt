@@ -5,13 +5,13 @@ ghost use Rattle.elf_listing.specs.Kinds.{ListsRow, RowFits};
 ghost use Rattle.elf_listing.specs.Numbered.{FetchesVersion, NumberedWithin};
 ghost use Rattle.elf_listing.specs.declared.rows.RowLayout.TheVariants.{Versions};
 
-use crate::row_selection::Choosing;
 use crate::listing::Listing;
+use crate::row_selection::Choosing;
 use elf_format::{LinePrefix, Render, symbol_version_prefix};
-use elf_table::{Fault, NameEnd, Names, refused, Row, RunFault};
 use elf_note::{NameIndex, VersionNameRef, VersionNames};
 use elf_record::{Cause, u16_at, version_number};
 use elf_source::{Sink, Source};
+use elf_table::{Fault, NameEnd, Names, Row, RunFault, refused};
 
 /// Where the names of the numbers of versions are.
 #[derive(Drop)]

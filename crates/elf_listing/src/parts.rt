@@ -10,9 +10,9 @@ ghost use Rattle.elf_listing.specs.Viewed.{viewed_headers};
 use crate::listing::Listing;
 use crate::rows::RowLayout;
 use bitflags::Flags;
-use elf_table::RunFault;
 use elf_record::Parts;
 use elf_source::{Sink, Source};
+use elf_table::RunFault;
 
 /// A part of a listing that goes through the headers in the store: through the section headers, or
 /// through the program headers of a file that has none.

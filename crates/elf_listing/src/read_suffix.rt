@@ -6,10 +6,10 @@ ghost use Rattle.elf_table.specs.Tables.{StringsInBounds};
 
 use crate::listing::Listing;
 use crate::suffixes::VersionLookup;
-use elf_table::{Fault, fill, NameBuf, NameEnd, refused};
 use elf_note::{NameIndex, VersionNameRef};
 use elf_record::{Cause, u16_at, version_number};
 use elf_source::{Sink, Source};
+use elf_table::{Fault, NameBuf, NameEnd, fill, refused};
 
 /// The version behind a name, which was read.
 #[derive(Clone, Copy)]

@@ -6,13 +6,13 @@ ghost use Rattle.elf_listing.specs.Fetched.{FetchesSymbol};
 ghost use Rattle.elf_listing.specs.Kinds.{ListsRow, RowFits};
 ghost use Rattle.elf_listing.specs.declared.rows.RowLayout.TheVariants.{Relocations};
 
-use crate::row_selection::Choosing;
 use crate::listing::Listing;
-use elf_format::{LinePrefix, relocation_prefix, Render};
-use elf_table::{Fault, NameEnd, Names, refused, Row, RunFault, Table};
+use crate::row_selection::Choosing;
+use elf_format::{LinePrefix, Render, relocation_prefix};
 use elf_note::NameIndex;
 use elf_record::{Cause, Rela};
 use elf_source::{Sink, Source};
+use elf_table::{Fault, NameEnd, Names, Row, RunFault, Table, refused};
 
 /// Symbols with the string table of their names.
 type LinkedSymbolTable = Option<(Table, Names)>;

@@ -6,13 +6,13 @@ ghost use Rattle.elf_listing.specs.Kinds.{ListsRow, RowFits};
 ghost use Rattle.elf_listing.specs.Shows.{ListsLine, cut_of};
 ghost use Rattle.elf_listing.specs.declared.rows.RowLayout.TheVariants.{Segments, Symbols};
 
-use crate::row_selection::Choosing;
 use crate::listing::Listing;
+use crate::row_selection::Choosing;
 use elf_format::{LinePrefix, Render, segment_row, show_named, symbol_prefix};
-use elf_table::{NameEnd, Names, Row, RunFault};
 use elf_note::NameIndex;
 use elf_record::{Phdr, Sym};
 use elf_source::{Sink, Source};
+use elf_table::{NameEnd, Names, Row, RunFault};
 
 impl<S: Source, W: Sink> Listing<'_, '_, '_, '_, S, W> {
     /// Shows the row of a program header: its `P` line.

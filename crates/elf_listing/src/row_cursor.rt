@@ -8,9 +8,9 @@ ghost use Rattle.elf_listing.specs.Kinds.{row_size};
 ghost use Rattle.elf_listing.specs.RowCursors.{AdvancesRows, BeginsTable, reading};
 
 use crate::rows::RowLayout;
-use elf_table::{Cursor, Fault, Row, Table};
 use elf_note::{DynCursor, dynamic_rows};
 use elf_source::{Counted, Source};
+use elf_table::{Cursor, Fault, Row, Table};
 
 /// A cursor over the rows of a table that are listed.
 #[derive(Drop)]

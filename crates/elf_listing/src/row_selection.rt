@@ -9,9 +9,9 @@ ghost use Rattle.elf_listing.specs.Suffixed.{suffix_read};
 use crate::listing::Listing;
 use crate::read_suffix::VersionSuffixEnd;
 use crate::row::is_cut;
+use elf_options::VersionSuffix;
 use elf_source::{Sink, Source};
 use elf_table::{NameBuf, NameEnd};
-use elf_options::VersionSuffix;
 
 /// Whether rows are chosen by their names, which is known where the code is made: where every row is
 /// shown, no name is looked for.

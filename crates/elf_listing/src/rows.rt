@@ -3,16 +3,16 @@ ghost use Rattle.std.specs.Prelude.{◌≡◌};
 ghost use Rattle.elf_listing.specs.Choosing.{ShowsRows};
 ghost use Rattle.elf_listing.specs.Kinds.{IsTableOf, ListsRow, ListsRows, RowFits};
 
-use crate::row_selection::{AllRows, Choosing, NamedRows};
 use crate::dynamic_row::DynamicStringTable;
 use crate::listing::Listing;
 use crate::numbered::VersionStrings;
 use crate::row_cursor::RowCursor;
+use crate::row_selection::{AllRows, Choosing, NamedRows};
 use crate::suffixes::VersionLookup;
 use elf_format::{Columns, LinePrefix, Object, Render};
-use elf_table::{Names, Row, RunFault, Table};
 use elf_model::Format;
 use elf_source::{Sink, Source};
+use elf_table::{Names, Row, RunFault, Table};
 
 /// What the rows of a table are listed as.
 #[derive(Clone, Copy)]

@@ -9,11 +9,11 @@ use crate::dynamic_row::DynamicStringTable;
 use crate::listing::Listing;
 use crate::rows::RowLayout;
 use elf_format::{Columns, LinePrefix, Object, Render, section_prefix};
-use elf_table::{holds_symbols, RunFault};
 use elf_model::Format;
 use elf_record::numbers::{SHT_DYNAMIC, SHT_NOTE, SHT_RELA};
 use elf_record::sizes::DYNAMIC_BYTES;
 use elf_source::{Sink, Source};
+use elf_table::{RunFault, holds_symbols};
 
 impl<S: Source, W: Sink> Listing<'_, '_, '_, '_, S, W> {
     /// Shows the row of a section header: its `S` line with its name, or the name's refusal at the

@@ -8,11 +8,11 @@ use crate::dynamic_row::DynamicStringTable;
 use crate::listing::Listing;
 use crate::rows::RowLayout;
 use elf_format::{Columns, Object, Render, segment_row};
-use elf_table::{ExecutionView, RunFault};
 use elf_model::Format;
 use elf_note::dynamic_strings;
 use elf_record::numbers::{PT_DYNAMIC, PT_NOTE};
 use elf_source::{Sink, Source};
+use elf_table::{ExecutionView, RunFault};
 
 impl<'f, S: Source, W: Sink> Listing<'_, '_, 'f, '_, S, W> {
     /// The file with its program headers, where they are loaded.

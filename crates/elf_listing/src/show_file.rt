@@ -18,16 +18,16 @@ ghost use Rattle.elf_options.specs.Permitted.{style_of};
 ghost use Rattle.elf_listing.specs.Reports.{WroteReport, FaultSays, AsksWithin, KeepsSourceUnlimited};
 ghost use Rattle.elf_listing.specs.Shows.{ListingCosts, IsOfOutput, WroteSome};
 
-use crate::listing::Listing;
 use crate::fault_line::show_stop;
+use crate::listing::Listing;
 use crate::table_view::load_view;
 use bitflags::Flags;
-use elf_format::{Columns, header_row, Object};
-use elf_table::{Caps, File, header, HeaderStore, load, Loaded, NameBuf, RunFault, Style};
+use elf_format::{Columns, Object, header_row};
 use elf_model::Format;
 use elf_note::ReadAhead;
 use elf_record::{Ehdr, Parts};
 use elf_source::{Counted, Out, Sink, Source};
+use elf_table::{Caps, File, HeaderStore, Loaded, NameBuf, RunFault, Style, header, load};
 
 /// All parts but the file header's.
 const TABLES: Parts = Parts(254);

@@ -7,15 +7,15 @@ ghost use Rattle.elf_listing.specs.Kinds.{ListsRow, RowFits};
 ghost use Rattle.elf_listing.specs.Suffixed.{FetchesOfEntry, SuffixesWithin};
 ghost use Rattle.elf_listing.specs.declared.rows.RowLayout.TheVariants.{SuffixedRelocations};
 
-use crate::row_selection::Choosing;
 use crate::listing::Listing;
 use crate::read_suffix::VersionSuffixEnd;
+use crate::row_selection::Choosing;
 use crate::suffixes::VersionLookup;
-use elf_format::{LinePrefix, relocation_prefix, Render};
-use elf_table::{Fault, NameBuf, NameEnd, Names, refused, Row, RunFault, Table};
+use elf_format::{LinePrefix, Render, relocation_prefix};
 use elf_note::NameIndex;
 use elf_record::{Cause, Rela};
 use elf_source::{Sink, Source};
+use elf_table::{Fault, NameBuf, NameEnd, Names, Row, RunFault, Table, refused};
 
 /// The name of the symbol of an entry, which was read, and whether the symbol is defined.
 #[derive(Clone, Copy)]

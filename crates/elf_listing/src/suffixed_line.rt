@@ -9,9 +9,9 @@ use crate::listing::Listing;
 use crate::read_suffix::VersionSuffixEnd;
 use crate::row::is_cut;
 use elf_format::{LinePrefix, SecondName, show_joined};
-use elf_table::{NameBuf, NameEnd, RunFault};
 use elf_model::Format;
 use elf_source::{Sink, Source};
+use elf_table::{NameBuf, NameEnd, RunFault};
 
 impl<S: Source, W: Sink> Listing<'_, '_, '_, '_, S, W> {
     /// Writes a line that ends in the name that was read, with the version behind it. Its front is

@@ -4,14 +4,14 @@ ghost use Rattle.elf_listing.specs.Choosing.{ShowsRows};
 ghost use Rattle.elf_listing.specs.Kinds.{ListsRow, RowFits};
 ghost use Rattle.elf_listing.specs.declared.rows.RowLayout.TheVariants.{SuffixedSymbols};
 
-use crate::row_selection::Choosing;
 use crate::listing::Listing;
+use crate::row_selection::Choosing;
 use crate::suffixes::VersionLookup;
 use elf_format::{LinePrefix, Render, symbol_prefix};
-use elf_table::{NameBuf, Names, Row, RunFault};
 use elf_note::NameIndex;
 use elf_record::Sym;
 use elf_source::{Sink, Source};
+use elf_table::{NameBuf, Names, Row, RunFault};
 
 impl<S: Source, W: Sink> Listing<'_, '_, '_, '_, S, W> {
     /// Shows the row of a symbol of a section: its `Y` line with its name and the version behind it,

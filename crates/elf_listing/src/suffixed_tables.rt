@@ -8,9 +8,9 @@ ghost use Rattle.elf_listing.specs.declared.parts.Part.TheVariants.{SuffixedSymb
 use crate::listing::Listing;
 use crate::rows::RowLayout;
 use crate::suffixes::VersionLookup;
-use elf_table::{Fault, holds_symbols, Names, RunFault, Table};
 use elf_record::numbers::SHT_RELA;
 use elf_source::{Sink, Source};
+use elf_table::{Fault, Names, RunFault, Table, holds_symbols};
 
 impl<S: Source, W: Sink> Listing<'_, '_, '_, '_, S, W> {
     /// Shows the symbols of a section with their versions, where it holds symbols: a `Y` line each, or

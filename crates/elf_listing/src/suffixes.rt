@@ -3,9 +3,9 @@ ghost use Rattle.elf_listing.specs.Suffixed.{FetchesSuffixes};
 
 use crate::listing::Listing;
 use crate::numbered::VersionStrings;
-use elf_table::{Fault, Table};
-use elf_source::{Sink, Source};
 use elf_note::ALL_PLACES;
+use elf_source::{Sink, Source};
+use elf_table::{Fault, Table};
 
 /// What finds the versions of the symbols of a table (Linux Standard Base Core, Symbol Versioning).
 #[derive(Drop)]

@@ -13,12 +13,12 @@ use crate::listing::Listing;
 use crate::numbered::VersionStrings;
 use crate::rows::RowLayout;
 use crate::versions::section_type;
-use elf_table::{Fault, Names, RunFault, Table};
+use elf_note::{VersionCursor, VersionNames};
 use elf_record::gnu_numbers::SHT_GNU_VERSYM;
 use elf_record::sizes::SYMBOL_VERSION_BYTES;
 use elf_record::{Cause, Refusal, VersionKind};
 use elf_source::{Sink, Source};
-use elf_note::{VersionCursor, VersionNames};
+use elf_table::{Fault, Names, RunFault, Table};
 
 impl<S: Source, W: Sink> Listing<'_, '_, '_, '_, S, W> {
     /// Shows the versions of the symbols of a section, where it holds them: an `X` line each, or the

@@ -12,9 +12,9 @@ ghost use Rattle.elf_table.specs.Views.{Decides};
 ghost use Rattle.elf_listing.specs.Viewed.{AwaitsView, ChecksView, needs_segment_view, view_cost, viewed_headers};
 
 use bitflags::Flags;
-use elf_table::{ExecutionView, Fault, HeaderStore, Loaded, Style};
 use elf_record::Parts;
 use elf_source::{Counted, Source};
+use elf_table::{ExecutionView, Fault, HeaderStore, Loaded, Style};
 
 /// Loads the program headers of a file without sections, where the parts need them: to be shown, or
 /// because they tell where its notes and its dynamic entries are. Where the style finds tables by

@@ -7,15 +7,15 @@ ghost use Rattle.elf_listing.specs.HeadersListed.{ListsHeader};
 ghost use Rattle.elf_listing.specs.Versions.{ListsRecord, ListsRecords, ListsVersions, kind_type};
 ghost use Rattle.elf_listing.specs.declared.parts.Part.TheVariants.{Definitions, Needs};
 
-use crate::row_selection::{AllRows, Choosing, NamedRows};
 use crate::listing::Listing;
+use crate::row_selection::{AllRows, Choosing, NamedRows};
 use elf_format::{Columns, LinePrefix, Object, Render, version_prefix};
-use elf_table::{Names, RunFault};
 use elf_model::Format;
 use elf_note::{NameIndex, VersionCursor, VersionRecord};
 use elf_record::VersionKind;
 use elf_record::gnu_numbers::{SHT_GNU_VERDEF, SHT_GNU_VERNEED};
 use elf_source::{Sink, Source};
+use elf_table::{Names, RunFault};
 
 impl<S: Source, W: Sink> Listing<'_, '_, '_, '_, S, W> {
     /// Shows the version definitions of a section, where it holds them: a `V` line each, or the

@@ -12,10 +12,10 @@ ghost use Rattle.elf_hash.specs.Symbols.{IsDynamicSymbols, IsVersymTable, Dynami
 
 use crate::resolved_version_name::parsed_member_name;
 use elf_hash::{ChainMatch, Symbols, VersionWords, VersymEntry};
-use elf_table::{Fault, NameBuf, NameEnd};
+use elf_options::Asked;
 use elf_record::version_number;
 use elf_source::{Counted, Source};
-use elf_options::Asked;
+use elf_table::{Fault, NameBuf, NameEnd};
 
 /// The name of the version of a symbol that is found.
 #[derive(Clone, Copy)]

@@ -8,16 +8,16 @@ ghost use Rattle.elf_loader.specs.TraitStages.{FindsMarks, FindsShown, FindsTrai
 ghost use Rattle.elf_loader.specs.TraitStages.{marks_bytes, view_bytes};
 ghost use Rattle.elf_loader.specs.Known.{KnownLie, ReturnsKnown};
 
-use crate::trait_tags::trait_entries;
 use crate::known::{CountedSymbols, known_symbols};
 use crate::symbol_traits::{SymbolTraits, no_symbol_traits};
 use crate::trait_notes::x86_feature_word;
 use crate::trait_symbols::find_symbol_traits;
+use crate::trait_tags::trait_entries;
 use crate::traits::traits_with;
-use elf_table::{ExecutionView, Fault, HeaderStore};
 use elf_hash::load_by_segments;
 use elf_model::Traits;
 use elf_source::{Counted, Source};
+use elf_table::{ExecutionView, Fault, HeaderStore};
 
 /// How a file is hardened, as a loader of the GNU system sees it: by its program headers, its first
 /// segment of dynamic entries, the first list of properties in its notes, and its dynamic symbols,

@@ -11,10 +11,10 @@ ghost use Rattle.elf_hash.specs.Symbols.{IsDynamicSymbols, VersionRecordsInBound
 
 use crate::name_comparison::compare_table;
 use crate::version_index_set::VersionIndexSet;
-use elf_table::Fault;
 use elf_hash::{Symbols, VersionRecordTable};
-use elf_source::{Counted, Source};
 use elf_options::Asked;
+use elf_source::{Counted, Source};
+use elf_table::Fault;
 
 // Compares the records of a table, if there is one.
 fn compare_any<S: Source>(

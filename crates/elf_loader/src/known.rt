@@ -4,10 +4,10 @@ ghost use Rattle.elf_table.specs.Ledger.{CallDid, fault_of_result};
 ghost use Rattle.elf_table.specs.Load.{HoldsProgramHeaders};
 ghost use Rattle.elf_loader.specs.Known.{FindsKnown, KnownLie, passed_over};
 
-use elf_hash::{counts, find_in_segments, HashTable, Symbols};
-use elf_table::{ExecutionView, Fault};
+use elf_hash::{HashTable, Symbols, counts, find_in_segments};
 use elf_record::{Cause, Refusal};
 use elf_source::{Counted, Source};
+use elf_table::{ExecutionView, Fault};
 
 /// The symbols that a loader knows, with the hash table that it looks them up by. It holds no bytes.
 #[derive(Clone, Copy)]

@@ -16,15 +16,15 @@ ghost use Rattle.elf_model.specs.Style.{looked_at};
 ghost use Rattle.elf_hash.specs.LookupTablesFound.{LookupTablesInBounds};
 ghost use Rattle.elf_options.specs.Wants.{asked_of, query_of};
 
-use crate::version_matcher::VersionMatcher;
-use crate::index_collection::version_indices;
 use crate::found::version_of;
+use crate::index_collection::version_indices;
 use crate::lookup::{FoundSymbol, SymbolLookup};
 use crate::version_index_set::VersionIndexSet;
-use elf_hash::{ChainResult, counts, find_lookup_tables, HashTable, LookupTables, walk};
-use elf_table::{Fault, HeaderStore, NameBuf};
-use elf_source::{Counted, Source};
+use crate::version_matcher::VersionMatcher;
+use elf_hash::{ChainResult, HashTable, LookupTables, counts, find_lookup_tables, walk};
 use elf_options::Wanted;
+use elf_source::{Counted, Source};
+use elf_table::{Fault, HeaderStore, NameBuf};
 
 /// Looks a name up in a file, alone or with a version, as a loader of the GNU system does (gABI 5,
 /// Dynamic Linking; Linux Standard Base Core, Symbol Versioning): by the file's hash table, of the

@@ -11,11 +11,11 @@ ghost use Rattle.elf_table.specs.Tables.{StringsInBounds, strings_in};
 ghost use Rattle.elf_note.specs.Reading.{IsVersion};
 
 use crate::version_index_set::VersionIndexSet;
-use elf_table::{Fault, Names};
 use elf_hash::VersionRecordTable;
+use elf_note::{VersionCursor, VersionRecord};
 use elf_record::version_number;
 use elf_source::{Counted, Source};
-use elf_note::{VersionCursor, VersionRecord};
+use elf_table::{Fault, Names};
 
 /// Compares the records of a table that name a version with the wanted one, and puts the numbers of
 /// those that are it into a set.

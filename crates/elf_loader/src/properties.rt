@@ -7,8 +7,8 @@ ghost use Rattle.elf_model.specs.Properties.{features_in};
 ghost use Rattle.elf_loader.specs.Features.{ReturnsValue};
 
 use crate::property::{read_head, word_in};
-use elf_table::Fault;
 use elf_source::{Counted, Source};
+use elf_table::Fault;
 
 /// The word of the features of x86 in a list of properties (Linux Extensions to gABI, Program
 /// Property; x86-64 psABI, Program Property): that of the first property with its type, 0 where there

@@ -4,9 +4,9 @@ ghost use Rattle.elf_table.specs.Ledger.{CallDid, fault_of_result};
 ghost use Rattle.elf_loader.specs.Features.{ReadsHead, ReadsWord};
 
 use elf_hash::read_word;
-use elf_table::{Fault, refused};
 use elf_record::Cause;
 use elf_source::{Counted, Source};
+use elf_table::{Fault, refused};
 
 /// The size of a property's head in bytes.
 const HEAD_BYTES: u64 = 8;

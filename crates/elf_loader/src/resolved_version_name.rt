@@ -8,10 +8,10 @@ ghost use Rattle.elf_model.specs.LoaderScope.{LookupTables as IsScopeOf};
 ghost use Rattle.elf_hash.specs.Symbols.{IsDynamicSymbols, DynamicSymbolsInBounds};
 
 use crate::version_name_record::name_of;
-use elf_table::{Fault, NameBuf, NameEnd, NameLimit, refused};
 use elf_hash::Symbols;
 use elf_record::Cause;
 use elf_source::{Counted, Source};
+use elf_table::{Fault, NameBuf, NameEnd, NameLimit, refused};
 
 /// How many bytes of the name of a version are kept.
 const TOLD_BYTES: u16 = 256;

@@ -10,12 +10,12 @@ ghost use Rattle.elf_table.specs.Tables.{TableInBounds};
 ghost use Rattle.elf_loader.specs.Lists.{FindsFeatures, FindsList, FindsLists, ListInBounds, ReturnsList};
 ghost use Rattle.elf_loader.specs.Lists.{first_list};
 
-use crate::symbol_names::{NAME_CAP, is_equal_name};
 use crate::properties::features_in;
-use elf_table::{ExecutionView, Fault, NameBuf, NameEnd, Table};
+use crate::symbol_names::{NAME_CAP, is_equal_name};
 use elf_note::{NoteCursor, NoteRow};
 use elf_record::numbers::{EM_X86_64, PT_NOTE};
 use elf_source::{Counted, Source};
+use elf_table::{ExecutionView, Fault, NameBuf, NameEnd, Table};
 
 /// The type of a note of the GNU system that lists properties (Linux Extensions to gABI, Program
 /// Property).

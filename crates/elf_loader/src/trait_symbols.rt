@@ -11,15 +11,15 @@ ghost use Rattle.elf_table.specs.Tables.{TableInBounds, StringsInBounds, strings
 ghost use Rattle.elf_model.specs.Bytes.{slice};
 ghost use Rattle.elf_loader.specs.Marks.{ReturnsMarks, marks_in, symbol_traits_of, marks_with};
 
-use crate::symbol_traits::{SymbolTraits, marked_by, no_symbol_traits};
 use crate::symbol_names::NAME_CAP;
-use elf_table::{Cursor, Fault, NameBuf, NameEnd, Names, Row, Table};
+use crate::symbol_traits::{SymbolTraits, marked_by, no_symbol_traits};
 use elf_hash::Symbols;
 use elf_note::{NameIndex, ReadAhead};
 use elf_record::Sym;
 use elf_record::numbers::SHN_UNDEF;
 use elf_record::sizes::SYMBOL_BYTES;
 use elf_source::{Counted, Source};
+use elf_table::{Cursor, Fault, NameBuf, NameEnd, Names, Row, Table};
 
 /// The marks of so many symbols, all but the first, which is none (gABI 4, Symbol Table). There are no
 /// fewer. Each with its name asks for 88 bytes at most.

@@ -8,13 +8,13 @@ ghost use Rattle.elf_table.specs.Load.{HoldsProgramHeaders};
 ghost use Rattle.elf_table.specs.Tables.{TableInBounds, size_of};
 ghost use Rattle.elf_loader.specs.Entries.{AreListedValues, FindsTraitEntries, TakesValues, no_values};
 
-use elf_table::{ExecutionView, Fault, Table};
 use elf_note::{dynamic_rows, entry_in, first_of};
 use elf_record::Dyn;
 use elf_record::numbers::{
     DT_BIND_NOW, DT_FLAGS, DT_RPATH, DT_RUNPATH, DT_SONAME, DT_TEXTREL, PT_DYNAMIC,
 };
 use elf_source::{Counted, Source};
+use elf_table::{ExecutionView, Fault, Table};
 
 /// The tag of further flags, of the GNU system.
 const DT_FLAGS_1: u64 = 0x6fff_fffb;

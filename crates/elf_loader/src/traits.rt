@@ -7,10 +7,10 @@ ghost use Rattle.elf_model.specs.Traits.{program_kind, relro_of, segment_traits,
 ghost use Rattle.elf_loader.specs.Entries.{AreTraitEntries};
 ghost use Rattle.elf_loader.specs.Marks.{symbol_traits_of};
 
-use crate::trait_tags::TraitTags;
 use crate::flags::has_bits;
 use crate::symbol_traits::SymbolTraits;
 use crate::trait_segments::{has_segment, has_wx_load, is_stack_executable};
+use crate::trait_tags::TraitTags;
 use elf_model::{ProgramKind, Relro, SearchPath, SegmentTraits, Traits};
 use elf_record::numbers::{ET_CORE, ET_DYN, ET_EXEC, ET_REL, PT_INTERP};
 use elf_table::ExecutionView;

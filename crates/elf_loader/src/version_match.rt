@@ -12,10 +12,10 @@ ghost use Rattle.std.specs.Prelude.{Option};
 
 use crate::version_index_set::VersionIndexSet;
 use elf_hash::{VersionWords, VersymEntry};
-use elf_table::{Fault, fill, refused};
+use elf_options::Asked;
 use elf_record::{Cause, u16_at, version_number};
 use elf_source::{Counted, Source};
-use elf_options::Asked;
+use elf_table::{Fault, fill, refused};
 
 /// Whether the version of a symbol fits what is asked for, with the version's word.
 #[derive(Clone, Copy)]

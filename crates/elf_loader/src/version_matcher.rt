@@ -8,13 +8,13 @@ ghost use Rattle.elf_model.specs.Loader.{Symbols as AreSymbolsOf, answers};
 ghost use Rattle.elf_model.specs.Names.{pad64};
 ghost use Rattle.elf_hash.specs.Symbols.{IsDynamicSymbols, DynamicSymbolsInBounds};
 
-use crate::version_match::version_fits;
-use crate::version_index_set::VersionIndexSet;
 use crate::exported::is_exported;
+use crate::version_index_set::VersionIndexSet;
+use crate::version_match::version_fits;
 use elf_hash::{Matcher, SymbolMatch, Symbols};
-use elf_table::Fault;
-use elf_source::{Counted, Source};
 use elf_options::Wanted;
+use elf_source::{Counted, Source};
+use elf_table::Fault;
 
 /// The trial of symbols by what is wanted of them, where the numbers of the wanted version are known.
 #[derive(Clone, Copy)]

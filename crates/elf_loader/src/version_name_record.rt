@@ -7,11 +7,11 @@ ghost use Rattle.elf_model.specs.Versions.{VisitedRecord, max_records, names_ver
 ghost use Rattle.elf_hash.specs.Symbols.{VersionRecordsInBounds, DynamicSymbolsInBounds};
 ghost use Rattle.elf_note.specs.Reading.{IsVersion};
 
-use elf_table::{Fault, Names};
 use elf_hash::{Symbols, VersionRecordTable};
+use elf_note::{VersionCursor, VersionRecord};
 use elf_record::{VersionKind, version_number};
 use elf_source::{Counted, Source};
-use elf_note::{VersionCursor, VersionRecord};
+use elf_table::{Fault, Names};
 
 /// A record that names the version of a number, with the strings of its name.
 #[derive(Clone, Copy)]

@@ -3,8 +3,8 @@
 ghost use Rattle.elf_memory.specs.Checked.{HeaderChecked, CountsChecked};
 
 use crate::bytes::chunk_at;
-use elf_table::{check_before_load, refused_length};
 use elf_record::{Ehdr, Refusal};
+use elf_table::{check_before_load, refused_length};
 
 /// How many section headers, and as many program headers, are permitted at most.
 const MOST_HEADERS: u16 = 65_279;

@@ -6,9 +6,9 @@ ghost use Rattle.elf_memory.specs.SectionBytes.{ReadsSectionBytes};
 
 use crate::name::ByteRange;
 use crate::section::{Section, section_at, section_place};
-use elf_table::ends_outside;
 use elf_record::numbers::{SHT_NOBITS, SHT_NULL};
 use elf_record::{Cause, Refusal};
+use elf_table::ends_outside;
 
 /// Where the bytes of a section lie in a file that lies in memory; None where the file has no such
 /// section, or one of the type NOBITS or NULL, which has none there. No other section header is

@@ -5,9 +5,9 @@ ghost use Rattle.elf_memory.specs.NoteRows.{InFile, ReadsSectionNotes, ReadsSegm
 use crate::notes::NotePosition;
 use crate::section::{section_at, section_place};
 use crate::segment::{segment_at, segment_place};
-use elf_table::ends_outside;
 use elf_record::numbers::{PT_NOTE, SHT_NOTE};
 use elf_record::{Cause, Refusal};
+use elf_table::ends_outside;
 
 /// The notes of a section of a file that lies in memory; None where it has no such section, or one
 /// of another type than NOTE (gABI 5, Note Section).

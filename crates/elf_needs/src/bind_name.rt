@@ -4,9 +4,9 @@ ghost use Rattle.elf_loader.specs.Lookups.{AreShort};
 ghost use Rattle.elf_options.specs.Wants.{query_of};
 
 use crate::object::Object;
-use elf_table::Fault;
-use elf_source::Source;
 use elf_options::Wanted;
+use elf_source::Source;
+use elf_table::Fault;
 
 /// What looking for a name over several files answers.
 #[derive(Clone, Copy)]

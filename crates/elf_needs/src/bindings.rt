@@ -5,19 +5,19 @@ ghost use Rattle.elf_model.specs.BoundSymbols.{before_items, bound_item, bound_i
 ghost use Rattle.elf_model.specs.LoaderScope.{LookupTables as IsScopeOf, lookup_tables_of};
 ghost use Rattle.elf_needs.specs.Bound.{AsksAll, IsLimited, ReturnsFault, WritesSymbol, WritesBindings, WritesLines, bound_among, bound_of, status_after};
 
-use crate::search_scope::{SearchScope, WriteEnd, either, failing, index_at};
+use crate::binding_rows::show_binding;
+use crate::binding_states::is_unbound;
 use crate::bound_states::{DefinitionAt, item_of};
-use crate::walk::{DependencyWalk, NeedsFault};
+use crate::faults::is_budget_fault;
 use crate::object::Object;
 use crate::open_objects::OpenObjects;
 use crate::reference_names::ReferenceNames;
-use crate::faults::is_budget_fault;
-use crate::binding_states::is_unbound;
-use crate::binding_rows::show_binding;
-use elf_table::Fault;
+use crate::search_scope::{SearchScope, WriteEnd, either, failing, index_at};
+use crate::walk::{DependencyWalk, NeedsFault};
 use elf_format::show_refusal;
 use elf_model::Format;
 use elf_source::{Out, Sink, Source};
+use elf_table::Fault;
 
 impl<W: Sink> DependencyWalk<'_, '_, W> {
     /// Writes a line for each symbol that the listed objects ask others for, in their order: the object

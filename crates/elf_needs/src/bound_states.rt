@@ -7,16 +7,16 @@ ghost use Rattle.elf_model.specs.Loader.{asked_name};
 ghost use Rattle.elf_model.specs.LoaderScope.{LookupTables as IsScopeOf, lookup_tables_of};
 ghost use Rattle.elf_needs.specs.Bound.{AsksAll, OfSought, OnlyLimited, ReturnsItem, bound_among};
 
-use crate::search_scope::{SearchScope, index_at, place_of};
 use crate::bind_name::{BindFault, BindResult, bind};
-use crate::object::Object;
-use crate::reference_names::{ReferenceNames, show_name};
-use crate::reference::SymbolReference;
-use crate::faults::is_reported_alone;
 use crate::binding_states::unbound_state;
-use elf_table::Fault;
+use crate::faults::is_reported_alone;
+use crate::object::Object;
+use crate::reference::SymbolReference;
+use crate::reference_names::{ReferenceNames, show_name};
+use crate::search_scope::{SearchScope, index_at, place_of};
 use elf_model::BindingState;
 use elf_source::Source;
+use elf_table::Fault;
 
 /// A symbol of an object that is looked in: the place of the object, and the symbol's index there.
 #[derive(Clone, Copy)]

@@ -4,8 +4,8 @@ ghost use Rattle.elf_needs.specs.Budget.{AsksFile, AsksFound};
 
 use crate::object_file::{ObjectFile, ReadAccount};
 use crate::walk::NeedsFault;
-use elf_table::Fault;
 use elf_source::{FileReader, Source, StreamSource};
+use elf_table::Fault;
 use std::os::unix::fs::FileExt;
 use std::rt::Files;
 use std::{fs, str};

@@ -14,12 +14,14 @@ ghost use Rattle.elf_hash.specs.Symbols.{DynamicSymbolsInBounds};
 ghost use Rattle.elf_options.specs.Wants.{query_of};
 
 use crate::ready::has_nul;
-use elf_hash::{ChainResult, counts, excludes, HashTable, LookupTables, Matcher, SymbolMatch, walk};
-use elf_table::Fault;
+use elf_hash::{
+    ChainResult, HashTable, LookupTables, Matcher, SymbolMatch, counts, excludes, walk,
+};
 use elf_loader::{VersionIndexSet, VersionMatcher, version_indices};
+use elf_options::Wanted;
 use elf_record::numbers::SHN_UNDEF;
 use elf_source::{Counted, Source};
-use elf_options::Wanted;
+use elf_table::Fault;
 
 /// The trial of symbols by what is wanted of them, of which those that are undefined don't answer.
 #[derive(Clone, Copy)]

@@ -14,11 +14,11 @@ ghost use Rattle.elf_needs.specs.Entries.{KeepsLinks, ReturnsLinks, ReturnsStrin
 ghost use Rattle.elf_needs.specs.Held.{LinkInfoState};
 
 use crate::links::{LinkInfo, LinkInfoStore, Need};
-use elf_table::{ExecutionView, Fault, Names, refused, Table};
 use elf_note::{DynamicStrings, dynamic_rows, entry_in};
 use elf_record::numbers::{DT_NEEDED, DT_RPATH, DT_RUNPATH, DT_SONAME};
 use elf_record::{Cause, Dyn};
 use elf_source::{Counted, Source};
+use elf_table::{ExecutionView, Fault, Names, Table, refused};
 
 /// Where the texts of dynamic entries are: at the address that the entries tell, where a segment loads them.
 #[derive(Clone, Copy)]

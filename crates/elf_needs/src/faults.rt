@@ -3,8 +3,8 @@ ghost use Rattle.std.specs.Prelude.{MatchBool};
 ghost use Rattle.elf_needs.specs.Sought.{IsReportedAlone};
 ghost use Rattle.elf_model.specs.Budget.{IsBudgetRefusal};
 
-use elf_table::Fault;
 use elf_record::{Cause, Refusal};
+use elf_table::Fault;
 
 /// Whether a fault of a lookup is no refusal of the file: a read failed, or the budget is used up.
 pub fn is_reported_alone(fault: Fault) -> bool

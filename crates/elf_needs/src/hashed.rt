@@ -6,9 +6,9 @@ ghost use Rattle.elf_hash.specs.LookupTablesFound.{IsLookupTables};
 ghost use Rattle.elf_model.specs.Bindings.{symbols_hashed};
 ghost use Rattle.elf_model.specs.LoaderScope.{LookupTables as IsScopeOf};
 
-use elf_hash::{counts, LookupTables};
-use elf_table::Fault;
+use elf_hash::{LookupTables, counts};
 use elf_source::{Counted, Source};
+use elf_table::Fault;
 
 /// How many symbols a file has, by its hash table, of those that there is room for.
 ///

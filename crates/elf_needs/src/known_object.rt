@@ -3,8 +3,8 @@ ghost use Rattle.std.specs.Prelude.{◌≡◌, is_some, option_map, position};
 ghost use Rattle.elf_needs.specs.Called.{called_by, is_called, is_text, index_by_short_name, text_told};
 
 use crate::links::{LinkInfo, LinkInfoStore, Need};
-use crate::texts::StringArena;
 use crate::paths::dir_of_path;
+use crate::texts::StringArena;
 use std::alloc::{AllocError, Global};
 
 /// The most objects of a program.

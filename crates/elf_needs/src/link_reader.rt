@@ -11,12 +11,12 @@ ghost use Rattle.elf_needs.specs.Reading.{ReturnsLookupRefusal, linked_in_segmen
 
 use crate::entries::{DynamicTexts, list_link_info, no_link_info};
 use crate::links::{LinkInfo, LinkInfoStore};
-use elf_table::{ExecutionView, Fault, fill, HeaderStore};
 use elf_hash::{find_in_segments, load_by_segments};
 use elf_note::dynamic_strings;
 use elf_record::numbers::PT_DYNAMIC;
 use elf_record::{Cause, Refusal, u16_at, word};
 use elf_source::{Counted, Source};
+use elf_table::{ExecutionView, Fault, HeaderStore, fill};
 
 /// How many bytes of a file tell its class, its encoding and its machine (gABI 4, ELF Header).
 const FRONT_BYTES: usize = 20;

@@ -8,9 +8,9 @@ ghost use Rattle.elf_needs.specs.Entries.{ReturnsText, text_by};
 ghost use Rattle.elf_table.specs.Tables.{StringsInBounds, strings_in};
 
 use crate::texts::StringArena;
-use elf_table::{Fault, NameBuf, NameEnd, NameLimit, Names, refused};
 use elf_record::Cause;
 use elf_source::{Counted, Source};
+use elf_table::{Fault, NameBuf, NameEnd, NameLimit, Names, refused};
 use std::alloc::{AllocError, Global};
 use std::marker::Model;
 

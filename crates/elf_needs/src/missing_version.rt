@@ -10,12 +10,12 @@ ghost use Rattle.elf_model.specs.Loader.{Version};
 ghost use Rattle.elf_model.specs.LoaderScope.{LookupTables as IsScopeOf};
 ghost use Rattle.elf_hash.specs.Symbols.{IsDynamicSymbols, DynamicSymbolsInBounds};
 
-use elf_table::Fault;
-use elf_loader::version_indices;
 use elf_hash::{Symbols, VersionRecordTable};
+use elf_loader::version_indices;
+use elf_options::Asked;
 use elf_record::VersionKind;
 use elf_source::{Counted, Source};
-use elf_options::Asked;
+use elf_table::Fault;
 
 /// Whether a file defines versions, and none by a name of at most 4,096 bytes.
 ///

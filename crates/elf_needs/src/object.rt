@@ -7,17 +7,17 @@ ghost use Rattle.elf_needs.specs.Sought.{CountsHashed, LooksForVersion, ReadsFil
 ghost use Rattle.elf_loader.specs.Lookups.{AreShort};
 ghost use Rattle.elf_options.specs.Wants.{query_of};
 
+use crate::budget::spend_budget;
 use crate::definition::find_definer;
 use crate::hashed::hashed_symbols;
 use crate::missing_version::lacks_version;
 use crate::ready::ready_table;
 use crate::reference::{SymbolReference, reference_of, whole_name};
-use crate::budget::spend_budget;
-use elf_hash::{find_lookup_tables, HashTable, LookupTables};
-use elf_table::{Fault, HeaderStore, NameBuf};
-use elf_source::{Counted, Source};
+use elf_hash::{HashTable, LookupTables, find_lookup_tables};
 use elf_note::VersionRecord;
 use elf_options::Wanted;
+use elf_source::{Counted, Source};
+use elf_table::{Fault, HeaderStore, NameBuf};
 use std::marker::Model;
 
 /// A file that names are looked for in: its source, and what a lookup in it is made in.

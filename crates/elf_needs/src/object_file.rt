@@ -4,10 +4,10 @@ ghost use Rattle.elf_needs.specs.Budget.{AsksFile};
 ghost use Rattle.elf_source.specs.Source.{counted};
 
 use crate::budget::spend_budget;
-use elf_table::{Fault, HeaderStore};
-use crate::links::{LinkInfo, LinkInfoStore};
 use crate::link_reader::{machine_of, read_link_info};
+use crate::links::{LinkInfo, LinkInfoStore};
 use elf_source::{Counted, Source};
+use elf_table::{Fault, HeaderStore};
 use std::marker::Model;
 
 /// What files may be asked for, and what they were asked for.

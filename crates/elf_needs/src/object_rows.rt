@@ -5,7 +5,10 @@ ghost use Rattle.elf_format.specs.Fronts.{front_of};
 ghost use Rattle.elf_needs.specs.ObjectLines.{file_state, object_front, object_line, object_state_name, too_many_line};
 
 use crate::states::ObjectState;
-use elf_format::{begin, begin_named, Columns, LineBuf, LinePrefix, Object, put_closing, put_decimal, put_fault, put_hexadecimal, put_name_or_decimal, put_text, Render, show_named};
+use elf_format::{
+    Columns, LineBuf, LinePrefix, Object, Render, begin, begin_named, put_closing, put_decimal,
+    put_fault, put_hexadecimal, put_name_or_decimal, put_text, show_named,
+};
 use elf_model::{FileStatus, Format};
 use elf_source::{Out, OutFault, Sink};
 

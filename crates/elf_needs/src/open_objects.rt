@@ -2,12 +2,12 @@
 ghost use Rattle.std.specs.Prelude.{◌≡◌, [], IfOk};
 ghost use Rattle.elf_needs.specs.Opens.{AsksKept, KeepsOne};
 
-use crate::object::Object;
-use crate::cached_source::CachedSource;
 use crate::budget::spend_budget;
-use elf_table::{Fault, HeaderStore};
+use crate::cached_source::CachedSource;
+use crate::object::Object;
 use elf_record::{Cause, Refusal};
 use elf_source::{Counted, Source};
+use elf_table::{Fault, HeaderStore};
 use std::alloc::{AllocError, Global};
 
 /// Objects whose files are kept open, in their order, each with its index among all. Those without a

@@ -8,11 +8,11 @@ ghost use Rattle.elf_hash.specs.LookupTablesFound.{IsLookupTables, LookupTablesI
 ghost use Rattle.elf_hash.specs.Symbols.{VersionRecordsInBounds};
 ghost use Rattle.elf_options.specs.Wants.{asked_of};
 
-use elf_hash::{counts, HashTable, LookupTables, VersionRecordTable};
-use elf_table::Fault;
+use elf_hash::{HashTable, LookupTables, VersionRecordTable, counts};
 use elf_loader::version_indices;
-use elf_source::{Counted, Source};
 use elf_options::Asked;
+use elf_source::{Counted, Source};
+use elf_table::Fault;
 
 /// The hash table with its counts, where these and the file's records of versions are such that no
 /// lookup is refused before its walk: each record can be read, and the strings of its name end in a NUL.

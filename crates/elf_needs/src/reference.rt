@@ -13,14 +13,14 @@ ghost use Rattle.elf_record.specs.Sym.{IsSym};
 ghost use Rattle.elf_hash.specs.Symbols.{IsDynamicSymbols, DynamicSymbolsInBounds};
 ghost use Rattle.elf_table.specs.Tables.{StringsInBounds, strings_in};
 
-use elf_table::{Fault, NameBuf, NameEnd, NameLimit, Names, refused};
-use elf_loader::{name_of, read_half};
 use elf_hash::Symbols;
+use elf_loader::{name_of, read_half};
+use elf_note::VersionRecord;
 use elf_record::gnu_numbers::STB_GNU_UNIQUE;
 use elf_record::numbers::{SHN_UNDEF, STB_GLOBAL, STB_WEAK};
 use elf_record::{Cause, Sym};
 use elf_source::{Counted, Source};
-use elf_note::VersionRecord;
+use elf_table::{Fault, NameBuf, NameEnd, NameLimit, Names, refused};
 
 /// How many bytes a name of a symbol or a version has at most that is asked for.
 const SOUGHT_CAP: NameLimit = NameLimit { bytes: 4096 };

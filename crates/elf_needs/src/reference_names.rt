@@ -8,8 +8,8 @@ ghost use Rattle.elf_model.specs.Loader.{asked_name};
 ghost use Rattle.elf_options.specs.Wants.{query_of};
 
 use arrayvec::ArrayVec;
-use elf_table::NameBuf;
 use elf_options::{Asked, Wanted};
+use elf_table::NameBuf;
 
 /// How many bytes a name with its version has at most: both with what stands between them.
 const SHOWN_BYTES: usize = 4096 + 1 + 4096;

@@ -4,11 +4,11 @@ ghost use Rattle.elf_needs.specs.Budget.{AsksFound};
 
 use crate::candidates::{FileSource, candidate};
 use crate::known_object::{KnownObject, MOST_OBJECTS, ObjectList};
-use crate::object_file::{ObjectFile, ReadAccount};
-use crate::walk::NeedsFault;
-use crate::paths::{CandidatePath, named_path};
 use crate::library_search::LibrarySearch;
 use crate::needers::{NeedingObject, SearchPaths, gather_dirs};
+use crate::object_file::{ObjectFile, ReadAccount};
+use crate::paths::{CandidatePath, named_path};
+use crate::walk::NeedsFault;
 use memchr::memchr;
 use std::os::unix::fs::FileExt;
 use std::rt::Files;

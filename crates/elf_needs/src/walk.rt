@@ -2,20 +2,20 @@
 ghost use Rattle.std.specs.Prelude.{◌≡◌};
 ghost use Rattle.elf_needs.specs.Budget.{AsksFile, AsksFiles};
 
+use crate::buffers::NeedsBuffers;
+use crate::cached_source::CachedSource;
 use crate::candidates::FileSource;
 use crate::known_object::{KnownObject, MOST_OBJECTS, ObjectList};
+use crate::links::{LinkInfo, Need};
 use crate::object_file::{ObjectFile, ReadAccount};
 use crate::object_rows::{show_object, show_too_many};
-use crate::buffers::NeedsBuffers;
+use crate::open_objects::OpenObjects;
+use crate::paths::CandidatePath;
 use crate::search_dirs::{Search, SearchDirs};
 use crate::states::ObjectState;
-use crate::cached_source::CachedSource;
-use crate::open_objects::OpenObjects;
-use elf_table::{Fault, HeaderStore};
-use crate::paths::CandidatePath;
-use crate::links::{LinkInfo, Need};
 use elf_model::Format;
 use elf_source::{Out, OutFault, Sink, Source};
+use elf_table::{Fault, HeaderStore};
 use std::os::unix::fs::FileExt;
 use std::rt::Files;
 

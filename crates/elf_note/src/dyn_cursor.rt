@@ -9,10 +9,10 @@ ghost use Rattle.elf_table.specs.Tables.{TableInBounds};
 ghost use Rattle.elf_note.specs.DynCursors.{AdvancesEntries, KeepsEntries, StartsEntries};
 ghost use Rattle.elf_note.specs.Steps.{StepReads};
 
-use elf_table::{Cursor, Fault, Row, Table};
 use elf_record::Dyn;
 use elf_record::numbers::DT_NULL;
 use elf_source::{Counted, Source};
+use elf_table::{Cursor, Fault, Row, Table};
 use std::marker::Model;
 
 /// A cursor over the dynamic entries of a table, of a section or of a segment (gABI 5, Dynamic

@@ -12,9 +12,9 @@ use crate::note_names::read_name;
 use crate::sizes::{alignment_gap, padding};
 use crate::tail::ends_in_zeros;
 use crate::window_bytes::take;
-use elf_table::{Fault, NameBuf, NameEnd, NameLimit, Window, WINDOW_BYTES};
 use elf_record::{Cause, NoteHead, Refusal};
 use elf_source::{Counted, Source};
+use elf_table::{Fault, NameBuf, NameEnd, NameLimit, WINDOW_BYTES, Window};
 
 /// The size of a note's head in bytes.
 pub(crate) const HEAD_BYTES: usize = 12;

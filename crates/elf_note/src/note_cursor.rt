@@ -6,9 +6,9 @@ ghost use Rattle.elf_note.specs.Steps.{StepReads};
 
 use crate::note::{FoundNote, SHOWN_DESCRIPTOR, next_note};
 use crate::note_row::NoteRow;
-use elf_table::{Fault, NameBuf, NameEnd, NameLimit, Table, Window, WINDOW_BYTES};
 use elf_record::NoteHead;
 use elf_source::{Counted, Source};
+use elf_table::{Fault, NameBuf, NameEnd, NameLimit, Table, WINDOW_BYTES, Window};
 use std::marker::Model;
 
 /// A cursor over the notes of a table (gABI 5, Note Section). It reads at most 4,096 bytes at once,

@@ -6,8 +6,8 @@ ghost use Rattle.elf_table.specs.Windows.{HoldsBytes};
 ghost use Rattle.elf_note.specs.NoteCursors.{NameIs};
 ghost use Rattle.elf_table.specs.WindowCalls.{HasLeft, ReadsThrough};
 
-use elf_table::{Fault, NameBuf, NameEnd, NameLimit, search_name, Window, WINDOW_BYTES};
 use elf_source::{Counted, Source};
+use elf_table::{Fault, NameBuf, NameEnd, NameLimit, WINDOW_BYTES, Window, search_name};
 
 /// Passes over the next `size` bytes, a note's name, and leaves in `name` what is shown of it with
 /// at most `cap` bytes: those before its first NUL, or all.

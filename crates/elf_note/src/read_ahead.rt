@@ -12,10 +12,10 @@ ghost use Rattle.elf_note.specs.Ahead.{LosesAt, ReadsAhead, WhereAgrees};
 
 use crate::name_index::NameIndex;
 use crate::read_buffer::ReadBuffer;
-use elf_table::{Fault, find_nul, NameBuf, NameEnd, NameLimit, refused, Table};
 use elf_record::sizes::SYMBOL_BYTES;
 use elf_record::{Cause, Sym};
 use elf_source::{Counted, Source};
+use elf_table::{Fault, NameBuf, NameEnd, NameLimit, Table, find_nul, refused};
 use std::marker::Model;
 
 /// How many bytes of names are held at most.

@@ -3,8 +3,8 @@ ghost use Rattle.std.specs.Prelude.{◌≡◌, ℕ, ◌+◌, ◌-◌, ◌^◌, �
 ghost use Rattle.elf_model.specs.Bytes.{slice};
 ghost use Rattle.elf_note.specs.Ahead.{BringsHeld, LosesAt, OnCredit, StaysOf, reach};
 
-use elf_table::{Fault, fill};
 use elf_source::{Counted, Source};
+use elf_table::{Fault, fill};
 use std::marker::Model;
 
 /// How many bytes behind a stretch a wanted byte still counts as the next.

@@ -6,12 +6,12 @@ ghost use Rattle.elf_note.specs.Reading.{DidHeld, HasUpTo, IsVersion, KnowsFiles
 ghost use Rattle.elf_note.specs.Words.{HoldsWords, distance_of_name, end_of_named_record};
 
 use crate::record::VersionRecord;
+use crate::record_fields::{VersionRecordFields, of_definition, of_file, of_need};
 use crate::record_position::{RecordPosition, behind, name_distance, refused_words};
 use crate::table_buffer::TableBuffer;
-use crate::record_fields::{VersionRecordFields, of_definition, of_file, of_need};
-use elf_table::Fault;
 use elf_record::{Verdef, Vernaux, Verneed, VersionKind, word};
 use elf_source::{Counted, Source};
+use elf_table::Fault;
 
 /// A record, and where it leads a walk.
 #[derive(Clone, Copy)]

@@ -9,10 +9,10 @@ ghost use Rattle.elf_table.specs.Tables.{TableInBounds, size_of};
 ghost use Rattle.elf_note.specs.DynCursors.{AreStrings, first_value, value_here};
 
 use crate::dyn_cursor::{dynamic_rows, entry_in};
-use elf_table::{Fault, Table};
 use elf_record::Dyn;
 use elf_record::numbers::{DT_STRSZ, DT_STRTAB};
 use elf_source::{Counted, Source};
+use elf_table::{Fault, Table};
 
 /// Where the string table of dynamic entries is in memory, as they say (gABI 5, Dynamic Section).
 #[derive(Clone, Copy)]

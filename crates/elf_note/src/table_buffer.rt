@@ -6,8 +6,8 @@ ghost use Rattle.elf_table.specs.Ledger.{CallDid, fault_of_result};
 ghost use Rattle.elf_table.specs.Tables.{TableInBounds};
 ghost use Rattle.elf_note.specs.Reading.{DidHeld, GivesBytes, HasUpTo, IsHeldOf, unheld};
 
-use elf_table::{Fault, fill, Table};
 use elf_source::{Counted, Source};
+use elf_table::{Fault, Table, fill};
 use std::marker::Model;
 
 /// How many bytes of a table are held at most.

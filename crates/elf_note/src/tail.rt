@@ -5,8 +5,8 @@ ghost use Rattle.elf_table.specs.Windows.{HoldsBytes, RangeWithin, bytes_left};
 ghost use Rattle.elf_note.specs.NoteCursors.{rest};
 ghost use Rattle.elf_table.specs.WindowCalls.{ReadsThrough};
 
-use elf_table::{Fault, Window, WINDOW_BYTES};
 use elf_source::{Counted, Source};
+use elf_table::{Fault, WINDOW_BYTES, Window};
 
 /// Whether all bytes that are left are zero, which are no more than the window holds. They are
 /// passed over.

@@ -9,14 +9,14 @@ ghost use Rattle.elf_model.specs.declared.versions.VersionKind.TheVariants.{Need
 ghost use Rattle.elf_note.specs.Reading.{Fits, IsCursorOf, KeepsWalk, LeavesVisited, LeavesWalk, MeetsIn};
 ghost use Rattle.elf_note.specs.Reading.{StartsVersions, StepsIn, bytes_each, unread, why_stopped_now};
 
-use crate::record_reader::read_record;
 use crate::record::VersionRecord;
 use crate::record_position::{RecordPosition, bytes_each, first, record_bytes};
+use crate::record_reader::read_record;
 use crate::table_buffer::TableBuffer;
-use elf_table::{Fault, refused, Table};
 use elf_record::sizes::{VERSION_DEFINITION_BYTES, VERSION_NAME_BYTES};
 use elf_record::{Cause, VersionKind};
 use elf_source::{Counted, Source};
+use elf_table::{Fault, Table, refused};
 use std::marker::Model;
 
 /// A cursor over the records of a table of definitions, or of needs (Linux Standard Base Core, Symbol

@@ -6,11 +6,11 @@ ghost use Rattle.elf_model.specs.Versions.{VisitedRecord, VERSION_NUMBERS, named
 ghost use Rattle.elf_note.specs.NumberNames.{GivesName, IsNameOfRecord, NameFits, NamesNumbers, ReadsNumberNames, name_at};
 ghost use Rattle.elf_note.specs.Reading.{IsCursorOf, IsVersion, unread, versions_left};
 
-use crate::version_cursor::VersionCursor;
 use crate::record::VersionRecord;
-use elf_table::Fault;
+use crate::version_cursor::VersionCursor;
 use elf_record::{VersionKind, version_number};
 use elf_source::{Counted, Source};
+use elf_table::Fault;
 use std::marker::Model;
 
 /// How many numbers versions may have, below which they are.

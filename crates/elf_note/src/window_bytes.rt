@@ -4,8 +4,8 @@ ghost use Rattle.elf_model.specs.Bytes.{slice};
 ghost use Rattle.elf_table.specs.Windows.{HoldsBytes};
 ghost use Rattle.elf_table.specs.WindowCalls.{HasLeft, ReadsThrough};
 
-use elf_table::{Fault, Window, WINDOW_BYTES};
 use elf_source::{Counted, Source};
+use elf_table::{Fault, WINDOW_BYTES, Window};
 
 /// Fills `out` with the next bytes of a window, and passes over them.
 ///

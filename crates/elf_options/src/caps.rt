@@ -1,8 +1,8 @@
 //! How much of a file may be read and shown.
 ghost use Rattle.std.specs.Prelude.{◌≤◌};
 
-use elf_model::Format;
 use crate::row_filter::RowFilter;
+use elf_model::Format;
 
 /// The most headers that may be permitted.
 const MOST_HEADERS: u16 = 65_279;

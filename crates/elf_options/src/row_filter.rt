@@ -1,9 +1,9 @@
 //! Which rows of a listing are shown.
 ghost use Rattle.elf_options.specs.Names.{NeverDescend};
 
-use crate::versioned_name::VersionedName;
 use crate::names::SortedStrings;
 use crate::symbol_query::{has_sign, has_sign_first};
+use crate::versioned_name::VersionedName;
 
 /// What stands before a version in a text that asks for it.
 const PLAIN_SIGN: &[u8] = b"@";

@@ -7,10 +7,10 @@ ghost use Rattle.elf_options.specs.Names.{NeverDescend, texts_of};
 ghost use Rattle.elf_options.specs.NameLists.{IsNoNames, IsRowName, listed_names, line_names};
 ghost use Rattle.elf_options.specs.declared.names_fault.NamesFault.TheVariants.{Memory};
 
-use crate::names_fault::NamesFault;
 use crate::list_lines::first_line;
-use crate::symbol_query::parse_query;
 use crate::names::sort_strings;
+use crate::names_fault::NamesFault;
+use crate::symbol_query::parse_query;
 use memchr::memchr;
 use std::alloc::Global;
 

@@ -5,8 +5,8 @@ ghost use Rattle.elf_options.specs.Names.{NeverDescend, texts_of};
 ghost use Rattle.elf_options.specs.NamedRows.{least_cap, named_cap, named_style};
 
 use crate::caps::{NameLimit, Style};
-use crate::row_filter::RowFilter;
 use crate::names::SortedStrings;
+use crate::row_filter::RowFilter;
 
 /// How rows are shown of which those alone stand whose name, with its version, is what one of these texts
 /// asks for, which are in the rising order of their bytes: as `style` has it, but that as many bytes of a

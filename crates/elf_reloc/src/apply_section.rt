@@ -20,11 +20,11 @@ use crate::entry::ApplyTarget;
 use crate::in_order::write_one_pass;
 use crate::passes::{Checked, check};
 use crate::windows::write_by_windows;
-use elf_table::{ends_outside, Fault, File, header, HeaderStore, load, Loaded, refused, RunFault};
 use elf_layout::{Addresses, Layout};
 use elf_record::numbers::{EM_X86_64, ET_REL, SHT_NOBITS, SHT_NULL};
 use elf_record::{Cause, Refusal, SectionFlags, Shdr};
 use elf_source::{Counted, Out, Sink, Source};
+use elf_table::{Fault, File, HeaderStore, Loaded, RunFault, ends_outside, header, load, refused};
 
 /// What was applied.
 #[derive(Clone, Copy)]

@@ -16,15 +16,15 @@ ghost use Rattle.elf_reloc.specs.Entries.{beside_entry_cost, taken_place, target
 ghost use Rattle.elf_reloc.specs.Entries.{value_or};
 
 use crate::lookup::{SymbolEntry, base_value};
-use elf_table::{Fault, File, Names, refused, Table};
+use crate::patch::Patch;
+use crate::relocation_types::{relocation_type, takes_place};
+use crate::values::patch_of;
 use elf_layout::Addresses;
+use elf_model::{Formula, RelocationBase, RelocationType};
 use elf_record::numbers::R_X86_64_NONE;
 use elf_record::{Cause, Rela};
-use elf_model::{Formula, RelocationBase, RelocationType};
-use crate::patch::Patch;
-use crate::values::patch_of;
-use crate::relocation_types::{relocation_type, takes_place};
 use elf_source::{Counted, Source};
+use elf_table::{Fault, File, Names, Table, refused};
 
 /// Symbols with the string table of their names.
 pub(crate) type LinkedSymbolTable = Option<(Table, Names)>;

@@ -9,11 +9,11 @@ ghost use Rattle.elf_reloc.specs.Explained.{explain_bytes, may_be_missing};
 use crate::entries::entries_at;
 use crate::missing_item::lacking_at;
 use crate::symbol_name::read_name;
-use elf_table::{Fault, File, header, HeaderStore, load, NameBuf, NameEnd};
 use elf_layout::Addresses;
 use elf_model::Missing;
 use elf_record::{Cause, Refusal};
 use elf_source::{Counted, Source};
+use elf_table::{Fault, File, HeaderStore, NameBuf, NameEnd, header, load};
 
 /// What the layout lacks where the section of an index of a relocatable file was refused in it: by
 /// the relocation entry that stands at the refusal's offset, in the first section of entries for the

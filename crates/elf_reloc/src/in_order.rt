@@ -16,11 +16,11 @@ ghost use Rattle.elf_reloc.specs.Windows.{UnreadSays, WritesBytes};
 
 use crate::entry::{ApplyTarget, Placed};
 use crate::passes::put_in;
-use crate::walk::Entries;
-use elf_table::{Fault, RunFault, fill};
-use elf_record::{Cause, Refusal};
 use crate::patch::Patch;
+use crate::walk::Entries;
+use elf_record::{Cause, Refusal};
 use elf_source::{Counted, Out, OutFault, Sink, Source};
+use elf_table::{Fault, RunFault, fill};
 use std::marker::Model;
 
 /// How many bytes are read at once.

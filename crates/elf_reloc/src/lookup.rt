@@ -13,13 +13,13 @@ ghost use Rattle.elf_table.specs.Tables.{StringsInBounds};
 ghost use Rattle.elf_layout.specs.Layouts.{items_cost, names_for};
 ghost use Rattle.elf_reloc.specs.Costs.{AnswersUnread, FindsAddress, GivesValue, ValueOrRefusal};
 
-use elf_table::{Fault, fill, Names, refused};
 use elf_layout::{Addresses, Among, ITEM_NAME_BYTES, NamedAddress, SortedNames};
+use elf_model::RelocationBase;
 use elf_record::gnu_numbers::STT_GNU_IFUNC;
 use elf_record::numbers::{SHN_UNDEF, STB_WEAK, STT_LOOS};
 use elf_record::{Cause, Place, Sym};
-use elf_model::RelocationBase;
 use elf_source::{Counted, Source};
+use elf_table::{Fault, Names, fill, refused};
 
 /// How many bytes of a symbol's name are read at most: the longest name of a layout, and its NUL.
 const NAME_BUFFER_BYTES: usize = ITEM_NAME_BYTES + 1;

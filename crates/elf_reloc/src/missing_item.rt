@@ -10,14 +10,14 @@ ghost use Rattle.elf_reloc.specs.Explained.{EntryRead, EntryWithin, LackOf, Lack
 ghost use Rattle.elf_reloc.specs.Explained.{EntrySymbolRead};
 
 use crate::entries::LinkedSymbolTable;
-use elf_table::{Fault, fill, Names};
+use crate::relocation_types::{relocation_type, takes_place};
 use elf_layout::Addresses;
 use elf_model::{Formula, LayoutAddress, Missing, RelocationBase, RelocationType};
 use elf_record::gnu_numbers::STT_GNU_IFUNC;
 use elf_record::numbers::{SHN_LORESERVE, SHN_UNDEF};
 use elf_record::{Cause, Refusal, Rela};
-use crate::relocation_types::{relocation_type, takes_place};
 use elf_source::{Counted, Source};
+use elf_table::{Fault, Names, fill};
 
 /// The symbol that an entry names: where its name begins, its section index and its type, which
 /// symbol 0 does not have, the string table of its name, and the file offset at which it stands.

@@ -11,8 +11,8 @@ ghost use Rattle.elf_reloc.specs.Walk.{changes_all, entries_from, walk_all};
 
 use crate::entry::{ApplyTarget, Placed};
 use crate::walk::Entries;
-use elf_table::Fault;
 use elf_source::{Counted, Source};
+use elf_table::Fault;
 
 /// What a pass that only checks found.
 #[derive(Clone, Copy)]

@@ -7,10 +7,10 @@ ghost use Rattle.elf_table.specs.Tables.{StringsInBounds, strings_in};
 ghost use Rattle.elf_reloc.specs.Explained.{ReturnsSymbolName, WithoutName};
 
 use crate::missing_item::MissingItem;
-use elf_table::{Fault, NameBuf, NameEnd, NameLimit};
 use elf_layout::ITEM_NAME_BYTES;
 use elf_record::Cause;
 use elf_source::{Counted, Source};
+use elf_table::{Fault, NameBuf, NameEnd, NameLimit};
 
 /// Reads the name of the symbol into `name`, its first 255 bytes; where `st_name` is 0 it has none,
 /// and nothing is read (gABI 4, Symbol Table). None where the name has a fault. Then, and after a

@@ -7,9 +7,9 @@ ghost use Rattle.elf_reloc.specs.Walk.{ReadsEntries, StepGives, StepsWalk, Steps
 ghost use Rattle.elf_reloc.specs.Walk.{walk_left};
 
 use crate::entry::{ApplyTarget, Placed, RelocationSymbols, entry_change};
-use elf_table::{Cursor, Fault, Row, Table};
 use elf_record::Rela;
 use elf_source::{Counted, Source};
+use elf_table::{Cursor, Fault, Row, Table};
 
 /// The relocation entries for a section, one after another: the rows of a section of entries, the
 /// sections that are still to be looked at, and how many entries the sections before those have.

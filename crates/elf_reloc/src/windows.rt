@@ -7,8 +7,8 @@ ghost use Rattle.elf_reloc.specs.Windows.{windows};
 
 use crate::entry::ApplyTarget;
 use crate::passes::patch_window;
-use elf_table::{RunFault, fill};
 use elf_source::{Counted, Out, Sink, Source};
+use elf_table::{RunFault, fill};
 
 /// The size of a window in bytes.
 const WINDOW: usize = 64;

@@ -2,12 +2,12 @@
 ghost use Rattle.std.specs.Prelude.{◌≡◌, ◌^◌, ◌≤◌};
 ghost use Rattle.elf_requests.specs.Requests.{RunsApply};
 
-use elf_reloc::apply_with;
-use elf_table::{HeaderStore, Limits, RunFault};
 use elf_layout::Addresses;
 use elf_listing::show_stop;
 use elf_model::Format;
+use elf_reloc::apply_with;
 use elf_source::{Counted, Out, Sink, Source};
+use elf_table::{HeaderStore, Limits, RunFault};
 
 /// Writes a section's bytes with its relocations applied, and answers the status 0; or the line of
 /// the refusal. Where there is a budget no more is read; afterwards no limit is set.

@@ -15,9 +15,7 @@ ghost use Rattle.elf_requests.specs.declared.checks.NameArgs.{NameArgs};
 use crate::checks::{ArchiveRequest, NameArgs, ParsedCommand};
 use crate::name_words::names_of;
 use clap::ArgMatches;
-use elf_cli::{
-    RequestFault, chosen_parts_of, has_gnu_option, limits_of, style_of, text_of, whole,
-};
+use elf_cli::{RequestFault, chosen_parts_of, has_gnu_option, limits_of, style_of, text_of, whole};
 use elf_record::Parts;
 use std::alloc::Global;
 

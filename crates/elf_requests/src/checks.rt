@@ -1,10 +1,10 @@
 //! What can be asked for: of one file, of many, of an archive, or the version.
 use crate::requests::Request;
-use elf_table::{Limits, Style};
 use elf_cli::ListingRequest;
 use elf_model::Format;
-use elf_record::Parts;
 use elf_options::RequiredTrait;
+use elf_record::Parts;
+use elf_table::{Limits, Style};
 
 /// What is asked for.
 #[derive(Drop)]

@@ -8,12 +8,12 @@ ghost use Rattle.elf_requests.specs.Answers.{WroteAnswer};
 ghost use Rattle.elf_requests.specs.Lookups.{answer_of_lookup};
 ghost use Rattle.elf_requests.specs.Requests.{RunsFind};
 
-use elf_hash::{Lookup, find};
-use elf_table::{HeaderStore, Limits, RunFault};
 use elf_format::{show_steps, show_symbol};
+use elf_hash::{Lookup, find};
 use elf_listing::show_stop;
 use elf_model::Format;
 use elf_source::{Counted, Out, Sink, Source};
+use elf_table::{HeaderStore, Limits, RunFault};
 
 /// Looks a name up in a file by its hash table: writes the symbol's line and how many names were
 /// compared, or that number alone where there is no such symbol, or the line of the refusal. Answers

@@ -4,8 +4,8 @@ ghost use Rattle.elf_model.specs.Placing.{no_items};
 ghost use Rattle.elf_requests.specs.Layouts.{LaysWords, PutsItem, RefusesItem};
 ghost use Rattle.clap.specs.Walk.{texts};
 
-use elf_layout::{Layout, LayoutFault, item};
 use elf_cli::RequestFault;
+use elf_layout::{Layout, LayoutFault, item};
 
 /// Lays out the items that words give, from the first to the last, and no other items.
 ///

@@ -3,10 +3,10 @@ ghost use Rattle.std.specs.Prelude.{◌≡◌, ◌≤◌, length, true};
 ghost use Rattle.elf_model.specs.Loader.{is_complete, parse_query};
 ghost use Rattle.elf_model.specs.NameLaws.{IsWanted};
 
-use elf_table::{Limits, Style};
 use elf_layout::{Addresses, Layout};
 use elf_model::Format;
 use elf_record::Parts;
+use elf_table::{Limits, Style};
 
 /// What is asked for: which file, how much of it may be read, and what is done with it.
 #[derive(Clone, Copy)]

@@ -19,13 +19,15 @@ ghost use Rattle.elf_requests.specs.Lookups.{resolved_answer};
 ghost use Rattle.elf_requests.specs.Requests.{RunsResolve};
 ghost use Rattle.elf_options.specs.Wants.{asked_of};
 
-use elf_format::{ConstantNames, LinePrefix, show_named, show_steps, symbol_front_in, symbol_version_front_in};
-use elf_table::{HeaderStore, Limits, NameBuf, NameEnd, RunFault};
+use elf_format::{
+    ConstantNames, LinePrefix, show_named, show_steps, symbol_front_in, symbol_version_front_in,
+};
 use elf_listing::show_stop;
 use elf_loader::{FoundSymbol, FoundVersion, SymbolLookup, VersionName, look_up};
 use elf_model::Format;
-use elf_source::{Counted, Out, OutFault, Sink, Source};
 use elf_options::{Asked, Wanted, parse_query};
+use elf_source::{Counted, Out, OutFault, Sink, Source};
+use elf_table::{HeaderStore, Limits, NameBuf, NameEnd, RunFault};
 
 /// How a name is looked up, and how that is answered.
 #[derive(Clone, Copy)]

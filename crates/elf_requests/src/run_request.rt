@@ -4,13 +4,13 @@ ghost use Rattle.elf_requests.specs.Requests.{RunsShow, RunsTask};
 
 use crate::apply_request::write_applied;
 use crate::find_request::look_up;
+use crate::requests::{Request, Task};
 use crate::resolve_request::{LookupStyle, resolve};
-use elf_table::{Caps, HeaderStore, RunFault};
 use elf_layout::Addresses;
 use elf_listing::show;
 use elf_record::Parts;
-use crate::requests::{Request, Task};
 use elf_source::{Counted, Out, Sink, Source};
+use elf_table::{Caps, HeaderStore, RunFault};
 
 /// Carries out a request on a source: writes its text and answers its status, 0 where the file was
 /// listed, the name was found or the relocations are applied, and 1 where there is no such name.

@@ -13,9 +13,7 @@ use crate::checks::{Choosing, NameArgs, ParsedCommand};
 use crate::name_words::names_of;
 use crate::words::parse_listing;
 use clap::ArgMatches;
-use elf_cli::{
-    ListingRequest, RequestFault, chosen_parts_of, limits_of, style_of, text_of,
-};
+use elf_cli::{ListingRequest, RequestFault, chosen_parts_of, limits_of, style_of, text_of};
 use std::alloc::Global;
 
 /// What `show` with these arguments asks for, or None where they ask for nothing.

@@ -23,11 +23,11 @@ use crate::requests::{Request, Task};
 use crate::show_words::show_asked;
 use crate::trait_words::traits_asked;
 use clap::ArgMatches;
-use elf_layout::Layout;
 use elf_cli::{
     RequestFault, find_without_gnu, format_of, has_gnu_option, is_set, limits_of, listing_of,
     parse_arguments, text_of, u16_option_of, unasked,
 };
+use elf_layout::Layout;
 use elf_model::Format;
 use std::alloc::Global;
 use std::convert::AsStr;

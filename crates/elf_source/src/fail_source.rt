@@ -3,8 +3,8 @@ ghost use Rattle.std.specs.Prelude.{◌≡◌, ℕ, ◌+◌, ◌≤◌, List, So
 ghost use Rattle.elf_source.specs.Source.{Keeps, IsSourceFault};
 ghost use Rattle.elf_source.specs.Failing.{Failing, seen_failing};
 
-use crate::source::Source;
 use crate::faults::SourceFault;
+use crate::source::Source;
 use std::marker::Model;
 
 /// A source that passes its reads on to another, but for one that fails. It is honest where the other

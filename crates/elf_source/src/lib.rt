@@ -21,9 +21,8 @@ mod stream_source;
 mod turn_source;
 mod write_sink;
 
-pub use fail_source::FailSource;
-pub use turn_source::TurnSource;
 pub use counted::{Counted, READ_BYTES};
+pub use fail_source::FailSource;
 pub use faults::{AskFault, OutFault, ReadAtFault, SinkFault, SourceFault};
 pub use holding_sink::{DeferredLine, DeferredSink};
 pub use memory_source::MemorySource;
@@ -38,4 +37,5 @@ pub use sink::Sink;
 pub use slice_sink::SliceSink;
 pub use source::Source;
 pub use stream_source::StreamSource;
+pub use turn_source::TurnSource;
 pub use write_sink::WriteSink;

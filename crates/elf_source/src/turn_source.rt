@@ -3,8 +3,8 @@ ghost use Rattle.std.specs.Prelude.{◌≡◌, ℕ, ◌+◌, ◌≤◌, List, le
 ghost use Rattle.elf_source.specs.Source.{Keeps, IsSourceFault};
 ghost use Rattle.elf_source.specs.Failing.{Turning, seen_turning};
 
-use crate::source::Source;
 use crate::faults::SourceFault;
+use crate::source::Source;
 use std::marker::Model;
 
 /// A source over two files of one length, whose reads are answered from the two in turn. It never

@@ -6,10 +6,10 @@ ghost use Rattle.elf_table.specs.Faults.{IsOfCheck};
 ghost use Rattle.elf_table.specs.Sections.{byte_rows, rows_of, table_of, string_table_of};
 ghost use Rattle.elf_table.specs.Tables.{Spans, StringsInBounds};
 
-use crate::names::Names;
-use crate::table::Table;
 use crate::fault::{Fault, refused};
+use crate::names::Names;
 use crate::ranges::ends_outside;
+use crate::table::Table;
 use elf_record::numbers::{SHT_DYNSYM, SHT_STRTAB, SHT_SYMTAB};
 use elf_record::{Cause, Shdr};
 

@@ -7,10 +7,10 @@ ghost use Rattle.elf_table.specs.declared.fault.Fault.{Fault};
 ghost use Rattle.elf_table.specs.Faults.{IsReadFault};
 ghost use Rattle.elf_table.specs.Tables.{TableInBounds, size_of};
 
+use crate::fault::Fault;
 use crate::row::Row;
 use crate::table::Table;
 use crate::window::{WINDOW_BYTES, Window};
-use crate::fault::Fault;
 use elf_source::{Counted, Source};
 use std::marker::Model;
 

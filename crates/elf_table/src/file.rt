@@ -1,8 +1,8 @@
 //! A loaded file with its section headers, and the checks of its sections.
 ghost use Rattle.std.specs.Prelude.{◌≡◌};
 
-use crate::store::HeaderStore;
 use crate::loaded::Loaded;
+use crate::store::HeaderStore;
 
 /// A loaded file with the store that holds its section headers.
 #[derive(Clone, Copy)]

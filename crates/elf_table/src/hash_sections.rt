@@ -11,11 +11,11 @@ ghost use Rattle.elf_table.specs.Store.{row};
 ghost use Rattle.elf_table.specs.HashSections.{AreHashed, HashFits, PassesFront, ChecksThenValue, front_checks};
 ghost use Rattle.elf_table.specs.Tables.{SymbolTableInBounds};
 
+use crate::fault::Fault;
 use crate::file::File;
 use crate::names::Names;
-use crate::table::Table;
-use crate::fault::Fault;
 use crate::ranges::ends_outside;
+use crate::table::Table;
 use elf_record::numbers::{EM_ALPHA, SHT_HASH};
 use elf_record::{Cause, Refusal, Shdr};
 

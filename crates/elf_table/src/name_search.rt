@@ -7,9 +7,9 @@ ghost use Rattle.elf_table.specs.NamesRead.{Searched};
 ghost use Rattle.elf_table.specs.WindowCalls.{HasLeft, ReadsThrough};
 ghost use Rattle.elf_table.specs.Windows.{HoldsBytes};
 
+use crate::fault::Fault;
 use crate::name_buf::NameBuf;
 use crate::window::Window;
-use crate::fault::Fault;
 use elf_options::NameLimit;
 use elf_source::{Counted, Source};
 use memchr::memchr;

@@ -9,10 +9,10 @@ ghost use Rattle.elf_table.specs.Ledger.{CallDid, fault_of_result};
 ghost use Rattle.elf_table.specs.NamesRead.{NameRead, ComparesName, Matched};
 ghost use Rattle.elf_table.specs.Tables.{StringsInBounds, strings_in};
 
+use crate::fault::{Fault, refused};
 use crate::name_buf::NameBuf;
 use crate::name_search::search_name;
 use crate::window::{WINDOW_BYTES, Window};
-use crate::fault::{Fault, refused};
 use elf_options::NameLimit;
 use elf_record::Cause;
 use elf_source::{Counted, Source};

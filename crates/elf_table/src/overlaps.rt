@@ -6,8 +6,8 @@ ghost use Rattle.elf_table.specs.Faults.{IsOfCheck};
 ghost use Rattle.elf_table.specs.Load.{HoldsProgramHeaders};
 ghost use Rattle.elf_table.specs.Views.{Decides};
 
-use crate::segment_view::ExecutionView;
 use crate::fault::{Fault, refused};
+use crate::segment_view::ExecutionView;
 use elf_record::numbers::PT_LOAD;
 use elf_record::{Cause, Phdr};
 

@@ -19,11 +19,11 @@ ghost use Rattle.elf_table.specs.Store.{row};
 ghost use Rattle.elf_table.specs.Tables.{TableInBounds, Spans, StringsInBounds, SymbolTableInBounds, size_of};
 
 use crate::checks::{checked_bytes, checked_strings, checked_table, holds_symbols};
+use crate::fault::{Fault, refused};
 use crate::file::File;
 use crate::names::Names;
-use crate::table::Table;
-use crate::fault::{Fault, refused};
 use crate::ranges::ends_outside;
+use crate::table::Table;
 use elf_record::gnu_numbers::SHT_GNU_VERSYM;
 use elf_record::sizes::{
     PROGRAM_HEADER_BYTES, RELOCATION_BYTES, SECTION_HEADER_BYTES, SYMBOL_BYTES,

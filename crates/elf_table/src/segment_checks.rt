@@ -6,10 +6,10 @@ ghost use Rattle.elf_table.specs.Faults.{IsOfCheck};
 ghost use Rattle.elf_table.specs.Tables.{BytesWithin, StringsInBounds};
 ghost use Rattle.elf_table.specs.Views.{rest_of, strings_placed};
 
-use crate::names::Names;
-use crate::table::Table;
 use crate::fault::{Fault, refused};
+use crate::names::Names;
 use crate::ranges::ends_outside;
+use crate::table::Table;
 use elf_record::numbers::PT_LOAD;
 use elf_record::{Cause, Phdr};
 

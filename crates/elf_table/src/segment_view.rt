@@ -1,8 +1,8 @@
 //! A loaded file in the segment view.
 ghost use Rattle.std.specs.Prelude.{◌≡◌};
 
-use crate::store::HeaderStore;
 use crate::loaded::Loaded;
+use crate::store::HeaderStore;
 
 /// A loaded file in the segment view: with the store that holds its program headers.
 #[derive(Clone, Copy)]

@@ -13,11 +13,11 @@ ghost use Rattle.elf_table.specs.Views.{HoldsAddresses, filesz_in};
 ghost use Rattle.elf_table.specs.Views.{first_of_kind, rest_mapped, segment_place, strings_mapped};
 
 use crate::checks::{checked_bytes, checked_rows};
+use crate::fault::{Fault, refused};
 use crate::names::Names;
 use crate::segment_checks::{checked_mapped, checked_rest, maps};
 use crate::segment_view::ExecutionView;
 use crate::table::Table;
-use crate::fault::{Fault, refused};
 use elf_record::sizes::{DYNAMIC_BYTES, PROGRAM_HEADER_BYTES};
 use elf_record::{Cause, Phdr};
 

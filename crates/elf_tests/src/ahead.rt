@@ -1,8 +1,8 @@
 //! How often a source is read for names and symbols, in order, with gaps, again and scattered.
 use crate::faulty_source::FaultySource;
-use elf_table::{Fault, NameBuf, NameEnd, NameLimit, Names, Table};
 use elf_note::{NameIndex, ReadAhead};
 use elf_source::Counted;
+use elf_table::{Fault, NameBuf, NameEnd, NameLimit, Names, Table};
 use std::process::Abort;
 
 /// The size of the string tables here: names of seven bytes, each with its NUL.

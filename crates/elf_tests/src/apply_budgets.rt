@@ -1,10 +1,10 @@
 //! Where a limit on what may be asked for refuses a section, and how much was asked for by then.
-use elf_reloc::{Applied, apply};
 use elf_fixtures::one_call;
-use elf_table::{HeaderBuffer, HeaderStore, RunFault};
 use elf_layout::{Item, Layout};
 use elf_record::{Cause, Refusal};
+use elf_reloc::{Applied, apply};
 use elf_source::{Counted, MemorySource, Out, SliceSink};
+use elf_table::{HeaderBuffer, HeaderStore, RunFault};
 use std::process::Abort;
 use std::test::Fail;
 

@@ -1,11 +1,11 @@
 //! A source whose entries rise in the first pass, and fall in the second.
 
-use elf_reloc::apply;
 use elf_fixtures::{falling_relocations, rising_relocations};
-use elf_table::{HeaderBuffer, RunFault};
 use elf_layout::Layout;
 use elf_record::{Cause, Refusal};
+use elf_reloc::apply;
 use elf_source::{Counted, Out, SliceSink, Source, SourceFault};
+use elf_table::{HeaderBuffer, RunFault};
 use std::test::Fail;
 
 /// A file for some reads, and then another of the same length.

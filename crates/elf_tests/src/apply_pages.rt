@@ -1,13 +1,13 @@
 //! How often the source is read and the writer called for an applied section.
 
-use elf_reloc::apply;
-use crate::script::FaultScript;
 use crate::faulty_source::FaultySource;
 use crate::printer::ShortWriter;
+use crate::script::FaultScript;
 use elf_fixtures::{rising_relocations, with_bytes};
-use elf_table::HeaderBuffer;
 use elf_layout::Layout;
+use elf_reloc::apply;
 use elf_source::{Counted, Out, WriteSink};
+use elf_table::HeaderBuffer;
 use std::process::Abort;
 use std::test::Fail;
 

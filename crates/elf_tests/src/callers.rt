@@ -3,11 +3,11 @@ ghost use Rattle.std.specs.Prelude.{◌≡◌};
 ghost use Rattle.elf_table.specs.Tables.{TableInBounds};
 
 use elf_fixtures::{build_note, repeated_tags};
-use elf_table::{Caps, Fault, NameBuf, NameLimit, Table};
 use elf_note::{DynCursor, NoteCursor, dynamic_rows};
 use elf_record::numbers::{R_X86_64_32, R_X86_64_COPY, R_X86_64_PC32, R_X86_64_PLT32};
 use elf_reloc::{ValueFault, value};
 use elf_source::{Counted, MemorySource, Source};
+use elf_table::{Caps, Fault, NameBuf, NameLimit, Table};
 use std::process::Abort;
 use std::test::Fail;
 

@@ -4,9 +4,9 @@ ghost use Rattle.std.specs.Prelude.{◌<◌};
 use crate::faulty_source::FaultySource;
 use elf_fixtures::bare_header;
 use elf_hash::find;
-use elf_table::HeaderBuffer;
 use elf_record::{Ehdr, Shdr, Sym};
 use elf_source::Counted;
+use elf_table::HeaderBuffer;
 use std::process::Abort;
 use std::test::Fail;
 

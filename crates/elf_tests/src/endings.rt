@@ -1,10 +1,10 @@
 //! What is left of an output: it is tried once, and the program ends as that goes.
 
-use elf_cli::{ExitLine, end_answer};
-use crate::script::{FaultScript, InjectedFault};
 use crate::printer::ShortWriter;
-use elf_table::RunFault;
+use crate::script::{FaultScript, InjectedFault};
+use elf_cli::{ExitLine, end_answer};
 use elf_source::{OutFault, SourceFault};
+use elf_table::RunFault;
 use std::io::{BufWriter, ErrorKind, Write};
 use std::process::Abort;
 

@@ -1,6 +1,6 @@
 //! How a long name is written.
-use crate::source_tests::printer_sink;
 use crate::script::FaultScript;
+use crate::source_tests::printer_sink;
 use elf_format::show_symbol;
 use elf_model::Format;
 use elf_record::Sym;

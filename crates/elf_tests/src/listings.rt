@@ -1,13 +1,13 @@
 //! A whole listing, and listings whose reads and writes fail in turn.
 
-use crate::requests::{LISTED, carry_out, check_answer, check_outputs, check_reads, listing};
 use crate::pieces::ChunkedReader;
+use crate::requests::{LISTED, carry_out, check_answer, check_outputs, check_reads, listing};
 use elf_fixtures::{
     hash_with_cycle, library_without_sections, note_segment, one_call, one_symbol_table,
 };
-use elf_table::HeaderBuffer;
 use elf_listing::{FIXED_BYTES, SUFFIX_BYTES, VERSION_BYTES};
 use elf_source::{MemorySource, StreamSource};
+use elf_table::HeaderBuffer;
 use std::process::Abort;
 use std::test::Fail;
 

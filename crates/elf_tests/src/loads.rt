@@ -1,8 +1,8 @@
 //! What no clause says of a load: that the store can be made, and how much each read takes.
 use crate::faulty_source::FaultySource;
 use elf_fixtures::tables_over_headers;
-use elf_table::{Fault, HeaderBuffer, HeaderStore, Loaded, header, load};
 use elf_source::{Counted, Source, SourceFault};
+use elf_table::{Fault, HeaderBuffer, HeaderStore, Loaded, header, load};
 use std::test::Fail;
 
 /// Reads the header and loads the section headers.

@@ -1,8 +1,8 @@
 //! How often a source is read for a name that is read or compared alone, and which read fails.
 use crate::faulty_source::FaultySource;
-use elf_table::{Fault, NameBuf, NameEnd, NameLimit, Names};
 use elf_note::{NameIndex, ReadAhead};
 use elf_source::{Counted, SourceFault};
+use elf_table::{Fault, NameBuf, NameEnd, NameLimit, Names};
 use std::process::Abort;
 
 // The answers where a long name of a string table at 20 is read, and where it is compared, if the

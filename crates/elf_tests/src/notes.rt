@@ -3,9 +3,9 @@ ghost use Rattle.std.specs.Prelude.{◌≡◌};
 ghost use Rattle.elf_table.specs.Tables.{TableInBounds};
 
 use crate::faulty_source::FaultySource;
-use elf_table::{Fault, NameBuf, NameLimit, Table};
 use elf_note::NoteCursor;
 use elf_source::{Counted, Source};
+use elf_table::{Fault, NameBuf, NameLimit, Table};
 use std::process::Abort;
 
 /// How many notes a cursor gives.

@@ -1,10 +1,12 @@
 //! Requests carried out on files in memory, and where each read fails or the output ends early.
 
-use elf_requests::{Request, run, Task};
 use elf_cli::outcome;
-use elf_source::{Counted, FailSource, MemorySource, Out, OutFault, SliceSink, Source, SourceFault, WriteSink};
-use elf_table::{HeaderBuffer, HeaderStore, Limits, NameLimit, RunFault, Style};
 use elf_record::Parts;
+use elf_requests::{Request, Task, run};
+use elf_source::{
+    Counted, FailSource, MemorySource, Out, OutFault, SliceSink, Source, SourceFault, WriteSink,
+};
+use elf_table::{HeaderBuffer, HeaderStore, Limits, NameLimit, RunFault, Style};
 use std::process::Abort;
 use std::test::Fail;
 

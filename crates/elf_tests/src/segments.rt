@@ -1,8 +1,8 @@
 //! How often a source is read for the program headers of a file without sections.
 use crate::faulty_source::FaultySource;
 use elf_fixtures::library_without_sections;
-use elf_table::{HeaderBuffer, header, load};
 use elf_source::Counted;
+use elf_table::{HeaderBuffer, header, load};
 use std::process::Abort;
 use std::test::Fail;
 

@@ -1,7 +1,7 @@
 //! What no clause says: that sources and sinks over a device fail only where it does, and then how.
-use crate::tape::EndlessReader;
-use crate::script::{FaultScript, InjectedFault};
 use crate::printer::ShortWriter;
+use crate::script::{FaultScript, InjectedFault};
+use crate::tape::EndlessReader;
 use elf_source::{
     FileReader, Out, OutFault, SeekReader, Sink, SinkFault, Source, SourceFault, StreamSource,
     WriteSink,

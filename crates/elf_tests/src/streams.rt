@@ -1,8 +1,8 @@
 //! What no clause says of a stream: that a read is filled, however far it lies and however much is
 //! asked for; that a fault of the reader is told, and leaves no place behind from which the next read
 //! would go on; and how often the reader is asked.
-use crate::source_tests::{FAILS, file_stream, fill_at, stream};
 use crate::script::{FaultScript, InjectedFault};
+use crate::source_tests::{FAILS, file_stream, fill_at, stream};
 use crate::tape::stands_at;
 use elf_source::{Source, SourceFault};
 use std::alloc::Global;

@@ -3,8 +3,8 @@ ghost use Rattle.std.specs.Prelude.{◌≡◌};
 ghost use Rattle.elf_table.specs.Tables.{TableInBounds};
 
 use crate::faulty_source::FaultySource;
-use elf_table::{Cursor, Fault, Table};
 use elf_source::{Counted, Source};
+use elf_table::{Cursor, Fault, Table};
 use std::process::Abort;
 
 /// How many rows of 24 bytes a cursor gives, each with its index and offset.

@@ -1,12 +1,12 @@
 //! Requests over two files that answer in turn, as where a file changes between two reads.
 use crate::requests::{LISTED, carry_out, listing, request};
 use elf_cli::outcome;
-use elf_source::TurnSource;
 use elf_fixtures::{hash_with_cycle, one_symbol_table, overlapping_relocations, with_bytes};
-use elf_table::HeaderBuffer;
 use elf_layout::Layout;
 use elf_model::Format;
 use elf_requests::{Request, Task, checked_name};
+use elf_source::TurnSource;
+use elf_table::HeaderBuffer;
 use std::process::Abort;
 use std::test::Fail;
 

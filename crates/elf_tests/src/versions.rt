@@ -4,10 +4,10 @@ ghost use Rattle.elf_table.specs.Tables.{TableInBounds};
 
 use crate::faulty_source::FaultySource;
 use elf_fixtures::versioned_library;
-use elf_table::{Fault, Table};
+use elf_note::VersionCursor;
 use elf_record::{Cause, Refusal, VersionKind};
 use elf_source::{Counted, Source};
-use elf_note::VersionCursor;
+use elf_table::{Fault, Table};
 use std::process::Abort;
 
 /// How many records a cursor gives.

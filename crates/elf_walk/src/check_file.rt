@@ -2,12 +2,12 @@
 ghost use Rattle.std.specs.Prelude.{◌≡◌, ◌≤◌, ◌^◌};
 ghost use Rattle.elf_walk.specs.CheckedFile.{ChecksFile, FindsState, check_ceiling, check_cost};
 
-use elf_table::{Caps, HeaderStore, RunFault};
-use elf_listing::show;
 use crate::short::{refused_state, short_file_status};
+use elf_listing::show;
 use elf_model::FileStatus;
 use elf_record::Parts;
 use elf_source::{Counted, NullSink, Out, Source};
+use elf_table::{Caps, HeaderStore, RunFault};
 
 /// How many bytes a file header has.
 const HEADER_BYTES: u64 = 64;

@@ -5,14 +5,14 @@ ghost use Rattle.elf_walk.specs.CheckedFile.{ChecksFile};
 ghost use Rattle.elf_walk.specs.ToldChecks.{Finds, ceiling_of_check, cost_of_check};
 
 use crate::check_file::check;
-use crate::sorted::check_sorted;
-use elf_table::{Caps, HeaderStore};
-use elf_format::show_check;
 use crate::each_file::FileVisitor;
+use crate::sorted::check_sorted;
 use crate::statuses::status;
+use elf_format::show_check;
 use elf_model::FileStatus;
 use elf_record::Parts;
 use elf_source::{Counted, DeferredSink, Out, OutFault, RangeSource, Sink, Source};
+use elf_table::{Caps, HeaderStore};
 use std::marker::Model;
 
 /// The rule by which files are checked.

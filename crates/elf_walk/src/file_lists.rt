@@ -4,15 +4,15 @@ ghost use Rattle.elf_walk.specs.ToldListings.{LeavesLimits, EndsListing, PutsUnr
 ghost use Rattle.elf_model.specs.FileLists.{budget_after};
 ghost use Rattle.elf_model.specs.declared.states.FileMagic.TheVariants.{Foreign};
 
-use crate::line_prefixes::{find_file_type, front_bytes};
-use crate::headed::list_with_path_line;
-use crate::options::ListOptions;
-use elf_table::{Caps, HeaderStore, Limits, RunFault};
-use elf_format::show_check;
 use crate::each_file::FileVisitor;
+use crate::headed::list_with_path_line;
+use crate::line_prefixes::{find_file_type, front_bytes};
+use crate::options::ListOptions;
 use crate::statuses::status;
+use elf_format::show_check;
 use elf_model::{FileMagic, FileStatus, Format};
 use elf_source::{Counted, DeferredSink, Out, OutFault, RangeSource, Sink, Source};
+use elf_table::{Caps, HeaderStore, Limits, RunFault};
 use std::marker::Model;
 
 /// Lists files: for each the line of its path, and behind it its listing, within what is asked for.

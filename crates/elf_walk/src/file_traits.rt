@@ -5,11 +5,11 @@ ghost use Rattle.elf_walk.specs.Checked.{FailsRead};
 ghost use Rattle.elf_walk.specs.CheckedFile.{AsksNoMore};
 ghost use Rattle.elf_walk.specs.Found.{FindsWithin, file_traits_ceiling, file_traits_cost};
 
-use elf_table::{Fault, HeaderStore, Limits};
 use crate::short::{refused_state, short_file_status};
+use elf_loader::find_traits;
 use elf_model::{FileStatus, Traits};
 use elf_source::{Counted, Source};
-use elf_loader::find_traits;
+use elf_table::{Fault, HeaderStore, Limits};
 
 /// How many bytes a file header has.
 const HEADER_BYTES: u64 = 64;

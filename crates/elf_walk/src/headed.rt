@@ -7,13 +7,13 @@ ghost use Rattle.elf_walk.specs.CheckedFile.{AsksNoMore};
 ghost use Rattle.elf_walk.specs.Lists.{ListsHeaded, sort_ceiling, sort_cost};
 ghost use Rattle.elf_model.specs.FileLists.{path_line};
 
-use crate::path_lines::{defer_path_line, show_path};
 use crate::options::ListOptions;
+use crate::path_lines::{defer_path_line, show_path};
 use crate::sorts::list_by_type;
 use elf_archive::end_listed;
-use elf_table::{HeaderStore, RunFault};
 use elf_model::FileMagic;
 use elf_source::{Counted, DeferredSink, Out, RangeSource, Sink, Source};
+use elf_table::{HeaderStore, RunFault};
 
 /// Writes the line of a path, and behind it the listing of the file there as [`list_by_type`] does; where rows
 /// are chosen by their names the line stands only before something that is listed. Answers whether the

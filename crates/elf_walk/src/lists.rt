@@ -1,9 +1,9 @@
 //! A list of paths, each ended by NUL.
+use crate::dir_entries::entry_end;
 use crate::each_file::FileVisitor;
 use crate::many::FileRun;
 use crate::paths::visit_path;
 use crate::walk::DirWalk;
-use crate::dir_entries::entry_end;
 use elf_source::{OutFault, Sink};
 use std::io::{ErrorKind, Read, Write};
 use std::os::unix::fs::FileExt;

@@ -6,10 +6,10 @@ ghost use Rattle.elf_walk.specs.CheckedFile.{ChecksFile};
 ghost use Rattle.elf_walk.specs.Members.{FindsArchive};
 
 use elf_archive::find_fault;
-use elf_table::{Caps, HeaderStore, RunFault};
 use elf_model::FileStatus;
 use elf_record::Parts;
 use elf_source::{Counted, RangeSource, Source};
+use elf_table::{Caps, HeaderStore, RunFault};
 
 /// Checks one archive: goes over its members, and through the listing of each that is an ELF file as far
 /// as `parts` has it, up to the first fault, and answers the state that this gives, or that there is

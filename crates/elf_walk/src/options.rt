@@ -1,6 +1,6 @@
 //! The rule by which files are listed.
-use elf_table::Caps;
 use elf_record::Parts;
+use elf_table::Caps;
 
 /// The rule by which files are listed.
 #[derive(Clone, Copy)]

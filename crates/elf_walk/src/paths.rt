@@ -1,9 +1,9 @@
 //! A path that is asked for.
 use crate::each_file::FileVisitor;
 use crate::many::FileRun;
+use crate::open_failure::unopened;
 use crate::open_file::visit_file;
 use crate::walk::DirWalk;
-use crate::open_failure::unopened;
 use elf_model::FileStatus;
 use elf_source::{OutFault, Sink, opened_path};
 use std::fs;

@@ -9,10 +9,10 @@ ghost use Rattle.elf_walk.specs.Members.{cost_by, sorted_ceiling, sorted_cost};
 use crate::check_file::check;
 use crate::members::check_archive;
 use crate::{budget_after, find_file_type, front_bytes};
-use elf_table::{Caps, HeaderStore, Limits};
 use elf_model::{FileMagic, FileStatus};
 use elf_record::Parts;
 use elf_source::{Counted, RangeSource, Source};
+use elf_table::{Caps, HeaderStore, Limits};
 
 /// Checks one file, of which its first bytes tell what it is: an ELF file as [`check`] does, an archive
 /// with its members as [`check_archive`] does; a file of another kind is no ELF file. These bytes count

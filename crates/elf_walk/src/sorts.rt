@@ -9,11 +9,11 @@ ghost use Rattle.elf_model.specs.FileLists.{members_alone};
 ghost use Rattle.elf_source.specs.Growth.{OutGrows};
 
 use elf_archive::show_archive;
-use elf_table::{Caps, HeaderStore, RunFault, Style};
 use elf_listing::show;
 use elf_model::FileMagic;
 use elf_record::Parts;
 use elf_source::{Counted, DeferredSink, Out, RangeSource, Sink, Source};
+use elf_table::{Caps, HeaderStore, RunFault, Style};
 
 /// Writes the listing of a file of a sort: of an ELF file its own, of an archive that of its members, whose
 /// lines stand alone where all rows are shown, of another file nothing. The last line is that of its refusal, if it has one. Answers whether the listing

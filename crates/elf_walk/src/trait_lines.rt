@@ -4,15 +4,15 @@ ghost use Rattle.elf_source.specs.Output.{OutPuts};
 ghost use Rattle.elf_model.specs.TraitWords.{traits_status, traits_text};
 ghost use Rattle.elf_options.specs.Required.{required_words};
 
+use crate::each_file::FileVisitor;
 use crate::file_traits::traits_within;
 use crate::required::lacking;
-use elf_table::{HeaderStore, Limits};
-use elf_format::{show_check, show_missing_trait, show_traits};
-use crate::each_file::FileVisitor;
 use crate::statuses::status;
+use elf_format::{show_check, show_missing_trait, show_traits};
 use elf_model::{FileStatus, Format, Traits};
-use elf_source::{Counted, DeferredSink, Out, OutFault, RangeSource, Sink, Source};
 use elf_options::RequiredTrait;
+use elf_source::{Counted, DeferredSink, Out, OutFault, RangeSource, Sink, Source};
+use elf_table::{HeaderStore, Limits};
 use std::marker::Model;
 
 /// The rule by which files' traits are told of.

@@ -1,12 +1,12 @@
 //! Folders, gone through in the order of their names.
+use crate::batch::{DirEntryName, NameBatch};
+use crate::dir_walk::gather;
 use crate::each_file::FileVisitor;
 use crate::many::FileRun;
+use crate::open_failure::unopened;
 use crate::open_file::visit_file;
-use crate::batch::{DirEntryName, NameBatch};
 use crate::path::{PathText, join};
 use crate::stack::{STACK_BYTES, Stack, count_fitting};
-use crate::dir_walk::gather;
-use crate::open_failure::unopened;
 use elf_model::FileStatus;
 use elf_source::{OutFault, Sink};
 use std::alloc::{AllocError, Global};

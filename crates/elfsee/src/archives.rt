@@ -7,13 +7,13 @@ ghost use Rattle.elf_options.specs.Names.{NeverDescend, texts_of};
 ghost use Rattle.elfsee.specs.Naming.{EndsWithoutNames};
 
 use crate::names::{read_list, sorted_names};
-use elf_requests::{archive_status, ArchiveRequest};
 use elf_archive::show_archive;
 use elf_cli::{ExitLine, OUT_OF_MEMORY, OUTPUT_BYTES, end_answer, open};
-use elf_table::{Caps, HeaderBuffer, HeaderStore, Limits, Style};
 use elf_options::style_with_names;
 use elf_record::Parts;
+use elf_requests::{ArchiveRequest, archive_status};
 use elf_source::{Counted, DeferredSink, Out, RangeSource, Source, WriteSink};
+use elf_table::{Caps, HeaderBuffer, HeaderStore, Limits, Style};
 use std::io::{self, BufWriter, Write};
 use std::os::unix::fs::FileExt;
 use std::rt::Files;

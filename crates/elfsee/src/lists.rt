@@ -8,11 +8,11 @@ ghost use Rattle.elfsee.specs.Naming.{EndsWithoutNames};
 
 use crate::many::visit_files;
 use crate::names::{read_list, sorted_names};
-use elf_walk::{HELD_BYTES, ListFiles, ListOptions};
 use elf_cli::{ExitLine, OUT_OF_MEMORY};
-use elf_table::{Caps, HeaderBuffer};
 use elf_options::style_with_names;
 use elf_requests::{ListRequest, PathArgs};
+use elf_table::{Caps, HeaderBuffer};
+use elf_walk::{HELD_BYTES, ListFiles, ListOptions};
 use std::io::{Input, Stderr};
 use std::os::unix::fs::FileExt;
 use std::rt::Files;

@@ -2,10 +2,10 @@
 #![tactic(auto)]
 
 mod archives;
-mod missing_reason;
 mod layouts;
 mod lists;
 mod many;
+mod missing_reason;
 mod names;
 mod needs;
 
@@ -17,20 +17,20 @@ ghost use Rattle.elfsee.specs.Ends.{EndsRunOver, EndsWithoutFile, EndsWithoutMem
 ghost use Rattle.elf_cli.specs.declared.faults.RequestFault.{RequestFault};
 
 use archives::list_archive;
-use elf_requests::{ParsedCommand, Request, request, run};
 use elf_cli::{
     ExitLine, OUT_OF_MEMORY, OUTPUT_BYTES, end_answer, exit, open, read_words, report_refused,
     tell_version,
 };
 use elf_fixtures::sample;
-use elf_table::{HeaderBuffer, HeaderStore, RunFault};
 use elf_layout::Layout;
 use elf_record::Refusal;
+use elf_requests::{ParsedCommand, Request, request, run};
 use elf_source::{Counted, MemorySource, Out, Sink, Source, WriteSink};
-use missing_reason::report_missing_reason;
+use elf_table::{HeaderBuffer, HeaderStore, RunFault};
 use layouts::apply_laid;
 use lists::list_files;
 use many::{check_many, report_traits};
+use missing_reason::report_missing_reason;
 use names::show_chosen;
 use needs::report_needs;
 use std::alloc::Global;

@@ -2,15 +2,18 @@
 ghost use Rattle.std.specs.Prelude.{◌≡◌, ◌<◌, IfErr};
 ghost use Rattle.elfsee.specs.Ends.{EndsList, EndsWithoutMemory, StopsCheck};
 
-use elf_walk::{CheckFiles, CheckOptions, DirWalk, FileRun, FileVisitor, ListFault, TraitOptions, TraitReport, visit_list, visit_path};
 use elf_cli::{
     CANNOT_OPEN, Ended, ExitLine, LineSink, OUT_OF_MEMORY, OUTPUT_BYTES, PIPE_BYTES, READ_FAULT,
     end_lines,
 };
-use elf_table::{Caps, HeaderBuffer, HeaderStore};
 use elf_model::Format;
 use elf_requests::{CheckRequest, PathArgs, TraitsRequest};
 use elf_source::{DeferredSink, Out, OutFault, Sink, WriteSink};
+use elf_table::{Caps, HeaderBuffer, HeaderStore};
+use elf_walk::{
+    CheckFiles, CheckOptions, DirWalk, FileRun, FileVisitor, ListFault, TraitOptions, TraitReport,
+    visit_list, visit_path,
+};
 use std::fs;
 use std::io::{self, Input, Stderr};
 use std::os::unix::fs::{FileExt, FileTypeExt};

@@ -9,13 +9,13 @@ ghost use Rattle.elf_reloc.specs.Explained.{explain_bytes, may_be_missing};
 ghost use Rattle.elfsee.specs.Explaining.{AsksRest, WroteUpTo, asks_why, lack_in, budget_rest};
 
 use elf_cli::{ERROR_LINE_BYTES, write_rest};
-use elf_reloc::explain;
-use elf_table::{HeaderStore, NameBuf, NameEnd, RunFault};
-use elf_layout::Addresses;
 use elf_format::show_missing;
+use elf_layout::Addresses;
 use elf_record::Refusal;
+use elf_reloc::explain;
 use elf_requests::{Request, Task};
 use elf_source::{Counted, Out, Sink, Source, WriteSink};
+use elf_table::{HeaderStore, NameBuf, NameEnd, RunFault};
 use std::alloc::Global;
 use std::io::{BufWriter, Stderr};
 

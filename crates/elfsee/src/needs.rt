@@ -3,13 +3,13 @@
 use elf_cli::{
     CANNOT_OPEN, Ended, ExitLine, OUT_OF_MEMORY, OUTPUT_BYTES, READ_FAULT, end_run, open,
 };
-use elf_table::{HeaderBuffer, HeaderStore};
 use elf_needs::{
     DependencyWalk, MOST_OBJECTS, NeedsBuffers, NeedsFault, NeedsOptions, OpenFiles, OpenObjects,
     SearchDirs,
 };
 use elf_requests::NeedsRequest;
 use elf_source::{Out, OutFault, WriteSink, opened_path};
+use elf_table::{HeaderBuffer, HeaderStore};
 use std::io::{self, BufWriter, ErrorKind, Write};
 use std::os::unix::fs::FileExt;
 use std::rt::Files;

@@ -2,9 +2,12 @@
 ghost use Rattle.std.specs.Prelude.{◌≡◌, ◌≤◌, length};
 ghost use Rattle.elf_capi.specs.Applied.{AppliesInMemory, IsApplied};
 
-use elf_capi::{ApplyInput, CallerLimits, CallOutcome, End, Job, layout_from, limits_of, report_status, short, Told, write_section};
-use elf_table::HeaderStore;
+use elf_capi::{
+    ApplyInput, CallOutcome, CallerLimits, End, Job, Told, layout_from, limits_of, report_status,
+    short, write_section,
+};
 use elf_layout::{Addresses, Layout};
+use elf_table::HeaderStore;
 
 /// The largest index of a section.
 const LAST_INDEX: u32 = 65_535;

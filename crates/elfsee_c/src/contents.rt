@@ -2,8 +2,8 @@
 ghost use Rattle.elf_memory.specs.SectionBytes.{ReadsSectionBytes};
 ghost use Rattle.elf_capi.specs.Ends.{ReturnsRead};
 
-use elf_memory::{ByteRange, section_bytes};
 use elf_capi::{End, tell};
+use elf_memory::{ByteRange, section_bytes};
 
 /// Tells where the bytes of a section lie in a file that lies in memory. No other section header is
 /// looked at (gABI 4, Section Header).

@@ -4,10 +4,10 @@ ghost use Rattle.elf_model.specs.Find.{find_cost};
 ghost use Rattle.elf_capi.specs.Found.{CallLooks, HasLookup};
 ghost use Rattle.elf_capi.specs.Limits.{budget_of, headers_of};
 
-use elf_capi::{CallerLimits, End, limits_of, look_in, LookupFields, report_found};
+use elf_capi::{CallerLimits, End, LookupFields, limits_of, look_in, report_found};
 use elf_hash::Lookup;
-use elf_table::HeaderStore;
 use elf_record::Refusal;
+use elf_table::HeaderStore;
 
 /// The most bytes of a name that is looked up.
 const WANTED_NAME_BYTES: usize = 4_096;

@@ -4,9 +4,9 @@ ghost use Rattle.elf_capi.specs.Hashed.{hashed_cost};
 ghost use Rattle.elf_capi.specs.HashedRows.{HasHashed, OpensHashed, by_flags};
 ghost use Rattle.elf_capi.specs.Limits.{budget_of, headers_of};
 
-use elf_capi::{CallerLimits, End, limits_of, open_hashed, report_opened, RowPosition};
-use elf_table::HeaderStore;
+use elf_capi::{CallerLimits, End, RowPosition, limits_of, open_hashed, report_opened};
 use elf_record::Refusal;
+use elf_table::HeaderStore;
 
 /// By the program headers also where there are section headers.
 const BY_SEGMENTS: u32 = 1;

@@ -2,8 +2,8 @@
 ghost use Rattle.elf_memory.specs.Headers.{ReadsHeader, ReadsSection, ReadsSegment};
 ghost use Rattle.elf_capi.specs.Ends.{ReturnsRead};
 
-use elf_memory::{Header, Section, Segment, read_header, read_section, read_segment};
 use elf_capi::{End, tell};
+use elf_memory::{Header, Section, Segment, read_header, read_section, read_segment};
 
 /// Reads the file header of a file that lies in memory (gABI 4, ELF Header).
 ///

@@ -3,8 +3,8 @@ ghost use Rattle.elf_memory.specs.MappedBytes.{ReadsMapped};
 ghost use Rattle.elf_capi.specs.SegmentDynamic.{ReadsSegmentDynamic};
 ghost use Rattle.elf_capi.specs.Ends.{ReturnsRead};
 
-use elf_memory::{ByteRange, find_mapped};
 use elf_capi::{End, RowPosition, segment_dynamic, tell};
+use elf_memory::{ByteRange, find_mapped};
 
 /// Checks the dynamic entries of a segment, and sets `rows` before the first: as many as up to and
 /// with the first DT_NULL, without a string table (gABI 5, Dynamic Section).

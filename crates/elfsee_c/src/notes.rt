@@ -2,8 +2,8 @@
 ghost use Rattle.elf_memory.specs.NoteRows.{ReadsSectionNotes, ReadsSegmentNotes, TakesNote};
 ghost use Rattle.elf_capi.specs.Ends.{ReturnsRead};
 
-use elf_memory::{Note, NotePosition, next_note, section_notes, segment_notes};
 use elf_capi::{End, tell};
+use elf_memory::{Note, NotePosition, next_note, section_notes, segment_notes};
 
 /// Checks that the notes of a section lie within the file, and sets `notes` before the first. No
 /// other section header is looked at (gABI 5, Note Section).

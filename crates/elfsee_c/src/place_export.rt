@@ -2,9 +2,12 @@
 ghost use Rattle.std.specs.Prelude.{◌≡◌, ◌≤◌, length};
 ghost use Rattle.elf_capi.specs.LentLayouts.{CountsWritten, IsPlaced, PlacesInMemory};
 
-use elf_capi::{ApplyInput, CallerLayout, CallerLimits, CallerMissing, End, limits_of, place_section, report_status, Told};
-use elf_table::HeaderStore;
+use elf_capi::{
+    ApplyInput, CallerLayout, CallerLimits, CallerMissing, End, Told, limits_of, place_section,
+    report_status,
+};
 use elf_layout::Addresses;
+use elf_table::HeaderStore;
 
 /// Writes the bytes of a section of a file that lies in memory, with its relocations applied, into
 /// memory of the caller, as [`elfsee_apply`](crate::apply_export::elfsee_apply) does, in a layout of any

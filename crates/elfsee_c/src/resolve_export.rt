@@ -6,10 +6,10 @@ ghost use Rattle.elf_capi.specs.Limits.{budget_of, headers_of};
 ghost use Rattle.elf_capi.specs.Queries.{IsPermitted, asks_of, wanted_by};
 ghost use Rattle.elf_capi.specs.Resolved.{IsResolved, Resolves, ResolvesIn, ReturnsResolved, file_of, nothing_resolved};
 
-use elf_capi::{CallerLimits, End, limits_of, Query, report_resolved, resolve_in, Resolved};
-use elf_table::{HeaderStore, NameBuf};
+use elf_capi::{CallerLimits, End, Query, Resolved, limits_of, report_resolved, resolve_in};
 use elf_loader::SymbolLookup;
 use elf_record::Refusal;
+use elf_table::{HeaderStore, NameBuf};
 
 /// Looks a name up in a file that lies in memory, alone or with a version, as a loader of the GNU
 /// system does (gABI 5, Dynamic Linking; Linux Standard Base Core, Symbol Versioning): by the

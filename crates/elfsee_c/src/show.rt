@@ -6,9 +6,12 @@ ghost use Rattle.elf_capi.specs.Asked.{parts_in, style_in};
 ghost use Rattle.elf_capi.specs.Limits.{AreCaps, budget_of, headers_of};
 ghost use Rattle.elf_capi.specs.Shown.{HasAskedListing, HasListing, ShowsInMemory};
 
-use elf_capi::{CallerLimits, CallerListing, CallOutcome, caps_of, End, list, listing_of, named_listing_of, report_status, short, Told};
-use elf_table::HeaderStore;
+use elf_capi::{
+    CallOutcome, CallerLimits, CallerListing, End, Told, caps_of, list, listing_of,
+    named_listing_of, report_status, short,
+};
 use elf_record::Parts;
+use elf_table::HeaderStore;
 
 /// Lists a file that lies in memory into memory of the caller, as far as `parts` has it. `room` is
 /// where the file's headers lie meanwhile.

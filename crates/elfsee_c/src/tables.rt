@@ -4,7 +4,7 @@ ghost use Rattle.elf_capi.specs.declared.kind.RowKind.TheVariants.{Symbols, Relo
 ghost use Rattle.elf_capi.specs.CallOpenings.{OpensRows};
 ghost use Rattle.elf_capi.specs.Ends.{ReturnsOpened};
 
-use elf_capi::{CallerLimits, End, limits_of, report_opened, RowKind, RowPosition, rows_in};
+use elf_capi::{CallerLimits, End, RowKind, RowPosition, limits_of, report_opened, rows_in};
 
 /// Checks the table of symbols that a section of a file is, and sets `rows` before its first. So many
 /// headers are permitted as the limits say, and as the room has 64 bytes for; no byte of it is looked at.

@@ -4,7 +4,10 @@ ghost use Rattle.elf_capi.specs.VersionRecords.{StepsRecord};
 ghost use Rattle.elf_capi.specs.Ends.{ReturnsOpened, ReturnsRead};
 ghost use Rattle.elf_capi.specs.CallOpenings.{OpensRecords};
 
-use elf_capi::{CallerLimits, End, limits_of, next_record, RecordRow, records_in, report_opened, tell, VersionRecordPosition};
+use elf_capi::{
+    CallerLimits, End, RecordRow, VersionRecordPosition, limits_of, next_record, records_in,
+    report_opened, tell,
+};
 
 /// Checks the table of version definitions or needs that a section of a file is, and sets `records`
 /// before its first. So many headers are permitted as the limits say, and as the room has 64 bytes for;

@@ -14,7 +14,10 @@ ghost use Rattle.elf_capi.specs.Limits.{budget_of};
 ghost use Rattle.elf_capi.specs.CallOpenings.{OpensRows};
 ghost use Rattle.elf_capi.specs.Within.{OpensAlways, OpensEntries, StepsBudgeted, ReturnsEntries};
 
-use elf_capi::{CallerLimits, count_entries, Dynamic, dynamic_within, End, entries_left, limits_of, next_within, Relocation, report_opened, RowPosition, segment_dynamic_within, Symbol, VersionWord};
+use elf_capi::{
+    CallerLimits, Dynamic, End, Relocation, RowPosition, Symbol, VersionWord, count_entries,
+    dynamic_within, entries_left, limits_of, next_within, report_opened, segment_dynamic_within,
+};
 use elf_record::Refusal;
 
 /// Checks the table of dynamic entries that a section of a file is, as

@@ -4,11 +4,14 @@
 
 ghost use Rattle.std.specs.Prelude.{◌≡◌};
 
-use elf_cli::{end_answer, exit, ExitLine, ListingRequest, open, OUT_OF_MEMORY, OUTPUT_BYTES, parse_show, read_words, report_refused, ShowRequest, tell_version};
+use elf_cli::{
+    ExitLine, ListingRequest, OUT_OF_MEMORY, OUTPUT_BYTES, ShowRequest, end_answer, exit, open,
+    parse_show, read_words, report_refused, tell_version,
+};
 use elf_fixtures::sample;
-use elf_table::{Caps, HeaderBuffer, HeaderStore};
 use elf_listing::show;
 use elf_source::{Counted, MemorySource, Out, Source, WriteSink};
+use elf_table::{Caps, HeaderBuffer, HeaderStore};
 use std::alloc::Global;
 use std::io::{self, BufWriter, Stderr, Write};
 use std::os::unix::fs::FileExt;
