@@ -10,7 +10,7 @@ use Rattle.elf_table.specs.declared.fault.Fault.TheVariants.{Refused as Refuses,
 use Rattle.elf_table.specs.declared.run_fault.RunFault.{RunFault}
 use Rattle.elf_table.specs.declared.run_fault.RunFault.TheVariants.{Refused, Source, Out}
 use Rattle.elf_table.specs.Faults.{IsReadFault}
-use Rattle.elf_archive.specs.Listed.{Consumes, StopTells, IsAll}
+use Rattle.elf_archive.specs.Listed.{ReadsAtMostIn, StopTells, IsAll}
 
 -- reads behind others, in a bound on all
 pub Explains-then : (a b c : CountedState) (out : OutState) (stop : RunFault) (n m k : ℕ) → n + m ≤ k → ReadsUpTo a b n → StopTells b c out m stop → StopTells a c out k stop
@@ -19,17 +19,17 @@ Explains-then a b c out (Refused refusal) n m k within p q = λ is.
 Explains-then a b c out (Source fault at) n m k within p q = IsSourceFault-then a.seen b.seen c.seen fault p.keeps q
 Explains-then a b c out (Out fault) n m k within p q = q
 
-pub Consumes-then : {X : Type 0} (a b c : CountedState) (out : OutState) (result : Result X RunFault) (n m k : ℕ) → n + m ≤ k → ReadsUpTo a b n → Consumes b c out result m → Consumes a c out result k
-Consumes-then a b c out (Ok x) n m k within p q = (ReadsUpTo-to (ReadsUpTo-then p q.0) (omega (arith, p.at_most, q.0.at_most)), tt)
-Consumes-then a b c out (Err stop) n m k within p q = (ReadsUpTo-to (ReadsUpTo-then p q.0) (omega (arith, p.at_most, q.0.at_most)), Explains-then a b c out stop n m k within p q.1)
+pub ReadsAtMostIn-then : {X : Type 0} (a b c : CountedState) (out : OutState) (result : Result X RunFault) (n m k : ℕ) → n + m ≤ k → ReadsUpTo a b n → ReadsAtMostIn b c out result m → ReadsAtMostIn a c out result k
+ReadsAtMostIn-then a b c out (Ok x) n m k within p q = (ReadsUpTo-to (ReadsUpTo-then p q.0) (omega (arith, p.at_most, q.0.at_most)), tt)
+ReadsAtMostIn-then a b c out (Err stop) n m k within p q = (ReadsUpTo-to (ReadsUpTo-then p q.0) (omega (arith, p.at_most, q.0.at_most)), Explains-then a b c out stop n m k within p q.1)
 
-pub Consumes-to : {X : Type 0} (a b : CountedState) (out : OutState) (result : Result X RunFault) (n k : ℕ) → n ≤ k → Consumes a b out result n → Consumes a b out result k
-Consumes-to a b out result n k within p = Consumes-then a a b out result 0 n k (omega (arith, within)) (ReadsUpTo-none a 0) p
+pub ReadsAtMostIn-to : {X : Type 0} (a b : CountedState) (out : OutState) (result : Result X RunFault) (n k : ℕ) → n ≤ k → ReadsAtMostIn a b out result n → ReadsAtMostIn a b out result k
+ReadsAtMostIn-to a b out result n k within p = ReadsAtMostIn-then a a b out result 0 n k (omega (arith, within)) (ReadsUpTo-none a 0) p
 
 -- a fault of a read, in a bound
-pub Consumes-fault : (a b : CountedState) (out : OutState) (fault : Fault) (n k : ℕ) → n ≤ k → ReadsUpTo a b n → IsReadFault a b n fault → Consumes {X = Unit {0}} a b out (Err (stop_of fault)) k
-Consumes-fault a b out (Refuses refusal) n k within p q = (ReadsUpTo-to p (omega (arith, p.at_most)), λ is. let over = q is in (over.0, ExceedsBudget-more within over.1))
-Consumes-fault a b out (Unread fault at) n k within p q = (ReadsUpTo-to p (omega (arith, p.at_most)), q.0)
+pub ReadsAtMostIn-fault : (a b : CountedState) (out : OutState) (fault : Fault) (n k : ℕ) → n ≤ k → ReadsUpTo a b n → IsReadFault a b n fault → ReadsAtMostIn {X = Unit {0}} a b out (Err (stop_of fault)) k
+ReadsAtMostIn-fault a b out (Refuses refusal) n k within p q = (ReadsUpTo-to p (omega (arith, p.at_most)), λ is. let over = q is in (over.0, ExceedsBudget-more within over.1))
+ReadsAtMostIn-fault a b out (Unread fault at) n k within p q = (ReadsUpTo-to p (omega (arith, p.at_most)), q.0)
 
 -- a range of all bytes is one behind reads
 pub still_whole : (a b : CountedState) (n : ℕ) → IsAll a → ReadsUpTo a b n → IsAll b

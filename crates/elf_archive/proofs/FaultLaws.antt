@@ -6,7 +6,7 @@ use Rattle.elf_model.specs.ArchiveCost.{archive_cost, header_cost, member_cost, 
 use Rattle.elf_model.specs.Budget.{IsBudgetRefusal}
 use Rattle.elf_model.specs.Checks.{first_refusal}
 use Rattle.elf_model.specs.FileLists.{archive_fault, first_fault, member_fault, placed_after}
-use Rattle.elf_model.specs.Style.{Style}
+use Rattle.elf_model.specs.Style.{ListingStyle}
 use Rattle.elf_model.specs.declared.causes.Refusal.{Refusal}
 use Rattle.elf_model.proofs.BudgetLaws.{is_budget_fault}
 use Rattle.elf_source.specs.Output.{OutState}
@@ -22,7 +22,7 @@ use Rattle.elf_table.specs.declared.run_fault.RunFault.TheVariants.{Refused, Sou
 use Rattle.elf_listing.specs.Shows.{WroteUntilRefusal}
 use Rattle.elf_archive.specs.Archives.{MagicRead}
 use Rattle.elf_archive.specs.FirstFault.{FindsFault, FindsFirst, IsArchiveFault, ReadTells, fault_from}
-use Rattle.elf_archive.specs.Listed.{BudgetSays, Consumes, ListsMember, StopTells, next_cost}
+use Rattle.elf_archive.specs.Listed.{BudgetSays, ReadsAtMostIn, ListsMember, StopTells, next_cost}
 use Rattle.elf_archive.specs.Members.{ReturnsMember}
 use Rattle.elf_archive.proofs.MemberLaws.{next-ends}
 use Rattle.elf_archive.proofs.ReportLaws.{over_budget}
@@ -30,7 +30,7 @@ use Rattle.elf_archive.proofs.ToldLaws.{part_fault}
 use Rattle.elf_archive.proofs.WalkLaws.{cost_next, fewer, fewer_is}
 
 -- the first fault from the next place of a walk on
-abbrev after_fault : List ℕ → ℕ → Style → ℕ → ℕ → MemberWalkState → NextMember → Option Refusal
+abbrev after_fault : List ℕ → ℕ → ListingStyle → ℕ → ℕ → MemberWalkState → NextMember → Option Refusal
 after_fault file headers style parts most p Ends = None
 after_fault file headers style parts most p (Broken refusal) = Some refusal
 after_fault file headers style parts most p (OneMember m) =
@@ -39,7 +39,7 @@ after_fault file headers style parts most p (OneMember m) =
       | None ↦ fault_from file headers style parts (fewer most) (behind file p m)
     ]
 
-fault_next : (file : List ℕ) (headers : ℕ) (style : Style) (parts most : ℕ) (p : MemberWalkState) (next : NextMember) → length file < p.at + most → next_member file style.cap p ≡ next
+fault_next : (file : List ℕ) (headers : ℕ) (style : ListingStyle) (parts most : ℕ) (p : MemberWalkState) (next : NextMember) → length file < p.at + most → next_member file style.cap p ≡ next
     → fault_from file headers style parts most p ≡ after_fault file headers style parts most p next
 unfolding members_from fewer first_fault
 fault_next file headers style parts zero p next enough is =
@@ -49,7 +49,7 @@ fault_next file headers style parts (suc most) p (Broken refusal) enough is = rw
 fault_next file headers style parts (suc most) p (OneMember m) enough is = rw (is, members_from) refl
 
 -- what a check has gone over so far without a fault, what is left, and what that costs
-pub record CheckedSoFar (file : List ℕ) (headers : ℕ) (style : Style) (parts first : ℕ) (start p : MemberWalkState) (a b : CountedState) : Type 0 where
+pub record CheckedSoFar (file : List ℕ) (headers : ℕ) (style : ListingStyle) (parts first : ℕ) (start p : MemberWalkState) (a b : CountedState) : Type 0 where
   pub most : ℕ
   pub enough : length file < p.at + most
   pub left : fault_from file headers style parts first start ≡ fault_from file headers style parts most p
@@ -57,7 +57,7 @@ pub record CheckedSoFar (file : List ℕ) (headers : ℕ) (style : Style) (parts
   pub reads : ReadsUpTo a b spent
   pub cost : spent + members_cost most file headers style parts p ≤ members_cost first file headers style parts start
 
-pub check_begins : (file : List ℕ) (headers : ℕ) (style : Style) (parts first : ℕ) (start : MemberWalkState) (a : CountedState) → length file < start.at + first
+pub check_begins : (file : List ℕ) (headers : ℕ) (style : ListingStyle) (parts first : ℕ) (start : MemberWalkState) (a : CountedState) → length file < start.at + first
     → CheckedSoFar file headers style parts first start start a a
 check_begins file headers style parts first start a enough = record {
   most = first;
@@ -69,7 +69,7 @@ check_begins file headers style parts first start a enough = record {
 }
 
 -- a member more, which has no fault
-pub check_more : (file : List ℕ) (headers : ℕ) (style : Style) (parts first : ℕ) (start p q : MemberWalkState) (a b c d : CountedState) (m : Member) → p.at < q.at
+pub check_more : (file : List ℕ) (headers : ℕ) (style : ListingStyle) (parts first : ℕ) (start p q : MemberWalkState) (a b c d : CountedState) (m : Member) → p.at < q.at
     → CheckedSoFar file headers style parts first start p a b → next_member file style.cap p ≡ OneMember m → q ≡ behind file p m
     → ReadsUpTo b c (header_cost file style.cap p) → ReadsUpTo c d (member_cost file headers style parts m) → member_fault file headers style parts m ≡ None
     → CheckedSoFar file headers style parts first start q a d
@@ -89,7 +89,7 @@ check_more file headers style parts first start p q a b c d m further known is h
     }
 
 -- the file's end
-pub check_ends : (file : List ℕ) (headers : ℕ) (style : Style) (parts first : ℕ) (start p : MemberWalkState) (a b c : CountedState) → CheckedSoFar file headers style parts first start p a b
+pub check_ends : (file : List ℕ) (headers : ℕ) (style : ListingStyle) (parts first : ℕ) (start p : MemberWalkState) (a b c : CountedState) → CheckedSoFar file headers style parts first start p a b
     → next_member file style.cap p ≡ Ends → ReadsUpTo b c (header_cost file style.cap p)
     → (fault_from file headers style parts first start ≡ None) × ReadsUpTo a c (members_cost first file headers style parts start)
 check_ends file headers style parts first start p a b c known is reads =
@@ -98,26 +98,26 @@ check_ends file headers style parts first start p a b c known is reads =
     (known.left ∙ fault_next file headers style parts known.most p Ends known.enough is, ReadsUpTo-to all (omega (arith, all.at_most, known.cost, sum)))
 
 -- what a step costs at most
-pub step_cost_left : (file : List ℕ) (headers : ℕ) (style : Style) (parts first : ℕ) (start p : MemberWalkState) (a b : CountedState) (known : CheckedSoFar file headers style parts first start p a b)
+pub step_cost_left : (file : List ℕ) (headers : ℕ) (style : ListingStyle) (parts first : ℕ) (start p : MemberWalkState) (a b : CountedState) (known : CheckedSoFar file headers style parts first start p a b)
     → known.spent + next_cost file headers style parts p (next_member file style.cap p) ≤ members_cost first file headers style parts start
 step_cost_left file headers style parts first start p a b known =
     let sum = cost_next file headers style parts known.most p (next_member file style.cap p) known.enough refl in
     omega (arith, known.cost, sum)
 
 -- a place where no member stands
-pub walk_fault : (file : List ℕ) (headers : ℕ) (style : Style) (parts first : ℕ) (start p q : MemberWalkState) (a b : CountedState) (name : List ℕ) (fault : Fault) → CheckedSoFar file headers style parts first start p a b
+pub walk_fault : (file : List ℕ) (headers : ℕ) (style : ListingStyle) (parts first : ℕ) (start p q : MemberWalkState) (a b : CountedState) (name : List ℕ) (fault : Fault) → CheckedSoFar file headers style parts first start p a b
     → ReturnsMember file style.cap p q name (Err fault) → FindsFault {X = Unit {0}} (fault_from file headers style parts first start) (Err (stop_of fault))
 walk_fault file headers style parts first start p q a b name (Refuses refusal) known tells =
     λ other. known.left ∙ fault_next file headers style parts known.most p (Broken refusal) known.enough (tells other)
 walk_fault file headers style parts first start p q a b name (Unread fault at) known tells = tt
 
 -- a member whose listing was gone through without a fault
-pub sound_member : {v w : OutState} (file : List ℕ) (headers : ℕ) (style : Style) (parts : ℕ) (m : Member) → ListsMember v w (Ok None) (member_listing file headers style parts m)
+pub sound_member : {v w : OutState} (file : List ℕ) (headers : ℕ) (style : ListingStyle) (parts : ℕ) (m : Member) → ListsMember v w (Ok None) (member_listing file headers style parts m)
     → member_fault file headers style parts m ≡ None
 sound_member file headers style parts m p = ap (option_map (placed_after m.extent.at)) p.no_fault
 
 -- a member whose listing was refused
-pub fault_of_member : {v w : OutState} (file : List ℕ) (headers : ℕ) (style : Style) (parts first : ℕ) (start p : MemberWalkState) (a b : CountedState) (m : Member) (refusal placed : Refusal) → CheckedSoFar file headers style parts first start p a b
+pub fault_of_member : {v w : OutState} (file : List ℕ) (headers : ℕ) (style : ListingStyle) (parts first : ℕ) (start p : MemberWalkState) (a b : CountedState) (m : Member) (refusal placed : Refusal) → CheckedSoFar file headers style parts first start p a b
     → next_member file style.cap p ≡ OneMember m → (IsBudgetRefusal refusal → ⊥) → WroteUntilRefusal v w refusal (member_listing file headers style parts m) → placed ≡ placed_after m.extent.at refusal
     → FindsFault {X = Unit {0}} (fault_from file headers style parts first start) (Err (Refused placed))
 fault_of_member file headers style parts first start p a b m refusal placed known is own lists place =
@@ -126,30 +126,30 @@ fault_of_member file headers style parts first start p a b m refusal placed know
     ∙ ap (λ (fault : Option Refusal). elim fault [ Some refusal ↦ Some refusal | None ↦ fault_from file headers style parts (fewer known.most) (behind file p m) ]) found)
 
 -- what that takes of the source
-pub fault_takes : (a b : CountedState) (w : OutState) (n start : ℕ) (refusal placed : Refusal) → (IsBudgetRefusal refusal → ⊥) → placed ≡ placed_after start refusal → ReadsUpTo a b n → Consumes {X = Unit {0}} a b w (Err (Refused placed)) n
+pub fault_takes : (a b : CountedState) (w : OutState) (n start : ℕ) (refusal placed : Refusal) → (IsBudgetRefusal refusal → ⊥) → placed ≡ placed_after start refusal → ReadsUpTo a b n → ReadsAtMostIn {X = Unit {0}} a b w (Err (Refused placed)) n
 fault_takes a b w n start refusal placed own place reads = (reads, λ budget. absurd (own (sym (ap (λ (r : Refusal). r.cause) place) ∙ budget)))
 
 -- a member that stopped the check sooner
-pub stop_of_member : (v w : OutState) (file : List ℕ) (headers : ℕ) (style : Style) (parts : ℕ) (m : Member) (stop : RunFault) (fault : Option Refusal) → ListsMember v w (Err stop) (member_listing file headers style parts m)
+pub stop_of_member : (v w : OutState) (file : List ℕ) (headers : ℕ) (style : ListingStyle) (parts : ℕ) (m : Member) (stop : RunFault) (fault : Option Refusal) → ListsMember v w (Err stop) (member_listing file headers style parts m)
     → FindsFault {X = Unit {0}} fault (Err stop)
 stop_of_member v w file headers style parts m (Refused refusal) fault p = λ other. absurd (other p.0)
 stop_of_member v w file headers style parts m (Source cause at) fault p = tt
 stop_of_member v w file headers style parts m (Out cause) fault p = tt
 
 -- the checks before the members
-pub magic_fault : (file : List ℕ) (headers : ℕ) (style : Style) (parts : ℕ) (fault : Fault) → MagicRead {X = Unit {0}} file (Err fault)
+pub magic_fault : (file : List ℕ) (headers : ℕ) (style : ListingStyle) (parts : ℕ) (fault : Fault) → MagicRead {X = Unit {0}} file (Err fault)
     → FindsFault {X = Unit {0}} (archive_fault file headers style parts) (Err (stop_of fault))
 unfolding archive_fault
 magic_fault file headers style parts (Refuses refusal) read = λ other. rw (read other, archive_fault) refl
 magic_fault file headers style parts (Unread fault at) read = tt
 
-pub passed_fault : (file : List ℕ) (headers : ℕ) (style : Style) (parts : ℕ) → first_refusal (archive_checks file) ≡ None
+pub passed_fault : (file : List ℕ) (headers : ℕ) (style : ListingStyle) (parts : ℕ) → first_refusal (archive_checks file) ≡ None
     → archive_fault file headers style parts ≡ fault_from file headers style parts (length file) before_members
 unfolding archive_fault members_of
 passed_fault file headers style parts passed = rw (passed, archive_fault) refl
 
 -- the fault of an archive is one within every budget
-pub own_fault : (budget : Option ℕ) (file : List ℕ) (headers : ℕ) (style : Style) (parts : ℕ) (fault : Option Refusal) → archive_fault file headers style parts ≡ fault
+pub own_fault : (budget : Option ℕ) (file : List ℕ) (headers : ℕ) (style : ListingStyle) (parts : ℕ) (fault : Option Refusal) → archive_fault file headers style parts ≡ fault
     → IsArchiveFault budget file headers style parts fault
 own_fault None file headers style parts fault is = sym is
 own_fault (Some budget) file headers style parts fault is = inl (sym is)

@@ -18,7 +18,7 @@ use Rattle.elf_table.specs.declared.run_fault.RunFault.TheVariants.{Refused, Sou
 use Rattle.elf_listing.specs.Shows.{WrotePrefix, WroteUntilStop, WroteSome}
 use Rattle.elf_listing.proofs.RowLaws.{Whole-line}
 use Rattle.elf_listing.proofs.ShowLaws.{WroteUntilStop-then, Whole-then}
-use Rattle.elf_archive.specs.Listed.{Consumes, AnswersAfter}
+use Rattle.elf_archive.specs.Listed.{ReadsAtMostIn, AnswersAfter}
 
 -- items that are told have no fault
 pub told_clean : (format : Format) (items : List ListingItem) → fault_of (told format items) ≡ None
@@ -102,7 +102,7 @@ module _ (began mid old new : OutState) (line : List ℕ) (held : DeferredLine) 
       rw (is.1, lines_before line items) (line_front began mid old line held p new (lines_of items) q ends)
 
   -- what it took of the source
-  pub held_consumes : (a b : CountedState) (n : ℕ) (listed result : Result Bool RunFault) → OutGrows mid old → AnswersAfter listed new result → Consumes a b old listed n → Consumes a b new result n
+  pub held_consumes : (a b : CountedState) (n : ℕ) (listed result : Result Bool RunFault) → OutGrows mid old → AnswersAfter listed new result → ReadsAtMostIn a b old listed n → ReadsAtMostIn a b new result n
   held_consumes a b n (Ok refused) result grows is q = rw is q
   held_consumes a b n (Err (Refused refusal)) result grows is q = rw is q
   held_consumes a b n (Err (Source fault at)) result grows is q = rw is q

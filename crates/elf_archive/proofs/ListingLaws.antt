@@ -6,7 +6,7 @@ use Rattle.elf_model.specs.ArchiveCost.{allowance, header_cost, long_name_bytes,
 use Rattle.elf_model.specs.Budget.{IsBudgetRefusal}
 use Rattle.elf_model.specs.Cost.{cost_where, listing_cost, style_ceiling}
 use Rattle.elf_model.specs.Listing.{Fault as FaultItem}
-use Rattle.elf_model.specs.Style.{Style}
+use Rattle.elf_model.specs.Style.{ListingStyle}
 use Rattle.elf_model.specs.declared.causes.Refusal.{Refusal}
 use Rattle.elf_table.specs.declared.fault.Fault.{Fault}
 use Rattle.elf_table.specs.declared.fault.Fault.TheVariants.{Refused, Source}
@@ -16,12 +16,12 @@ use Rattle.elf_model.proofs.AllowanceLaws.{allowed, header_allowed}
 use Rattle.elf_archive.proofs.AskLaws.{where_room}
 
 -- what a member costs where listings are asked for
-pub member_listed : (file : List ℕ) (headers : ℕ) (style : Style) (parts : ℕ) (m : Member) → lists_members style parts ≡ true
+pub member_listed : (file : List ℕ) (headers : ℕ) (style : ListingStyle) (parts : ℕ) (m : Member) → lists_members style parts ≡ true
     → member_cost file headers style parts m ≡ 4 + cost_where (is_elf (bytes_in file m.extent)) (listing_cost (bytes_in file m.extent) headers style parts)
 unfolding member_cost
 member_listed file headers style parts m asked = rw asked refl
 
-pub member_elf : (file : List ℕ) (headers : ℕ) (style : Style) (parts : ℕ) (m : Member) (extent : FileRange) → lists_members style parts ≡ true → m.extent ≡ extent → is_elf (bytes_in file extent) ≡ true
+pub member_elf : (file : List ℕ) (headers : ℕ) (style : ListingStyle) (parts : ℕ) (m : Member) (extent : FileRange) → lists_members style parts ≡ true → m.extent ≡ extent → is_elf (bytes_in file extent) ≡ true
     → member_cost file headers style parts m ≡ 4 + listing_cost (bytes_in file extent) headers style parts
 member_elf file headers style parts m extent asked is elf =
     member_listed file headers style parts m asked
@@ -29,12 +29,12 @@ member_elf file headers style parts m extent asked is elf =
     ∙ ap (λ t. 4 + cost_where t (listing_cost (bytes_in file extent) headers style parts)) elf)
 
 -- a member's cost is that of its data
-pub cost_of_data : (file : List ℕ) (headers : ℕ) (style : Style) (parts : ℕ) (m : Member) → member_cost file headers style parts (member_at m.extent) ≡ member_cost file headers style parts m
+pub cost_of_data : (file : List ℕ) (headers : ℕ) (style : ListingStyle) (parts : ℕ) (m : Member) → member_cost file headers style parts (member_at m.extent) ≡ member_cost file headers style parts m
 unfolding member_cost
 cost_of_data file headers style parts m = refl
 
 -- a step takes no more than is allowed
-pub step_allowed : (size headers : ℕ) (style : Style) (p : MemberWalkState) → step_cost size style.cap p ≤ allowance (size - p.at) headers style
+pub step_allowed : (size headers : ℕ) (style : ListingStyle) (p : MemberWalkState) → step_cost size style.cap p ≤ allowance (size - p.at) headers style
 step_allowed size headers style p = by_room (nat_le (p.at + 60) size) refl
   where
     by_room : (t : Bool) → nat_le (p.at + 60) size ≡ t → step_cost size style.cap p ≤ allowance (size - p.at) headers style
@@ -45,20 +45,20 @@ step_allowed size headers style p = by_room (nat_le (p.at + 60) size) refl
     by_room false e = let none : step_cost size style.cap p ≡ 0 = ap (λ t. cost_where t (60 + long_name_bytes style.cap)) e in omega (arith, none)
 
 -- a member, and the steps behind it
-pub member_allowed : (size headers : ℕ) (style : Style) (bytes : ℕ) (p q : MemberWalkState) → p.at + 60 + bytes ≤ size → p.at + 60 + bytes ≤ q.at
+pub member_allowed : (size headers : ℕ) (style : ListingStyle) (bytes : ℕ) (p q : MemberWalkState) → p.at + 60 + bytes ≤ size → p.at + 60 + bytes ≤ q.at
     → step_cost size style.cap p + (4 + style_ceiling bytes headers style) + allowance (size - q.at) headers style ≤ allowance (size - p.at) headers style
 member_allowed size headers style bytes p q within behind =
     let all = allowed (size - p.at) (size - q.at) bytes headers style (omega (arith, within, behind)) in
     omega (arith, where_room p.at size (60 + long_name_bytes style.cap) (omega (arith, within)), all)
 
 -- what is next costs its header at least
-pub header_first : (file : List ℕ) (headers : ℕ) (style : Style) (parts : ℕ) (p : MemberWalkState) (next : NextMember) → header_cost file style.cap p ≤ next_cost file headers style parts p next
+pub header_first : (file : List ℕ) (headers : ℕ) (style : ListingStyle) (parts : ℕ) (p : MemberWalkState) (next : NextMember) → header_cost file style.cap p ≤ next_cost file headers style parts p next
 header_first file headers style parts p Ends = omega arith
 header_first file headers style parts p (Broken refusal) = omega arith
 header_first file headers style parts p (OneMember member) = omega arith
 
 -- a refusal that a step answers is what is listed
-pub unread_next : (alone : Bool) (file : List ℕ) (headers : ℕ) (style : Style) (parts : ℕ) (old new : MemberWalkState) (name : List ℕ) (fault : Fault) → ReturnsMember file style.cap old new name (Err fault)
+pub unread_next : (alone : Bool) (file : List ℕ) (headers : ℕ) (style : ListingStyle) (parts : ℕ) (old new : MemberWalkState) (name : List ℕ) (fault : Fault) → ReturnsMember file style.cap old new name (Err fault)
     → (refusal : Refusal) → fault ≡ Refused refusal → (IsBudgetRefusal refusal → ⊥) → next_items alone file headers style parts (next_member file style.cap old) ≡ FaultItem refusal ∷ []
 unread_next alone file headers style parts old new name (Refused first) tells refusal is other =
     let same : first ≡ refusal = cc in
@@ -66,7 +66,7 @@ unread_next alone file headers style parts old new name (Refused first) tells re
 unread_next alone file headers style parts old new name (Source fault at) tells refusal is other = cc
 
 -- a step more, within what is allowed
-pub step_within : (size now headers slots : ℕ) (style : Style) (bytes more total : ℕ) (p q : MemberWalkState) → now ≡ size → slots ≡ headers → bytes + allowance (size - p.at) headers style ≤ total
+pub step_within : (size now headers slots : ℕ) (style : ListingStyle) (bytes more total : ℕ) (p q : MemberWalkState) → now ≡ size → slots ≡ headers → bytes + allowance (size - p.at) headers style ≤ total
     → more + allowance (now - q.at) slots style ≤ allowance (now - p.at) slots style → (bytes + more) + allowance (size - q.at) headers style ≤ total
 step_within size now headers slots style bytes more total p q same_size same_slots so_far step =
     let behind : allowance (now - q.at) slots style ≡ allowance (size - q.at) headers style =
@@ -76,7 +76,7 @@ step_within size now headers slots style bytes more total p q same_size same_slo
     omega (arith, so_far, step, behind, before)
 
 -- the last step, within what is allowed
-pub step_ends : (size now headers slots : ℕ) (style : Style) (bytes more total : ℕ) (p : MemberWalkState) → now ≡ size → slots ≡ headers → bytes + allowance (size - p.at) headers style ≤ total
+pub step_ends : (size now headers slots : ℕ) (style : ListingStyle) (bytes more total : ℕ) (p : MemberWalkState) → now ≡ size → slots ≡ headers → bytes + allowance (size - p.at) headers style ≤ total
     → more + 0 ≤ allowance (now - p.at) slots style → bytes + more ≤ total
 step_ends size now headers slots style bytes more total p same_size same_slots so_far step =
     let before : allowance (now - p.at) slots style ≡ allowance (size - p.at) headers style =

@@ -3,7 +3,7 @@ use Rattle.std.proofs.Common.{◌≡◌, ℕ, false, ◌+◌, ◌<◌, ◌≤◌
 use Rattle.elf_model.specs.Budget.{IsBudgetRefusal}
 use Rattle.elf_model.specs.declared.causes.Refusal.{Refusal}
 use Rattle.elf_model.proofs.BudgetLaws.{is_budget_fault}
-use Rattle.elf_source.specs.Source.{CountedState, SourceState, Whole, ReadsUpTo, ExceedsBudget, IsSourceFault, IsHonest, SameView, seen_by}
+use Rattle.elf_source.specs.Source.{CountedState, SourceState, RangeParent, ReadsUpTo, ExceedsBudget, IsSourceFault, IsHonest, SameView, seen_by}
 use Rattle.elf_source.specs.Ranges.{Narrows, Widens, file_within}
 use Rattle.elf_source.specs.Output.{OutState}
 use Rattle.elf_source.specs.declared.faults.SourceFault.{SourceFault}
@@ -11,10 +11,10 @@ use Rattle.elf_source.specs.declared.faults.SourceFault.TheVariants.{Device, End
 use Rattle.elf_table.specs.declared.run_fault.RunFault.{RunFault}
 use Rattle.elf_table.specs.declared.run_fault.RunFault.TheVariants.{Refused, Source, Out}
 use Rattle.elf_listing.specs.Shows.{ListingCosts}
-use Rattle.elf_archive.specs.Listed.{Consumes, EndsPart, IsAll, after_start}
+use Rattle.elf_archive.specs.Listed.{ReadsAtMostIn, EndsPart, IsAll, after_start}
 
 -- what a source is a range of where it is a range of all bytes
-abbrev all_of : SourceState → Whole
+abbrev all_of : SourceState → RangeParent
 all_of seen = record { size = seen.size; file = seen.file }
 
 some_is : {X : Type 0} {x y : X} → Some x ≡ Some y → x ≡ y
@@ -37,9 +37,9 @@ same_view a d first last same fewer whole =
     let q = all_shown d last in
     record {
       keeps = record {
-        same_size = sym (ap (λ (s : SourceState). s.size) q) ∙ ap (λ (w : Whole). w.size) same ∙ ap (λ (s : SourceState). s.size) p;
+        same_size = sym (ap (λ (s : SourceState). s.size) q) ∙ ap (λ (w : RangeParent). w.size) same ∙ ap (λ (s : SourceState). s.size) p;
         no_fewer = omega (arith, ap (λ (s : SourceState). s.failures) p, ap (λ (s : SourceState). s.failures) q, fewer);
-        same_file = sym (ap (λ (s : SourceState). s.file) q) ∙ ap (λ (w : Whole). w.file) same ∙ ap (λ (s : SourceState). s.file) p;
+        same_file = sym (ap (λ (s : SourceState). s.file) q) ∙ ap (λ (w : RangeParent). w.file) same ∙ ap (λ (s : SourceState). s.file) p;
         same_whole = sym (ap (λ (s : SourceState). s.whole) q) ∙ whole ∙ ap (λ (s : SourceState). s.whole) p;
       };
       hides = last ∙ sym first;
@@ -48,12 +48,12 @@ same_view a d first last same fewer whole =
 -- the reads of a part are reads of the source
 pub part_reads : (a b c d : CountedState) (n start size : ℕ) → IsAll a → Narrows a b start size → ReadsUpTo b c n → Widens c d → ReadsUpTo a d n
 part_reads a b c d n start size whole narrows reads widens =
-    let same : all_of d.seen ≡ all_of a.seen = some_is {X = Whole} (same_whole a b c d n start size whole narrows reads widens) in
+    let same : all_of d.seen ≡ all_of a.seen = some_is {X = RangeParent} (same_whole a b c d n start size whole narrows reads widens) in
     record {
       keeps = record {
-        same_size = ap (λ (w : Whole). w.size) same;
+        same_size = ap (λ (w : RangeParent). w.size) same;
         no_fewer = omega (arith, narrows.same_failures, widens.same_failures, reads.keeps.no_fewer);
-        same_file = ap (λ (w : Whole). w.file) same;
+        same_file = ap (λ (w : RangeParent). w.file) same;
         same_whole = widens.same_whole ∙ (reads.keeps.same_whole ∙ narrows.same_whole);
       };
       grows = omega (arith, narrows.same_asked, widens.same_asked, reads.grows);
@@ -96,7 +96,7 @@ part_offset start at size all inside lies = omega arith
 
 -- WHAT A MEMBER'S LISTING TAKES OF THE ARCHIVE is what it takes of the member
 pub part_consumes : {X : Type 0} (a b c d : CountedState) (v : OutState) (n start size : ℕ) (listed : Result X RunFault) (result : Result (Option Refusal) RunFault) → IsAll a → start + size ≤ a.seen.size
-    → Narrows a b start size → ListingCosts b c v listed n → Widens c d → EndsPart start listed result → Consumes a d v result n
+    → Narrows a b start size → ListingCosts b c v listed n → Widens c d → EndsPart start listed result → ReadsAtMostIn a d v result n
 part_consumes a b c d v n start size (Ok x) result whole lies narrows costs widens ends =
     rw ends (part_reads a b c d n start size whole narrows costs.0 widens, tt)
 part_consumes a b c d v n start size (Err (Refused refusal)) result whole lies narrows costs widens ends = by_cause (is_budget_fault refusal.cause)
@@ -104,7 +104,7 @@ part_consumes a b c d v n start size (Err (Refused refusal)) result whole lies n
     reads : ReadsUpTo a d n
     reads = part_reads a b c d n start size whole narrows costs.0 widens
 
-    by_cause : (IsBudgetRefusal refusal) ⊎ (IsBudgetRefusal refusal → ⊥) → Consumes a d v result n
+    by_cause : (IsBudgetRefusal refusal) ⊎ (IsBudgetRefusal refusal → ⊥) → ReadsAtMostIn a d v result n
     by_cause (inl budget) =
         let over = costs.1 budget in
         let inside : after_start start refusal.at < a.seen.size = part_offset start refusal.at size a.seen.size (omega (arith, over.0, narrows.size_is)) lies in

@@ -8,7 +8,7 @@ use Rattle.elf_model.specs.Budget.{IsReport}
 use Rattle.elf_model.specs.Checks.{first_refusal}
 use Rattle.elf_model.specs.Lines.{refusal_line}
 use Rattle.elf_model.specs.Listing.{ListingItem, Fault as FaultItem, lines_of, fault_of, report_of, end_text}
-use Rattle.elf_model.specs.Style.{Style}
+use Rattle.elf_model.specs.Style.{ListingStyle}
 use Rattle.elf_model.specs.declared.causes.Cause.TheVariants.{Budget}
 use Rattle.elf_model.specs.declared.causes.Refusal.{Refusal}
 use Rattle.elf_model.proofs.BudgetLaws.{is_budget_fault}
@@ -27,7 +27,7 @@ use Rattle.elf_listing.proofs.EachLaws.{lines_front}
 use Rattle.elf_archive.specs.Listed.{ArchiveSays, AsksInArchive, BudgetSays, StopTells, ReportsArchive}
 
 -- a report is what is listed, within every budget
-report_listed : (alone : Bool) (budget : Option ℕ) (file : List ℕ) (headers : ℕ) (style : Style) (parts : ℕ) (text : List ℕ) (fault : Option Refusal) → IsReport style.format (archive_items alone file headers style parts) text fault
+report_listed : (alone : Bool) (budget : Option ℕ) (file : List ℕ) (headers : ℕ) (style : ListingStyle) (parts : ℕ) (text : List ℕ) (fault : Option Refusal) → IsReport style.format (archive_items alone file headers style parts) text fault
     → IsArchiveBudgeted alone budget file headers style parts text fault
 report_listed alone None file headers style parts text fault is = is
 report_listed alone (Some budget) file headers style parts text fault is = inl is

@@ -5,15 +5,15 @@ use Rattle.std.specs.List.{list_any}
 use Rattle.elf_model.specs.Archive.{Members, NextMember, Ends, Broken, OneMember, MemberWalkState, before_members, behind, is_refused, member_items, members_from, members_items, members_of, end_items, next_member, walk_items, with_member}
 use Rattle.elf_model.specs.ArchiveCost.{any_refused, header_cost, member_cost, members_cost}
 use Rattle.elf_model.specs.Listing.{ListingItem}
-use Rattle.elf_model.specs.Style.{Style}
+use Rattle.elf_model.specs.Style.{ListingStyle}
 use Rattle.elf_source.specs.Source.{CountedState, ReadsUpTo}
 use Rattle.elf_source.specs.Output.{OutState}
 use Rattle.elf_source.proofs.ReadsLaws.{ReadsUpTo-none, ReadsUpTo-then}
 use Rattle.elf_table.specs.declared.run_fault.RunFault.{RunFault}
 use Rattle.elf_listing.specs.Shows.{WroteItems, WroteSome}
 use Rattle.elf_listing.proofs.ShowLaws.{Whole-none, Whole-then, WroteUntilStop-then, WroteUntilStop-more}
-use Rattle.elf_archive.specs.Listed.{Consumes, ListsMembers, StepsTo, next_cost, next_items}
-use Rattle.elf_archive.proofs.ConsumeLaws.{Consumes-then}
+use Rattle.elf_archive.specs.Listed.{ReadsAtMostIn, ListsMembers, StepsTo, next_cost, next_items}
+use Rattle.elf_archive.proofs.ConsumeLaws.{ReadsAtMostIn-then}
 use Rattle.elf_archive.proofs.MemberLaws.{next-ends}
 
 -- one fewer, where there is one
@@ -41,23 +41,23 @@ members_next file cap (suc most) p (Broken refusal) enough is = rw (is, members_
 members_next file cap (suc most) p (OneMember m) enough is = rw (is, members_from) refl
 
 -- what stands behind the next place
-abbrev pub after_items : (alone : Bool) → List ℕ → ℕ → Style → ℕ → ℕ → MemberWalkState → NextMember → List ListingItem
+abbrev pub after_items : (alone : Bool) → List ℕ → ℕ → ListingStyle → ℕ → ℕ → MemberWalkState → NextMember → List ListingItem
 after_items alone file headers style parts most p Ends = []
 after_items alone file headers style parts most p (Broken refusal) = []
 after_items alone file headers style parts most p (OneMember m) = walk_items alone file headers style parts (members_from (fewer most) file style.cap (behind file p m))
 
-abbrev pub after_cost : List ℕ → ℕ → Style → ℕ → ℕ → MemberWalkState → NextMember → ℕ
+abbrev pub after_cost : List ℕ → ℕ → ListingStyle → ℕ → ℕ → MemberWalkState → NextMember → ℕ
 after_cost file headers style parts most p Ends = 0
 after_cost file headers style parts most p (Broken refusal) = 0
 after_cost file headers style parts most p (OneMember m) = members_cost (fewer most) file headers style parts (behind file p m)
 
-abbrev pub after_refused : List ℕ → ℕ → Style → ℕ → ℕ → MemberWalkState → NextMember → Bool
+abbrev pub after_refused : List ℕ → ℕ → ListingStyle → ℕ → ℕ → MemberWalkState → NextMember → Bool
 after_refused file headers style parts most p Ends = false
 after_refused file headers style parts most p (Broken refusal) = false
 after_refused file headers style parts most p (OneMember m) =
     is_refused file headers style parts m || list_any (is_refused file headers style parts) (members_from (fewer most) file style.cap (behind file p m)).members
 
-items_of : (alone : Bool) (file : List ℕ) (headers : ℕ) (style : Style) (parts most : ℕ) (p : MemberWalkState) (next : NextMember)
+items_of : (alone : Bool) (file : List ℕ) (headers : ℕ) (style : ListingStyle) (parts most : ℕ) (p : MemberWalkState) (next : NextMember)
     → walk_items alone file headers style parts (after_members file style.cap most p next) ≡ next_items alone file headers style parts next ++ after_items alone file headers style parts most p next
 unfolding walk_items members_items
 items_of alone file headers style parts most p Ends = refl
@@ -66,26 +66,26 @@ items_of alone file headers style parts most p (OneMember m) =
     append_assoc (member_items alone file headers style parts m) (members_items alone file headers style parts (members_from (fewer most) file style.cap (behind file p m)).members)
     (end_items (members_from (fewer most) file style.cap (behind file p m)).refusal)
 
-any_of : (file : List ℕ) (headers : ℕ) (style : Style) (parts most : ℕ) (p : MemberWalkState) (next : NextMember)
+any_of : (file : List ℕ) (headers : ℕ) (style : ListingStyle) (parts most : ℕ) (p : MemberWalkState) (next : NextMember)
     → list_any (is_refused file headers style parts) (after_members file style.cap most p next).members ≡ after_refused file headers style parts most p next
 any_of file headers style parts most p Ends = refl
 any_of file headers style parts most p (Broken refusal) = refl
 any_of file headers style parts most p (OneMember m) = refl
 
 -- what a walk that may go on lists
-pub walk_next : (alone : Bool) (file : List ℕ) (headers : ℕ) (style : Style) (parts most : ℕ) (p : MemberWalkState) (next : NextMember) → length file < p.at + most → next_member file style.cap p ≡ next
+pub walk_next : (alone : Bool) (file : List ℕ) (headers : ℕ) (style : ListingStyle) (parts most : ℕ) (p : MemberWalkState) (next : NextMember) → length file < p.at + most → next_member file style.cap p ≡ next
     → walk_items alone file headers style parts (members_from most file style.cap p) ≡ next_items alone file headers style parts next ++ after_items alone file headers style parts most p next
 walk_next alone file headers style parts most p next enough is =
     ap (walk_items alone file headers style parts) (members_next file style.cap most p next enough is) ∙ items_of alone file headers style parts most p next
 
 -- and whether one is refused
-pub refused_next : (file : List ℕ) (headers : ℕ) (style : Style) (parts most : ℕ) (p : MemberWalkState) (next : NextMember) → length file < p.at + most → next_member file style.cap p ≡ next
+pub refused_next : (file : List ℕ) (headers : ℕ) (style : ListingStyle) (parts most : ℕ) (p : MemberWalkState) (next : NextMember) → length file < p.at + most → next_member file style.cap p ≡ next
     → list_any (is_refused file headers style parts) (members_from most file style.cap p).members ≡ after_refused file headers style parts most p next
 refused_next file headers style parts most p next enough is =
     ap (λ (walk : Members). list_any (is_refused file headers style parts) walk.members) (members_next file style.cap most p next enough is) ∙ any_of file headers style parts most p next
 
 -- and what it costs
-pub cost_next : (file : List ℕ) (headers : ℕ) (style : Style) (parts most : ℕ) (p : MemberWalkState) (next : NextMember) → length file < p.at + most → next_member file style.cap p ≡ next
+pub cost_next : (file : List ℕ) (headers : ℕ) (style : ListingStyle) (parts most : ℕ) (p : MemberWalkState) (next : NextMember) → length file < p.at + most → next_member file style.cap p ≡ next
     → members_cost most file headers style parts p ≡ next_cost file headers style parts p next + after_cost file headers style parts most p next
 unfolding members_cost header_cost fewer
 cost_next file headers style parts zero p next enough is =
@@ -100,21 +100,21 @@ cost_next file headers style parts (suc most) p (OneMember m) enough is =
     rw is sum
 
 -- a walk over at most so many members wrote what is listed of them, for no more than they cost, and answers whether one was refused
-abbrev pub WalksMembers : (alone : Bool) → List ℕ → ℕ → Style → (parts most : ℕ) → MemberWalkState → (a b : CountedState) → (old new : OutState) → Result Bool RunFault → Type 0
+abbrev pub WalksMembers : (alone : Bool) → List ℕ → ℕ → ListingStyle → (parts most : ℕ) → MemberWalkState → (a b : CountedState) → (old new : OutState) → Result Bool RunFault → Type 0
 WalksMembers alone file headers style parts most p a b old new result =
-    Consumes a b new result (members_cost most file headers style parts p)
+    ReadsAtMostIn a b new result (members_cost most file headers style parts p)
     × ListsMembers old new result (walk_items alone file headers style parts (members_from most file style.cap p))
     (list_any (is_refused file headers style parts) (members_from most file style.cap p).members)
 
 -- over all members of an archive
-pub of_members : (alone : Bool) (file : List ℕ) (headers : ℕ) (style : Style) (parts : ℕ) (a b : CountedState) (old new : OutState) (result : Result Bool RunFault)
+pub of_members : (alone : Bool) (file : List ℕ) (headers : ℕ) (style : ListingStyle) (parts : ℕ) (a b : CountedState) (old new : OutState) (result : Result Bool RunFault)
     → WalksMembers alone file headers style parts (length file) before_members a b old new result
     → ListsMembers old new result (walk_items alone file headers style parts (members_of file style.cap)) (any_refused file headers style parts)
 unfolding members_of
 of_members alone file headers style parts a b old new result walks = walks.1
 
 -- what a walk has listed so far, what is left, and what that costs
-pub record WalkSoFar (alone : Bool) (file : List ℕ) (headers : ℕ) (style : Style) (parts first : ℕ) (start p : MemberWalkState) (a b : CountedState) (old new : OutState) (any : Bool) : Type 0 where
+pub record WalkSoFar (alone : Bool) (file : List ℕ) (headers : ℕ) (style : ListingStyle) (parts first : ℕ) (start p : MemberWalkState) (a b : CountedState) (old new : OutState) (any : Bool) : Type 0 where
   pub most : ℕ
   pub enough : length file < p.at + most
   pub listed : List ListingItem
@@ -126,7 +126,7 @@ pub record WalkSoFar (alone : Bool) (file : List ℕ) (headers : ℕ) (style : S
   pub refused : list_any (is_refused file headers style parts) (members_from first file style.cap start).members
       ≡ (any || list_any (is_refused file headers style parts) (members_from most file style.cap p).members)
 
-pub walk_begins : (alone : Bool) (file : List ℕ) (headers : ℕ) (style : Style) (parts first : ℕ) (start : MemberWalkState) (a : CountedState) (old : OutState) → length file < start.at + first
+pub walk_begins : (alone : Bool) (file : List ℕ) (headers : ℕ) (style : ListingStyle) (parts first : ℕ) (start : MemberWalkState) (a : CountedState) (old : OutState) → length file < start.at + first
     → WalkSoFar alone file headers style parts first start start a a old old false
 walk_begins alone file headers style parts first start a old enough = record {
   most = first;
@@ -149,9 +149,9 @@ or_false true = refl
 or_false false = refl
 
 -- a member more
-pub walk_more : (alone : Bool) (file : List ℕ) (headers : ℕ) (style : Style) (parts first : ℕ) (start p q : MemberWalkState) (a b c : CountedState) (old new out : OutState) (any refused both : Bool)
+pub walk_more : (alone : Bool) (file : List ℕ) (headers : ℕ) (style : ListingStyle) (parts first : ℕ) (start p q : MemberWalkState) (a b c : CountedState) (old new out : OutState) (any refused both : Bool)
     → (any || refused) ≡ both → p.at < q.at → WalkSoFar alone file headers style parts first start p a b old new any → StepsTo file headers style parts p q (Ok (Some refused))
-    → Consumes {X = Option Bool} b c out (Ok (Some refused)) (next_cost file headers style parts p (next_member file style.cap p))
+    → ReadsAtMostIn {X = Option Bool} b c out (Ok (Some refused)) (next_cost file headers style parts p (next_member file style.cap p))
     → WroteSome {X = Option Bool} new out (Ok (Some refused)) (next_items alone file headers style parts (next_member file style.cap p))
     → WalkSoFar alone file headers style parts first start q a c old out both
 walk_more alone file headers style parts first start p q a b c old new out any refused both is_both further known steps takes text =
@@ -184,9 +184,9 @@ walk_more alone file headers style parts first start p q a b c old new out any r
     }
 
 -- the file's end
-pub walk_ends : (alone : Bool) (file : List ℕ) (headers : ℕ) (style : Style) (parts first : ℕ) (start p q : MemberWalkState) (a b c : CountedState) (old new out : OutState) (any : Bool)
+pub walk_ends : (alone : Bool) (file : List ℕ) (headers : ℕ) (style : ListingStyle) (parts first : ℕ) (start p q : MemberWalkState) (a b c : CountedState) (old new out : OutState) (any : Bool)
     → WalkSoFar alone file headers style parts first start p a b old new any → StepsTo file headers style parts p q (Ok None)
-    → Consumes {X = Option Bool} b c out (Ok None) (next_cost file headers style parts p (next_member file style.cap p))
+    → ReadsAtMostIn {X = Option Bool} b c out (Ok None) (next_cost file headers style parts p (next_member file style.cap p))
     → WroteSome {X = Option Bool} new out (Ok None) (next_items alone file headers style parts (next_member file style.cap p))
     → WalksMembers alone file headers style parts first start a c old out (Ok any)
 walk_ends alone file headers style parts first start p q a b c old new out any known steps takes text =
@@ -195,20 +195,20 @@ walk_ends alone file headers style parts first start p q a b c old new out any k
     let whole = walk_next alone file headers style parts known.most p Ends known.enough steps in
     let sum = cost_next file headers style parts known.most p Ends known.enough steps in
     let none = refused_next file headers style parts known.most p Ends known.enough steps in (
-      Consumes-then {X = Bool} a b c out (Ok any) known.spent (header_cost file style.cap p) _ (omega (arith, known.cost, sum)) known.reads (cost, tt),
+      ReadsAtMostIn-then {X = Bool} a b c out (Ok any) known.spent (header_cost file style.cap p) _ (omega (arith, known.cost, sum)) known.reads (cost, tt),
       (rw (known.left ∙ ap (λ rest. known.listed ++ rest) whole) (Whole-then known.wrote items), sym (known.refused ∙ (ap (λ more. any || more) none ∙ or_false any))),
     )
 
 -- a stop
-pub walk_stops : (alone : Bool) (file : List ℕ) (headers : ℕ) (style : Style) (parts first : ℕ) (start p : MemberWalkState) (a b c : CountedState) (old new out : OutState) (any : Bool) (stop : RunFault)
+pub walk_stops : (alone : Bool) (file : List ℕ) (headers : ℕ) (style : ListingStyle) (parts first : ℕ) (start p : MemberWalkState) (a b c : CountedState) (old new out : OutState) (any : Bool) (stop : RunFault)
     → WalkSoFar alone file headers style parts first start p a b old new any
-    → Consumes {X = Option Bool} b c out (Err stop) (next_cost file headers style parts p (next_member file style.cap p))
+    → ReadsAtMostIn {X = Option Bool} b c out (Err stop) (next_cost file headers style parts p (next_member file style.cap p))
     → WroteSome {X = Option Bool} new out (Err stop) (next_items alone file headers style parts (next_member file style.cap p))
     → WalksMembers alone file headers style parts first start a c old out (Err stop)
 walk_stops alone file headers style parts first start p a b c old new out any stop known takes text =
     let next = next_member file style.cap p in
     let whole = walk_next alone file headers style parts known.most p next known.enough refl in
     let sum = cost_next file headers style parts known.most p next known.enough refl in (
-      Consumes-then {X = Unit {0}} a b c out (Err stop) known.spent (next_cost file headers style parts p next) _ (omega (arith, known.cost, sum)) known.reads takes,
+      ReadsAtMostIn-then {X = Unit {0}} a b c out (Err stop) known.spent (next_cost file headers style parts p next) _ (omega (arith, known.cost, sum)) known.reads takes,
       (rw (known.left ∙ ap (λ rest. known.listed ++ rest) whole) (WroteUntilStop-then old new out stop known.listed _ known.wrote (WroteUntilStop-more new out stop _ _ text)), tt),
     )

@@ -4,7 +4,7 @@ use Rattle.elf_model.specs.Archive.{MemberWalkState, members_from}
 use Rattle.elf_model.specs.ArchiveCost.{archive_cost}
 use Rattle.elf_model.specs.Budget.{IsBudgetRefusal}
 use Rattle.elf_model.specs.FileLists.{archive_fault, first_fault}
-use Rattle.elf_model.specs.Style.{Style}
+use Rattle.elf_model.specs.Style.{ListingStyle}
 use Rattle.elf_model.specs.declared.causes.Refusal.{Refusal}
 use Rattle.elf_source.specs.Source.{CountedState, IsSourceFault}
 use Rattle.elf_options.specs.Permitted.{style_of}
@@ -13,7 +13,7 @@ use Rattle.elf_table.specs.declared.run_fault.RunFault.{RunFault}
 use Rattle.elf_table.specs.declared.run_fault.RunFault.TheVariants.{Refused, Source, Out}
 
 -- the first fault from where a walk over members has come to, over at most so many
-abbrev pub fault_from : List ℕ → ℕ → Style → ℕ → ℕ → MemberWalkState → Option Refusal
+abbrev pub fault_from : List ℕ → ℕ → ListingStyle → ℕ → ℕ → MemberWalkState → Option Refusal
 fault_from file headers style parts most p =
     first_fault file headers style parts (members_from most file style.cap p).members (members_from most file style.cap p).refusal
 
@@ -32,7 +32,7 @@ pub record IsOverBudget (size : ℕ) (fault : Option Refusal) : Type 0 where
   pub inside : refusal.at < size
 
 -- the fault of an archive within a budget: its own, or where its listing costs more than the budget, perhaps that
-abbrev pub IsArchiveFault : Option ℕ → List ℕ → ℕ → Style → ℕ → Option Refusal → Type 0
+abbrev pub IsArchiveFault : Option ℕ → List ℕ → ℕ → ListingStyle → ℕ → Option Refusal → Type 0
 IsArchiveFault None file headers style parts fault = fault ≡ archive_fault file headers style parts
 IsArchiveFault (Some budget) file headers style parts fault =
     (fault ≡ archive_fault file headers style parts)

@@ -8,7 +8,7 @@ use Rattle.elf_model.specs.Cost.{style_ceiling}
 use Rattle.elf_model.specs.FileLists.{placed_after}
 use Rattle.elf_model.specs.Listing.{ListingItem, Fault}
 use Rattle.elf_model.specs.Names.DisplayedName.{Whole}
-use Rattle.elf_model.specs.Style.{Style}
+use Rattle.elf_model.specs.Style.{ListingStyle}
 use Rattle.elf_model.specs.declared.causes.Refusal.{Refusal}
 use Rattle.elf_source.specs.Source.{CountedState, IsSourceFault, ExceedsBudget, ReadsUpTo}
 use Rattle.elf_source.specs.Ranges.{IsWholeRange}
@@ -46,8 +46,8 @@ StopTells old new out n (Source fault at) = IsSourceFault old.seen new.seen faul
 StopTells old new out n (Out fault) = IsOutFault out fault
 
 -- WHAT A CALL TAKES of the source: it asked for at most n bytes, and a stop says what is so
-abbrev pub Consumes : {X : Type 0} → CountedState → CountedState → OutState → Result X RunFault → ℕ → Type 0
-Consumes old new out result n = ReadsUpTo old new n × IfErr result (StopTells old new out n)
+abbrev pub ReadsAtMostIn : {X : Type 0} → CountedState → CountedState → OutState → Result X RunFault → ℕ → Type 0
+ReadsAtMostIn old new out result n = ReadsUpTo old new n × IfErr result (StopTells old new out n)
 
 -- an offset behind another one, as far as 64 bits go
 abbrev pub after_start : ℕ → ℕ → ℕ
@@ -55,11 +55,11 @@ after_start start at = min (start + at) (2 ^ 64 - 1)
 
 -- WHAT A CALL DID that goes through what an archive has, for every source: the store has as many slots, what was written stays,
 -- and no more was asked for than its ceiling; and where the file is known, what it cost and what it showed
-pub record GoesThrough {X : Type 0} (headers now : ℕ) (style : Style) (parts : ℕ) (a b : CountedState) (old new : OutState) (result : Result X RunFault) (most : ℕ → Style → ℕ) (costs : List ℕ → ℕ → Style → ℕ → ℕ) (shown : List ℕ → ℕ → Style → ℕ → Type 0) : Type 0 where
+pub record GoesThrough {X : Type 0} (headers now : ℕ) (style : ListingStyle) (parts : ℕ) (a b : CountedState) (old new : OutState) (result : Result X RunFault) (most : ℕ → ListingStyle → ℕ) (costs : List ℕ → ℕ → ListingStyle → ℕ → ℕ) (shown : List ℕ → ℕ → ListingStyle → ℕ → Type 0) : Type 0 where
   pub slots : now ≡ headers
   pub grows : OutGrows old new
-  pub ceiling : Consumes a b new result (most headers style)
-  pub cost : (file : List ℕ) → a.seen.file ≡ Some file → Consumes a b new result (costs file headers style parts)
+  pub ceiling : ReadsAtMostIn a b new result (most headers style)
+  pub cost : (file : List ℕ) → a.seen.file ≡ Some file → ReadsAtMostIn a b new result (costs file headers style parts)
   pub shows : (file : List ℕ) → a.seen.file ≡ Some file → shown file headers style parts
 
 -- a member with these data: neither what is listed behind its line nor what that costs depends on more
@@ -67,7 +67,7 @@ abbrev pub member_at : FileRange → Member
 member_at extent = record { index = 0; extent = extent; name = Whole [] }
 
 -- the same of one that goes through the listing of a member's data: its ceiling, its cost, and what it showed of the listing's items
-abbrev pub GoesThroughMember : {X : Type 0} → FileRange → (headers now : ℕ) → Style → ℕ → (a b : CountedState) → (old new : OutState) → Result X RunFault → (Style → List ListingItem → Type 0) → Type 0
+abbrev pub GoesThroughMember : {X : Type 0} → FileRange → (headers now : ℕ) → ListingStyle → ℕ → (a b : CountedState) → (old new : OutState) → Result X RunFault → (ListingStyle → List ListingItem → Type 0) → Type 0
 GoesThroughMember extent headers now style parts a b old new result shown =
     GoesThrough headers now style parts a b old new result (λ slots by. 4 + style_ceiling extent.size slots by)
     (λ file slots by which. member_cost file slots by which (member_at extent))
@@ -106,19 +106,19 @@ AnswersAfter (Err (Source fault at)) new result = result ≡ Err (Source fault a
 AnswersAfter (Err (Out fault)) new result = (now : OutFault) × (result ≡ Err (Out now)) × (now.written ≡ new.written)
 
 -- what is listed at the next place of a walk
-abbrev pub next_items : (alone : Bool) → List ℕ → ℕ → Style → ℕ → NextMember → List ListingItem
+abbrev pub next_items : (alone : Bool) → List ℕ → ℕ → ListingStyle → ℕ → NextMember → List ListingItem
 next_items alone file headers style parts Ends = []
 next_items alone file headers style parts (Broken refusal) = Fault refusal ∷ []
 next_items alone file headers style parts (OneMember member) = member_items alone file headers style parts member
 
 -- what that costs at most
-abbrev pub next_cost : List ℕ → ℕ → Style → ℕ → MemberWalkState → NextMember → ℕ
+abbrev pub next_cost : List ℕ → ℕ → ListingStyle → ℕ → MemberWalkState → NextMember → ℕ
 next_cost file headers style parts p Ends = header_cost file style.cap p
 next_cost file headers style parts p (Broken refusal) = header_cost file style.cap p
 next_cost file headers style parts p (OneMember member) = header_cost file style.cap p + member_cost file headers style parts member
 
 -- a step of a listing tells where its walk has come to, and whether the member was refused
-abbrev pub StepsTo : List ℕ → ℕ → Style → ℕ → MemberWalkState → MemberWalkState → Result (Option Bool) RunFault → Type 0
+abbrev pub StepsTo : List ℕ → ℕ → ListingStyle → ℕ → MemberWalkState → MemberWalkState → Result (Option Bool) RunFault → Type 0
 StepsTo file headers style parts old new (Ok None) = next_member file style.cap old ≡ Ends
 StepsTo file headers style parts old new (Ok (Some refused)) =
     (member : Member) × (next_member file style.cap old ≡ OneMember member) × (new ≡ behind file old member)
@@ -126,16 +126,16 @@ StepsTo file headers style parts old new (Ok (Some refused)) =
 StepsTo file headers style parts old new (Err stop) = Unit {0}
 
 -- what is kept of an allowance for the members behind a step
-abbrev pub kept_for : ℕ → ℕ → Style → MemberWalkState → Result (Option Bool) RunFault → ℕ
+abbrev pub kept_for : ℕ → ℕ → ListingStyle → MemberWalkState → Result (Option Bool) RunFault → ℕ
 kept_for size headers style new (Ok None) = 0
 kept_for size headers style new (Ok (Some refused)) = allowance (size - new.at) headers style
 kept_for size headers style new (Err stop) = 0
 
 -- what a step takes for every source
-pub record StepsWithin (headers : ℕ) (style : Style) (old new : MemberWalkState) (a b : CountedState) (out : OutState) (result : Result (Option Bool) RunFault) : Type 0 where
+pub record StepsWithin (headers : ℕ) (style : ListingStyle) (old new : MemberWalkState) (a b : CountedState) (out : OutState) (result : Result (Option Bool) RunFault) : Type 0 where
   pub bytes : ℕ
   pub within : bytes + kept_for a.seen.size headers style new result ≤ allowance (a.seen.size - old.at) headers style
-  pub takes : Consumes a b out result bytes
+  pub takes : ReadsAtMostIn a b out result bytes
 
 -- the walk behind a member stands in the source still, and further on
 abbrev pub StandsBehind : ℕ → MemberWalkState → MemberWalkState → Result (Option Bool) RunFault → Type 0
@@ -144,12 +144,12 @@ StandsBehind size old new (Ok (Some refused)) = IsMemberWalkInBounds size new ×
 StandsBehind size old new (Err stop) = Unit {0}
 
 -- A STEP OF A LISTING, of which the walk was at one place and is at another: what is next was listed
-pub record StepsListing (alone : Bool) (headers now : ℕ) (style : Style) (parts : ℕ) (p q : MemberWalkState) (a b : CountedState) (old new : OutState) (result : Result (Option Bool) RunFault) : Type 0 where
+pub record StepsListing (alone : Bool) (headers now : ℕ) (style : ListingStyle) (parts : ℕ) (p q : MemberWalkState) (a b : CountedState) (old new : OutState) (result : Result (Option Bool) RunFault) : Type 0 where
   pub slots : now ≡ headers
   pub grows : OutGrows old new
   pub stands : StandsBehind a.seen.size p q result
   pub within : StepsWithin headers style p q a b new result
-  pub cost : (file : List ℕ) → a.seen.file ≡ Some file → Consumes a b new result (next_cost file headers style parts p (next_member file style.cap p))
+  pub cost : (file : List ℕ) → a.seen.file ≡ Some file → ReadsAtMostIn a b new result (next_cost file headers style parts p (next_member file style.cap p))
   pub text : (file : List ℕ) → a.seen.file ≡ Some file → WroteSome old new result (next_items alone file headers style parts (next_member file style.cap p))
   pub steps : (file : List ℕ) → a.seen.file ≡ Some file → StepsTo file headers style parts p q result
 

@@ -15,7 +15,7 @@ use crate::magic_strings::magic;
 use crate::parts::{list_member, placed};
 use elf_record::Parts;
 use elf_source::{Counted, NullSink, Out, RangeSource, Sink, Source};
-use elf_table::{Caps, HeaderStore, NameBuf, RunFault, Style};
+use elf_table::{Caps, HeaderStore, ListingStyle, NameBuf, RunFault};
 
 /// Goes over an archive and through the listing of each member that is an ELF file, as far as `parts` has
 /// it, up to the first fault. Nothing is written. The source is a range of all bytes of the archive, with
@@ -60,7 +60,7 @@ pub fn find_fault<S: Source>(
 fn find_in_archive<S: Source, W: Sink>(
     src: &mut Counted<RangeSource<S>>,
     store: &mut HeaderStore,
-    style: Style,
+    style: ListingStyle,
     parts: Parts,
     out: &mut Out<W>,
 ) -> Result<(), RunFault>
@@ -83,7 +83,7 @@ fn find_in_archive<S: Source, W: Sink>(
 fn find_in_members<S: Source, W: Sink>(
     src: &mut Counted<RangeSource<S>>,
     store: &mut HeaderStore,
-    style: Style,
+    style: ListingStyle,
     parts: Parts,
     out: &mut Out<W>,
 ) -> Result<(), RunFault>

@@ -22,13 +22,13 @@ use elf_format::show_refusal;
 use elf_listing::show_stop;
 use elf_record::Parts;
 use elf_source::{Counted, DeferredSink, Out, RangeSource, Sink, Source};
-use elf_table::{Caps, HeaderStore, NameBuf, RunFault, Style};
+use elf_table::{Caps, HeaderStore, ListingStyle, NameBuf, RunFault};
 
 /// What is listed of members: how rows are shown, which parts of a listing, and whether their lines stand
 /// alone.
 #[derive(Clone, Copy)]
 struct MemberOptions<'n> {
-    style: Style<'n>,
+    style: ListingStyle<'n>,
     parts: Parts,
     alone: bool,
 }

@@ -11,7 +11,7 @@ use crate::member::FileRange;
 use elf_listing::list;
 use elf_record::{Cause, Parts, Refusal};
 use elf_source::{Counted, Out, RangeSource, Sink, Source};
-use elf_table::{HeaderStore, RunFault, Style};
+use elf_table::{HeaderStore, ListingStyle, RunFault};
 
 /// Lists a member that is an ELF file, where parts of a listing are asked for, and answers its listing's
 /// own refusal, with an offset of the member; the line of that is not written. The member's data are
@@ -23,7 +23,7 @@ use elf_table::{HeaderStore, RunFault, Style};
 pub(crate) fn list_member<S: Source, W: Sink>(
     src: &mut Counted<RangeSource<S>>,
     store: &mut HeaderStore,
-    style: Style,
+    style: ListingStyle,
     parts: Parts,
     extent: FileRange,
     out: &mut Out<W>,

@@ -1,17 +1,17 @@
 -- A listing of the rows of some names, by that of every row which the same bytes ask for.
 use Rattle.std.proofs.Common.{◌≡◌, ℕ, Bool, true, false, if◌then◌else◌, List, None, Some, refl, sym, ap, subst, ◌∙◌}
 use Rattle.elf_model.specs.Choice.{EveryRow}
-use Rattle.elf_model.specs.Style.{Style}
+use Rattle.elf_model.specs.Style.{ListingStyle}
 use Rattle.elf_options.specs.Names.{texts_of}
 use Rattle.elf_options.specs.NamedRows.{named_style}
 use Rattle.elf_capi.specs.Asked.{AsksListing, GivesListing, IsChosenPart, BorrowedTexts, AreLendableNames, every_row_of, has_versions_in, style_of_flags}
 use Rattle.elf_capi.specs.declared.caller_listing.CallerListing.{CallerListing}
 
 -- a style of every row is none by names
-by_flag : (by_name : Bool) (names : List (List ℕ)) (style every : Style) → every.choice ≡ EveryRow → (if by_name then named_style names style else style) ≡ every → style ≡ every
+by_flag : (by_name : Bool) (names : List (List ℕ)) (style every : ListingStyle) → every.choice ≡ EveryRow → (if by_name then named_style names style else style) ≡ every → style ≡ every
 by_flag false names style every rows same = same
 by_flag true names style every rows same =
-    let choice : (named_style names style).choice ≡ EveryRow = ap (λ (s : Style). s.choice) same ∙ rows in
+    let choice : (named_style names style).choice ≡ EveryRow = ap (λ (s : ListingStyle). s.choice) same ∙ rows in
     absurd (cc)
 
 module _ (asked : List ℕ) (every : CallerListing) (gives : GivesListing asked None (Some every)) where
@@ -19,7 +19,7 @@ module _ (asked : List ℕ) (every : CallerListing) (gives : GivesListing asked 
   every_row cap = by_flag every.by_name (texts_of every.names.now) (every_row_of every cap) (style_of_flags asked cap) refl (gives.2 cap)
 
   pub versions_are : every.versions ≡ has_versions_in asked
-  versions_are = ap (λ (s : Style). s.versions) (every_row 0)
+  versions_are = ap (λ (s : ListingStyle). s.versions) (every_row 0)
 
   pub no_part : (names : BorrowedTexts) → (IsChosenPart every.parts.0 → ⊥) → AsksListing asked (Some names) → ⊥
   no_part names none asks = none (subst IsChosenPart (sym gives.1) asks.1.0)

@@ -8,7 +8,7 @@ use Rattle.elf_model.specs.Records.{section_at}
 use Rattle.elf_model.specs.Tables.{linked_at, strings_of}
 use Rattle.elf_model.specs.declared.causes.Cause.{Cause}
 use Rattle.elf_model.specs.declared.causes.Refusal.{Refusal}
-use Rattle.elf_model.specs.declared.missing.Missing.{Missing}
+use Rattle.elf_model.specs.declared.missing.MissingAddress.{MissingAddress}
 use Rattle.elf_model.proofs.NameLaws.{shown_cut, shown_whole}
 use Rattle.elf_model.specs.Budget.{IsBudgetRefusal}
 use Rattle.elf_model.specs.Checks.{first_refusal, header_checks, load_checks}
@@ -46,7 +46,7 @@ told_few : (strings : List ℕ) (index : ℕ) (name : DisplayedName) → resolve
 unfolding resolved_symbol_name
 told_few strings index name e = few_by strings index (index == 0) name e
 
-with_few : (missed : Missing) (told : Result DisplayedName Cause) (lack : MissingEntry) → ((name : DisplayedName) → told ≡ Ok name → AreFew name) → lack_with missed told ≡ Some lack → AreFew lack.name
+with_few : (missed : MissingAddress) (told : Result DisplayedName Cause) (lack : MissingEntry) → ((name : DisplayedName) → told ≡ Ok name → AreFew name) → lack_with missed told ≡ Some lack → AreFew lack.name
 with_few missed (Ok name) lack few is = let same : name ≡ lack.name = ap (λ (o : Option MissingEntry). name_of name o) is in rw (← same) (few name refl)
   where
     name_of : DisplayedName → Option MissingEntry → DisplayedName
@@ -54,7 +54,7 @@ with_few missed (Ok name) lack few is = let same : name ≡ lack.name = ap (λ (
     name_of none (Some l) = l.name
 with_few missed (Err cause) lack few is = absurd (cc)
 
-lack_few : (file : List ℕ) (header : ℕ) (missed : Option Missing) (lack : MissingEntry) → lack_of file header missed ≡ Some lack → AreFew lack.name
+lack_few : (file : List ℕ) (header : ℕ) (missed : Option MissingAddress) (lack : MissingEntry) → lack_of file header missed ≡ Some lack → AreFew lack.name
 unfolding lack_of
 lack_few file header None lack is = absurd (cc)
 lack_few file header (Some missed) lack is =
@@ -73,7 +73,7 @@ unfolding explained
 explained_few file section layout refusal lack is = lack_by_few file section layout refusal (refused_in file section refusal.at) lack is
 
 -- the bytes of a symbol's name that are told are few
-pub few_told : (file : List ℕ) (section : ℕ) (layout : Layout) (refusal : Refusal) (missed : Missing) (end : NameEnd) (name : List ℕ)
+pub few_told : (file : List ℕ) (section : ℕ) (layout : Layout) (refusal : Refusal) (missed : MissingAddress) (end : NameEnd) (name : List ℕ)
     → lack_as name (Some (missed, end)) ≡ explained file section layout refusal → length name ≤ 255
 few_told file section layout refusal missed IsWhole name is = explained_few file section layout refusal _ (sym is)
 few_told file section layout refusal missed IsCut name is = explained_few file section layout refusal _ (sym is)

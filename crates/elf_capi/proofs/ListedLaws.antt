@@ -6,7 +6,7 @@ use Rattle.elf_model.specs.Numbers.{DT_NULL}
 use Rattle.elf_model.specs.Records.{d_tag, e_shnum, section_at}
 use Rattle.elf_model.specs.declared.causes.Refusal.{Refusal}
 use Rattle.elf_model.proofs.DynamicLaws.{counted_is_listed}
-use Rattle.elf_table.specs.Tables.{Rows as Table, StringTableRange}
+use Rattle.elf_table.specs.Tables.{TableRange as Table, StringTableRange}
 use Rattle.elf_capi.specs.DynamicTables.{IsDynamicTable}
 use Rattle.elf_capi.specs.ListedEntries.{ListsWithin, ReadsListed, all_listed}
 use Rattle.elf_capi.specs.LoadRefused.{load_refused}

@@ -8,8 +8,8 @@ use Rattle.elf_model.specs.Versions.{VisitedRecord, RecordCursorState, Versions,
 use Rattle.elf_model.specs.declared.causes.Cause.TheVariants.{VersionCut}
 use Rattle.elf_model.specs.declared.versions.VersionKind.{VersionKind}
 use Rattle.elf_model.specs.declared.versions.VersionKind.TheVariants.{Definition, File, Need}
-use Rattle.elf_table.specs.Tables.{Rows}
-use Rattle.elf_note.specs.Reading.{Fits, VersionCursorState, record_position_of, versions_left}
+use Rattle.elf_table.specs.Tables.{TableRange}
+use Rattle.elf_note.specs.Reading.{IsPositionInTable, VersionCursorState, record_position_of, versions_left}
 use Rattle.elf_note.specs.declared.record_position.RecordPosition.{RecordPosition}
 use Rattle.elf_note.proofs.LeftLaws.{cut-here}
 use Rattle.elf_capi.specs.VersionRecords.{GoesOnTo, bytes_within, kind_number, records_left, stand_as, standing_in}
@@ -92,7 +92,7 @@ ended old = record (old) { left = old.left - 1; kind = 0 }
 -- WHAT IS LEFT where a walk goes on, as the numbers have it
 pub goes_on : (file : List ℕ) (old new : VersionRecordPosition) (stand : RecordCursorState) (next : Option RecordPosition) (each : ℕ) → bytes_within (length file) old < 2 ^ 64
     → stand.place + record_size stand.kind ≤ bytes_within (length file) old → (stand.kind ≡ Need → stand.owner + 16 ≤ bytes_within (length file) old)
-    → option_map record_position_of next ≡ next_position file old.at stand → IfSome next (Fits (bytes_within (length file) old) each) → GoesOnTo old new next
+    → option_map record_position_of next ≡ next_position file old.at stand → IfSome next (IsPositionInTable (bytes_within (length file) old) each) → GoesOnTo old new next
     → records_left file new ≡ visited_from file old.at (bytes_within (length file) old) (option_map record_position_of next) (old.left - 1)
 goes_on file old new stand None each few fits its leads all is = ap (records_left file) is
 goes_on file old new stand (Some s) each few fits its leads all is =
@@ -104,7 +104,7 @@ goes_on file old new stand (Some s) each few fits its leads all is =
     ∙ same_past file old.at size (old.left - 1) s.place s.from s.owner s.kind few
 
 -- what a cursor leaves that goes on by the numbers
-pub left_is : (file : List ℕ) (records : VersionRecordPosition) (table : Rows) (standing : Option RecordPosition) (c : VersionCursorState) → table.at ≡ records.at → table.count ≡ bytes_within (length file) records
+pub left_is : (file : List ℕ) (records : VersionRecordPosition) (table : TableRange) (standing : Option RecordPosition) (c : VersionCursorState) → table.at ≡ records.at → table.count ≡ bytes_within (length file) records
     → option_map record_position_of standing ≡ standing_in table.count records → c.held.table ≡ table → c.standing ≡ standing → c.left ≡ records.left
     → versions_left file c ≡ records_left file records
 left_is file records table standing c at count stands its its_standing left =

@@ -1,6 +1,6 @@
 -- What a loader's lookup in a file in memory finds.
 use Rattle.std.proofs.Common.{◌≡◌, ℕ, List, Option, Err, arith}
-use Rattle.elf_model.specs.Loader.{Wanted}
+use Rattle.elf_model.specs.Loader.{SymbolQuery}
 use Rattle.elf_model.specs.LoaderFind.{loader_cost}
 use Rattle.elf_model.specs.declared.causes.Refusal.{Refusal}
 use Rattle.elf_source.specs.Source.{CountedState, SetsLimit}
@@ -10,7 +10,7 @@ use Rattle.elf_capi.specs.Resolved.{ResolvesIn}
 use Rattle.elf_capi.proofs.BudgetLaws.{wanting}
 
 -- a refusal is the lookup's own, or the budget is less than it costs
-pub resolve_refused : (file : List ℕ) (headers size : ℕ) (wanted : Wanted) (told : List ℕ) (budget : Option ℕ) (s0 s1 s2 : CountedState) (refusal : Refusal) → SetsLimit s0 s1 budget → s0.asked ≡ 0
+pub resolve_refused : (file : List ℕ) (headers size : ℕ) (wanted : SymbolQuery) (told : List ℕ) (budget : Option ℕ) (s0 s1 s2 : CountedState) (refusal : Refusal) → SetsLimit s0 s1 budget → s0.asked ≡ 0
     → size ≡ s1.seen.size → LooksUp file headers wanted told s1 s2 (Err (Refuses refusal)) → ResolvesIn file headers budget size wanted told (Err refusal)
 resolve_refused file headers size wanted told budget s0 s1 s2 refusal set first sized looks = (
   looks.tells,

@@ -8,7 +8,7 @@ use Rattle.elf_model.specs.Archive.{are_all}
 use Rattle.elf_model.specs.Bytes.{field}
 use Rattle.elf_model.specs.Choice.{EveryRow}
 use Rattle.elf_model.specs.Listing.{RELOCS, SYMBOLS, VERSIONS, all_parts, has}
-use Rattle.elf_model.specs.Style.{Style}
+use Rattle.elf_model.specs.Style.{ListingStyle}
 use Rattle.elf_model.specs.declared.formats.Format.{Format}
 use Rattle.elf_model.specs.declared.formats.Format.TheVariants.{Columns, Object}
 use Rattle.elf_options.specs.Names.{NeverDescend, texts_of}
@@ -40,7 +40,7 @@ format_in flags = if has flags 8 then Object else Columns
 
 -- HOW ROWS ARE SHOWN, with so many bytes of a name: by the flags, of which one of 1 asks for tables by the program headers; every
 -- row is
-abbrev pub style_of_flags : List ℕ → ℕ → Style
+abbrev pub style_of_flags : List ℕ → ℕ → ListingStyle
 style_of_flags asked cap = record {
   cap = cap;
   gnu = is_gnu_in asked;
@@ -51,7 +51,7 @@ style_of_flags asked cap = record {
 }
 
 -- the same, or where there are names those rows alone whose name is one of them
-abbrev pub style_in : List ℕ → Option BorrowedTexts → ℕ → Style
+abbrev pub style_in : List ℕ → Option BorrowedTexts → ℕ → ListingStyle
 style_in asked None cap = style_of_flags asked cap
 style_in asked (Some names) cap = named_style (texts_of names) (style_of_flags asked cap)
 
@@ -89,7 +89,7 @@ abbrev pub AsksListing : List ℕ → Option BorrowedTexts → Type 0
 AsksListing asked names = AsksStyled asked × ChoosesBy asked names
 
 -- how rows of a listing are shown, with so many bytes of a name
-abbrev pub every_row_of : CallerListing → ℕ → Style
+abbrev pub every_row_of : CallerListing → ℕ → ListingStyle
 every_row_of listing cap = record {
   cap = cap;
   gnu = listing.gnu;
@@ -99,7 +99,7 @@ every_row_of listing cap = record {
   versions = listing.versions;
 }
 
-abbrev pub caller_style : CallerListing → ℕ → Style
+abbrev pub caller_style : CallerListing → ℕ → ListingStyle
 caller_style listing cap =
     if listing.by_name then named_style (texts_of listing.names.now) (every_row_of listing cap) else every_row_of listing cap
 

@@ -12,7 +12,7 @@ use Rattle.elf_capi.specs.Limits.{AreInRange, budget_of, headers_of}
 use Rattle.elf_capi.specs.Symbols.{HasFields}
 use Rattle.elf_capi.specs.declared.symbol.Symbol.{Symbol}
 use Rattle.elf_capi.specs.Wants.{IsWanting}
-use Rattle.elf_capi.specs.declared.end.End.{End}
+use Rattle.elf_capi.specs.declared.end.CallEnd.{CallEnd}
 use Rattle.elf_capi.specs.declared.found.LookupFields.{LookupFields}
 use Rattle.elf_capi.specs.declared.limits.CallerLimits.{CallerLimits}
 
@@ -49,7 +49,7 @@ CallLooks file limits room name asked None = (MayLook limits room name → ⊥) 
 CallLooks file limits room name asked (Some looked) = MayLook limits room name × LooksIn file (headers_of limits room) (budget_of limits) name looked
 
 -- what is told as numbers
-abbrev pub ReturnsLooked : ℕ → LookupFields → End → Option (Result Lookup Refusal) → Type 0
+abbrev pub ReturnsLooked : ℕ → LookupFields → CallEnd → Option (Result Lookup Refusal) → Type 0
 ReturnsLooked status found end (Some (Ok (Found section index symbol steps))) =
     (status ≡ 0) × (found.section ≡ section) × (found.index ≡ index) × HasFields symbol found.symbol × (found.steps ≡ steps) × (found.none ≡ 0) × (found.none_behind ≡ 0) × ReturnsNone end
 ReturnsLooked status found end (Some (Ok (Absent steps))) = (status ≡ 2) × (found ≡ nothing_after steps) × ReturnsNone end
@@ -57,7 +57,7 @@ ReturnsLooked status found end (Some (Err refusal)) = (status ≡ 1) × (found �
 ReturnsLooked status found end None = (status ≡ 4) × (found ≡ nothing_after 0) × ReturnsNone end
 
 -- WHAT A CALLER HAS of a lookup, with so many bytes of room: what it answers, as the numbers have it
-pub record HasLookup (file : List ℕ) (limits : CallerLimits) (room : ℕ) (name : List ℕ) (status : ℕ) (found : LookupFields) (end : End) : Type 0 where
+pub record HasLookup (file : List ℕ) (limits : CallerLimits) (room : ℕ) (name : List ℕ) (status : ℕ) (found : LookupFields) (end : CallEnd) : Type 0 where
   pub answer : Option (Result Lookup Refusal)
   pub looks : CallLooks file limits room name end.asked answer
   pub tells : ReturnsLooked status found end answer

@@ -2,7 +2,7 @@
 use Rattle.std.specs.Prelude.{ℕ, ◌≡◌, ◌+◌, ◌*◌, ◌<◌, List, Result, Ok, Err}
 use Rattle.elf_model.specs.Bindings.{symbols_hashed}
 use Rattle.elf_model.specs.Budget.{IsBudgetRefusal}
-use Rattle.elf_model.specs.Loader.{Symbols}
+use Rattle.elf_model.specs.Loader.{DynamicSymbols}
 use Rattle.elf_model.specs.LoaderScope.{lookup_tables_of}
 use Rattle.elf_model.specs.declared.causes.Refusal.{Refusal}
 use Rattle.elf_source.specs.Source.{CountedState}
@@ -16,7 +16,7 @@ use Rattle.elf_capi.specs.declared.rows.RowPosition.{RowPosition}
 
 -- THE SYMBOLS THAT A LOADER KNOWS of a file, and how many there are by its hash table; or the first refusal: of what a lookup is
 -- made in, or of the counts of the table
-abbrev pub hashed_of : List ℕ → (headers : ℕ) → Result (Symbols × ℕ) Refusal
+abbrev pub hashed_of : List ℕ → (headers : ℕ) → Result (DynamicSymbols × ℕ) Refusal
 hashed_of file headers = elim (lookup_tables_of file headers) [
   | Err refusal ↦ Err refusal
   | Ok scope ↦ elim (symbols_hashed file scope) [ Err refusal ↦ Err refusal | Ok count ↦ Ok (scope.symbols, count) ]
@@ -27,7 +27,7 @@ abbrev pub hashed_cost : List ℕ → (headers : ℕ) → ℕ
 hashed_cost file headers = scope_cost file headers + elim (lookup_tables_of file headers) [ Err refusal ↦ 0 | Ok scope ↦ 16 + extent_bytes file scope ]
 
 -- a place before the first of so many symbols, with their string table; that of no symbol is not looked at
-pub record PlacesHashed (file : List ℕ) (symbols : Symbols) (count : ℕ) (rows : RowPosition) : Type 0 where
+pub record PlacesHashed (file : List ℕ) (symbols : DynamicSymbols) (count : ℕ) (rows : RowPosition) : Type 0 where
   pub at : rows.at ≡ symbols.place
   pub counted : rows.count ≡ count
   pub first : rows.index ≡ 0
@@ -36,7 +36,7 @@ pub record PlacesHashed (file : List ℕ) (symbols : Symbols) (count : ℕ) (row
 
 -- they are told, or the refusal, unless that is for want of budget
 abbrev pub ReturnsHashedRows : List ℕ → (headers : ℕ) → Result RowPosition Fault → Type 0
-ReturnsHashedRows file headers (Ok rows) = (symbols : Symbols) × (count : ℕ) × (hashed_of file headers ≡ Ok (symbols, count)) × PlacesHashed file symbols count rows
+ReturnsHashedRows file headers (Ok rows) = (symbols : DynamicSymbols) × (count : ℕ) × (hashed_of file headers ≡ Ok (symbols, count)) × PlacesHashed file symbols count rows
 ReturnsHashedRows file headers (Err (Refused refusal)) = (IsBudgetRefusal refusal → ⊥) → hashed_of file headers ≡ Err refusal
 ReturnsHashedRows file headers (Err (Source fault at)) = Unit {0}
 

@@ -9,7 +9,7 @@ use Rattle.elf_capi.specs.declared.rows.RowPosition.{RowPosition}
 use Rattle.elf_capi.specs.Limits.{AreInRange, budget_of, headers_of}
 use Rattle.elf_capi.specs.Ends.{IsOpenedTable}
 use Rattle.elf_capi.specs.Wants.{IsWanting}
-use Rattle.elf_capi.specs.declared.end.End.{End}
+use Rattle.elf_capi.specs.declared.end.CallEnd.{CallEnd}
 use Rattle.elf_capi.specs.declared.limits.CallerLimits.{CallerLimits}
 
 -- such symbols within a budget, in a file of so many bytes: a place before the first; or the refusal, which comes for want of budget
@@ -36,10 +36,10 @@ OpensHashed file limits room flags (Some read) =
 
 -- WHAT A CALLER HAS of these symbols, with so many bytes of room: what was opened, as the numbers have it, beside which they tell how
 -- many bytes were asked for
-pub record HasHashed (file : List ℕ) (limits : CallerLimits) (room flags status : ℕ) (old new : RowPosition) (end : End) : Type 0 where
+pub record HasHashed (file : List ℕ) (limits : CallerLimits) (room flags status : ℕ) (old new : RowPosition) (end : CallEnd) : Type 0 where
   pub opened : Option (Result (Option RowPosition) Refusal)
   pub opens : OpensHashed file limits room flags opened
-  pub told : End
+  pub told : CallEnd
   pub tells : IsOpenedTable status old new told opened
   pub same : (end.cause ≡ told.cause) × (end.at ≡ told.at) × (end.written ≡ told.written) × (end.none ≡ told.none)
   pub cost : end.asked ≤ hashed_cost (by_flags flags file) (headers_of limits room)

@@ -19,12 +19,12 @@ use Rattle.elf_layout.specs.declared.addresses.BorrowedLayout.{BorrowedLayout}
 use Rattle.elf_capi.specs.Applied.{AppliesFor}
 use Rattle.elf_capi.specs.Limits.{AreInRange, budget_of, headers_of}
 use Rattle.elf_capi.specs.Told.{IsStatus, Untouched}
-use Rattle.elf_capi.specs.declared.end.End.{End}
+use Rattle.elf_capi.specs.declared.end.CallEnd.{CallEnd}
 use Rattle.elf_capi.specs.declared.lent_layout.CallerLayout.{CallerLayout}
 use Rattle.elf_capi.specs.declared.limits.CallerLimits.{CallerLimits}
 use Rattle.elf_capi.specs.declared.missing.CallerMissing.{CallerMissing}
-use Rattle.elf_capi.specs.declared.call_status.Told.{Told}
-use Rattle.elf_capi.specs.declared.call_status.Told.TheVariants.{Refused, BadCall}
+use Rattle.elf_capi.specs.declared.call_status.CallStatus.{CallStatus}
+use Rattle.elf_capi.specs.declared.call_status.CallStatus.TheVariants.{Refused, BadCall}
 
 -- A LAYOUT MAY BE LENT: the indices of its sections rise, and of each sort its names are such as an item may have, and rise
 pub record MayBorrowLayout (layout : CallerLayout) : Type 0 where
@@ -93,14 +93,14 @@ ExplainsRefusal file headers budget section layout asked refusal missing =
     ⊎ (ReturnsMissing missing None × CannotBeKnown file headers budget asked)
 
 -- the same of a call: where it was not refused nothing is missing
-abbrev pub ExplainsTold : List ℕ → (headers : ℕ) → Option ℕ → (section : ℕ) → Layout → (cost : ℕ) → Told → CallerMissing → Type 0
+abbrev pub ExplainsTold : List ℕ → (headers : ℕ) → Option ℕ → (section : ℕ) → Layout → (cost : ℕ) → CallStatus → CallerMissing → Type 0
 ExplainsTold file headers budget section layout cost (Refused refusal) missing =
     (asked : ℕ) × (asked ≤ cost) × ExplainsRefusal file headers budget section layout asked refusal missing
 ExplainsTold file headers budget section layout cost _ missing = ReturnsMissing missing None
 
 -- what a call did with its arguments: within the cost and the budget it gives the section for the layout that is lent, and where
 -- it is refused what that lacks
-pub record Places (file : List ℕ) (limits : CallerLimits) (section : ℕ) (layout : CallerLayout) (room : ℕ) (out : List ℕ) (end : End) (missing : CallerMissing) (told : Told) : Type 0 where
+pub record Places (file : List ℕ) (limits : CallerLimits) (section : ℕ) (layout : CallerLayout) (room : ℕ) (out : List ℕ) (end : CallEnd) (missing : CallerMissing) (told : CallStatus) : Type 0 where
   pub permitted : AreInRange limits room
   pub lent : MayBorrowLayout layout
   pub applies : AppliesFor file (headers_of limits room) (budget_of limits) section (lent_layout layout) out end.written told
@@ -110,20 +110,20 @@ pub record Places (file : List ℕ) (limits : CallerLimits) (section : ℕ) (lay
   pub budget : IfSome (budget_of limits) (λ bytes. end.asked ≤ bytes)
 
 -- or its arguments are outside their ranges, and nothing is asked for and written
-abbrev pub PlacesInMemory : List ℕ → CallerLimits → ℕ → CallerLayout → ℕ → List ℕ → List ℕ → End → CallerMissing → Told → Type 0
+abbrev pub PlacesInMemory : List ℕ → CallerLimits → ℕ → CallerLayout → ℕ → List ℕ → List ℕ → CallEnd → CallerMissing → CallStatus → Type 0
 PlacesInMemory file limits section layout room before out end missing BadCall =
     (AreInRange limits room → MayBorrowLayout layout → ⊥) × Untouched before out end × ReturnsMissing missing None
 PlacesInMemory file limits section layout room before out end missing told = Places file limits section layout room out end missing told
 
 -- no byte of a section that is refused counts as written
-abbrev pub CountsWritten : End → Told → Type 0
+abbrev pub CountsWritten : CallEnd → CallStatus → Type 0
 CountsWritten end (Refused refusal) = end.written ≡ 0
 CountsWritten end _ = Unit {0}
 
 -- WHAT A CALLER HAS of a section in a layout that is lent, with so many bytes of room: what was told, as the memory and the
 -- numbers have it
-pub record IsPlaced (file : List ℕ) (limits : CallerLimits) (section : ℕ) (layout : CallerLayout) (room status : ℕ) (before out : List ℕ) (missing : CallerMissing) (end : End) : Type 0 where
-  pub told : Told
+pub record IsPlaced (file : List ℕ) (limits : CallerLimits) (section : ℕ) (layout : CallerLayout) (room status : ℕ) (before out : List ℕ) (missing : CallerMissing) (end : CallEnd) : Type 0 where
+  pub told : CallStatus
   pub places : PlacesInMemory file limits section layout room before out end missing told
   pub status_is : IsStatus status end told
   pub written : CountsWritten end told

@@ -1,6 +1,6 @@
 -- What a caller looks up as a loader does.
 use Rattle.std.specs.Prelude.{ℕ, ◌<◌, ◌≤◌, ◌%◌, ◌==◌, nat_lt, if◌then◌else◌, Bool, List, length}
-use Rattle.elf_model.specs.Loader.{Asked, NoVersion, Version, DefaultVersion, Wanted}
+use Rattle.elf_model.specs.Loader.{VersionQuery, NoVersion, Version, DefaultVersion, SymbolQuery}
 use Rattle.elf_capi.specs.declared.query.Query.{Query}
 
 -- WHAT A CALLER ASKS FOR: how it is looked up, a name, and the name of a version
@@ -23,10 +23,10 @@ abbrev pub goes_by_segments : ℕ → Bool
 goes_by_segments flags = flags % 2 == 1
 
 -- the version that is asked for: none by a name of no bytes
-abbrev pub asked_version : ℕ → List ℕ → Asked
+abbrev pub asked_version : ℕ → List ℕ → VersionQuery
 asked_version flags version =
     if length version == 0 then NoVersion else if nat_lt flags 2 then Version version else DefaultVersion version
 
 -- what is wanted
-abbrev pub wanted_by : QueryAsked → Wanted
+abbrev pub wanted_by : QueryAsked → SymbolQuery
 wanted_by asks = record { name = asks.name; asked = asked_version asks.flags asks.version }

@@ -9,7 +9,7 @@ use Rattle.elf_loader.specs.declared.lookup.SymbolLookup.{SymbolLookup}
 use Rattle.elf_loader.specs.declared.lookup.SymbolLookup.TheVariants.{Found, Absent}
 use Rattle.elf_model.specs.Budget.{IsBudgetRefusal}
 use Rattle.elf_model.specs.Hash.{Refused}
-use Rattle.elf_model.specs.Loader.{Wanted, is_hidden}
+use Rattle.elf_model.specs.Loader.{SymbolQuery, is_hidden}
 use Rattle.elf_model.specs.LoaderFind.{loader_cost, loader_looked}
 use Rattle.elf_model.specs.Style.{looked_at}
 use Rattle.elf_model.specs.Versions.{number_in}
@@ -22,7 +22,7 @@ use Rattle.elf_capi.specs.Ends.{ReturnsCause, ReturnsNone}
 use Rattle.elf_capi.specs.Limits.{AreInRange, budget_of, headers_of}
 use Rattle.elf_capi.specs.Queries.{QueryAsked, IsPermitted, goes_by_segments, wanted_by}
 use Rattle.elf_capi.specs.Wants.{IsWanting}
-use Rattle.elf_capi.specs.declared.end.End.{End}
+use Rattle.elf_capi.specs.declared.end.CallEnd.{CallEnd}
 use Rattle.elf_capi.specs.declared.limits.CallerLimits.{CallerLimits}
 use Rattle.elf_capi.specs.declared.resolved.Resolved.{Resolved}
 
@@ -49,7 +49,7 @@ file_of asks file = looked_at (goes_by_segments asks.flags) file
 
 -- a lookup within a budget, in a file of so many bytes and with so many headers permitted: its answer, with the name of a version
 -- in these bytes; or its refusal, unless that is for want of budget, which comes only where the lookup costs more
-abbrev pub ResolvesIn : List ℕ → ℕ → Option ℕ → ℕ → Wanted → List ℕ → Result SymbolLookup Refusal → Type 0
+abbrev pub ResolvesIn : List ℕ → ℕ → Option ℕ → ℕ → SymbolQuery → List ℕ → Result SymbolLookup Refusal → Type 0
 ResolvesIn file headers budget size wanted told (Ok lookup) =
     AnswersLoaderLookup file wanted.asked told (loader_looked file headers wanted) lookup
 ResolvesIn file headers budget size wanted told (Err refusal) =
@@ -101,7 +101,7 @@ ReturnsFoundVersion resolved told (Some version) =
     × ReturnsName resolved version.name_at told version.name
 
 -- what is told as numbers
-abbrev pub ReturnsResolved : ℕ → Resolved → End → ℕ → Option (Result SymbolLookup Refusal) → Type 0
+abbrev pub ReturnsResolved : ℕ → Resolved → CallEnd → ℕ → Option (Result SymbolLookup Refusal) → Type 0
 ReturnsResolved status resolved end told (Some (Ok (Found found))) =
     (status ≡ 0) × HasSymbol resolved found × ReturnsFoundVersion resolved told found.version × ReturnsNone end
 ReturnsResolved status resolved end told (Some (Ok (Absent tried))) = (status ≡ 2) × (resolved ≡ nothing_resolved tried) × ReturnsNone end
@@ -110,7 +110,7 @@ ReturnsResolved status resolved end told None = (status ≡ 4) × (resolved ≡ 
 
 -- WHAT A CALLER HAS of a loader's lookup, with so many bytes of room: what it answers, as the numbers have it, with what is told of
 -- the name of a version
-pub record IsResolved (file : List ℕ) (limits : CallerLimits) (room : ℕ) (asks : QueryAsked) (status : ℕ) (resolved : Resolved) (end : End) : Type 0 where
+pub record IsResolved (file : List ℕ) (limits : CallerLimits) (room : ℕ) (asks : QueryAsked) (status : ℕ) (resolved : Resolved) (end : CallEnd) : Type 0 where
   pub told : List ℕ
   pub answer : Option (Result SymbolLookup Refusal)
   pub resolves : Resolves file limits room asks told end.asked answer

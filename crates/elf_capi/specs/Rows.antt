@@ -1,6 +1,6 @@
 -- A place in a table of a file in memory, and steps over its rows.
 use Rattle.std.specs.Prelude.{ℕ, ◌≡◌, ◌+◌, ◌-◌, ◌*◌, ◌/◌, ◌==◌, min, if◌then◌else◌}
-use Rattle.elf_table.specs.Tables.{Rows as Table, StringTableRange}
+use Rattle.elf_table.specs.Tables.{TableRange as Table, StringTableRange}
 use Rattle.elf_capi.specs.declared.rows.RowPosition.{RowPosition}
 
 -- a place before the first row of a table, with its string table

@@ -10,7 +10,7 @@ use Rattle.elf_table.specs.declared.fault.Fault.{Fault}
 use Rattle.elf_table.specs.declared.fault.Fault.TheVariants.{Refused}
 use Rattle.elf_table.specs.Relocations.{AreRelocations, RefusedBy, Relocates}
 use Rattle.elf_table.specs.Sections.{symbols_at, section_names}
-use Rattle.elf_table.specs.Tables.{Rows as Table, StringTableRange}
+use Rattle.elf_table.specs.Tables.{TableRange as Table, StringTableRange}
 use Rattle.elf_capi.specs.DynamicTables.{IsDynamicTable}
 use Rattle.elf_capi.specs.ListedEntries.{all_listed}
 use Rattle.elf_capi.specs.LoadRefused.{load_refused}

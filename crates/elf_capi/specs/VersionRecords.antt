@@ -18,7 +18,7 @@ use Rattle.elf_note.specs.declared.record_position.RecordPosition.{RecordPositio
 use Rattle.elf_capi.specs.declared.record_row.RecordRow.{RecordRow}
 use Rattle.elf_capi.specs.declared.records.VersionRecordPosition.{VersionRecordPosition}
 use Rattle.elf_capi.specs.declared.rows.RowPosition.{RowPosition}
-use Rattle.elf_capi.specs.declared.version_words.VersionWord.{VersionWord}
+use Rattle.elf_capi.specs.declared.version_words.Versym.{Versym}
 
 -- the number of a kind of record: 1 a definition, 2 a needed file, 3 a version that is needed of one
 abbrev pub kind_number : VersionKind → ℕ
@@ -147,6 +147,6 @@ version_words file at = record {
 }
 
 -- the word at an offset of a file: the version's number, and whether it is hidden
-pub record IsVersionWord (file : List ℕ) (at : ℕ) (word : VersionWord) : Type 0 where
+pub record IsVersionWord (file : List ℕ) (at : ℕ) (word : Versym) : Type 0 where
   pub number : word.number ≡ number_in (versym file at)
   pub hidden : word.is_hidden ≡ if versym file at == number_in (versym file at) then 0 else 1

@@ -8,7 +8,7 @@ use Rattle.elf_capi.specs.declared.rows.RowPosition.{RowPosition}
 use Rattle.elf_capi.specs.Causes.{cause_number}
 use Rattle.elf_capi.specs.Ends.{IsOpenedTable, no_end, refused_end}
 use Rattle.elf_capi.specs.Limits.{budget_of}
-use Rattle.elf_capi.specs.declared.end.End.{End}
+use Rattle.elf_capi.specs.declared.end.CallEnd.{CallEnd}
 use Rattle.elf_capi.specs.declared.limits.CallerLimits.{CallerLimits}
 
 -- how many bytes may still be read where so many were asked for: 2^64 - 1 where there is no budget
@@ -39,19 +39,19 @@ OpensEntries opens most None = opens None
 
 -- WHAT A CALL OPENS WITHIN A BUDGET, AS NUMBERS: what that opening gives, where its entries are not more than the budget has left; else
 -- a refusal for want of budget. The entries that were looked at count 16 bytes each
-pub record ReturnsEntries (opens : Option (Result (Option RowPosition) Refusal) → Type 0) (limits : CallerLimits) (asked later status : ℕ) (old new : RowPosition) (end : End) : Type 0 where
+pub record ReturnsEntries (opens : Option (Result (Option RowPosition) Refusal) → Type 0) (limits : CallerLimits) (asked later status : ℕ) (old new : RowPosition) (end : CallEnd) : Type 0 where
   pub opened : Option (Result (Option RowPosition) Refusal)
   pub is_opened : OpensEntries opens (budget_left (budget_of limits) asked / 16) opened
   pub tells : IsOpenedTable status old new end opened
   pub counts : later ≡ asked_more asked (16 * entries_looked (budget_left (budget_of limits) asked / 16) opened)
 
 -- how a step ends: where rows are left, and room for some, the budget ended it, and the refusal names the next row
-abbrev pub step_end : ℕ → ℕ → RowPosition → ℕ → End
+abbrev pub step_end : ℕ → ℕ → RowPosition → ℕ → CallEnd
 step_end size entry rows free =
     if nat_lt 0 (min (rows_left size rows entry) free) then refused_end (record { at = next_at rows entry 0; cause = Budget }) else no_end
 
 -- A STEP WITHIN A BUDGET: over as many of the next entries as there are, as there is room for, and as the budget has left, each of which counts
-pub record StepsBudgeted (size entry : ℕ) (limits : CallerLimits) (asked later : ℕ) (old new : RowPosition) (room count : ℕ) (end : End) : Type 0 where
+pub record StepsBudgeted (size entry : ℕ) (limits : CallerLimits) (asked later : ℕ) (old new : RowPosition) (room count : ℕ) (end : CallEnd) : Type 0 where
   pub steps : StepsRows size entry old new (min room (budget_left (budget_of limits) asked / entry)) count
   pub counts : later ≡ asked_more asked (entry * count)
   pub tells : end ≡ step_end size entry new (room - count)

@@ -3,13 +3,13 @@ ghost use Rattle.std.specs.Prelude.{◌≡◌};
 ghost use Rattle.elf_capi.specs.Ends.{ReturnsNone};
 ghost use Rattle.elf_capi.specs.Told.{IsStatus, status_from};
 
-use crate::end::End;
+use crate::end::CallEnd;
 use elf_record::Refusal;
 use elf_table::RunFault;
 
 /// What a call that writes to memory did.
 #[derive(Clone, Copy)]
-pub enum Told {
+pub enum CallStatus {
     /// All of it was written.
     Done,
     /// The file or what was asked of it is refused, or the read budget is used up.
@@ -22,31 +22,31 @@ pub enum Told {
 
 /// What a call did by its answer, and by whether there were more bytes than memory for them. Neither a
 /// fault of a source in memory nor one of an output that is not full comes.
-pub fn status_from<T>(answer: &Result<T, RunFault>, full: bool) -> Told
+pub fn status_from<T>(answer: &Result<T, RunFault>, full: bool) -> CallStatus
     ensures { result ≡ status_from answer.now full }
 {
     match answer {
-        _ if full => Told::Full,
-        Ok(_) => Told::Done,
-        Err(RunFault::Refused(refusal)) => Told::Refused(*refusal),
-        Err(RunFault::Source { .. } | RunFault::Out(_)) => Told::Full,
+        _ if full => CallStatus::Full,
+        Ok(_) => CallStatus::Done,
+        Err(RunFault::Refused(refusal)) => CallStatus::Refused(*refusal),
+        Err(RunFault::Source { .. } | RunFault::Out(_)) => CallStatus::Full,
     }
 }
 
 /// Tells it as numbers, and answers the status: 0, 1, 3 or 4.
-pub fn report_status(told: Told, end: &mut End) -> u32
+pub fn report_status(told: CallStatus, end: &mut CallEnd) -> u32
     requires { ReturnsNone end.old × (end.old.none ≡ 0) }
     ensures status { IsStatus result end.new told }
     ensures written { end.new.written ≡ end.old.written }
     ensures asked { end.new.asked ≡ end.old.asked }
 {
     match told {
-        Told::Done => 0,
-        Told::Refused(refusal) => {
+        CallStatus::Done => 0,
+        CallStatus::Refused(refusal) => {
             end.refuse(refusal);
             1
         }
-        Told::Full => 3,
-        Told::BadCall => 4,
+        CallStatus::Full => 3,
+        CallStatus::BadCall => 4,
     }
 }

@@ -4,7 +4,7 @@ ghost use Rattle.elf_options.specs.Names.{NeverDescend};
 use elf_model::Format;
 use elf_options::{RowFilter, style_with_names};
 use elf_record::Parts;
-use elf_table::{NameLimit, Style};
+use elf_table::{ListingStyle, NameLimit};
 
 /// A listing, as a caller asks for it: which parts it has, and how its rows are shown, but for how
 /// many bytes of a name.
@@ -51,10 +51,10 @@ impl<'n> CallerListing<'n> {
     }
 
     /// How its rows are shown, with so many bytes of a name.
-    pub fn style(self, cap: NameLimit) -> Style<'n>
+    pub fn style(self, cap: NameLimit) -> ListingStyle<'n>
         ensures { style_of result ≡ caller_style self.entry cap.bytes }
     {
-        let style = Style {
+        let style = ListingStyle {
             cap,
             gnu: self.gnu,
             by_segments: self.by_segments,

@@ -8,7 +8,7 @@ use elf_record::Refusal;
 /// How a call ended, and what it took.
 #[repr(C)]
 #[derive(Clone, Copy)]
-pub struct End {
+pub struct CallEnd {
     /// The file offset that the refusal names, in bytes; 0 where there is none.
     pub at: u64,
     /// How many bytes were written to the memory for them.
@@ -21,12 +21,12 @@ pub struct End {
     pub none: u32,
 }
 
-impl End {
+impl CallEnd {
     /// No refusal, nothing written and nothing asked for.
     pub fn clear(&mut self)
         ensures { self.new ≡ record { at = 0; written = 0; asked = 0; cause = 0; none = 0 } }
     {
-        *self = End {
+        *self = CallEnd {
             at: 0,
             written: 0,
             asked: 0,

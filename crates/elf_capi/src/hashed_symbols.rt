@@ -4,7 +4,7 @@ ghost use Rattle.elf_table.specs.Ledger.{CallDid, fault_of_result};
 ghost use Rattle.elf_capi.specs.Hashed.{FindsHashed, hashed_bytes};
 
 use crate::rows::RowPosition;
-use elf_hash::{Symbols, counts, find_lookup_tables};
+use elf_hash::{DynamicSymbols, counts, find_lookup_tables};
 use elf_record::sizes::SYMBOL_BYTES;
 use elf_source::{Counted, Source};
 use elf_table::{Fault, HeaderStore};
@@ -39,7 +39,7 @@ pub fn hashed_rows<S: Source>(
 }
 
 /// A place before the first of so many symbols.
-fn rows_of(symbols: &Symbols, count: u64) -> RowPosition
+fn rows_of(symbols: &DynamicSymbols, count: u64) -> RowPosition
     ensures { result ≡ record {
       at = symbols.now.table.at;
       count = count;

@@ -14,7 +14,7 @@ use crate::held::MemoryFile;
 use elf_record::Cause;
 use elf_record::sizes::{DYNAMIC_BYTES, RELOCATION_BYTES, SYMBOL_BYTES, SYMBOL_VERSION_BYTES};
 use elf_table::{
-    Fault, Names, Table, checked_strings, checked_table, ends_outside, holds_symbols, refused,
+    Fault, Names, Table, checked_strings, checked_table, holds_symbols, is_out_of_bounds, refused,
 };
 
 impl MemoryFile<'_> {
@@ -179,7 +179,7 @@ impl MemoryFile<'_> {
         if header.sh_size == 0 {
             return Ok(Names::new(0, 0));
         }
-        if ends_outside(self.size(), header.sh_offset, header.sh_size) {
+        if is_out_of_bounds(self.size(), header.sh_offset, header.sh_size) {
             return refused(self.place(section), Cause::TableOutside);
         }
         self.strings(section)

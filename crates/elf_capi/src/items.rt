@@ -39,7 +39,7 @@ pub struct CallerItem<'a> {
 /// A section, and the addresses at which it and what it refers to are to lie, as a caller says it.
 #[repr(C)]
 #[derive(Clone, Copy)]
-pub struct Job<'a> {
+pub struct ApplyCall<'a> {
     /// The addresses: of at most 64 sections, 32 definitions and 32 entries of each kind, none twice.
     pub items: &'a [CallerItem<'a>],
     /// The index of the section, up to 65,535.

@@ -4,7 +4,7 @@ ghost use Rattle.elf_model.specs.Cost.{listing_cost};
 ghost use Rattle.elf_options.specs.Permitted.{style_of};
 ghost use Rattle.elf_capi.specs.Shown.{ListsInMemory};
 
-use crate::call_status::{Told, status_from};
+use crate::call_status::{CallStatus, status_from};
 use crate::lent_sink::ProbeSink;
 use elf_listing::show;
 use elf_record::Parts;
@@ -14,7 +14,7 @@ use elf_table::{Caps, HeaderStore};
 /// What a call that writes to memory did, and how many bytes of the file it asked for.
 #[derive(Clone, Copy)]
 pub struct CallOutcome {
-    pub told: Told,
+    pub told: CallStatus,
     pub asked: u128,
 }
 

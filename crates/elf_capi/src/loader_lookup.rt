@@ -6,7 +6,7 @@ ghost use Rattle.elf_capi.specs.Queries.{IsPermitted, asks_of, wanted_by};
 ghost use Rattle.elf_capi.specs.Resolved.{ResolvesIn, ReturnsResolved, file_of, nothing_resolved};
 
 use crate::counts::short;
-use crate::end::End;
+use crate::end::CallEnd;
 use crate::query::Query;
 use crate::resolved::Resolved;
 use elf_loader::{SymbolLookup, look_up};
@@ -52,7 +52,7 @@ pub fn report_resolved(
     answer: &Option<Result<SymbolLookup, Refusal>>,
     told: u64,
     resolved: &mut Resolved,
-    end: &mut End,
+    end: &mut CallEnd,
 ) -> u32
     requires nothing { resolved.old ≡ nothing_resolved 0 }
     requires none { ReturnsNone end.old }

@@ -5,7 +5,7 @@ ghost use Rattle.elf_capi.specs.Ends.{ReturnsNone};
 ghost use Rattle.elf_capi.specs.Found.{LooksIn, ReturnsLooked, nothing_after};
 
 use crate::counts::short;
-use crate::end::End;
+use crate::end::CallEnd;
 use crate::found::LookupFields;
 use crate::symbol::Symbol;
 use elf_hash::{Lookup, find};
@@ -46,7 +46,7 @@ pub fn look_in(
 pub fn report_found(
     looked: &Option<Result<Lookup, Refusal>>,
     found: &mut LookupFields,
-    end: &mut End,
+    end: &mut CallEnd,
 ) -> u32
     requires nothing { found.old ≡ nothing_after 0 }
     requires none { ReturnsNone end.old }

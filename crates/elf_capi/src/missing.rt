@@ -4,7 +4,7 @@ ghost use Rattle.elf_reloc.specs.Explained.{lack_as};
 ghost use Rattle.elf_capi.specs.LentLayouts.{ReturnsMissing, helpful, apply_input_of};
 ghost use Rattle.elf_capi.specs.Resolved.{cut_number};
 
-use elf_model::{LayoutAddress, Missing, RelocationBase};
+use elf_model::{LayoutAddress, MissingAddress, RelocationBase};
 use elf_table::NameEnd;
 
 /// What a layout lacks where a section was refused; all 0 where no address would help.
@@ -43,7 +43,7 @@ impl CallerMissing {
     }
 
     /// Tells what is missing, with the bytes of the symbol's name.
-    pub fn tell(&mut self, missing: &Missing, end: NameEnd, name: &[u8])
+    pub fn tell(&mut self, missing: &MissingAddress, end: NameEnd, name: &[u8])
         requires { length name.now ≤ 256 }
         ensures { ReturnsMissing self.new (lack_as name.now (Some (missing.now, end))) }
     {

@@ -7,9 +7,9 @@ ghost use Rattle.elf_capi.specs.Ends.{no_end};
 ghost use Rattle.elf_capi.specs.LentLayouts.{CountsWritten, ExplainsRefusal, ExplainsTold};
 
 use crate::applied::{ApplyInput, write_section};
-use crate::call_status::Told;
+use crate::call_status::CallStatus;
 use crate::counts::short;
-use crate::end::End;
+use crate::end::CallEnd;
 use crate::listing::CallOutcome;
 use crate::missing::CallerMissing;
 use elf_record::Refusal;
@@ -25,8 +25,8 @@ pub fn place_section(
     wanted: &ApplyInput<'_>,
     out: &mut [u8],
     missing: &mut CallerMissing,
-    end: &mut End,
-) -> Told
+    end: &mut CallEnd,
+) -> CallStatus
     requires { end.old ≡ no_end }
     ensures applies { AppliesFor file.now store.old.slots wanted.now.budget wanted.now.section
         wanted.now.layout.now out.new end.new.written result }
@@ -41,14 +41,14 @@ pub fn place_section(
     ensures clear { (end.new.cause ≡ 0) × (end.new.at ≡ 0) × (end.new.none ≡ 0) }
 {
     let mut outcome = CallOutcome {
-        told: Told::BadCall,
+        told: CallStatus::BadCall,
         asked: 0,
     };
     let written = write_section(file, store, wanted, out, &mut outcome);
-    if let Told::Refused(refusal) = outcome.told {
+    if let CallStatus::Refused(refusal) = outcome.told {
         let more = tell_lack(file, store, wanted, outcome.asked, refusal, missing);
         end.asked = short(outcome.asked.saturating_add(more));
-        return Told::Refused(refusal);
+        return CallStatus::Refused(refusal);
     }
     missing.clear();
     end.asked = short(outcome.asked);

@@ -5,7 +5,7 @@ ghost use Rattle.elf_model.specs.Loader.{asked_name};
 ghost use Rattle.elf_options.specs.Wants.{asked_of, query_of};
 ghost use Rattle.elf_capi.specs.Queries.{IsPermitted, asked_version, asks_of, goes_by_segments, wanted_by};
 
-use elf_options::{Asked, Wanted};
+use elf_options::{SymbolQuery, VersionQuery};
 
 /// The most bytes of a name, and of a version.
 const NAME_BYTES: usize = 4_096;
@@ -44,28 +44,28 @@ impl<'a> Query<'a> {
     }
 
     /// What is wanted.
-    pub fn wanted(&self) -> Wanted<'a>
+    pub fn wanted(&self) -> SymbolQuery<'a>
         ensures is { query_of result ≡ wanted_by (asks_of self.now) }
         ensures short { IsPermitted (asks_of self.now) → AreShort (query_of result) }
     {
-        Wanted {
+        SymbolQuery {
             name: self.name,
             asked: self.asked(),
         }
     }
 
     /// The version that is asked for.
-    fn asked(&self) -> Asked<'a>
+    fn asked(&self) -> VersionQuery<'a>
         ensures is { asked_of result ≡ asked_version self.now.flags self.now.version.now }
         ensures short { length self.now.version.now ≤ 4096 →
             IfSome (asked_name (asked_of result)) (λ version. length version ≤ 4096) }
     {
         if self.version.is_empty() {
-            return Asked::NoVersion;
+            return VersionQuery::NoVersion;
         }
         if self.flags < DEFAULT_ONLY {
-            return Asked::Version(self.version);
+            return VersionQuery::Version(self.version);
         }
-        Asked::DefaultVersion(self.version)
+        VersionQuery::DefaultVersion(self.version)
     }
 }

@@ -1,7 +1,7 @@
 //! A place in a walk over the records of symbol versions, and steps over them.
 ghost use Rattle.std.specs.Prelude.{◌≡◌, ◌+◌, ◌≤◌, ◌^◌, ◌<◌, IfSome, length, option_map};
 ghost use Rattle.elf_model.specs.declared.versions.VersionKind.TheVariants.{Need};
-ghost use Rattle.elf_note.specs.Reading.{Fits, KnowsAhead, record_position_of};
+ghost use Rattle.elf_note.specs.Reading.{IsPositionInTable, KnowsAhead, record_position_of};
 ghost use Rattle.elf_note.specs.declared.record_position.RecordPosition.{RecordPosition as IsStanding};
 ghost use Rattle.elf_capi.specs.VersionRecords.{GoesOnTo, StepsRecord, bytes_within, standing_in};
 
@@ -90,7 +90,7 @@ impl VersionRecordPosition {
         requires count { table.count ≡ bytes_within (length file.now) self.now }
         ensures stands { option_map record_position_of result ≡ standing_in table.count self.now }
         ensures knows { KnowsAhead file.now table.at result }
-        ensures fits { IfSome result (Fits table.count 28) }
+        ensures fits { IfSome result (IsPositionInTable table.count 28) }
         ensures owned { IfSome result (λ s. s.kind ≡ Need → s.owner + 16 ≤ table.count) }
     {
         let size = table.len();

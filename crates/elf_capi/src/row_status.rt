@@ -1,7 +1,7 @@
 //! What a read of a row and the opening of a table answer, as C sees it.
 ghost use Rattle.elf_capi.specs.Ends.{IsOpenedTable, IsRowReported};
 
-use crate::end::End;
+use crate::end::CallEnd;
 use elf_record::Refusal;
 
 /// The status of a row that was read.
@@ -15,7 +15,7 @@ const BAD_CALL: u32 = 4;
 
 /// Writes the row that was read to `row`, the refusal, where there is one, to `end`, and answers
 /// the status.
-pub fn tell<T: Copy>(read: Result<Option<T>, Refusal>, row: &mut T, end: &mut End) -> u32
+pub fn tell<T: Copy>(read: Result<Option<T>, Refusal>, row: &mut T, end: &mut CallEnd) -> u32
     ensures { IsRowReported result row.old row.new end.new read }
 {
     end.clear();
@@ -37,7 +37,7 @@ pub fn tell<T: Copy>(read: Result<Option<T>, Refusal>, row: &mut T, end: &mut En
 pub fn report_opened<T: Copy>(
     opened: Option<Result<Option<T>, Refusal>>,
     place: &mut T,
-    end: &mut End,
+    end: &mut CallEnd,
 ) -> u32
     ensures { IsOpenedTable result place.old place.new end.new opened }
 {

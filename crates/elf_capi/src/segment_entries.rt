@@ -10,7 +10,7 @@ use elf_memory::{Segment, segment_at, segment_place};
 use elf_record::numbers::PT_DYNAMIC;
 use elf_record::sizes::DYNAMIC_BYTES;
 use elf_record::{Cause, Refusal};
-use elf_table::ends_outside;
+use elf_table::is_out_of_bounds;
 
 /// A place before the first dynamic entry of a segment of a file that lies in memory, with as many as
 /// up to and with the first DT_NULL; None where it has no such segment, or one of another type than
@@ -81,7 +81,7 @@ fn entries(file: &[u8], place: u64, header: &Segment) -> Result<Option<RowPositi
             cause: Cause::SizeNotWhole,
         });
     }
-    if bytes != 0 && ends_outside(file.len() as u64, at, bytes) {
+    if bytes != 0 && is_out_of_bounds(file.len() as u64, at, bytes) {
         return Err(Refusal {
             at: place,
             cause: Cause::TableOutside,

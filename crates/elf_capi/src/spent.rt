@@ -5,7 +5,7 @@ ghost use Rattle.elf_capi.specs.Limits.{budget_of};
 ghost use Rattle.elf_capi.specs.Within.{StepsBudgeted, asked_more, budget_left, entries_looked, step_end};
 
 use crate::counts::short;
-use crate::end::End;
+use crate::end::CallEnd;
 use crate::limits::{CallerLimits, budget_of};
 use crate::rows::RowPosition;
 use crate::table_row::{TableRow, next_rows};
@@ -21,7 +21,7 @@ pub fn next_within<R: TableRow>(
     asked: &mut u64,
     rows: &mut RowPosition,
     out: &mut [R],
-    end: &mut End,
+    end: &mut CallEnd,
 ) -> usize
     ensures steps { StepsBudgeted (length file.now) R.BYTES limits.now asked.old asked.new
         rows.old rows.new (length out.old) result end.new }
@@ -93,7 +93,7 @@ pub fn count_entries(
 }
 
 /// Tells whether the budget ended a step: where more rows are left, and room for `free` rows.
-fn tell_rest(size: usize, rows: &RowPosition, entry: u64, free: usize, end: &mut End)
+fn tell_rest(size: usize, rows: &RowPosition, entry: u64, free: usize, end: &mut CallEnd)
     requires { 0 < entry }
     ensures { end.new ≡ step_end size entry rows.now free }
 {

@@ -9,14 +9,14 @@ use elf_record::{u16_at, version_number};
 /// The version of a symbol (Linux Standard Base Core, Symbol Versioning).
 #[repr(C)]
 #[derive(Clone, Copy)]
-pub struct VersionWord {
+pub struct Versym {
     /// Its number, below 2^15; 0 and 1 are no version's.
     pub number: u16,
     /// 1 where a name alone does not take the symbol, else 0.
     pub is_hidden: u16,
 }
 
-impl TableRow for VersionWord {
+impl TableRow for Versym {
     const BYTES: u64 = SYMBOL_VERSION_BYTES;
 
     ghost BYTES = { 2 };
@@ -25,10 +25,10 @@ impl TableRow for VersionWord {
 
     ghost some = { Prim.search rules };
 
-    fn read(file: &[u8], at: usize) -> VersionWord {
+    fn read(file: &[u8], at: usize) -> Versym {
         let word = u16_at(file, at);
         let number = version_number(word);
-        VersionWord {
+        Versym {
             number,
             is_hidden: u16::from(word != number),
         }

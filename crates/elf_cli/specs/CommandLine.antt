@@ -9,8 +9,8 @@ use Rattle.clap.specs.declared.builder.value_parser.ValueParser.{ValueParser}
 use Rattle.clap.specs.declared.builder.value_parser.ValueParser.TheVariants.{Signed, Unsigned, Names}
 
 -- a `&[&str]`
-abbrev pub Words : Type 0
-Words = Bor (List (Bor Text))
+abbrev pub ArgWords : Type 0
+ArgWords = Bor (List (Bor Text))
 
 -- an option without a value, which is set where it stands among the words
 abbrev pub flag : Text → Rule
@@ -53,7 +53,7 @@ names_option = numbered_option (codes "names") (Signed (pos 1) (pos 4096)) (code
 abbrev max_read_option : Rule
 max_read_option = option (codes "max-read") (Unsigned 0 9223372036854775807)
 
-abbrev only_option : Words → Rule
+abbrev only_option : ArgWords → Rule
 only_option parts = option (codes "only") (Names parts)
 
 abbrev gnu_option : Rule
@@ -73,18 +73,18 @@ abbrev with_reading_options : App → App
 with_reading_options command = with_rule (with_rule command headers_option) max_read_option
 
 -- a command with the options of a listing
-abbrev with_listing_options : Words → App → App
+abbrev with_listing_options : ArgWords → App → App
 with_listing_options parts command =
     with_rule (with_rule (with_rule (with_rule (with_rule (with_rule (with_rule command headers_option) names_option) max_read_option)
     (only_option parts)) gnu_option) by_segments_option) json_option
 
 -- a command with the options of a listing that is written: whether the version of a symbol stands behind its name
-abbrev with_written_rows : Words → App → App
+abbrev with_written_rows : ArgWords → App → App
 with_written_rows parts command = with_rule (with_listing_options parts command) (flag (codes "versions"))
 
 -- a command with the options of a listing of which rows are chosen by their names: one each time it stands among the words, and
 -- a file that has such names, one a line
-abbrev with_chosen_rows : Words → App → App
+abbrev with_chosen_rows : ArgWords → App → App
 with_chosen_rows parts command = with_rule (with_rule (with_written_rows parts command) (repeated (codes "name"))) (valued (codes "name-list"))
 
 -- a file that has paths, each ended by NUL
@@ -99,10 +99,10 @@ path_argument = any_words (codes "PATH")
 abbrev over_files : App → App
 over_files command = with_rule (with_rule (with_rule command (flag (codes "members"))) list_option) path_argument
 
-abbrev pub show_command : Words → App
+abbrev pub show_command : ArgWords → App
 show_command parts = with_rule (with_chosen_rows parts (new_app (codes "show"))) file_argument
 
-abbrev pub sample_command : Words → App
+abbrev pub sample_command : ArgWords → App
 sample_command parts = with_written_rows parts (new_app (codes "sample"))
 
 abbrev pub find_command : App
@@ -117,10 +117,10 @@ apply_command =
     with_rule (with_rule (with_rule (with_rule (with_rule (with_reading_options (new_app (codes "apply"))) (valued (codes "layout"))) (flag (codes "explain")))
     file_argument) (indexed (codes "SECTION") (Signed (pos 0) (pos 65535)))) (any_words (codes "ITEM"))
 
-abbrev pub check_command : Words → App
+abbrev pub check_command : ArgWords → App
 check_command parts = over_files (with_listing_options parts (new_app (codes "check")))
 
-abbrev pub list_command : Words → App
+abbrev pub list_command : ArgWords → App
 list_command parts = over_files (with_chosen_rows parts (new_app (codes "list")))
 
 -- words that are required, which commas part
@@ -135,7 +135,7 @@ needs_command =
     with_rule (with_rule (with_rule (with_rule (with_rule (with_rule (with_reading_options (new_app (codes "needs"))) (valued (codes "library-path"))) (valued (codes "default")))
     (valued (codes "root"))) (flag (codes "symbols"))) json_option) file_argument
 
-abbrev pub archive_command : Words → App
+abbrev pub archive_command : ArgWords → App
 archive_command parts = with_rule (with_chosen_rows parts (new_app (codes "archive"))) file_argument
 
 -- the program, whose words begin behind its name, and which wants a command
@@ -144,21 +144,21 @@ without_command = let app = new_app (codes "elfsee") in
     record app { top = record app.top { no_binary_name = true; subcommand_required = true; arg_required_else_help = true } }
 
 -- the program, with the commands that read one file, but for the one that lists an archive
-abbrev pub with_one_file : Words → App
+abbrev pub with_one_file : ArgWords → App
 with_one_file parts =
     with_subcommand (with_subcommand (with_subcommand (with_subcommand without_command (show_command parts).top) (sample_command parts).top)
     find_command.top) apply_command.top
 
 -- a program, with the commands that read many files
-abbrev pub with_many_files : Words → App → App
+abbrev pub with_many_files : ArgWords → App → App
 with_many_files parts app =
     with_subcommand (with_subcommand (with_subcommand (with_subcommand app (check_command parts).top) (list_command parts).top) traits_command.top)
     needs_command.top
 
 -- the names of the parts of a listing, and of those of an archive's
 pub record PartWords : Type 0 where
-  pub listed : Words
-  pub archived : Words
+  pub listed : ArgWords
+  pub archived : ArgWords
 
 -- THE COMMAND LINE: the program with all its commands; `version` takes no word
 abbrev pub program : PartWords → App

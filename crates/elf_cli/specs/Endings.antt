@@ -5,8 +5,8 @@ use Rattle.elf_table.specs.declared.run_fault.RunFault.{RunFault}
 use Rattle.elf_table.specs.declared.run_fault.RunFault.TheVariants.{Refused, Source, Out}
 use Rattle.elf_cli.specs.declared.faults.RequestFault.{RequestFault}
 use Rattle.elf_cli.specs.declared.faults.RequestFault.TheVariants.{Words, BadName, NamesFull, BadItem, LayoutFull, LayoutRepeat, BadTrait, Memory}
-use Rattle.elf_cli.specs.declared.outputs.Ended.{Ended}
-use Rattle.elf_cli.specs.declared.outputs.Ended.TheVariants.{Status, Told, Unwritten}
+use Rattle.elf_cli.specs.declared.outputs.RunEnd.{RunEnd}
+use Rattle.elf_cli.specs.declared.outputs.RunEnd.TheVariants.{Status, Told, Unwritten}
 
 abbrev pub exit_status : Result ℕ RunFault → ℕ
 exit_status (Ok status) = status
@@ -47,10 +47,10 @@ EndsWords fault status line = (status ≡ refused_status fault) × (line ≡ ref
 
 -- how a program ends whose output is written last: as its run, or, where the sink has failed, by a fault of the output; after
 -- a fault of the source by that
-abbrev pub Ends : Result ℕ RunFault → Bool → ℕ → List ℕ → Type 0
-Ends (Err (Source fault at)) failed status line = (status ≡ 3) × (line ≡ codes "elfsee: read fault")
-Ends answer true status line = (status ≡ 3) × (line ≡ codes "elfsee: write fault")
-Ends answer false status line = (status ≡ exit_status answer) × (line ≡ error_line answer)
+abbrev pub ProgramEnds : Result ℕ RunFault → Bool → ℕ → List ℕ → Type 0
+ProgramEnds (Err (Source fault at)) failed status line = (status ≡ 3) × (line ≡ codes "elfsee: read fault")
+ProgramEnds answer true status line = (status ≡ 3) × (line ≡ codes "elfsee: write fault")
+ProgramEnds answer false status line = (status ≡ exit_status answer) × (line ≡ error_line answer)
 
 -- whether what is left of an output is to be written: not after its fault
 abbrev pub wants_rest : Result ℕ RunFault → Bool
@@ -58,13 +58,13 @@ wants_rest (Err (Out fault)) = false
 wants_rest answer = true
 
 -- the same of a run whose faults have lines of their own
-abbrev pub EndsRun : Ended → Bool → ℕ → List ℕ → Type 0
+abbrev pub EndsRun : RunEnd → Bool → ℕ → List ℕ → Type 0
 EndsRun (Status status) false now line = (now ≡ status) × (line ≡ [])
 EndsRun (Status status) true now line = (now ≡ 3) × (line ≡ codes "elfsee: write fault")
 EndsRun (Told ending) failed now line = (now ≡ ending.0) × (line ≡ ending.1.now)
 EndsRun Unwritten failed now line = (now ≡ 3) × (line ≡ codes "elfsee: write fault")
 
-abbrev pub wants_rest_of : Ended → Bool
+abbrev pub wants_rest_of : RunEnd → Bool
 wants_rest_of Unwritten = false
 wants_rest_of ended = true
 

@@ -7,7 +7,7 @@ use Rattle.elf_model.specs.Text.{name_of as name_in_table}
 use Rattle.elf_model.specs.Listing.{HEADER, SECTIONS, SEGMENTS, SYMBOLS, RELOCS, NOTES, DYNAMIC, VERSIONS, all_parts}
 use Rattle.elf_record.specs.declared.parts.Parts.{Parts}
 use Rattle.elf_options.specs.declared.caps.Limits.{Limits}
-use Rattle.elf_options.specs.declared.caps.Style.{Style}
+use Rattle.elf_options.specs.declared.caps.ListingStyle.{ListingStyle}
 use Rattle.elf_model.specs.Choice.{EveryRow}
 use Rattle.elf_options.specs.Chosen.{choice_of}
 use Rattle.elf_model.specs.declared.formats.Format.{Format}
@@ -72,7 +72,7 @@ abbrev pub asked_format : List Row → Format
 asked_format rows = if is_option_set (first_of (codes "json") rows) then Object else Columns
 
 -- how rows are shown, by the values of the options
-pub record IsStyle (rows : List Row) (style : Style) : Type 0 where
+pub record IsStyle (rows : List Row) (style : ListingStyle) : Type 0 where
   pub cap : HasNumber (one_of (codes "names") rows) (Some style.cap.bytes)
   pub gnu : style.gnu ≡ has_gnu_option rows
   pub by_segments : style.by_segments ≡ is_option_set (first_of (codes "by-segments") rows)

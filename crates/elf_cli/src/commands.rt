@@ -4,7 +4,7 @@ ghost use Rattle.clap.specs.Simple.{App};
 ghost use Rattle.clap.specs.Words.{app_of};
 ghost use Rattle.clap.specs.declared.builder.value_parser.ValueParser.TheVariants.{Names};
 ghost use Rattle.elf_cli.specs.Building.{IsBuilt};
-ghost use Rattle.elf_cli.specs.CommandLine.{Words};
+ghost use Rattle.elf_cli.specs.CommandLine.{ArgWords};
 ghost use Rattle.elf_cli.specs.Described.{add_subcommands};
 ghost use Rattle.elf_cli.specs.CommandLine.{archive_command, check_command, find_command, list_command, program};
 ghost use Rattle.elf_cli.specs.CommandLine.{needs_command, sample_command, show_command, traits_command};
@@ -184,7 +184,7 @@ pub fn command_line<'a>(
 
 /// The commands that read one file, but for the one that lists an archive.
 fn of_one_file() -> &'static [CommandSpec]
-    ensures { (parts : Words)
+    ensures { (parts : ArgWords)
         → add_subcommands (Names parts) without_command result.now ≡ with_one_file parts }
 {
     &OF_ONE_FILE
@@ -192,7 +192,7 @@ fn of_one_file() -> &'static [CommandSpec]
 
 /// The commands that read many files.
 fn of_many_files() -> &'static [CommandSpec]
-    ensures { (parts : Words) (app : App)
+    ensures { (parts : ArgWords) (app : App)
         → add_subcommands (Names parts) app result.now ≡ with_many_files parts app }
 {
     &OF_MANY_FILES

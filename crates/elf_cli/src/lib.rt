@@ -35,7 +35,7 @@ pub use option_values::{
     style_of, text_of, u16_option_of, whole,
 };
 pub use outputs::{
-    ERROR_LINE_BYTES, Ended, OUTPUT_BYTES, PIPE_BYTES, end_answer, end_lines, end_run, write_rest,
+    ERROR_LINE_BYTES, OUTPUT_BYTES, PIPE_BYTES, RunEnd, end_answer, end_lines, end_run, write_rest,
 };
 pub use parser::parse_arguments;
 pub use program_arguments::{read_words, report_refused};

@@ -3,7 +3,7 @@ ghost use Rattle.std.specs.Prelude.{◌≡◌, IfErr, IfOk, IfSome, None, Option
 ghost use Rattle.clap.specs.Walk.{rows_of};
 ghost use Rattle.clap.specs.Words.{found_of, subcommand_rows_of};
 ghost use Rattle.elf_options.specs.declared.caps.Limits.{Limits};
-ghost use Rattle.elf_options.specs.declared.caps.Style.{Style};
+ghost use Rattle.elf_options.specs.declared.caps.ListingStyle.{ListingStyle};
 ghost use Rattle.elf_cli.specs.Faults.{IsUnasked};
 ghost use Rattle.elf_cli.specs.Listings.{IsListing, NothingShown, ShowsBy};
 ghost use Rattle.elf_cli.specs.Listings.{ShowsNothing, WordsShow};
@@ -19,7 +19,7 @@ use crate::parser::parse_arguments;
 use crate::row_names::has_name_option;
 use clap::ArgMatches;
 use elf_record::Parts;
-use elf_table::{Limits, Style};
+use elf_table::{Limits, ListingStyle};
 use std::alloc::Global;
 use std::convert::AsStr;
 
@@ -34,7 +34,7 @@ pub struct ListingRequest<'a> {
     /// The parts of the listing.
     pub parts: Parts,
     /// How rows are shown.
-    pub style: Style<'a>,
+    pub style: ListingStyle<'a>,
 }
 
 /// What a program that only lists one file can be asked for.
@@ -120,7 +120,7 @@ fn options_of<'a>(file: Option<&'a str>, options: &ArgMatches<'a>) -> Option<Lis
     ensures parts { IfSome result (λ listing.
         AreParts (rows_of (found_of options.now)) listing.parts) }
     ensures every { IfSome result (λ _. has_name_option (rows_of (found_of options.now)) ≡ false) }
-    ensures none { result ≡ None → (limits : Limits) (style : Style) (parts : Parts)
+    ensures none { result ≡ None → (limits : Limits) (style : ListingStyle) (parts : Parts)
         → has_name_option (rows_of (found_of options.now)) ≡ false
         → AreLimitOptions (rows_of (found_of options.now)) limits
         → IsStyle (rows_of (found_of options.now)) style

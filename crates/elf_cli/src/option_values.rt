@@ -11,13 +11,13 @@ ghost use Rattle.elf_cli.specs.Options.{has_versions_option, gnu_option_is_missi
 ghost use Rattle.elf_cli.specs.Options.{versions_without_gnu};
 ghost use Rattle.elf_record.specs.declared.parts.Parts.{Parts};
 ghost use Rattle.elf_options.specs.declared.caps.Limits.{Limits};
-ghost use Rattle.elf_options.specs.declared.caps.Style.{Style};
+ghost use Rattle.elf_options.specs.declared.caps.ListingStyle.{ListingStyle};
 
 use clap::ArgMatches;
 use elf_model::Format;
 use elf_options::RowFilter;
 use elf_record::Parts;
-use elf_table::{Limits, NameLimit, Style};
+use elf_table::{Limits, ListingStyle, NameLimit};
 
 /// The limits that the options ask for.
 pub fn limits_of(options: &ArgMatches<'_>) -> Option<Limits>
@@ -31,9 +31,9 @@ pub fn limits_of(options: &ArgMatches<'_>) -> Option<Limits>
 }
 
 /// How rows are shown, by the options: every row is, and no versions behind names.
-pub fn style_of(options: &ArgMatches<'_>) -> Option<Style<'static>>
+pub fn style_of(options: &ArgMatches<'_>) -> Option<ListingStyle<'static>>
     ensures some { IfSome result (IsStyle (rows_of (found_of options.now))) }
-    ensures none { result ≡ None → (style : Style)
+    ensures none { result ≡ None → (style : ListingStyle)
         → IsStyle (rows_of (found_of options.now)) style → ⊥ }
 {
     let cap = NameLimit::new(u16_option_of(options, "names")?)?;
@@ -42,7 +42,7 @@ pub fn style_of(options: &ArgMatches<'_>) -> Option<Style<'static>>
     if versions_without_gnu(options) {
         return None;
     }
-    Some(Style {
+    Some(ListingStyle {
         cap,
         gnu,
         by_segments,

@@ -1,7 +1,7 @@
 //! What programs write last.
 ghost use Rattle.std.specs.Prelude.{◌≡◌, true, false};
 ghost use Rattle.std.specs.Io.Buffered.{writer_buffer, writer_inner};
-ghost use Rattle.elf_cli.specs.Endings.{Ends, EndsRun, PutsRest, wants_rest, wants_rest_of};
+ghost use Rattle.elf_cli.specs.Endings.{ProgramEnds, EndsRun, PutsRest, wants_rest, wants_rest_of};
 
 use crate::exit_lines::{ExitLine, READ_FAULT, WRITE_FAULT, outcome};
 use crate::line_sink::LineSink;
@@ -21,7 +21,7 @@ pub const ERROR_LINE_BYTES: usize = 4_096;
 
 /// How a run ended, before what is left of its output is written.
 #[derive(Clone, Copy)]
-pub enum Ended {
+pub enum RunEnd {
     /// With this exit status.
     Status(u8),
     /// By a fault that is reported whatever becomes of the output.
@@ -37,7 +37,7 @@ pub fn end_answer<W: Write + Drop>(
     answer: &Result<u8, RunFault>,
     output: BufWriter<W>,
 ) -> (ExitLine, WriteSink<W>)
-    ensures ends { Ends answer.now result.1.failed result.0.0 result.0.1.now }
+    ensures ends { ProgramEnds answer.now result.1.failed result.0.0 result.0.1.now }
     ensures rest { PutsRest (wants_rest answer.now) result.1.failed (writer_buffer output)
         (W.contents (writer_inner output)) (W.contents result.1.writer) }
 {
@@ -53,7 +53,7 @@ pub fn end_answer<W: Write + Drop>(
 
 /// The same where a run reports faults of its own: a status stands unless the sink that comes back has
 /// failed, and a fault of the run's own is reported all the same.
-pub fn end_run<W: Write + Drop>(ended: Ended, output: BufWriter<W>) -> (ExitLine, WriteSink<W>)
+pub fn end_run<W: Write + Drop>(ended: RunEnd, output: BufWriter<W>) -> (ExitLine, WriteSink<W>)
     ensures ends { EndsRun ended result.1.failed result.0.0 result.0.1.now }
     ensures rest { PutsRest (wants_rest_of ended) result.1.failed (writer_buffer output)
         (W.contents (writer_inner output)) (W.contents result.1.writer) }
@@ -63,7 +63,7 @@ pub fn end_run<W: Write + Drop>(ended: Ended, output: BufWriter<W>) -> (ExitLine
 }
 
 /// The same of an output of whole lines. Gives back the sink below it.
-pub fn end_lines<W: Sink>(ended: Ended, output: LineSink<W>) -> (ExitLine, W)
+pub fn end_lines<W: Sink>(ended: RunEnd, output: LineSink<W>) -> (ExitLine, W)
     ensures ends { EndsRun ended (W.failed result.1) result.0.0 result.0.1.now }
     ensures rest { wants_rest_of ended ≡ true →
         PutsRest true (W.failed result.1) output.held output.below (W.taken result.1) }
@@ -78,24 +78,24 @@ pub fn end_lines<W: Sink>(ended: Ended, output: LineSink<W>) -> (ExitLine, W)
 }
 
 /// Whether what is left of an output is to be written: not after its fault.
-fn is_rest_wanted(ended: Ended) -> bool
+fn is_rest_wanted(ended: RunEnd) -> bool
     ensures { result ≡ wants_rest_of ended }
 {
     match ended {
-        Ended::Unwritten => false,
-        Ended::Status(_) | Ended::Told(_) => true,
+        RunEnd::Unwritten => false,
+        RunEnd::Status(_) | RunEnd::Told(_) => true,
     }
 }
 
 /// How the program ends by how its run did, and by whether the output failed.
-fn ending_of(ended: Ended, failed: bool) -> ExitLine
+fn ending_of(ended: RunEnd, failed: bool) -> ExitLine
     ensures { EndsRun ended failed result.0 result.1.now }
 {
     match ended {
-        Ended::Status(_) if failed => WRITE_FAULT,
-        Ended::Status(status) => (status, ""),
-        Ended::Told(ending) => ending,
-        Ended::Unwritten => WRITE_FAULT,
+        RunEnd::Status(_) if failed => WRITE_FAULT,
+        RunEnd::Status(status) => (status, ""),
+        RunEnd::Told(ending) => ending,
+        RunEnd::Unwritten => WRITE_FAULT,
     }
 }
 

@@ -9,7 +9,7 @@ use Rattle.elf_model.specs.Lines.{refusal_line}
 use Rattle.elf_model.specs.Listing.{fault_of}
 use Rattle.elf_model.specs.Report.{listing}
 use Rattle.elf_model.specs.Searches.{NulFound}
-use Rattle.elf_model.specs.Style.{Style}
+use Rattle.elf_model.specs.Style.{ListingStyle}
 use Rattle.elf_model.specs.declared.causes.Cause.TheVariants.{Budget}
 use Rattle.elf_model.specs.declared.states.FileStatus.{FileStatus}
 
@@ -34,13 +34,13 @@ LessMayEndAnAnswer =
 -- a file's state without a budget is that of its report's fault
 abbrev pub StatesOfReports : Type 0
 StatesOfReports =
-    (file : List ℕ) (headers : ℕ) (style : Style) (parts : ℕ) (found : FileStatus)
+    (file : List ℕ) (headers : ℕ) (style : ListingStyle) (parts : ℕ) (found : FileStatus)
     → IsStateOf None file headers style parts found → found ≡ state_of None file (fault_of (listing file headers style parts))
 
 -- within a budget it is that of the listing's fault, by as many of the file's bytes as the budget lets be looked at
 abbrev pub StatesWithinABudget : Type 0
 StatesWithinABudget =
-    (budget : Option ℕ) (file : List ℕ) (headers : ℕ) (style : Style) (parts : ℕ) (found : FileStatus)
+    (budget : Option ℕ) (file : List ℕ) (headers : ℕ) (style : ListingStyle) (parts : ℕ) (found : FileStatus)
     → (its : IsStateOf budget file headers style parts found) → found ≡ state_of budget file its.fault
 
 -- of bytes with a NUL those before it are kept, as far as the cap; of others all, as far as the cap

@@ -9,17 +9,17 @@ use Rattle.elf_model.specs.Names.DisplayedName.{Whole, Cut}
 use Rattle.elf_model.specs.Placing.{Layout}
 use Rattle.elf_model.specs.declared.causes.Cause.{Cause}
 use Rattle.elf_model.specs.declared.causes.Cause.TheVariants.{Undefined, Unplaced, Unsupported, Overflow}
-use Rattle.elf_model.specs.declared.missing.Missing.{Missing}
+use Rattle.elf_model.specs.declared.missing.MissingAddress.{MissingAddress}
 use Rattle.elf_model.specs.declared.missing.LayoutAddress.{LayoutAddress}
 use Rattle.elf_model.specs.declared.missing.LayoutAddress.TheVariants.{Place, Named}
 use Rattle.elf_model.specs.declared.relocation_types.RelocationBase.TheVariants.{Linkage, Table, Thread}
 
 -- what is missing at the entry of the call in a layout, whose section of entries has its header at 0x118
-abbrev pub MissesInCall : List ℕ → Layout → Cause → Option Missing → Type 0
+abbrev pub MissesInCall : List ℕ → Layout → Cause → Option MissingAddress → Type 0
 MissesInCall file layout cause answer = missing file 0x118 layout 1 (record { at = 0x48; cause = cause }) ≡ answer
 
 -- a type, a symbol's name and what is wanted
-abbrev pub lacks : ℕ → ℕ → LayoutAddress → Option Missing
+abbrev pub lacks : ℕ → ℕ → LayoutAddress → Option MissingAddress
 lacks kind name wanted = Some (record { kind = kind; name = name; wanted = wanted })
 
 -- the entry of the call with another type

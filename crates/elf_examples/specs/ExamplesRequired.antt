@@ -7,10 +7,10 @@ use Rattle.elf_model.specs.declared.traits.ProgramKind.TheVariants as kind
 use Rattle.elf_model.specs.declared.traits.Relro.TheVariants as relro
 use Rattle.elf_model.specs.declared.traits.SearchPath.TheVariants as path
 use Rattle.elf_model.specs.declared.traits.TraitColumn.TheVariants as column
-use Rattle.elf_model.specs.declared.traits.Traits.{Traits}
+use Rattle.elf_model.specs.declared.traits.Hardening.{Hardening}
 
 -- a file of a kind with partial relocation and an executable stack
-abbrev weak : ProgramKind → Traits
+abbrev weak : ProgramKind → Hardening
 weak its_kind = record {
   kind = its_kind;
   segments = Some (record { relro = relro.Partial; stack_executable = true; pages_writable = false; text_patched = false });
@@ -62,7 +62,7 @@ WordsAreWhole =
     × (traits_status (weak kind.Pie) (record { column = column.Relro; word = codes "partially" } ∷ []) ≡ 1)
 
 -- a program in which each column has another word
-abbrev mixed : Traits
+abbrev mixed : Hardening
 mixed = record {
   kind = kind.Exec;
   segments = Some (record { relro = relro.Absent; stack_executable = false; pages_writable = true; text_patched = true });

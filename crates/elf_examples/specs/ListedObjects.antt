@@ -9,7 +9,7 @@ use Rattle.elf_model.specs.Lines.{named_line, note_line, refusal_line, segment_l
 use Rattle.elf_model.specs.Listing.{ALL, SYMBOLS, report_of}
 use Rattle.elf_model.specs.Names.DisplayedName.{Whole, Cut}
 use Rattle.elf_model.specs.Report.{listing}
-use Rattle.elf_model.specs.Style.{Style}
+use Rattle.elf_model.specs.Style.{ListingStyle}
 use Rattle.elf_model.specs.VersionRows.{symbol_version_prefix, version_prefix}
 use Rattle.elf_model.specs.FixturesTables.{numbers_from}
 use Rattle.elf_model.specs.declared.causes.Cause.TheVariants.{Short, TableOutside}
@@ -18,7 +18,7 @@ use Rattle.elf_model.specs.declared.states.FileStatus.TheVariants as state
 use Rattle.elf_model.specs.declared.versions.VersionKind.TheVariants.{Definition}
 
 -- objects, with so many bytes of a name
-abbrev pub objects : ℕ → Style
+abbrev pub objects : ℕ → ListingStyle
 objects cap = record { cap = cap; gnu = false; by_segments = false; format = Object; choice = EveryRow; versions = false }
 
 -- a whole listing: the file header, the section headers and the symbols

@@ -6,12 +6,12 @@ use Rattle.elf_model.specs.Choice.{EveryRow}
 use Rattle.elf_model.specs.Cost.{listing_cost}
 use Rattle.elf_model.specs.Listing.{report_of, fault_of, SECTIONS, SEGMENTS, SYMBOLS, NOTES, DYNAMIC, ALL}
 use Rattle.elf_model.specs.Report.{report, listing}
-use Rattle.elf_model.specs.Style.{Style}
+use Rattle.elf_model.specs.Style.{ListingStyle}
 use Rattle.elf_model.specs.Fixtures.{with_bytes, section_header}
 use Rattle.elf_model.specs.FixturesTables.{program_header}
 use Rattle.elf_model.specs.FixturesSegments.{object, object_with}
 
-abbrev by_segments : Style
+abbrev by_segments : ListingStyle
 by_segments = record { cap = 63; gnu = false; by_segments = true; format = Columns; choice = EveryRow; versions = false }
 
 -- a segment that is loaded at an address, of so many bytes in memory, with none of them in the file

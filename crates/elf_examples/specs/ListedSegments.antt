@@ -6,7 +6,7 @@ use Rattle.elf_model.specs.Choice.{EveryRow}
 use Rattle.elf_model.specs.Cost.{cost, listing_cost, ceiling}
 use Rattle.elf_model.specs.Listing.{report_of, SEGMENTS, SYMBOLS, NOTES, DYNAMIC, ALL}
 use Rattle.elf_model.specs.Report.{report, listing}
-use Rattle.elf_model.specs.Style.{Style}
+use Rattle.elf_model.specs.Style.{ListingStyle}
 use Rattle.elf_model.specs.Fixtures.{zeros, with_bytes, section_header, one_symbol_table}
 use Rattle.elf_model.specs.FixturesTables.{program_header, one_segment, plain_note, aligned_note, tagged}
 use Rattle.elf_model.specs.FixturesSegments.{object_with, object, library_strings, loaded_at, loaded, needed_with, library_without_sections}
@@ -333,7 +333,7 @@ SectionsByTheirNumber =
 abbrev hidden : List ℕ
 hidden = with_bytes 0x28 (little 8 0x1000) (with_bytes 0x3c (little 2 3 ++ little 2 7) library_without_sections)
 
-abbrev by_segments : Style
+abbrev by_segments : ListingStyle
 by_segments = record { cap = 63; gnu = false; by_segments = true; format = Columns; choice = EveryRow; versions = false }
 
 abbrev pub SegmentsDespiteSections : Type 0

@@ -12,7 +12,7 @@ use crate::fields::{
     LinePrefix, begin, begin_named, put_closing, put_decimal, put_hexadecimal, put_text,
 };
 use crate::named::show_named;
-use crate::render::{Columns, Object, Render};
+use crate::render::{Columns, Json, Render};
 use crate::rows::cause_word;
 use elf_model::{FileStatus, Format};
 use elf_source::{Out, OutFault, Sink};
@@ -89,7 +89,7 @@ pub fn show_check<W: Sink>(
     let mut front = LinePrefix::new();
     match format {
         Format::Columns => check_row::<Columns>(&mut front, state),
-        Format::Object => check_row::<Object>(&mut front, state),
+        Format::Object => check_row::<Json>(&mut front, state),
     }
     show_named(&mut front, path, false, out)
 }
@@ -103,7 +103,7 @@ pub fn show_unnamed<W: Sink>(count: u64, format: Format, out: &mut Out<W>) -> Re
 {
     match format {
         Format::Columns => out.put(&unnamed_row::<Columns>(count)),
-        Format::Object => out.put(&unnamed_row::<Object>(count)),
+        Format::Object => out.put(&unnamed_row::<Json>(count)),
     }
 }
 

@@ -12,7 +12,7 @@ use crate::columns::{LineBuf, line_of, number_sign, put};
 use crate::fields::LinePrefix;
 use crate::named::show_tailed;
 use crate::relocation_rows::relocation_type_name;
-use elf_model::{Format, LayoutAddress, Missing, RelocationBase};
+use elf_model::{Format, LayoutAddress, MissingAddress, RelocationBase};
 use elf_source::{Out, OutFault, Sink};
 use itoa::Buffer;
 
@@ -22,7 +22,7 @@ use itoa::Buffer;
 /// # Errors
 /// A fault of the output, with a front of the line written.
 pub fn show_missing<W: Sink>(
-    missing: Missing,
+    missing: MissingAddress,
     name: &[u8],
     is_cut: bool,
     out: &mut Out<W>,

@@ -43,7 +43,7 @@ pub use member_rows::member_prefix;
 pub use named::{SecondName, show_joined, show_named, show_tailed};
 pub use note_rows::{note_prefix, show_note};
 pub use relocation_rows::relocation_prefix;
-pub use render::{Columns, Object, Render};
+pub use render::{Columns, Json, Render};
 pub use rows::{cause_word, header_row, show_refusal};
 pub use section_rows::section_prefix;
 pub use segment_rows::segment_row;

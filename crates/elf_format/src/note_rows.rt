@@ -12,7 +12,7 @@ ghost use Rattle.elf_format.specs.Named.{shown_as};
 use crate::columns::{LineBuf, put, put_where};
 use crate::fields::{LinePrefix, begin_named, put_closing, put_half, put_hexadecimal, put_text};
 use crate::named::show_tailed;
-use crate::render::{Object, Render};
+use crate::render::{Json, Render};
 use elf_model::Format;
 use elf_record::NoteHead;
 use elf_source::{Out, OutFault, Sink};
@@ -84,8 +84,8 @@ fn note_end(format: Format, digits: &[u8], has_more: bool) -> LineBuf
             put(&mut line, b"\n");
         }
         Format::Object => {
-            put_text::<Object>(&mut line, b"descriptor", 0, digits, b'\n');
-            put_closing::<Object>(&mut line);
+            put_text::<Json>(&mut line, b"descriptor", 0, digits, b'\n');
+            put_closing::<Json>(&mut line);
         }
     }
     line

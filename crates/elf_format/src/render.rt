@@ -25,9 +25,9 @@ impl Render for Columns {
 }
 
 /// Lines as JSON objects.
-pub struct Object;
+pub struct Json;
 
-impl Render for Object {
+impl Render for Json {
     const FORMAT: Format = Format::Object;
 
     ghost FORMAT = { AsObject };

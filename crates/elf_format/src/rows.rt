@@ -10,7 +10,7 @@ ghost use Rattle.elf_source.specs.Output.{OutPuts};
 use crate::columns::LineBuf;
 use crate::fields::{begin, put_closing, put_half, put_hexadecimal, put_name_or_hex, put_text};
 use crate::name_tables::name_of;
-use crate::render::{Columns, Object, Render};
+use crate::render::{Columns, Json, Render};
 use elf_model::Format;
 use elf_record::numbers::{ET_CORE, ET_DYN, ET_EXEC, ET_NONE, ET_REL};
 use elf_record::{Cause, Ehdr, Refusal};
@@ -73,7 +73,7 @@ pub fn show_refusal<W: Sink>(
 {
     match format {
         Format::Columns => out.put(&refusal_row::<Columns>(refusal)),
-        Format::Object => out.put(&refusal_row::<Object>(refusal)),
+        Format::Object => out.put(&refusal_row::<Json>(refusal)),
     }
 }
 

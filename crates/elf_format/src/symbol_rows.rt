@@ -17,7 +17,7 @@ use crate::fields::{
 };
 use crate::name_tables::{name_in_either_table, name_of};
 use crate::named::show_named;
-use crate::render::{Columns, Object, Render};
+use crate::render::{Columns, Json, Render};
 use elf_model::Format;
 use elf_record::Sym;
 use elf_record::gnu_numbers::{SHN_X86_64_LCOMMON, STB_GNU_UNIQUE, STT_GNU_IFUNC};
@@ -85,7 +85,7 @@ pub fn symbol_front_in(
 {
     match format {
         Format::Columns => symbol_prefix::<Columns>(front, section, index, symbol, naming),
-        Format::Object => symbol_prefix::<Object>(front, section, index, symbol, naming),
+        Format::Object => symbol_prefix::<Json>(front, section, index, symbol, naming),
     }
 }
 

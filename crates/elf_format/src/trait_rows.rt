@@ -13,8 +13,8 @@ ghost use Rattle.elf_source.specs.Output.{OutPuts};
 use crate::columns::{LineBuf, line_of, put};
 use crate::fields::{LinePrefix, begin, begin_named, put_closing, put_text};
 use crate::named::show_named;
-use crate::render::{Columns, Object, Render};
-use elf_model::{Format, ProgramKind, Relro, SearchPath, SegmentTraits, TraitColumn, Traits};
+use crate::render::{Columns, Json, Render};
+use elf_model::{Format, Hardening, ProgramKind, Relro, SearchPath, SegmentTraits, TraitColumn};
 use elf_source::{Out, OutFault, Sink};
 
 /// Writes the `T` line of a file: its traits in columns, and its path, spelt as names are.
@@ -22,7 +22,7 @@ use elf_source::{Out, OutFault, Sink};
 /// # Errors
 /// A fault of the output, with a front of the line written.
 pub fn show_traits<W: Sink>(
-    traits: Traits,
+    traits: Hardening,
     path: &[u8],
     format: Format,
     out: &mut Out<W>,
@@ -32,7 +32,7 @@ pub fn show_traits<W: Sink>(
     let mut front = LinePrefix::new();
     match format {
         Format::Columns => traits_row::<Columns>(&mut front, traits),
-        Format::Object => traits_row::<Object>(&mut front, traits),
+        Format::Object => traits_row::<Json>(&mut front, traits),
     }
     show_named(&mut front, path, false, out)
 }
@@ -42,7 +42,7 @@ pub fn show_traits<W: Sink>(
 /// # Errors
 /// A fault of the output, with a front of the line written.
 pub fn show_missing_trait<W: Sink>(
-    traits: Traits,
+    traits: Hardening,
     column: TraitColumn,
     format: Format,
     out: &mut Out<W>,
@@ -51,13 +51,13 @@ pub fn show_missing_trait<W: Sink>(
 {
     match format {
         Format::Columns => out.put(&lacking_row::<Columns>(traits, column)),
-        Format::Object => out.put(&lacking_row::<Object>(traits, column)),
+        Format::Object => out.put(&lacking_row::<Json>(traits, column)),
     }
 }
 
 /// The `T` line of a file up to its path.
 #[tactic(auto, unfolding(elf_model::specs::TraitWords::trait_front))]
-fn traits_row<R: Render>(front: &mut LinePrefix, traits: Traits)
+fn traits_row<R: Render>(front: &mut LinePrefix, traits: Hardening)
     ensures front { front_of front.new ≡ trait_front R.FORMAT traits }
     ensures key { length front.new.key.now ≤ 16 }
 {
@@ -88,7 +88,7 @@ fn put_trait<R: Render>(line: &mut LineBuf, key: &[u8], width: usize, word: &'st
 
 /// The line of what a file lacks.
 #[tactic(auto, unfolding(elf_model::specs::TraitWords::lacking_line))]
-fn lacking_row<R: Render>(traits: Traits, column: TraitColumn) -> LineBuf
+fn lacking_row<R: Render>(traits: Hardening, column: TraitColumn) -> LineBuf
     ensures { result.items ≡ lacking_line R.FORMAT traits column }
 {
     let mut text = line_of(column_name(column).as_bytes());
@@ -103,7 +103,7 @@ fn lacking_row<R: Render>(traits: Traits, column: TraitColumn) -> LineBuf
 
 /// The word of a file's traits in a column.
 #[tactic(auto, unfolding(elf_model::specs::TraitWords::column_word))]
-pub fn column_word(traits: Traits, column: TraitColumn) -> &'static str
+pub fn column_word(traits: Hardening, column: TraitColumn) -> &'static str
     ensures word { result.now ≡ column_word traits column }
     ensures short { length result.now ≤ 9 }
 {

@@ -4,7 +4,7 @@ ghost use Rattle.elf_format.specs.Fronts.{front_of};
 ghost use Rattle.elf_model.specs.VersionRows.{kind_text, version_prefix, symbol_version_prefix};
 
 use crate::fields::{LinePrefix, begin_named, put_decimal, put_half, put_hexadecimal, put_text};
-use crate::render::{Columns, Object, Render};
+use crate::render::{Columns, Json, Render};
 use elf_model::Format;
 use elf_record::{VersionKind, version_number};
 
@@ -62,7 +62,7 @@ pub fn symbol_version_front_in(
 {
     match format {
         Format::Columns => symbol_version_prefix::<Columns>(front, section, index, word),
-        Format::Object => symbol_version_prefix::<Object>(front, section, index, word),
+        Format::Object => symbol_version_prefix::<Json>(front, section, index, word),
     }
 }
 

@@ -5,7 +5,7 @@ use Rattle.elf_model.specs.Bytes.{little}
 use Rattle.elf_model.specs.Fixtures.{with_bytes}
 use Rattle.elf_model.specs.FixturesHash.{words}
 use Rattle.elf_model.specs.FixturesVersions.{hostile_library, versioned_without_sections}
-use Rattle.elf_model.specs.Loader.{Asked, NoVersion, Version, Wanted}
+use Rattle.elf_model.specs.Loader.{VersionQuery, NoVersion, Version, SymbolQuery}
 use Rattle.elf_model.specs.LoaderScope.{lookup_tables_of}
 use Rattle.elf_model.specs.Style.{without_sections}
 use Rattle.elf_model.specs.declared.causes.Cause.TheVariants.{HashShape, NameOutside, VersionCut, VersionIndex}
@@ -25,7 +25,7 @@ valueless = with_bytes 0x148 (little 8 0) library
 abbrev undefined : List ℕ
 undefined = with_bytes 0x146 (little 2 0) library
 
-abbrev BindsTo : List ℕ → Asked → List (List ℕ) → Binding → Type 0
+abbrev BindsTo : List ℕ → VersionQuery → List (List ℕ) → Binding → Type 0
 BindsTo name asked files binding = bound_in 8 (record { name = name; asked = asked }) files ≡ binding
 
 -- the first file defines it, whatever the second has, and `f@V1` is another symbol there; where the first does not, the second
@@ -57,9 +57,9 @@ RefusalsStop =
     × BindsTo (codes "f") (Version (codes "V1")) (hostile ∷ library ∷ []) (StoppedIn 0 (record { at = 0x1e8; cause = VersionCut }))
 
 -- what it reads: nothing where the filter tells that there is none, but the records of versions where one is asked for
-abbrev asks_for : List ℕ → Asked → List ℕ → ℕ
+abbrev asks_for : List ℕ → VersionQuery → List ℕ → ℕ
 asks_for name asked file =
-    let wanted : Wanted = record { name = name; asked = asked } in
+    let wanted : SymbolQuery = record { name = name; asked = asked } in
     definition_cost wanted (definition_lookup file 8 wanted)
 
 abbrev pub LookupsAsk : Type 0
@@ -69,10 +69,10 @@ LookupsAsk =
     × (asks_for (codes "f") NoVersion library ≡ 2 * (4 + 26 + 64))
 
 -- what the symbol of an index asks others for, and how many symbols there are
-abbrev SeeksAt : List ℕ → ℕ → Result (Option Wanted) Refusal → Type 0
+abbrev SeeksAt : List ℕ → ℕ → Result (Option SymbolQuery) Refusal → Type 0
 SeeksAt file index sought = elim (lookup_tables_of file 8) [ Ok scope ↦ reference_at file scope.symbols index ≡ sought | Err refusal ↦ ⊥ ]
 
-abbrev puts : Option Wanted
+abbrev puts : Option SymbolQuery
 puts = Some (record { name = codes "puts"; asked = Version (codes "GLIBC_2.2.5") })
 
 -- the first symbol asks for nothing, nor does one that is defined; one that is undefined asks for its name, with the version of

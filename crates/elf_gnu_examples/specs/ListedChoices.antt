@@ -11,10 +11,10 @@ use Rattle.elf_model.specs.FixturesArchive.{archive_of, member}
 use Rattle.elf_model.specs.FixturesVersions.{versioned_library}
 use Rattle.elf_model.specs.Listing.{report_of, RELOCS, SECTIONS, SYMBOLS, VERSIONS}
 use Rattle.elf_model.specs.Report.{listing}
-use Rattle.elf_model.specs.Style.{Style, standard}
+use Rattle.elf_model.specs.Style.{ListingStyle, standard}
 
 -- how the rows of some names are shown: so many bytes of a name as the longest has
-unfoldable pub rows_named : List (List ℕ) → Style
+unfoldable pub rows_named : List (List ℕ) → ListingStyle
 rows_named names = record {
   cap = most_bytes names;
   gnu = true;

@@ -10,11 +10,11 @@ use Rattle.elf_model.specs.FixturesVersions.{versioned_library}
 use Rattle.elf_model.specs.Listing.{report_of, RELOCS, SYMBOLS}
 use Rattle.elf_model.specs.Records.{section_at}
 use Rattle.elf_model.specs.Report.{listing}
-use Rattle.elf_model.specs.Style.{Style}
+use Rattle.elf_model.specs.Style.{ListingStyle}
 use Rattle.elf_model.specs.Suffixes.{suffixed_relocation_rows, suffixed_symbol_rows}
 
 -- how rows are shown: with versions, so many bytes of a name, as a line is written and rows are chosen
-unfoldable pub with_versions : ℕ → Format → RowFilter → Style
+unfoldable pub with_versions : ℕ → Format → RowFilter → ListingStyle
 with_versions cap format choice = record { cap = cap; gnu = true; by_segments = false; format = format; choice = choice; versions = true }
 
 -- the symbols of a library: all, and those that some texts ask for

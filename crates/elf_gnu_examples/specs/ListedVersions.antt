@@ -10,10 +10,10 @@ use Rattle.elf_model.specs.FixturesTables.{one_table}
 use Rattle.elf_model.specs.FixturesVersions.{versioned_library, versioned_without_sections, hostile_library}
 use Rattle.elf_model.specs.Listing.{report_of, HEADER, VERSIONS, ALL, GNU_ALL}
 use Rattle.elf_model.specs.Report.{listing}
-use Rattle.elf_model.specs.Style.{Style, standard}
+use Rattle.elf_model.specs.Style.{ListingStyle, standard}
 
 -- how rows are shown here: 63 bytes of a name, and the names of the GNU system's numbers
-abbrev standard_style : Style
+abbrev standard_style : ListingStyle
 standard_style = record { cap = 63; gnu = true; by_segments = false; format = Columns; choice = EveryRow; versions = false }
 
 -- the listing of some parts of a file, with eight headers permitted, and of its symbol versions alone

@@ -8,7 +8,7 @@ use Rattle.elf_model.specs.Records.{d_tag, p_offset, p_filesz}
 use Rattle.elf_model.specs.Tables.{DYNAMIC_SIZE}
 use Rattle.elf_record.specs.Dyn.{IsDyn}
 use Rattle.elf_record.specs.declared.dyn_entry.Dyn.{Dyn}
-use Rattle.elf_table.specs.Tables.{Rows}
+use Rattle.elf_table.specs.Tables.{TableRange}
 use Rattle.elf_hash.specs.Entries.{AreTaggedEntries, AreListed, EachTag, TakesEntry, dynamic_entry_at, entry_here, first_entry, listed_entry, tagged_entry}
 use Rattle.elf_hash.specs.declared.dyn_entry.DynamicTags.{DynamicTags}
 use Rattle.elf_hash.specs.declared.dyn_entry.DynEntry.{DynEntry}
@@ -86,7 +86,7 @@ module _ (file : List ℕ) (tag : ℕ) where
           ∙ (behind ∙ sym (ap (λ (x : Option ℕ). row_entry x base) (that_more base first n t))))
 
   -- so it stands where the definitions say
-  listed_is : (at : ℕ) (table : Rows) → table.at ≡ p_offset file at → table.count ≡ p_filesz file at / DYNAMIC_SIZE
+  listed_is : (at : ℕ) (table : TableRange) → table.at ≡ p_offset file at → table.count ≡ p_filesz file at / DYNAMIC_SIZE
       → listed_entry file table tag ≡ option_map (dynamic_entry_at file) (tagged_row file at tag)
   unfolding tagged_row
   listed_is at table place count =
@@ -104,7 +104,7 @@ module _ (file : List ℕ) (tag : ℕ) where
       go (Some i) e = rw (e, tagged_row) refl
 
 -- of each tag
-pub entries_are : (file : List ℕ) (at : ℕ) (table : Rows) (found : DynamicTags) → table.at ≡ p_offset file at → table.count ≡ p_filesz file at / DYNAMIC_SIZE
+pub entries_are : (file : List ℕ) (at : ℕ) (table : TableRange) (found : DynamicTags) → table.at ≡ p_offset file at → table.count ≡ p_filesz file at / DYNAMIC_SIZE
     → AreListed file table found → AreTaggedEntries file at found
 entries_are file at table found place count l = record {
   hash = l.hash ∙ listed_is file _ at table place count;
@@ -117,7 +117,7 @@ entries_are file at table found place count l = record {
   verneed = l.verneed ∙ listed_is file _ at table place count;
 }
 
-module _ (file : List ℕ) (table : Rows) (at n before next : ℕ) (old new : DynamicTags) (less : before ≡ suc n) (there : next ≡ at + 16) (t : TakesEntry file at old new)
+module _ (file : List ℕ) (table : TableRange) (at n before next : ℕ) (old new : DynamicTags) (less : before ≡ suc n) (there : next ≡ at + 16) (t : TakesEntry file at old new)
     (e : EachTag (λ entry tag. first_entry entry (tagged_entry file at before tag) ≡ listed_entry file table tag) old) where
   taken : (one other : Option DynEntry) (tag : ℕ) → one ≡ first_entry other (entry_here file at tag) → first_entry other (tagged_entry file at before tag) ≡ listed_entry file table tag
       → first_entry one (tagged_entry file next n tag) ≡ listed_entry file table tag
@@ -135,7 +135,7 @@ module _ (file : List ℕ) (table : Rows) (at n before next : ℕ) (old new : Dy
     verneed = taken _ _ _ t.verneed e.verneed;
   }
 
-module _ (file : List ℕ) (table : Rows) (at n : ℕ) (found : DynamicTags) (none : n ≡ 0)
+module _ (file : List ℕ) (table : TableRange) (at n : ℕ) (found : DynamicTags) (none : n ≡ 0)
     (e : EachTag (λ entry tag. first_entry entry (tagged_entry file at n tag) ≡ listed_entry file table tag) found) where
   pub each_end : AreListed file table found
   each_end = record {

@@ -14,15 +14,15 @@ use Rattle.elf_table.specs.Ledger.{CallReads, IsRead}
 use Rattle.elf_table.specs.declared.fault.Fault.{Fault}
 use Rattle.elf_table.proofs.LedgerLaws.{CallReads-more}
 use Rattle.elf_table.specs.Cursors.{Advances, EndsRows, GivesRow, CursorState, row_at, unread_bytes}
-use Rattle.elf_table.specs.Tables.{Rows, size_of}
+use Rattle.elf_table.specs.Tables.{TableRange, size_of}
 use Rattle.elf_hash.specs.Counts.{IsGnu, IsSysv}
 use Rattle.elf_hash.specs.Extents.{SymbolsBegin, EndsChain, ReturnsExtent, extent_bytes, last_in}
-use Rattle.elf_hash.specs.declared.gnu_table.GnuTable.{GnuTable as Gnu}
-use Rattle.elf_hash.specs.declared.sysv_table.SysvTable.{SysvTable as Sysv}
+use Rattle.elf_hash.specs.declared.gnu_table.GnuHashTable.{GnuHashTable as Gnu}
+use Rattle.elf_hash.specs.declared.sysv_table.SysvHashTable.{SysvHashTable as Sysv}
 use Rattle.elf_hash.proofs.GnuSteps.{chain_is}
 
 -- the words of buckets, as a table
-abbrev pub buckets_of : Gnu → Rows
+abbrev pub buckets_of : Gnu → TableRange
 buckets_of t = record { at = t.place.at + (16 + 8 * t.nbloom); count = t.nbucket; entry = 4 }
 
 -- where one stands

@@ -16,7 +16,7 @@ use Rattle.elf_table.specs.declared.fault.Fault.TheVariants.{Refused, Source}
 use Rattle.elf_table.proofs.LedgerLaws.{CallDid-stop}
 use Rattle.elf_table.specs.Relocations.{RefusedBy}
 use Rattle.elf_table.specs.Sections.{rows}
-use Rattle.elf_table.specs.Tables.{Rows, TableInBounds, size_of}
+use Rattle.elf_table.specs.Tables.{TableRange, TableInBounds, size_of}
 use Rattle.elf_table.specs.Views.{dynamic_table_at, first_of_kind}
 use Rattle.elf_hash.specs.LookupTablesFound.{FindsLookupTables}
 use Rattle.elf_hash.specs.Segments.{entries_asked, scope_by_entries}
@@ -34,7 +34,7 @@ fits_in : (count entry at size : ℕ) → (0 < count → at + count * entry ≤ 
 fits_in zero entry at size h = omega arith
 fits_in (suc n) entry at size h = let a = h (omega arith) in omega (arith, a)
 
-pub size_within : (table : Rows) (size : ℕ) → TableInBounds size table → size_of table ≤ size
+pub size_within : (table : TableRange) (size : ℕ) → TableInBounds size table → size_of table ≤ size
 size_within table size h = fits_in table.count table.entry table.at size h
 
 module _ (file : List ℕ) where
@@ -80,7 +80,7 @@ module _ (file : List ℕ) where
         let refused = checked_fails (segment_dynamic_checks file at) (rows (p_offset file at) (p_filesz file at / 16) 16) fault h in
         subst (λ r. FindsLookupTables file r (Err fault)) (sym segments_are) (segment_fails fault refused)
 
-    module _ (table : Rows) (h : Ok table ≡ dynamic_table_at file (segment_at file index)) where
+    module _ (table : TableRange) (h : Ok table ≡ dynamic_table_at file (segment_at file index)) where
       pub dynamic_is : (first_refusal (segment_dynamic_checks file (segment_at file index)) ≡ None)
           × (rows (p_offset file (segment_at file index)) (p_filesz file (segment_at file index) / 16) 16 ≡ table)
       dynamic_is =

@@ -18,7 +18,7 @@ use Rattle.elf_hash.specs.Counts.{IsGnu}
 use Rattle.elf_hash.specs.declared.answer.SymbolMatch.{SymbolMatch}
 use Rattle.elf_hash.specs.Trials.{TriesSymbol, TriesDefinedSymbol}
 use Rattle.elf_hash.specs.Walks.{HoldsHash, walk_bytes}
-use Rattle.elf_hash.specs.declared.gnu_table.GnuTable.{GnuTable}
+use Rattle.elf_hash.specs.declared.gnu_table.GnuHashTable.{GnuHashTable}
 use Rattle.elf_hash.proofs.WalkLaws.{Meets, bytes_most, bytes_tried, meets_answer, meets_fault, meets_refusal, meets_untried}
 
 -- one where it is so
@@ -314,22 +314,22 @@ module _ (file : List ℕ) (table : Table) (hash : ℕ) (says : ℕ → Result B
         })
 
 -- where the words of a table stand, and what its symbol indexes are
-pub filter_is : (file : List ℕ) (table : Table) (hash word : ℕ) (t : GnuTable) → IsGnu file table t
+pub filter_is : (file : List ℕ) (table : Table) (hash word : ℕ) (t : GnuHashTable) → IsGnu file table t
     → word ≡ field file (t.place.at + (16 + 8 * (hash / 64 % t.nbloom))) 8
     → (is_set word (hash % 64) && is_set word (hash / 2 ^ t.shift % 64)) ≡ filter_may_contain file table.place hash
 unfolding filter_may_contain
 filter_is file table hash word t is read = rw (read, is.place.start, is.filters, is.shift) refl
 
-pub bucket_is : (file : List ℕ) (table : Table) (hash : ℕ) (t : GnuTable) → IsGnu file table t
+pub bucket_is : (file : List ℕ) (table : Table) (hash : ℕ) (t : GnuHashTable) → IsGnu file table t
     → t.place.at + (16 + 8 * t.nbloom + 4 * (hash % t.nbucket)) ≡ gnu_bucket_of file table.place hash
 unfolding gnu_bucket_of
 bucket_is file table hash t is = rw (is.place.start, is.filters, is.buckets) refl
 
-pub chain_is : (file : List ℕ) (table : Table) (index : ℕ) (t : GnuTable) → IsGnu file table t
+pub chain_is : (file : List ℕ) (table : Table) (index : ℕ) (t : GnuHashTable) → IsGnu file table t
     → t.place.at + (16 + 8 * t.nbloom + 4 * t.nbucket + 4 * (index - t.first)) ≡ gnu_chain_at file table.place index
 chain_is file table index t is = rw (is.place.start, is.filters, is.buckets, is.first) refl
 
-pub chained_is : (file : List ℕ) (table : Table) (index : ℕ) (t : GnuTable) → IsGnu file table t
+pub chained_is : (file : List ℕ) (table : Table) (index : ℕ) (t : GnuHashTable) → IsGnu file table t
     → (not (nat_lt index t.first) && nat_lt index t.place.symbols
     && not (nat_lt t.place.size (16 + 8 * t.nbloom + 4 * t.nbucket + 4 * (index - t.first) + 4)))
     ≡ is_chained file table index

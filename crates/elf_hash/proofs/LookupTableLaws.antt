@@ -14,7 +14,7 @@ use Rattle.elf_table.specs.declared.fault.Fault.TheVariants.{Refused, Source}
 use Rattle.elf_table.specs.HashSections.{ChecksThenValue}
 use Rattle.elf_table.specs.Relocations.{RefusedBy}
 use Rattle.elf_table.specs.Sections.{strings}
-use Rattle.elf_table.specs.Tables.{Rows, StringTableRange, strings_in}
+use Rattle.elf_table.specs.Tables.{TableRange, StringTableRange, strings_in}
 use Rattle.elf_table.specs.Views.{rest_mapped, strings_mapped}
 use Rattle.elf_hash.specs.Entries.{AreTaggedEntries, dynamic_entry_at}
 use Rattle.elf_hash.specs.HashStyles.{hash_style_of}
@@ -24,7 +24,7 @@ use Rattle.elf_hash.specs.Versions.{AreVersions}
 use Rattle.elf_hash.specs.declared.dyn_entry.DynamicTags.{DynamicTags}
 use Rattle.elf_hash.specs.declared.dyn_entry.DynEntry.{DynEntry}
 use Rattle.elf_hash.specs.declared.lookup_tables.LookupTables.{LookupTables}
-use Rattle.elf_hash.specs.declared.symbols.Symbols.{Symbols}
+use Rattle.elf_hash.specs.declared.symbols.DynamicSymbols.{DynamicSymbols}
 use Rattle.elf_hash.specs.declared.versions.VersionTables.{VersionTables}
 use Rattle.elf_hash.proofs.SettleLaws.{checked_fails, checked_passes, passed_both, refused_back, refused_front}
 use Rattle.elf_hash.proofs.SegmentLaws.{IsRest, entry_passes, entry_refused, row_some}
@@ -112,7 +112,7 @@ module _ (file : List ℕ) (at row : ℕ) where
         (refused_front (missing_rows ++ symbol_rows ++ string_rows) (version_rows file at) fault
         (refused_front (missing_rows ++ symbol_rows) string_rows fault (refused_back missing_rows symbol_rows fault present here)))
 
-    module _ (table : Rows) (h : Ok table ≡ rest_mapped file symtab.value symtab.at) where
+    module _ (table : TableRange) (h : Ok table ≡ rest_mapped file symtab.value symtab.at) where
       rest_is : (first_refusal (rest_checks file symtab.at) ≡ None) × IsRest file symtab.at table
       rest_is = entry_passes file symtab table symtab_here.1 h
 
@@ -139,7 +139,7 @@ module _ (file : List ℕ) (at row : ℕ) where
         pub versions_refuse : (fault : Fault) → RefusedBy (version_rows file at) fault → RefusedBy (rows_checks file at row) fault
         versions_refuse fault r = rw rows_are (refused_back (missing_rows ++ symbol_rows ++ string_rows) (version_rows file at) fault strings_pass r)
 
-        pub symbols_settle : (index : ℕ) (symbols : Symbols) (versions : VersionTables)
+        pub symbols_settle : (index : ℕ) (symbols : DynamicSymbols) (versions : VersionTables)
             → ChecksThenValue (version_rows file at) (AreVersions file (segment_words file index at) (rows_records file at)) (Ok versions)
             → symbols.index ≡ index → symbols.table.at ≡ table.at → symbols.table.count ≡ table.count / 24 → symbols.names ≡ names
             → symbols.words ≡ versions.words → symbols.definitions ≡ versions.definitions → symbols.needs ≡ versions.needs
@@ -182,7 +182,7 @@ module _ (file : List ℕ) (kind : IsHashKind) (index at : ℕ) (entry : DynEntr
   hash_refuses fault h =
       rw all_are (refused_front (rest_checks file entry.at ++ shape) (rows_checks file at entry.at) fault (refused_front (rest_checks file entry.at) shape fault (entry_refused file entry fault value h)))
 
-  module _ (table : Rows) (h : Ok table ≡ rest_mapped file entry.value entry.at) where
+  module _ (table : TableRange) (h : Ok table ≡ rest_mapped file entry.value entry.at) where
     hash_is : (first_refusal (rest_checks file entry.at) ≡ None) × IsRest file entry.at table
     hash_is = entry_passes file entry table value h
 

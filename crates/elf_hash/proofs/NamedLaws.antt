@@ -11,7 +11,7 @@ use Rattle.elf_table.specs.declared.fault.Fault.{Fault}
 use Rattle.elf_table.specs.declared.fault.Fault.TheVariants.{Refused, Source}
 use Rattle.elf_table.specs.Cursors.{row_at}
 use Rattle.elf_table.specs.NamesRead.{ComparesName}
-use Rattle.elf_table.specs.Tables.{Rows, StringTableRange, strings_in}
+use Rattle.elf_table.specs.Tables.{TableRange, StringTableRange, strings_in}
 use Rattle.elf_hash.specs.declared.answer.SymbolMatch.{SymbolMatch}
 use Rattle.elf_hash.specs.Trials.{SaysHasName, TriesSymbol}
 
@@ -21,7 +21,7 @@ picked symbol (Ok true) = Ok (Some (record { symbol = symbol; version = None }))
 picked symbol (Ok false) = Ok None
 picked symbol (Err fault) = Err fault
 
-module _ (file : List ℕ) (symbols : Rows) (names : StringTableRange) (wanted : List ℕ) (says : ℕ → Result Bool Refusal) (is : SaysHasName file symbols names wanted says) (index : ℕ) where
+module _ (file : List ℕ) (symbols : TableRange) (names : StringTableRange) (wanted : List ℕ) (says : ℕ → Result Bool Refusal) (is : SaysHasName file symbols names wanted says) (index : ℕ) where
   pub row_is : row_at symbols index ≡ symbol_at file is.table index
   row_is = rw (is.start, is.entry) (omega arith)
 

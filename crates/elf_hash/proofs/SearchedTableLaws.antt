@@ -1,7 +1,7 @@
 -- The counts of a table of either kind are held against its size, as a loader's lookup does; and its walk is the one there.
 use Rattle.std.proofs.Common.{◌≡◌, ℕ, Bool, List, [], ◌∷◌, Ok, Err, refl, sym, ap, ◌∙◌}
 use Rattle.elf_model.specs.Checks.{first_refusal, refuse}
-use Rattle.elf_model.specs.Loader.{Wanted, answers}
+use Rattle.elf_model.specs.Loader.{SymbolQuery, answers}
 use Rattle.elf_model.specs.LoaderFind.{counts_check, walk_in}
 use Rattle.elf_model.specs.LoaderScope.{GnuTable, LookupTables, SysvTable}
 use Rattle.elf_model.specs.declared.causes.Cause.TheVariants.{HashShape}
@@ -10,10 +10,10 @@ use Rattle.elf_table.specs.declared.fault.Fault.TheVariants.{Refused, Source}
 use Rattle.elf_hash.specs.Counts.{HasGnuCounts, HasSysvCounts, gnu_misshapen, sysv_misshapen}
 use Rattle.elf_hash.specs.HashStyles.{hash_style_of}
 use Rattle.elf_hash.specs.SearchedTables.{HasCounts, IsPlaceIn, walked_in}
-use Rattle.elf_hash.specs.declared.gnu_table.GnuTable.{GnuTable as GnuHashTable}
+use Rattle.elf_hash.specs.declared.gnu_table.GnuHashTable.{GnuHashTable as GnuHashTable}
 use Rattle.elf_hash.specs.declared.hash_style.HashStyle.TheVariants.{Gnu, Sysv}
 use Rattle.elf_hash.specs.declared.place.HashTableLocation.{HashTableLocation}
-use Rattle.elf_hash.specs.declared.sysv_table.SysvTable.{SysvTable as SysvHashTable}
+use Rattle.elf_hash.specs.declared.sysv_table.SysvHashTable.{SysvHashTable as SysvHashTable}
 use Rattle.elf_hash.specs.declared.table.HashTable.TheVariants.{Gnu as IsGnuTable, Sysv as IsSysvTable}
 
 module _ (file : List ℕ) (scope : LookupTables) (place : HashTableLocation) (is : IsPlaceIn scope place) where
@@ -48,7 +48,7 @@ module _ (file : List ℕ) (scope : LookupTables) (place : HashTableLocation) (i
   sysv_fails (Source fault at) sysv counts = tt
 
 -- the walk of a loader's lookup is that of its trial
-pub walk_in_is : (file : List ℕ) (scope : LookupTables) (wanted : Wanted) (is_wanted : ℕ → Bool)
+pub walk_in_is : (file : List ℕ) (scope : LookupTables) (wanted : SymbolQuery) (is_wanted : ℕ → Bool)
     → walk_in file scope wanted is_wanted ≡ walked_in file scope wanted.name (answers file scope.symbols wanted is_wanted)
 unfolding walk_in
 walk_in_is file scope wanted is_wanted = refl

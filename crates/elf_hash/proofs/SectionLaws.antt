@@ -10,7 +10,7 @@ use Rattle.elf_model.specs.declared.versions.VersionKind.TheVariants.{Definition
 use Rattle.elf_table.specs.declared.fault.Fault.{Fault}
 use Rattle.elf_table.specs.declared.fault.Fault.TheVariants.{Refused, Source}
 use Rattle.elf_table.specs.HashSections.{AreHashed, ChecksThenValue}
-use Rattle.elf_table.specs.Tables.{Rows, StringTableRange, strings_in}
+use Rattle.elf_table.specs.Tables.{TableRange, StringTableRange, strings_in}
 use Rattle.elf_hash.specs.HashStyles.{hash_style_of}
 use Rattle.elf_hash.specs.LookupTablesFound.{FindsLookupTables, IsLookupTables}
 use Rattle.elf_hash.specs.Versions.{AreVersions}
@@ -45,7 +45,7 @@ module _ (file : List ℕ) where
   sections_find found e (Err (Source fault at)) s = absurd s
 
 -- what a section with a hash table answers, once its checks pass
-pub section_is : (file : List ℕ) (kind : IsHashKind) (at : ℕ) (scope : LookupTables) (found : ℕ × (Rows × StringTableRange)) (versions : VersionTables)
+pub section_is : (file : List ℕ) (kind : IsHashKind) (at : ℕ) (scope : LookupTables) (found : ℕ × (TableRange × StringTableRange)) (versions : VersionTables)
     → ChecksThenValue (hash_checks_from (least_size kind) file at) (AreHashed file at) (Ok found)
     → ChecksThenValue (version_checks file at) (AreVersions file (section_words file) (records_of_type file SHT_GNU_VERDEF Definition (records_of_type file SHT_GNU_VERNEED File []))) (Ok versions)
     → scope.machine ≡ e_machine file → hash_style_of scope.hash.kind ≡ kind → scope.hash.head ≡ at → scope.hash.at ≡ sh_offset file at → scope.hash.size ≡ sh_size file at
@@ -64,7 +64,7 @@ section_is file kind at scope found versions h v machine is_kind head place size
     count = count ∙ h.1.symbols.counted;
     symbols = record {
       index = index ∙ h.1.link;
-      place = ap (λ (t : Rows). t.at) table ∙ h.1.symbols.placed;
+      place = ap (λ (t : TableRange). t.at) table ∙ h.1.symbols.placed;
       names = λ some. ap (strings_in file) names ∙ ap (strings_in file) (h.1.symbols.named (rw table at some));
       names_at = λ some. ap (λ (s : StringTableRange). s.at) (names ∙ h.1.symbols.named (rw table at some));
       words = rw words v.1.words;

@@ -2,7 +2,7 @@
 use Rattle.std.proofs.Common.{◌≡◌, ℕ, ◌+◌, ◌-◌, ◌/◌, Bool, true, false, List, [], ◌∷◌, ◌++◌, length, Option, None, Some, Ok, Err, refl, sym, ap, subst, ◌∙◌}
 use Rattle.std.specs.Prelude.{◌&&◌, is_none, is_some, not, option_map}
 use Rattle.elf_model.specs.Checks.{Check, refuse, first_refusal, is_outside}
-use Rattle.elf_model.specs.Loader.{VersionRecordTable as IsTableOf, VersionWords as IsWordsOf}
+use Rattle.elf_model.specs.Loader.{VersionRecordTable as IsTableOf, VersymTable as IsWordsOf}
 use Rattle.elf_model.specs.LoaderScope.{GnuTable, SysvTable, checks_of_row, hash_row, records_of_tag, rest_checks, rest_place, rest_size, segment_strings, segment_words, tagged_row, words_row}
 use Rattle.elf_model.specs.Mapped.{mapped_at, mapped_place}
 use Rattle.elf_model.specs.Numbers.{DT_HASH, DT_GNU_HASH, DT_VERDEF, DT_VERNEED}
@@ -15,7 +15,7 @@ use Rattle.elf_table.specs.declared.fault.Fault.TheVariants.{Refused}
 use Rattle.elf_table.specs.HashSections.{ChecksThenValue}
 use Rattle.elf_table.specs.Relocations.{RefusedBy}
 use Rattle.elf_table.specs.Sections.{rows}
-use Rattle.elf_table.specs.Tables.{Rows, strings_in}
+use Rattle.elf_table.specs.Tables.{TableRange, strings_in}
 use Rattle.elf_table.specs.Views.{rest_mapped, rest_of}
 use Rattle.elf_hash.specs.Entries.{AreTaggedEntries, dynamic_entry_at}
 use Rattle.elf_hash.specs.Segments.{ReturnsHash, rows_records, version_rows}
@@ -25,13 +25,13 @@ use Rattle.elf_hash.specs.declared.dyn_entry.DynamicTags.{DynamicTags}
 use Rattle.elf_hash.specs.declared.dyn_entry.DynEntry.{DynEntry}
 use Rattle.elf_hash.specs.declared.hash_style.HashStyle.TheVariants.{Gnu, Sysv}
 use Rattle.elf_hash.specs.declared.symbols.VersionRecordTable.{VersionRecordTable}
-use Rattle.elf_hash.specs.declared.symbols.VersionWords.{VersionWords}
+use Rattle.elf_hash.specs.declared.symbols.VersymTable.{VersymTable}
 use Rattle.elf_hash.specs.declared.versions.VersionTables.{VersionTables}
 use Rattle.elf_hash.proofs.SettleLaws.{checked_fails, checked_passes, passed_both, refused_back, refused_front}
 use Rattle.elf_hash.proofs.VersionLaws.{both_in_front, records_kept}
 
 -- bytes are the rest of the address of an entry
-pub record IsRest (file : List ℕ) (row : ℕ) (table : Rows) : Type 0 where
+pub record IsRest (file : List ℕ) (row : ℕ) (table : TableRange) : Type 0 where
   pub place : table.at ≡ rest_place file row
   pub size : table.count ≡ rest_size file row
 
@@ -48,7 +48,7 @@ module _ (file : List ℕ) where
   row_none (Some at) h = absurd (cc)
 
   -- the rest of its address
-  pub rest_passes : (row : ℕ) (table : Rows) → Ok table ≡ rest_mapped file (d_un file row) row → (first_refusal (rest_checks file row) ≡ None) × IsRest file row table
+  pub rest_passes : (row : ℕ) (table : TableRange) → Ok table ≡ rest_mapped file (d_un file row) row → (first_refusal (rest_checks file row) ≡ None) × IsRest file row table
   unfolding rest_checks rest_size
   rest_passes row table h = go (mapped_at file (d_un file row) 1) refl
     where
@@ -61,7 +61,7 @@ module _ (file : List ℕ) where
           let place : rest_place file row ≡ p_offset file at + (d_un file row - p_vaddr file at) = rw (m, rest_place, mapped_place) refl in
           let size : rest_size file row ≡ p_filesz file at - (d_un file row - p_vaddr file at) = rw (m, rest_size) refl in
           let checks : rest_checks file row ≡ refuse (is_outside (length file) (p_offset file at) (p_filesz file at)) at TableOutside ∷ [] = rw (m, rest_checks) refl in
-          (ap first_refusal checks ∙ p.0, record { place = sym (ap (λ (t : Rows). t.at) p.1) ∙ sym place; size = sym (ap (λ (t : Rows). t.count) p.1) ∙ sym size })
+          (ap first_refusal checks ∙ p.0, record { place = sym (ap (λ (t : TableRange). t.at) p.1) ∙ sym place; size = sym (ap (λ (t : TableRange). t.count) p.1) ∙ sym size })
 
   pub rest_refused : (row : ℕ) (fault : Fault) → Err fault ≡ rest_mapped file (d_un file row) row → RefusedBy (rest_checks file row) fault
   unfolding rest_checks
@@ -81,7 +81,7 @@ module _ (file : List ℕ) where
           (rows (p_offset file at + (d_un file row - p_vaddr file at)) (p_filesz file at - (d_un file row - p_vaddr file at)) 1) fault a)
 
   -- by the entry's own value
-  pub entry_passes : (entry : DynEntry) (table : Rows) → d_un file entry.at ≡ entry.value → Ok table ≡ rest_mapped file entry.value entry.at
+  pub entry_passes : (entry : DynEntry) (table : TableRange) → d_un file entry.at ≡ entry.value → Ok table ≡ rest_mapped file entry.value entry.at
       → (first_refusal (rest_checks file entry.at) ≡ None) × IsRest file entry.at table
   entry_passes entry table value h = rest_passes entry.at table (h ∙ ap (λ (v : ℕ). rest_mapped file v entry.at) (sym value))
 
@@ -204,7 +204,7 @@ module _ (file : List ℕ) (index at : ℕ) where
     rows_are : version_rows file at ≡ rest_checks file entry.at ++ definition_rows ++ need_rows
     rows_are = ap (λ (r : Option ℕ). checks_of_row r (λ (row : ℕ). rest_checks file row ++ definition_rows ++ need_rows)) words_here.0
 
-    pub words_rest : (rest : Rows) → Ok rest ≡ rest_mapped file entry.value entry.at → (first_refusal (rest_checks file entry.at) ≡ None) × IsRest file entry.at rest
+    pub words_rest : (rest : TableRange) → Ok rest ≡ rest_mapped file entry.value entry.at → (first_refusal (rest_checks file entry.at) ≡ None) × IsRest file entry.at rest
     words_rest rest h = entry_passes file entry rest words_here.1 h
 
     pub words_row_refused : (fault : Fault) → Err fault ≡ rest_mapped file entry.value entry.at → RefusedBy (version_rows file at) fault
@@ -212,19 +212,19 @@ module _ (file : List ℕ) (index at : ℕ) where
         rw rows_are (refused_front (rest_checks file entry.at ++ definition_rows) need_rows fault
         (refused_front (rest_checks file entry.at) definition_rows fault (entry_refused file entry fault words_here.1 h)))
 
-    pub definition_row_refused : (rest : Rows) (fault : Fault) → Ok rest ≡ rest_mapped file entry.value entry.at → RefusedBy definition_rows fault
+    pub definition_row_refused : (rest : TableRange) (fault : Fault) → Ok rest ≡ rest_mapped file entry.value entry.at → RefusedBy definition_rows fault
         → RefusedBy (version_rows file at) fault
     definition_row_refused rest fault h r =
         rw rows_are (refused_front (rest_checks file entry.at ++ definition_rows) need_rows fault
         (refused_back (rest_checks file entry.at) definition_rows fault (words_rest rest h).0 r))
 
-    pub need_row_refused : (rest : Rows) (fault : Fault) → Ok rest ≡ rest_mapped file entry.value entry.at → first_refusal definition_rows ≡ None → RefusedBy need_rows fault
+    pub need_row_refused : (rest : TableRange) (fault : Fault) → Ok rest ≡ rest_mapped file entry.value entry.at → first_refusal definition_rows ≡ None → RefusedBy need_rows fault
         → RefusedBy (version_rows file at) fault
     need_row_refused rest fault h d r =
         rw rows_are (refused_back (rest_checks file entry.at ++ definition_rows) need_rows fault
         (passed_both (rest_checks file entry.at) definition_rows (words_rest rest h).0 d) r)
 
-    pub rows_versions : (rest : Rows) (words : VersionWords) (versions : VersionTables) → Ok rest ≡ rest_mapped file entry.value entry.at
+    pub rows_versions : (rest : TableRange) (words : VersymTable) (versions : VersionTables) → Ok rest ≡ rest_mapped file entry.value entry.at
         → words.words.at ≡ rest.at → words.words.count ≡ rest.count / 2 → words.head ≡ entry.at → words.index ≡ index → versions.words ≡ Some words
         → ChecksThenValue definition_rows (AreInFront file (records_of_tag file at DT_VERDEF Definition)) (Ok versions.definitions)
         → ChecksThenValue need_rows (AreInFront file (records_of_tag file at DT_VERNEED File)) (Ok versions.needs)

@@ -6,14 +6,14 @@ use Rattle.elf_hash.specs.SearchedTables.{IsTable, place_of_table}
 use Rattle.elf_hash.specs.declared.table.HashTable.{HashTable}
 use Rattle.elf_hash.specs.declared.table.HashTable.TheVariants.{Gnu, Sysv}
 use Rattle.elf_hash.specs.Symbols.{IsDynamicSymbols}
-use Rattle.elf_hash.specs.declared.symbols.Symbols.{Symbols}
+use Rattle.elf_hash.specs.declared.symbols.DynamicSymbols.{DynamicSymbols}
 
 -- a table is of as many symbols as the definitions say
 as_many : (file : List ℕ) (scope : LookupTables) (table : HashTable) → IsTable file scope table → (place_of_table table).symbols ≡ scope.table.symbols
 as_many file scope (Gnu t) is = is.1.place.symbols
 as_many file scope (Sysv t) is = is.1.place.symbols
 
-pub symbols_after : (file : List ℕ) (scope : LookupTables) (table : HashTable) (found : Symbols) (symbols strings : ℕ) → IsTable file scope table
+pub symbols_after : (file : List ℕ) (scope : LookupTables) (table : HashTable) (found : DynamicSymbols) (symbols strings : ℕ) → IsTable file scope table
     → IsDynamicSymbols file scope.symbols found → found.table.count ≡ (place_of_table table).symbols → symbols ≡ found.table.at → strings ≡ found.names.at
     → SymbolsBegin scope symbols strings
 symbols_after file scope table found symbols strings is are count begin names =

@@ -18,7 +18,7 @@ use Rattle.elf_hash.specs.Counts.{IsSysv}
 use Rattle.elf_hash.specs.declared.answer.SymbolMatch.{SymbolMatch}
 use Rattle.elf_hash.specs.Trials.{TriesSymbol}
 use Rattle.elf_hash.specs.Walks.{walk_bytes}
-use Rattle.elf_hash.specs.declared.sysv_table.SysvTable.{SysvTable}
+use Rattle.elf_hash.specs.declared.sysv_table.SysvHashTable.{SysvHashTable}
 use Rattle.elf_hash.proofs.WalkLaws.{Meets, bytes_tried, meets_answer, meets_fault, meets_refusal, meets_untried}
 
 module _ (file : List ℕ) (table : Table) (hash : ℕ) (says : ℕ → Result Bool Refusal) where
@@ -202,11 +202,11 @@ module _ (file : List ℕ) (table : Table) (hash : ℕ) (says : ℕ → Result B
           })
 
 -- where the words of a table stand
-pub bucket_is : (file : List ℕ) (table : Table) (hash : ℕ) (t : SysvTable) → IsSysv file table t
+pub bucket_is : (file : List ℕ) (table : Table) (hash : ℕ) (t : SysvHashTable) → IsSysv file table t
     → t.place.at + (8 + 4 * (hash % t.nbucket)) ≡ sysv_bucket_of file table.place hash
 unfolding sysv_bucket_of
 bucket_is file table hash t is = rw (is.place.start, is.buckets) refl
 
-pub chain_is : (file : List ℕ) (table : Table) (index : ℕ) (t : SysvTable) → IsSysv file table t
+pub chain_is : (file : List ℕ) (table : Table) (index : ℕ) (t : SysvHashTable) → IsSysv file table t
     → t.place.at + (8 + 4 * t.nbucket + 4 * index) ≡ sysv_chain_at file table.place index
 chain_is file table index t is = rw (is.place.start, is.buckets) refl

@@ -2,7 +2,7 @@
 use Rattle.std.proofs.Common.{◌≡◌, ℕ, ◌/◌, ◌<◌, ◌==◌, not, true, false, inl, inr, List, [], ◌∷◌, ◌++◌, length, Option, None, Some, Ok, Err, refl, sym, ap, ◌∙◌, arith, eq-eqb}
 use Rattle.std.proofs.lemmas.Bool.{cases_Bool, eqb-true}
 use Rattle.elf_model.specs.Checks.{Check, refuse, first_refusal, unless_empty, range_checks_of, table_checks, strings_checks}
-use Rattle.elf_model.specs.Loader.{VersionWords as IsWordsOf, VersionRecordTable as IsTableOf}
+use Rattle.elf_model.specs.Loader.{VersymTable as IsWordsOf, VersionRecordTable as IsTableOf}
 use Rattle.elf_model.specs.LoaderScope.{checks_of_type, has_bytes, records_of_type, records_with, section_words, version_checks, words_section}
 use Rattle.elf_model.specs.Numbers.{SHT_GNU_VERSYM, SHT_GNU_VERDEF, SHT_GNU_VERNEED}
 use Rattle.elf_model.specs.Records.{section_at, sh_offset, sh_size, sh_link}
@@ -16,12 +16,12 @@ use Rattle.elf_table.specs.declared.fault.Fault.{Fault}
 use Rattle.elf_table.specs.HashSections.{ChecksThenValue}
 use Rattle.elf_table.specs.Relocations.{RefusedBy}
 use Rattle.elf_table.specs.Sections.{byte_rows, rows, string_table_at, table_at}
-use Rattle.elf_table.specs.Tables.{Rows, strings_in}
+use Rattle.elf_table.specs.Tables.{TableRange, strings_in}
 use Rattle.elf_table.proofs.RelocationLaws.{table-fails, table-passes}
 use Rattle.elf_hash.specs.Symbols.{AreVersionRecordTables, AreVersymTable, IsVersionRecordTable, IsVersymTable, table_if_any}
 use Rattle.elf_hash.specs.Versions.{AreInFront, AreVersions, records_at, words_checks}
 use Rattle.elf_hash.specs.declared.symbols.VersionRecordTable.{VersionRecordTable}
-use Rattle.elf_hash.specs.declared.symbols.VersionWords.{VersionWords}
+use Rattle.elf_hash.specs.declared.symbols.VersymTable.{VersymTable}
 use Rattle.elf_hash.specs.declared.versions.VersionTables.{VersionTables}
 use Rattle.elf_hash.proofs.SettleLaws.{checked_fails, checked_passes, none_refused, passed_both, refused_back, refused_front}
 
@@ -37,7 +37,7 @@ module _ (file : List ℕ) (at : ℕ) where
   own_refused : (fault : Fault) → Err fault ≡ table_at file at 2 → RefusedBy (words_own file at) fault
   own_refused fault h = let p = table-fails (sh_size file at == 0) _ _ (table_checks file at 2) fault (sym h) in rw p.0 p.1
 
-  own_passes : (table : Rows) → Ok table ≡ table_at file at 2
+  own_passes : (table : TableRange) → Ok table ≡ table_at file at 2
       → (first_refusal (words_own file at) ≡ None) × ((table.at ≡ sh_offset file at) × (table.count ≡ sh_size file at / 2))
   own_passes table h =
       let p = table-passes (sh_size file at == 0) (rows (sh_offset file at) 0 2) (rows (sh_offset file at) (sh_size file at / 2) 2) table (table_checks file at 2) (sym h) in
@@ -45,10 +45,10 @@ module _ (file : List ℕ) (at : ℕ) where
         | inl empty ↦
             let is : rows (sh_offset file at) 0 2 ≡ table = rw empty at p.1 in
             let none : 0 ≡ sh_size file at / 2 = rw (eqb-true (sh_size file at) 0 empty) refl in
-            (p.0, (sym (ap (λ (t : Rows). t.at) is), sym (ap (λ (t : Rows). t.count) is) ∙ none))
+            (p.0, (sym (ap (λ (t : TableRange). t.at) is), sym (ap (λ (t : TableRange). t.count) is) ∙ none))
         | inr some ↦
             let is : rows (sh_offset file at) (sh_size file at / 2) 2 ≡ table = rw some at p.1 in
-            (p.0, (sym (ap (λ (t : Rows). t.at) is), sym (ap (λ (t : Rows). t.count) is)))
+            (p.0, (sym (ap (λ (t : TableRange). t.at) is), sym (ap (λ (t : TableRange). t.count) is)))
       ]
 
 -- it is looked at where one of both kinds of records has a byte
@@ -85,7 +85,7 @@ module _ (file : List ℕ) (at : ℕ) where
     pub words_refused : (fault : Fault) → Err fault ≡ table_at file (section_at file i) 2 → RefusedBy (words_checks file at) fault
     words_refused fault h = rw these (refused_front (words_own file (section_at file i)) link fault (own_refused file (section_at file i) fault h))
 
-    pub words_are : (words : VersionWords) → Ok words.words ≡ table_at file (section_at file i) 2 → words.head ≡ section_at file i → words.index ≡ i
+    pub words_are : (words : VersymTable) → Ok words.words ≡ table_at file (section_at file i) 2 → words.head ≡ section_at file i → words.index ≡ i
         → sh_link file (section_at file i) ≡ sh_link file at → ChecksThenValue (words_checks file at) (AreVersymTable (section_words file)) (Ok (Some words))
     unfolding link section_words
     words_are words h head index same =
@@ -99,14 +99,14 @@ module _ (file : List ℕ) (at : ℕ) where
 
 -- the records of a section
 module _ (file : List ℕ) (at : ℕ) where
-  pub strings_refused : (table : Rows) (fault : Fault) → Ok table ≡ byte_rows (length file) (sh_offset file at) (sh_size file at) at → 0 < table.count
+  pub strings_refused : (table : TableRange) (fault : Fault) → Ok table ≡ byte_rows (length file) (sh_offset file at) (sh_size file at) at → 0 < table.count
       → Err fault ≡ string_table_at file at → RefusedBy (all_checks version_table file at) fault
   strings_refused table fault h some s =
       let p = table-passes (sh_size file at == 0) (rows (sh_offset file at) 0 1) (rows (sh_offset file at) (sh_size file at) 1) table (range_own file at) (sym h) in
       elim (cases_Bool (sh_size file at == 0)) [
         | inl empty ↦
             let is : rows (sh_offset file at) 0 1 ≡ table = rw empty at p.1 in
-            let none : 0 ≡ table.count = ap (λ (t : Rows). t.count) is in absurd (omega (arith, none, some))
+            let none : 0 ≡ table.count = ap (λ (t : TableRange). t.count) is in absurd (omega (arith, none, some))
         | inr full ↦
             rw full (refused_back (range_own file at) (strings_checks file at) fault (rw full at p.0) (checked_fails (strings_checks file at) _ fault s))
       ]
@@ -119,20 +119,20 @@ module _ (file : List ℕ) (at : ℕ) where
       elim (cases_Bool (sh_size file at == 0)) [
         | inl empty ↦
             let is : rows (sh_offset file at) 0 1 ≡ records.table = rw empty at p.1 in
-            let none : 0 ≡ records.table.count = ap (λ (t : Rows). t.count) is in
+            let none : 0 ≡ records.table.count = ap (λ (t : TableRange). t.count) is in
             let zero : 0 ≡ sh_size file at = sym (eqb-true (sh_size file at) 0 empty) in (
               rw empty refl,
               record {
                 kind = same;
                 head = head;
-                place = sym (ap (λ (t : Rows). t.at) is);
+                place = sym (ap (λ (t : TableRange). t.at) is);
                 size = sym none ∙ zero;
                 names = λ some. absurd (omega (arith, none, some));
               },
             )
         | inr full ↦
             let is : rows (sh_offset file at) (sh_size file at) 1 ≡ records.table = rw full at p.1 in
-            let count : sh_size file at ≡ records.table.count = ap (λ (t : Rows). t.count) is in
+            let count : sh_size file at ≡ records.table.count = ap (λ (t : TableRange). t.count) is in
             let other : sh_size file at ≡ 0 → ⊥ = λ z. let f = rw z at full in cc in
             let some : 0 < records.table.count = positive _ (λ z. other (count ∙ z)) in
             let q = checked_passes (strings_checks file at) _ records.names (named some) in (
@@ -140,7 +140,7 @@ module _ (file : List ℕ) (at : ℕ) where
               record {
                 kind = same;
                 head = head;
-                place = sym (ap (λ (t : Rows). t.at) is);
+                place = sym (ap (λ (t : TableRange). t.at) is);
                 size = sym count;
                 names = λ _. ap (strings_in file) (sym q.1);
               },
@@ -185,7 +185,7 @@ both_in_front file front back one other f b =
     f (back []) (table_if_any other) behind
 
 -- the records that stand with words
-pub records_kept : (told : Option IsWordsOf) (words : VersionWords) (records : List IsTableOf) → AreVersymTable told (Some words) → records_with told records ≡ records
+pub records_kept : (told : Option IsWordsOf) (words : VersymTable) (records : List IsTableOf) → AreVersymTable told (Some words) → records_with told records ≡ records
 records_kept None words records h = absurd h
 records_kept (Some one) words records h = refl
 
@@ -208,7 +208,7 @@ module _ (file : List ℕ) (at : ℕ) where
   unfolding version_checks
   all_of_them i e = rw (e, version_checks) refl
 
-  found_words : (found : Option ℕ) (words : VersionWords) → words_section file ≡ found → AreVersymTable (section_words file) (Some words)
+  found_words : (found : Option ℕ) (words : VersymTable) → words_section file ≡ found → AreVersymTable (section_words file) (Some words)
       → version_checks file at ≡ words_checks file at ++ definitions ++ needs
   unfolding section_words
   found_words None words e h = absurd (rw (e, section_words) at h)
@@ -234,7 +234,7 @@ module _ (file : List ℕ) (at : ℕ) where
           (ap first_refusal (none_at_all e), record { words = rw (words, w) tt; records = rw (words, d, n) tt })
       go (Some i) e = absurd (rw (e, section_words) at h)
 
-  module _ (words : VersionWords) (w : ChecksThenValue (words_checks file at) (AreVersymTable (section_words file)) (Ok (Some words))) where
+  module _ (words : VersymTable) (w : ChecksThenValue (words_checks file at) (AreVersymTable (section_words file)) (Ok (Some words))) where
     pub definitions_refuse : (fault : Fault) → RefusedBy definitions fault → RefusedBy (version_checks file at) fault
     definitions_refuse fault r =
         rw (found_words (words_section file) words refl w.1) (refused_front (words_checks file at ++ definitions) needs fault (refused_back (words_checks file at) definitions fault w.0 r))

@@ -7,9 +7,9 @@ use Rattle.elf_model.specs.Hash.{sysv_nbucket, sysv_nchain}
 use Rattle.elf_model.specs.declared.causes.Cause.TheVariants.{HashShape}
 use Rattle.elf_table.specs.declared.fault.Fault.{Fault}
 use Rattle.elf_table.specs.declared.fault.Fault.TheVariants.{Refused, Source}
-use Rattle.elf_hash.specs.declared.gnu_table.GnuTable.{GnuTable}
+use Rattle.elf_hash.specs.declared.gnu_table.GnuHashTable.{GnuHashTable}
 use Rattle.elf_hash.specs.declared.place.HashTableLocation.{HashTableLocation}
-use Rattle.elf_hash.specs.declared.sysv_table.SysvTable.{SysvTable}
+use Rattle.elf_hash.specs.declared.sysv_table.SysvHashTable.{SysvHashTable}
 
 -- it is the place of a table
 pub record IsTablePlace (table : Table) (p : HashTableLocation) : Type 0 where
@@ -18,7 +18,7 @@ pub record IsTablePlace (table : Table) (p : HashTableLocation) : Type 0 where
   pub symbols : p.symbols ≡ table.symbols
 
 -- it is a table of the GNU system in a file, with its counts
-pub record IsGnu (file : List ℕ) (table : Table) (t : GnuTable) : Type 0 where
+pub record IsGnu (file : List ℕ) (table : Table) (t : GnuHashTable) : Type 0 where
   pub place : IsTablePlace table t.place
   pub buckets : t.nbucket ≡ gnu_nbucket file table.place
   pub first : t.first ≡ gnu_first file table.place
@@ -26,7 +26,7 @@ pub record IsGnu (file : List ℕ) (table : Table) (t : GnuTable) : Type 0 where
   pub shift : t.shift ≡ gnu_shift file table.place
 
 -- it is a table of the gABI in a file, with its counts
-pub record IsSysv (file : List ℕ) (table : Table) (t : SysvTable) : Type 0 where
+pub record IsSysv (file : List ℕ) (table : Table) (t : SysvHashTable) : Type 0 where
   pub place : IsTablePlace table t.place
   pub buckets : t.nbucket ≡ sysv_nbucket file table.place
   pub chains : t.nchain ≡ sysv_nchain file table.place
@@ -51,8 +51,8 @@ CountsFit misshapen head is (Err (Refused refusal)) =
 CountsFit misshapen head is (Err (Source fault at)) = Unit {0}
 
 -- the counts of the table at a place
-abbrev pub HasGnuCounts : List ℕ → Table → HashTableLocation → Result GnuTable Fault → Type 0
+abbrev pub HasGnuCounts : List ℕ → Table → HashTableLocation → Result GnuHashTable Fault → Type 0
 HasGnuCounts file table p result = IsTablePlace table p → CountsFit (gnu_misshapen file table) p.head (IsGnu file table) result
 
-abbrev pub HasSysvCounts : List ℕ → Table → HashTableLocation → Result SysvTable Fault → Type 0
+abbrev pub HasSysvCounts : List ℕ → Table → HashTableLocation → Result SysvHashTable Fault → Type 0
 HasSysvCounts file table p result = IsTablePlace table p → CountsFit (sysv_misshapen file table) p.head (IsSysv file table) result

@@ -5,7 +5,7 @@ use Rattle.elf_model.specs.LoaderScope.{tagged_row}
 use Rattle.elf_model.specs.Numbers.{DT_HASH, DT_GNU_HASH, DT_SYMTAB, DT_STRTAB, DT_STRSZ, DT_VERSYM, DT_VERDEF, DT_VERNEED}
 use Rattle.elf_model.specs.Records.{d_tag, d_un}
 use Rattle.elf_model.specs.Tables.{DYNAMIC_SIZE}
-use Rattle.elf_table.specs.Tables.{Rows}
+use Rattle.elf_table.specs.Tables.{TableRange}
 use Rattle.elf_hash.specs.declared.dyn_entry.DynamicTags.{DynamicTags}
 use Rattle.elf_hash.specs.declared.dyn_entry.DynEntry.{DynEntry}
 
@@ -28,7 +28,7 @@ tagged_entry file at zero tag = None
 tagged_entry file at (suc n) tag = elim (d_tag file at == tag) [ true ↦ Some (dynamic_entry_at file at) | false ↦ tagged_entry file (at + DYNAMIC_SIZE) n tag ]
 
 -- the first listed entry with a tag, of those of a table
-abbrev pub listed_entry : List ℕ → Rows → ℕ → Option DynEntry
+abbrev pub listed_entry : List ℕ → TableRange → ℕ → Option DynEntry
 listed_entry file table tag = tagged_entry file table.at (dynamic_count file table.at table.count) tag
 
 -- something is so of the entry with each tag
@@ -58,7 +58,7 @@ pub record TakesEntry (file : List ℕ) (at : ℕ) (old new : DynamicTags) : Typ
   pub verneed : new.verneed ≡ first_entry old.verneed (entry_here file at DT_VERNEED)
 
 -- they are the first listed entries of a table
-abbrev pub AreListed : List ℕ → Rows → DynamicTags → Type 0
+abbrev pub AreListed : List ℕ → TableRange → DynamicTags → Type 0
 AreListed file table found = EachTag (λ entry tag. entry ≡ listed_entry file table tag) found
 
 -- they are those of the segment whose program header stands at an offset

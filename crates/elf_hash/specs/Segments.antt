@@ -22,7 +22,7 @@ use Rattle.elf_hash.specs.declared.dyn_entry.DynamicTags.{DynamicTags}
 use Rattle.elf_hash.specs.declared.dyn_entry.DynEntry.{DynEntry}
 use Rattle.elf_hash.specs.declared.hash_style.HashStyle.{HashStyle}
 use Rattle.elf_hash.specs.declared.lookup_tables.LookupTables.{LookupTables}
-use Rattle.elf_hash.specs.declared.symbols.Symbols.{Symbols}
+use Rattle.elf_hash.specs.declared.symbols.DynamicSymbols.{DynamicSymbols}
 
 -- the entry that locates the hash table, and the kind of that
 abbrev pub ReturnsHash : List ℕ → ℕ → Option (HashStyle × DynEntry) → Type 0
@@ -47,7 +47,7 @@ abbrev pub rows_records : List ℕ → ℕ → List IsTableOf
 rows_records file at = records_of_tag file at DT_VERDEF Definition (records_of_tag file at DT_VERNEED File [])
 
 -- symbols are those at the entries
-pub record AreRowsSymbols (file : List ℕ) (index at : ℕ) (found : Symbols) : Type 0 where
+pub record AreRowsSymbols (file : List ℕ) (index at : ℕ) (found : DynamicSymbols) : Type 0 where
   pub count : found.table.count ≡ (segment_symbols file at).1
   pub symbols : IsDynamicSymbols file (record {
     index = index;

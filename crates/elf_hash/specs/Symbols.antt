@@ -1,20 +1,20 @@
 -- What the symbols of a lookup are of a file, and where they lie.
 use Rattle.std.specs.Prelude.{ℕ, ◌≡◌, ◌<◌, List, [], ◌∷◌, ◌++◌, Option, None, Some, IfSome}
-use Rattle.elf_model.specs.Loader.{VersionWords as IsWordsOf, VersionRecordTable as IsTableOf, Symbols as AreSymbolsOf}
+use Rattle.elf_model.specs.Loader.{VersymTable as IsWordsOf, VersionRecordTable as IsTableOf, DynamicSymbols as AreSymbolsOf}
 use Rattle.elf_table.specs.Tables.{TableInBounds, StringsInBounds, strings_in}
 use Rattle.elf_hash.specs.declared.symbols.VersionRecordTable.{VersionRecordTable}
-use Rattle.elf_hash.specs.declared.symbols.Symbols.{Symbols}
-use Rattle.elf_hash.specs.declared.symbols.VersionWords.{VersionWords}
+use Rattle.elf_hash.specs.declared.symbols.DynamicSymbols.{DynamicSymbols}
+use Rattle.elf_hash.specs.declared.symbols.VersymTable.{VersymTable}
 
 -- the words of symbols' versions are those of the definitions
-pub record IsVersymTable (told : IsWordsOf) (words : VersionWords) : Type 0 where
+pub record IsVersymTable (told : IsWordsOf) (words : VersymTable) : Type 0 where
   pub place : words.words.at ≡ told.place
   pub count : words.words.count ≡ told.count
   pub head : words.head ≡ told.head
   pub index : words.index ≡ told.index
 
 -- there are such words, or none
-abbrev pub AreVersymTable : Option IsWordsOf → Option VersionWords → Type 0
+abbrev pub AreVersymTable : Option IsWordsOf → Option VersymTable → Type 0
 AreVersymTable None None = Unit {0}
 AreVersymTable (Some told) (Some words) = IsVersymTable told words
 AreVersymTable None (Some words) = ⊥
@@ -41,7 +41,7 @@ AreVersionRecordTables file [] (table ∷ tables) = ⊥
 AreVersionRecordTables file (told ∷ others) [] = ⊥
 
 -- WHAT A LOADER KNOWS OF THE SYMBOLS of a file is what the definitions say; the strings of no symbol are not looked at
-pub record IsDynamicSymbols (file : List ℕ) (told : AreSymbolsOf) (symbols : Symbols) : Type 0 where
+pub record IsDynamicSymbols (file : List ℕ) (told : AreSymbolsOf) (symbols : DynamicSymbols) : Type 0 where
   pub index : symbols.index ≡ told.index
   pub place : symbols.table.at ≡ told.place
   pub names : 0 < symbols.table.count → strings_in file symbols.names ≡ told.strings
@@ -55,7 +55,7 @@ pub record VersionRecordsInBounds (size : ℕ) (records : VersionRecordTable) : 
   pub names : StringsInBounds size records.names
 
 -- symbols lie within a source of this size
-pub record DynamicSymbolsInBounds (size : ℕ) (symbols : Symbols) : Type 0 where
+pub record DynamicSymbolsInBounds (size : ℕ) (symbols : DynamicSymbols) : Type 0 where
   pub table : TableInBounds size symbols.table
   pub names : StringsInBounds size symbols.names
   pub words : IfSome symbols.words (λ words. TableInBounds size words.words)

@@ -6,7 +6,7 @@ use Rattle.elf_model.specs.Records.{sh_offset}
 use Rattle.elf_model.specs.SysvWalk.{has_name}
 use Rattle.elf_model.specs.Tables.{strings_of}
 use Rattle.elf_model.specs.declared.causes.Refusal.{Refusal}
-use Rattle.elf_table.specs.Tables.{Rows, StringTableRange, strings_in}
+use Rattle.elf_table.specs.Tables.{TableRange, StringTableRange, strings_in}
 use Rattle.elf_table.specs.declared.fault.Fault.{Fault}
 use Rattle.elf_table.specs.declared.fault.Fault.TheVariants.{Refused, Source}
 use Rattle.elf_hash.specs.declared.answer.SymbolMatch.{SymbolMatch}
@@ -25,7 +25,7 @@ TriesDefinedSymbol true stands says index result = TriesSymbol stands says index
 TriesDefinedSymbol false stands says index result = result ≡ Ok None
 
 -- of the symbols of a section whose header stands at an offset it is said whether they have a name
-pub record SaysHasName (file : List ℕ) (symbols : Rows) (names : StringTableRange) (wanted : List ℕ) (says : ℕ → Result Bool Refusal) : Type 0 where
+pub record SaysHasName (file : List ℕ) (symbols : TableRange) (names : StringTableRange) (wanted : List ℕ) (says : ℕ → Result Bool Refusal) : Type 0 where
   pub table : ℕ
   pub start : symbols.at ≡ sh_offset file table
   pub entry : symbols.entry ≡ 24

@@ -1,7 +1,7 @@
 -- The tables of versions by the section headers: their checks, and what they are.
 use Rattle.std.specs.Prelude.{ℕ, ◌==◌, not, List, [], ◌∷◌, ◌++◌, Option, IfSome}
 use Rattle.elf_model.specs.Checks.{Check, refuse, unless_empty, table_checks}
-use Rattle.elf_model.specs.Loader.{VersionWords as IsWordsOf, VersionRecordTable as IsTableOf}
+use Rattle.elf_model.specs.Loader.{VersymTable as IsWordsOf, VersionRecordTable as IsTableOf}
 use Rattle.elf_model.specs.LoaderScope.{checks_of_section, records_with, words_section}
 use Rattle.elf_model.specs.Records.{sh_offset, sh_size, sh_link}
 use Rattle.elf_model.specs.Tables.{strings_of}

@@ -14,19 +14,19 @@ use crate::hash_style::HashStyle;
 use crate::lookup_tables::LookupTables;
 use crate::place::HashTableLocation;
 use crate::section_versions::section_versions;
-use crate::symbols::Symbols;
+use crate::symbols::DynamicSymbols;
 use elf_record::Cause;
 use elf_record::gnu_numbers::SHT_GNU_HASH;
 use elf_record::numbers::SHT_HASH;
-use elf_table::{Fault, File, refused};
+use elf_table::{Fault, SectionView, refused};
 
 /// The tables that a lookup searches, by the section headers. No bytes are read.
 ///
 /// # Errors
 /// The first that fails: `NoHash` at 0x28 where there is no section with a hash table; the checks of
-/// the hash table's section and of the symbols that it links to, as [`File::hashed`]; those of the
+/// the hash table's section and of the symbols that it links to, as [`SectionView::hashed`]; those of the
 /// tables of versions.
-pub(crate) fn by_sections(file: &File<'_>) -> Result<LookupTables, Fault>
+pub(crate) fn by_sections(file: &SectionView<'_>) -> Result<LookupTables, Fault>
     requires small { file.now.loaded.size < 2 ^ 63 }
     ensures { FindsIn HoldsSectionHeaders file.now.loaded file.now.store.now result LookupTablesInBounds
         (λ bytes. FindsLookupTables bytes (scope_by_sections bytes) result) }
@@ -38,7 +38,7 @@ pub(crate) fn by_sections(file: &File<'_>) -> Result<LookupTables, Fault>
 }
 
 /// The first section with a hash table of the GNU system, else the first with one of the gABI.
-fn hash_section(file: &File<'_>) -> Option<(HashStyle, u16)>
+fn hash_section(file: &SectionView<'_>) -> Option<(HashStyle, u16)>
     ensures below { IfSome result (λ found. found.1 < file.now.store.now.loaded) }
     ensures held { (bytes : List ℕ) → HoldsSectionHeaders bytes file.now.loaded file.now.store.now →
         hash_section bytes ≡ option_map (found_at bytes) result }
@@ -55,9 +55,9 @@ fn hash_section(file: &File<'_>) -> Option<(HashStyle, u16)>
 /// The tables that a lookup searches, by a section with a hash table.
 ///
 /// # Errors
-/// The first check that fails: those of [`File::hashed`], then of the tables of versions.
+/// The first check that fails: those of [`SectionView::hashed`], then of the tables of versions.
 fn section_lookup_tables(
-    file: &File<'_>,
+    file: &SectionView<'_>,
     kind: HashStyle,
     section: u16,
 ) -> Result<LookupTables, Fault>
@@ -79,7 +79,7 @@ fn section_lookup_tables(
             size: header.sh_size,
             symbols: table.len(),
         },
-        symbols: Symbols {
+        symbols: DynamicSymbols {
             index,
             table,
             names,

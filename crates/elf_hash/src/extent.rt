@@ -9,7 +9,7 @@ ghost use Rattle.elf_model.specs.Chains.{HashTable as Place};
 ghost use Rattle.elf_model.specs.LoaderScope.{LookupTables};
 ghost use Rattle.elf_model.specs.Traits.{before_strings, gnu_symbols, max_bucket, unfound};
 
-use crate::gnu_table::GnuTable;
+use crate::gnu_table::GnuHashTable;
 use crate::gnu_walk::is_chain_end;
 use crate::place::HashTableLocation;
 use crate::table::HashTable;
@@ -86,7 +86,11 @@ fn unfound(first: u32, before: u64, room: u64) -> u64
 ///
 /// # Errors
 /// A fault of a read.
-fn gnu_extent<S: Source>(src: &mut Counted<S>, table: &GnuTable, before: u64) -> Result<u64, Fault>
+fn gnu_extent<S: Source>(
+    src: &mut Counted<S>,
+    table: &GnuHashTable,
+    before: u64,
+) -> Result<u64, Fault>
     requires within { table.now.place.at + table.now.place.size ≤ src.old.seen.size }
     requires few { before ≤ table.now.place.symbols }
     ensures did { CallDid src.old src.new (fault_of_result result) table.now.place.size
@@ -105,7 +109,7 @@ fn gnu_extent<S: Source>(src: &mut Counted<S>, table: &GnuTable, before: u64) ->
 ///
 /// # Errors
 /// A fault of a read.
-fn max_bucket<S: Source>(src: &mut Counted<S>, table: &GnuTable) -> Result<u32, Fault>
+fn max_bucket<S: Source>(src: &mut Counted<S>, table: &GnuHashTable) -> Result<u32, Fault>
     requires within { table.now.place.at + table.now.place.size ≤ src.old.seen.size }
     ensures did { CallDid src.old src.new (fault_of_result result) (4 * table.now.nbucket)
         (λ file. (at : Place) → IsGnu file at table.now →
@@ -134,7 +138,11 @@ fn word_in(row: &Row<'_>) -> u32
 ///
 /// # Errors
 /// A fault of a read.
-fn chain_end<S: Source>(src: &mut Counted<S>, table: &GnuTable, start: u64) -> Result<u64, Fault>
+fn chain_end<S: Source>(
+    src: &mut Counted<S>,
+    table: &GnuHashTable,
+    start: u64,
+) -> Result<u64, Fault>
     requires within { table.now.place.at + table.now.place.size ≤ src.old.seen.size }
     requires first { table.now.first ≤ start }
     ensures did { CallDid src.old src.new (fault_of_result result)

@@ -17,12 +17,12 @@ use crate::hash_style::HashStyle;
 use crate::lookup::Lookup;
 use crate::named::NameMatcher;
 use crate::place::HashTableLocation;
-use crate::sysv_table::SysvTable;
+use crate::sysv_table::SysvHashTable;
 use crate::sysv_walk::sysv_walk;
 use crate::table_counts::sysv_counts;
 use elf_record::Cause;
 use elf_source::{Counted, Source};
-use elf_table::{Fault, File, HeaderStore, header, load, refused};
+use elf_table::{Fault, HeaderStore, SectionView, header, load, refused};
 
 /// Looks a name up in a file by its hash table: that of the first HASH section, with the symbols
 /// that it links to (gABI 5, Hash Table). The answer is the first symbol of that name in its chain,
@@ -54,11 +54,15 @@ pub fn find<S: Source>(
 {
     let header = header(src)?;
     let loaded = load(src, store, &header)?;
-    find_in(src, &File { loaded, store }, wanted)
+    find_in(src, &SectionView { loaded, store }, wanted)
 }
 
 /// Looks a name up in a loaded file.
-fn find_in<S: Source>(src: &mut Counted<S>, file: &File<'_>, wanted: &[u8]) -> Result<Lookup, Fault>
+fn find_in<S: Source>(
+    src: &mut Counted<S>,
+    file: &SectionView<'_>,
+    wanted: &[u8],
+) -> Result<Lookup, Fault>
     requires most { length wanted.now ≤ 4096 }
     requires size { file.now.loaded.size ≡ src.old.seen.size }
     ensures did { CallDid src.old src.new (fault_of_result result)
@@ -96,7 +100,7 @@ fn place_of(section: &HashSection) -> HashTableLocation
 fn look_up<S: Source>(
     src: &mut Counted<S>,
     section: &HashSection,
-    table: &SysvTable,
+    table: &SysvHashTable,
     wanted: &[u8],
 ) -> Result<Lookup, Fault>
     requires most { length wanted.now ≤ 4096 }

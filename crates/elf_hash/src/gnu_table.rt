@@ -9,7 +9,7 @@ use elf_table::Table;
 /// each symbol from the first on that it knows, four bytes each. It holds the counts, as they were
 /// read once, and no other word.
 #[derive(Clone, Copy)]
-pub struct GnuTable {
+pub struct GnuHashTable {
     pub(crate) place: HashTableLocation,
     pub(crate) nbucket: u32,
     pub(crate) first: u32,
@@ -21,7 +21,7 @@ pub struct GnuTable {
     pub(crate) ghost fits: { 16 + 8 * nbloom + 4 * nbucket ≤ place.size },
 }
 
-impl GnuTable {
+impl GnuHashTable {
     /// The file offset of the filter's word for a hash.
     pub(crate) fn filter_at(&self, hash: u32) -> u64
         ensures value { result ≡ self.now.place.at + (16 + 8 * (hash / 64 % self.now.nbloom)) }

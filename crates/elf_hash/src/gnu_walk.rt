@@ -11,7 +11,7 @@ ghost use Rattle.elf_model.specs.declared.causes.Refusal.{Refusal};
 
 use crate::answer::SymbolMatch;
 use crate::chain_result::{ChainMatch, ChainResult};
-use crate::gnu_table::GnuTable;
+use crate::gnu_table::GnuHashTable;
 use crate::matcher::Matcher;
 use crate::word_reads::{read_filter, read_word};
 use elf_record::Cause;
@@ -27,7 +27,7 @@ use elf_table::{Fault, refused};
 /// tried. Else a fault of a read.
 pub(crate) fn gnu_walk<S: Source, T: Matcher>(
     src: &mut Counted<S>,
-    table: &GnuTable,
+    table: &GnuHashTable,
     hash: u32,
     trial: &T,
 ) -> Result<ChainResult, Fault>
@@ -57,7 +57,7 @@ pub(crate) fn gnu_walk<S: Source, T: Matcher>(
 /// A fault of a read.
 pub(crate) fn start<S: Source>(
     src: &mut Counted<S>,
-    table: &GnuTable,
+    table: &GnuHashTable,
     hash: u32,
 ) -> Result<Option<u32>, Fault>
     requires within { table.now.place.at + table.now.place.size ≤ src.old.seen.size }
@@ -73,7 +73,7 @@ pub(crate) fn start<S: Source>(
 }
 
 /// Whether the filter's word for a hash has both bits of the hash.
-fn filter_may_contain(table: &GnuTable, word: u64, hash: u32) -> bool
+fn filter_may_contain(table: &GnuHashTable, word: u64, hash: u32) -> bool
     ensures { result ≡ (is_set word (hash % 64) && is_set word (hash / 2 ^ table.now.shift % 64)) }
 {
     is_set(word, hash % 64) && is_set(word, (hash >> table.shift) % 64)
@@ -93,7 +93,7 @@ fn is_set(word: u64, bit: u32) -> bool
 /// Those of [`gnu_walk`].
 fn along_chain<S: Source, T: Matcher>(
     src: &mut Counted<S>,
-    table: &GnuTable,
+    table: &GnuHashTable,
     hash: u32,
     start: u32,
     trial: &T,

@@ -1,6 +1,6 @@
 //! The tables that a lookup searches.
 use crate::place::HashTableLocation;
-use crate::symbols::Symbols;
+use crate::symbols::DynamicSymbols;
 
 /// The tables that a lookup searches: a hash table, and the symbols that it is of. It holds no bytes.
 #[derive(Clone, Copy)]
@@ -10,5 +10,5 @@ pub struct LookupTables {
     /// Where the hash table is. It is of as many symbols as there are.
     pub hash: HashTableLocation,
     /// The symbols.
-    pub symbols: Symbols,
+    pub symbols: DynamicSymbols,
 }

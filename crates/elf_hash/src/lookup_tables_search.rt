@@ -11,7 +11,7 @@ use crate::by_sections::by_sections;
 use crate::by_segments::find_in_segments;
 use crate::lookup_tables::LookupTables;
 use elf_source::{Counted, Source};
-use elf_table::{ExecutionView, Fault, File, HeaderStore, Loaded, header, load};
+use elf_table::{ExecutionView, Fault, HeaderStore, Loaded, SectionView, header, load};
 
 /// The tables that a loader of the GNU system searches in one file (gABI 5, Dynamic Linking;
 /// Linux Standard Base Core, Symbol Versioning). By the section headers: the hash table of the first
@@ -62,7 +62,7 @@ fn loaded_scope<S: Source>(
     ensures within { IfOk result (LookupTablesInBounds src.old.seen.size) }
 {
     if loaded.header().e_shnum != 0 {
-        return by_sections(&File { loaded, store });
+        return by_sections(&SectionView { loaded, store });
     }
     loaded.load_segments(src, store)?;
     find_in_segments(src, &ExecutionView { loaded, store })

@@ -14,12 +14,12 @@ ghost use Rattle.elf_hash.specs.Headers.{FindsIn, HasHeader};
 ghost use Rattle.elf_hash.specs.Symbols.{AreVersymTable, IsVersionRecordTable, VersionRecordsInBounds};
 ghost use Rattle.elf_hash.specs.Versions.{AreInFront, AreVersions, VersionsInBounds, records_at, words_checks};
 
-use crate::symbols::{VersionRecordTable, VersionWords};
+use crate::symbols::{VersionRecordTable, VersymTable};
 use crate::versions::VersionTables;
 use elf_record::gnu_numbers::{SHT_GNU_VERDEF, SHT_GNU_VERNEED, SHT_GNU_VERSYM};
 use elf_record::sizes::SYMBOL_VERSION_BYTES;
 use elf_record::{Cause, VersionKind};
-use elf_table::{Fault, File, Names, Table, refused};
+use elf_table::{Fault, Names, SectionView, Table, refused};
 
 /// The tables of versions of the symbols that the section of a hash table links to: of the first
 /// sections of their types, the words, the definitions and the needs; nothing where there are no
@@ -27,7 +27,7 @@ use elf_table::{Fault, File, Names, Table, refused};
 ///
 /// # Errors
 /// The first check that fails: those of the words, of the definitions, of the needs.
-pub(crate) fn section_versions(file: &File<'_>, link: u32) -> Result<VersionTables, Fault>
+pub(crate) fn section_versions(file: &SectionView<'_>, link: u32) -> Result<VersionTables, Fault>
     requires small { file.now.loaded.size < 2 ^ 63 }
     ensures { FindsIn HoldsSectionHeaders file.now.loaded file.now.store.now result VersionsInBounds (λ bytes.
         (at : ℕ) → sh_link bytes at ≡ link → ChecksThenValue (version_checks bytes at)
@@ -55,8 +55,8 @@ pub(crate) fn section_versions(file: &File<'_>, link: u32) -> Result<VersionTabl
 /// definitions or of needs.
 ///
 /// # Errors
-/// At its header: those of [`File::table`]; `BadLink` where its link is another than `link`.
-fn section_words(file: &File<'_>, link: u32) -> Result<Option<VersionWords>, Fault>
+/// At its header: those of [`SectionView::table`]; `BadLink` where its link is another than `link`.
+fn section_words(file: &SectionView<'_>, link: u32) -> Result<Option<VersymTable>, Fault>
     ensures { FindsIn HoldsSectionHeaders file.now.loaded file.now.store.now result
         (λ size found. IfSome found (λ words. TableInBounds size words.words))
         (λ bytes. (at : ℕ) → sh_link bytes at ≡ link →
@@ -70,7 +70,7 @@ fn section_words(file: &File<'_>, link: u32) -> Result<Option<VersionWords>, Fau
     if file.section(section).sh_link != link {
         return refused(head, Cause::BadLink);
     }
-    Ok(Some(VersionWords {
+    Ok(Some(VersymTable {
         words,
         head,
         index: section,
@@ -79,7 +79,7 @@ fn section_words(file: &File<'_>, link: u32) -> Result<Option<VersionWords>, Fau
 
 /// The first section of the words of symbols' versions, where there are definitions or needs. Without
 /// them no word names a version, and a loader does not look at the words.
-fn words_section(file: &File<'_>) -> Option<u16>
+fn words_section(file: &SectionView<'_>) -> Option<u16>
     ensures below { IfSome result (λ section. section < file.now.store.now.loaded) }
     ensures held { (bytes : List ℕ) → HoldsSectionHeaders bytes file.now.loaded file.now.store.now →
         result ≡ words_section bytes }
@@ -91,7 +91,7 @@ fn words_section(file: &File<'_>) -> Option<u16>
 }
 
 /// Whether there is a section of a type, and the first of them has a byte.
-fn has_bytes(file: &File<'_>, sh_type: u32) -> bool
+fn has_bytes(file: &SectionView<'_>, sh_type: u32) -> bool
     ensures { (bytes : List ℕ) → HoldsSectionHeaders bytes file.now.loaded file.now.store.now →
         result ≡ has_bytes bytes sh_type }
 {
@@ -106,7 +106,7 @@ fn has_bytes(file: &File<'_>, sh_type: u32) -> bool
 /// # Errors
 /// Those of [`section_records`].
 fn first_records(
-    file: &File<'_>,
+    file: &SectionView<'_>,
     sh_type: u32,
     kind: VersionKind,
 ) -> Result<Option<VersionRecordTable>, Fault>
@@ -127,9 +127,9 @@ fn first_records(
 /// The definitions, or the needs, of a section. One of size 0 is not checked.
 ///
 /// # Errors
-/// `TableOutside` at its header where it ends past the end of the file; those of [`File::strings`].
+/// `TableOutside` at its header where it ends past the end of the file; those of [`SectionView::strings`].
 fn section_records(
-    file: &File<'_>,
+    file: &SectionView<'_>,
     section: u16,
     kind: VersionKind,
 ) -> Result<VersionRecordTable, Fault>
@@ -154,8 +154,8 @@ fn section_records(
 /// The string table of the names of records, where there is a byte of them.
 ///
 /// # Errors
-/// Those of [`File::strings`].
-fn record_names(file: &File<'_>, section: u16, table: Table) -> Result<Names, Fault>
+/// Those of [`SectionView::strings`].
+fn record_names(file: &SectionView<'_>, section: u16, table: Table) -> Result<Names, Fault>
     requires below { section < file.now.store.now.loaded }
     ensures some { IfErr result (λ fault. 0 < table.count) }
     ensures finds { FindsIn HoldsSectionHeaders file.now.loaded file.now.store.now result StringsInBounds

@@ -13,7 +13,7 @@ ghost use Rattle.elf_hash.specs.Symbols.{VersionRecordsInBounds, DynamicSymbolsI
 ghost use Rattle.elf_hash.specs.Versions.{AreInFront, AreVersions, VersionsInBounds};
 
 use crate::dyn_entry::{DynEntry, DynamicTags};
-use crate::symbols::{Symbols, VersionRecordTable, VersionWords};
+use crate::symbols::{DynamicSymbols, VersionRecordTable, VersymTable};
 use crate::versions::VersionTables;
 use elf_record::sizes::{SYMBOL_BYTES, SYMBOL_VERSION_BYTES};
 use elf_record::{Cause, VersionKind};
@@ -31,7 +31,7 @@ pub(crate) fn segment_symbols(
     segment: u16,
     found: &DynamicTags,
     row: u64,
-) -> Result<Symbols, Fault>
+) -> Result<DynamicSymbols, Fault>
     requires small { view.now.loaded.size < 2 ^ 63 }
     ensures { FindsIn HoldsProgramHeaders view.now.loaded view.now.store.now result DynamicSymbolsInBounds (λ bytes.
         (at : ℕ) → AreTaggedEntries bytes at found.now →
@@ -43,7 +43,7 @@ pub(crate) fn segment_symbols(
     let rest = view.rest(symtab.value, symtab.at)?;
     let names = view.mapped(strtab.value, strsz.value, strtab.at)?;
     let versions = segment_versions(view, segment, found, names)?;
-    Ok(Symbols {
+    Ok(DynamicSymbols {
         index: segment,
         table: rows_in(rest, SYMBOL_BYTES),
         names,
@@ -107,7 +107,7 @@ fn segment_versions(
     let rest = view.rest(entry.value, entry.at)?;
     let definitions = segment_records(view, found.verdef, VersionKind::Definition, names)?;
     let needs = segment_records(view, found.verneed, VersionKind::File, names)?;
-    let words = VersionWords {
+    let words = VersymTable {
         words: rows_in(rest, SYMBOL_VERSION_BYTES),
         head: entry.at,
         index: segment,

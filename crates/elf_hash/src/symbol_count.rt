@@ -7,12 +7,12 @@ ghost use Rattle.elf_hash.specs.Symbols.{IsDynamicSymbols};
 ghost use Rattle.elf_model.specs.LoaderScope.{LookupTables};
 
 use crate::extent::symbol_extent;
-use crate::symbols::Symbols;
+use crate::symbols::DynamicSymbols;
 use crate::table::HashTable;
 use elf_source::{Counted, Source};
 use elf_table::Fault;
 
-impl Symbols {
+impl DynamicSymbols {
     /// How many symbols there are by their hash table, as [`symbol_extent`] counts them, and no more than
     /// there is room for.
     ///

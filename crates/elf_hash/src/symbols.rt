@@ -8,7 +8,7 @@ use elf_table::{Names, Table};
 /// The words of the versions of symbols, one for each (Linux Standard Base Core, Symbol Version
 /// Table). It holds no bytes.
 #[derive(Clone, Copy)]
-pub struct VersionWords {
+pub struct VersymTable {
     /// The words, rows of 2 bytes.
     pub words: Table,
     /// The file offset of the section header or dynamic entry that locates them, which a refusal of a
@@ -38,7 +38,7 @@ pub struct VersionRecordTable {
 
 /// The symbols that a hash table is of, with the tables of their versions. It holds no bytes.
 #[derive(Clone, Copy)]
-pub struct Symbols {
+pub struct DynamicSymbols {
     /// The index of their section, or of the program header of the dynamic entries.
     pub index: u16,
     /// The symbols, rows of 24 bytes.
@@ -46,7 +46,7 @@ pub struct Symbols {
     /// The names of the symbols.
     pub names: Names,
     /// The words of their versions, if there are such.
-    pub words: Option<VersionWords>,
+    pub words: Option<VersymTable>,
     /// The definitions of versions, where there are words of versions and definitions.
     pub definitions: Option<VersionRecordTable>,
     /// The needs of versions, where there are words of versions and needs.

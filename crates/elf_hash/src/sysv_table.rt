@@ -7,7 +7,7 @@ use crate::place::HashTableLocation;
 /// each bucket, a word for each chain, four bytes each. It holds the counts, as they were read once,
 /// and no other word.
 #[derive(Clone, Copy)]
-pub struct SysvTable {
+pub struct SysvHashTable {
     pub(crate) place: HashTableLocation,
     pub(crate) nbucket: u32,
     pub(crate) nchain: u32,
@@ -15,7 +15,7 @@ pub struct SysvTable {
     pub(crate) ghost fits: { 8 + 4 * nbucket + 4 * nchain ≤ place.size },
 }
 
-impl SysvTable {
+impl SysvHashTable {
     /// The file offset of the word of a hash's bucket, which is the index of the first symbol.
     pub(crate) fn bucket_at(&self, hash: u32) -> u64
         ensures value { result ≡ self.now.place.at + (8 + 4 * (hash % self.now.nbucket)) }

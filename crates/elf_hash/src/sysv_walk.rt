@@ -10,7 +10,7 @@ ghost use Rattle.elf_model.specs.declared.causes.Refusal.{Refusal};
 use crate::answer::SymbolMatch;
 use crate::chain_result::{ChainMatch, ChainResult};
 use crate::matcher::Matcher;
-use crate::sysv_table::SysvTable;
+use crate::sysv_table::SysvHashTable;
 use crate::word_reads::read_word;
 use elf_record::Cause;
 use elf_source::{Counted, Source};
@@ -24,7 +24,7 @@ use elf_table::{Fault, refused};
 /// The trial's own where a symbol cannot be tried. Else a fault of a read.
 pub(crate) fn sysv_walk<S: Source, T: Matcher>(
     src: &mut Counted<S>,
-    table: &SysvTable,
+    table: &SysvHashTable,
     hash: u32,
     trial: &T,
 ) -> Result<ChainResult, Fault>
@@ -60,7 +60,7 @@ pub(crate) fn sysv_walk<S: Source, T: Matcher>(
 }
 
 /// Whether a word is an index of a chain and of a symbol.
-fn is_index(table: &SysvTable, word: u32) -> bool
+fn is_index(table: &SysvHashTable, word: u32) -> bool
     ensures below { IsTrue result →
         (word < table.now.nchain) × (word < table.now.place.symbols) }
     ensures is { (file : List ℕ) (at : Place) → IsSysv file at table.now →

@@ -1,12 +1,12 @@
 //! A hash table of either kind.
-use crate::gnu_table::GnuTable;
-use crate::sysv_table::SysvTable;
+use crate::gnu_table::GnuHashTable;
+use crate::sysv_table::SysvHashTable;
 
 /// A hash table of either kind, whose counts fit its size.
 #[derive(Clone, Copy)]
 pub enum HashTable {
     /// One of the GNU system.
-    Gnu(GnuTable),
+    Gnu(GnuHashTable),
     /// One of the gABI.
-    Sysv(SysvTable),
+    Sysv(SysvHashTable),
 }

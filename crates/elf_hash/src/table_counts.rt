@@ -5,9 +5,9 @@ ghost use Rattle.elf_table.specs.Ledger.{CallDid, fault_of_result};
 ghost use Rattle.elf_hash.specs.Counts.{HasGnuCounts, HasSysvCounts};
 ghost use Rattle.elf_model.specs.Chains.{HashTable as Place};
 
-use crate::gnu_table::GnuTable;
+use crate::gnu_table::GnuHashTable;
 use crate::place::HashTableLocation;
-use crate::sysv_table::SysvTable;
+use crate::sysv_table::SysvHashTable;
 use crate::word_reads::read_word;
 use elf_record::Cause;
 use elf_source::{Counted, Source};
@@ -22,7 +22,7 @@ use elf_table::{Fault, refused};
 pub(crate) fn gnu_counts<S: Source>(
     src: &mut Counted<S>,
     place: &HashTableLocation,
-) -> Result<GnuTable, Fault>
+) -> Result<GnuHashTable, Fault>
     requires room { 16 ≤ place.now.size }
     requires lies { place.now.at + place.now.size ≤ src.old.seen.size }
     ensures did { CallDid src.old src.new (fault_of_result result) 16
@@ -36,7 +36,7 @@ pub(crate) fn gnu_counts<S: Source>(
     if has_no_gnu_shape(nbucket, nbloom, shift, place.size) {
         return refused(place.head, Cause::HashShape);
     }
-    Ok(GnuTable {
+    Ok(GnuHashTable {
         place: *place,
         nbucket,
         first,
@@ -66,7 +66,7 @@ fn has_no_gnu_shape(nbucket: u32, nbloom: u32, shift: u32, size: u64) -> bool
 pub(crate) fn sysv_counts<S: Source>(
     src: &mut Counted<S>,
     place: &HashTableLocation,
-) -> Result<SysvTable, Fault>
+) -> Result<SysvHashTable, Fault>
     requires lies { place.now.at + place.now.size ≤ src.old.seen.size }
     ensures did { CallDid src.old src.new (fault_of_result result) 8
         (λ file. (at : Place) → HasSysvCounts file at place.now result) }
@@ -77,7 +77,7 @@ pub(crate) fn sysv_counts<S: Source>(
     if has_no_shape(nbucket, nchain, place.size) {
         return refused(place.head, Cause::HashShape);
     }
-    Ok(SysvTable {
+    Ok(SysvHashTable {
         place: *place,
         nbucket,
         nchain,

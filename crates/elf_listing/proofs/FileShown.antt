@@ -6,7 +6,7 @@ use Rattle.elf_model.specs.Checks.{first_refusal, header_checks, load_checks}
 use Rattle.elf_model.specs.Lines.{header_line}
 use Rattle.elf_model.specs.Listing.{ListingItem, Line, Fault, fault_of, has, has_tables, known_parts, where_asked, each, HEADER, SEGMENTS, NOTES, DYNAMIC, VERSIONS}
 use Rattle.elf_model.specs.Records.{e_shnum, e_phnum}
-use Rattle.elf_model.specs.Style.{Style, viewed as view_of}
+use Rattle.elf_model.specs.Style.{ListingStyle, viewed as view_of}
 use Rattle.elf_model.specs.Report.{listing, load_items, loaded_items, table_items, kinds_rows, view_checks}
 use Rattle.elf_model.specs.HeaderTables.{file_sections, file_segments}
 use Rattle.elf_model.specs.TableKinds.{TableHeaders, symbols, relocations, suffixed_symbols, relocations_with_versions, section_notes, section_dynamic, segment_notes, segment_dynamic, section_kinds, segment_kinds, table_headers}
@@ -32,12 +32,12 @@ use Rattle.elf_listing.specs.declared.parts.Part.TheVariants.{Headers, SectionNo
 abbrev pub header_part : Format → List ℕ → ℕ → List ListingItem
 header_part format file parts = where_asked parts HEADER (Line (header_line format file) ∷ [])
 
-pub items_are : (file : List ℕ) (headers : ℕ) (style : Style) (parts : ℕ) → first_refusal (header_checks file) ≡ None → listing file headers style parts ≡ header_part style.format file parts ++ load_items (view_of style file) headers style (known_parts style parts)
+pub items_are : (file : List ℕ) (headers : ℕ) (style : ListingStyle) (parts : ℕ) → first_refusal (header_checks file) ≡ None → listing file headers style parts ≡ header_part style.format file parts ++ load_items (view_of style file) headers style (known_parts style parts)
 unfolding listing
 items_are file headers style parts passed = guarded-passes (header_checks file) (header_part style.format file parts ++ load_items (view_of style file) headers style (known_parts style parts)) passed
 
 -- a refusal of the file header is all that is listed
-pub header_alone : (file : List ℕ) (headers : ℕ) (style : Style) (parts : ℕ) (fault : TableFault) → HeaderRead file (Err fault) → (refusal : Refusal) → fault ≡ Refused refusal
+pub header_alone : (file : List ℕ) (headers : ℕ) (style : ListingStyle) (parts : ℕ) (fault : TableFault) → HeaderRead file (Err fault) → (refusal : Refusal) → fault ≡ Refused refusal
     → (IsBudgetRefusal refusal → ⊥) → listing file headers style parts ≡ Fault refusal ∷ []
 unfolding listing
 header_alone file headers style parts fault read refusal is other =
@@ -45,7 +45,7 @@ header_alone file headers style parts fault read refusal is other =
     guarded-fault (header_checks file) (header_part style.format file parts ++ load_items (view_of style file) headers style (known_parts style parts)) refusal (first other)
 
 -- a refusal of the load is all that is listed behind the file header
-pub load_alone : (file : List ℕ) (headers : ℕ) (style : Style) (parts : ℕ) (fault : TableFault) (store : StoreState) → LoadedAs file (Err fault) store → store.slots ≡ headers → has_tables parts ≡ true
+pub load_alone : (file : List ℕ) (headers : ℕ) (style : ListingStyle) (parts : ℕ) (fault : TableFault) (store : StoreState) → LoadedAs file (Err fault) store → store.slots ≡ headers → has_tables parts ≡ true
     → (refusal : Refusal) → fault ≡ Refused refusal → (IsBudgetRefusal refusal → ⊥) → load_items file headers style parts ≡ Fault refusal ∷ []
 load_alone file headers style parts fault store read same tables refusal is other =
     let first = rw is at read in
@@ -53,14 +53,14 @@ load_alone file headers style parts fault store read same tables refusal is othe
     ∙ guarded-fault (load_checks file headers) (loaded_items file style parts) refusal (ap (λ n. first_refusal (load_checks file n)) (sym same) ∙ first other)
 
 -- where the load passes, what stands behind its checks is listed
-load_behind : (file : List ℕ) (headers slots : ℕ) (style : Style) (parts : ℕ) → first_refusal (load_checks file slots) ≡ None → slots ≡ headers → has_tables parts ≡ true
+load_behind : (file : List ℕ) (headers slots : ℕ) (style : ListingStyle) (parts : ℕ) → first_refusal (load_checks file slots) ≡ None → slots ≡ headers → has_tables parts ≡ true
     → load_items file headers style parts ≡ loaded_items file style parts
 load_behind file headers slots style parts passed same tables =
     load_some file headers style parts tables
     ∙ guarded-passes (load_checks file headers) (loaded_items file style parts) (ap (λ n. first_refusal (load_checks file n)) (sym same) ∙ passed)
 
 -- a refusal of the program headers is all of that
-pub view_alone : (file : List ℕ) (headers slots : ℕ) (style : Style) (parts : ℕ) → first_refusal (load_checks file slots) ≡ None → slots ≡ headers → has_tables parts ≡ true
+pub view_alone : (file : List ℕ) (headers slots : ℕ) (style : ListingStyle) (parts : ℕ) → first_refusal (load_checks file slots) ≡ None → slots ≡ headers → has_tables parts ≡ true
     → (fault : TableFault) → ChecksView (view_checks file style parts) (Err fault)
     → (refusal : Refusal) → fault ≡ Refused refusal → (IsBudgetRefusal refusal → ⊥) → load_items file headers style parts ≡ Fault refusal ∷ []
 unfolding loaded_items
@@ -70,7 +70,7 @@ view_alone file headers slots style parts passed same tables fault checked refus
     ∙ guarded-fault (view_checks file style parts) (table_items file style parts) refusal (first other)
 
 -- where they pass too, the tables are listed
-pub load_passed : (file : List ℕ) (headers slots : ℕ) (style : Style) (parts : ℕ) → first_refusal (load_checks file slots) ≡ None → slots ≡ headers → has_tables parts ≡ true
+pub load_passed : (file : List ℕ) (headers slots : ℕ) (style : ListingStyle) (parts : ℕ) → first_refusal (load_checks file slots) ≡ None → slots ≡ headers → has_tables parts ≡ true
     → first_refusal (view_checks file style parts) ≡ None → load_items file headers style parts ≡ table_items file style parts
 unfolding loaded_items
 load_passed file headers slots style parts passed same tables checked =
@@ -78,17 +78,17 @@ load_passed file headers slots style parts passed same tables checked =
     ∙ guarded-passes (view_checks file style parts) (table_items file style parts) checked
 
 -- a part of so many headers
-abbrev pub of_headers : List ℕ → Style → ℕ → Part → ℕ → List ListingItem
+abbrev pub of_headers : List ℕ → ListingStyle → ℕ → Part → ℕ → List ListingItem
 of_headers file style parts part count = where_asked parts (listed_by part).bit (part_items part style count file)
 
-abbrev pub segment_part : List ℕ → Style → ℕ → List ListingItem
+abbrev pub segment_part : List ℕ → ListingStyle → ℕ → List ListingItem
 segment_part file style parts = where_asked parts SEGMENTS (each (segment_row file style) 0 (e_phnum file))
 
 nothing_asked : (parts part : ℕ) → where_asked parts part [] ≡ []
 nothing_asked parts part = elim (cases_Bool (has parts part)) [ inl asked ↦ rw (asked, where_asked) refl | inr other ↦ rw (other, where_asked) refl ]
 
 -- a part of no header
-none_of : (file : List ℕ) (style : Style) (parts : ℕ) (part : Part) (count : ℕ) → count ≡ 0 → of_headers file style parts part count ≡ []
+none_of : (file : List ℕ) (style : ListingStyle) (parts : ℕ) (part : Part) (count : ℕ) → count ≡ 0 → of_headers file style parts part count ≡ []
 unfolding each
 none_of file style parts part count none = rw none (nothing_asked parts (listed_by part).bit)
 
@@ -99,7 +99,7 @@ asked_same parts part items n m same = elim (cases_Bool (has parts part)) [
   | inr other ↦ rw (other, where_asked) refl
 ]
 
-kinds_of_sections : (versions : Bool) (file : List ℕ) (style : Style) (parts : ℕ) → kinds_rows (section_kinds versions) (file_sections file) file style parts
+kinds_of_sections : (versions : Bool) (file : List ℕ) (style : ListingStyle) (parts : ℕ) → kinds_rows (section_kinds versions) (file_sections file) file style parts
     ≡ of_headers file style parts (symbols_part versions) (e_shnum file) ++ (of_headers file style parts (relocations_part versions) (e_shnum file)
     ++ (of_headers file style parts SectionNotes (e_shnum file) ++ (of_headers file style parts SectionDynamic (e_shnum file)
     ++ (of_headers file style parts Definitions (e_shnum file) ++ (of_headers file style parts Needs (e_shnum file)
@@ -108,7 +108,7 @@ unfolding kinds_rows symbols relocations suffixed_symbols relocations_with_versi
 kinds_of_sections true file style parts = refl
 kinds_of_sections false file style parts = refl
 
-kinds_of_segments : (file : List ℕ) (style : Style) (parts : ℕ) → kinds_rows segment_kinds (file_segments file) file style parts
+kinds_of_segments : (file : List ℕ) (style : ListingStyle) (parts : ℕ) → kinds_rows segment_kinds (file_segments file) file style parts
     ≡ of_headers file style parts SegmentNotes (e_phnum file) ++ (of_headers file style parts SegmentDynamic (e_phnum file) ++ [])
 unfolding kinds_rows segment_notes segment_dynamic
 kinds_of_segments file style parts = refl
@@ -132,7 +132,7 @@ pub viewed_segments : (parts : ℕ) (loaded : LoadedFile) → (loaded.header.e_s
 viewed_segments parts loaded none asked = rw (none, asked) refl
 
 -- the parts of all kinds of tables, by so many section headers and program headers
-abbrev of_kinds : List ℕ → Style → ℕ → (sections segments : ℕ) → List ListingItem
+abbrev of_kinds : List ℕ → ListingStyle → ℕ → (sections segments : ℕ) → List ListingItem
 of_kinds file style parts sections segments =
     ((((of_headers file style parts (symbols_part style.versions) sections ++ of_headers file style parts (relocations_part style.versions) sections)
     ++ (of_headers file style parts SectionNotes sections ++ of_headers file style parts SegmentNotes segments))
@@ -141,7 +141,7 @@ of_kinds file style parts sections segments =
     ++ of_headers file style parts SymbolVersions sections
 
 -- the tables of all kinds are those of the headers in the store
-kinds_are : (file : List ℕ) (style : Style) (parts : ℕ) (loaded : LoadedFile) (store : StoreState) → HoldsSectionHeaders file loaded store → store.segments ≡ viewed_headers parts loaded
+kinds_are : (file : List ℕ) (style : ListingStyle) (parts : ℕ) (loaded : LoadedFile) (store : StoreState) → HoldsSectionHeaders file loaded store → store.segments ≡ viewed_headers parts loaded
     → kinds_rows (table_headers style.versions file).kinds (table_headers style.versions file).headers file style parts ≡ of_kinds file style parts store.loaded store.segments
 unfolding segment_notes segment_dynamic
 kinds_are file style parts loaded store belongs view =
@@ -181,7 +181,7 @@ relocations_counted true store = refl
 relocations_counted false store = refl
 
 -- the tables of the headers in the store, so many of which have symbols, and relocation entries
-abbrev pub by_counts : List ℕ → Style → ℕ → StoreState → (symbols entries : ℕ) → List ListingItem
+abbrev pub by_counts : List ℕ → ListingStyle → ℕ → StoreState → (symbols entries : ℕ) → List ListingItem
 by_counts file style parts store n m =
     (((((of_headers file style parts Headers store.loaded ++ segment_part file style parts)
     ++ (of_headers file style parts (symbols_part style.versions) n ++ of_headers file style parts (relocations_part style.versions) m))
@@ -190,7 +190,7 @@ by_counts file style parts store n m =
     ++ (of_headers file style parts Definitions store.loaded ++ of_headers file style parts Needs store.loaded))
     ++ of_headers file style parts SymbolVersions store.loaded
 
-tables_loaded : (file : List ℕ) (style : Style) (parts : ℕ) (loaded : LoadedFile) (store : StoreState) → HoldsSectionHeaders file loaded store → store.segments ≡ viewed_headers parts loaded
+tables_loaded : (file : List ℕ) (style : ListingStyle) (parts : ℕ) (loaded : LoadedFile) (store : StoreState) → HoldsSectionHeaders file loaded store → store.segments ≡ viewed_headers parts loaded
     → table_items file style parts ≡ by_counts file style parts store store.loaded store.loaded
 unfolding table_items
 tables_loaded file style parts loaded store belongs view =
@@ -200,7 +200,7 @@ tables_loaded file style parts loaded store belongs view =
     ∙ (ap (λ rest. first ++ rest) (kinds_are file style parts loaded store belongs view) ∙ behind first _ _ _ _ _)
 
 -- the tables of a loaded file, by the headers in the store
-pub tables_are : (file : List ℕ) (style : Style) (parts : ℕ) (loaded : LoadedFile) (store : StoreState) → HoldsSectionHeaders file loaded store → store.segments ≡ viewed_headers parts loaded
+pub tables_are : (file : List ℕ) (style : ListingStyle) (parts : ℕ) (loaded : LoadedFile) (store : StoreState) → HoldsSectionHeaders file loaded store → store.segments ≡ viewed_headers parts loaded
     → table_items file style parts
     ≡ by_counts file style parts store ((listed_by (symbols_part style.versions)).count store) ((listed_by (relocations_part style.versions)).count store)
 tables_are file style parts loaded store belongs view =
@@ -211,7 +211,7 @@ tables_are file style parts loaded store belongs view =
     ∙ ap (by_counts file style parts store ((listed_by (symbols_part style.versions)).count store)) (sym m))
 
 -- where the rows of definitions and needs are asked for and have no fault, they have none at all
-pub versions_none : (file : List ℕ) (style : Style) (parts : ℕ) (loaded : LoadedFile) (store : StoreState) → HoldsSectionHeaders file loaded store
+pub versions_none : (file : List ℕ) (style : ListingStyle) (parts : ℕ) (loaded : LoadedFile) (store : StoreState) → HoldsSectionHeaders file loaded store
     → has parts VERSIONS ≡ true
     → fault_of (of_headers file style parts Definitions store.loaded ++ of_headers file style parts Needs store.loaded) ≡ None
     → fault_of (records_rows file style) ≡ None

@@ -15,7 +15,7 @@ use Rattle.elf_table.specs.declared.fault.Fault.TheVariants.{Refused, Source}
 use Rattle.elf_source.specs.Source.{CountedState}
 use Rattle.elf_table.specs.Relocations.{RefusedBy}
 use Rattle.elf_table.specs.Sections.{rows}
-use Rattle.elf_table.specs.Tables.{Rows, StringTableRange, strings_in}
+use Rattle.elf_table.specs.Tables.{TableRange, StringTableRange, strings_in}
 use Rattle.elf_note.specs.NumberNames.{NamesNumbers, ReadsNumberNames}
 use Rattle.elf_note.specs.Reading.{StartsVersions, VersionCursorState, versions_left}
 use Rattle.elf_note.specs.declared.version_names.VersionNameRef.{VersionNameRef}
@@ -88,7 +88,7 @@ empty-section file kind i first none =
     )
 
 -- all of its records are
-pub taken-all : (file : List ℕ) (kind : VersionKind) (i : ℕ) (records : List VisitedRecord) (after : List VersionNameRef) (places : List ℕ) (table : Rows) (c : VersionCursorState) (strings : StringTableRange)
+pub taken-all : (file : List ℕ) (kind : VersionKind) (i : ℕ) (records : List VisitedRecord) (after : List VersionNameRef) (places : List ℕ) (table : TableRange) (c : VersionCursorState) (strings : StringTableRange)
     → first_of_type file (kind_type kind) ≡ Some i → first_refusal (all_checks version_table file (section_at file i)) ≡ None
     → table ≡ rows (sh_offset file (section_at file i)) (sh_size file (section_at file i)) 1
     → StartsVersions kind (section_at file i) table c → ((versions_left file c).cut ≡ None) × NamesNumbers file (records ++ (versions_left file c).met) after places
@@ -96,7 +96,7 @@ pub taken-all : (file : List ℕ) (kind : VersionKind) (i : ℕ) (records : List
 taken-all file kind i records after places table c strings first passes same starts read is =
     let at = section_at file i in
     let left : versions_left file c ≡ versions_in kind file at (sh_offset file at) (sh_size file at) =
-    left_all kind file at table c starts ∙ ap (λ (t : Rows). versions_in kind file at t.at t.count) same in
+    left_all kind file at table c starts ∙ ap (λ (t : TableRange). versions_in kind file at t.at t.count) same in
     let all = rw left at read.1 in
     let cut = rw left at read.0 in
     record {
@@ -106,7 +106,7 @@ taken-all file kind i records after places table c strings first passes same sta
     }
 
 -- a walk that is cut
-pub taken-cut : (file : List ℕ) (kind : VersionKind) (i : ℕ) (records : List VisitedRecord) (after : List VersionNameRef) (places : List ℕ) (table : Rows) (c : VersionCursorState) (fault : Fault)
+pub taken-cut : (file : List ℕ) (kind : VersionKind) (i : ℕ) (records : List VisitedRecord) (after : List VersionNameRef) (places : List ℕ) (table : TableRange) (c : VersionCursorState) (fault : Fault)
     → first_of_type file (kind_type kind) ≡ Some i → first_refusal (all_checks version_table file (section_at file i)) ≡ None
     → table ≡ rows (sh_offset file (section_at file i)) (sh_size file (section_at file i)) 1
     → StartsVersions kind (section_at file i) table c → ReadsNumberNames file records (versions_left file c) after places (Err fault)
@@ -114,7 +114,7 @@ pub taken-cut : (file : List ℕ) (kind : VersionKind) (i : ℕ) (records : List
 taken-cut file kind i records after places table c (Refused refusal) first passes same starts reads = λ other.
     let at = section_at file i in
     let left : versions_left file c ≡ versions_in kind file at (sh_offset file at) (sh_size file at) =
-    left_all kind file at table c starts ∙ ap (λ (t : Rows). versions_in kind file at t.at t.count) same in
+    left_all kind file at table c starts ∙ ap (λ (t : TableRange). versions_in kind file at t.at t.count) same in
     let cut = rw left at (reads other) in
     walk-some kind (kind_type kind) file i first ∙ or-none _ _ (Some refusal) passes cut
 taken-cut file kind i records after places table c (Source fault offset) first passes same starts reads = tt

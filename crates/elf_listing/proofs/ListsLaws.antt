@@ -9,7 +9,7 @@ use Rattle.elf_table.specs.declared.fault.Fault.{Fault}
 use Rattle.elf_table.specs.declared.fault.Fault.TheVariants.{Refused, Source}
 use Rattle.elf_table.specs.declared.names.NameEnd.{NameEnd}
 use Rattle.elf_table.specs.declared.names.NameEnd.TheVariants.{Whole}
-use Rattle.elf_listing.specs.Shows.{SameFile, ListingReads, Lists}
+use Rattle.elf_listing.specs.Shows.{SameFile, ListingReads, ListingCalls}
 use Rattle.elf_table.specs.Stops.{stop_of}
 use Rattle.elf_listing.specs.declared.listing.Listing.{Listing}
 use Rattle.elf_table.specs.declared.run_fault.RunFault.{RunFault}
@@ -28,8 +28,8 @@ SameFile-then p q = record {
 }
 
 -- nothing is shown, and nothing was read
-pub Lists-nothing : {S W X : Type 0} {s : Sources S} {w : Sinks W} (a : Listing S W s w) (x : X) (n : ℕ) (shown : Type 0) → shown → Lists a a (Ok x) n shown
-Lists-nothing a x n shown is = record {
+pub ListingCalls-nothing : {S W X : Type 0} {s : Sources S} {w : Sinks W} (a : Listing S W s w) (x : X) (n : ℕ) (shown : Type 0) → shown → ListingCalls a a (Ok x) n shown
+ListingCalls-nothing a x n shown is = record {
   grows = grows_not _;
   keeps = SameFile-not a;
   spent = (SpendsAtMost-none _ _ _ _ (omega arith), tt);
@@ -37,20 +37,20 @@ Lists-nothing a x n shown is = record {
 }
 
 -- a check refused, and nothing was read
-pub Lists-refused : {S W : Type 0} {s : Sources S} {w : Sinks W} (a : Listing S W s w) (fault : Fault) (n : ℕ) (shown : Type 0)
-    → IsOfCheck fault → shown → Lists {X = Unit {0}} a a (Err (stop_of fault)) n shown
-Lists-refused a (Refused refusal) n shown check is = record {
+pub ListingCalls-refused : {S W : Type 0} {s : Sources S} {w : Sinks W} (a : Listing S W s w) (fault : Fault) (n : ℕ) (shown : Type 0)
+    → IsOfCheck fault → shown → ListingCalls {X = Unit {0}} a a (Err (stop_of fault)) n shown
+ListingCalls-refused a (Refused refusal) n shown check is = record {
   grows = grows_not _;
   keeps = SameFile-not a;
   spent = (SpendsAtMost-none _ _ _ _ (omega arith), λ budget. absurd (check budget));
   shows = is;
 }
-Lists-refused a (Source fault at) n shown check is = absurd check
+ListingCalls-refused a (Source fault at) n shown check is = absurd check
 
 -- what a name is read for was not
-pub Lists-unread : {S W : Type 0} {s : Sources S} {w : Sinks W} (a b : Listing S W s w) (fault : Fault) (n k : ℕ) (shown : Type 0)
-    → n ≤ k → ListingReads {X = NameEnd} a b (Err fault) n → shown → Lists {X = Unit {0}} a b (Err (stop_of fault)) k shown
-Lists-unread a b fault n k shown within p is = record {
+pub ListingCalls-unread : {S W : Type 0} {s : Sources S} {w : Sinks W} (a b : Listing S W s w) (fault : Fault) (n k : ℕ) (shown : Type 0)
+    → n ≤ k → ListingReads {X = NameEnd} a b (Err fault) n → shown → ListingCalls {X = Unit {0}} a b (Err (stop_of fault)) k shown
+ListingCalls-unread a b fault n k shown within p is = record {
   grows = rw p.1 (grows_not _);
   keeps = p.0;
   spent = SpentCredit-failed _ _ _ _ _ _ _ _ within p.2 p.3;
@@ -58,9 +58,9 @@ Lists-unread a b fault n k shown within p is = record {
 }
 
 -- a name was read, and its row is not shown
-pub Lists-hidden : {S W X : Type 0} {s : Sources S} {w : Sinks W} (a b : Listing S W s w) (x : X) (n k : ℕ) (shown : Type 0)
-    → n ≤ k → ListingReads a b (Ok Whole) n → shown → Lists a b (Ok x) k shown
-Lists-hidden a b x n k shown within p is = record {
+pub ListingCalls-hidden : {S W X : Type 0} {s : Sources S} {w : Sinks W} (a b : Listing S W s w) (x : X) (n k : ℕ) (shown : Type 0)
+    → n ≤ k → ListingReads a b (Ok Whole) n → shown → ListingCalls a b (Ok x) k shown
+ListingCalls-hidden a b x n k shown within p is = record {
   grows = rw p.1 (grows_not _);
   keeps = p.0;
   spent = (SpendsAtMost-to p.2 (let q = p.2 in omega (arith, within, q.account)), tt);
@@ -68,9 +68,9 @@ Lists-hidden a b x n k shown within p is = record {
 }
 
 -- a name was read, and then its line was written
-pub Lists-named : {S W X : Type 0} {s : Sources S} {w : Sinks W} (a b c : Listing S W s w) (result : Result X RunFault) (n k : ℕ) (read shown : Type 0)
-    → n ≤ k → ListingReads a b (Ok Whole) n → Lists b c result 0 read → shown → Lists a c result k shown
-Lists-named a b c result n k read shown within p q is = record {
+pub ListingCalls-named : {S W X : Type 0} {s : Sources S} {w : Sinks W} (a b c : Listing S W s w) (result : Result X RunFault) (n k : ℕ) (read shown : Type 0)
+    → n ≤ k → ListingReads a b (Ok Whole) n → ListingCalls b c result 0 read → shown → ListingCalls a c result k shown
+ListingCalls-named a b c result n k read shown within p q is = record {
   grows = rw (← p.1) q.grows;
   keeps = SameFile-then p.0 q.keeps;
   spent = SpentCredit-then _ _ _ _ _ _ _ _ _ _ _ (omega (arith, within)) p.2 q.spent;
@@ -78,9 +78,9 @@ Lists-named a b c result n k read shown within p q is = record {
 }
 
 -- what was asked for is within more
-pub Lists-within : {S W X : Type 0} {s : Sources S} {w : Sinks W} (a b : Listing S W s w) (result : Result X RunFault) (n k : ℕ) (read shown : Type 0)
-    → n ≤ k → Lists a b result n read → shown → Lists a b result k shown
-Lists-within a b result n k read shown within p is = record {
+pub ListingCalls-within : {S W X : Type 0} {s : Sources S} {w : Sinks W} (a b : Listing S W s w) (result : Result X RunFault) (n k : ℕ) (read shown : Type 0)
+    → n ≤ k → ListingCalls a b result n read → shown → ListingCalls a b result k shown
+ListingCalls-within a b result n k read shown within p is = record {
   grows = p.grows;
   keeps = p.keeps;
   spent = SpentCredit-within _ _ _ _ _ _ _ _ within p.spent;

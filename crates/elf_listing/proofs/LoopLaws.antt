@@ -8,11 +8,11 @@ use Rattle.elf_note.specs.Ahead.{ReadsOnCredit}
 use Rattle.elf_note.proofs.SpendsLaws.{SpendsAtMost-reads, SpendsAtMost-then, SpendsAtMost-to}
 use Rattle.elf_table.specs.Faults.{IsAt, IsReadFault}
 use Rattle.elf_table.specs.Cursors.{CursorState, GivesRow, HoldsRows, unread_bytes, next_row, ShowsRow}
-use Rattle.elf_table.specs.Tables.{Rows, size_of}
+use Rattle.elf_table.specs.Tables.{TableRange, size_of}
 use Rattle.elf_table.specs.declared.fault.Fault.{Fault}
 use Rattle.elf_table.specs.declared.row.Row.{Row}
 use Rattle.elf_options.specs.Permitted.{style_of}
-use Rattle.elf_options.specs.declared.caps.Style.{Style as Shape}
+use Rattle.elf_options.specs.declared.caps.ListingStyle.{ListingStyle as Shape}
 use Rattle.elf_listing.specs.Kinds.{row_size, row_items, own_cost, rows_cost, IsRowOf, KindOf}
 use Rattle.elf_listing.specs.RowCursors.{AdvancesRows, EndsListed, GivesListed, reading, rows_to_give, rows_listed}
 use Rattle.elf_listing.specs.declared.row_cursor.RowCursor.{RowCursor}
@@ -44,7 +44,7 @@ rows_stopped row i count a b c stop below before this =
     rw more.1 (WroteUntilStop-more a c stop (each row 0 (i + 1)) more.0 shown)
 
 -- what a new cursor may ask for is its table
-pub account_begins : (c : CursorState) (table : Rows) (kind : RowLayout) (cap : ℕ) → table.entry ≡ row_size kind → c.failed ≡ None → c.unread ≡ size_of table → c.left ≡ table.count
+pub account_begins : (c : CursorState) (table : TableRange) (kind : RowLayout) (cap : ℕ) → table.entry ≡ row_size kind → c.failed ≡ None → c.unread ≡ size_of table → c.left ≡ table.count
     → unread_bytes c + c.left * own_cost kind cap ≡ rows_cost kind table cap
 account_begins c table kind cap entry none unread left = rw (none, unread, left, entry) (omega arith)
 
@@ -103,15 +103,15 @@ pub given_index : {holds : Option (List ℕ)} {old new : CursorState} {row : Row
 given_index gives lends = omega (arith, lends.its_index, gives.next_index)
 
 -- the row that a step gave
-pub given_row : {holds : Option (List ℕ)} {old new : CursorState} {row : Row} (file : List ℕ) (kind : RowLayout) (table : Rows)
+pub given_row : {holds : Option (List ℕ)} {old new : CursorState} {row : Row} (file : List ℕ) (kind : RowLayout) (table : TableRange)
     → GivesRow holds old new → ShowsRow new row → holds ≡ Some file → HoldsRows file old → old.table ≡ table → table.entry ≡ row_size kind
     → IsRowOf file table.at kind row
 given_row {old = old} {new = new} {row = row} file kind table gives lends held agrees same entry =
     let index : row.index ≡ old.index = omega (arith, lends.its_index, gives.next_index) in
     let moved : row.at ≡ next_row old =
-    lends.its_offset ∙ ap (λ (t : Rows). t.at + row.index * t.entry) gives.same_table ∙ ap (λ (i : ℕ). old.table.at + i * old.table.entry) index in
-    let whole : old.table.entry ≡ row_size kind = ap (λ (t : Rows). t.entry) same ∙ entry in
-    let from_ : old.table.at ≡ table.at = ap (λ (t : Rows). t.at) same in
+    lends.its_offset ∙ ap (λ (t : TableRange). t.at + row.index * t.entry) gives.same_table ∙ ap (λ (i : ℕ). old.table.at + i * old.table.entry) index in
+    let whole : old.table.entry ≡ row_size kind = ap (λ (t : TableRange). t.entry) same ∙ entry in
+    let from_ : old.table.at ≡ table.at = ap (λ (t : TableRange). t.at) same in
     record {
       bytes = lends.its_bytes ∙ (gives.exact file held agrees ∙ (ap (λ (p : ℕ). slice file p old.table.entry) (sym moved) ∙ ap (λ (n : ℕ). slice file row.at n) whole));
       here = moved ∙ (ap (λ (n : ℕ). old.table.at + old.index * n) whole ∙ (ap (λ (p : ℕ). p + old.index * row_size kind) from_ ∙ ap (λ (i : ℕ). table.at + i * row_size kind) (sym index)));
@@ -126,7 +126,7 @@ pub step_ends : (holds : Option (List ℕ)) {old new : RowCursor} (answer : Bool
 step_ends holds answer is steps = rw is at steps
 
 -- a step gave the next row of a table of a file, and those before it were shown
-pub record Turn (file : List ℕ) (style : Shape) (kind : RowLayout) (table : Rows) (old new : RowCursor) (row : Row) (a b : OutState) : Type 0 where
+pub record Turn (file : List ℕ) (style : Shape) (kind : RowLayout) (table : TableRange) (old new : RowCursor) (row : Row) (a b : OutState) : Type 0 where
   pub of_kind : KindOf file table.at kind
   pub is_row : IsRowOf file table.at kind row
   pub index : row.index ≡ (reading old).index
@@ -134,7 +134,7 @@ pub record Turn (file : List ℕ) (style : Shape) (kind : RowLayout) (table : Ro
   pub below : (reading old).index < rows_listed kind file table
   pub before : WroteItems a b (each (row_items kind file (style_of style) table.at) 0 (reading old).index)
 
-pub turn : {holds : Option (List ℕ)} (file : List ℕ) (style : Shape) (kind : RowLayout) (table : Rows) (old new : RowCursor) (row : Row) (a b : OutState)
+pub turn : {holds : Option (List ℕ)} (file : List ℕ) (style : Shape) (kind : RowLayout) (table : TableRange) (old new : RowCursor) (row : Row) (a b : OutState)
     → GivesListed holds old new → ShowsRow (reading new) row → holds ≡ Some file → HoldsRows file (reading old) → (reading old).table ≡ table → table.entry ≡ row_size kind
     → (reading old).index + (reading old).left ≡ table.count → (reading old).index + rows_to_give file old ≡ rows_listed kind file table → (0 < table.count → KindOf file table.at kind)
     → WroteItems a b (each (row_items kind file (style_of style) table.at) 0 (reading old).index) → Turn file style kind table old new row a b
@@ -151,14 +151,14 @@ turn file style kind table old new row a b step lends held agrees same entry cou
     }
 
 -- its row was shown
-pub turn_more : (file : List ℕ) (style now : Shape) (kind : RowLayout) (table : Rows) (old new : RowCursor) (row : Row) (a b c : OutState) → now ≡ style → Turn file style kind table old new row a b
+pub turn_more : (file : List ℕ) (style now : Shape) (kind : RowLayout) (table : TableRange) (old new : RowCursor) (row : Row) (a b c : OutState) → now ≡ style → Turn file style kind table old new row a b
     → (KindOf file table.at kind → IsRowOf file table.at kind row → WroteItems b c (row_items kind file (style_of now) table.at row.index))
     → WroteItems a c (each (row_items kind file (style_of style) table.at) 0 (reading new).index)
 turn_more file style now kind table old new row a b c same this shown =
     rows_more (row_items kind file (style_of style) table.at) (reading old).index _ this.next this.before (rw (this.index, same) at (shown this.of_kind this.is_row))
 
 -- or stopped
-pub turn_stopped : (file : List ℕ) (style now : Shape) (kind : RowLayout) (table : Rows) (old new : RowCursor) (row : Row) (a b c : OutState) (stop : RunFault) → now ≡ style
+pub turn_stopped : (file : List ℕ) (style now : Shape) (kind : RowLayout) (table : TableRange) (old new : RowCursor) (row : Row) (a b c : OutState) (stop : RunFault) → now ≡ style
     → Turn file style kind table old new row a b
     → (KindOf file table.at kind → IsRowOf file table.at kind row → WroteUntilStop b c stop (row_items kind file (style_of now) table.at row.index))
     → WroteUntilStop a c stop (each (row_items kind file (style_of style) table.at) 0 (rows_listed kind file table))

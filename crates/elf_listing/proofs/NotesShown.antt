@@ -7,7 +7,7 @@ use Rattle.elf_model.specs.Listing.{ListingItem, Line, Fault as FaultItem}
 use Rattle.elf_model.specs.Names.{DisplayedName}
 use Rattle.elf_model.specs.Notes.{Note, NoteScan, NextNote, Ends as EndsHere, Broken, OneNote, next_note, walk_from, walked, with_note, note_shown}
 use Rattle.elf_model.specs.Rows.{note_row, notes_rows, walk_rows}
-use Rattle.elf_model.specs.Style.{Style}
+use Rattle.elf_model.specs.Style.{ListingStyle}
 use Rattle.elf_model.specs.declared.causes.Cause.TheVariants.{NoteCut}
 use Rattle.elf_model.proofs.NoteLaws.{walked-is}
 use Rattle.elf_record.specs.declared.note_head.NoteHead.{NoteHead}
@@ -17,7 +17,7 @@ use Rattle.elf_note.specs.declared.note_row.NoteRow.{NoteRow}
 use Rattle.elf_source.specs.Output.{OutState}
 use Rattle.elf_table.specs.Faults.{IsOfRead}
 use Rattle.elf_table.specs.Windows.{WindowState, HoldsBytes, StillHolds}
-use Rattle.elf_options.specs.declared.caps.Style.{Style as Shape}
+use Rattle.elf_options.specs.declared.caps.ListingStyle.{ListingStyle as Shape}
 use Rattle.elf_table.specs.declared.fault.Fault.{Fault}
 use Rattle.elf_table.specs.declared.fault.Fault.TheVariants.{Refused, Source as Unread}
 use Rattle.elf_table.specs.declared.names.NameEnd.{NameEnd}
@@ -29,16 +29,16 @@ use Rattle.elf_table.specs.declared.run_fault.RunFault.{RunFault}
 use Rattle.elf_listing.proofs.ShowLaws.{Whole-none, Whole-then, WroteUntilStop-then, WroteUntilStop-more}
 
 -- what is left where no note is, and where no note stands
-none_left : (style : Style) (index : ℕ) → note_items style index no_notes ≡ []
+none_left : (style : ListingStyle) (index : ℕ) → note_items style index no_notes ≡ []
 unfolding walk_rows notes_rows
 none_left style index = refl
 
-cut_left : (style : Style) (index at : ℕ) → note_items style index (cut_at at) ≡ FaultItem (record { at = at; cause = NoteCut }) ∷ []
+cut_left : (style : ListingStyle) (index at : ℕ) → note_items style index (cut_at at) ≡ FaultItem (record { at = at; cause = NoteCut }) ∷ []
 unfolding walk_rows notes_rows
 cut_left style index at = ap (λ (x : ℕ). FaultItem (record { at = x; cause = NoteCut }) ∷ []) (zero-add at)
 
 -- a note, and what is left behind it
-pub note_left : (style : Style) (index : ℕ) (note : Note) (left : NoteScan) → note_items style index (with_note note left) ≡ (note_row style index note ∷ []) ++ note_items style index left
+pub note_left : (style : ListingStyle) (index : ℕ) (note : Note) (left : NoteScan) → note_items style index (with_note note left) ≡ (note_row style index note ∷ []) ++ note_items style index left
 unfolding walk_rows notes_rows
 note_left style index note left = refl
 
@@ -73,14 +73,14 @@ unfolding front_of
 cut_next a b at all left is before = record { front = front_of all left before; next = λ other. record { behind = []; is_next = is } }
 
 -- a step over the next note failed: at a read, or where no note stands
-pub before_fault : (a b : OutState) (fault : Fault) (style : Style) (index at : ℕ) (all : List ListingItem) (left : NoteScan) → StopsNote at fault → (fault ≡ note_cut at → left ≡ cut_at at)
+pub before_fault : (a b : OutState) (fault : Fault) (style : ListingStyle) (index at : ℕ) (all : List ListingItem) (left : NoteScan) → StopsNote at fault → (fault ≡ note_cut at → left ≡ cut_at at)
     → WrittenBefore a b all (note_items style index left) → WroteUntilStop a b (stop_of fault) all
 before_fault a b fault style index at all left (inl read) cut before = unread_next a b fault all (note_items style index left) read before
 before_fault a b fault style index at all left (inr is) cut before =
     rw is (cut_next a b at all (note_items style index left) (ap (note_items style index) (cut is) ∙ cut_left style index at) before)
 
 -- behind the last note
-pub before_none : {a b : OutState} (style : Style) (index : ℕ) (all : List ListingItem) (left : NoteScan) → left ≡ no_notes → WrittenBefore a b all (note_items style index left) → WroteItems a b all
+pub before_none : {a b : OutState} (style : ListingStyle) (index : ℕ) (all : List ListingItem) (left : NoteScan) → left ≡ no_notes → WrittenBefore a b all (note_items style index left) → WroteItems a b all
 before_none style index all left none before =
     rw (before.split ∙ ap (λ (x : List ListingItem). before.done ++ x) (ap (note_items style index) none ∙ none_left style index) ∙ append-nil before.done) before.whole
 
@@ -114,14 +114,14 @@ note_given file align style now old new name row answer is same shape steps lend
     }
 
 -- the note that was next was shown, and then what is left behind it
-pub note_more : (a b c : OutState) (style : Style) (index : ℕ) (all : List ListingItem) (old new : NoteScan) (row : NoteRow) (name : List ℕ) → (note : Note) × (old ≡ with_note note new) × IsNoteRow style.cap note row name
+pub note_more : (a b c : OutState) (style : ListingStyle) (index : ℕ) (all : List ListingItem) (old new : NoteScan) (row : NoteRow) (name : List ℕ) → (note : Note) × (old ≡ with_note note new) × IsNoteRow style.cap note row name
     → WrittenBefore a b all (note_items style index old) → ((note : Note) → IsNoteRow style.cap note row name → WroteItems b c (note_row style index note ∷ []))
     → WrittenBefore a c all (note_items style index new)
 note_more a b c style index all old new row name gives before shown =
     before_more _ _ _ _ (ap (note_items style index) gives.1 ∙ note_left style index gives.0 new) before (shown gives.0 gives.2)
 
 -- or its row stopped
-pub note_stopped : (a b c : OutState) (stop : RunFault) (style : Style) (index : ℕ) (all : List ListingItem) (old new : NoteScan) (row : NoteRow) (name : List ℕ) → (note : Note) × (old ≡ with_note note new) × IsNoteRow style.cap note row name
+pub note_stopped : (a b c : OutState) (stop : RunFault) (style : ListingStyle) (index : ℕ) (all : List ListingItem) (old new : NoteScan) (row : NoteRow) (name : List ℕ) → (note : Note) × (old ≡ with_note note new) × IsNoteRow style.cap note row name
     → WrittenBefore a b all (note_items style index old) → ((note : Note) → IsNoteRow style.cap note row name → WroteUntilStop b c stop (note_row style index note ∷ [])) → WroteUntilStop a c stop all
 note_stopped a b c stop style index all old new row name gives before shown =
     before_stopped _ _ _ _ _ _ _ _ (ap (note_items style index) gives.1 ∙ note_left style index gives.0 new) before (shown gives.0 gives.2)
@@ -132,7 +132,7 @@ named_as NameWhole name shown is = is
 named_as NameCut name shown is = is
 
 -- the line of a note, by what it shows
-pub note_is : (style : Style) (index kind namesz descsz : ℕ) (shown : DisplayedName) (note : Note) → kind ≡ note.kind → namesz ≡ length note.name → descsz ≡ length note.descriptor
+pub note_is : (style : ListingStyle) (index kind namesz descsz : ℕ) (shown : DisplayedName) (note : Note) → kind ≡ note.kind → namesz ≡ length note.name → descsz ≡ length note.descriptor
     → note_shown style.cap note ≡ shown → note_row style index note ≡ Line (note_line (note_prefix style.format index kind namesz descsz) shown note.descriptor)
 unfolding note_row
 note_is style index kind namesz descsz shown note k n d s = rw (k, n, d, s) refl
@@ -146,7 +146,7 @@ plus : (x y z : ℕ) → x + y + z ≡ x + (y + z)
 plus x y z = omega arith
 
 -- the rows of notes from an offset on are those of the table, with the cut at its offset
-rows_shifted : (style : Style) (a index offset most place : ℕ) (rest : List ℕ) → note_items style index (walk_from a most (offset + place) rest) ≡ walk_rows style index offset (walk_from a most place rest)
+rows_shifted : (style : ListingStyle) (a index offset most place : ℕ) (rest : List ℕ) → note_items style index (walk_from a most (offset + place) rest) ≡ walk_rows style index offset (walk_from a most place rest)
 unfolding walk_from walk_rows notes_rows
 rows_shifted style a index offset zero place rest = ap (λ (x : ℕ). FaultItem (record { at = x; cause = NoteCut }) ∷ []) (zero-add (offset + place))
 rows_shifted style a index offset (suc most) place rest = step (λ n xs. rows_shifted style a index offset most n xs)
@@ -163,7 +163,7 @@ rows_shifted style a index offset (suc most) place rest = step (λ n xs. rows_sh
             (ap (λ (x : List ListingItem). note_row style index note ∷ x)
             (ap (λ (x : ℕ). note_items style index (walk_from a most x (drop size rest))) (plus offset place size) ∙ more (place + size) (drop size rest)))
 
-pub table_rows : (style : Style) (a index at : ℕ) (table : List ℕ) → note_items style index (notes_from a at table) ≡ walk_rows style index at (walked a table)
+pub table_rows : (style : ListingStyle) (a index at : ℕ) (table : List ℕ) → note_items style index (notes_from a at table) ≡ walk_rows style index at (walked a table)
 table_rows style a index at table =
     ap (λ (x : ℕ). note_items style index (notes_from a x table)) (sym (add-zero at)) ∙ rows_shifted style a index at (suc (length table)) 0 table
     ∙ ap (walk_rows style index at) (sym (walked-is a table))

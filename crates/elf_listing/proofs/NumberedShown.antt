@@ -5,7 +5,7 @@ use Rattle.elf_model.specs.Fields.{LinePrefix}
 use Rattle.elf_model.specs.Listing.{ListingItem}
 use Rattle.elf_model.specs.Records.{versym}
 use Rattle.elf_model.specs.Rows.{chosen_row}
-use Rattle.elf_model.specs.Style.{Style}
+use Rattle.elf_model.specs.Style.{ListingStyle}
 use Rattle.elf_model.specs.VersionRows.{symbol_version_prefix}
 use Rattle.elf_model.specs.Versions.{number_in}
 use Rattle.elf_model.proofs.Slices.{field-slice}
@@ -17,7 +17,7 @@ pub word_is : (file bytes : List ℕ) (at word : ℕ) → bytes ≡ slice file a
 word_is file bytes at word is read = read ∙ ap (λ (b : List ℕ). field b 0 2) is ∙ field-slice file at 2 0 2 (omega arith) ∙ ap (λ (n : ℕ). field file n 2) (omega arith)
 
 -- the row of an entry
-pub reported_is : (file : List ℕ) (style : Style) (numbered : VersionStrings) (section at index word : ℕ) (front : LinePrefix) → word ≡ versym file at
+pub reported_is : (file : List ℕ) (style : ListingStyle) (numbered : VersionStrings) (section at index word : ℕ) (front : LinePrefix) → word ≡ versym file at
     → front ≡ symbol_version_prefix style.format section index word
     → reported_row file style numbered section at index ≡ chosen_row style.choice front at (version_told numbered file style.cap (number_in word))
 unfolding reported_row

@@ -9,38 +9,38 @@ use Rattle.elf_model.proofs.ListingLemmas.{rows_split}
 use Rattle.elf_source.specs.declared.source.Source.{Ghosts as Sources}
 use Rattle.elf_source.specs.declared.sink.Sink.{Ghosts as Sinks}
 use Rattle.elf_source.proofs.GrowthLaws.{grows_then}
-use Rattle.elf_options.specs.declared.caps.Style.{Style}
-use Rattle.elf_table.specs.declared.file.File.{File}
+use Rattle.elf_options.specs.declared.caps.ListingStyle.{ListingStyle}
+use Rattle.elf_table.specs.declared.file.SectionView.{SectionView}
 use Rattle.elf_listing.specs.HeadersListed.{ListsPair, asked_items}
 use Rattle.elf_listing.specs.Parts.{AwaitsAsked, asked_cost, relocations_part, symbols_part}
-use Rattle.elf_listing.specs.Shows.{Lists, ListingWrote}
+use Rattle.elf_listing.specs.Shows.{ListingCalls, ListingWrote}
 use Rattle.elf_listing.specs.declared.listing.Listing.{Listing}
 use Rattle.elf_listing.specs.declared.parts.Part.{Part}
 use Rattle.elf_listing.specs.declared.parts.Part.TheVariants.{Definitions, Needs, SymbolVersions}
 use Rattle.elf_table.specs.declared.run_fault.RunFault.{RunFault}
 use Rattle.elf_listing.proofs.FileShown.{versions_none}
 use Rattle.elf_listing.proofs.EachLaws.{each-more}
-use Rattle.elf_listing.proofs.ListsLaws.{Lists-within, SameFile-then}
+use Rattle.elf_listing.proofs.ListsLaws.{ListingCalls-within, SameFile-then}
 use Rattle.elf_listing.proofs.RowLaws.{WroteSome-as}
 use Rattle.elf_listing.proofs.ShowLaws.{SpentCredit-then, WroteUntilStop-more, WroteSome-then}
 
 -- what a part asks for, and its items, where the parts have it
-abbrev pub cost_asked : ℕ → Part → File → Style → ℕ
+abbrev pub cost_asked : ℕ → Part → SectionView → ListingStyle → ℕ
 cost_asked parts part f style = asked_cost parts part f.loaded f.store.now style.cap.bytes
 
-abbrev pub items_asked : ℕ → Part → File → Style → List ℕ → List ListingItem
+abbrev pub items_asked : ℕ → Part → SectionView → ListingStyle → List ℕ → List ListingItem
 items_asked parts part f style file = asked_items parts part f.store.now (style_of style) file
 
 module _ {S W X : Type 0} {s : Sources S} {w : Sinks W} where
   -- the same items
   pub Parts-as : {a b : Listing S W s w} {result : Result X RunFault} {n : ℕ} {xs ys : List ℕ → List ListingItem}
-      → ((file : List ℕ) → a.src.now.seen.file ≡ Some file → ys file ≡ xs file) → Lists a b result n (ListingWrote a b result xs) → Lists a b result n (ListingWrote a b result ys)
-  Parts-as same p = Lists-within _ _ _ _ _ _ _ (omega arith) p (λ file held. WroteSome-as _ _ _ (same file held) (p.shows file held))
+      → ((file : List ℕ) → a.src.now.seen.file ≡ Some file → ys file ≡ xs file) → ListingCalls a b result n (ListingWrote a b result xs) → ListingCalls a b result n (ListingWrote a b result ys)
+  Parts-as same p = ListingCalls-within _ _ _ _ _ _ _ (omega arith) p (λ file held. WroteSome-as _ _ _ (same file held) (p.shows file held))
 
   -- a part was shown, and then another, whose cost and items the file and the style tell
-  pub Parts-then : {a b c : Listing S W s w} {x : X} {result : Result X RunFault} {n : ℕ} (xs : List ℕ → List ListingItem) (m : File → Style → ℕ) (ys : File → Style → List ℕ → List ListingItem)
-      → Lists a b (Ok x) n (ListingWrote a b (Ok x) xs) → Lists b c result (m b.file b.style) (ListingWrote b c result (ys b.file b.style))
-      → Lists a c result (n + m a.file a.style) (ListingWrote a c result (λ file. xs file ++ ys a.file a.style file))
+  pub Parts-then : {a b c : Listing S W s w} {x : X} {result : Result X RunFault} {n : ℕ} (xs : List ℕ → List ListingItem) (m : SectionView → ListingStyle → ℕ) (ys : SectionView → ListingStyle → List ℕ → List ListingItem)
+      → ListingCalls a b (Ok x) n (ListingWrote a b (Ok x) xs) → ListingCalls b c result (m b.file b.style) (ListingWrote b c result (ys b.file b.style))
+      → ListingCalls a c result (n + m a.file a.style) (ListingWrote a c result (λ file. xs file ++ ys a.file a.style file))
   Parts-then xs m ys p q = record {
     grows = grows_then p.grows q.grows;
     keeps = SameFile-then p.keeps q.keeps;
@@ -52,14 +52,14 @@ module _ {S W X : Type 0} {s : Sources S} {w : Sinks W} where
 
   -- a part stopped, and nothing behind it was shown
   pub Parts-more : {a b : Listing S W s w} {stop : RunFault} {n : ℕ} (m : ℕ) (xs ys : List ℕ → List ListingItem)
-      → Lists {X = X} a b (Err stop) n (ListingWrote {X = X} a b (Err stop) xs) → Lists {X = X} a b (Err stop) (n + m) (ListingWrote {X = X} a b (Err stop) (λ file. xs file ++ ys file))
-  Parts-more m xs ys p = Lists-within _ _ _ _ _ _ _ (omega arith) p (λ file held. WroteUntilStop-more _ _ _ _ _ (p.shows file held))
+      → ListingCalls {X = X} a b (Err stop) n (ListingWrote {X = X} a b (Err stop) xs) → ListingCalls {X = X} a b (Err stop) (n + m) (ListingWrote {X = X} a b (Err stop) (λ file. xs file ++ ys file))
+  Parts-more m xs ys p = ListingCalls-within _ _ _ _ _ _ _ (omega arith) p (λ file held. WroteUntilStop-more _ _ _ _ _ (p.shows file held))
 
   -- some headers were shown, and then the next
-  pub headers_then : {a b c : Listing S W s w} {x : X} {result : Result X RunFault} (amount : File → Style → ℕ → ℕ) (row : Style → List ℕ → ℕ → List ListingItem) (i : ℕ)
-      → Lists a b (Ok x) (sum_over (amount a.file a.style) 0 i) (ListingWrote a b (Ok x) (λ file. each (row a.style file) 0 i))
-      → Lists b c result (amount b.file b.style i) (ListingWrote b c result (λ file. row b.style file i))
-      → Lists a c result (sum_over (amount a.file a.style) 0 (i + 1)) (ListingWrote a c result (λ file. each (row a.style file) 0 (i + 1)))
+  pub headers_then : {a b c : Listing S W s w} {x : X} {result : Result X RunFault} (amount : SectionView → ListingStyle → ℕ → ℕ) (row : ListingStyle → List ℕ → ℕ → List ListingItem) (i : ℕ)
+      → ListingCalls a b (Ok x) (sum_over (amount a.file a.style) 0 i) (ListingWrote a b (Ok x) (λ file. each (row a.style file) 0 i))
+      → ListingCalls b c result (amount b.file b.style i) (ListingWrote b c result (λ file. row b.style file i))
+      → ListingCalls a c result (sum_over (amount a.file a.style) 0 (i + 1)) (ListingWrote a c result (λ file. each (row a.style file) 0 (i + 1)))
   headers_then {a = a} amount row i p q =
       let cost = amount a.file a.style in
       rw (last_cost cost 0 i ∙ ap (λ n. sum_over cost 0 i + cost n) (zero-add i))
@@ -67,8 +67,8 @@ module _ {S W X : Type 0} {s : Sources S} {w : Sinks W} where
 
   -- the last of them stopped, and none behind it was shown
   pub headers_stopped : {a b : Listing S W s w} {stop : RunFault} (amount : ℕ → ℕ) (row : List ℕ → ℕ → List ListingItem) (i count : ℕ) → i < count
-      → Lists {X = X} a b (Err stop) (sum_over amount 0 (i + 1)) (ListingWrote {X = X} a b (Err stop) (λ file. each (row file) 0 (i + 1)))
-      → Lists {X = X} a b (Err stop) (sum_over amount 0 count) (ListingWrote {X = X} a b (Err stop) (λ file. each (row file) 0 count))
+      → ListingCalls {X = X} a b (Err stop) (sum_over amount 0 (i + 1)) (ListingWrote {X = X} a b (Err stop) (λ file. each (row file) 0 (i + 1)))
+      → ListingCalls {X = X} a b (Err stop) (sum_over amount 0 count) (ListingWrote {X = X} a b (Err stop) (λ file. each (row file) 0 count))
   headers_stopped amount row i count below p =
       let all : count ≡ i + 1 + (count - (i + 1)) = omega arith in
       rw (all, sums_split amount 0 (i + 1) (count - (i + 1))) (Parts-as (λ file held. rows_split (row file) 0 (i + 1) (count - (i + 1))) (Parts-more _ _ _ p))
@@ -82,7 +82,7 @@ module _ {S W X : Type 0} {s : Sources S} {w : Sinks W} where
 
   -- the rows of definitions and needs were shown, and then the versions of symbols may be
   pub versions_await : {a b : Listing S W s w} {x : X} {n : ℕ} (parts : ℕ)
-      → Lists a b (Ok x) n (ListingWrote a b (Ok x) (λ file. items_asked parts Definitions a.file a.style file ++ items_asked parts Needs a.file a.style file))
+      → ListingCalls a b (Ok x) n (ListingWrote a b (Ok x) (λ file. items_asked parts Definitions a.file a.style file ++ items_asked parts Needs a.file a.style file))
       → AwaitsAsked parts SymbolVersions b.src.now.seen.file (style_of b.style)
   unfolding symbol_versions
   versions_await {a = a} parts p = λ asked file held.

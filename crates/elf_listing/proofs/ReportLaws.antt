@@ -6,7 +6,7 @@ use Rattle.elf_model.specs.Cost.{listing_cost}
 use Rattle.elf_model.specs.Lines.{refusal_line}
 use Rattle.elf_model.specs.Listing.{ListingItem, Fault as FaultItem, lines_of, fault_of, report_of, end_text}
 use Rattle.elf_model.specs.Report.{listing}
-use Rattle.elf_model.specs.Style.{Style}
+use Rattle.elf_model.specs.Style.{ListingStyle}
 use Rattle.elf_model.specs.declared.causes.Cause.TheVariants.{Budget}
 use Rattle.elf_model.specs.declared.causes.Refusal.{Refusal}
 use Rattle.elf_model.proofs.BudgetLaws.{is_budget_fault}
@@ -24,7 +24,7 @@ use Rattle.elf_listing.specs.Shows.{WroteItems, WrotePrefix, IsNext, WroteUntilR
 use Rattle.elf_listing.proofs.EachLaws.{lines_front}
 
 -- a report is what is listed, within every budget
-report_listed : (budget : Option ℕ) (file : List ℕ) (headers : ℕ) (style : Style) (parts : ℕ) (text : List ℕ) (fault : Option Refusal) → IsReport style.format (listing file headers style parts) text fault
+report_listed : (budget : Option ℕ) (file : List ℕ) (headers : ℕ) (style : ListingStyle) (parts : ℕ) (text : List ℕ) (fault : Option Refusal) → IsReport style.format (listing file headers style parts) text fault
     → IsBudgeted budget file headers style parts text fault
 report_listed None file headers style parts text fault is = is
 report_listed (Some budget) file headers style parts text fault is = inl is

@@ -1,5 +1,5 @@
 -- The items of one row, by the line that was put.
-use Rattle.elf_model.specs.Style.{Style}
+use Rattle.elf_model.specs.Style.{ListingStyle}
 use Rattle.std.proofs.Common.{◌≡◌, ℕ, ◌+◌, ◌*◌, List, [], ◌∷◌, Bool, true, false, Result, Ok, Err, refl, sym, ap, ◌∙◌, subst, arith, append-nil}
 use Rattle.elf_model.specs.Budget.{IsBudgetRefusal}
 use Rattle.elf_model.specs.Choice.{RowFilter, NoSuffix, Suffix, chooses}
@@ -18,7 +18,7 @@ use Rattle.elf_source.specs.Output.{OutState, SinkTakes, SinkTakesPrefix}
 use Rattle.elf_source.proofs.PutsLaws.{SinkTakes-nothing}
 use Rattle.elf_table.specs.Faults.{IsOfRead}
 use Rattle.elf_table.specs.NamesRead.{NameRead, shown_by}
-use Rattle.elf_options.specs.declared.caps.Style.{Style as Shape}
+use Rattle.elf_options.specs.declared.caps.ListingStyle.{ListingStyle as Shape}
 use Rattle.elf_options.specs.Chosen.{choice_of}
 use Rattle.elf_table.specs.declared.fault.Fault.{Fault}
 use Rattle.elf_table.specs.declared.fault.Fault.TheVariants.{Refused, Source}
@@ -93,7 +93,7 @@ WroteUntilStop-name a front at (Refused refusal) name answer read =
 WroteUntilStop-name a front at (Source fault offset) name answer read = WrotePrefix-none a (named_row front at answer)
 
 -- a program header's line at its place
-pub segment_is : (file line : List ℕ) (style : Style) (at index : ℕ) → line ≡ segment_line style.format style.gnu file at index → at ≡ e_phoff file + index * 56
+pub segment_is : (file line : List ℕ) (style : ListingStyle) (at index : ℕ) → line ≡ segment_line style.format style.gnu file at index → at ≡ e_phoff file + index * 56
     → segment_row file style index ≡ Line line ∷ []
 unfolding segment_row
 segment_is file line style at index same here =
@@ -101,7 +101,7 @@ segment_is file line style at index same here =
     sym (ap (λ text. Line text ∷ []) same ∙ ap (λ p. Line (segment_line style.format style.gnu file p index) ∷ []) place)
 
 -- a symbol's row at its place
-pub symbol_is : (file : List ℕ) (style : Style) (section index at : ℕ) (front : LinePrefix) (table : List ℕ) (off : ℕ) → front ≡ symbol_prefix style.format style.gnu (e_machine file) file at section index
+pub symbol_is : (file : List ℕ) (style : ListingStyle) (section index at : ℕ) (front : LinePrefix) (table : List ℕ) (off : ℕ) → front ≡ symbol_prefix style.format style.gnu (e_machine file) file at section index
     → table ≡ strings_of file (section_at file section) → off ≡ st_name file at → at ≡ sh_offset file (section_at file section) + index * 24
     → symbol_row file style section (section_at file section) index ≡ chosen_row style.choice front at (shown table off style.cap)
 unfolding symbol_row
@@ -113,7 +113,7 @@ symbol_is file style section index at front table off same_front same_table same
     ∙ ap (λ p. chosen_row style.choice (symbol_prefix style.format style.gnu (e_machine file) file p section index) p (shown (strings_of file (section_at file section)) (st_name file p) style.cap)) place)))
 
 -- a relocation entry's row at its place
-pub relocation_is : (file : List ℕ) (front : LinePrefix) (style : Style) (section at entry symbol index : ℕ) → entry ≡ sh_offset file at + index * 24
+pub relocation_is : (file : List ℕ) (front : LinePrefix) (style : ListingStyle) (section at entry symbol index : ℕ) → entry ≡ sh_offset file at + index * 24
     → front ≡ relocation_prefix style.format style.gnu (e_machine file) file entry section → symbol ≡ r_sym file entry
     → relocation_row file style section at index ≡ chosen_row style.choice front (symbol_named file style.cap at entry symbol).0 (symbol_named file style.cap at entry symbol).1
 unfolding relocation_row

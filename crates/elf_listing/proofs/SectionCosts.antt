@@ -1,5 +1,5 @@
 -- What the tables of a loaded file ask for, by the section headers in the store.
-use Rattle.elf_model.specs.Style.{Style, viewed as view_of}
+use Rattle.elf_model.specs.Style.{ListingStyle, viewed as view_of}
 use Rattle.std.proofs.Common.{◌≡◌, ℕ, ◌+◌, ◌-◌, ◌*◌, ◌/◌, ◌%◌, ◌<◌, ◌≤◌, ◌==◌, ◌&&◌, ◌||◌, ◌⊎◌, inl, inr, not, if◌then◌else◌, Bool, true, false, List, [], ◌∷◌, length, Option, None, Some, Result, Ok, refl, sym, ap, ◌∙◌, arith}
 use Rattle.std.proofs.lemmas.Bool.{cases_Bool, eqb-true}
 use Rattle.std.specs.Prelude.{is_none}
@@ -24,7 +24,7 @@ use Rattle.elf_table.specs.Load.{LoadedFile, HoldsSectionHeaders, IsOpened, earl
 use Rattle.elf_table.specs.Sections.{byte_rows, rows, table_of, checked}
 use Rattle.elf_table.proofs.RelocationLaws.{passed_first}
 use Rattle.elf_table.specs.Store.{StoreState, HoldsSegments, row, segment_bytes}
-use Rattle.elf_table.specs.Tables.{Rows, StringTableRange}
+use Rattle.elf_table.specs.Tables.{TableRange, StringTableRange}
 use Rattle.elf_table.specs.Views.{dynamic_of}
 use Rattle.elf_table.specs.declared.fault.Fault.{Fault}
 use Rattle.elf_listing.specs.Parts.{asked_cost, name_cost, segments_listed, store_sections, store_segments, tables_listed}
@@ -47,23 +47,23 @@ pub name_within : (names : Option StringTableRange) (index cap : ℕ) → (index
 name_within names index cap is = name_where names (index == 0) cap (λ e. is (eqb-true index 0 e))
 
 -- what a table asks for that was answered, behind checks or empty, is within what is counted by its header
-pub within_kind : (kind : TableKind) (headers : HeaderTable) (i size cap n : ℕ) (amount : ℕ → ℕ) (checks : List Check) (none some table : Rows)
+pub within_kind : (kind : TableKind) (headers : HeaderTable) (i size cap n : ℕ) (amount : ℕ → ℕ) (checks : List Check) (none some table : TableRange)
     → kind.has_table (headers.bytes i) (headers.at i) ≡ true
     → (first_refusal checks ≡ None → pass (kind.checks.own (headers.bytes i) (headers.at i) size) ≡ true)
     → ((n == 0) ≡ true → amount none.count ≡ 0) → amount some.count ≤ kind.asks headers i size cap
-    → (elim (n == 0) as (λ _. Result Rows Fault) [ true ↦ Ok none | false ↦ checked checks some ]) ≡ Ok table
+    → (elim (n == 0) as (λ _. Result TableRange Fault) [ true ↦ Ok none | false ↦ checked checks some ]) ≡ Ok table
     → amount table.count ≤ table_cost kind headers i size cap
 unfolding table_cost
 within_kind kind headers i size cap n amount checks none some table has same zero most h = rw has (by_cases (n == 0) zero h)
   where
     by_cases : (empty : Bool) → (empty ≡ true → amount none.count ≡ 0)
-        → (elim empty as (λ _. Result Rows Fault) [ true ↦ Ok none | false ↦ checked checks some ]) ≡ Ok table
+        → (elim empty as (λ _. Result TableRange Fault) [ true ↦ Ok none | false ↦ checked checks some ]) ≡ Ok table
         → amount table.count ≤ cost_where (pass (kind.checks.own (headers.bytes i) (headers.at i) size)) (kind.asks headers i size cap)
-    by_cases true zero h = let is : none ≡ table = cc in rw (ap (λ (r : Rows). amount r.count) (sym is) ∙ zero refl) (omega arith)
-    by_cases false zero h = let p = passed_first (first_refusal checks) some table h in rw (same p.0, ap (λ (r : Rows). amount r.count) (sym p.1)) (omega arith)
+    by_cases true zero h = let is : none ≡ table = cc in rw (ap (λ (r : TableRange). amount r.count) (sym is) ∙ zero refl) (omega arith)
+    by_cases false zero h = let p = passed_first (first_refusal checks) some table h in rw (same p.0, ap (λ (r : TableRange). amount r.count) (sym p.1)) (omega arith)
 
 -- the entries of a section, each of which asks for so many bytes
-pub section_within : (kind : TableKind) (store : StoreState) (i size place cap entry each : ℕ) (table : Rows) → kind.has_table (row store i) 0 ≡ true
+pub section_within : (kind : TableKind) (store : StoreState) (i size place cap entry each : ℕ) (table : TableRange) → kind.has_table (row store i) 0 ≡ true
     → kind.checks.own (row store i) 0 size ≡ table_checks_of (row store i) 0 size 0 entry
     → sh_size (row store i) 0 / entry * each ≡ kind.asks (store_sections store) i size cap
     → Ok table ≡ table_of (row store i) 0 size place entry → table.count * each ≤ table_cost kind (store_sections store) i size cap
@@ -81,7 +81,7 @@ whole_by_cases false true place other h = cc
 whole_by_cases false false place other h = refl
 
 -- the bytes of a range, of which so many ask for an amount, and none for nothing
-pub range_within : (kind : TableKind) (headers : HeaderTable) (i size offset n place cap : ℕ) (amount : ℕ → ℕ) (table : Rows)
+pub range_within : (kind : TableKind) (headers : HeaderTable) (i size offset n place cap : ℕ) (amount : ℕ → ℕ) (table : TableRange)
     → kind.has_table (headers.bytes i) (headers.at i) ≡ true
     → kind.checks.own (headers.bytes i) (headers.at i) size ≡ range_checks_of size offset n (headers.at i)
     → amount 0 ≡ 0 → amount n ≤ kind.asks headers i size cap
@@ -91,7 +91,7 @@ range_within kind headers i size offset n place cap amount table has own zero mo
     (λ none. ap pass own ∙ whole_by_cases false (is_outside size offset n) place (headers.at i) none) (λ _. zero) most (sym h)
 
 -- the dynamic entries of a segment
-pub segment_within : (store : StoreState) (i size place cap : ℕ) (table : Rows) → (p_type (segment_bytes store i) 0 == PT_DYNAMIC) ≡ true
+pub segment_within : (store : StoreState) (i size place cap : ℕ) (table : TableRange) → (p_type (segment_bytes store i) 0 == PT_DYNAMIC) ≡ true
     → Ok table ≡ dynamic_of (segment_bytes store i) 0 size place
     → table.count * (32 + name_bytes cap) ≤ table_cost segment_dynamic (store_segments store) i size cap
 unfolding segment_dynamic
@@ -104,8 +104,8 @@ segment_within store i size place cap table kind h =
     (λ empty. ap (λ k. k / 16 * (32 + name_bytes cap)) (eqb-true n 0 empty) ∙ omega arith) (omega arith)
     (unless_by_cases (n == 0) (whole_checks_of size (p_offset bytes 0) n place 16) all ∙ sym h)
   where
-    unless_by_cases : (empty : Bool) (checks : List Check) (all : Rows)
-        → (elim empty as (λ _. Result Rows Fault) [ true ↦ Ok all | false ↦ checked checks all ]) ≡ checked (if empty then [] else checks) all
+    unless_by_cases : (empty : Bool) (checks : List Check) (all : TableRange)
+        → (elim empty as (λ _. Result TableRange Fault) [ true ↦ Ok all | false ↦ checked checks all ]) ≡ checked (if empty then [] else checks) all
     unless_by_cases true checks all = refl
     unless_by_cases false checks all = refl
 
@@ -175,7 +175,7 @@ pub viewed_all : (parts : ℕ) (loaded : LoadedFile) (store : StoreState) → st
 viewed_all parts loaded store view some = elim (viewed_is parts loaded) [ inl none ↦ absurd (omega arith) | inr all ↦ view ∙ all ]
 
 -- the tables of the headers in the store are those of the file
-module _ (file : List ℕ) (loaded : LoadedFile) (store : StoreState) (style : Style) (parts : ℕ) (belongs : HoldsSectionHeaders file loaded store) (held : HoldsSegments file store)
+module _ (file : List ℕ) (loaded : LoadedFile) (store : StoreState) (style : ListingStyle) (parts : ℕ) (belongs : HoldsSectionHeaders file loaded store) (held : HoldsSegments file store)
     (view : store.segments ≡ viewed_headers parts loaded) where
   few_segments : segments_sum loaded store style.cap parts ≤ sum_over (λ i. kinds_cost segment_kinds (file_segments file) i (length file) style.cap parts) 0 (e_phnum file)
   few_segments = elim (viewed_is parts loaded) [
@@ -206,12 +206,12 @@ module _ (file : List ℕ) (loaded : LoadedFile) (store : StoreState) (style : S
             omega (arith, zero, same, tables, sections_counted file style parts)
       ]
 
-pub slots_below : (size headers : ℕ) (style : Style) → 64 + 64 * headers ≤ style_ceiling size headers style
+pub slots_below : (size headers : ℕ) (style : ListingStyle) → 64 + 64 * headers ≤ style_ceiling size headers style
 slots_below size headers style =
     let all = any_rows (held_headers 0 (λ i. [])) style size headers 0 headers 0 (omega arith) (omega arith) in omega arith
 
 -- versions behind the names of symbols lower no ceiling
-ceiling_below : (size headers : ℕ) (style : Style) → ceiling size headers style.cap ≤ style_ceiling size headers style
+ceiling_below : (size headers : ℕ) (style : ListingStyle) → ceiling size headers style.cap ≤ style_ceiling size headers style
 unfolding style_ceiling
 ceiling_below size headers style = by_cases style.versions
   where
@@ -231,18 +231,18 @@ unfolding is_loadable
 loadable file headers passed early = ap is_none (first_refusal-none (header_checks file) (early_checks file headers) passed) ∙ early
 
 -- a load asks for the section headers where the checks before them pass, and for nothing else
-pub load_within : (file : List ℕ) (header : Ehdr) (size slots : ℕ) (style : Style) (parts : ℕ) → IsEhdr file 0 header → size ≡ length file → first_refusal (header_checks file) ≡ None → has_tables parts ≡ true
+pub load_within : (file : List ℕ) (header : Ehdr) (size slots : ℕ) (style : ListingStyle) (parts : ℕ) → IsEhdr file 0 header → size ≡ length file → first_refusal (header_checks file) ≡ None → has_tables parts ≡ true
     → load_cost header size slots ≤ after_header file slots style parts
 load_within file header size slots style parts is same passed tables =
     cost_where-within (pass (early_of header size slots)) (64 * header.e_shnum) _ (λ early.
     let headers = headers_within file (record { size = size; header = header }) style.cap parts is in
     rw (tables, loadable file slots passed (ap is_none (sym (early_is file header size slots is same)) ∙ early)) (omega (arith, headers)))
 
-pub load_below : (header : Ehdr) (size slots : ℕ) (style : Style) → 64 + load_cost header size slots ≤ style_ceiling size slots style
+pub load_below : (header : Ehdr) (size slots : ℕ) (style : ListingStyle) → 64 + load_cost header size slots ≤ style_ceiling size slots style
 load_below header size slots style = let few : load_cost header size slots ≤ 64 * slots = grind arith in omega (arith, few, slots_below size slots style)
 
 -- a file that was loaded is listed within its cost, and its headers alone are read within it
-module _ (file : List ℕ) (loaded : LoadedFile) (store : StoreState) (slots : ℕ) (style : Style) (parts : ℕ) (belongs : HoldsSectionHeaders file loaded store)
+module _ (file : List ℕ) (loaded : LoadedFile) (store : StoreState) (slots : ℕ) (style : ListingStyle) (parts : ℕ) (belongs : HoldsSectionHeaders file loaded store)
     (same : store.slots ≡ slots) where
   loads : first_refusal (header_checks file) ≡ None → is_loadable file slots ≡ true
   loads passed = rw (← same) (loadable file store.slots passed (ap is_none (passes_front (early_checks file store.slots) (section_name_checks file) belongs.passes)))
@@ -263,7 +263,7 @@ module _ (file : List ℕ) (loaded : LoadedFile) (store : StoreState) (slots : �
       rw (tables, loads passed) (omega (arith, once, headers))
 
 -- and within the ceiling, whatever the source is
-pub loaded_below : (loaded : LoadedFile) (store : StoreState) (size slots : ℕ) (style : Style) (parts : ℕ) → loaded.size ≡ size → store.slots ≡ slots → store.loaded ≡ loaded.header.e_shnum
+pub loaded_below : (loaded : LoadedFile) (store : StoreState) (size slots : ℕ) (style : ListingStyle) (parts : ℕ) → loaded.size ≡ size → store.slots ≡ slots → store.loaded ≡ loaded.header.e_shnum
     → loaded.header.e_shnum ≤ slots → loaded.header.e_phnum ≤ slots → store.segments ≡ viewed_headers parts loaded
     → 64 + (64 * loaded.header.e_shnum + (view_cost parts loaded + tables_listed parts loaded store style.cap style.versions)) ≤ style_ceiling size slots style
 loaded_below loaded store size slots style parts same slotted count few some view =
@@ -285,7 +285,7 @@ loaded_below loaded store size slots style parts same slotted count few some vie
           omega (arith, zero, count, names, listed, asked, all)
     ])
 
-pub view_below : (loaded : LoadedFile) (size slots : ℕ) (style : Style) (parts : ℕ) → loaded.header.e_shnum ≤ slots → loaded.header.e_phnum ≤ slots
+pub view_below : (loaded : LoadedFile) (size slots : ℕ) (style : ListingStyle) (parts : ℕ) → loaded.header.e_shnum ≤ slots → loaded.header.e_phnum ≤ slots
     → 64 + (64 * loaded.header.e_shnum + view_cost parts loaded) ≤ style_ceiling size slots style
 view_below loaded size slots style parts few some =
     let store : StoreState = record { slots = slots; loaded = loaded.header.e_shnum; rows = []; segments = viewed_headers parts loaded; segment_rows = [] } in
@@ -308,7 +308,7 @@ pub few_headers : (loaded : LoadedFile) (header : Ehdr) (size : ℕ) (store : St
     → (loaded.header.e_shnum ≤ slots) × (loaded.header.e_phnum ≤ slots)
 few_headers loaded header size store opened same = rw (opened.same_header, ← same) (opened.passes.few, opened.passes.few_segments)
 
-pub cost_is : (file : List ℕ) (headers : ℕ) (style : Style) (parts : ℕ)
+pub cost_is : (file : List ℕ) (headers : ℕ) (style : ListingStyle) (parts : ℕ)
     → listing_cost file headers style parts ≡ 64 + after_header (view_of style file) headers style (known_parts style parts)
 unfolding listing_cost
 cost_is file headers style parts = refl

@@ -1,6 +1,6 @@
 -- The items of one header, by what the store and the checks of a loaded file answer.
 use Rattle.elf_model.specs.Fields.{LinePrefix}
-use Rattle.elf_model.specs.Style.{Style}
+use Rattle.elf_model.specs.Style.{ListingStyle}
 use Rattle.std.proofs.Common.{◌≡◌, ℕ, ◌+◌, ◌*◌, ◌/◌, ◌<◌, ◌==◌, ◌&&◌, not, Bool, true, false, inl, inr, if◌then◌else◌, List, [], ◌∷◌, ◌++◌, length, Option, None, Some, Result, Ok, Err, refl, sym, ap, ◌∙◌, subst, arith}
 use Rattle.std.proofs.lemmas.Bool.{cases_Bool, eqb-true}
 use Rattle.elf_model.specs.Bytes.{slice}
@@ -24,7 +24,7 @@ use Rattle.elf_note.specs.DynCursors.{AreStrings}
 use Rattle.elf_note.specs.declared.string_values.DynamicStrings.{DynamicStrings}
 use Rattle.elf_source.specs.Output.{OutState}
 use Rattle.elf_table.specs.Relocations.{RefusedBy}
-use Rattle.elf_table.specs.Tables.{Rows, StringTableRange}
+use Rattle.elf_table.specs.Tables.{TableRange, StringTableRange}
 use Rattle.elf_table.specs.Sections.{byte_rows, table_at, string_table_at as strings_linked, names_at, rows, section_names, checked as checked_as}
 use Rattle.elf_table.proofs.RelocationLaws.{passed_first, table-fails, table-passes}
 use Rattle.elf_table.specs.Views.{dynamic_table_at as table_of_segment}
@@ -37,12 +37,12 @@ use Rattle.elf_listing.proofs.RowLaws.{WroteUntilStop-first}
 use Rattle.elf_listing.proofs.ShowLaws.{Whole-none}
 
 -- a header that describes no table of a kind
-pub no_table : (kind : TableKind) (file : List ℕ) (style : Style) (index at : ℕ) (a : OutState) → kind.has_table file at ≡ false → WroteItems a a (table_rows kind file style index at)
+pub no_table : (kind : TableKind) (file : List ℕ) (style : ListingStyle) (index at : ℕ) (a : OutState) → kind.has_table file at ≡ false → WroteItems a a (table_rows kind file style index at)
 unfolding table_rows
 no_table kind file style index at a none = rw (none, table_rows) (Whole-none a)
 
 -- one that describes a table has its rows behind its checks: they pass, or the first refuses
-module _ (kind : TableKind) (file : List ℕ) (style : Style) (index at : ℕ) (has : kind.has_table file at ≡ true) where
+module _ (kind : TableKind) (file : List ℕ) (style : ListingStyle) (index at : ℕ) (has : kind.has_table file at ≡ true) where
   rows_are : table_rows kind file style index at ≡ guarded (all_checks kind.checks file at) (kind.rows file style index at)
   unfolding table_rows
   rows_are = rw (has, table_rows) refl
@@ -71,7 +71,7 @@ some_sections : (n : ℕ) → 0 < n → (n == 0) ≡ false
 some_sections n h = grind (arith)
 
 -- the row of a section header, by its front and its name
-pub section_is : (file : List ℕ) (front : LinePrefix) (names : Option StringTableRange) (off at index : ℕ) (style : Style) → names ≡ section_names file → 0 < e_shnum file → at ≡ section_at file index
+pub section_is : (file : List ℕ) (front : LinePrefix) (names : Option StringTableRange) (off at index : ℕ) (style : ListingStyle) → names ≡ section_names file → 0 < e_shnum file → at ≡ section_at file index
     → off ≡ sh_name file (section_at file index) → front ≡ section_prefix style.format style.gnu (e_machine file) file (section_at file index) index
     → section_row file style index ≡ named_row front at (shown_in file names off style.cap)
 unfolding section_row section_name
@@ -81,7 +81,7 @@ section_is file front names off at index style same some place is before =
     (sym (name_by_cases file (e_shnum file == 0) (e_shstrndx file == 0) (names_at file (section_at file (e_shstrndx file))) _ style.cap (some_sections (e_shnum file) some))))
 
 -- a range that a header tells of is the file's, as a load knows the file's size and the header's place
-pub range_of_file : {size offset n place all from_ count at : ℕ} {result : Result Rows Fault} → size ≡ all → offset ≡ from_ → n ≡ count → place ≡ at
+pub range_of_file : {size offset n place all from_ count at : ℕ} {result : Result TableRange Fault} → size ≡ all → offset ≡ from_ → n ≡ count → place ≡ at
     → result ≡ byte_rows size offset n place → byte_rows all from_ count at ≡ result
 range_of_file sized from_is counted placed is = rw (← sized, ← from_is, ← counted, ← placed) (sym is)
 
@@ -90,7 +90,7 @@ pub section_placed : {place begin : ℕ} (file : List ℕ) (i : ℕ) → place �
 section_placed file i is begins = omega arith
 
 -- the bytes of a range that is answered
-pub range_passes : (file : List ℕ) (offset size place : ℕ) (table : Rows) → byte_rows (length file) offset size place ≡ Ok table
+pub range_passes : (file : List ℕ) (offset size place : ℕ) (table : TableRange) → byte_rows (length file) offset size place ≡ Ok table
     → (first_refusal (unless_empty size (range_checks_of (length file) offset size place)) ≡ None) × (rows offset size 1 ≡ table)
 range_passes file offset size place table h =
     let p = table-passes (size == 0) (rows offset 0 1) (rows offset size 1) table (range_checks_of (length file) offset size place) h in (
@@ -102,11 +102,11 @@ range_passes file offset size place table h =
     )
 
 -- the dynamic entries that are listed, of so many at an offset, where the strings of an entry are told
-abbrev pub entries_at : List ℕ → Style → ℕ → ℕ → (ℕ → Result (List ℕ) Refusal) → List ListingItem
+abbrev pub entries_at : List ℕ → ListingStyle → ℕ → ℕ → (ℕ → Result (List ℕ) Refusal) → List ListingItem
 entries_at file style offset count strings = each (λ i. dynamic_row file style strings (dynamic_at offset i) i) 0 (dynamic_count file offset count)
 
 -- none of an empty section
-pub empty_dynamic : (file : List ℕ) (style : Style) (index : ℕ) (a : OutState) (at : ℕ) → section_dynamic.has_table file at ≡ true → sh_size file at ≡ 0 → WroteItems a a (table_rows section_dynamic file style index at)
+pub empty_dynamic : (file : List ℕ) (style : ListingStyle) (index : ℕ) (a : OutState) (at : ℕ) → section_dynamic.has_table file at ≡ true → sh_size file at ≡ 0 → WroteItems a a (table_rows section_dynamic file style index at)
 unfolding section_dynamic each dynamic_count
 empty_dynamic file style index a at has empty = rw (table_passes section_dynamic file style index at has (rw empty refl)) (rw empty (Whole-none a))
 
@@ -122,7 +122,7 @@ module _ (file : List ℕ) (at : ℕ) where
       let p = table-fails (sh_size file at == 0) (rows (sh_offset file at) 0 16) (rows (sh_offset file at) (sh_size file at / 16) 16) (table_checks file at 16) fault h in
       rw p.0 (among [] (table_checks file at 16) (strings_checks file at) fault refl p.1)
 
-  module _ (some : (sh_size file at == 0) ≡ false) (table : Rows) (held : table_at file at 16 ≡ Ok table) where
+  module _ (some : (sh_size file at == 0) ≡ false) (table : TableRange) (held : table_at file at 16 ≡ Ok table) where
     own : (first_refusal (table_checks file at 16) ≡ None) × (rows (sh_offset file at) (sh_size file at / 16) 16 ≡ table)
     own =
         let p = table-passes (sh_size file at == 0) (rows (sh_offset file at) 0 16) (rows (sh_offset file at) (sh_size file at / 16) 16) table (table_checks file at 16) held in
@@ -135,13 +135,13 @@ module _ (file : List ℕ) (at : ℕ) where
 
     pub dynamic_passes : (names : StringTableRange) → strings_linked file at ≡ Ok names
         → (first_refusal (dynamic_table_checks file at) ≡ None)
-        × ((style : Style) → entries_at file style (sh_offset file at) (entry_count file at 16) (λ entry. Ok (strings_of file at)) ≡ entries_at file style table.at table.count (λ entry. Ok (slice file names.at names.size)))
+        × ((style : ListingStyle) → entries_at file style (sh_offset file at) (entry_count file at 16) (λ entry. Ok (strings_of file at)) ≡ entries_at file style table.at table.count (λ entry. Ok (slice file names.at names.size)))
     dynamic_passes names h =
         let linked = passed_first (first_refusal (strings_checks file at)) (names_at file (section_at file (sh_link file at))) names h in
         (rw some (first_refusal-none (table_checks file at 16) (strings_checks file at) own.0 ∙ linked.0), λ style. rw (← own.1, ← linked.1) refl)
 
 -- the dynamic entries of a segment: their strings are where the entries tell
-strings_found : (file : List ℕ) (table : Rows) (found : DynamicStrings) → AreStrings file table found
+strings_found : (file : List ℕ) (table : TableRange) (found : DynamicStrings) → AreStrings file table found
     → mapped_strings file table.at (dynamic_count file table.at table.count) ≡ (λ entry. strings_mapped file entry found.address found.size)
 unfolding mapped_strings
 strings_found file table found are =
@@ -151,13 +151,13 @@ strings_found file table found are =
 pub whole_fails : (file : List ℕ) (at : ℕ) (fault : Fault) → table_of_segment file at ≡ Err fault → RefusedBy (segment_dynamic_checks file at) fault
 whole_fails file at fault h = let all = rows (p_offset file at) (p_filesz file at / 16) 16 in (table-fails false all all (segment_dynamic_checks file at) fault h).1
 
-pub segment_passes : (file : List ℕ) (style : Style) (at : ℕ) (table : Rows) (found : DynamicStrings) → table_of_segment file at ≡ Ok table → AreStrings file table found
+pub segment_passes : (file : List ℕ) (style : ListingStyle) (at : ℕ) (table : TableRange) (found : DynamicStrings) → table_of_segment file at ≡ Ok table → AreStrings file table found
     → (first_refusal (segment_dynamic_checks file at) ≡ None)
     × (entries_at file style (p_offset file at) (p_filesz file at / 16) (mapped_strings file (p_offset file at) (dynamic_count file (p_offset file at) (p_filesz file at / 16)))
     ≡ entries_at file style table.at table.count (λ entry. strings_mapped file entry found.address found.size))
 segment_passes file style at table found h are =
     let p = passed_first (first_refusal (segment_dynamic_checks file at)) (rows (p_offset file at) (p_filesz file at / 16) 16) table h in (
       p.0,
-      ap (λ (t : Rows). entries_at file style t.at t.count (mapped_strings file t.at (dynamic_count file t.at t.count))) p.1
+      ap (λ (t : TableRange). entries_at file style t.at t.count (mapped_strings file t.at (dynamic_count file t.at t.count))) p.1
           ∙ ap (entries_at file style table.at table.count) (strings_found file table found are),
     )

@@ -1,5 +1,5 @@
 -- The items of one program header, by what the store and the checks of a viewed file answer.
-use Rattle.elf_model.specs.Style.{Style}
+use Rattle.elf_model.specs.Style.{ListingStyle}
 use Rattle.std.proofs.Common.{◌≡◌, ℕ, ◌<◌, List, [], ◌∷◌, Option, Some, sym, ap}
 use Rattle.elf_model.specs.Lines.{segment_line}
 use Rattle.elf_model.specs.Listing.{Line}
@@ -15,6 +15,6 @@ pub views : (file : List ℕ) (loaded : LoadedFile) (store : StoreState) (known 
 views file loaded store known belongs viewed held some = record { belongs = belongs; count = viewed.all some; rows = viewed.held file held }
 
 -- a program header's line
-pub segment_line_is : (file line : List ℕ) (style : Style) (index : ℕ) → line ≡ segment_line style.format style.gnu file (segment_at file index) index → segment_row file style index ≡ Line line ∷ []
+pub segment_line_is : (file line : List ℕ) (style : ListingStyle) (index : ℕ) → line ≡ segment_line style.format style.gnu file (segment_at file index) index → segment_row file style index ≡ Line line ∷ []
 unfolding segment_row
 segment_line_is file line style index same = sym (ap (λ text. Line text ∷ []) same)

@@ -1,5 +1,5 @@
 -- The string of a dynamic entry, by whether it tells of one.
-use Rattle.elf_model.specs.Style.{Style}
+use Rattle.elf_model.specs.Style.{ListingStyle}
 use Rattle.std.proofs.Common.{◌≡◌, ℕ, Bool, true, false, List, [], ◌∷◌, Option, None, Some, Result, Ok, Err, refl, sym, ap, ◌∙◌, subst}
 use Rattle.elf_model.specs.Checks.{first_refusal}
 use Rattle.elf_model.specs.Fields.{LinePrefix}
@@ -40,14 +40,14 @@ row_by_cases false table front at name = refl
 row_by_cases true (Ok strings) front at name = refl
 row_by_cases true (Err refusal) front at name = refl
 
-pub row_told : (file : List ℕ) (style : Style) (strings : ℕ → Result (List ℕ) Refusal) (at index : ℕ)
+pub row_told : (file : List ℕ) (style : ListingStyle) (strings : ℕ → Result (List ℕ) Refusal) (at index : ℕ)
     → dynamic_row file style strings at index ≡ reported_row (dynamic_prefix style.format style.gnu file at index) at (string_told strings file style.cap at)
 unfolding dynamic_row
 row_told file style strings at index =
     row_by_cases (is_string_tag (d_tag file at)) (strings at) (dynamic_prefix style.format style.gnu file at index) at (λ table. shown table (d_un file at) style.cap)
 
 -- the row of an entry at its place, by its front
-pub entry_is : (file : List ℕ) (front : LinePrefix) (style : Style) (at index place : ℕ) (strings : ℕ → Result (List ℕ) Refusal) → front ≡ dynamic_prefix style.format style.gnu file at index → at ≡ place
+pub entry_is : (file : List ℕ) (front : LinePrefix) (style : ListingStyle) (at index place : ℕ) (strings : ℕ → Result (List ℕ) Refusal) → front ≡ dynamic_prefix style.format style.gnu file at index → at ≡ place
     → dynamic_row file style strings place index ≡ reported_row front at (string_told strings file style.cap at)
 entry_is file front style at index place strings same here =
     ap (λ p. dynamic_row file style strings p index) (sym here) ∙ (row_told file style strings at index ∙ ap (λ text. reported_row text at (string_told strings file style.cap at)) (sym same))

@@ -13,7 +13,7 @@ use Rattle.elf_model.specs.VersionCost.{walks_cost}
 use Rattle.elf_model.proofs.StoreLemmas.{places_decide_nothing}
 use Rattle.elf_table.specs.Store.{StoreState, row}
 use Rattle.elf_table.specs.Sections.{rows, table_of}
-use Rattle.elf_table.specs.Tables.{Rows}
+use Rattle.elf_table.specs.Tables.{TableRange}
 use Rattle.elf_listing.specs.Parts.{store_sections}
 use Rattle.elf_listing.specs.Suffixed.{suffix_bytes, walks_asked}
 use Rattle.elf_listing.proofs.SectionCosts.{within_kind}
@@ -34,7 +34,7 @@ asked_is headers table names size cap each = by_found (first_numbers headers tab
     by_found (Some i) false = omega (arith, mul-add names each (2 + name_bytes cap))
 
 -- a table of entries with versions, whose symbols' table has an index: what finds them, and the rows
-pub suffixed_within : (kind : TableKind) (store : StoreState) (i symbols size place cap entry each : ℕ) (table : Rows) → kind.has_table (row store i) 0 ≡ true
+pub suffixed_within : (kind : TableKind) (store : StoreState) (i symbols size place cap entry each : ℕ) (table : TableRange) → kind.has_table (row store i) 0 ≡ true
     → kind.checks.own (row store i) 0 size ≡ table_checks_of (row store i) 0 size 0 entry
     → (let names : ℕ = sh_size (row store i) 0 / entry in
     names * each + suffixes_cost (store_sections store) symbols names size cap ≡ kind.asks (store_sections store) i size cap)

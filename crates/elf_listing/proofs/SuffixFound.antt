@@ -13,7 +13,7 @@ use Rattle.elf_table.specs.declared.fault.Fault.{Fault}
 use Rattle.elf_table.specs.declared.fault.Fault.TheVariants.{Refused, Source}
 use Rattle.elf_table.specs.Relocations.{RefusedBy}
 use Rattle.elf_table.specs.Versions.{AreVersioned}
-use Rattle.elf_table.specs.Tables.{Rows}
+use Rattle.elf_table.specs.Tables.{TableRange}
 use Rattle.elf_listing.specs.Suffixed.{AreSuffixes, SuffixesOr, suffix_bytes, walks_asked}
 use Rattle.elf_listing.specs.SymbolVersions.{AreNumbered, NumberedOr, walks_refusal}
 use Rattle.elf_listing.specs.declared.suffixes.VersionLookup.{VersionLookup}

@@ -10,7 +10,7 @@ use Rattle.elf_model.specs.Names.{DisplayedName, shown}
 use Rattle.elf_model.specs.Records.{e_machine, r_sym, section_at, sh_link, sh_offset, st_name}
 use Rattle.elf_model.specs.Rows.{named_row, symbol_named}
 use Rattle.elf_model.proofs.SuffixLaws.{unsuffixed_line}
-use Rattle.elf_model.specs.Style.{Style}
+use Rattle.elf_model.specs.Style.{ListingStyle}
 use Rattle.elf_model.specs.Suffixes.{relocation_row_with_version, suffixed_row, symbol_row_with_version, symbol_suffix}
 use Rattle.elf_model.specs.Tables.{entry_at, linked_at, strings_of}
 use Rattle.elf_model.specs.declared.causes.Cause.{Cause}
@@ -98,7 +98,7 @@ suffixed-hidden choice front at end name version answer suffix behind read next 
     rw (named, told) (rw is refl)
 
 -- a symbol's row at its place
-pub suffixed_symbol_is : (file : List ℕ) (style : Style) (section index at : ℕ) (front : LinePrefix) (table : List ℕ) (off : ℕ)
+pub suffixed_symbol_is : (file : List ℕ) (style : ListingStyle) (section index at : ℕ) (front : LinePrefix) (table : List ℕ) (off : ℕ)
     → front ≡ symbol_prefix style.format style.gnu (e_machine file) file at section index
     → table ≡ strings_of file (section_at file section) → off ≡ st_name file at → at ≡ sh_offset file (section_at file section) + index * 24
     → symbol_row_with_version file style section (section_at file section) index
@@ -119,7 +119,7 @@ entry_suffix file cap at symbol =
     if symbol == 0 then Ok NoSuffix
     else symbol_suffix file cap (sh_link file at) (entry_at file (linked_at file at) 24 symbol) symbol
 
-pub suffixed_relocation_is : (file : List ℕ) (front : LinePrefix) (style : Style) (section at entry symbol index : ℕ) → entry ≡ sh_offset file at + index * 24
+pub suffixed_relocation_is : (file : List ℕ) (front : LinePrefix) (style : ListingStyle) (section at entry symbol index : ℕ) → entry ≡ sh_offset file at + index * 24
     → front ≡ relocation_prefix style.format style.gnu (e_machine file) file entry section → symbol ≡ r_sym file entry
     → relocation_row_with_version file style section at index
     ≡ suffixed_row style.choice front (symbol_named file style.cap at entry symbol).0 (symbol_named file style.cap at entry symbol).1 (entry_suffix file style.cap at symbol)

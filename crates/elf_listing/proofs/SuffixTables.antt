@@ -11,7 +11,7 @@ use Rattle.elf_model.specs.Names.{DisplayedName}
 use Rattle.elf_model.specs.Records.{e_machine, r_sym, section_at, sh_link, sh_type}
 use Rattle.elf_model.specs.Report.{table_rows}
 use Rattle.elf_model.specs.Rows.{chosen_row, relocation_row, symbol_named, symbol_row}
-use Rattle.elf_model.specs.Style.{Style}
+use Rattle.elf_model.specs.Style.{ListingStyle}
 use Rattle.elf_model.specs.Suffixes.{after_refusal, version_numbers_of, relocation_row_with_version, suffixed_relocation_rows, suffixed_row, symbol_row_with_version, suffixed_symbol_rows, suffixes_refusal, symbol_suffix}
 use Rattle.elf_model.specs.TableKinds.{relocations, relocations_with_versions, suffixed_symbols, symbols}
 use Rattle.elf_model.specs.Tables.{all_checks, entry_at, entry_count, has_symbols, linked_at, relocation_table_checks, symbol_checks_of, symbol_table}
@@ -27,8 +27,8 @@ use Rattle.elf_source.specs.Output.{OutState}
 use Rattle.elf_source.specs.declared.source.Source.{Ghosts as Sources}
 use Rattle.elf_source.specs.declared.sink.Sink.{Ghosts as Sinks}
 use Rattle.elf_table.specs.Relocations.{AreRelocations, RefersTo}
-use Rattle.elf_table.specs.Tables.{Rows, StringTableRange}
-use Rattle.elf_listing.specs.Shows.{ListingReads, Lists, WroteUntilStop, WroteItems}
+use Rattle.elf_table.specs.Tables.{TableRange, StringTableRange}
+use Rattle.elf_listing.specs.Shows.{ListingReads, ListingCalls, WroteUntilStop, WroteItems}
 use Rattle.elf_listing.specs.Suffixed.{AreSuffixes, LinkedOr, SuffixesOr}
 use Rattle.elf_listing.specs.declared.listing.Listing.{Listing}
 use Rattle.elf_listing.specs.declared.suffixes.VersionLookup.{VersionLookup}
@@ -38,9 +38,9 @@ use Rattle.elf_listing.proofs.SectionShown.{table_passes}
 use Rattle.elf_listing.proofs.ShowLaws.{SpentCredit-then, Whole-none}
 
 -- something was read, and then rows were shown
-pub Lists-behind : {S W X Y : Type 0} {s : Sources S} {w : Sinks W} (a b c : Listing S W s w) (y : Y) (result : Result X RunFault) (n m k : ℕ) (read : Type 0) {shown : Type 0}
-    → n + m ≤ k → ListingReads a b (Ok y) n → Lists b c result m read → shown → Lists a c result k shown
-Lists-behind a b c y result n m k read within p q is = record {
+pub ListingCalls-behind : {S W X Y : Type 0} {s : Sources S} {w : Sinks W} (a b c : Listing S W s w) (y : Y) (result : Result X RunFault) (n m k : ℕ) (read : Type 0) {shown : Type 0}
+    → n + m ≤ k → ListingReads a b (Ok y) n → ListingCalls b c result m read → shown → ListingCalls a c result k shown
+ListingCalls-behind a b c y result n m k read within p q is = record {
   grows = rw (← p.1) q.grows;
   keeps = SameFile-then p.0 q.keeps;
   spent = SpentCredit-then _ _ _ _ _ _ _ _ _ _ _ within p.2 q.spent;
@@ -54,7 +54,7 @@ refused_rows a file table (Refused refusal) all rows is or =
     Ends-first a refusal all (λ other. is ∙ ap (λ (first : Option Refusal). after_refusal first rows) (or other))
 refused_rows a file table (Source fault offset) all rows is or = WrotePrefix-none a all
 
-module _ (file : List ℕ) (style : Style) (section : ℕ) (kind : is_symbol_table file (section_at file section) ≡ true)
+module _ (file : List ℕ) (style : ListingStyle) (section : ℕ) (kind : is_symbol_table file (section_at file section) ≡ true)
     (pass : first_refusal (all_checks symbol_table file (section_at file section)) ≡ None) where
   symbols_are : table_rows suffixed_symbols file style section (section_at file section)
       ≡ after_refusal (suffixes_refusal file section) (each (symbol_row_with_version file style section (section_at file section)) 0 (entry_count file (section_at file section) 24))
@@ -79,7 +79,7 @@ module _ (file : List ℕ) (style : Style) (section : ℕ) (kind : is_symbol_tab
       ∙ (unversioned_symbols file style section (section_at file section) unnumbered ∙ ap (each (symbol_row file style section (section_at file section)) 0) (sym counted))
 
 -- and of one whose versions are refused
-pub symbols_refused : (a : OutState) (file : List ℕ) (style : Style) (section : ℕ) → is_symbol_table file (section_at file section) ≡ true
+pub symbols_refused : (a : OutState) (file : List ℕ) (style : ListingStyle) (section : ℕ) → is_symbol_table file (section_at file section) ≡ true
     → first_refusal (all_checks symbol_table file (section_at file section)) ≡ None → (fault : Fault) → SuffixesOr file section (Err fault)
     → WroteUntilStop a a (stop_of fault) (table_rows suffixed_symbols file style section (section_at file section))
 symbols_refused a file style section kind pass fault or = refused_rows a file section fault _ _ (symbols_are file style section kind pass) or
@@ -115,7 +115,7 @@ refused_name : (choice : RowFilter) (front : LinePrefix) (named : ℕ × Result 
     → suffixed_row choice front named.0 named.1 suffix ≡ chosen_row choice front named.0 named.1
 refused_name choice front named at cause suffix is = rw is refl
 
-unnamed_entry : (file : List ℕ) (style : Style) (section at index : ℕ) → (has_symbols file at ≡ false) ⊎ (entry_count file (linked_at file at) 24 ≡ 0)
+unnamed_entry : (file : List ℕ) (style : ListingStyle) (section at index : ℕ) → (has_symbols file at ≡ false) ⊎ (entry_count file (linked_at file at) 24 ≡ 0)
     → relocation_row_with_version file style section at index ≡ relocation_row file style section at index
 unfolding relocation_row_with_version relocation_row
 unnamed_entry file style section at index unnamed = by_symbol (r_sym file (entry_at file at 24 index) == 0) refl
@@ -141,8 +141,8 @@ linked_none true true first none = refl
 linked_none true false first none = none
 linked_none false empty first none = refl
 
-module _ (file : List ℕ) (style : Style) (section : ℕ) (kind : (sh_type file (section_at file section) == 4) ≡ true) (table : Rows) where
-  entries_are : (linked : Option (Rows × StringTableRange)) → AreRelocations file (section_at file section) table linked
+module _ (file : List ℕ) (style : ListingStyle) (section : ℕ) (kind : (sh_type file (section_at file section) == 4) ≡ true) (table : TableRange) where
+  entries_are : (linked : Option (TableRange × StringTableRange)) → AreRelocations file (section_at file section) table linked
       → table_rows relocations_with_versions file style section (section_at file section)
       ≡ after_refusal
       (linked_refusal (has_symbols file (section_at file section)) (table.count == 0) (suffixes_refusal file (sh_link file (section_at file section))))
@@ -151,7 +151,7 @@ module _ (file : List ℕ) (style : Style) (section : ℕ) (kind : (sh_type file
   entries_are linked are = rw are.counted (table_passes relocations_with_versions file style section (section_at file section) kind are.pass)
 
   -- the rows of a table whose versions are found
-  pub entries_shown : (linked : Option (Rows × StringTableRange)) → AreRelocations file (section_at file section) table linked → suffixes_refusal file (sh_link file (section_at file section)) ≡ None
+  pub entries_shown : (linked : Option (TableRange × StringTableRange)) → AreRelocations file (section_at file section) table linked → suffixes_refusal file (sh_link file (section_at file section)) ≡ None
       → table_rows relocations_with_versions file style section (section_at file section) ≡ each (relocation_row_with_version file style section (section_at file section)) 0 table.count
   entries_shown linked are none =
       entries_are linked are
@@ -159,7 +159,7 @@ module _ (file : List ℕ) (style : Style) (section : ℕ) (kind : (sh_type file
       (linked_none (has_symbols file (section_at file section)) (table.count == 0) (suffixes_refusal file (sh_link file (section_at file section))) none)
 
   -- of one whose symbols have none, or which refers to no symbols
-  found_plain : (linked : Option (Rows × StringTableRange)) → AreRelocations file (section_at file section) table linked
+  found_plain : (linked : Option (TableRange × StringTableRange)) → AreRelocations file (section_at file section) table linked
       → SuffixesOr file (sh_link file (section_at file section)) (Ok None)
       → table_rows relocations_with_versions file style section (section_at file section) ≡ each (relocation_row file style section (section_at file section)) 0 table.count
   unfolding relocations_with_versions relocations
@@ -168,7 +168,7 @@ module _ (file : List ℕ) (style : Style) (section : ℕ) (kind : (sh_type file
       table_passes relocations_with_versions file style section (section_at file section) kind are.pass
       ∙ (unversioned_entries file style section (section_at file section) unnumbered ∙ ap (each (relocation_row file style section (section_at file section)) 0) (sym are.counted))
 
-  pub entries_plain : (linked : Option (Rows × StringTableRange)) → 0 < table.count → AreRelocations file (section_at file section) table linked
+  pub entries_plain : (linked : Option (TableRange × StringTableRange)) → 0 < table.count → AreRelocations file (section_at file section) table linked
       → LinkedOr file (sh_link file (section_at file section)) linked (Ok None)
       → table_rows relocations_with_versions file style section (section_at file section) ≡ each (relocation_row file style section (section_at file section)) 0 table.count
   entries_plain None some are or =
@@ -181,7 +181,7 @@ module _ (file : List ℕ) (style : Style) (section : ℕ) (kind : (sh_type file
   entries_plain (Some found) some are or = let linked = are.refers some in found_plain (Some found) are (or linked.1.counted)
 
   -- and of one whose versions are refused
-  pub entries_refused : (a : OutState) (linked : Option (Rows × StringTableRange)) → 0 < table.count → AreRelocations file (section_at file section) table linked
+  pub entries_refused : (a : OutState) (linked : Option (TableRange × StringTableRange)) → 0 < table.count → AreRelocations file (section_at file section) table linked
       → (fault : Fault) → LinkedOr file (sh_link file (section_at file section)) linked (Err fault)
       → WroteUntilStop a a (stop_of fault) (table_rows relocations_with_versions file style section (section_at file section))
   entries_refused a None some are fault or = absurd cc
@@ -197,7 +197,7 @@ module _ (file : List ℕ) (style : Style) (section : ℕ) (kind : (sh_type file
       (or linked.1.counted)
 
   -- no entries have no rows
-  pub no_entries : (a : OutState) (linked : Option (Rows × StringTableRange)) → table.count ≡ 0 → AreRelocations file (section_at file section) table linked
+  pub no_entries : (a : OutState) (linked : Option (TableRange × StringTableRange)) → table.count ≡ 0 → AreRelocations file (section_at file section) table linked
       → WroteItems a a (table_rows relocations_with_versions file style section (section_at file section))
   unfolding each
   no_entries a linked none are =
@@ -211,7 +211,7 @@ module _ (file : List ℕ) (style : Style) (section : ℕ) (kind : (sh_type file
       by_link false first = refl
 
 -- what is found is of the symbols that are referred to
-pub linked_found : (file : List ℕ) (at : ℕ) (linked : Option (Rows × StringTableRange)) {suffixes : VersionLookup} → RefersTo file at linked → LinkedOr file (sh_link file at) linked (Ok (Some suffixes))
+pub linked_found : (file : List ℕ) (at : ℕ) (linked : Option (TableRange × StringTableRange)) {suffixes : VersionLookup} → RefersTo file at linked → LinkedOr file (sh_link file at) linked (Ok (Some suffixes))
     → (suffixes_refusal file (sh_link file at) ≡ None) × AreSuffixes file (sh_link file at) suffixes
 linked_found file at None refers or = absurd cc
 linked_found file at (Some found) refers or = or refers.1.counted

@@ -10,7 +10,7 @@ use Rattle.elf_model.specs.declared.causes.Cause.{Cause}
 use Rattle.elf_model.specs.declared.causes.Cause.TheVariants.{BadLink, SymbolIndex}
 use Rattle.elf_source.specs.Source.{CountedState, ReadsUpTo}
 use Rattle.elf_table.specs.Faults.{IsReadFault}
-use Rattle.elf_table.specs.Tables.{Rows, StringTableRange}
+use Rattle.elf_table.specs.Tables.{TableRange, StringTableRange}
 use Rattle.elf_table.specs.Relocations.{AreSymbols}
 use Rattle.elf_table.specs.Cursors.{row_at}
 use Rattle.elf_table.specs.NamesRead.{NameRead}
@@ -56,7 +56,7 @@ abbrev the_pair : ℕ → Result DisplayedName Cause → ℕ × Result Displayed
 the_pair at name = (at, name)
 
 -- the place of a symbol, and its name in the string table that was found
-pub found_there : (file : List ℕ) (cap header symbol index place off : ℕ) (symbols : Rows) (names : StringTableRange) → AreSymbols file (linked_at file header) (symbols, names) → 0 < symbols.count
+pub found_there : (file : List ℕ) (cap header symbol index place off : ℕ) (symbols : TableRange) (names : StringTableRange) → AreSymbols file (linked_at file header) (symbols, names) → 0 < symbols.count
     → index ≡ symbol → place ≡ row_at symbols index → off ≡ st_name file (row_at symbols index)
     → the_pair (entry_at file (linked_at file header) 24 symbol) (shown (strings_of file (linked_at file header)) (st_name file (entry_at file (linked_at file header) 24 symbol)) cap)
     ≡ the_pair place (shown (slice file names.at names.size) off cap)

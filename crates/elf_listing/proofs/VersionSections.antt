@@ -5,7 +5,7 @@ use Rattle.elf_model.specs.Checks.{Check, first_refusal, range_checks_of, string
 use Rattle.elf_model.specs.Listing.{ListingItem}
 use Rattle.elf_model.specs.Records.{sh_link, sh_offset, sh_size, section_at}
 use Rattle.elf_model.specs.Report.{table_rows}
-use Rattle.elf_model.specs.Style.{Style}
+use Rattle.elf_model.specs.Style.{ListingStyle}
 use Rattle.elf_model.specs.Tables.{all_checks, strings_of}
 use Rattle.elf_model.specs.VersionRows.{version_table, versions_rows, visited_rows}
 use Rattle.elf_model.specs.Versions.{visited_from, record_size, versions_in}
@@ -21,7 +21,7 @@ use Rattle.elf_source.specs.Output.{OutState}
 use Rattle.elf_source.specs.Source.{CountedState, ReadsUpTo}
 use Rattle.elf_table.specs.Relocations.{RefusedBy}
 use Rattle.elf_table.specs.Sections.{byte_rows, names_at, rows, string_table_at}
-use Rattle.elf_table.specs.Tables.{Rows, StringTableRange, strings_in}
+use Rattle.elf_table.specs.Tables.{TableRange, StringTableRange, strings_in}
 use Rattle.elf_table.proofs.RelocationLaws.{passed_first, table-fails}
 use Rattle.elf_note.specs.Reading.{StartsVersions, VersionCursorState, versions_left}
 use Rattle.elf_listing.specs.Shows.{SpentCredit, WroteItems}
@@ -50,7 +50,7 @@ module _ (file : List ℕ) (at : ℕ) (some : (sh_size file at == 0) ≡ false) 
       front (Refused refusal) k = first_refusal-some range (strings_checks file at) refusal k
       front (Source fault offset) k = k
 
-  module _ (table : Rows) (held : byte_rows (length file) (sh_offset file at) (sh_size file at) at ≡ Ok table) where
+  module _ (table : TableRange) (held : byte_rows (length file) (sh_offset file at) (sh_size file at) at ≡ Ok table) where
     own : (first_refusal range ≡ None) × (rows (sh_offset file at) (sh_size file at) 1 ≡ table)
     unfolding range
     own = passed_first _ _ _ (rw (some, byte_rows) at held)
@@ -73,7 +73,7 @@ module _ (file : List ℕ) (at : ℕ) (some : (sh_size file at == 0) ≡ false) 
         (rw some (first_refusal-none range (strings_checks file at) own.0 ∙ linked.0), ap (λ (n : StringTableRange). strings_in file n) linked.1, sym own.1)
 
 -- what a new cursor gives are the records of the table
-pub left_all : (kind : VersionKind) (file : List ℕ) (head : ℕ) (table : Rows) (c : VersionCursorState) → StartsVersions kind head table c
+pub left_all : (kind : VersionKind) (file : List ℕ) (head : ℕ) (table : TableRange) (c : VersionCursorState) → StartsVersions kind head table c
     → versions_left file c ≡ versions_in kind file head table.at table.count
 unfolding versions_in
 left_all kind file head table c starts =
@@ -83,18 +83,18 @@ left_all kind file head table c starts =
     rw (its_table, standing, left) refl
 
 -- the rows of a section whose checks pass
-pub section_is : (kind : VersionKind) (file : List ℕ) (style : Style) (section at : ℕ) (names : StringTableRange) (table : Rows) (c : VersionCursorState)
+pub section_is : (kind : VersionKind) (file : List ℕ) (style : ListingStyle) (section at : ℕ) (names : StringTableRange) (table : TableRange) (c : VersionCursorState)
     → ((records_kind kind).has_table file at) ≡ true → first_refusal (all_checks version_table file at) ≡ None → strings_of file at ≡ strings_in file names
     → table ≡ rows (sh_offset file at) (sh_size file at) 1 → StartsVersions kind at table c
     → table_rows (records_kind kind) file style section at ≡ versions_items file style section (strings_in file names) (versions_left file c)
 unfolding versions_rows
 section_is kind file style section at names table c has pass strings same starts =
     let left : versions_left file c ≡ versions_in kind file at (sh_offset file at) (sh_size file at) =
-    left_all kind file at table c starts ∙ ap (λ (t : Rows). versions_in kind file at t.at t.count) same in
+    left_all kind file at table c starts ∙ ap (λ (t : TableRange). versions_in kind file at t.at t.count) same in
     table_passes (records_kind kind) file style section at has pass ∙ rw (strings, left) refl
 
 -- those of an empty one
-pub none_are : (kind : VersionKind) (file : List ℕ) (style : Style) (section : ℕ) (a : OutState) (at : ℕ) → ((records_kind kind).has_table file at) ≡ true → sh_size file at ≡ 0
+pub none_are : (kind : VersionKind) (file : List ℕ) (style : ListingStyle) (section : ℕ) (a : OutState) (at : ℕ) → ((records_kind kind).has_table file at) ≡ true → sh_size file at ≡ 0
     → WroteItems a a (table_rows (records_kind kind) file style section at)
 unfolding versions_rows versions_in visited_rows visited_from
 none_are kind file style section a at has empty = rw (table_passes (records_kind kind) file style section at has (rw empty refl)) (rw empty (Whole-none a))

@@ -18,7 +18,7 @@ use Rattle.elf_table.specs.declared.fault.Fault.TheVariants.{Refused, Source}
 use Rattle.elf_source.specs.Source.{CountedState, ReadsUpTo}
 use Rattle.elf_source.proofs.ReadsLaws.{IsSourceFault-then, ExceedsBudget-then}
 use Rattle.elf_table.specs.Sections.{byte_rows, checked, rows, table_of}
-use Rattle.elf_table.specs.Tables.{Rows}
+use Rattle.elf_table.specs.Tables.{TableRange}
 use Rattle.elf_table.proofs.RelocationLaws.{passed_first}
 use Rattle.elf_listing.specs.Parts.{store_sections}
 use Rattle.elf_listing.specs.Versions.{kind_type}
@@ -27,7 +27,7 @@ use Rattle.elf_model.specs.declared.versions.VersionKind.{VersionKind}
 use Rattle.elf_note.specs.Reading.{bytes_each}
 
 -- the rows of a section, with what finds the names, are what its header counts for
-pub versioned-within : (store : StoreState) (i size place cap symbols : ℕ) (table : Rows) → (sh_type (row store i) 0 == SHT_GNU_VERSYM) ≡ true
+pub versioned-within : (store : StoreState) (i size place cap symbols : ℕ) (table : TableRange) → (sh_type (row store i) 0 == SHT_GNU_VERSYM) ≡ true
     → table_of (row store i) 0 size place 2 ≡ Ok table → (sh_size (row store i) 0 == 0) ≡ false → has_symbol_table (store_sections store) i size ≡ true
     → table.count ≡ sh_size (row store i) 0 / 2 → symbols ≡ header_field (store_sections store) sh_size (sh_link (row store i) 0) / 24
     → walks_cost (store_sections store) size + min table.count symbols * (2 + name_bytes cap) ≤ table_cost symbol_versions (store_sections store) i size cap
@@ -49,7 +49,7 @@ walk-is headers file_size type size bytes i first inside =
     ]) (sym first) ∙ rw inside refl
 
 -- bytes that are answered are in the file
-pub range-inside : (size offset n place : ℕ) (table : Rows) → (n == 0) ≡ false → byte_rows size offset n place ≡ Ok table
+pub range-inside : (size offset n place : ℕ) (table : TableRange) → (n == 0) ≡ false → byte_rows size offset n place ≡ Ok table
     → (not (is_outside size offset n) ≡ true) × (rows offset n 1 ≡ table)
 range-inside size offset n place table some h = by_cases (is_outside size offset n) (rw (some, byte_rows) at h)
   where
@@ -62,11 +62,11 @@ pub IsReadFault-account : (a b c : CountedState) (fault : Fault) (n m k : ℕ) �
 IsReadFault-account a b c (Refused refusal) n m k within p q = λ budget. let over = q budget in (rw (sym p.keeps.same_size) over.0, ExceedsBudget-then n k within p over.1, over.2)
 IsReadFault-account a b c (Source fault at) n m k within p q = (IsSourceFault-then a.seen b.seen c.seen fault p.keeps q.0, q.1)
 
-pub walk-cost : (store : StoreState) (size i : ℕ) (kind : VersionKind) (type offset n place : ℕ) (table : Rows) → Some i ≡ first_typed (store_sections store) type
+pub walk-cost : (store : StoreState) (size i : ℕ) (kind : VersionKind) (type offset n place : ℕ) (table : TableRange) → Some i ≡ first_typed (store_sections store) type
     → type ≡ kind_type kind → offset ≡ sh_offset (row store i) 0 → n ≡ sh_size (row store i) 0 → (n == 0) ≡ false → byte_rows size offset n place ≡ Ok table
     → walk_cost (store_sections store) size (kind_type kind) (record_size kind) (bytes_each kind) ≡ max_records kind table.count * bytes_each kind
 walk-cost store size i kind type offset n place table first typed off len some h =
     let inside = range-inside size offset n place table some h in
     let within : is_inside (store_sections store) i size ≡ true = rw (off, len) at inside.0 in
     walk-is (store_sections store) size (kind_type kind) (record_size kind) (bytes_each kind) i (rw typed at first) within
-    ∙ ap (λ (k : ℕ). k / record_size kind * bytes_each kind) (sym len ∙ ap (λ (t : Rows). t.count) inside.1)
+    ∙ ap (λ (k : ℕ). k / record_size kind * bytes_each kind) (sym len ∙ ap (λ (t : TableRange). t.count) inside.1)

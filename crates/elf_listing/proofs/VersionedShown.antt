@@ -16,7 +16,7 @@ use Rattle.elf_model.specs.Records.{e_shnum, sh_offset, sh_size, sh_type, sectio
 use Rattle.elf_model.specs.Report.{kinds_rows, table_rows}
 use Rattle.elf_model.specs.Fields.{LinePrefix}
 use Rattle.elf_model.specs.Rows.{chosen_row, refused_row}
-use Rattle.elf_model.specs.Style.{Style}
+use Rattle.elf_model.specs.Style.{ListingStyle}
 use Rattle.elf_model.specs.Tables.{all_checks, entry_count, strings_of}
 use Rattle.elf_model.specs.VersionCost.{has_symbol_table, versioned_cost, versioned_rows, walk_cost, walks_cost, is_inside}
 use Rattle.elf_model.specs.VersionLaws.{records_rows}
@@ -32,7 +32,7 @@ use Rattle.elf_model.proofs.LookupSteps.{first_that-holds}
 use Rattle.elf_note.specs.NumberNames.{IsNameOfRecord, NamesNumbers, name_at}
 use Rattle.elf_note.specs.declared.version_names.VersionNameRef.{VersionNameRef}
 use Rattle.elf_note.specs.declared.version_names.VersionNameRef.TheVariants.{Nowhere, Defined, Needed}
-use Rattle.elf_table.specs.Tables.{Rows, StringTableRange, strings_in}
+use Rattle.elf_table.specs.Tables.{TableRange, StringTableRange, strings_in}
 use Rattle.elf_table.specs.Stops.{stop_of}
 use Rattle.elf_table.specs.declared.fault.Fault.{Fault}
 use Rattle.elf_table.specs.declared.fault.Fault.TheVariants.{Refused, Source}
@@ -40,7 +40,7 @@ use Rattle.elf_table.specs.declared.run_fault.RunFault.{RunFault}
 use Rattle.elf_source.specs.Output.{OutState}
 use Rattle.elf_source.specs.declared.source.Source.{Ghosts as Sources}
 use Rattle.elf_source.specs.declared.sink.Sink.{Ghosts as Sinks}
-use Rattle.elf_listing.specs.Shows.{WroteUntilRefusal, ListingReads, Lists, WroteUntilStop, WroteItems}
+use Rattle.elf_listing.specs.Shows.{WroteUntilRefusal, ListingReads, ListingCalls, WroteUntilStop, WroteItems}
 use Rattle.elf_listing.specs.declared.listing.Listing.{Listing}
 use Rattle.elf_listing.proofs.ListsLaws.{SameFile-then}
 use Rattle.elf_listing.proofs.RowLaws.{Ends-first, WrotePrefix-none}
@@ -62,7 +62,7 @@ cut-none : (cut : Option Refusal) → fault_of (end_rows cut) ≡ None → cut �
 cut-none None h = refl
 cut-none (Some refusal) h = cc
 
-section-whole : (kind : VersionKind) (table : TableKind) (file : List ℕ) (style : Style) (i at : ℕ) → table.has_table file at ≡ true
+section-whole : (kind : VersionKind) (table : TableKind) (file : List ℕ) (style : ListingStyle) (i at : ℕ) → table.has_table file at ≡ true
     → table.rows file style i at ≡ versions_rows kind file style i at → fault_of (table_rows table file style i at) ≡ None
     → (first_refusal (all_checks table.checks file at) ≡ None) × ((section_versions kind file at).cut ≡ None)
 unfolding table_rows versions_rows
@@ -72,7 +72,7 @@ section-whole kind table file style i at has rows h =
     let versions = section_versions kind file at in
     (passes.0, cut-none versions.cut (back-none (visited_rows file style i (strings_of file at) versions.met) (end_rows versions.cut) none))
 
-pub definitions-whole : (file : List ℕ) (style : Style) → fault_of (records_rows file style) ≡ None → AreRecordsWhole file Definition
+pub definitions-whole : (file : List ℕ) (style : ListingStyle) → fault_of (records_rows file style) ≡ None → AreRecordsWhole file Definition
 unfolding kinds_rows version_definitions version_needs
 definitions-whole file style h = walk-whole Definition SHT_GNU_VERDEF file (λ i first.
     let rows : List ListingItem = each (λ i. table_rows version_definitions file style i (section_at file i)) 0 (e_shnum file) in
@@ -81,7 +81,7 @@ definitions-whole file style h = walk-whole Definition SHT_GNU_VERDEF file (λ i
     let row = each-none (λ i. table_rows version_definitions file style i (section_at file i)) 0 (e_shnum file) i (front-none rows (others ++ []) h) there.1 there.2 in
     section-whole Definition version_definitions file style i (section_at file i) there.0 refl row)
 
-pub needs-whole : (file : List ℕ) (style : Style) → fault_of (records_rows file style) ≡ None → AreRecordsWhole file File
+pub needs-whole : (file : List ℕ) (style : ListingStyle) → fault_of (records_rows file style) ≡ None → AreRecordsWhole file File
 unfolding kinds_rows version_definitions version_needs
 needs-whole file style h = walk-whole File SHT_GNU_VERNEED file (λ i first.
     let others : List ListingItem = each (λ i. table_rows version_definitions file style i (section_at file i)) 0 (e_shnum file) in
@@ -129,7 +129,7 @@ pub strings-needed : (file : List ℕ) (kind : VersionKind) → kind ≡ Need �
 unfolding version_strings
 strings-needed file kind is = rw is refl
 
-module _ (file : List ℕ) (style : Style) (numbered : VersionStrings) (places : List ℕ) (are : AreNumbered file numbered places) (no_fault : fault_of (records_rows file style) ≡ None) (front : LinePrefix) (entry number : ℕ) where
+module _ (file : List ℕ) (style : ListingStyle) (numbered : VersionStrings) (places : List ℕ) (are : AreNumbered file numbered places) (no_fault : fault_of (records_rows file style) ≡ None) (front : LinePrefix) (entry number : ℕ) where
   all : List VisitedRecord
   all = first_versions Definition SHT_GNU_VERDEF file ++ first_versions File SHT_GNU_VERNEED file
 
@@ -171,7 +171,7 @@ module _ (file : List ℕ) (style : Style) (numbered : VersionStrings) (places :
   ]
 
 -- the row of an entry
-pub entry-is : (file : List ℕ) (style : Style) (numbered : VersionStrings) (places : List ℕ) → AreNumbered file numbered places → fault_of (records_rows file style) ≡ None → (section at index : ℕ)
+pub entry-is : (file : List ℕ) (style : ListingStyle) (numbered : VersionStrings) (places : List ℕ) → AreNumbered file numbered places → fault_of (records_rows file style) ≡ None → (section at index : ℕ)
     → reported_row file style numbered section (sh_offset file at + index * VERSYM_SIZE) index ≡ symbol_version_row file style section at index
 unfolding reported_row symbol_version_row
 entry-is file style numbered places are no_fault section at index =
@@ -186,8 +186,8 @@ each-equal row other first zero same = refl
 each-equal row other first (suc count) same = let one = same first in let more = each-equal row other (suc first) count same in cc
 
 -- the rows of a section
-pub rows-are : (file : List ℕ) (style : Style) (numbered : VersionStrings) (places : List ℕ) → AreNumbered file numbered places → fault_of (records_rows file style) ≡ None
-    → (section at : ℕ) (table : Rows) (symbols : ℕ) → (sh_size file at == 0) ≡ false → table.at ≡ sh_offset file at → table.count ≡ entry_count file at VERSYM_SIZE
+pub rows-are : (file : List ℕ) (style : ListingStyle) (numbered : VersionStrings) (places : List ℕ) → AreNumbered file numbered places → fault_of (records_rows file style) ≡ None
+    → (section at : ℕ) (table : TableRange) (symbols : ℕ) → (sh_size file at == 0) ≡ false → table.at ≡ sh_offset file at → table.count ≡ entry_count file at VERSYM_SIZE
     → symbols ≡ versioned_symbols file at
     → symbol_version_rows file style section at ≡ versioned_items file style numbered section table symbols at
 unfolding symbol_version_rows versioned_items
@@ -198,9 +198,9 @@ rows-are file style numbered places are no_fault section at table symbols some p
     (min (entry_count file at VERSYM_SIZE) (versioned_symbols file at)) (entry-is file style numbered places are no_fault section at))))
 
 -- a call that writes behind one that reads, in a bound on both
-pub Lists-behind : {S W X Y : Type 0} {s : Sources S} {w : Sinks W} (a b c : Listing S W s w) (y : Y) (result : Result X RunFault) (n m k : ℕ) (read shown : Type 0)
-    → n + m ≤ k → ListingReads a b (Ok y) n → Lists b c result m read → shown → Lists a c result k shown
-Lists-behind a b c y result n m k read shown within p q is = record {
+pub ListingCalls-behind : {S W X Y : Type 0} {s : Sources S} {w : Sinks W} (a b c : Listing S W s w) (y : Y) (result : Result X RunFault) (n m k : ℕ) (read shown : Type 0)
+    → n + m ≤ k → ListingReads a b (Ok y) n → ListingCalls b c result m read → shown → ListingCalls a c result k shown
+ListingCalls-behind a b c y result n m k read shown within p q is = record {
   grows = rw (← p.1) q.grows;
   keeps = SameFile-then p.0 q.keeps;
   spent = SpentCredit-then _ _ _ _ _ _ _ _ _ _ _ within p.2 q.spent;
@@ -224,7 +224,7 @@ Ends-behind a b refusal rows wrote = record {
 }
 
 -- those of an empty section
-pub empty-is : (file : List ℕ) (style : Style) (section : ℕ) (a : OutState) (at : ℕ) → symbol_versions.has_table file at ≡ true → sh_size file at ≡ 0
+pub empty-is : (file : List ℕ) (style : ListingStyle) (section : ℕ) (a : OutState) (at : ℕ) → symbol_versions.has_table file at ≡ true → sh_size file at ≡ 0
     → WroteItems a a (table_rows symbol_versions file style section at)
 unfolding symbol_versions symbol_version_rows
 empty-is file style section a at has empty = rw (table_passes symbol_versions file style section at has (rw empty refl)) (rw empty (Whole-none a))

@@ -3,7 +3,7 @@ use Rattle.std.proofs.Common.{◌≡◌, ℕ, ◌+◌, ◌-◌, ◌*◌, ◌≤�
 use Rattle.elf_model.specs.Listing.{ListingItem, Fault as FaultItem}
 use Rattle.elf_model.specs.Rows.{chosen_row}
 use Rattle.elf_model.specs.Names.{DisplayedName, shown}
-use Rattle.elf_model.specs.Style.{Style}
+use Rattle.elf_model.specs.Style.{ListingStyle}
 use Rattle.elf_model.specs.VersionRows.{end_rows, visited_rows, version_prefix, version_row}
 use Rattle.elf_model.specs.Versions.{VisitedRecord, Versions, flags_word, hash_word, name_index, named_at, no_versions, number_word, with_visited}
 use Rattle.elf_model.specs.declared.causes.Refusal.{Refusal}
@@ -14,7 +14,7 @@ use Rattle.elf_source.specs.Output.{OutState}
 use Rattle.elf_source.specs.Source.{CountedState, ReadsUpTo}
 use Rattle.elf_table.specs.Ledger.{CallDid}
 use Rattle.elf_options.specs.Permitted.{style_of}
-use Rattle.elf_options.specs.declared.caps.Style.{Style as Shape}
+use Rattle.elf_options.specs.declared.caps.ListingStyle.{ListingStyle as Shape}
 use Rattle.elf_note.specs.Reading.{IsCursorOf, GivesVersion, IsVersion, KeepsWalk, LeavesWalk, StepsIn, ReturnsVersion, VersionCursorState, unread, versions_left, why_stopped_now}
 use Rattle.elf_note.proofs.TakenLaws.{going-did, unread-fewer}
 use Rattle.elf_note.specs.declared.record.VersionRecord.{VersionRecord}
@@ -25,7 +25,7 @@ use Rattle.elf_table.specs.declared.run_fault.RunFault.{RunFault}
 use Rattle.elf_listing.proofs.NotesShown.{before_more, before_stopped}
 
 -- the row of a record as it is given
-pub record_is : (file : List ℕ) (style : Style) (section : ℕ) (strings : List ℕ) (met : VisitedRecord) (given : VersionRecord) → IsVersion file met given
+pub record_is : (file : List ℕ) (style : ListingStyle) (section : ℕ) (strings : List ℕ) (met : VisitedRecord) (given : VersionRecord) → IsVersion file met given
     → version_row file style section strings met
     ≡ chosen_row style.choice (version_prefix style.format given.kind section given.number given.flags given.hash) given.named_at (shown strings given.name style.cap)
 unfolding version_row
@@ -39,19 +39,19 @@ record_is file style section strings met given is =
     rw (kind, number, flags, hash, place, name) refl
 
 -- a record, and what is left behind it
-pub record_left : (file : List ℕ) (style : Style) (section : ℕ) (strings : List ℕ) (met : VisitedRecord) (left : Versions)
+pub record_left : (file : List ℕ) (style : ListingStyle) (section : ℕ) (strings : List ℕ) (met : VisitedRecord) (left : Versions)
     → versions_items file style section strings (with_visited met left)
     ≡ version_row file style section strings met ++ versions_items file style section strings left
 unfolding visited_rows
 record_left file style section strings met left = append_assoc (version_row file style section strings met) (visited_rows file style section strings left.met) (end_rows left.cut)
 
 -- what is left where none is
-none_left : (file : List ℕ) (style : Style) (section : ℕ) (strings : List ℕ) (cut : Option Refusal) → versions_items file style section strings (no_versions cut) ≡ end_rows cut
+none_left : (file : List ℕ) (style : ListingStyle) (section : ℕ) (strings : List ℕ) (cut : Option Refusal) → versions_items file style section strings (no_versions cut) ≡ end_rows cut
 unfolding visited_rows
 none_left file style section strings cut = refl
 
 -- behind the last record
-pub records_end : {a b : OutState} (file : List ℕ) (style : Style) (section : ℕ) (strings : List ℕ) (all : List ListingItem) (left : Versions) → left ≡ no_versions None
+pub records_end : {a b : OutState} (file : List ℕ) (style : ListingStyle) (section : ℕ) (strings : List ℕ) (all : List ListingItem) (left : Versions) → left ≡ no_versions None
     → WrittenBefore a b all (versions_items file style section strings left) → WroteItems a b all
 records_end file style section strings all left none before =
     rw (before.split
@@ -60,7 +60,7 @@ records_end file style section strings all left none before =
     before.whole
 
 -- a step over the next record failed: at a read, or where there is no record
-pub records_fault : (a b : OutState) (fault : Fault) (file : List ℕ) (style : Style) (section : ℕ) (strings : List ℕ) (all : List ListingItem) (left new : Versions)
+pub records_fault : (a b : OutState) (fault : Fault) (file : List ℕ) (style : ListingStyle) (section : ℕ) (strings : List ℕ) (all : List ListingItem) (left new : Versions)
     → ReturnsVersion file left new (Err fault) → WrittenBefore a b all (versions_items file style section strings left) → WroteUntilStop a b (stop_of fault) all
 records_fault a b (Refused refusal) file style section strings all left new tells before = record {
   front = record { front = before.done; rest = versions_items file style section strings left; split = before.split; takes = before.whole.takes; no_fault = before.whole.no_fault };

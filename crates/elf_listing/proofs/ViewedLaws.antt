@@ -6,7 +6,7 @@ use Rattle.elf_model.specs.Listing.{has, SEGMENTS, NOTES, DYNAMIC}
 use Rattle.elf_model.specs.Overlaps.{overlap_checks}
 use Rattle.elf_model.specs.Records.{e_shnum}
 use Rattle.elf_model.specs.Report.{view_checks}
-use Rattle.elf_model.specs.Style.{Style}
+use Rattle.elf_model.specs.Style.{ListingStyle}
 use Rattle.elf_source.specs.Source.{CountedState, ReadsUpTo}
 use Rattle.elf_table.specs.Load.{HoldsSectionHeaders, LoadedFile}
 use Rattle.elf_table.specs.Store.{StoreState}
@@ -28,7 +28,7 @@ needed file parts loaded store belongs none =
     let held : (loaded.header.e_shnum == 0) ≡ true = eq-eqb loaded.header.e_shnum 0 (belongs.header.e_shnum ∙ none) in
     rw (held, told) refl
 
-checks_by : (file : List ℕ) (style : Style) (parts : ℕ) (loaded : LoadedFile) (store : StoreState) (by : Bool) → style.by_segments ≡ by
+checks_by : (file : List ℕ) (style : ListingStyle) (parts : ℕ) (loaded : LoadedFile) (store : StoreState) (by : Bool) → style.by_segments ≡ by
     → HoldsSectionHeaders file loaded store → (by ≡ true → e_shnum file ≡ 0)
     → view_checks file style parts ≡ (if by && needs_segment_view parts loaded then overlap_checks file else [])
 unfolding view_checks
@@ -39,7 +39,7 @@ checks_by file style parts loaded store true by belongs none =
 checks_by file style parts loaded store false by belongs none =
     ap (λ (b : Bool). if b && needs_segments file parts then overlap_checks file else []) by
 
-module _ (file : List ℕ) (style : Style) (parts : ℕ) (loaded : LoadedFile) (store : StoreState) (belongs : HoldsSectionHeaders file loaded store)
+module _ (file : List ℕ) (style : ListingStyle) (parts : ℕ) (loaded : LoadedFile) (store : StoreState) (belongs : HoldsSectionHeaders file loaded store)
     (none : style.by_segments ≡ true → e_shnum file ≡ 0) where
   -- which checks are made
   pub unchecked : style.by_segments && needs_segment_view parts loaded ≡ false → first_refusal (view_checks file style parts) ≡ None

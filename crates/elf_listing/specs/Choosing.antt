@@ -1,7 +1,7 @@
 -- Which rows that end in the name of a symbol or of a version are shown.
 use Rattle.std.specs.Prelude.{◌≡◌, Bool}
-use Rattle.elf_options.specs.declared.caps.Style.{Style}
+use Rattle.elf_options.specs.declared.caps.ListingStyle.{ListingStyle}
 
 -- rows are chosen by their names, or every row is shown, as a style has it
-abbrev pub ShowsRows : Bool → Style → Type 0
+abbrev pub ShowsRows : Bool → ListingStyle → Type 0
 ShowsRows by_name style = by_name ≡ style.choice.by_name

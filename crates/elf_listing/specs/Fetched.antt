@@ -12,7 +12,7 @@ use Rattle.elf_record.specs.declared.dyn_entry.Dyn.{Dyn}
 use Rattle.elf_table.specs.declared.fault.Fault.{Fault}
 use Rattle.elf_table.specs.NamesRead.{NameRead}
 use Rattle.elf_table.specs.Relocations.{RefersTo}
-use Rattle.elf_table.specs.Tables.{Rows, StringTableRange}
+use Rattle.elf_table.specs.Tables.{TableRange, StringTableRange}
 use Rattle.elf_table.specs.declared.names.NameEnd.{NameEnd}
 use Rattle.elf_listing.specs.Parts.{name_cost, shown_in}
 use Rattle.elf_listing.specs.Shows.{ListingReads}
@@ -27,7 +27,7 @@ pub record FetchesName {S W : Type 0} {s : Sources S} {w : Sinks W} (old new : L
   pub read : (file : List ℕ) → old.src.now.seen.file ≡ Some file → NameRead at result new.name (shown_in file names off old.style.cap.bytes)
 
 -- the name of the symbol of an index, for the entry at an offset; symbol 0 has none, and for it nothing is read
-pub record FetchesSymbol {S W : Type 0} {s : Sources S} {w : Sinks W} (old new : Listing S W s w) (result : Result NameEnd Fault) (linked : Option (Rows × StringTableRange)) (symbol at : ℕ) : Type 0 where
+pub record FetchesSymbol {S W : Type 0} {s : Sources S} {w : Sinks W} (old new : Listing S W s w) (result : Result NameEnd Fault) (linked : Option (TableRange × StringTableRange)) (symbol at : ℕ) : Type 0 where
   pub fetches : ListingReads old new result (SYMBOL_SIZE + name_bytes old.style.cap.bytes)
   pub unnamed : symbol ≡ 0 → new.src.now ≡ old.src.now
   pub read : (file : List ℕ) (header : ℕ) → old.src.now.seen.file ≡ Some file → RefersTo file header linked
@@ -39,7 +39,7 @@ end_read (Ok symbol) = Ok symbol.end
 end_read (Err fault) = Err fault
 
 -- the name of the symbol of an index, and whether the symbol is defined; symbol 0 has none
-pub record FetchesLinked {S W : Type 0} {s : Sources S} {w : Sinks W} (old new : Listing S W s w) (result : Result RelocationName Fault) (linked : Option (Rows × StringTableRange)) (symbol at : ℕ) : Type 0 where
+pub record FetchesLinked {S W : Type 0} {s : Sources S} {w : Sinks W} (old new : Listing S W s w) (result : Result RelocationName Fault) (linked : Option (TableRange × StringTableRange)) (symbol at : ℕ) : Type 0 where
   pub fetches : ListingReads old new result (SYMBOL_SIZE + name_bytes old.style.cap.bytes)
   pub read : (file : List ℕ) (header : ℕ) → old.src.now.seen.file ≡ Some file → RefersTo file header linked
       → NameRead (symbol_named file old.style.cap.bytes header at symbol).0 (end_read result) new.name (symbol_named file old.style.cap.bytes header at symbol).1

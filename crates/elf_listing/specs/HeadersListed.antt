@@ -4,13 +4,13 @@ use Rattle.elf_model.specs.Listing.{ListingItem, each, where_asked, SEGMENTS}
 use Rattle.elf_model.specs.Records.{e_phnum}
 use Rattle.elf_model.specs.Report.{table_items}
 use Rattle.elf_model.specs.Rows.{segment_row}
-use Rattle.elf_model.specs.Style.{Style}
+use Rattle.elf_model.specs.Style.{ListingStyle}
 use Rattle.elf_options.specs.Permitted.{style_of}
 use Rattle.elf_table.specs.Store.{StoreState}
 use Rattle.elf_source.specs.declared.source.Source.{Ghosts as Sources}
 use Rattle.elf_source.specs.declared.sink.Sink.{Ghosts as Sinks}
 use Rattle.elf_listing.specs.Parts.{asked_cost, listed_by, part_cost, part_items, segments_listed, tables_listed}
-use Rattle.elf_listing.specs.Shows.{Lists, ListingWrote}
+use Rattle.elf_listing.specs.Shows.{ListingCalls, ListingWrote}
 use Rattle.elf_listing.specs.declared.listing.Listing.{Listing}
 use Rattle.elf_listing.specs.declared.parts.Part.{Part}
 use Rattle.elf_table.specs.declared.run_fault.RunFault.{RunFault}
@@ -19,22 +19,22 @@ use Rattle.elf_table.specs.declared.run_fault.RunFault.{RunFault}
 abbrev pub ListsHeader : {S W X : Type 0} {s : Sources S} {w : Sinks W} → Part → Listing S W s w → Listing S W s w → Result X RunFault → ℕ → Type 0
 ListsHeader part old new result i =
     let listed = listed_by part in
-    Lists old new result (listed.cost old.file.loaded old.file.store.now old.style.cap.bytes i) (ListingWrote old new result (λ file. listed.items file (style_of old.style) i))
+    ListingCalls old new result (listed.cost old.file.loaded old.file.store.now old.style.cap.bytes i) (ListingWrote old new result (λ file. listed.items file (style_of old.style) i))
 
 -- a part of each header
 abbrev pub ListsPart : {S W X : Type 0} {s : Sources S} {w : Sinks W} → Part → Listing S W s w → Listing S W s w → Result X RunFault → Type 0
 ListsPart part old new result =
-    Lists old new result (part_cost part old.file.loaded old.file.store.now old.style.cap.bytes)
+    ListingCalls old new result (part_cost part old.file.loaded old.file.store.now old.style.cap.bytes)
     (ListingWrote old new result (part_items part (style_of old.style) ((listed_by part).count old.file.store.now)))
 
 -- the items of a part, where the parts have it
-abbrev pub asked_items : ℕ → Part → StoreState → Style → List ℕ → List ListingItem
+abbrev pub asked_items : ℕ → Part → StoreState → ListingStyle → List ℕ → List ListingItem
 asked_items parts part store style file = where_asked parts (listed_by part).bit (part_items part style ((listed_by part).count store) file)
 
 -- a part, where the parts have it
 abbrev pub ListsAsked : {S W X : Type 0} {s : Sources S} {w : Sinks W} → ℕ → Part → Listing S W s w → Listing S W s w → Result X RunFault → Type 0
 ListsAsked parts part old new result =
-    Lists old new result (asked_cost parts part old.file.loaded old.file.store.now old.style.cap.bytes)
+    ListingCalls old new result (asked_cost parts part old.file.loaded old.file.store.now old.style.cap.bytes)
     (ListingWrote old new result (asked_items parts part old.file.store.now (style_of old.style)))
 
 -- two parts, one behind the other
@@ -44,17 +44,17 @@ ListsPair parts first second old new result =
     let store = old.file.store.now in
     let cap = old.style.cap.bytes in
     let style = style_of old.style in
-    Lists old new result (asked_cost parts first loaded store cap + asked_cost parts second loaded store cap)
+    ListingCalls old new result (asked_cost parts first loaded store cap + asked_cost parts second loaded store cap)
     (ListingWrote old new result (λ file. asked_items parts first store style file ++ asked_items parts second store style file))
 
 -- the program headers, where the parts have them
 abbrev pub ListsSegments : {S W X : Type 0} {s : Sources S} {w : Sinks W} → ℕ → Listing S W s w → Listing S W s w → Result X RunFault → Type 0
 ListsSegments parts old new result =
-    Lists old new result (segments_listed parts old.file.loaded)
+    ListingCalls old new result (segments_listed parts old.file.loaded)
     (ListingWrote old new result (λ file. where_asked parts SEGMENTS (each (segment_row file (style_of old.style)) 0 (e_phnum file))))
 
 -- all tables that the parts have
 abbrev pub ListsTables : {S W X : Type 0} {s : Sources S} {w : Sinks W} → ℕ → Listing S W s w → Listing S W s w → Result X RunFault → Type 0
 ListsTables parts old new result =
-    Lists old new result (tables_listed parts old.file.loaded old.file.store.now old.style.cap.bytes old.style.versions)
+    ListingCalls old new result (tables_listed parts old.file.loaded old.file.store.now old.style.cap.bytes old.style.versions)
     (ListingWrote old new result (λ file. table_items file (style_of old.style) parts))

@@ -4,7 +4,7 @@ use Rattle.elf_model.specs.Bytes.{slice}
 use Rattle.elf_model.specs.Dynamic.{dynamic_at}
 use Rattle.elf_model.specs.Records.{e_phoff, sh_link, sh_offset, section_at}
 use Rattle.elf_model.specs.Names.{name_bytes}
-use Rattle.elf_model.specs.Style.{Style}
+use Rattle.elf_model.specs.Style.{ListingStyle}
 use Rattle.elf_options.specs.Permitted.{style_of}
 use Rattle.elf_model.specs.Tables.{SYMBOL_SIZE, RELA_SIZE, DYNAMIC_SIZE, strings_of}
 use Rattle.elf_model.specs.Listing.{ListingItem, each}
@@ -14,11 +14,11 @@ use Rattle.elf_model.specs.Versions.{VERSYM_SIZE}
 use Rattle.elf_source.specs.declared.source.Source.{Ghosts as Sources}
 use Rattle.elf_source.specs.declared.sink.Sink.{Ghosts as Sinks}
 use Rattle.elf_table.specs.Relocations.{RefersTo}
-use Rattle.elf_table.specs.Tables.{Rows, TableInBounds, StringsInBounds, SymbolTableInBounds, strings_in}
+use Rattle.elf_table.specs.Tables.{TableRange, TableInBounds, StringsInBounds, SymbolTableInBounds, strings_in}
 use Rattle.elf_table.specs.declared.row.Row.{Row}
 use Rattle.elf_listing.specs.Numbered.{NumberedWithin, reported_row}
 use Rattle.elf_listing.specs.RowCursors.{rows_listed}
-use Rattle.elf_listing.specs.Shows.{Lists, WroteSome}
+use Rattle.elf_listing.specs.Shows.{ListingCalls, WroteSome}
 use Rattle.elf_listing.specs.Suffixed.{AreSuffixes, SuffixesWithin}
 use Rattle.elf_listing.specs.Strings.{strings_reported, AreWithin, AreOf}
 use Rattle.elf_listing.specs.declared.listing.Listing.{Listing}
@@ -47,11 +47,11 @@ own_cost (SuffixedSymbols section names suffixes) cap = name_bytes cap + (VERSYM
 own_cost (SuffixedRelocations section linked suffixes) cap = SYMBOL_SIZE + name_bytes cap + (VERSYM_SIZE + name_bytes cap)
 
 -- how many bytes the rows of a table ask for at most
-abbrev pub rows_cost : RowLayout → Rows → ℕ → ℕ
+abbrev pub rows_cost : RowLayout → TableRange → ℕ → ℕ
 rows_cost kind table cap = table.count * (row_size kind + own_cost kind cap)
 
 -- the items of the row of an index, in a table at an offset
-abbrev pub row_items : RowLayout → List ℕ → Style → ℕ → ℕ → List ListingItem
+abbrev pub row_items : RowLayout → List ℕ → ListingStyle → ℕ → ℕ → List ListingItem
 row_items Segments file style table_at index = segment_row file style index
 row_items (Symbols section names) file style table_at index = symbol_row file style section (section_at file section) index
 row_items (Relocations section linked) file style table_at index = relocation_row file style section (section_at file section) index
@@ -99,7 +99,7 @@ IndexFits (SuffixedSymbols section names suffixes) index = Unit {0}
 IndexFits (SuffixedRelocations section linked suffixes) index = Unit {0}
 
 -- a table of the rows of a kind, which lies within a source of this size with what it refers to
-pub record IsTableOf (size : ℕ) (kind : RowLayout) (table : Rows) : Type 0 where
+pub record IsTableOf (size : ℕ) (kind : RowLayout) (table : TableRange) : Type 0 where
   pub entry : table.entry ≡ row_size kind
   pub rows : TableInBounds size table
   pub names : KindWithin size kind
@@ -119,13 +119,13 @@ pub record RowFits (size : ℕ) (kind : RowLayout) (row : Row) : Type 0 where
 -- what a call did that shows a row: where the row is the file's, its items
 abbrev pub ListsRow : {S W X : Type 0} {s : Sources S} {w : Sinks W} → Listing S W s w → Listing S W s w → Result X RunFault → RowLayout → Row → Type 0
 ListsRow old new result kind row =
-    Lists old new result (own_cost kind old.style.cap.bytes)
+    ListingCalls old new result (own_cost kind old.style.cap.bytes)
     ((file : List ℕ) → old.src.now.seen.file ≡ Some file → (table_at : ℕ) → KindOf file table_at kind → IsRowOf file table_at kind row
     → WroteSome old.out.now new.out.now result (row_items kind file (style_of old.style) table_at row.index))
 
 -- what a call did that shows the rows of a table: where the table is the file's, the items of all that are listed
-abbrev pub ListsRows : {S W X : Type 0} {s : Sources S} {w : Sinks W} → Listing S W s w → Listing S W s w → Result X RunFault → RowLayout → Rows → Type 0
+abbrev pub ListsRows : {S W X : Type 0} {s : Sources S} {w : Sinks W} → Listing S W s w → Listing S W s w → Result X RunFault → RowLayout → TableRange → Type 0
 ListsRows old new result kind table =
-    Lists old new result (rows_cost kind table old.style.cap.bytes)
+    ListingCalls old new result (rows_cost kind table old.style.cap.bytes)
     ((file : List ℕ) → old.src.now.seen.file ≡ Some file → (0 < table.count → KindOf file table.at kind)
     → WroteSome old.out.now new.out.now result (each (row_items kind file (style_of old.style) table.at) 0 (rows_listed kind file table)))

@@ -5,15 +5,15 @@ use Rattle.elf_model.specs.Listing.{ListingItem}
 use Rattle.elf_model.specs.Bytes.{slice}
 use Rattle.elf_model.specs.Notes.{Note, NoteScan, note_align, note_shown, walked}
 use Rattle.elf_model.specs.Rows.{note_row, walk_rows}
-use Rattle.elf_model.specs.Style.{Style}
+use Rattle.elf_model.specs.Style.{ListingStyle}
 use Rattle.elf_options.specs.Permitted.{style_of}
 use Rattle.elf_note.specs.NoteCursors.{NameIs}
 use Rattle.elf_note.specs.declared.note_row.NoteRow.{NoteRow}
 use Rattle.elf_source.specs.Output.{OutState}
 use Rattle.elf_source.specs.declared.source.Source.{Ghosts as Sources}
 use Rattle.elf_source.specs.declared.sink.Sink.{Ghosts as Sinks}
-use Rattle.elf_table.specs.Tables.{Rows}
-use Rattle.elf_listing.specs.Shows.{Lists, ListingWrote, WroteItems, WroteSome}
+use Rattle.elf_table.specs.Tables.{TableRange}
+use Rattle.elf_listing.specs.Shows.{ListingCalls, ListingWrote, WroteItems, WroteSome}
 use Rattle.elf_listing.specs.declared.listing.Listing.{Listing}
 use Rattle.elf_table.specs.declared.run_fault.RunFault.{RunFault}
 
@@ -28,17 +28,17 @@ pub record IsNoteRow (cap : ℕ) (note : Note) (row : NoteRow) (name : List ℕ)
 -- what a call did that shows a note, whose header has an index: its row
 abbrev pub ListsNote : {S W X : Type 0} {s : Sources S} {w : Sinks W} → Listing S W s w → Listing S W s w → Result X RunFault → NoteRow → ℕ → Type 0
 ListsNote old new result row index =
-    Lists old new result 0
+    ListingCalls old new result 0
     ((note : Note) → IsNoteRow old.style.cap.bytes note row old.name → WroteSome old.out.now new.out.now result (note_row (style_of old.style) index note ∷ []))
 
 -- what a call did that shows the notes of a table: the rows of all, up to the place where no note stands
-abbrev pub ListsNotes : {S W X : Type 0} {s : Sources S} {w : Sinks W} → Listing S W s w → Listing S W s w → Result X RunFault → Rows → ℕ → ℕ → Type 0
+abbrev pub ListsNotes : {S W X : Type 0} {s : Sources S} {w : Sinks W} → Listing S W s w → Listing S W s w → Result X RunFault → TableRange → ℕ → ℕ → Type 0
 ListsNotes old new result table align index =
-    Lists old new result table.count
+    ListingCalls old new result table.count
     (ListingWrote old new result (λ file. walk_rows (style_of old.style) index table.at (walked (note_align align) (slice file table.at table.count))))
 
 -- the rows of notes whose places are file offsets
-abbrev pub note_items : Style → ℕ → NoteScan → List ListingItem
+abbrev pub note_items : ListingStyle → ℕ → NoteScan → List ListingItem
 note_items style index walk = walk_rows style index 0 walk
 
 -- all items are those that were written, without a fault, and those that are left

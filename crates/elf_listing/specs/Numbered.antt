@@ -4,7 +4,7 @@ use Rattle.elf_model.specs.Listing.{ListingItem}
 use Rattle.elf_model.specs.Names.{DisplayedName, name_bytes, shown}
 use Rattle.elf_model.specs.Records.{versym}
 use Rattle.elf_model.specs.Rows.{chosen_row, no_name}
-use Rattle.elf_model.specs.Style.{Style}
+use Rattle.elf_model.specs.Style.{ListingStyle}
 use Rattle.elf_model.specs.VersionRows.{symbol_version_prefix}
 use Rattle.elf_model.specs.Versions.{number_in}
 use Rattle.elf_model.specs.declared.causes.Cause.{Cause}
@@ -36,7 +36,7 @@ version_told numbered file cap number =
     ]
 
 -- the row of the version of a symbol, whose entry stands at an offset, with that name: its fault is at the entry
-unfoldable pub reported_row : List ℕ → Style → VersionStrings → (section entry_at index : ℕ) → List ListingItem
+unfoldable pub reported_row : List ℕ → ListingStyle → VersionStrings → (section entry_at index : ℕ) → List ListingItem
 reported_row file style numbered section entry_at index =
     let word = versym file entry_at in
     chosen_row style.choice (symbol_version_prefix style.format section index word) entry_at (version_told numbered file style.cap (number_in word))

@@ -6,7 +6,7 @@ use Rattle.elf_model.specs.Names.{DisplayedName, shown, name_bytes}
 use Rattle.elf_model.specs.Records.{section_at, segment_at}
 use Rattle.elf_model.specs.Report.{table_rows}
 use Rattle.elf_model.specs.Rows.{no_name, section_row, segment_row}
-use Rattle.elf_model.specs.Style.{Style}
+use Rattle.elf_model.specs.Style.{ListingStyle}
 use Rattle.elf_model.specs.HeaderTables.{HeaderTable, TableKind, held_headers}
 use Rattle.elf_model.specs.TableKinds.{relocations_with_versions, suffixed_symbols, symbols, relocations, section_notes, segment_notes, section_dynamic, segment_dynamic}
 use Rattle.elf_model.specs.VersionLaws.{records_rows}
@@ -23,7 +23,7 @@ use Rattle.elf_listing.specs.declared.parts.Part.TheVariants.{Headers, Segments,
 pub record PartListed : Type 0 where
   pub bit : ℕ
   pub count : StoreState → ℕ
-  pub items : List ℕ → Style → ℕ → List ListingItem
+  pub items : List ℕ → ListingStyle → ℕ → List ListingItem
   pub cost : LoadedFile → StoreState → ℕ → ℕ → ℕ
 
 -- the section headers in the store, and the program headers
@@ -92,16 +92,16 @@ relocations_part versions = elim versions [ true ↦ SuffixedRelocations | false
 
 -- what is so before a part is listed of a file that is known, in a style: the versions of symbols are named by definitions and
 -- needs whose own rows had no fault
-abbrev pub Awaits : Part → Option (List ℕ) → Style → Type 0
+abbrev pub Awaits : Part → Option (List ℕ) → ListingStyle → Type 0
 Awaits SymbolVersions seen style = (file : List ℕ) → seen ≡ Some file → fault_of (records_rows file style) ≡ None
 Awaits part seen style = Unit {0}
 
 -- and before it is listed where some parts have it
-abbrev pub AwaitsAsked : ℕ → Part → Option (List ℕ) → Style → Type 0
+abbrev pub AwaitsAsked : ℕ → Part → Option (List ℕ) → ListingStyle → Type 0
 AwaitsAsked parts part seen style = has parts (listed_by part).bit ≡ true → Awaits part seen style
 
 -- the items of so many headers
-abbrev pub part_items : Part → Style → ℕ → List ℕ → List ListingItem
+abbrev pub part_items : Part → ListingStyle → ℕ → List ℕ → List ListingItem
 part_items part style count file = each ((listed_by part).items file style) 0 count
 
 -- the name that an index gives in a string table of the file, as it is shown; empty without a string table

@@ -7,7 +7,7 @@ use Rattle.elf_model.specs.Lines.{refusal_line}
 use Rattle.elf_model.specs.Listing.{has_tables, known_parts}
 use Rattle.elf_model.specs.declared.causes.Refusal.{Refusal}
 use Rattle.elf_model.specs.declared.formats.Format.{Format}
-use Rattle.elf_source.specs.Source.{CountedState, Keeps, IsSourceFault}
+use Rattle.elf_source.specs.Source.{CountedState, KeepsSource, IsSourceFault}
 use Rattle.elf_source.specs.Output.{OutState, SinkTakes, SinkTakesPrefix, IsOutFault}
 use Rattle.elf_options.specs.Permitted.{style_of}
 use Rattle.elf_options.specs.declared.caps.Caps.{Caps}
@@ -49,7 +49,7 @@ pub record AsksWithin {X : Type 0} (caps : Caps) (parts : ℕ) (old new : Counte
 
 -- what is kept of the source: its size, its failures so far, its file; and no limit is left
 pub record KeepsSourceUnlimited (old new : CountedState) : Type 0 where
-  pub keeps : Keeps old.seen new.seen
+  pub keeps : KeepsSource old.seen new.seen
   pub free : new.most ≡ None
 
 -- the line of a refusal was written, and this is the answer: the refusal, or the output's fault, at which a front of it was written

@@ -3,7 +3,7 @@ use Rattle.std.specs.Prelude.{ℕ, suc, ◌≡◌, Bool, true, false, List, [], 
 use Rattle.elf_model.specs.Dynamic.{dynamic_count}
 use Rattle.elf_note.specs.DynCursors.{entries_left}
 use Rattle.elf_table.specs.Cursors.{CursorState, HoldsRows, GivesRow, FailsRows}
-use Rattle.elf_table.specs.Tables.{Rows, size_of}
+use Rattle.elf_table.specs.Tables.{TableRange, size_of}
 use Rattle.elf_table.specs.declared.fault.Fault.{Fault}
 use Rattle.elf_listing.specs.declared.row_cursor.RowCursor.{RowCursor}
 use Rattle.elf_listing.specs.declared.row_cursor.RowCursor.TheVariants.{All, Entries}
@@ -21,7 +21,7 @@ rows_to_give file (All cursor) = cursor.left
 rows_to_give file (Entries entries) = entries_left file entries
 
 -- how many rows of a table are listed
-abbrev pub rows_listed : RowLayout → List ℕ → Rows → ℕ
+abbrev pub rows_listed : RowLayout → List ℕ → TableRange → ℕ
 rows_listed Segments file table = table.count
 rows_listed (Symbols section names) file table = table.count
 rows_listed (Relocations section linked) file table = table.count
@@ -31,7 +31,7 @@ rows_listed (SuffixedSymbols section names suffixes) file table = table.count
 rows_listed (SuffixedRelocations section linked suffixes) file table = table.count
 
 -- a cursor before the first row of a table
-pub record BeginsTable (kind : RowLayout) (table : Rows) (cursor : RowCursor) : Type 0 where
+pub record BeginsTable (kind : RowLayout) (table : TableRange) (cursor : RowCursor) : Type 0 where
   pub its_table : (reading cursor).table ≡ table
   pub index : (reading cursor).index ≡ 0
   pub left : (reading cursor).left ≡ table.count

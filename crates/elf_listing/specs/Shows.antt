@@ -86,7 +86,7 @@ SpentCredit old new out before after result n = ReadsOnCredit old new before aft
 
 -- WHAT A CALL OF A LISTING DID. For every source: what was written stays, the listing is still of the same file, and no more than
 -- n bytes were asked for. And what it showed
-pub record Lists {S W X : Type 0} {s : Sources S} {w : Sinks W} (old new : Listing S W s w) (result : Result X RunFault) (n : ℕ) (shown : Type 0) : Type 0 where
+pub record ListingCalls {S W X : Type 0} {s : Sources S} {w : Sinks W} (old new : Listing S W s w) (result : Result X RunFault) (n : ℕ) (shown : Type 0) : Type 0 where
   pub grows : OutGrows old.out.now new.out.now
   pub keeps : SameFile old new
   pub spent : SpentCredit old.src.now new.src.now new.out.now old.ahead.credit new.ahead.credit result n
@@ -111,4 +111,4 @@ cut_of NameCut = true
 -- what a call did that writes a line that ends in the name that was read: the line with what is shown of the name
 abbrev pub ListsLine : {S W X : Type 0} {s : Sources S} {w : Sinks W} → Listing S W s w → Listing S W s w → Result X RunFault → LinePrefix → NameEnd → Type 0
 ListsLine old new result front end =
-    Lists old new result 0 ((at : ℕ) (answer : Result DisplayedName Cause) → NameRead at (Ok end) old.name answer → WroteSome old.out.now new.out.now result (named_row front at answer))
+    ListingCalls old new result 0 ((at : ℕ) (answer : Result DisplayedName Cause) → NameRead at (Ok end) old.name answer → WroteSome old.out.now new.out.now result (named_row front at answer))

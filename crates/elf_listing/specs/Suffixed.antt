@@ -20,11 +20,11 @@ use Rattle.elf_table.specs.declared.run_fault.RunFault.{RunFault}
 use Rattle.elf_source.specs.declared.source.Source.{Ghosts as Sources}
 use Rattle.elf_source.specs.declared.sink.Sink.{Ghosts as Sinks}
 use Rattle.elf_table.specs.NamesRead.{NameRead, shown_by}
-use Rattle.elf_table.specs.Tables.{Rows, TableInBounds, StringTableRange}
+use Rattle.elf_table.specs.Tables.{TableRange, TableInBounds, StringTableRange}
 use Rattle.elf_table.specs.declared.names.NameEnd.{NameEnd}
 use Rattle.elf_listing.specs.Numbered.{NumberedWithin}
 use Rattle.elf_listing.specs.Parts.{store_sections}
-use Rattle.elf_listing.specs.Shows.{ListingReads, Lists, WroteSome}
+use Rattle.elf_listing.specs.Shows.{ListingReads, ListingCalls, WroteSome}
 use Rattle.elf_listing.specs.SymbolVersions.{AreNumbered}
 use Rattle.elf_listing.specs.declared.listing.Listing.{Listing}
 use Rattle.elf_listing.specs.declared.read_suffix.VersionSuffixEnd.{VersionSuffixEnd}
@@ -98,7 +98,7 @@ suffix_read (Some suffix) version = Suffixed suffix.is_default (shown_by suffix.
 -- what a call did that writes a line that ends in the name that was read, with what stands behind it
 abbrev pub ListsSuffixed : {S W X : Type 0} {s : Sources S} {w : Sinks W} → Listing S W s w → Listing S W s w → Result X RunFault → LinePrefix → NameEnd → Suffix → Type 0
 ListsSuffixed old new result front end suffix =
-    Lists old new result 0
+    ListingCalls old new result 0
     ((at : ℕ) (answer : Result DisplayedName Cause) → NameRead at (Ok end) old.name answer
     → WroteSome old.out.now new.out.now result (suffixed_row EveryRow front at answer (Ok suffix)))
 
@@ -111,15 +111,15 @@ pub record FetchesOfEntry {S W : Type 0} {s : Sources S} {w : Sinks W} (old new 
       → SuffixRead result version (if symbol == 0 then Ok NoSuffix else symbol_suffix file old.style.cap.bytes table symbol_at symbol)
 
 -- what a call did that looks for what finds the versions of the symbols that relocation entries refer to, if they refer to some
-abbrev pub linked_count : Option (Rows × StringTableRange) → ℕ
+abbrev pub linked_count : Option (TableRange × StringTableRange) → ℕ
 linked_count None = 0
 linked_count (Some found) = found.0.count
 
-abbrev pub LinkedOr : List ℕ → ℕ → Option (Rows × StringTableRange) → Result (Option VersionLookup) Fault → Type 0
+abbrev pub LinkedOr : List ℕ → ℕ → Option (TableRange × StringTableRange) → Result (Option VersionLookup) Fault → Type 0
 LinkedOr file table None result = result ≡ Ok None
 LinkedOr file table (Some found) result = found.0.count ≡ entry_count file (section_at file table) SYMBOL_SIZE → SuffixesOr file table result
 
-pub record FetchesOfLinked {S W : Type 0} {s : Sources S} {w : Sinks W} (old new : Listing S W s w) (result : Result (Option VersionLookup) Fault) (table : ℕ) (linked : Option (Rows × StringTableRange)) : Type 0 where
+pub record FetchesOfLinked {S W : Type 0} {s : Sources S} {w : Sinks W} (old new : Listing S W s w) (result : Result (Option VersionLookup) Fault) (table : ℕ) (linked : Option (TableRange × StringTableRange)) : Type 0 where
   pub fetches : ListingReads old new result (walks_asked (store_sections old.file.store.now) table (linked_count linked) old.file.loaded.size)
   pub within : IfOk result (λ found. IfSome found (SuffixesWithin old.src.now.seen.size))
   pub pays : IfOk result (λ found. IfSome found (λ suffixes. (cap : ℕ) → suffix_bytes (store_sections old.file.store.now) table cap ≡ VERSYM_SIZE + name_bytes cap))

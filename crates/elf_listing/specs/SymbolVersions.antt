@@ -6,7 +6,7 @@ use Rattle.elf_model.specs.Names.{name_bytes}
 use Rattle.elf_model.specs.Records.{section_at}
 use Rattle.elf_model.specs.Rows.{refused_row}
 use Rattle.elf_model.specs.Numbers.{SHT_GNU_VERDEF, SHT_GNU_VERNEED}
-use Rattle.elf_model.specs.Style.{Style}
+use Rattle.elf_model.specs.Style.{ListingStyle}
 use Rattle.elf_model.specs.Suffixes.{or_refusal, walk_refusal}
 use Rattle.elf_model.specs.Tables.{all_checks}
 use Rattle.elf_model.specs.VersionCost.{walk_cost, walks_cost}
@@ -24,27 +24,27 @@ use Rattle.elf_model.specs.Budget.{IsBudgetRefusal}
 use Rattle.elf_table.specs.declared.run_fault.RunFault.{RunFault}
 use Rattle.elf_source.specs.declared.source.Source.{Ghosts as Sources}
 use Rattle.elf_source.specs.declared.sink.Sink.{Ghosts as Sinks}
-use Rattle.elf_table.specs.Tables.{Rows, StringTableRange, StringsInBounds, strings_in}
+use Rattle.elf_table.specs.Tables.{TableRange, StringTableRange, StringsInBounds, strings_in}
 use Rattle.elf_note.specs.NumberNames.{NamesNumbers}
 use Rattle.elf_note.specs.Reading.{bytes_each}
 use Rattle.elf_note.specs.declared.version_names.VersionNameRef.{VersionNameRef}
 use Rattle.elf_listing.specs.Numbered.{NumberedWithin, reported_row}
 use Rattle.elf_listing.specs.Parts.{store_sections}
-use Rattle.elf_listing.specs.Shows.{ListingReads, Lists, WroteSome}
+use Rattle.elf_listing.specs.Shows.{ListingReads, ListingCalls, WroteSome}
 use Rattle.elf_listing.specs.Versions.{kind_type}
 use Rattle.elf_listing.specs.declared.listing.Listing.{Listing}
 use Rattle.elf_listing.specs.declared.numbered.VersionStrings.{VersionStrings}
 
 -- the rows of so many entries of a table, for so many symbols: where a symbol has no entry any more the refusal stands at a place
-unfoldable pub versioned_items : List ℕ → Style → VersionStrings → (section : ℕ) → Rows → (symbols place : ℕ) → List ListingItem
+unfoldable pub versioned_items : List ℕ → ListingStyle → VersionStrings → (section : ℕ) → TableRange → (symbols place : ℕ) → List ListingItem
 versioned_items file style numbered section table symbols place =
     each (λ i. reported_row file style numbered section (table.at + i * VERSYM_SIZE) i) 0 (min table.count symbols)
     ++ (if nat_lt table.count symbols then refused_row place VersionCut else [])
 
 -- what a call did that shows them
-abbrev pub ListsVersioned : {S W X : Type 0} {s : Sources S} {w : Sinks W} → Listing S W s w → Listing S W s w → Result X RunFault → ℕ → Rows → ℕ → VersionStrings → Type 0
+abbrev pub ListsVersioned : {S W X : Type 0} {s : Sources S} {w : Sinks W} → Listing S W s w → Listing S W s w → Result X RunFault → ℕ → TableRange → ℕ → VersionStrings → Type 0
 ListsVersioned old new result section table symbols numbered =
-    Lists old new result (min table.count symbols * (VERSYM_SIZE + name_bytes old.style.cap.bytes))
+    ListingCalls old new result (min table.count symbols * (VERSYM_SIZE + name_bytes old.style.cap.bytes))
     ((file : List ℕ) → old.src.now.seen.file ≡ Some file
     → WroteSome old.out.now new.out.now result (versioned_items file (style_of old.style) numbered section table symbols (section_place old.file.loaded.header section)))
 

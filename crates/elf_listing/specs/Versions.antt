@@ -2,7 +2,7 @@
 use Rattle.std.specs.Prelude.{ℕ, ◌≡◌, ◌+◌, ◌*◌, List, ◌++◌, Some, Result}
 use Rattle.elf_model.specs.Listing.{ListingItem}
 use Rattle.elf_model.specs.Names.{name_bytes}
-use Rattle.elf_model.specs.Style.{Style}
+use Rattle.elf_model.specs.Style.{ListingStyle}
 use Rattle.elf_model.specs.HeaderTables.{TableKind}
 use Rattle.elf_model.specs.Numbers.{SHT_GNU_VERDEF, SHT_GNU_VERNEED}
 use Rattle.elf_model.specs.VersionRows.{end_rows, visited_rows, version_records, version_row}
@@ -16,19 +16,19 @@ use Rattle.elf_table.specs.Tables.{StringTableRange, strings_in}
 use Rattle.elf_note.specs.Reading.{IsCursorOf, IsVersion, VersionCursorState, bytes_each, unread, versions_left}
 use Rattle.elf_note.specs.declared.record.VersionRecord.{VersionRecord}
 use Rattle.elf_listing.specs.Parts.{of_sections}
-use Rattle.elf_listing.specs.Shows.{Lists, ListingWrote, WroteSome}
+use Rattle.elf_listing.specs.Shows.{ListingCalls, ListingWrote, WroteSome}
 use Rattle.elf_listing.specs.declared.listing.Listing.{Listing}
 use Rattle.elf_table.specs.declared.run_fault.RunFault.{RunFault}
 
 -- what a call did that shows a record, with its name in a string table: where the record is the file's, its row
 abbrev pub ListsRecord : {S W X : Type 0} {s : Sources S} {w : Sinks W} → Listing S W s w → Listing S W s w → Result X RunFault → VersionRecord → ℕ → StringTableRange → Type 0
 ListsRecord old new result given section names =
-    Lists old new result (name_bytes old.style.cap.bytes)
+    ListingCalls old new result (name_bytes old.style.cap.bytes)
     ((file : List ℕ) (met : VisitedRecord) → old.src.now.seen.file ≡ Some file → IsVersion file met given
     → WroteSome old.out.now new.out.now result (version_row file (style_of old.style) section (strings_in file names) met))
 
 -- the rows of records, up to the refusal of what is none
-abbrev pub versions_items : List ℕ → Style → ℕ → List ℕ → Versions → List ListingItem
+abbrev pub versions_items : List ℕ → ListingStyle → ℕ → List ℕ → Versions → List ListingItem
 versions_items file style section strings versions = visited_rows file style section strings versions.met ++ end_rows versions.cut
 
 -- how many bytes the records ask for at most that a cursor still gives, each with its name
@@ -38,7 +38,7 @@ records_cost cursor cap = unread cursor + cursor.left * name_bytes cap
 -- what a call did that shows the records that a cursor still gives: where the cursor is of the file, their rows
 abbrev pub ListsRecords : {S W X : Type 0} {s : Sources S} {w : Sinks W} → Listing S W s w → Listing S W s w → Result X RunFault → VersionCursorState → ℕ → StringTableRange → Type 0
 ListsRecords old new result cursor section names =
-    Lists old new result (records_cost cursor old.style.cap.bytes)
+    ListingCalls old new result (records_cost cursor old.style.cap.bytes)
     ((file : List ℕ) → old.src.now.seen.file ≡ Some file → IsCursorOf file cursor
     → WroteSome old.out.now new.out.now result (versions_items file (style_of old.style) section (strings_in file names) (versions_left file cursor)))
 
@@ -53,5 +53,5 @@ records_kind kind = version_records kind (kind_type kind) (record_size kind) (by
 abbrev pub ListsVersions : {S W X : Type 0} {s : Sources S} {w : Sinks W} → Listing S W s w → Listing S W s w → Result X RunFault → ℕ → VersionKind → Type 0
 ListsVersions old new result section kind =
     let listed = of_sections (records_kind kind) in
-    Lists old new result (listed.cost old.file.loaded old.file.store.now old.style.cap.bytes section)
+    ListingCalls old new result (listed.cost old.file.loaded old.file.store.now old.style.cap.bytes section)
     (ListingWrote old new result (λ file. listed.items file (style_of old.style) section))

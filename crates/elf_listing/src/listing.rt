@@ -8,7 +8,7 @@ ghost use Rattle.elf_table.specs.Load.{IsOpen};
 use elf_format::ConstantNames;
 use elf_note::ReadAhead;
 use elf_source::{Counted, Out, Sink, Source};
-use elf_table::{File, NameBuf, Style};
+use elf_table::{ListingStyle, NameBuf, SectionView};
 
 /// A source that is read, an output that is written, the file that was loaded, how its rows are
 /// shown, a buffer for a name, and the names and symbols that were read ahead. What shows
@@ -20,9 +20,9 @@ pub struct Listing<'s, 'o, 'f, 'n, S: Source, W: Sink> {
     /// The output that is written.
     pub out: &'o mut Out<W>,
     /// The file that was loaded.
-    pub file: File<'f>,
+    pub file: SectionView<'f>,
     /// How rows are shown.
-    pub style: Style<'n>,
+    pub style: ListingStyle<'n>,
     /// The last name that was read.
     pub name: NameBuf,
     /// The names and symbols that were read ahead.

@@ -5,7 +5,7 @@ ghost use Rattle.elf_listing.specs.Notes.{ListsNote, ListsNotes};
 
 use crate::listing::Listing;
 use crate::row::is_cut;
-use elf_format::{Columns, LinePrefix, Object, Render, note_prefix, show_note};
+use elf_format::{Columns, Json, LinePrefix, Render, note_prefix, show_note};
 use elf_model::Format;
 use elf_note::{NoteCursor, NoteRow};
 use elf_source::{Sink, Source};
@@ -34,7 +34,7 @@ impl<S: Source, W: Sink> Listing<'_, '_, '_, '_, S, W> {
     {
         match self.style.format {
             Format::Columns => self.note_line::<Columns>(row, index),
-            Format::Object => self.note_line::<Object>(row, index),
+            Format::Object => self.note_line::<Json>(row, index),
         }
     }
 

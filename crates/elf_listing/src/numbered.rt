@@ -6,7 +6,7 @@ ghost use Rattle.elf_listing.specs.Numbered.{FetchesVersion, NumberedWithin};
 ghost use Rattle.elf_listing.specs.declared.rows.RowLayout.TheVariants.{Versions};
 
 use crate::listing::Listing;
-use crate::row_selection::Choosing;
+use crate::row_selection::RowSelection;
 use elf_format::{LinePrefix, Render, symbol_version_prefix};
 use elf_note::{NameIndex, VersionNameRef, VersionNames};
 use elf_record::{Cause, u16_at, version_number};
@@ -28,7 +28,7 @@ impl<S: Source, W: Sink> Listing<'_, '_, '_, '_, S, W> {
     /// Shows the row of the version of a symbol: its `X` line with the name of its number, where it is
     /// one of the rows that are shown, or the refusal of a number that has none at the entry (Linux
     /// Standard Base Core, Symbol Versioning).
-    pub(crate) fn version_number<R: Render, C: Choosing>(
+    pub(crate) fn version_number<R: Render, C: RowSelection>(
         &mut self,
         front: &mut LinePrefix,
         row: &Row<'_>,

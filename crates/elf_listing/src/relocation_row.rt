@@ -7,7 +7,7 @@ ghost use Rattle.elf_listing.specs.Kinds.{ListsRow, RowFits};
 ghost use Rattle.elf_listing.specs.declared.rows.RowLayout.TheVariants.{Relocations};
 
 use crate::listing::Listing;
-use crate::row_selection::Choosing;
+use crate::row_selection::RowSelection;
 use elf_format::{LinePrefix, Render, relocation_prefix};
 use elf_note::NameIndex;
 use elf_record::{Cause, Rela};
@@ -21,7 +21,7 @@ impl<S: Source, W: Sink> Listing<'_, '_, '_, '_, S, W> {
     /// Shows the row of a relocation entry of a section: its `R` line with the name of its symbol,
     /// where it is one of the rows that are shown, or the refusal of its symbol at the entry's offset,
     /// or of the name at the symbol's.
-    pub(crate) fn relocation_row<R: Render, C: Choosing>(
+    pub(crate) fn relocation_row<R: Render, C: RowSelection>(
         &mut self,
         front: &mut LinePrefix,
         row: &Row<'_>,

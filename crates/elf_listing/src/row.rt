@@ -7,7 +7,7 @@ ghost use Rattle.elf_listing.specs.Shows.{ListsLine, cut_of};
 ghost use Rattle.elf_listing.specs.declared.rows.RowLayout.TheVariants.{Segments, Symbols};
 
 use crate::listing::Listing;
-use crate::row_selection::Choosing;
+use crate::row_selection::RowSelection;
 use elf_format::{LinePrefix, Render, segment_row, show_named, symbol_prefix};
 use elf_note::NameIndex;
 use elf_record::{Phdr, Sym};
@@ -28,7 +28,7 @@ impl<S: Source, W: Sink> Listing<'_, '_, '_, '_, S, W> {
 
     /// Shows the row of a symbol of a section: its `Y` line with its name, where it is one of the
     /// rows that are shown, or the name's refusal at the symbol's offset.
-    pub(crate) fn symbol_row<R: Render, C: Choosing>(
+    pub(crate) fn symbol_row<R: Render, C: RowSelection>(
         &mut self,
         front: &mut LinePrefix,
         row: &Row<'_>,

@@ -15,7 +15,7 @@ use elf_table::{NameBuf, NameEnd};
 
 /// Whether rows are chosen by their names, which is known where the code is made: where every row is
 /// shown, no name is looked for.
-pub trait Choosing {
+pub trait RowSelection {
     /// Whether they are.
     const BY_NAME: bool;
 
@@ -26,7 +26,7 @@ pub trait Choosing {
 /// Every row.
 pub struct AllRows;
 
-impl Choosing for AllRows {
+impl RowSelection for AllRows {
     const BY_NAME: bool = false;
 
     ghost BY_NAME = { No };
@@ -35,7 +35,7 @@ impl Choosing for AllRows {
 /// The rows of some names.
 pub struct NamedRows;
 
-impl Choosing for NamedRows {
+impl RowSelection for NamedRows {
     const BY_NAME: bool = true;
 
     ghost BY_NAME = { Yes };
@@ -43,7 +43,7 @@ impl Choosing for NamedRows {
 
 impl<S: Source, W: Sink> Listing<'_, '_, '_, '_, S, W> {
     /// Whether the row of the name that was read is shown.
-    pub(crate) fn is_shown<C: Choosing>(&self, end: NameEnd) -> bool
+    pub(crate) fn is_shown<C: RowSelection>(&self, end: NameEnd) -> bool
         requires { ShowsRows C.BY_NAME self.now.style }
         ensures { result ≡ chooses (choice_of self.now.style.choice)
             (shown_by end self.now.name) NoSuffix }
@@ -52,7 +52,7 @@ impl<S: Source, W: Sink> Listing<'_, '_, '_, '_, S, W> {
     }
 
     /// Whether the row of the name that was read is shown, with the version behind it, if there is one.
-    pub(crate) fn is_versioned_row_shown<C: Choosing>(
+    pub(crate) fn is_versioned_row_shown<C: RowSelection>(
         &self,
         end: NameEnd,
         suffix: Option<VersionSuffixEnd>,

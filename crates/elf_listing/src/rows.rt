@@ -7,9 +7,9 @@ use crate::dynamic_row::DynamicStringTable;
 use crate::listing::Listing;
 use crate::numbered::VersionStrings;
 use crate::row_cursor::RowCursor;
-use crate::row_selection::{AllRows, Choosing, NamedRows};
+use crate::row_selection::{AllRows, NamedRows, RowSelection};
 use crate::suffixes::VersionLookup;
-use elf_format::{Columns, LinePrefix, Object, Render};
+use elf_format::{Columns, Json, LinePrefix, Render};
 use elf_model::Format;
 use elf_source::{Sink, Source};
 use elf_table::{Names, Row, RunFault, Table};
@@ -74,7 +74,7 @@ impl<S: Source, W: Sink> Listing<'_, '_, '_, '_, S, W> {
     {
         match self.style.format {
             Format::Columns => self.rows_of::<Columns>(table, kind),
-            Format::Object => self.rows_of::<Object>(table, kind),
+            Format::Object => self.rows_of::<Json>(table, kind),
         }
     }
 
@@ -91,7 +91,7 @@ impl<S: Source, W: Sink> Listing<'_, '_, '_, '_, S, W> {
     }
 
     /// Shows those that the style chooses, one front of a line for all.
-    fn rows_in<R: Render, C: Choosing>(
+    fn rows_in<R: Render, C: RowSelection>(
         &mut self,
         table: Table,
         kind: &RowLayout<'_>,
@@ -110,7 +110,7 @@ impl<S: Source, W: Sink> Listing<'_, '_, '_, '_, S, W> {
     }
 
     /// Shows one row.
-    fn row<R: Render, C: Choosing>(
+    fn row<R: Render, C: RowSelection>(
         &mut self,
         front: &mut LinePrefix,
         row: &Row<'_>,

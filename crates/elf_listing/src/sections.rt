@@ -8,7 +8,7 @@ ghost use Rattle.elf_listing.specs.declared.parts.Part.TheVariants.{SectionNotes
 use crate::dynamic_row::DynamicStringTable;
 use crate::listing::Listing;
 use crate::rows::RowLayout;
-use elf_format::{Columns, LinePrefix, Object, Render, section_prefix};
+use elf_format::{Columns, Json, LinePrefix, Render, section_prefix};
 use elf_model::Format;
 use elf_record::numbers::{SHT_DYNAMIC, SHT_NOTE, SHT_RELA};
 use elf_record::sizes::DYNAMIC_BYTES;
@@ -24,7 +24,7 @@ impl<S: Source, W: Sink> Listing<'_, '_, '_, '_, S, W> {
     {
         match self.style.format {
             Format::Columns => self.section_line::<Columns>(section),
-            Format::Object => self.section_line::<Object>(section),
+            Format::Object => self.section_line::<Json>(section),
         }
     }
 

@@ -7,7 +7,7 @@ ghost use Rattle.elf_listing.specs.declared.parts.Part.TheVariants.{SegmentDynam
 use crate::dynamic_row::DynamicStringTable;
 use crate::listing::Listing;
 use crate::rows::RowLayout;
-use elf_format::{Columns, Object, Render, segment_row};
+use elf_format::{Columns, Json, Render, segment_row};
 use elf_model::Format;
 use elf_note::dynamic_strings;
 use elf_record::numbers::{PT_DYNAMIC, PT_NOTE};
@@ -35,7 +35,7 @@ impl<'f, S: Source, W: Sink> Listing<'_, '_, 'f, '_, S, W> {
     {
         match self.style.format {
             Format::Columns => self.segment_line::<Columns>(segment),
-            Format::Object => self.segment_line::<Object>(segment),
+            Format::Object => self.segment_line::<Json>(segment),
         }
     }
 

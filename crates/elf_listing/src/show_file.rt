@@ -22,12 +22,14 @@ use crate::fault_line::show_stop;
 use crate::listing::Listing;
 use crate::table_view::load_view;
 use bitflags::Flags;
-use elf_format::{Columns, Object, header_row};
+use elf_format::{Columns, Json, header_row};
 use elf_model::Format;
 use elf_note::ReadAhead;
 use elf_record::{Ehdr, Parts};
 use elf_source::{Counted, Out, Sink, Source};
-use elf_table::{Caps, File, HeaderStore, Loaded, NameBuf, RunFault, Style, header, load};
+use elf_table::{
+    Caps, HeaderStore, ListingStyle, Loaded, NameBuf, RunFault, SectionView, header, load,
+};
 
 /// All parts but the file header's.
 const TABLES: Parts = Parts(254);
@@ -86,7 +88,7 @@ pub fn show<S: Source, W: Sink>(
 pub fn list<S: Source, W: Sink>(
     src: &mut Counted<S>,
     store: &mut HeaderStore,
-    style: Style,
+    style: ListingStyle,
     parts: Parts,
     out: &mut Out<W>,
 ) -> Result<(), RunFault>
@@ -127,7 +129,7 @@ fn list_header<W: Sink>(
     }
     let line = match format {
         Format::Columns => header_row::<Columns>(header),
-        Format::Object => header_row::<Object>(header),
+        Format::Object => header_row::<Json>(header),
     };
     out.put(&line)?;
     Ok(())
@@ -140,7 +142,7 @@ fn list_by_segments<S: Source, W: Sink>(
     src: &mut Counted<S>,
     store: &mut HeaderStore,
     header: &Ehdr,
-    style: Style,
+    style: ListingStyle,
     parts: Parts,
     out: &mut Out<W>,
 ) -> Result<(), RunFault>
@@ -177,7 +179,7 @@ fn list_by_sections<S: Source, W: Sink>(
     src: &mut Counted<S>,
     store: &mut HeaderStore,
     header: &Ehdr,
-    style: Style,
+    style: ListingStyle,
     parts: Parts,
     out: &mut Out<W>,
 ) -> Result<(), RunFault>
@@ -211,7 +213,7 @@ fn list_tables<S: Source, W: Sink>(
     out: &mut Out<W>,
     loaded: Loaded,
     store: &HeaderStore,
-    style: Style,
+    style: ListingStyle,
     parts: Parts,
 ) -> Result<(), RunFault>
     requires { IsReady parts.0 src.old loaded store.now }
@@ -223,7 +225,7 @@ fn list_tables<S: Source, W: Sink>(
 {
     let name = NameBuf::new();
     let ahead = ReadAhead::new();
-    let file = File { loaded, store };
+    let file = SectionView { loaded, store };
     let mut listing = Listing {
         src,
         out,

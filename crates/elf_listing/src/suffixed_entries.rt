@@ -9,7 +9,7 @@ ghost use Rattle.elf_listing.specs.declared.rows.RowLayout.TheVariants.{Suffixed
 
 use crate::listing::Listing;
 use crate::read_suffix::VersionSuffixEnd;
-use crate::row_selection::Choosing;
+use crate::row_selection::RowSelection;
 use crate::suffixes::VersionLookup;
 use elf_format::{LinePrefix, Render, relocation_prefix};
 use elf_note::NameIndex;
@@ -30,7 +30,7 @@ impl<S: Source, W: Sink> Listing<'_, '_, '_, '_, S, W> {
     /// Shows the row of a relocation entry of a section: its `R` line with the name of its symbol and
     /// the version behind it, where it is one of the rows that are shown; or the refusal of its symbol
     /// at the entry's offset, of the name at the symbol's, or the version's.
-    pub(crate) fn relocation_row_with_version<R: Render, C: Choosing>(
+    pub(crate) fn relocation_row_with_version<R: Render, C: RowSelection>(
         &mut self,
         front: &mut LinePrefix,
         row: &Row<'_>,

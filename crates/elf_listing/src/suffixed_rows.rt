@@ -5,7 +5,7 @@ ghost use Rattle.elf_listing.specs.Kinds.{ListsRow, RowFits};
 ghost use Rattle.elf_listing.specs.declared.rows.RowLayout.TheVariants.{SuffixedSymbols};
 
 use crate::listing::Listing;
-use crate::row_selection::Choosing;
+use crate::row_selection::RowSelection;
 use crate::suffixes::VersionLookup;
 use elf_format::{LinePrefix, Render, symbol_prefix};
 use elf_note::NameIndex;
@@ -17,7 +17,7 @@ impl<S: Source, W: Sink> Listing<'_, '_, '_, '_, S, W> {
     /// Shows the row of a symbol of a section: its `Y` line with its name and the version behind it,
     /// where it is one of the rows that are shown; or the name's refusal at the symbol's offset, or
     /// the version's.
-    pub(crate) fn symbol_row_with_version<R: Render, C: Choosing>(
+    pub(crate) fn symbol_row_with_version<R: Render, C: RowSelection>(
         &mut self,
         front: &mut LinePrefix,
         row: &Row<'_>,

@@ -8,13 +8,13 @@ ghost use Rattle.elf_table.specs.Faults.{IsOfCheck, IsOfRead, IsReadFault};
 ghost use Rattle.elf_table.specs.Load.{HoldsSectionHeaders};
 ghost use Rattle.elf_options.specs.Permitted.{style_of};
 ghost use Rattle.elf_table.specs.Store.{HoldsSegments};
-ghost use Rattle.elf_table.specs.Views.{Decides};
+ghost use Rattle.elf_table.specs.Views.{ChecksDecide};
 ghost use Rattle.elf_listing.specs.Viewed.{AwaitsView, ChecksView, needs_segment_view, view_cost, viewed_headers};
 
 use bitflags::Flags;
 use elf_record::Parts;
 use elf_source::{Counted, Source};
-use elf_table::{ExecutionView, Fault, HeaderStore, Loaded, Style};
+use elf_table::{ExecutionView, Fault, HeaderStore, ListingStyle, Loaded};
 
 /// Loads the program headers of a file without sections, where the parts need them: to be shown, or
 /// because they tell where its notes and its dynamic entries are. Where the style finds tables by
@@ -27,7 +27,7 @@ pub(crate) fn load_view<S: Source>(
     src: &mut Counted<S>,
     store: &mut HeaderStore,
     loaded: &Loaded,
-    style: Style,
+    style: ListingStyle,
     parts: Parts,
 ) -> Result<(), Fault>
     requires { AwaitsView src.old.seen.size loaded.now store.old }
@@ -51,11 +51,16 @@ pub(crate) fn load_view<S: Source>(
 ///
 /// # Errors
 /// That of [`ExecutionView::check_overlaps`].
-fn check_view(store: &HeaderStore, loaded: &Loaded, style: Style, parts: Parts) -> Result<(), Fault>
+fn check_view(
+    store: &HeaderStore,
+    loaded: &Loaded,
+    style: ListingStyle,
+    parts: Parts,
+) -> Result<(), Fault>
     requires { store.now.segments ≡ viewed_headers parts.0 loaded.now }
     ensures checked { (file : List ℕ) → HoldsSectionHeaders file loaded.now store.now →
         HoldsSegments file store.now → (style.entry.by_segments ≡ true → e_shnum file ≡ 0) →
-        Decides (view_checks file (style_of style.entry) parts.0) result }
+        ChecksDecide (view_checks file (style_of style.entry) parts.0) result }
     ensures refusal { IfErr result IsOfCheck }
 {
     if !is_checked(loaded, style, parts) {
@@ -66,7 +71,7 @@ fn check_view(store: &HeaderStore, loaded: &Loaded, style: Style, parts: Parts) 
 }
 
 /// Whether the style finds tables by the program headers, and the parts need these.
-fn is_checked(loaded: &Loaded, style: Style, parts: Parts) -> bool
+fn is_checked(loaded: &Loaded, style: ListingStyle, parts: Parts) -> bool
     ensures { result ≡ (style.entry.by_segments && needs_segment_view parts.0 loaded.now) }
 {
     style.by_segments && loaded.header().e_shnum == 0 && needs_segment_view(parts)

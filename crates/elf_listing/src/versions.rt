@@ -8,8 +8,8 @@ ghost use Rattle.elf_listing.specs.Versions.{ListsRecord, ListsRecords, ListsVer
 ghost use Rattle.elf_listing.specs.declared.parts.Part.TheVariants.{Definitions, Needs};
 
 use crate::listing::Listing;
-use crate::row_selection::{AllRows, Choosing, NamedRows};
-use elf_format::{Columns, LinePrefix, Object, Render, version_prefix};
+use crate::row_selection::{AllRows, NamedRows, RowSelection};
+use elf_format::{Columns, Json, LinePrefix, Render, version_prefix};
 use elf_model::Format;
 use elf_note::{NameIndex, VersionCursor, VersionRecord};
 use elf_record::VersionKind;
@@ -81,7 +81,7 @@ impl<S: Source, W: Sink> Listing<'_, '_, '_, '_, S, W> {
     }
 
     /// Shows them, as the style chooses rows.
-    fn version_rows_in<C: Choosing>(
+    fn version_rows_in<C: RowSelection>(
         &mut self,
         cursor: &mut VersionCursor,
         section: u16,
@@ -101,7 +101,7 @@ impl<S: Source, W: Sink> Listing<'_, '_, '_, '_, S, W> {
 
     /// Shows a record: its `V` line with its name, where it is one of the rows that are shown, or the
     /// name's refusal at what holds its index (Linux Standard Base Core, Symbol Versioning).
-    fn version_row<C: Choosing>(
+    fn version_row<C: RowSelection>(
         &mut self,
         given: &VersionRecord,
         section: u16,
@@ -113,12 +113,12 @@ impl<S: Source, W: Sink> Listing<'_, '_, '_, '_, S, W> {
     {
         match self.style.format {
             Format::Columns => self.version_line::<Columns, C>(given, section, names),
-            Format::Object => self.version_line::<Object, C>(given, section, names),
+            Format::Object => self.version_line::<Json, C>(given, section, names),
         }
     }
 
     /// Shows it in the rendering of the style.
-    fn version_line<R: Render, C: Choosing>(
+    fn version_line<R: Render, C: RowSelection>(
         &mut self,
         given: &VersionRecord,
         section: u16,

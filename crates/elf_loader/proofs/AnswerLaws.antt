@@ -2,7 +2,7 @@
 use Rattle.std.proofs.Common.{◌≡◌, ℕ, ◌<◌, ◌≤◌, nat_lt, Bool, true, false, List, Option, None, Some, Result, Ok, Err, refl, sym, ap, subst, ◌∙◌, arith}
 use Rattle.std.proofs.lemmas.Bool.Decides.{nat_tests}
 use Rattle.elf_model.specs.Bytes.{field}
-use Rattle.elf_model.specs.Loader.{Asked, Symbols as AreSymbolsOf, VersionWords as AreWordsOf, Wanted, answers, fits, is_exported, symbol_offset, version_fits, versym_at}
+use Rattle.elf_model.specs.Loader.{VersionQuery, DynamicSymbols as AreSymbolsOf, VersymTable as AreWordsOf, SymbolQuery, answers, fits, is_exported, symbol_offset, version_fits, versym_at}
 use Rattle.elf_model.specs.Names.{same}
 use Rattle.elf_model.specs.Records.{st_name}
 use Rattle.elf_model.specs.declared.causes.Cause.TheVariants.{VersionCut}
@@ -15,15 +15,15 @@ use Rattle.elf_table.specs.Cursors.{row_at}
 use Rattle.elf_table.specs.NamesRead.{Refuses as RefusesName}
 use Rattle.elf_table.specs.Tables.{strings_in}
 use Rattle.elf_hash.specs.Symbols.{AreVersymTable, IsDynamicSymbols}
-use Rattle.elf_hash.specs.declared.symbols.Symbols.{Symbols}
-use Rattle.elf_hash.specs.declared.symbols.VersionWords.{VersionWords}
+use Rattle.elf_hash.specs.declared.symbols.DynamicSymbols.{DynamicSymbols}
+use Rattle.elf_hash.specs.declared.symbols.VersymTable.{VersymTable}
 use Rattle.elf_hash.specs.Trials.{TriesSymbol}
 use Rattle.elf_hash.specs.declared.answer.SymbolMatch.{SymbolMatch}
 use Rattle.elf_loader.specs.Answering.{SaysOf, IsSymbolWithVersym, ReturnsAnswer, ReturnsFit}
 
 -- without words each version fits
 pub fits-none :
-    (file : List ℕ) (told : Option AreWordsOf) (asked : Asked) (is_wanted : ℕ → Bool) (y : ℕ) → AreVersymTable told None
+    (file : List ℕ) (told : Option AreWordsOf) (asked : VersionQuery) (is_wanted : ℕ → Bool) (y : ℕ) → AreVersymTable told None
     → version_fits file told asked is_wanted y ≡ Ok true
 unfolding version_fits
 fits-none file None asked is_wanted y are = refl
@@ -31,7 +31,7 @@ fits-none file (Some told) asked is_wanted y are = absurd are
 
 -- a symbol without a word
 pub fits-cut :
-    (file : List ℕ) (told : Option AreWordsOf) (words : VersionWords) (asked : Asked) (is_wanted : ℕ → Bool) (y : ℕ) → AreVersymTable told (Some words)
+    (file : List ℕ) (told : Option AreWordsOf) (words : VersymTable) (asked : VersionQuery) (is_wanted : ℕ → Bool) (y : ℕ) → AreVersymTable told (Some words)
     → words.words.count ≤ y → version_fits file told asked is_wanted y ≡ Err (record { at = words.head; cause = VersionCut })
 unfolding version_fits
 fits-cut file None words asked is_wanted y are past = absurd are
@@ -42,7 +42,7 @@ fits-cut file (Some told) words asked is_wanted y are past =
 
 -- and one with a word
 pub fits-word :
-    (file : List ℕ) (told : Option AreWordsOf) (words : VersionWords) (asked : Asked) (is_wanted : ℕ → Bool) (y word : ℕ) → AreVersymTable told (Some words)
+    (file : List ℕ) (told : Option AreWordsOf) (words : VersymTable) (asked : VersionQuery) (is_wanted : ℕ → Bool) (y word : ℕ) → AreVersymTable told (Some words)
     → words.words.entry ≡ 2 → y < words.words.count → word ≡ field file (row_at words.words y) 2
     → version_fits file told asked is_wanted y ≡ Ok (fits asked is_wanted word)
 unfolding version_fits
@@ -53,7 +53,7 @@ fits-word file (Some told) words asked is_wanted y word are entry low is =
     rw (within, is, place) refl
 
 -- of a symbol that is read
-module _ (file : List ℕ) (told : AreSymbolsOf) (symbols : Symbols) (wanted : Wanted) (is_wanted : ℕ → Bool) (index : ℕ) (symbol : Sym)
+module _ (file : List ℕ) (told : AreSymbolsOf) (symbols : DynamicSymbols) (wanted : SymbolQuery) (is_wanted : ℕ → Bool) (index : ℕ) (symbol : Sym)
     (is : IsDynamicSymbols file told symbols) (entry : symbols.table.entry ≡ 24) (low : index < symbols.table.count) (stands : IsSym file (row_at symbols.table index) symbol) where
   pub place-is : row_at symbols.table index ≡ symbol_offset told index
   place-is = rw (entry, is.place) (omega arith)
@@ -99,13 +99,13 @@ module _ (file : List ℕ) (told : AreSymbolsOf) (symbols : Symbols) (wanted : W
   offered-answers tells offered = let e = name-is ∙ tells in rw (e, offered, answers) refl
 
 -- what the version says, the symbol does
-pub fault-tells : (file : List ℕ) (symbols : Symbols) (words : Option VersionWords) (index : ℕ) (says version : Result Bool Refusal) (fault : Fault) → says ≡ version → ReturnsFit file words index version (Err fault) → ReturnsAnswer file symbols index says (Err fault)
+pub fault-tells : (file : List ℕ) (symbols : DynamicSymbols) (words : Option VersymTable) (index : ℕ) (says version : Result Bool Refusal) (fault : Fault) → says ≡ version → ReturnsFit file words index version (Err fault) → ReturnsAnswer file symbols index says (Err fault)
 fault-tells file symbols words index says version (Refused refusal) e tells = λ other. e ∙ tells other
 fault-tells file symbols words index says version (Source fault at) e tells = tt
 
 -- what is told of a symbol is what the trial tells
 pub tries-as :
-    (file : List ℕ) (symbols : Symbols) (wanted : Wanted) (is_wanted : ℕ → Bool) (says : ℕ → Result Bool Refusal) (index : ℕ) (result : Result (Option SymbolMatch) Fault)
+    (file : List ℕ) (symbols : DynamicSymbols) (wanted : SymbolQuery) (is_wanted : ℕ → Bool) (says : ℕ → Result Bool Refusal) (index : ℕ) (result : Result (Option SymbolMatch) Fault)
     → (is : SaysOf file symbols wanted is_wanted says) → ReturnsAnswer file symbols index (answers file is.told wanted is_wanted index) result
     → TriesSymbol (IsSymbolWithVersym file symbols) says index result
 tries-as file symbols wanted is_wanted says index (Ok (Some answer)) is tells = (ap (λ (s : ℕ → Result Bool Refusal). s index) is.says_so ∙ tells.0, tells.1)

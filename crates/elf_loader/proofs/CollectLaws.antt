@@ -1,6 +1,6 @@
 -- The numbers of a wanted version, of all records of versions.
 use Rattle.std.proofs.Common.{◌≡◌, ℕ, ◌+◌, ◌*◌, ◌≤◌, ◌||◌, Bool, true, false, List, [], Option, None, Some, Ok, Err, refl, sym, ◌∙◌, arith}
-use Rattle.elf_model.specs.Loader.{Asked, Compared, VersionWords as AreWordsOf, asked_name, compared_with, readings}
+use Rattle.elf_model.specs.Loader.{VersionQuery, CompareResult, VersymTable as AreWordsOf, asked_name, compared_with, readings}
 use Rattle.elf_model.specs.LoaderFind.{version_indices}
 use Rattle.elf_model.specs.LoaderScope.{LookupTables}
 use Rattle.elf_source.specs.Source.{CountedState}
@@ -9,12 +9,12 @@ use Rattle.elf_table.specs.declared.fault.Fault.{Fault}
 use Rattle.elf_table.specs.declared.fault.Fault.TheVariants.{Refused, Source}
 use Rattle.elf_table.proofs.LedgerLaws.{CallReads-more}
 use Rattle.elf_hash.specs.Symbols.{AreVersymTable}
-use Rattle.elf_hash.specs.declared.symbols.VersionWords.{VersionWords}
+use Rattle.elf_hash.specs.declared.symbols.VersymTable.{VersymTable}
 use Rattle.elf_loader.specs.Comparing.{CollectsNumbers, CompareCosts}
 use Rattle.elf_loader.specs.NumberSets.{has_number}
 
 -- without words, or without a wanted version, there are none
-pub no-words : (file : List ℕ) (scope : LookupTables) (asked : Asked) → AreVersymTable scope.symbols.words None → version_indices file scope asked ≡ record { numbers = []; refused = None; read = 0 }
+pub no-words : (file : List ℕ) (scope : LookupTables) (asked : VersionQuery) → AreVersymTable scope.symbols.words None → version_indices file scope asked ≡ record { numbers = []; refused = None; read = 0 }
 unfolding version_indices
 no-words file scope asked are = go (asked_name asked) refl scope.symbols.words refl are
   where
@@ -24,13 +24,13 @@ no-words file scope asked are = go (asked_name asked) refl scope.symbols.words r
     go (Some version) n None w are = rw (n, w, version_indices) refl
     go (Some version) n (Some words) w are = absurd are
 
-pub no-version : (file : List ℕ) (scope : LookupTables) (asked : Asked) → asked_name asked ≡ None → version_indices file scope asked ≡ record { numbers = []; refused = None; read = 0 }
+pub no-version : (file : List ℕ) (scope : LookupTables) (asked : VersionQuery) → asked_name asked ≡ None → version_indices file scope asked ≡ record { numbers = []; refused = None; read = 0 }
 unfolding version_indices
 no-version file scope asked n = rw (n, version_indices) refl
 
 -- else they are those that comparing gives
 pub all-compared :
-    (file : List ℕ) (scope : LookupTables) (asked : Asked) (version : List ℕ) (words : VersionWords) → asked_name asked ≡ Some version → AreVersymTable scope.symbols.words (Some words)
+    (file : List ℕ) (scope : LookupTables) (asked : VersionQuery) (version : List ℕ) (words : VersymTable) → asked_name asked ≡ Some version → AreVersymTable scope.symbols.words (Some words)
     → version_indices file scope asked ≡ compared_with file version (readings file scope.symbols.records)
 unfolding version_indices
 all-compared file scope asked version words n are = go scope.symbols.words refl are
@@ -42,14 +42,14 @@ all-compared file scope asked version words n are = go scope.symbols.words refl 
 
 -- nothing is read
 pub collects-none :
-    (c : CountedState) (each : ℕ) (compared : Compared) (numbers : List ℕ) → compared ≡ record { numbers = []; refused = None; read = 0 }
+    (c : CountedState) (each : ℕ) (compared : CompareResult) (numbers : List ℕ) → compared ≡ record { numbers = []; refused = None; read = 0 }
     → CallReads c c None 0 → ((number : ℕ) → has_number numbers number ≡ false) → CollectsNumbers c c each compared (Ok numbers)
 collects-none c each compared numbers is none empty =
     rw is (CallReads-more (0 * each) (omega arith) none, refl, λ number. empty number)
 
 -- all is compared
 pub collects-all :
-    (a b : CountedState) (each : ℕ) (file version old new : List ℕ) (compared all : Compared) → compared ≡ all → ((number : ℕ) → has_number old number ≡ false)
+    (a b : CountedState) (each : ℕ) (file version old new : List ℕ) (compared all : CompareResult) → compared ≡ all → ((number : ℕ) → has_number old number ≡ false)
     → CompareCosts a b each old new all (compared_with file version []) (Ok tt) → CollectsNumbers a b each compared (Ok new)
 unfolding compared_with
 collects-all a b each file version old new compared all is empty done =
@@ -67,7 +67,7 @@ collects-all a b each file version old new compared all is empty done =
     or-none false = refl
 
 pub collects-fault :
-    (a b : CountedState) (paid each : ℕ) (old new : List ℕ) (compared all left : Compared) (fault : Fault) → paid ≡ each → compared ≡ all
+    (a b : CountedState) (paid each : ℕ) (old new : List ℕ) (compared all left : CompareResult) (fault : Fault) → paid ≡ each → compared ≡ all
     → CompareCosts a b each old new all left (Err fault) → CollectsNumbers a b paid compared (Err fault)
 collects-fault a b paid each old new compared all left (Refused refusal) e is done = rw (e, is) done
 collects-fault a b paid each old new compared all left (Source fault at) e is done = rw (e, is) done

@@ -2,7 +2,7 @@
 use Rattle.std.proofs.Common.{◌≡◌, ℕ, suc, ◌+◌, ◌%◌, ◌^◌, ◌≤◌, ◌==◌, ◌||◌, nat_lt, length, Bool, true, false, List, ◌∷◌, Result, Ok, Err, Some, refl, sym, ap, ◌∙◌, arith}
 use Rattle.std.proofs.lemmas.Bool.Decides.{nat_tests}
 use Rattle.std.specs.List.{position_or_len}
-use Rattle.elf_model.specs.Loader.{Compared, VersionRecordRead, Meets, Refuses, Misses, compared_with, is_among, one_more, with_number}
+use Rattle.elf_model.specs.Loader.{CompareResult, VersionRecordRead, Meets, Refuses, Misses, compared_with, is_among, one_more, with_number}
 use Rattle.elf_model.specs.Names.{same}
 use Rattle.elf_model.specs.Versions.{VisitedRecord, name_index, named_at, names_version, number_in, number_word}
 use Rattle.elf_model.specs.declared.causes.Cause.{Cause}
@@ -53,12 +53,12 @@ unfolding compared_with
 missed-refuses file wanted refusal others = refl
 
 -- nothing is done yet
-pub as-none : (set : List ℕ) (all : Compared) → CompareProgress set set 0 all all
+pub as-none : (set : List ℕ) (all : CompareResult) → CompareProgress set set 0 all all
 as-none set all = record { numbers = λ number. refl; refused = refl; read = omega arith }
 
 -- what is done, and then more
 pub as-then :
-    (a b c : List ℕ) (n m k : ℕ) (all mid left : Compared) → n + m ≡ k → CompareProgress a b n all mid → CompareProgress b c m mid left
+    (a b c : List ℕ) (n m k : ℕ) (all mid left : CompareResult) → n + m ≡ k → CompareProgress a b n all mid → CompareProgress b c m mid left
     → CompareProgress a c k all left
 as-then a b c n m k all mid left sum p q = record {
   numbers = λ number. p.numbers number ∙ q.numbers number;
@@ -67,12 +67,12 @@ as-then a b c n m k all mid left sum p q = record {
 }
 
 -- a record without the wanted name
-pub as-other : (set : List ℕ) (number : ℕ) (all left : Compared) → all ≡ one_more (with_number false number left) → CompareProgress set set 1 all left
+pub as-other : (set : List ℕ) (number : ℕ) (all left : CompareResult) → all ≡ one_more (with_number false number left) → CompareProgress set set 1 all left
 as-other set number all left is = rw is (record { numbers = λ n. refl; refused = refl; read = omega arith })
 
 -- one with it
 pub as-wanted :
-    (old new : List ℕ) (number : ℕ) (all left : Compared) → all ≡ one_more (with_number true number left)
+    (old new : List ℕ) (number : ℕ) (all left : CompareResult) → all ≡ one_more (with_number true number left)
     → ((n : ℕ) → has_number new n ≡ (number == n || has_number old n)) → CompareProgress old new 1 all left
 as-wanted old new number all left is more =
     rw is (record { numbers = λ n. let m = more n in let a = among-more n number left.numbers in rw (m, a) (swap (has_number old n) (number == n) (is_among n left.numbers)); refused = refl; read = omega arith })

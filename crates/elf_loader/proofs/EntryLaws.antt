@@ -9,7 +9,7 @@ use Rattle.elf_table.specs.Faults.{IsOfRead}
 use Rattle.elf_table.specs.declared.fault.Fault.{Fault}
 use Rattle.elf_table.specs.declared.fault.Fault.TheVariants.{Refused, Source}
 use Rattle.elf_table.specs.Sections.{rows}
-use Rattle.elf_table.specs.Tables.{Rows, size_of}
+use Rattle.elf_table.specs.Tables.{TableRange, size_of}
 use Rattle.elf_table.specs.Views.{dynamic_table_at}
 use Rattle.elf_hash.proofs.FoundLaws.{dynamic_is}
 use Rattle.elf_hash.proofs.SettleLaws.{checked_fails}
@@ -24,7 +24,7 @@ module _ (file : List ℕ) (i : ℕ) (e : dynamic_segment_index file ≡ Some i)
   entries_refused (Source fault at) h = tt
 
   -- they pass, and what is asked for is what the table has
-  pub entries_within : (table : Rows) → Ok table ≡ dynamic_table_at file (segment_at file i) → size_of table ≤ trait_entries_asked file
+  pub entries_within : (table : TableRange) → Ok table ≡ dynamic_table_at file (segment_at file i) → size_of table ≤ trait_entries_asked file
   unfolding trait_entries_asked
   entries_within table h =
       let at = segment_at file i in

@@ -5,7 +5,7 @@ use Rattle.elf_table.specs.Faults.{IsOfRead, IsReadFault}
 use Rattle.elf_table.specs.Ledger.{CallDid, fault_of_result}
 use Rattle.elf_table.specs.declared.fault.Fault.{Fault}
 use Rattle.elf_table.specs.declared.fault.Fault.TheVariants.{Refused, Source}
-use Rattle.elf_table.specs.Tables.{Rows}
+use Rattle.elf_table.specs.Tables.{TableRange}
 use Rattle.elf_model.specs.LoaderScope.{dynamic_segment_index}
 use Rattle.elf_model.specs.Records.{p_offset, p_filesz, segment_at}
 use Rattle.elf_loader.specs.Entries.{AreListedValues, ReturnsTraitEntries}
@@ -15,7 +15,7 @@ use Rattle.elf_model.specs.LoaderScope.{GnuTable, SysvTable, HashStyle, LookupTa
 use Rattle.elf_model.specs.TraitCost.{hash_words_asked, symbols_asked}
 use Rattle.elf_model.specs.Traits.{SymbolTraitFlags, x86_feature_word, hashed_symbol_count, known_symbols, loaded_traits, marks_from, no_symbol_traits, find_symbol_traits, traits_with}
 use Rattle.elf_model.specs.declared.causes.Refusal.{Refusal}
-use Rattle.elf_model.specs.declared.traits.Traits.{Traits}
+use Rattle.elf_model.specs.declared.traits.Hardening.{Hardening}
 use Rattle.elf_hash.specs.Extents.{extent_bytes}
 use Rattle.elf_loader.specs.Features.{ReturnsValue}
 use Rattle.elf_loader.specs.TraitStages.{marks_asked, marks_told}
@@ -30,17 +30,17 @@ use Rattle.elf_loader.proofs.EntryLaws.{read_entries}
 use Rattle.elf_loader.proofs.ValueLaws.{values_are}
 
 -- what a pass over the entries of a table tells
-abbrev pub ReturnsListed : List ℕ → Rows → Result TraitTags Fault → Type 0
+abbrev pub ReturnsListed : List ℕ → TableRange → Result TraitTags Fault → Type 0
 ReturnsListed file table (Ok found) = AreListedValues file table found
 ReturnsListed file table (Err fault) = IsOfRead fault
 
-pub listed_did : {a b : CountedState} {n : ℕ} (table : Rows) (result : Result TraitTags Fault) → ReadsUpTo a b n → IfErr result (IsReadFault a b n) → IfErr result IsOfRead
+pub listed_did : {a b : CountedState} {n : ℕ} (table : TableRange) (result : Result TraitTags Fault) → ReadsUpTo a b n → IfErr result (IsReadFault a b n) → IfErr result IsOfRead
     → ((file : List ℕ) → a.seen.file ≡ Some file → IfOk result (AreListedValues file table))
     → CallDid a b (fault_of_result result) n (λ file. ReturnsListed file table result)
 listed_did table (Ok found) reads says fault are = record { costs = record { reads = reads; says = tt }; known = are }
 listed_did table (Err stop) reads says fault are = record { costs = record { reads = reads; says = says }; known = λ file held. fault }
 
-pub listed_finds : (file : List ℕ) (i : ℕ) → dynamic_segment_index file ≡ Some i → (table : Rows) → table.at ≡ p_offset file (segment_at file i)
+pub listed_finds : (file : List ℕ) (i : ℕ) → dynamic_segment_index file ≡ Some i → (table : TableRange) → table.at ≡ p_offset file (segment_at file i)
     → table.count ≡ p_filesz file (segment_at file i) / 16 → (result : Result TraitTags Fault) → ReturnsListed file table result → ReturnsTraitEntries file result
 listed_finds file i e table place count (Ok found) are = values_are file i e table place count found are
 listed_finds file i e table place count (Err fault) read = read_entries file fault read
@@ -55,13 +55,13 @@ module _ (file : List ℕ) where
   unfolding loaded_traits
   known_fails refusal e = rw (e, loaded_traits) refl
 
-  pub known_stops : (fault : Fault) → ReturnsKnown file (Err fault) → ReturnsValue {X = Traits} (loaded_traits file) (Err fault)
+  pub known_stops : (fault : Fault) → ReturnsKnown file (Err fault) → ReturnsValue {X = Hardening} (loaded_traits file) (Err fault)
   known_stops (Refused refusal) tells = λ other. known_fails refusal (tells other)
   known_stops (Source fault at) tells = tt
 
   module _ (scope : Option IsScopeOf) (known : known_symbols file ≡ Ok scope) where
     -- then the dynamic entries are not refused
-    pub entries_stop : (fault : Fault) → ReturnsTraitEntries file (Err fault) → ReturnsValue {X = Traits} (loaded_traits file) (Err fault)
+    pub entries_stop : (fault : Fault) → ReturnsTraitEntries file (Err fault) → ReturnsValue {X = Hardening} (loaded_traits file) (Err fault)
     entries_stop (Refused refusal) tells = λ other. let e = tells other in absurd (entries_pass file scope known e.index e.first refusal e.fails)
     entries_stop (Source fault at) tells = tt
 
@@ -69,7 +69,7 @@ module _ (file : List ℕ) where
     unfolding loaded_traits
     word_fails refusal e = rw (known, e, loaded_traits) refl
 
-    pub word_stops : (fault : Fault) → ReturnsValue {X = ℕ} (x86_feature_word file) (Err fault) → ReturnsValue {X = Traits} (loaded_traits file) (Err fault)
+    pub word_stops : (fault : Fault) → ReturnsValue {X = ℕ} (x86_feature_word file) (Err fault) → ReturnsValue {X = Hardening} (loaded_traits file) (Err fault)
     word_stops (Refused refusal) tells = λ other. word_fails refusal (tells other)
     word_stops (Source fault at) tells = tt
 
@@ -85,7 +85,7 @@ module _ (file : List ℕ) where
       unfolding loaded_traits
       marks_are marks e = rw (known, featured, e, loaded_traits) refl
 
-      pub marks_stop : (fault : Fault) → ReturnsMarks (marks_told file) (Err fault) → ReturnsValue {X = Traits} (loaded_traits file) (Err fault)
+      pub marks_stop : (fault : Fault) → ReturnsMarks (marks_told file) (Err fault) → ReturnsValue {X = Hardening} (loaded_traits file) (Err fault)
       marks_stop (Refused refusal) tells = λ other. marks_fail refusal (sym reported_is ∙ tells other)
       marks_stop (Source fault at) tells = tt
 

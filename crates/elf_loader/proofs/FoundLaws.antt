@@ -4,7 +4,7 @@ use Rattle.std.proofs.lemmas.Bool.Decides.{nat_tests}
 use Rattle.elf_model.specs.Bytes.{field}
 use Rattle.elf_model.specs.Chains.{ChainResult}
 use Rattle.elf_model.specs.Cost.{cost_where}
-use Rattle.elf_model.specs.Loader.{Asked, NumberNameSource, VersionWords, asked_name, naming_of, readings, versym_at}
+use Rattle.elf_model.specs.Loader.{VersionQuery, NumberNameSource, VersymTable, asked_name, naming_of, readings, versym_at}
 use Rattle.elf_model.specs.LoaderFind.{LoaderLookup, TOLD_BYTES, found_in, found_lookup, named_by_record}
 use Rattle.elf_model.specs.LoaderScope.{LookupTables}
 use Rattle.elf_model.specs.Names.{DisplayedName, shown}
@@ -19,7 +19,7 @@ use Rattle.elf_table.specs.declared.fault.Fault.{Fault}
 use Rattle.elf_table.specs.declared.fault.Fault.TheVariants.{Refused, Source}
 use Rattle.elf_table.proofs.LedgerLaws.{CallReads-more, CallReads-none}
 use Rattle.elf_hash.specs.Symbols.{AreVersymTable, IsVersymTable}
-use Rattle.elf_hash.specs.declared.symbols.VersionWords.{VersionWords as Words}
+use Rattle.elf_hash.specs.declared.symbols.VersymTable.{VersymTable as Words}
 use Rattle.elf_table.specs.Cursors.{row_at}
 use Rattle.elf_loader.specs.FoundVersions.{FindsVersion, IsVersionFound, LookupSpends, IsRelocationReported, name_shown}
 use Rattle.elf_loader.specs.Telling.{ReturnsVersionName, parsed_member_bytes}
@@ -30,7 +30,7 @@ use Rattle.elf_loader.specs.declared.found.VersionName.TheVariants.{Wanted, Unna
 
 -- where a version is wanted, it is told as it is wanted
 pub in-wanted :
-    (file : List ℕ) (scope : LookupTables) (asked : Asked) (records y : ℕ) (walked : ChainResult) (words : VersionWords) (version : List ℕ) → asked_name asked ≡ Some version
+    (file : List ℕ) (scope : LookupTables) (asked : VersionQuery) (records y : ℕ) (walked : ChainResult) (words : VersymTable) (version : List ℕ) → asked_name asked ≡ Some version
     → found_in file scope asked records y walked (Some words)
     ≡ found_lookup scope y walked records false (Some (record { index = words.index; word = versym file (versym_at words y); name = Whole version }))
 unfolding found_in
@@ -38,7 +38,7 @@ in-wanted file scope asked records y walked words version n = rw (n, found_in) r
 
 -- where its number is 0 or 1, it has no name
 pub in-unnamed :
-    (file : List ℕ) (scope : LookupTables) (asked : Asked) (records y : ℕ) (walked : ChainResult) (words : VersionWords) → asked_name asked ≡ None
+    (file : List ℕ) (scope : LookupTables) (asked : VersionQuery) (records y : ℕ) (walked : ChainResult) (words : VersymTable) → asked_name asked ≡ None
     → nat_lt (number_in (versym file (versym_at words y))) 2 ≡ true
     → found_in file scope asked records y walked (Some words)
     ≡ found_lookup scope y walked records false (Some (record { index = words.index; word = versym file (versym_at words y); name = Whole [] }))
@@ -47,7 +47,7 @@ in-unnamed file scope asked records y walked words n low = rw (n, low, found_in)
 
 -- else it is that of its number
 pub in-told :
-    (file : List ℕ) (scope : LookupTables) (asked : Asked) (records y : ℕ) (walked : ChainResult) (words : VersionWords) → asked_name asked ≡ None
+    (file : List ℕ) (scope : LookupTables) (asked : VersionQuery) (records y : ℕ) (walked : ChainResult) (words : VersymTable) → asked_name asked ≡ None
     → nat_lt (number_in (versym file (versym_at words y))) 2 ≡ false
     → found_in file scope asked records y walked (Some words)
     ≡ named_by_record file scope words y walked (naming_of file (number_in (versym file (versym_at words y))) (readings file scope.symbols.records))
@@ -55,7 +55,7 @@ unfolding found_in
 in-told file scope asked records y walked words n high = rw (n, high, found_in) refl
 
 -- what telling it reads, whatever it answers
-pub told-spends : (file : List ℕ) (scope : LookupTables) (words : VersionWords) (y : ℕ) (walked : ChainResult) (naming : NumberNameSource) → LookupSpends (named_by_record file scope words y walked naming) walked naming.read (is_some naming.found)
+pub told-spends : (file : List ℕ) (scope : LookupTables) (words : VersymTable) (y : ℕ) (walked : ChainResult) (naming : NumberNameSource) → LookupSpends (named_by_record file scope words y walked naming) walked naming.read (is_some naming.found)
 unfolding named_by_record
 told-spends file scope words y walked naming = go naming.found refl naming.refused refl
   where
@@ -70,7 +70,7 @@ told-spends file scope words y walked naming = go naming.found refl naming.refus
 
 -- the version of a symbol that is found is told without a read
 finds-here :
-    (file : List ℕ) (scope : LookupTables) (asked : Asked) (words : VersionWords) (y word : ℕ) (told : List ℕ) (c : CountedState) (code : Words) (named : VersionName)
+    (file : List ℕ) (scope : LookupTables) (asked : VersionQuery) (words : VersymTable) (y word : ℕ) (told : List ℕ) (c : CountedState) (code : Words) (named : VersionName)
     → IsVersymTable words code → word ≡ versym file (versym_at words y) → IsRelocationReported file told 0 named → CallReads c c None 0
     → ((before : ℕ) (walked : ChainResult) → found_in file scope asked before y walked (Some words)
     ≡ found_lookup scope y walked before false (Some (record { index = words.index; word = versym file (versym_at words y); name = name_shown (asked_name asked) told named })))
@@ -91,7 +91,7 @@ finds-here file scope asked words y word told c code named is here stands none i
 
 -- under the wanted name
 pub finds-wanted :
-    (file : List ℕ) (scope : LookupTables) (asked : Asked) (words : VersionWords) (y word : ℕ) (version told : List ℕ) (c : CountedState) (code : Words)
+    (file : List ℕ) (scope : LookupTables) (asked : VersionQuery) (words : VersymTable) (y word : ℕ) (version told : List ℕ) (c : CountedState) (code : Words)
     → asked_name asked ≡ Some version → IsVersymTable words code → word ≡ versym file (versym_at words y) → CallReads c c None 0
     → FindsVersion Some file scope asked (Some words) y c c told (Ok (record { index = code.index; word = word; name = Wanted; name_at = 0 }))
 finds-wanted file scope asked words y word version told c code n is here none =
@@ -99,7 +99,7 @@ finds-wanted file scope asked words y word version told c code n is here none =
 
 -- without a name
 pub finds-unnamed :
-    (file : List ℕ) (scope : LookupTables) (asked : Asked) (words : VersionWords) (y word : ℕ) (told : List ℕ) (c : CountedState) (code : Words)
+    (file : List ℕ) (scope : LookupTables) (asked : VersionQuery) (words : VersymTable) (y word : ℕ) (told : List ℕ) (c : CountedState) (code : Words)
     → asked_name asked ≡ None → IsVersymTable words code → word ≡ versym file (versym_at words y) → number_in word < 2 → CallReads c c None 0
     → FindsVersion Some file scope asked (Some words) y c c told (Ok (record { index = code.index; word = word; name = Unnamed; name_at = 0 }))
 finds-unnamed file scope asked words y word told c code n is here low none =
@@ -114,7 +114,7 @@ above : (number : ℕ) → 2 ≤ number → nat_lt number 2 ≡ false
 above number high = grind (arith, nat_tests)
 
 finds-told :
-    (file : List ℕ) (scope : LookupTables) (asked : Asked) (words : VersionWords) (y word : ℕ) (told : List ℕ) (a b : CountedState) (code : Words) (name : ResolvedVersionName)
+    (file : List ℕ) (scope : LookupTables) (asked : VersionQuery) (words : VersymTable) (y word : ℕ) (told : List ℕ) (a b : CountedState) (code : Words) (name : ResolvedVersionName)
     → asked_name asked ≡ None → IsVersymTable words code → word ≡ versym file (versym_at words y) → 2 ≤ number_in word
     → ReturnsVersionName file scope words y (naming_of file (number_in word) (readings file scope.symbols.records)) a b told (Ok name)
     → FindsVersion Some file scope asked (Some words) y a b told (Ok (record { index = code.index; word = word; name = Told name.end; name_at = name.at }))
@@ -140,7 +140,7 @@ finds-told file scope asked words y word told a b code name n is here high tells
 
 -- or it is not told
 finds-fault :
-    (file : List ℕ) (scope : LookupTables) (asked : Asked) (words : VersionWords) (y word : ℕ) (told : List ℕ) (a b : CountedState) (fault : Fault)
+    (file : List ℕ) (scope : LookupTables) (asked : VersionQuery) (words : VersymTable) (y word : ℕ) (told : List ℕ) (a b : CountedState) (fault : Fault)
     → asked_name asked ≡ None → word ≡ versym file (versym_at words y) → 2 ≤ number_in word
     → ReturnsVersionName file scope words y (naming_of file (number_in word) (readings file scope.symbols.records)) a b told (Err fault)
     → FindsVersion Some file scope asked (Some words) y a b told (Err fault)
@@ -176,7 +176,7 @@ finds-fault file scope asked words y word told a b fault n here high tells =
 
 -- the same of a number that is the one in the word
 pub finds-told-by :
-    (file : List ℕ) (scope : LookupTables) (asked : Asked) (words : VersionWords) (y word number : ℕ) (told : List ℕ) (a b : CountedState) (code : Words) (name : ResolvedVersionName)
+    (file : List ℕ) (scope : LookupTables) (asked : VersionQuery) (words : VersymTable) (y word number : ℕ) (told : List ℕ) (a b : CountedState) (code : Words) (name : ResolvedVersionName)
     → number ≡ number_in word → asked_name asked ≡ None → IsVersymTable words code → word ≡ versym file (versym_at words y) → 2 ≤ number
     → ReturnsVersionName file scope words y (naming_of file number (readings file scope.symbols.records)) a b told (Ok name)
     → FindsVersion Some file scope asked (Some words) y a b told (Ok (record { index = code.index; word = word; name = Told name.end; name_at = name.at }))
@@ -185,7 +185,7 @@ finds-told-by file scope asked words y word number told a b code name e n is her
     (subst (λ (m : ℕ). ReturnsVersionName file scope words y (naming_of file m (readings file scope.symbols.records)) a b told (Ok name)) e tells)
 
 pub finds-fault-by :
-    (file : List ℕ) (scope : LookupTables) (asked : Asked) (words : VersionWords) (y word number : ℕ) (told : List ℕ) (a b : CountedState) (fault : Fault)
+    (file : List ℕ) (scope : LookupTables) (asked : VersionQuery) (words : VersymTable) (y word number : ℕ) (told : List ℕ) (a b : CountedState) (fault : Fault)
     → number ≡ number_in word → asked_name asked ≡ None → word ≡ versym file (versym_at words y) → 2 ≤ number
     → ReturnsVersionName file scope words y (naming_of file number (readings file scope.symbols.records)) a b told (Err fault)
     → FindsVersion Some file scope asked (Some words) y a b told (Err fault)
@@ -194,19 +194,19 @@ finds-fault-by file scope asked words y word number told a b fault e n here high
     (subst (λ (m : ℕ). ReturnsVersionName file scope words y (naming_of file m (readings file scope.symbols.records)) a b told (Err fault)) e tells)
 
 -- where a word stands
-pub word-at : (told : VersionWords) (code : Words) (y : ℕ) → IsVersymTable told code → code.words.entry ≡ 2 → row_at code.words y ≡ versym_at told y
+pub word-at : (told : VersymTable) (code : Words) (y : ℕ) → IsVersymTable told code → code.words.entry ≡ 2 → row_at code.words y ≡ versym_at told y
 word-at told code y is entry = rw (entry, is.place) (omega arith)
 
-pub word-is : (file : List ℕ) (told : VersionWords) (code : Words) (y word : ℕ) → IsVersymTable told code → code.words.entry ≡ 2 → word ≡ field file (row_at code.words y) 2
+pub word-is : (file : List ℕ) (told : VersymTable) (code : Words) (y word : ℕ) → IsVersymTable told code → code.words.entry ≡ 2 → word ≡ field file (row_at code.words y) 2
     → word ≡ versym file (versym_at told y)
 word-is file told code y word is entry stands = stands ∙ ap (λ (at : ℕ). field file at 2) (word-at told code y is entry)
 
 -- the same where there may be no versions
-pub finds-none : (file : List ℕ) (scope : LookupTables) (asked : Asked) (y : ℕ) (told : List ℕ) (c : CountedState) → AreVersymTable scope.symbols.words None → FindsVersion (λ (version : Option FoundVersion). version) file scope asked scope.symbols.words y c c told (Ok None)
+pub finds-none : (file : List ℕ) (scope : LookupTables) (asked : VersionQuery) (y : ℕ) (told : List ℕ) (c : CountedState) → AreVersymTable scope.symbols.words None → FindsVersion (λ (version : Option FoundVersion). version) file scope asked scope.symbols.words y c c told (Ok None)
 unfolding found_in
 finds-none file scope asked y told c are = go scope.symbols.words refl are
   where
-    go : (words : Option VersionWords) → scope.symbols.words ≡ words → AreVersymTable words None → FindsVersion (λ (version : Option FoundVersion). version) file scope asked scope.symbols.words y c c told (Ok None)
+    go : (words : Option VersymTable) → scope.symbols.words ≡ words → AreVersymTable words None → FindsVersion (λ (version : Option FoundVersion). version) file scope asked scope.symbols.words y c c told (Ok None)
     go None e none = record {
       records = 0;
       is_named = false;
@@ -217,16 +217,16 @@ finds-none file scope asked y told c are = go scope.symbols.words refl are
     }
     go (Some words) e none = absurd none
 
-with-words : (file : List ℕ) (scope : LookupTables) (asked : Asked) (y : ℕ) {words : VersionWords} → scope.symbols.words ≡ Some words → (before : ℕ) (walked : ChainResult)
+with-words : (file : List ℕ) (scope : LookupTables) (asked : VersionQuery) (y : ℕ) {words : VersymTable} → scope.symbols.words ≡ Some words → (before : ℕ) (walked : ChainResult)
     → found_in file scope asked before y walked scope.symbols.words ≡ found_in file scope asked before y walked (Some words)
 with-words file scope asked y e before walked = ap (found_in file scope asked before y walked) e
 
-module _ {a b : CountedState} (file : List ℕ) (scope : LookupTables) (asked : Asked) (y : ℕ) (told : List ℕ) (code : Words) (are : AreVersymTable scope.symbols.words (Some code)) where
-  pub finds-some : (version : FoundVersion) → ((words : VersionWords) → IsVersymTable words code → FindsVersion Some file scope asked (Some words) y a b told (Ok version))
+module _ {a b : CountedState} (file : List ℕ) (scope : LookupTables) (asked : VersionQuery) (y : ℕ) (told : List ℕ) (code : Words) (are : AreVersymTable scope.symbols.words (Some code)) where
+  pub finds-some : (version : FoundVersion) → ((words : VersymTable) → IsVersymTable words code → FindsVersion Some file scope asked (Some words) y a b told (Ok version))
       → FindsVersion (λ (version : Option FoundVersion). version) file scope asked scope.symbols.words y a b told (Ok (Some version))
   finds-some version finds = go scope.symbols.words refl are
     where
-      go : (words : Option VersionWords) → scope.symbols.words ≡ words → AreVersymTable words (Some code) → FindsVersion (λ (version : Option FoundVersion). version) file scope asked scope.symbols.words y a b told (Ok (Some version))
+      go : (words : Option VersymTable) → scope.symbols.words ≡ words → AreVersymTable words (Some code) → FindsVersion (λ (version : Option FoundVersion). version) file scope asked scope.symbols.words y a b told (Ok (Some version))
       go None e is = absurd is
       go (Some words) e is =
           let f = finds words is in
@@ -239,7 +239,7 @@ module _ {a b : CountedState} (file : List ℕ) (scope : LookupTables) (asked : 
             stands = f.stands;
           }
 
-  pub finds-failed : (fault : Fault) → ((words : VersionWords) → IsVersymTable words code → FindsVersion Some file scope asked (Some words) y a b told (Err fault))
+  pub finds-failed : (fault : Fault) → ((words : VersymTable) → IsVersymTable words code → FindsVersion Some file scope asked (Some words) y a b told (Err fault))
       → FindsVersion (λ (version : Option FoundVersion). version) file scope asked scope.symbols.words y a b told (Err fault)
   finds-failed fault finds = go scope.symbols.words refl are
     where
@@ -247,7 +247,7 @@ module _ {a b : CountedState} (file : List ℕ) (scope : LookupTables) (asked : 
       fails (Refused refusal) walked looked there e found = λ other. ap (λ (l : LoaderLookup). l.lookup.answer) e ∙ found other
       fails (Source fault at) walked looked there e found = tt
 
-      go : (words : Option VersionWords) → scope.symbols.words ≡ words → AreVersymTable words (Some code) → FindsVersion (λ (version : Option FoundVersion). version) file scope asked scope.symbols.words y a b told (Err fault)
+      go : (words : Option VersymTable) → scope.symbols.words ≡ words → AreVersymTable words (Some code) → FindsVersion (λ (version : Option FoundVersion). version) file scope asked scope.symbols.words y a b told (Err fault)
       go None e is = absurd is
       go (Some words) e is =
           let f = finds words is in

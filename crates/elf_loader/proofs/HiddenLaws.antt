@@ -1,6 +1,6 @@
 -- What a lookup does while what the file header tells of section headers is hidden.
 use Rattle.std.proofs.Common.{◌≡◌, ℕ, Bool, true, false, List, Result, refl, subst}
-use Rattle.elf_model.specs.Loader.{Wanted}
+use Rattle.elf_model.specs.Loader.{SymbolQuery}
 use Rattle.elf_model.specs.Style.{looked_at, without_sections}
 use Rattle.elf_source.specs.Source.{CountedState, MasksSectionHeaders}
 use Rattle.elf_table.proofs.FaultLaws.{charges_hidden}
@@ -19,7 +19,7 @@ none_shown true file h = refl
 none_shown false file h = cc
 
 -- a lookup in the file as it is
-module _ {headers : ℕ} {wanted : Wanted} {told : List ℕ} {result : Result SymbolLookup Fault} (by_segments : Bool) where
+module _ {headers : ℕ} {wanted : SymbolQuery} {told : List ℕ} {result : Result SymbolLookup Fault} (by_segments : Bool) where
   pub looked_as_it_is : {n : ℕ} {a b : CountedState} → by_segments ≡ false
       → CallDid a b (fault_of_result result) n (λ file. LooksUp file headers wanted told a b result)
       → CallDid a b (fault_of_result result) n (λ file. LooksUp (looked_at by_segments file) headers wanted told a b result)

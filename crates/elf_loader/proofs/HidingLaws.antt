@@ -4,7 +4,7 @@ use Rattle.elf_model.specs.Records.{e_shnum}
 use Rattle.elf_model.specs.Style.{without_sections}
 use Rattle.elf_model.specs.TraitCost.{segment_traits_cost, traits_cost}
 use Rattle.elf_model.specs.Traits.{traits_by_segments, traits_of}
-use Rattle.elf_model.specs.declared.traits.Traits.{Traits}
+use Rattle.elf_model.specs.declared.traits.Hardening.{Hardening}
 use Rattle.elf_model.proofs.StyleLemmas.{view_tells_of_none}
 use Rattle.elf_source.specs.Source.{CountedState, MasksSectionHeaders}
 use Rattle.elf_table.proofs.FaultLaws.{charges_hidden}
@@ -21,7 +21,7 @@ traits_are : (file : List ℕ) (headers : ℕ) → traits_by_segments (without_s
 unfolding traits_of
 traits_are file headers = refl
 
-pub found_hidden : {a b c d : CountedState} {headers : ℕ} {result : Result Traits Fault} (most : ℕ → ℕ) → MasksSectionHeaders a b true → MasksSectionHeaders c d a.hides
+pub found_hidden : {a b c d : CountedState} {headers : ℕ} {result : Result Hardening Fault} (most : ℕ → ℕ) → MasksSectionHeaders a b true → MasksSectionHeaders c d a.hides
     → CallDid b c (fault_of_result result) (most b.seen.size) (λ file. e_shnum file ≡ 0 → FindsShown file headers b c result)
     → CallDid a d (fault_of_result result) (most a.seen.size) (λ file. FindsTraits file headers a d result)
 found_hidden {a} {b} {c} {d} {headers} {result} most hide show did = record {

@@ -23,7 +23,7 @@ use Rattle.elf_table.specs.Sections.{rows}
 use Rattle.elf_table.specs.Views.{byte_table_at}
 use Rattle.elf_table.specs.Windows.{WindowState, HoldsBytes, StillHolds, bytes_left, range_end}
 use Rattle.elf_table.proofs.RelocationLaws.{table-fails, table-passes}
-use Rattle.elf_table.specs.Tables.{Rows, TableInBounds}
+use Rattle.elf_table.specs.Tables.{TableRange, TableInBounds}
 use Rattle.elf_model.specs.Cost.{cost_where, table_cost}
 use Rattle.elf_model.specs.Numbers.{PT_NOTE}
 use Rattle.elf_model.specs.TableKinds.{segment_notes}
@@ -162,7 +162,7 @@ among_after a at left after next note walk isnt takes same ends = among_more a a
         ap (λ n. list_among a n walk) here
 
 -- THE FIRST LIST of a segment, where its range lies within the file
-module _ (file : List ℕ) (at : ℕ) (table : Rows) (place : table.at ≡ p_offset file at) (count : table.count ≡ p_filesz file at) where
+module _ (file : List ℕ) (at : ℕ) (table : TableRange) (place : table.at ≡ p_offset file at) (count : table.count ≡ p_filesz file at) where
   abbrev a : ℕ
   a = note_align (p_align file at)
 
@@ -236,7 +236,7 @@ gnu_cut note front shown =
     sym (and_false (note.kind == 5) (is_gnu_name note.name) none)
 
 -- A LOOP over the notes of a table. Before the first all are left
-pub notes_begin : (file : List ℕ) (align : ℕ) (table : Rows) (w : WindowState) → w ≡ record { at = table.at; held = []; unread = table.count; page = 4096 }
+pub notes_begin : (file : List ℕ) (align : ℕ) (table : TableRange) (w : WindowState) → w ≡ record { at = table.at; held = []; unread = table.count; page = 4096 }
     → first_list file align table ≡ list_among (note_align align) w.at (notes_left (note_align align) file w)
 notes_begin file align table w is =
     let all : table.count ≡ 0 + table.count = omega arith in
@@ -266,7 +266,7 @@ step_note file a cap old new name answer is same steps =
     }
 
 -- it failed: a read, or where no note stands
-pub list_stops : (file : List ℕ) (a align : ℕ) (table : Rows) (w : WindowState) (fault : Fault) → first_list file align table ≡ list_among a w.at (notes_left a file w)
+pub list_stops : (file : List ℕ) (a align : ℕ) (table : TableRange) (w : WindowState) (fault : Fault) → first_list file align table ≡ list_among a w.at (notes_left a file w)
     → StopsNote w.at fault → (fault ≡ note_cut w.at → notes_left a file w ≡ cut_at w.at) → ReturnsList file (first_list file align table) (Err fault)
 list_stops file a align table w (Refused refusal) left (inl read) cut = λ other. absurd (other read)
 list_stops file a align table w (Unread fault at) left (inl read) cut = tt
@@ -318,7 +318,7 @@ module _ (file : List ℕ) (a : ℕ) (old new : NoteCursorState) (name : List �
           ap start none ∙ nothing-ends a new.ahead.at
 
 -- no list stands there, or one does
-pub list_none : (file : List ℕ) (a align : ℕ) (table : Rows) (w : WindowState) → first_list file align table ≡ list_among a w.at (notes_left a file w)
+pub list_none : (file : List ℕ) (a align : ℕ) (table : TableRange) (w : WindowState) → first_list file align table ≡ list_among a w.at (notes_left a file w)
     → notes_left a file w ≡ no_notes → first_list file align table ≡ Ok None
 list_none file a align table w left none = left ∙ (ap (list_among a w.at) none ∙ among_none a w.at)
 
@@ -330,7 +330,7 @@ module _ (file : List ℕ) (at : ℕ) where
       (range_checks_of (length file) (p_offset file at) (p_filesz file at) at) fault (sym h) in
       rw p.0 p.1
 
-  pub range_passes : (table : Rows) → Ok table ≡ byte_table_at file at → (first_refusal (note_checks file at) ≡ None) × (rows (p_offset file at) (p_filesz file at) 1 ≡ table)
+  pub range_passes : (table : TableRange) → Ok table ≡ byte_table_at file at → (first_refusal (note_checks file at) ≡ None) × (rows (p_offset file at) (p_filesz file at) 1 ≡ table)
   range_passes table h =
       let p = table-passes (p_filesz file at == 0) (rows (p_offset file at) 0 1) (rows (p_offset file at) (p_filesz file at) 1) table
       (range_checks_of (length file) (p_offset file at) (p_filesz file at) at) (sym h) in (
@@ -346,7 +346,7 @@ both : (a b : Bool) (n : ℕ) → a ≡ true → b ≡ true → cost_where (a &&
 both a b n p q = rw (p, q) refl
 
 -- the rows of one byte of a table
-pub count_fitting : (table : Rows) (size : ℕ) → table.entry ≡ 1 → TableInBounds size table → table.count ≤ size
+pub count_fitting : (table : TableRange) (size : ℕ) → table.entry ≡ 1 → TableInBounds size table → table.count ≤ size
 count_fitting table size one within = go table.count refl
   where
     go : (n : ℕ) → table.count ≡ n → table.count ≤ size
@@ -365,21 +365,21 @@ module _ (file : List ℕ) (i : ℕ) (is : (p_type file (segment_at file i) == P
   segment_fails (Refused refusal) h = λ other. list_notes ∙ listed_fails file (segment_at file i) (record { at = p_offset file (segment_at file i); count = p_filesz file (segment_at file i); entry = 1 }) refl refl refusal (range_fails file (segment_at file i) (Refused refusal) h)
   segment_fails (Unread fault at) h = tt
 
-  module _ (table : Rows) (h : Ok table ≡ byte_table_at file (segment_at file i)) where
+  module _ (table : TableRange) (h : Ok table ≡ byte_table_at file (segment_at file i)) where
     its : (first_refusal (note_checks file (segment_at file i)) ≡ None) × (rows (p_offset file (segment_at file i)) (p_filesz file (segment_at file i)) 1 ≡ table)
     its = range_passes file (segment_at file i) table h
 
     pub segment_told : (result : Result (Option PropertyRange) Fault) → ReturnsList file (first_list file (p_align file (segment_at file i)) table) result → ReturnsList file (list_at file i) result
     segment_told result tells =
         let at = segment_at file i in
-        let same = list_notes ∙ listed_first file at table (sym (ap (λ (t : Rows). t.at) its.1)) (sym (ap (λ (t : Rows). t.count) its.1)) its.0 in
+        let same = list_notes ∙ listed_first file at table (sym (ap (λ (t : TableRange). t.at) its.1)) (sym (ap (λ (t : TableRange). t.count) its.1)) its.0 in
         subst (λ told. ReturnsList file told result) (sym same) tells
 
     pub segment_asked : table.count ≤ notes_asked file i
     unfolding table_cost segment_notes
     segment_asked =
         let at = segment_at file i in
-        let count = ap (λ (t : Rows). t.count) its.1 in
+        let count = ap (λ (t : TableRange). t.count) its.1 in
         elim (cases_Bool (p_filesz file at == 0)) [
           | inl empty ↦ let none = eqb-true (p_filesz file at) 0 empty in omega (arith, count, none)
           | inr some ↦

@@ -4,7 +4,7 @@ use Rattle.std.proofs.Common.{◌≡◌, ℕ, ◌+◌, ◌*◌, ◌≤◌, Bool,
 use Rattle.elf_model.specs.Chains.{ChainResult as NoteScan}
 use Rattle.elf_model.specs.Checks.{before_headers, early_checks, first_refusal, header_checks, load_checks, section_name_checks}
 use Rattle.elf_model.specs.Cost.{cost_where}
-use Rattle.elf_model.specs.Loader.{Compared, Wanted, answers, asked_name, is_among, symbol_offset}
+use Rattle.elf_model.specs.Loader.{CompareResult, SymbolQuery, answers, asked_name, is_among, symbol_offset}
 use Rattle.elf_model.specs.LoaderFind.{LoaderLookup, counts_check, found_in, loaded_in, loader_cost, loader_looked, looked_by, lookup_asks, record_cost, refused_lookup, segments_asked, walk_in, version_indices}
 use Rattle.elf_model.specs.LoaderScope.{LookupTables as IsScopeOf, lookup_tables_of}
 use Rattle.elf_model.specs.Records.{e_shnum}
@@ -42,7 +42,7 @@ use Rattle.elf_loader.proofs.ReadLaws.{asks_all, asks_least, asks_records, by_ab
 
 -- one call behind another
 pub looks_then :
-    {file : List ℕ} {wanted : Wanted} {looked : LoaderLookup} {told : List ℕ} {a b c : CountedState} {result : Result SymbolLookup Fault} (n few before few_behind before_behind : ℕ)
+    {file : List ℕ} {wanted : SymbolQuery} {looked : LoaderLookup} {told : List ℕ} {a b c : CountedState} {result : Result SymbolLookup Fault} (n few before few_behind before_behind : ℕ)
     → before + n + few_behind ≤ before_behind + few → CallReads a b None n → LooksAfter file wanted few_behind before_behind looked told b c result
     → LooksAfter file wanted few before looked told a c result
 looks_then n few before few_behind before_behind less first looks = record {
@@ -53,7 +53,7 @@ looks_then n few before few_behind before_behind less first looks = record {
 }
 
 -- the stages, by the definitions
-module _ (file : List ℕ) (scope : IsScopeOf) (wanted : Wanted) where
+module _ (file : List ℕ) (scope : IsScopeOf) (wanted : SymbolQuery) where
   misshapen : (refusal : Refusal) → first_refusal (counts_check file scope ∷ []) ≡ Some refusal → loaded_in file scope wanted ≡ refused_lookup 0 0 0 false refusal
   unfolding loaded_in
   misshapen refusal e = rw (e, loaded_in) refl
@@ -62,15 +62,15 @@ module _ (file : List ℕ) (scope : IsScopeOf) (wanted : Wanted) where
   unfolding loaded_in
   shaped e = rw (e, loaded_in) refl
 
-  with_refused : (compared : Compared) (refusal : Refusal) → compared.refused ≡ Some refusal → looked_with file scope wanted compared ≡ refused_lookup 0 0 compared.read false refusal
+  with_refused : (compared : CompareResult) (refusal : Refusal) → compared.refused ≡ Some refusal → looked_with file scope wanted compared ≡ refused_lookup 0 0 compared.read false refusal
   with_refused compared refusal e = rw (e, looked_with) refl
 
-  pub with_told : (compared : Compared) → compared.refused ≡ None
+  pub with_told : (compared : CompareResult) → compared.refused ≡ None
       → looked_with file scope wanted compared ≡ looked_by file scope wanted.asked compared.read (walk_in file scope wanted (λ number. is_among number compared.numbers))
   with_told compared e = rw (e, looked_with) refl
 
 -- WHAT IS ANSWERED by a walk, before which so many records were read
-module _ (file : List ℕ) (told : IsScopeOf) (wanted : Wanted) (before : ℕ) (walk : NoteScan) (first : asked_name wanted.asked ≡ None → before ≡ 0) where
+module _ (file : List ℕ) (told : IsScopeOf) (wanted : SymbolQuery) (before : ℕ) (walk : NoteScan) (first : asked_name wanted.asked ≡ None → before ≡ 0) where
   abbrev looked : LoaderLookup
   looked = looked_by file told wanted.asked before walk
 
@@ -156,12 +156,12 @@ module _ (file : List ℕ) (told : IsScopeOf) (wanted : Wanted) (before : ℕ) (
       looks_then (walk_bytes 12 walk.read walk.tried (match_bytes wanted)) 12 (before * record_cost wanted.asked) 0 asked_before (omega arith) walks.costs looks
 
 -- THE NUMBERS of the version that is asked for
-module _ (file : List ℕ) (told : IsScopeOf) (wanted : Wanted) where
-  abbrev compared : Compared
+module _ (file : List ℕ) (told : IsScopeOf) (wanted : SymbolQuery) where
+  abbrev compared : CompareResult
   compared = version_indices file told wanted.asked
 
   pub none_read : asked_name wanted.asked ≡ None → compared.read ≡ 0
-  none_read n = ap (λ (c : Compared). c.read) (no-version file told wanted.asked n)
+  none_read n = ap (λ (c : CompareResult). c.read) (no-version file told wanted.asked n)
 
   with_reads : (refused : Option Refusal) → compared.refused ≡ refused → compared.read ≤ (looked_with file told wanted compared).records
   with_reads (Some refusal) e = rw (with_refused file told wanted compared refusal e) (omega arith)
@@ -199,7 +199,7 @@ counts_few Sysv = omega arith
 pub place_in : (file : List ℕ) (told : IsScopeOf) (scope : LookupTables) → IsLookupTables file told scope → IsPlaceIn told scope.hash
 place_in file told scope is = record { kind = is.kind; head = is.head; table = record { start = is.place; size = is.size; symbols = is.count } }
 
-module _ (file : List ℕ) (told : IsScopeOf) (wanted : Wanted) (kind : HashStyle) where
+module _ (file : List ℕ) (told : IsScopeOf) (wanted : SymbolQuery) (kind : HashStyle) where
   pub looks_uncounted : {a b : CountedState} (name : List ℕ) (fault : Fault) → CallReads a b (Some fault) (counts_bytes kind) → HasCounts file told (Err fault)
       → LooksAfter file wanted 28 0 (loaded_in file told wanted) name a b (Err fault)
   looks_uncounted name fault costs counts =
@@ -219,7 +219,7 @@ module _ (file : List ℕ) (told : IsScopeOf) (wanted : Wanted) (kind : HashStyl
       rw is (looks_then (counts_bytes kind) 28 0 12 0 (omega (arith, few)) costs looks)
 
 -- WHAT THE LOOKUP IS MADE IN
-module _ (file : List ℕ) (headers : ℕ) (wanted : Wanted) where
+module _ (file : List ℕ) (headers : ℕ) (wanted : SymbolQuery) where
   scope_within : scope_cost file headers ≤ loader_cost file headers wanted
   unfolding loader_cost
   scope_within = go (first_refusal (before_headers file headers)) refl
@@ -279,6 +279,6 @@ module _ (file : List ℕ) (headers : ℕ) (wanted : Wanted) where
 
 -- the walk for the symbol that answers, as it is made
 pub walks_as :
-    {a b : CountedState} {stands : ℕ → SymbolMatch → Type 0} (file : List ℕ) (told : IsScopeOf) (wanted : Wanted) (is_wanted : ℕ → Bool) (cost : ℕ) (result : Result ChainResult Fault)
+    {a b : CountedState} {stands : ℕ → SymbolMatch → Type 0} (file : List ℕ) (told : IsScopeOf) (wanted : SymbolQuery) (is_wanted : ℕ → Bool) (cost : ℕ) (result : Result ChainResult Fault)
     → WalksChain stands 12 cost (walked_in file told wanted.name (answers file told.symbols wanted is_wanted)) a b result → WalksChain stands 12 cost (walk_in file told wanted is_wanted) a b result
 walks_as file told wanted is_wanted cost result walks = rw (walk_in_is file told wanted is_wanted) walks

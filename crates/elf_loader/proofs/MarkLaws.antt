@@ -1,6 +1,6 @@
 -- What symbols tell, one after another.
 use Rattle.std.proofs.Common.{◌≡◌, ℕ, zero, suc, ◌+◌, ◌==◌, Bool, List, Result, Ok, Err, refl, sym, ap, subst, ◌∙◌, arith}
-use Rattle.elf_model.specs.Loader.{Symbols, symbol_offset}
+use Rattle.elf_model.specs.Loader.{DynamicSymbols, symbol_offset}
 use Rattle.elf_model.specs.Names.{DisplayedName, shown}
 use Rattle.elf_model.specs.Names.DisplayedName.{Whole, Cut}
 use Rattle.elf_model.specs.Records.{st_name, st_shndx}
@@ -27,7 +27,7 @@ module _ (file strings : List ℕ) where
   unfolding marks_in
   in_fails at n marks refusal e = rw (e, marks_in) refl
 
-module _ (file : List ℕ) (symbols : Symbols) where
+module _ (file : List ℕ) (symbols : DynamicSymbols) where
   from_none : (marks : SymbolTraitFlags) (index : ℕ) → marks_from file symbols marks index 0 ≡ Ok marks
   unfolding marks_from
   from_none marks index = refl
@@ -117,7 +117,7 @@ at_is_read (Refused refusal) at is = rw is refl
 at_is_read (Source fault offset) at is = tt
 
 -- the symbols but for the first, as rows of a table
-pub rows_from : (file : List ℕ) (symbols : Symbols) (at n : ℕ) (strings : List ℕ) (marks none : SymbolTraitFlags) → at ≡ symbols.place + 24 → strings ≡ symbols.strings → marks ≡ none
+pub rows_from : (file : List ℕ) (symbols : DynamicSymbols) (at n : ℕ) (strings : List ℕ) (marks none : SymbolTraitFlags) → at ≡ symbols.place + 24 → strings ≡ symbols.strings → marks ≡ none
     → marks_in file at strings marks n ≡ marks_from file symbols none 1 n
 rows_from file symbols at n strings marks none place same is =
     let here : at ≡ symbol_offset symbols 1 = omega (arith, place) in
@@ -125,5 +125,5 @@ rows_from file symbols at n strings marks none place same is =
     ∙ (ap (λ (s : List ℕ). marks_in file (symbol_offset symbols 1) s marks n) same
     ∙ (ap (λ (m : SymbolTraitFlags). marks_in file (symbol_offset symbols 1) symbols.strings m n) is ∙ rows_are file symbols n 1 none))
 
-pub no_rows : (file : List ℕ) (symbols : Symbols) (n : ℕ) (marks : SymbolTraitFlags) → n ≡ 0 → marks_from file symbols marks 1 n ≡ Ok marks
+pub no_rows : (file : List ℕ) (symbols : DynamicSymbols) (n : ℕ) (marks : SymbolTraitFlags) → n ≡ 0 → marks_from file symbols marks 1 n ≡ Ok marks
 no_rows file symbols n marks none = ap (marks_from file symbols marks 1) none ∙ from_none file symbols marks 1

@@ -4,7 +4,7 @@ use Rattle.std.proofs.lemmas.Bool.{cases_Bool}
 use Rattle.elf_model.specs.Chains.{ChainResult}
 use Rattle.elf_model.specs.Cost.{cost_where}
 use Rattle.elf_model.specs.Hash.{Absent}
-use Rattle.elf_model.specs.Loader.{Asked, VersionWords, Wanted, asked_name, naming_of, readings, versym_at}
+use Rattle.elf_model.specs.Loader.{VersionQuery, VersymTable, SymbolQuery, asked_name, naming_of, readings, versym_at}
 use Rattle.elf_model.specs.LoaderFind.{LoaderLookup, found_in, loader_ceiling, looked_by, lookup_asks, record_cost, refused_lookup}
 use Rattle.elf_model.specs.LoaderScope.{LookupTables}
 use Rattle.elf_model.specs.Names.{pad64}
@@ -16,7 +16,7 @@ use Rattle.elf_model.specs.declared.versions.VersionKind.TheVariants.{Definition
 use Rattle.elf_hash.specs.Walks.{walk_bytes}
 use Rattle.elf_hash.specs.Symbols.{VersionRecordsInBounds, DynamicSymbolsInBounds}
 use Rattle.elf_hash.specs.declared.symbols.VersionRecordTable.{VersionRecordTable}
-use Rattle.elf_hash.specs.declared.symbols.Symbols.{Symbols}
+use Rattle.elf_hash.specs.declared.symbols.DynamicSymbols.{DynamicSymbols}
 use Rattle.elf_loader.specs.Comparing.{comparing_bytes}
 use Rattle.elf_loader.specs.FoundVersions.{LookupSpends}
 use Rattle.elf_loader.specs.Lookups.{lookup_bytes, match_bytes}
@@ -39,11 +39,11 @@ most_in None size within = omega arith
 most_in (Some records) size within =
     most_one records.kind records.table.count size records.first (count_low records.table.at records.table.count records.table.entry size records.bytes within.table)
 
-pub most_all : (symbols : Symbols) (size : ℕ) → DynamicSymbolsInBounds size symbols → max_versions_of symbols ≤ size / 8
+pub most_all : (symbols : DynamicSymbols) (size : ℕ) → DynamicSymbolsInBounds size symbols → max_versions_of symbols ≤ size / 8
 most_all symbols size lies = omega (arith, most_in symbols.definitions size lies.definitions, most_in symbols.needs size lies.needs)
 
 -- they are read to be compared or to tell a version
-pub one_of_both : (asked : Asked) (most : ℕ) → comparing_bytes asked most + telling_bytes asked most ≤ most * record_cost asked + parsed_member_bytes
+pub one_of_both : (asked : VersionQuery) (most : ℕ) → comparing_bytes asked most + telling_bytes asked most ≤ most * record_cost asked + parsed_member_bytes
 one_of_both asked most = go (asked_name asked) refl
   where
     go : (name : Option (List ℕ)) → asked_name asked ≡ name → comparing_bytes asked most + telling_bytes asked most ≤ most * record_cost asked + parsed_member_bytes
@@ -52,7 +52,7 @@ one_of_both asked most = go (asked_name asked) refl
 
 -- all that is asked for behind the counts
 pub after_within :
-    (wanted : Wanted) (symbols : Symbols) (place table size : ℕ) → DynamicSymbolsInBounds size symbols → place + table ≤ size
+    (wanted : SymbolQuery) (symbols : DynamicSymbols) (place table size : ℕ) → DynamicSymbolsInBounds size symbols → place + table ≤ size
     → comparing_bytes wanted.asked (max_versions_of symbols) + (walk_bytes 12 (table / 4) (table / 4) (match_bytes wanted) + telling_bytes wanted.asked (max_versions_of symbols))
     ≤ lookup_bytes 12 size wanted
 after_within wanted symbols place table size lies within =
@@ -63,12 +63,12 @@ after_within wanted symbols place table size lies within =
     omega (arith, both, steps, records)
 
 -- and with the headers
-pub ceiling_is : (size headers : ℕ) (wanted : Wanted) → loader_ceiling size headers wanted ≡ 64 + 64 * headers + size + lookup_bytes 28 size wanted
+pub ceiling_is : (size headers : ℕ) (wanted : SymbolQuery) → loader_ceiling size headers wanted ≡ 64 + 64 * headers + size + lookup_bytes 28 size wanted
 unfolding loader_ceiling
 ceiling_is size headers wanted = omega arith
 
 -- what a lookup gives by its walk
-module _ (file : List ℕ) (scope : LookupTables) (asked : Asked) (before : ℕ) (walked : ChainResult) where
+module _ (file : List ℕ) (scope : LookupTables) (asked : VersionQuery) (before : ℕ) (walked : ChainResult) where
   pub by_absent : walked.answer ≡ Ok None → (looked_by file scope asked before walked).lookup ≡ record { answer = Absent; compared = walked.tried }
   unfolding looked_by
   by_absent e = rw (e, looked_by) refl
@@ -95,8 +95,8 @@ spends_reads : (looked : LoaderLookup) (walked : ChainResult) (before records : 
 spends_reads looked walked before records is_named spends low =
     record { tried = spends.tried; chain_words = spends.chain_words; records = omega (arith, low, spends.records) }
 
-module _ (file : List ℕ) (scope : LookupTables) (asked : Asked) (before : ℕ) (walked : ChainResult) (first : asked_name asked ≡ None → before ≡ 0) where
-  found_reads : (y : ℕ) (words : Option VersionWords) → ReadsWalk (found_in file scope asked before y walked words) walked before
+module _ (file : List ℕ) (scope : LookupTables) (asked : VersionQuery) (before : ℕ) (walked : ChainResult) (first : asked_name asked ≡ None → before ≡ 0) where
+  found_reads : (y : ℕ) (words : Option VersymTable) → ReadsWalk (found_in file scope asked before y walked words) walked before
   unfolding found_in
   found_reads y None = record { tried = refl; chain_words = refl; records = omega arith }
   found_reads y (Some words) = go (asked_name asked) refl
@@ -123,12 +123,12 @@ module _ (file : List ℕ) (scope : LookupTables) (asked : Asked) (before : ℕ)
       go (Ok (Some y)) a = let is = by_found file scope asked before walked y a in rw is (found_reads y scope.symbols.words)
 
 -- how many bytes that is
-asks_are : (wanted : Wanted) (looked : LoaderLookup)
+asks_are : (wanted : SymbolQuery) (looked : LoaderLookup)
     → lookup_asks wanted looked ≡ 4 * looked.chain_words + looked.lookup.compared * match_bytes wanted + looked.records * record_cost wanted.asked + cost_where looked.is_named parsed_member_bytes
 unfolding lookup_asks
 asks_are wanted looked = refl
 
-pub asks_least : (wanted : Wanted) (looked : LoaderLookup) (walked : ChainResult) (before : ℕ) → ReadsWalk looked walked before
+pub asks_least : (wanted : SymbolQuery) (looked : LoaderLookup) (walked : ChainResult) (before : ℕ) → ReadsWalk looked walked before
     → walk_bytes (before * record_cost wanted.asked) walked.read walked.tried (match_bytes wanted) ≤ lookup_asks wanted looked
 asks_least wanted looked walked before reads =
     let records = mul-le-mul_right (record_cost wanted.asked) reads.records in
@@ -137,7 +137,7 @@ asks_least wanted looked walked before reads =
     let are = asks_are wanted looked in
     omega (arith, records, words, tried, are)
 
-pub asks_records : (wanted : Wanted) (looked : LoaderLookup) (read : ℕ) → read ≤ looked.records → read * record_cost wanted.asked ≤ lookup_asks wanted looked
+pub asks_records : (wanted : SymbolQuery) (looked : LoaderLookup) (read : ℕ) → read ≤ looked.records → read * record_cost wanted.asked ≤ lookup_asks wanted looked
 asks_records wanted looked read low =
     let records = mul-le-mul_right (record_cost wanted.asked) low in
     let are = asks_are wanted looked in
@@ -149,7 +149,7 @@ least_each n more = omega arith
 both_each : (before records each : ℕ) → (before + records) * each ≡ before * each + records * each
 both_each before records each = omega arith
 
-pub asks_all : (wanted : Wanted) (looked : LoaderLookup) (walked : ChainResult) (before records : ℕ) (is_named : Bool) → LookupSpends looked walked (before + records) is_named
+pub asks_all : (wanted : SymbolQuery) (looked : LoaderLookup) (walked : ChainResult) (before records : ℕ) (is_named : Bool) → LookupSpends looked walked (before + records) is_named
     → walk_bytes (before * record_cost wanted.asked) walked.read walked.tried (match_bytes wanted) + (records * 28 + cost_where is_named parsed_member_bytes) ≤ lookup_asks wanted looked
 asks_all wanted looked walked before records is_named spends =
     let each = least_each records (elim (asked_name wanted.asked) [ None ↦ 0 | Some version ↦ pad64 (length version + 1) ]) in

@@ -6,7 +6,7 @@ use Rattle.elf_model.specs.Records.{e_phnum, e_shnum}
 use Rattle.elf_model.specs.TraitCost.{properties_asked, segment_traits_cost, symbols_asked, trait_entries_asked, traits_ceiling}
 use Rattle.elf_model.specs.Traits.{loaded_traits, traits_by_segments}
 use Rattle.elf_model.specs.declared.causes.Refusal.{Refusal}
-use Rattle.elf_model.specs.declared.traits.Traits.{Traits}
+use Rattle.elf_model.specs.declared.traits.Hardening.{Hardening}
 use Rattle.elf_table.specs.Store.{StoreState}
 use Rattle.elf_table.specs.declared.fault.Fault.{Fault}
 use Rattle.elf_table.specs.declared.fault.Fault.TheVariants.{Refused, Source}
@@ -30,7 +30,7 @@ module _ (file : List ℕ) (headers : ℕ) where
   unfolding traits_by_segments
   shown_is e = rw (e, traits_by_segments) refl
 
-  pub load_stops : (fault : Fault) (store : StoreState) → LoadsSegments file headers store (Err fault) → ReturnsValue {X = Traits} (traits_by_segments file headers) (Err fault)
+  pub load_stops : (fault : Fault) (store : StoreState) → LoadsSegments file headers store (Err fault) → ReturnsValue {X = Hardening} (traits_by_segments file headers) (Err fault)
   load_stops (Refused refusal) store loads = λ other. refused refusal (loads other)
   load_stops (Source fault at) store loads = tt
 

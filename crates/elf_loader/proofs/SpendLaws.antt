@@ -8,7 +8,7 @@ use Rattle.elf_table.proofs.LedgerLaws.{CallReads-then}
 use Rattle.elf_model.specs.Traits.{SymbolTraitFlags}
 use Rattle.elf_note.specs.Ahead.{ReadAheadState, IsAheadOf}
 use Rattle.elf_table.specs.Cursors.{GivesRow, CursorState, next_row, row_at, unread_bytes}
-use Rattle.elf_table.specs.Tables.{Rows, TableInBounds, size_of}
+use Rattle.elf_table.specs.Tables.{TableRange, TableInBounds, size_of}
 use Rattle.elf_loader.specs.Marks.{marks_in}
 
 -- a call behind reads that leave so much of what all may ask for
@@ -19,7 +19,7 @@ charges_after {a} {b} k reads within costs =
     costs
 
 -- the account of a loop over rows: what was asked for, the credit, what is unread, and what the rows that are left ask for
-pub account_start : (c : CursorState) (rows : Rows) → rows.entry ≡ 24 → c.failed ≡ None → c.unread ≡ size_of rows → c.left ≡ rows.count
+pub account_start : (c : CursorState) (rows : TableRange) → rows.entry ≡ 24 → c.failed ≡ None → c.unread ≡ size_of rows → c.left ≡ rows.count
     → unread_bytes c + c.left * 64 ≡ rows.count * 88
 account_start c rows entry none unread left = rw (none, unread, left, entry) (omega arith)
 
@@ -33,11 +33,11 @@ pub nothing_ahead : (file : List ℕ) (a : ReadAheadState) → a.names.bytes ≡
 nothing_ahead file a names symbols = record { names = rw names refl; symbols = rw symbols refl }
 
 -- the rows that are left before the first are all
-pub row_place : (file : List ℕ) (c : CursorState) (rows : Rows) (strings : List ℕ) (marks : SymbolTraitFlags) → c.table ≡ rows → c.index ≡ 0 → c.left ≡ rows.count
+pub row_place : (file : List ℕ) (c : CursorState) (rows : TableRange) (strings : List ℕ) (marks : SymbolTraitFlags) → c.table ≡ rows → c.index ≡ 0 → c.left ≡ rows.count
     → marks_in file rows.at strings marks rows.count ≡ marks_in file (next_row c) strings marks c.left
 row_place file c rows strings marks table index left =
     let place : rows.at ≡ next_row c =
-    sym (ap (λ (t : Rows). row_at t c.index) table ∙ ap (row_at rows) index ∙ first rows.at rows.entry) in
+    sym (ap (λ (t : TableRange). row_at t c.index) table ∙ ap (row_at rows) index ∙ first rows.at rows.entry) in
     ap (λ (n : ℕ). marks_in file n strings marks rows.count) place ∙ ap (marks_in file (next_row c) strings marks) (sym left)
   where
     first : (at entry : ℕ) → at + 0 * entry ≡ at
@@ -48,11 +48,11 @@ pub next_is : (file : Option (List ℕ)) (old new : CursorState) → GivesRow fi
 next_is file old new g e =
     let next = g.next_index in
     let moved : old.table.at + new.index * 24 ≡ old.table.at + old.index * 24 + 24 = omega (arith, next) in
-    ap (λ (t : Rows). t.at + new.index * t.entry) g.same_table ∙ ap (λ (x : ℕ). old.table.at + new.index * x) e ∙ moved
+    ap (λ (t : TableRange). t.at + new.index * t.entry) g.same_table ∙ ap (λ (x : ℕ). old.table.at + new.index * x) e ∙ moved
     ∙ ap (λ (x : ℕ). old.table.at + old.index * x + 24) (sym e)
 
 -- the rows but for the first lie where all do
-pub rows_lie : (table : Rows) (size count : ℕ) → table.entry ≡ 24 → TableInBounds size table → count ≤ table.count
+pub rows_lie : (table : TableRange) (size count : ℕ) → table.entry ≡ 24 → TableInBounds size table → count ≤ table.count
     → TableInBounds size (record { at = table.at + 24; count = count - 1; entry = 24 })
 rows_lie table size count entry within few some =
     let e = ap (λ (n : ℕ). table.count * n) entry in

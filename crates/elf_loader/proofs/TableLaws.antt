@@ -1,7 +1,7 @@
 -- A table of versions is compared, step by step of its cursor.
 use Rattle.std.proofs.Common.{◌≡◌, ℕ, ◌+◌, ◌-◌, ◌*◌, ◌≤◌, List, ◌∷◌, None, Some, Ok, Err, ◌∙◌, arith, mul-le-mul_right}
 use Rattle.elf_model.specs.Budget.{IsBudgetRefusal}
-use Rattle.elf_model.specs.Loader.{Compared, Meets, VersionRecordRead, VersionRecordTable, compared_with, readings_of}
+use Rattle.elf_model.specs.Loader.{CompareResult, Meets, VersionRecordRead, VersionRecordTable, compared_with, readings_of}
 use Rattle.elf_model.specs.Versions.{VisitedRecord}
 use Rattle.elf_source.specs.Source.{CountedState}
 use Rattle.elf_table.specs.Ledger.{CallReads}
@@ -27,19 +27,19 @@ start-as file wanted set told records others c done none starts is =
 
 -- then a record more is compared
 pub step-as :
-    (file wanted a b d names : List ℕ) (met : VisitedRecord) (old new : List VersionRecordRead) (n k : ℕ) (all : Compared) → n + 1 ≡ k → old ≡ Meets names met ∷ new
+    (file wanted a b d names : List ℕ) (met : VisitedRecord) (old new : List VersionRecordRead) (n k : ℕ) (all : CompareResult) → n + 1 ≡ k → old ≡ Meets names met ∷ new
     → CompareProgress a b n all (compared_with file wanted old) → ComparesOne b d (compared_with file wanted (Meets names met ∷ new)) (compared_with file wanted new) (Ok tt)
     → CompareProgress a d k all (compared_with file wanted new)
 step-as file wanted a b d names met old new n k all sum first before one = as-then a b d n 1 k all _ _ sum (rw first at before) one
 
 -- what a fault says of what is left
-abbrev pub FaultIs : Compared → Fault → Type 0
+abbrev pub FaultIs : CompareResult → Fault → Type 0
 FaultIs left (Refused refusal) = (IsBudgetRefusal refusal → ⊥) → left.refused ≡ Some refusal
 FaultIs left (Source fault at) = Unit {0}
 
 -- a fault once some records are compared, and m more are read
 pub fault-compares :
-    {before after : CountedState} {n : ℕ} (each records m : ℕ) (old mid new : List ℕ) (all left others : Compared) (fault : Fault)
+    {before after : CountedState} {n : ℕ} (each records m : ℕ) (old mid new : List ℕ) (all left others : CompareResult) (fault : Fault)
     → CompareProgress old mid records all left → CallReads before after (Some fault) n → n ≤ (records + m) * each → m ≤ left.read → FaultIs left fault
     → CompareCosts before after each old new all others (Err fault)
 fault-compares each records m old mid new all left others (Refused refusal) compared charges few read is = (
@@ -47,12 +47,12 @@ fault-compares each records m old mid new all left others (Refused refusal) comp
   λ other. compared.refused ∙ is other,
 )
   where
-    read-more : (records m : ℕ) (all left : Compared) → all.read ≡ records + left.read → m ≤ left.read → records + m ≤ all.read
+    read-more : (records m : ℕ) (all left : CompareResult) → all.read ≡ records + left.read → m ≤ left.read → records + m ≤ all.read
     read-more records m all left e few = omega (arith, e, few)
 fault-compares each records m old mid new all left others (Source fault at) compared charges few read is =
     CallReads-more (all.read * each) (omega (arith, few, mul-le-mul_right each (read-more records m all left compared.read read))) charges
   where
-    read-more : (records m : ℕ) (all left : Compared) → all.read ≡ records + left.read → m ≤ left.read → records + m ≤ all.read
+    read-more : (records m : ℕ) (all left : CompareResult) → all.read ≡ records + left.read → m ≤ left.read → records + m ≤ all.read
     read-more records m all left e few = omega (arith, e, few)
 
 -- a step that gives none reads no more than is left to be read
@@ -76,19 +76,19 @@ fault-left file wanted strings others old new (Source fault at) tells = tt
 
 -- and of one record
 fault-one :
-    (old new : List ℕ) (all left : Compared) (fault : Fault) → ComparesOne old new all left (Err fault) → (1 ≤ all.read) × FaultIs all fault
+    (old new : List ℕ) (all left : CompareResult) (fault : Fault) → ComparesOne old new all left (Err fault) → (1 ≤ all.read) × FaultIs all fault
 fault-one old new all left (Refused refusal) one = one
 fault-one old new all left (Source fault at) one = (one, tt)
 
 pub fault-met :
-    (file wanted names old new : List ℕ) (met : VisitedRecord) (all others : List VersionRecordRead) (left : Compared) (fault : Fault) → all ≡ Meets names met ∷ others
+    (file wanted names old new : List ℕ) (met : VisitedRecord) (all others : List VersionRecordRead) (left : CompareResult) (fault : Fault) → all ≡ Meets names met ∷ others
     → ComparesOne old new (compared_with file wanted (Meets names met ∷ others)) left (Err fault)
     → (1 ≤ (compared_with file wanted all).read) × FaultIs (compared_with file wanted all) fault
 fault-met file wanted names old new met all others left fault first one = rw first (fault-one old new (compared_with file wanted (Meets names met ∷ others)) left fault one)
 
 -- a cursor that ends leaves the others
 pub ended-as :
-    (file wanted a b : List ℕ) (told : VersionRecordTable) (others : List VersionRecordRead) (old new : VersionCursorState) (records : ℕ) (all : Compared)
+    (file wanted a b : List ℕ) (told : VersionRecordTable) (others : List VersionRecordRead) (old new : VersionCursorState) (records : ℕ) (all : CompareResult)
     → ReturnsVersion file (versions_left file old) (versions_left file new) (Ok None)
     → CompareProgress a b records all (compared_with file wanted (left_of file told.strings others old))
     → CompareProgress a b records all (compared_with file wanted others)

@@ -1,6 +1,6 @@
 -- Tables of versions, one behind the other.
 use Rattle.std.proofs.Common.{◌≡◌, ℕ, ◌+◌, ◌*◌, ◌≤◌, List, [], ◌∷◌, ◌++◌, None, Result, Ok, Err, refl, ap, ◌∙◌, arith}
-use Rattle.elf_model.specs.Loader.{Compared, VersionRecordRead, VersionRecordTable as IsTableOf, compared_with, readings, readings_of}
+use Rattle.elf_model.specs.Loader.{CompareResult, VersionRecordRead, VersionRecordTable as IsTableOf, compared_with, readings, readings_of}
 use Rattle.elf_source.specs.Source.{CountedState}
 use Rattle.elf_table.specs.Ledger.{CallReads}
 use Rattle.elf_table.specs.declared.fault.Fault.{Fault}
@@ -74,7 +74,7 @@ more-pays n each m k e = rw e (sum-pays n k each)
 
 -- what compares some records and then others
 pub compares-then :
-    (a b c : CountedState) (each : ℕ) (old mid new : List ℕ) (all between left : Compared) (result : Result (Unit {0}) Fault)
+    (a b c : CountedState) (each : ℕ) (old mid new : List ℕ) (all between left : CompareResult) (result : Result (Unit {0}) Fault)
     → CompareCosts a b each old mid all between (Ok tt) → CompareCosts b c each mid new between left result → CompareCosts a c each old new all left result
 compares-then a b c each old mid new all between left (Ok x) p q =
     (p.0 + q.0, CallReads-then _ (sum-pays p.0 q.0 each) p.1 q.1, as-then old mid new p.0 q.0 (p.0 + q.0) all between left refl p.2 q.2)
@@ -84,7 +84,7 @@ compares-then a b c each old mid new all between left (Err (Source fault at)) p 
 
 -- and what is refused by the first is by both
 pub compares-fault :
-    (a b : CountedState) (each : ℕ) (old mid new : List ℕ) (whole all between left : Compared) (fault : Fault) → whole ≡ all
+    (a b : CountedState) (each : ℕ) (old mid new : List ℕ) (whole all between left : CompareResult) (fault : Fault) → whole ≡ all
     → CompareCosts a b each old mid all between (Err fault) → CompareCosts a b each old new whole left (Err fault)
 compares-fault a b each old mid new whole all between left (Refused refusal) e p = rw e p
 compares-fault a b each old mid new whole all between left (Source fault at) e p = rw e p

@@ -3,7 +3,7 @@ use Rattle.std.proofs.Common.{◌≡◌, ℕ, ◌+◌, ◌*◌, ◌-◌, ◌^◌
 use Rattle.std.proofs.lemmas.List.{take-take}
 use Rattle.elf_model.specs.Bytes.{slice}
 use Rattle.elf_model.specs.Chains.{ChainResult}
-use Rattle.elf_model.specs.Loader.{NumberNameSource, VersionWords, versym_at}
+use Rattle.elf_model.specs.Loader.{NumberNameSource, VersymTable, versym_at}
 use Rattle.elf_model.specs.LoaderFind.{TOLD_BYTES, found_lookup, refused_lookup, named_by_record}
 use Rattle.elf_model.specs.LoaderScope.{LookupTables}
 use Rattle.elf_model.specs.Names.{DisplayedName, IsNameBytesAt, shown}
@@ -31,7 +31,7 @@ use Rattle.elf_loader.specs.declared.version_name_record.VersionNameRecord.{Vers
 
 -- the first record that has the number tells its name
 told-shown :
-    (file : List ℕ) (scope : LookupTables) (words : VersionWords) (y : ℕ) (walked : ChainResult) (naming : NumberNameSource) (strings : List ℕ) (met : VisitedRecord) (name : DisplayedName)
+    (file : List ℕ) (scope : LookupTables) (words : VersymTable) (y : ℕ) (walked : ChainResult) (naming : NumberNameSource) (strings : List ℕ) (met : VisitedRecord) (name : DisplayedName)
     → naming.found ≡ Some (strings, met) → shown strings (name_index file met) TOLD_BYTES ≡ Ok name
     → named_by_record file scope words y walked naming
     ≡ found_lookup scope y walked naming.read true (Some (record { index = words.index; word = versym file (versym_at words y); name = name }))
@@ -40,7 +40,7 @@ told-shown file scope words y walked naming strings met name found told = rw (fo
 
 -- or the fault of its name
 told-fault :
-    (file : List ℕ) (scope : LookupTables) (words : VersionWords) (y : ℕ) (walked : ChainResult) (naming : NumberNameSource) (strings : List ℕ) (met : VisitedRecord) (cause : Cause)
+    (file : List ℕ) (scope : LookupTables) (words : VersymTable) (y : ℕ) (walked : ChainResult) (naming : NumberNameSource) (strings : List ℕ) (met : VisitedRecord) (cause : Cause)
     → naming.found ≡ Some (strings, met) → shown strings (name_index file met) TOLD_BYTES ≡ Err cause
     → named_by_record file scope words y walked naming ≡ refused_lookup walked.tried walked.read naming.read true (record { at = named_at file met; cause = cause })
 unfolding named_by_record
@@ -48,20 +48,20 @@ told-fault file scope words y walked naming strings met cause found told = rw (f
 
 -- or none has it, or what comes before is refused
 told-none :
-    (file : List ℕ) (scope : LookupTables) (words : VersionWords) (y : ℕ) (walked : ChainResult) (naming : NumberNameSource) → naming.found ≡ None → naming.refused ≡ None
+    (file : List ℕ) (scope : LookupTables) (words : VersymTable) (y : ℕ) (walked : ChainResult) (naming : NumberNameSource) → naming.found ≡ None → naming.refused ≡ None
     → named_by_record file scope words y walked naming ≡ refused_lookup walked.tried walked.read naming.read false (record { at = versym_at words y; cause = VersionIndex })
 unfolding named_by_record
 told-none file scope words y walked naming found none = rw (found, none, named_by_record) refl
 
 told-refused :
-    (file : List ℕ) (scope : LookupTables) (words : VersionWords) (y : ℕ) (walked : ChainResult) (naming : NumberNameSource) (refusal : Refusal) → naming.found ≡ None → naming.refused ≡ Some refusal
+    (file : List ℕ) (scope : LookupTables) (words : VersymTable) (y : ℕ) (walked : ChainResult) (naming : NumberNameSource) (refusal : Refusal) → naming.found ≡ None → naming.refused ≡ Some refusal
     → named_by_record file scope words y walked naming ≡ refused_lookup walked.tried walked.read naming.read false refusal
 unfolding named_by_record
 told-refused file scope words y walked naming refusal found none = rw (found, none, named_by_record) refl
 
 -- a fault before the record
 pub fault-tells :
-    (file : List ℕ) (scope : LookupTables) (words : VersionWords) (y : ℕ) (naming left : NumberNameSource) (a b : CountedState) (name : List ℕ) (fault : Fault)
+    (file : List ℕ) (scope : LookupTables) (words : VersymTable) (y : ℕ) (naming left : NumberNameSource) (a b : CountedState) (name : List ℕ) (fault : Fault)
     → NamesBefore file a b naming left (Err fault) → ReturnsVersionName file scope words y naming a b name (Err fault)
 fault-tells file scope words y naming left a b name (Refused refusal) p = (
   CallReads-more _ (omega arith) p.0,
@@ -74,7 +74,7 @@ stopped a b n at p = record { reads = p.reads; says = λ budget. absurd (cc) }
 
 -- no record
 pub none-tells :
-    (file : List ℕ) (scope : LookupTables) (words : VersionWords) (y at : ℕ) (naming left : NumberNameSource) (a b : CountedState) (name : List ℕ)
+    (file : List ℕ) (scope : LookupTables) (words : VersymTable) (y at : ℕ) (naming left : NumberNameSource) (a b : CountedState) (name : List ℕ)
     → at ≡ versym_at words y → left ≡ record { found = None; refused = None; read = 0 } → NamesBefore file a b naming left (Ok None)
     → ReturnsVersionName file scope words y naming a b name (Err (Refused (record { at = at; cause = VersionIndex })))
 none-tells file scope words y at naming left a b name here nothing p =
@@ -137,7 +137,7 @@ stands-there file strings off cap at name told ends is =
 
 -- its name is read, and stands there
 pub name-tells :
-    (file : List ℕ) (scope : LookupTables) (words : VersionWords) (y at : ℕ) (naming left : NumberNameSource) (a b c : CountedState) (name : List ℕ) (by : VersionNameRecord) (end : NameEnd)
+    (file : List ℕ) (scope : LookupTables) (words : VersymTable) (y at : ℕ) (naming left : NumberNameSource) (a b c : CountedState) (name : List ℕ) (by : VersionNameRecord) (end : NameEnd)
     → NamesBefore file a b naming left (Ok (Some by)) → CallReads b c None parsed_member_bytes
     → NameRead by.«record».named_at (Ok end) name (shown (strings_in file by.names) by.«record».name TOLD_BYTES)
     → by.names.at + by.names.size < 2 ^ 64 → at ≡ min (by.names.at + by.«record».name) (2 ^ 64 - 1)
@@ -155,7 +155,7 @@ name-tells file scope words y at naming left a b c name by Cut p pays reads ends
 
 -- or it is not
 pub name-fails :
-    (file : List ℕ) (scope : LookupTables) (words : VersionWords) (y : ℕ) (naming left : NumberNameSource) (a b c : CountedState) (name : List ℕ) (by : VersionNameRecord) (fault : Fault)
+    (file : List ℕ) (scope : LookupTables) (words : VersymTable) (y : ℕ) (naming left : NumberNameSource) (a b c : CountedState) (name : List ℕ) (by : VersionNameRecord) (fault : Fault)
     → NamesBefore file a b naming left (Ok (Some by)) → CallReads b c (Some fault) parsed_member_bytes
     → NameRead by.«record».named_at (Err fault) name (shown (strings_in file by.names) by.«record».name TOLD_BYTES)
     → ReturnsVersionName file scope words y naming a c name (Err fault)

@@ -5,18 +5,18 @@ use Rattle.elf_model.specs.LoaderScope.{dynamic_segment_index}
 use Rattle.elf_model.specs.Records.{p_offset, p_filesz, segment_at}
 use Rattle.elf_model.specs.Traits.{dynamic_entry_value}
 use Rattle.elf_table.specs.Cursors.{next_row}
-use Rattle.elf_table.specs.Tables.{Rows}
+use Rattle.elf_table.specs.Tables.{TableRange}
 use Rattle.elf_note.specs.DynCursors.{DynCursorState, entries_left, first_value, value_here}
 use Rattle.elf_note.proofs.EntriesLeft.{value-end, value-step}
 use Rattle.elf_loader.specs.Entries.{AreListedValues, AreTraitEntries, EachValue, TakesValues, no_values}
 use Rattle.elf_loader.specs.declared.trait_tags.TraitTags.{TraitTags}
 
 -- a value that was found, or that of the entries that are left, is what a table has
-abbrev pub LeftValues : List ℕ → Rows → DynCursorState → TraitTags → Type 0
+abbrev pub LeftValues : List ℕ → TableRange → DynCursorState → TraitTags → Type 0
 LeftValues file table d found =
     EachValue (λ value tag. first_value value (dynamic_value file (next_row d.cursor) (entries_left file d) tag) ≡ listed_value file table.at table.count tag) found
 
-module _ (file : List ℕ) (table : Rows) (d : DynCursorState) (place : next_row d.cursor ≡ table.at) (count : entries_left file d ≡ dynamic_count file table.at table.count) where
+module _ (file : List ℕ) (table : TableRange) (d : DynCursorState) (place : next_row d.cursor ≡ table.at) (count : entries_left file d ≡ dynamic_count file table.at table.count) where
   start : (tag : ℕ) → first_value None (dynamic_value file (next_row d.cursor) (entries_left file d) tag) ≡ listed_value file table.at table.count tag
   start tag =
       ap (λ (n : ℕ). dynamic_value file n (entries_left file d) tag) place
@@ -34,7 +34,7 @@ module _ (file : List ℕ) (table : Rows) (d : DynCursorState) (place : next_row
     flags_1 = start _;
   }
 
-module _ (file : List ℕ) (table : Rows) (old new : DynCursorState) (found more : TraitTags)
+module _ (file : List ℕ) (table : TableRange) (old new : DynCursorState) (found more : TraitTags)
     (less : entries_left file old ≡ suc (entries_left file new)) (next : next_row new.cursor ≡ next_row old.cursor + 16)
     (t : TakesValues file (next_row old.cursor) found more) (e : LeftValues file table old found) where
   taken : (one other : Option ℕ) (tag : ℕ) → one ≡ first_value other (value_here file (next_row old.cursor) tag)
@@ -56,7 +56,7 @@ module _ (file : List ℕ) (table : Rows) (old new : DynCursorState) (found more
   }
 
 -- behind the last entry
-pub values_end : (file : List ℕ) (table : Rows) (d : DynCursorState) (found : TraitTags) → entries_left file d ≡ 0 → LeftValues file table d found → AreListedValues file table found
+pub values_end : (file : List ℕ) (table : TableRange) (d : DynCursorState) (found : TraitTags) → entries_left file d ≡ 0 → LeftValues file table d found → AreListedValues file table found
 values_end file table d found none e = record {
   soname = sym (value-end file d _ found.soname none) ∙ e.soname;
   rpath = sym (value-end file d _ found.rpath none) ∙ e.rpath;
@@ -85,7 +85,7 @@ module _ (file : List ℕ) where
     flags_1 = value_none _ e;
   }
 
-  module _ (i : ℕ) (e : dynamic_segment_index file ≡ Some i) (table : Rows) (place : table.at ≡ p_offset file (segment_at file i))
+  module _ (i : ℕ) (e : dynamic_segment_index file ≡ Some i) (table : TableRange) (place : table.at ≡ p_offset file (segment_at file i))
       (count : table.count ≡ p_filesz file (segment_at file i) / 16) where
     value_is : (tag : ℕ) → listed_value file table.at table.count tag ≡ dynamic_entry_value file tag
     unfolding dynamic_entry_value

@@ -4,11 +4,11 @@ use Rattle.elf_model.specs.Budget.{IsBudgetRefusal}
 use Rattle.elf_model.specs.declared.causes.Refusal.{Refusal}
 use Rattle.elf_record.specs.Sym.{IsSym}
 use Rattle.elf_model.specs.Bytes.{field}
-use Rattle.elf_model.specs.Loader.{Symbols as AreSymbolsOf, Wanted, answers}
+use Rattle.elf_model.specs.Loader.{DynamicSymbols as AreSymbolsOf, SymbolQuery, answers}
 use Rattle.elf_hash.specs.Symbols.{IsDynamicSymbols}
 use Rattle.elf_table.specs.Cursors.{row_at}
-use Rattle.elf_hash.specs.declared.symbols.Symbols.{Symbols}
-use Rattle.elf_hash.specs.declared.symbols.VersionWords.{VersionWords}
+use Rattle.elf_hash.specs.declared.symbols.DynamicSymbols.{DynamicSymbols}
+use Rattle.elf_hash.specs.declared.symbols.VersymTable.{VersymTable}
 use Rattle.elf_hash.specs.declared.answer.SymbolMatch.{SymbolMatch}
 use Rattle.elf_hash.specs.declared.answer.VersymEntry.{VersymEntry}
 use Rattle.elf_loader.specs.declared.version_match.VersionMatch.{VersionMatch}
@@ -16,31 +16,31 @@ use Rattle.elf_table.specs.declared.fault.Fault.{Fault}
 use Rattle.elf_table.specs.declared.fault.Fault.TheVariants.{Refused, Source}
 
 -- the word of a symbol's version stands there in the file, where there are words of versions
-abbrev pub IsWord : List ℕ → Option VersionWords → ℕ → Option VersymEntry → Type 0
+abbrev pub IsWord : List ℕ → Option VersymTable → ℕ → Option VersymEntry → Type 0
 IsWord file None index None = Unit {0}
 IsWord file (Some words) index (Some word) = (word.at ≡ row_at words.words index) × (word.word ≡ field file (row_at words.words index) 2)
 IsWord file None index (Some word) = ⊥
 IsWord file (Some words) index None = ⊥
 
 -- whether a version fits is known, with the word; or why it cannot be, unless a read failed
-abbrev pub ReturnsFit : List ℕ → Option VersionWords → ℕ → Result Bool Refusal → Result VersionMatch Fault → Type 0
+abbrev pub ReturnsFit : List ℕ → Option VersymTable → ℕ → Result Bool Refusal → Result VersionMatch Fault → Type 0
 ReturnsFit file words index says (Ok fit) = (says ≡ Ok fit.fits) × IsWord file words index fit.version
 ReturnsFit file words index says (Err (Refused refusal)) = (IsBudgetRefusal refusal → ⊥) → says ≡ Err refusal
 ReturnsFit file words index says (Err (Source fault at)) = Unit {0}
 
 -- a symbol and the word of its version stand in the file
-abbrev pub IsSymbolWithVersym : List ℕ → Symbols → ℕ → SymbolMatch → Type 0
+abbrev pub IsSymbolWithVersym : List ℕ → DynamicSymbols → ℕ → SymbolMatch → Type 0
 IsSymbolWithVersym file symbols index answer = IsSym file (row_at symbols.table index) answer.symbol × IsWord file symbols.words index answer.version
 
 -- whether a symbol answers is known, and it is given then
-abbrev pub ReturnsAnswer : List ℕ → Symbols → ℕ → Result Bool Refusal → Result (Option SymbolMatch) Fault → Type 0
+abbrev pub ReturnsAnswer : List ℕ → DynamicSymbols → ℕ → Result Bool Refusal → Result (Option SymbolMatch) Fault → Type 0
 ReturnsAnswer file symbols index says (Ok (Some answer)) = (says ≡ Ok true) × IsSymbolWithVersym file symbols index answer
 ReturnsAnswer file symbols index says (Ok None) = says ≡ Ok false
 ReturnsAnswer file symbols index says (Err (Refused refusal)) = (IsBudgetRefusal refusal → ⊥) → says ≡ Err refusal
 ReturnsAnswer file symbols index says (Err (Source fault at)) = Unit {0}
 
 -- it is the trial of the symbols of a file: of each it says whether it answers what is wanted
-pub record SaysOf (file : List ℕ) (symbols : Symbols) (wanted : Wanted) (is_wanted : ℕ → Bool) (says : ℕ → Result Bool Refusal) : Type 0 where
+pub record SaysOf (file : List ℕ) (symbols : DynamicSymbols) (wanted : SymbolQuery) (is_wanted : ℕ → Bool) (says : ℕ → Result Bool Refusal) : Type 0 where
   pub told : AreSymbolsOf
   pub are : IsDynamicSymbols file told symbols
   pub says_so : says ≡ answers file told wanted is_wanted

@@ -1,7 +1,7 @@
 -- What comparing the records of versions with a wanted one gives.
 use Rattle.std.specs.Prelude.{ℕ, ◌≡◌, ◌+◌, ◌*◌, ◌≤◌, ◌||◌, List, length, None, Some, Result, Ok, Err}
 use Rattle.elf_model.specs.Budget.{IsBudgetRefusal}
-use Rattle.elf_model.specs.Loader.{Asked, Compared, VersionRecordRead, asked_name, compared_with, is_among}
+use Rattle.elf_model.specs.Loader.{VersionQuery, CompareResult, VersionRecordRead, asked_name, compared_with, is_among}
 use Rattle.elf_model.specs.Names.{pad64}
 use Rattle.elf_source.specs.Source.{CountedState}
 use Rattle.elf_table.specs.Ledger.{CallReads, CallDid, fault_of_result}
@@ -10,18 +10,18 @@ use Rattle.elf_table.specs.declared.fault.Fault.TheVariants.{Refused, Source}
 use Rattle.elf_loader.specs.NumberSets.{has_number}
 
 -- how many bytes comparing so many records with the version that is asked for may ask for: none where none is
-abbrev pub comparing_bytes : Asked → ℕ → ℕ
+abbrev pub comparing_bytes : VersionQuery → ℕ → ℕ
 comparing_bytes asked records = elim (asked_name asked) [ None ↦ 0 | Some version ↦ records * (28 + pad64 (length version + 1)) ]
 
 -- SO MUCH OF COMPARING IS DONE: some records are read, and what they give is in the set; the others are left
-pub record CompareProgress (old new : List ℕ) (records : ℕ) (all left : Compared) : Type 0 where
+pub record CompareProgress (old new : List ℕ) (records : ℕ) (all left : CompareResult) : Type 0 where
   pub numbers : (number : ℕ) → (has_number old number || is_among number all.numbers) ≡ (has_number new number || is_among number left.numbers)
   pub refused : all.refused ≡ left.refused
   pub read : all.read ≡ records + left.read
 
 -- comparing some records, each of which asks for at most so many bytes: they are compared, and the others are left; or
 -- comparing is refused, unless a read failed
-abbrev pub CompareCosts : CountedState → CountedState → ℕ → List ℕ → List ℕ → Compared → Compared → Result (Unit {0}) Fault → Type 0
+abbrev pub CompareCosts : CountedState → CountedState → ℕ → List ℕ → List ℕ → CompareResult → CompareResult → Result (Unit {0}) Fault → Type 0
 CompareCosts before after each old new all left (Ok x) =
     (records : ℕ) × CallReads before after None (records * each) × CompareProgress old new records all left
 CompareCosts before after each old new all left (Err (Refused refusal)) =
@@ -36,13 +36,13 @@ ComparesRecords before after version old new result most Of =
     (λ file. Of file (λ all left. CompareCosts before after (28 + pad64 (length version + 1)) old new (compared_with file version all) (compared_with file version left) result))
 
 -- comparing one record, whose refusal is at that
-abbrev pub ComparesOne : List ℕ → List ℕ → Compared → Compared → Result (Unit {0}) Fault → Type 0
+abbrev pub ComparesOne : List ℕ → List ℕ → CompareResult → CompareResult → Result (Unit {0}) Fault → Type 0
 ComparesOne old new all left (Ok x) = CompareProgress old new 1 all left
 ComparesOne old new all left (Err (Refused refusal)) = (1 ≤ all.read) × ((IsBudgetRefusal refusal → ⊥) → all.refused ≡ Some refusal)
 ComparesOne old new all left (Err (Source fault at)) = 1 ≤ all.read
 
 -- what the whole of it gives: the set of the numbers of the wanted version; or that it is refused, unless a read failed
-abbrev pub CollectsNumbers : CountedState → CountedState → ℕ → Compared → Result (List ℕ) Fault → Type 0
+abbrev pub CollectsNumbers : CountedState → CountedState → ℕ → CompareResult → Result (List ℕ) Fault → Type 0
 CollectsNumbers before after each compared (Ok numbers) =
     CallReads before after None (compared.read * each) × (compared.refused ≡ None) × ((number : ℕ) → has_number numbers number ≡ is_among number compared.numbers)
 CollectsNumbers before after each compared (Err (Refused refusal)) =

@@ -15,7 +15,7 @@ use Rattle.elf_source.specs.Source.{CountedState}
 use Rattle.elf_table.specs.Ledger.{CallReads, fault_of_result}
 use Rattle.elf_table.specs.declared.fault.Fault.{Fault}
 use Rattle.elf_table.specs.declared.fault.Fault.TheVariants.{Refused, Source}
-use Rattle.elf_table.specs.Tables.{Rows}
+use Rattle.elf_table.specs.Tables.{TableRange}
 use Rattle.elf_note.specs.DynCursors.{first_value, value_here}
 use Rattle.elf_loader.specs.declared.trait_tags.TraitTags.{TraitTags}
 
@@ -44,7 +44,7 @@ pub record TakesValues (file : List ℕ) (at : ℕ) (old new : TraitTags) : Type
   pub flags_1 : new.flags_1 ≡ first_value old.flags_1 (value_here file at DT_FLAGS_1)
 
 -- they are those of the first listed entries of a table
-abbrev pub AreListedValues : List ℕ → Rows → TraitTags → Type 0
+abbrev pub AreListedValues : List ℕ → TableRange → TraitTags → Type 0
 AreListedValues file table found = EachValue (λ value tag. value ≡ listed_value file table.at table.count tag) found
 
 -- they are those of a file

@@ -4,7 +4,7 @@ use Rattle.elf_model.specs.Budget.{IsBudgetRefusal}
 use Rattle.elf_model.specs.Chains.{ChainResult}
 use Rattle.elf_model.specs.Cost.{cost_where}
 use Rattle.elf_model.specs.Hash.{Refused as IsRefused}
-use Rattle.elf_model.specs.Loader.{Asked as IsAsked, VersionWords as AreWordsOf, asked_name}
+use Rattle.elf_model.specs.Loader.{VersionQuery as IsAsked, VersymTable as AreWordsOf, asked_name}
 use Rattle.elf_model.specs.LoaderFind.{FoundVersion as IsVersionOf, LoaderLookup, found_in, found_lookup}
 use Rattle.elf_model.specs.LoaderScope.{LookupTables}
 use Rattle.elf_model.specs.Names.{DisplayedName, IsNameBytesAt}

@@ -17,7 +17,7 @@ use Rattle.elf_source.specs.Source.{CountedState}
 use Rattle.elf_table.specs.Ledger.{CallReads, fault_of_result}
 use Rattle.elf_table.specs.declared.fault.Fault.{Fault}
 use Rattle.elf_table.specs.declared.fault.Fault.TheVariants.{Refused, Source}
-use Rattle.elf_table.specs.Tables.{Rows}
+use Rattle.elf_table.specs.Tables.{TableRange}
 use Rattle.elf_loader.specs.Features.{ReturnsValue}
 use Rattle.elf_loader.specs.declared.trait_notes.PropertyRange.{PropertyRange}
 
@@ -29,7 +29,7 @@ list_among align at walk = elim (first_listing (note_rows align at walk.notes)) 
 ]
 
 -- the first list in a table of notes of the alignment that its header has
-abbrev pub first_list : List ℕ → (align : ℕ) → Rows → Result (Option PropertyList) Refusal
+abbrev pub first_list : List ℕ → (align : ℕ) → TableRange → Result (Option PropertyList) Refusal
 first_list file align table =
     list_among (note_align align) table.at
     (walk_from (note_align align) (suc (length (slice file table.at table.count))) table.at (slice file table.at table.count))

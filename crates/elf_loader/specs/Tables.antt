@@ -4,7 +4,7 @@ use Rattle.elf_model.specs.Loader.{VersionRecordTable as IsTableOf, VersionRecor
 use Rattle.elf_model.specs.Versions.{max_records}
 use Rattle.elf_hash.specs.Symbols.{AreVersionRecordTables, IsVersionRecordTable, table_if_any}
 use Rattle.elf_hash.specs.declared.symbols.VersionRecordTable.{VersionRecordTable}
-use Rattle.elf_hash.specs.declared.symbols.Symbols.{Symbols}
+use Rattle.elf_hash.specs.declared.symbols.DynamicSymbols.{DynamicSymbols}
 
 -- the records that a walk over some tables reads, in front of others
 unfoldable pub readings_before : List ℕ → List IsTableOf → List VersionRecordRead → List VersionRecordRead
@@ -16,7 +16,7 @@ abbrev pub max_records_of : Option VersionRecordTable → ℕ
 max_records_of None = 0
 max_records_of (Some records) = max_records records.kind records.table.count
 
-abbrev pub max_versions_of : Symbols → ℕ
+abbrev pub max_versions_of : DynamicSymbols → ℕ
 max_versions_of symbols = max_records_of symbols.definitions + max_records_of symbols.needs
 
 -- this holds of what is read of a table in front of others, and of the others
@@ -29,6 +29,6 @@ OfAnyTable records file IsReadFault =
     (told : List IsTableOf) (others : List VersionRecordRead) → AreVersionRecordTables file told (table_if_any records) → IsReadFault (readings_before file told others) others
 
 -- the same of the definitions and the needs, with no others behind them
-abbrev pub OfTables : Symbols → List ℕ → (List VersionRecordRead → List VersionRecordRead → Type 0) → Type 0
+abbrev pub OfTables : DynamicSymbols → List ℕ → (List VersionRecordRead → List VersionRecordRead → Type 0) → Type 0
 OfTables symbols file IsReadFault =
     (told : List IsTableOf) → AreVersionRecordTables file told (table_if_any symbols.definitions ++ table_if_any symbols.needs) → IsReadFault (readings file told) []

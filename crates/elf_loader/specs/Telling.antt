@@ -3,7 +3,7 @@ use Rattle.std.specs.Prelude.{ℕ, ◌≡◌, ◌+◌, ◌*◌, true, is_some, L
 use Rattle.elf_model.specs.Budget.{IsBudgetRefusal}
 use Rattle.elf_model.specs.Chains.{ChainResult}
 use Rattle.elf_model.specs.Cost.{cost_where}
-use Rattle.elf_model.specs.Loader.{Asked, NumberNameSource, VersionWords, asked_name, versym_at}
+use Rattle.elf_model.specs.Loader.{VersionQuery, NumberNameSource, VersymTable, asked_name, versym_at}
 use Rattle.elf_model.specs.LoaderFind.{TOLD_BYTES, found_lookup, refused_lookup, named_by_record}
 use Rattle.elf_model.specs.LoaderScope.{LookupTables}
 use Rattle.elf_model.specs.Names.{IsNameBytesAt, pad64}
@@ -20,12 +20,12 @@ abbrev pub parsed_member_bytes : ℕ
 parsed_member_bytes = pad64 (TOLD_BYTES + 1)
 
 -- how many bytes finding a version may ask for, with so many records: none where one is asked for by its name
-abbrev pub telling_bytes : Asked → ℕ → ℕ
+abbrev pub telling_bytes : VersionQuery → ℕ → ℕ
 telling_bytes asked records = elim (asked_name asked) [ None ↦ records * 28 + parsed_member_bytes | Some version ↦ 0 ]
 
 -- THE NAME of the version of a symbol that a walk gives, by what looking for it gives: the name, and where its bytes stand; or
 -- why there is none, unless a read failed
-abbrev pub ReturnsVersionName : List ℕ → LookupTables → VersionWords → ℕ → NumberNameSource → CountedState → CountedState → List ℕ → Result ResolvedVersionName Fault → Type 0
+abbrev pub ReturnsVersionName : List ℕ → LookupTables → VersymTable → ℕ → NumberNameSource → CountedState → CountedState → List ℕ → Result ResolvedVersionName Fault → Type 0
 ReturnsVersionName file scope words y naming before after name (Ok told) =
     CallReads before after None (naming.read * 28 + parsed_member_bytes)
     × ((walked : ChainResult) → named_by_record file scope words y walked naming ≡ found_lookup scope y walked naming.read true (Some (record { index = words.index; word = versym file (versym_at words y); name = shown_by told.end name })))

@@ -5,7 +5,7 @@ use Rattle.elf_model.specs.Tables.{SYMBOL_SIZE}
 use Rattle.elf_model.specs.TraitCost.{properties_asked, segment_traits_cost, symbols_asked, trait_entries_asked, traits_cost}
 use Rattle.elf_model.specs.Traits.{SymbolTraitFlags, TRAIT_NAME_BYTES, hashed_symbol_count, known_symbols, loaded_traits, find_symbol_traits, traits_by_segments, traits_of}
 use Rattle.elf_model.specs.declared.causes.Refusal.{Refusal}
-use Rattle.elf_model.specs.declared.traits.Traits.{Traits}
+use Rattle.elf_model.specs.declared.traits.Hardening.{Hardening}
 use Rattle.elf_source.specs.Source.{CountedState}
 use Rattle.elf_table.specs.Ledger.{CallReads, fault_of_result}
 use Rattle.elf_table.specs.declared.fault.Fault.{Fault}
@@ -42,16 +42,16 @@ pub record FindsMarks (file : List ℕ) (old new : CountedState) (result : Resul
   pub finds : ReturnsMarks (marks_told file) result
 
 -- THE TRAITS of a known file, whose program headers are loaded
-pub record FindsViewed (file : List ℕ) (old new : CountedState) (result : Result Traits Fault) : Type 0 where
+pub record FindsViewed (file : List ℕ) (old new : CountedState) (result : Result Hardening Fault) : Type 0 where
   pub costs : CallReads old new (fault_of_result result) (entries_asked file + trait_entries_asked file + properties_asked file + symbols_asked file)
   pub finds : ReturnsValue (loaded_traits file) result
 
 -- of one whose header locates no section headers
-pub record FindsShown (file : List ℕ) (headers : ℕ) (old new : CountedState) (result : Result Traits Fault) : Type 0 where
+pub record FindsShown (file : List ℕ) (headers : ℕ) (old new : CountedState) (result : Result Hardening Fault) : Type 0 where
   pub costs : CallReads old new (fault_of_result result) (segment_traits_cost file headers)
   pub finds : ReturnsValue (traits_by_segments file headers) result
 
 -- of any
-pub record FindsTraits (file : List ℕ) (headers : ℕ) (old new : CountedState) (result : Result Traits Fault) : Type 0 where
+pub record FindsTraits (file : List ℕ) (headers : ℕ) (old new : CountedState) (result : Result Hardening Fault) : Type 0 where
   pub costs : CallReads old new (fault_of_result result) (traits_cost file headers)
   pub finds : ReturnsValue (traits_of file headers) result

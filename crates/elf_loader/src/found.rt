@@ -6,13 +6,13 @@ ghost use Rattle.elf_loader.specs.FoundVersions.{FindsVersion};
 ghost use Rattle.elf_loader.specs.Tables.{max_versions_of};
 ghost use Rattle.elf_loader.specs.Telling.{telling_bytes};
 ghost use Rattle.elf_options.specs.Wants.{asked_of};
-ghost use Rattle.elf_model.specs.Loader.{VersionWords as AreWordsOf};
+ghost use Rattle.elf_model.specs.Loader.{VersymTable as AreWordsOf};
 ghost use Rattle.elf_model.specs.LoaderScope.{LookupTables as IsScopeOf};
 ghost use Rattle.elf_hash.specs.Symbols.{IsDynamicSymbols, IsVersymTable, DynamicSymbolsInBounds};
 
 use crate::resolved_version_name::parsed_member_name;
-use elf_hash::{ChainMatch, Symbols, VersionWords, VersymEntry};
-use elf_options::Asked;
+use elf_hash::{ChainMatch, DynamicSymbols, VersymEntry, VersymTable};
+use elf_options::VersionQuery;
 use elf_record::version_number;
 use elf_source::{Counted, Source};
 use elf_table::{Fault, NameBuf, NameEnd};
@@ -49,8 +49,8 @@ pub struct FoundVersion {
 /// Those of [`found_version`].
 pub(crate) fn version_of<S: Source>(
     src: &mut Counted<S>,
-    symbols: &Symbols,
-    asked: &Asked<'_>,
+    symbols: &DynamicSymbols,
+    asked: &VersionQuery<'_>,
     found: &ChainMatch,
     name: &mut NameBuf,
 ) -> Result<Option<FoundVersion>, Fault>
@@ -79,9 +79,9 @@ pub(crate) fn version_of<S: Source>(
 /// Those of [`parsed_member_name`].
 fn found_version<S: Source>(
     src: &mut Counted<S>,
-    symbols: &Symbols,
-    words: &VersionWords,
-    asked: &Asked<'_>,
+    symbols: &DynamicSymbols,
+    words: &VersymTable,
+    asked: &VersionQuery<'_>,
     found: VersymEntry,
     name: &mut NameBuf,
 ) -> Result<FoundVersion, Fault>
@@ -106,7 +106,7 @@ fn found_version<S: Source>(
 }
 
 // A version by its word, its name and where that stands.
-fn reported_as(words: &VersionWords, word: u16, name: VersionName, name_at: u64) -> FoundVersion
+fn reported_as(words: &VersymTable, word: u16, name: VersionName, name_at: u64) -> FoundVersion
     ensures { result
         ≡ record { index = words.now.index; word = word; name = name; name_at = name_at } }
 {

@@ -15,7 +15,7 @@ use crate::trait_symbols::find_symbol_traits;
 use crate::trait_tags::trait_entries;
 use crate::traits::traits_with;
 use elf_hash::load_by_segments;
-use elf_model::Traits;
+use elf_model::Hardening;
 use elf_source::{Counted, Source};
 use elf_table::{ExecutionView, Fault, HeaderStore};
 
@@ -38,7 +38,7 @@ use elf_table::{ExecutionView, Fault, HeaderStore};
 pub fn find_traits<S: Source>(
     src: &mut Counted<S>,
     store: &mut HeaderStore,
-) -> Result<Traits, Fault>
+) -> Result<Hardening, Fault>
     ensures did { CallDid src.old src.new (fault_of_result result)
         (traits_ceiling src.old.seen.size store.old.slots)
         (λ file. FindsTraits file store.old.slots src.old src.new result) }
@@ -55,7 +55,10 @@ pub fn find_traits<S: Source>(
 ///
 /// # Errors
 /// Those of [`find_traits`].
-fn shown_traits<S: Source>(src: &mut Counted<S>, store: &mut HeaderStore) -> Result<Traits, Fault>
+fn shown_traits<S: Source>(
+    src: &mut Counted<S>,
+    store: &mut HeaderStore,
+) -> Result<Hardening, Fault>
     ensures did { CallDid src.old src.new (fault_of_result result)
         (traits_ceiling src.old.seen.size store.old.slots)
         (λ file. e_shnum file ≡ 0 →
@@ -73,7 +76,7 @@ fn shown_traits<S: Source>(src: &mut Counted<S>, store: &mut HeaderStore) -> Res
 fn find_traits_by_segments<S: Source>(
     src: &mut Counted<S>,
     view: &ExecutionView<'_>,
-) -> Result<Traits, Fault>
+) -> Result<Hardening, Fault>
     requires size { view.now.loaded.size ≡ src.old.seen.size }
     requires small { view.now.loaded.size < 2 ^ 63 }
     ensures { CallDid src.old src.new (fault_of_result result)

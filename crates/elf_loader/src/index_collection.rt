@@ -11,8 +11,8 @@ ghost use Rattle.elf_hash.specs.Symbols.{IsDynamicSymbols, VersionRecordsInBound
 
 use crate::name_comparison::compare_table;
 use crate::version_index_set::VersionIndexSet;
-use elf_hash::{Symbols, VersionRecordTable};
-use elf_options::Asked;
+use elf_hash::{DynamicSymbols, VersionRecordTable};
+use elf_options::VersionQuery;
 use elf_source::{Counted, Source};
 use elf_table::Fault;
 
@@ -37,7 +37,7 @@ fn compare_any<S: Source>(
 // Compares the records of the definitions and then of the needs.
 fn compare_all<S: Source>(
     src: &mut Counted<S>,
-    symbols: &Symbols,
+    symbols: &DynamicSymbols,
     version: &[u8],
     numbers: &mut VersionIndexSet,
 ) -> Result<(), Fault>
@@ -58,8 +58,8 @@ fn compare_all<S: Source>(
 /// name has a fault, at what holds the name: of the definitions and then of the needs.
 pub fn version_indices<S: Source>(
     src: &mut Counted<S>,
-    symbols: &Symbols,
-    asked: &Asked<'_>,
+    symbols: &DynamicSymbols,
+    asked: &VersionQuery<'_>,
 ) -> Result<VersionIndexSet, Fault>
     requires most { IfSome (asked_name (asked_of asked.now)) (λ version. length version ≤ 4096) }
     requires lies { DynamicSymbolsInBounds src.old.seen.size symbols.now }

@@ -4,7 +4,7 @@ ghost use Rattle.elf_table.specs.Ledger.{CallDid, fault_of_result};
 ghost use Rattle.elf_table.specs.Load.{HoldsProgramHeaders};
 ghost use Rattle.elf_loader.specs.Known.{FindsKnown, KnownLie, passed_over};
 
-use elf_hash::{HashTable, Symbols, counts, find_in_segments};
+use elf_hash::{DynamicSymbols, HashTable, counts, find_in_segments};
 use elf_record::{Cause, Refusal};
 use elf_source::{Counted, Source};
 use elf_table::{ExecutionView, Fault};
@@ -13,7 +13,7 @@ use elf_table::{ExecutionView, Fault};
 #[derive(Clone, Copy)]
 pub(crate) struct CountedSymbols {
     /// The symbols.
-    pub(crate) symbols: Symbols,
+    pub(crate) symbols: DynamicSymbols,
     /// The hash table, with its counts.
     pub(crate) table: HashTable,
 }

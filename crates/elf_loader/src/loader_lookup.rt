@@ -22,7 +22,7 @@ use crate::lookup::{FoundSymbol, SymbolLookup};
 use crate::version_index_set::VersionIndexSet;
 use crate::version_matcher::VersionMatcher;
 use elf_hash::{ChainResult, HashTable, LookupTables, counts, find_lookup_tables, walk};
-use elf_options::Wanted;
+use elf_options::SymbolQuery;
 use elf_source::{Counted, Source};
 use elf_table::{Fault, HeaderStore, NameBuf};
 
@@ -53,7 +53,7 @@ use elf_table::{Fault, HeaderStore, NameBuf};
 pub fn look_up<S: Source>(
     src: &mut Counted<S>,
     store: &mut HeaderStore,
-    wanted: &Wanted<'_>,
+    wanted: &SymbolQuery<'_>,
     by_segments: bool,
     name: &mut NameBuf,
 ) -> Result<SymbolLookup, Fault>
@@ -79,7 +79,7 @@ pub fn look_up<S: Source>(
 fn lookup_and_read_version<S: Source>(
     src: &mut Counted<S>,
     store: &mut HeaderStore,
-    wanted: &Wanted<'_>,
+    wanted: &SymbolQuery<'_>,
     name: &mut NameBuf,
 ) -> Result<SymbolLookup, Fault>
     requires { AreShort (query_of wanted.now) }
@@ -98,7 +98,7 @@ fn lookup_and_read_version<S: Source>(
 fn look_in<S: Source>(
     src: &mut Counted<S>,
     scope: &LookupTables,
-    wanted: &Wanted<'_>,
+    wanted: &SymbolQuery<'_>,
     name: &mut NameBuf,
 ) -> Result<SymbolLookup, Fault>
     requires { MayLookOn src.old scope.now (query_of wanted.now) }
@@ -119,7 +119,7 @@ fn search_hash_table<S: Source>(
     src: &mut Counted<S>,
     scope: &LookupTables,
     table: &HashTable,
-    wanted: &Wanted<'_>,
+    wanted: &SymbolQuery<'_>,
     name: &mut NameBuf,
 ) -> Result<SymbolLookup, Fault>
     requires may { MayLookOn src.old scope.now (query_of wanted.now) }
@@ -141,7 +141,7 @@ fn search_chain<S: Source>(
     src: &mut Counted<S>,
     scope: &LookupTables,
     table: &HashTable,
-    wanted: &Wanted<'_>,
+    wanted: &SymbolQuery<'_>,
     numbers: &VersionIndexSet,
     name: &mut NameBuf,
 ) -> Result<SymbolLookup, Fault>
@@ -173,7 +173,7 @@ fn search_chain<S: Source>(
 fn answer_of<S: Source>(
     src: &mut Counted<S>,
     scope: &LookupTables,
-    wanted: &Wanted<'_>,
+    wanted: &SymbolQuery<'_>,
     walked: &ChainResult,
     name: &mut NameBuf,
 ) -> Result<SymbolLookup, Fault>

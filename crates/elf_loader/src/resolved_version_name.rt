@@ -3,12 +3,12 @@ ghost use Rattle.std.specs.Prelude.{◌≡◌, ℕ, ◌+◌, ◌*◌};
 ghost use Rattle.elf_table.specs.Ledger.{CallDid, fault_of_result};
 ghost use Rattle.elf_loader.specs.Tables.{max_versions_of};
 ghost use Rattle.elf_loader.specs.Telling.{ReturnsVersionName, parsed_member_bytes};
-ghost use Rattle.elf_model.specs.Loader.{VersionWords as AreWordsOf, naming_of, readings, versym_at};
+ghost use Rattle.elf_model.specs.Loader.{VersymTable as AreWordsOf, naming_of, readings, versym_at};
 ghost use Rattle.elf_model.specs.LoaderScope.{LookupTables as IsScopeOf};
 ghost use Rattle.elf_hash.specs.Symbols.{IsDynamicSymbols, DynamicSymbolsInBounds};
 
 use crate::version_name_record::name_of;
-use elf_hash::Symbols;
+use elf_hash::DynamicSymbols;
 use elf_record::Cause;
 use elf_source::{Counted, Source};
 use elf_table::{Fault, NameBuf, NameEnd, NameLimit, refused};
@@ -35,7 +35,7 @@ pub(crate) struct ResolvedVersionName {
 /// no record has the number. Else a fault of a read.
 pub(crate) fn parsed_member_name<S: Source>(
     src: &mut Counted<S>,
-    symbols: &Symbols,
+    symbols: &DynamicSymbols,
     at: u64,
     number: u16,
     name: &mut NameBuf,

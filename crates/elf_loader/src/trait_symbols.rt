@@ -2,7 +2,7 @@
 ghost use Rattle.std.specs.Prelude.{◌≡◌, ℕ, ◌+◌, ◌-◌, ◌*◌, ◌≤◌, List, length, IfErr};
 ghost use Rattle.elf_table.specs.Faults.{IsReadFault};
 ghost use Rattle.elf_table.specs.Ledger.{CallDid, fault_of_result};
-ghost use Rattle.elf_model.specs.Loader.{Symbols as AreSymbolsOf};
+ghost use Rattle.elf_model.specs.Loader.{DynamicSymbols as AreSymbolsOf};
 ghost use Rattle.elf_model.specs.Traits.{marks_from, no_symbol_traits};
 ghost use Rattle.elf_note.specs.Ahead.{IsAheadOf, ReadsOnCredit, WhereAgrees};
 ghost use Rattle.elf_record.specs.Sym.{IsSym};
@@ -13,7 +13,7 @@ ghost use Rattle.elf_loader.specs.Marks.{ReturnsMarks, marks_in, symbol_traits_o
 
 use crate::symbol_names::NAME_CAP;
 use crate::symbol_traits::{SymbolTraits, marked_by, no_symbol_traits};
-use elf_hash::Symbols;
+use elf_hash::DynamicSymbols;
 use elf_note::{NameIndex, ReadAhead};
 use elf_record::Sym;
 use elf_record::numbers::SHN_UNDEF;
@@ -28,7 +28,7 @@ use elf_table::{Cursor, Fault, NameBuf, NameEnd, Names, Row, Table};
 /// Those of [`ReadAhead::name`], at the symbol. Else a fault of a read.
 pub(crate) fn find_symbol_traits<S: Source>(
     src: &mut Counted<S>,
-    symbols: &Symbols,
+    symbols: &DynamicSymbols,
     count: u64,
 ) -> Result<SymbolTraits, Fault>
     requires few { count ≤ symbols.now.table.count }

@@ -11,7 +11,7 @@ use crate::flags::has_bits;
 use crate::symbol_traits::SymbolTraits;
 use crate::trait_segments::{has_segment, has_wx_load, is_stack_executable};
 use crate::trait_tags::TraitTags;
-use elf_model::{ProgramKind, Relro, SearchPath, SegmentTraits, Traits};
+use elf_model::{Hardening, ProgramKind, Relro, SearchPath, SegmentTraits};
 use elf_record::numbers::{ET_CORE, ET_DYN, ET_EXEC, ET_REL, PT_INTERP};
 use elf_table::ExecutionView;
 
@@ -34,17 +34,17 @@ const FEATURE_IBT: u64 = 0x1;
 const FEATURE_SHSTK: u64 = 0x2;
 
 /// The traits of a file, by the word of its features of x86 and the marks of its symbols.
-#[tactic(auto, unfolding(elf_model::specs::Traits::traits_with))]
+#[tactic(auto, unfolding(elf_model::specs::Hardening::traits_with))]
 pub(crate) fn traits_with(
     view: &ExecutionView<'_>,
     entries: &TraitTags,
     word: u32,
     marks: SymbolTraits,
-) -> Traits
+) -> Hardening
     ensures { (file : List ℕ) → HoldsProgramHeaders file view.now.loaded view.now.store.now →
         AreTraitEntries file entries.now → result ≡ traits_with file word (symbol_traits_of marks) }
 {
-    Traits {
+    Hardening {
         kind: program_kind(view, entries),
         segments: segment_traits(view, entries),
         ibt: has_bits(u64::from(word), FEATURE_IBT),
@@ -56,7 +56,7 @@ pub(crate) fn traits_with(
 }
 
 /// What a file is, by its type (gABI 4, ELF Header).
-#[tactic(auto, unfolding(elf_model::specs::Traits::program_kind))]
+#[tactic(auto, unfolding(elf_model::specs::Hardening::program_kind))]
 fn program_kind(view: &ExecutionView<'_>, entries: &TraitTags) -> ProgramKind
     ensures { (file : List ℕ) → HoldsProgramHeaders file view.now.loaded view.now.store.now →
         AreTraitEntries file entries.now → result ≡ program_kind file }
@@ -81,7 +81,7 @@ fn program_kind(view: &ExecutionView<'_>, entries: &TraitTags) -> ProgramKind
 
 /// What a file is that may stand at any address: a library where it has a name as one; else a program
 /// where it asks for an interpreter, and where it says so.
-#[tactic(auto, unfolding(elf_model::specs::Traits::kind_of_shared))]
+#[tactic(auto, unfolding(elf_model::specs::Hardening::kind_of_shared))]
 fn kind_of_shared(view: &ExecutionView<'_>, entries: &TraitTags) -> ProgramKind
     ensures { (file : List ℕ) → HoldsProgramHeaders file view.now.loaded view.now.store.now →
         AreTraitEntries file entries.now → result ≡ kind_of_shared file }
@@ -99,7 +99,7 @@ fn kind_of_shared(view: &ExecutionView<'_>, entries: &TraitTags) -> ProgramKind
 }
 
 /// The traits by program headers, where there are any.
-#[tactic(auto, unfolding(elf_model::specs::Traits::segment_traits))]
+#[tactic(auto, unfolding(elf_model::specs::Hardening::segment_traits))]
 fn segment_traits(view: &ExecutionView<'_>, entries: &TraitTags) -> Option<SegmentTraits>
     ensures { (file : List ℕ) → HoldsProgramHeaders file view.now.loaded view.now.store.now →
         AreTraitEntries file entries.now → result ≡ segment_traits file }
@@ -116,7 +116,7 @@ fn segment_traits(view: &ExecutionView<'_>, entries: &TraitTags) -> Option<Segme
 }
 
 /// How much is read-only once it is relocated.
-#[tactic(auto, unfolding(elf_model::specs::Traits::relro_of))]
+#[tactic(auto, unfolding(elf_model::specs::Hardening::relro_of))]
 fn relro_of(view: &ExecutionView<'_>, entries: &TraitTags) -> Relro
     ensures { (file : List ℕ) → HoldsProgramHeaders file view.now.loaded view.now.store.now →
         AreTraitEntries file entries.now → result ≡ relro_of file }
@@ -131,7 +131,7 @@ fn relro_of(view: &ExecutionView<'_>, entries: &TraitTags) -> Relro
 }
 
 /// Whether all symbols are bound before the program begins.
-#[tactic(auto, unfolding(elf_model::specs::Traits::binds_now))]
+#[tactic(auto, unfolding(elf_model::specs::Hardening::binds_now))]
 fn binds_now(entries: &TraitTags) -> bool
     ensures { (file : List ℕ) → AreTraitEntries file entries.now → result ≡ binds_now file }
 {
@@ -141,7 +141,7 @@ fn binds_now(entries: &TraitTags) -> bool
 }
 
 /// Whether relocations change a segment that is not writable.
-#[tactic(auto, unfolding(elf_model::specs::Traits::has_text_relocations))]
+#[tactic(auto, unfolding(elf_model::specs::Hardening::has_text_relocations))]
 fn has_text_relocations(entries: &TraitTags) -> bool
     ensures { (file : List ℕ) → AreTraitEntries file entries.now →
         result ≡ has_text_relocations file }
@@ -150,7 +150,7 @@ fn has_text_relocations(entries: &TraitTags) -> bool
 }
 
 /// Where libraries are looked for first.
-#[tactic(auto, unfolding(elf_model::specs::Traits::path_of))]
+#[tactic(auto, unfolding(elf_model::specs::Hardening::path_of))]
 fn path_of(entries: &TraitTags) -> SearchPath
     ensures { (file : List ℕ) → AreTraitEntries file entries.now → result ≡ path_of file }
 {

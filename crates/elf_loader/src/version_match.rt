@@ -5,14 +5,14 @@ ghost use Rattle.elf_loader.specs.Answering.{ReturnsFit};
 ghost use Rattle.elf_loader.specs.NumberSets.{has_number};
 ghost use Rattle.elf_options.specs.Wants.{asked_of};
 ghost use Rattle.elf_model.specs.Bytes.{field, slice};
-ghost use Rattle.elf_model.specs.Loader.{VersionWords as AreWordsOf, fits, version_fits};
+ghost use Rattle.elf_model.specs.Loader.{VersymTable as AreWordsOf, fits, version_fits};
 ghost use Rattle.elf_hash.specs.Symbols.{AreVersymTable};
 ghost use Rattle.elf_table.specs.Tables.{TableInBounds};
 ghost use Rattle.std.specs.Prelude.{Option};
 
 use crate::version_index_set::VersionIndexSet;
-use elf_hash::{VersionWords, VersymEntry};
-use elf_options::Asked;
+use elf_hash::{VersymEntry, VersymTable};
+use elf_options::VersionQuery;
 use elf_record::{Cause, u16_at, version_number};
 use elf_source::{Counted, Source};
 use elf_table::{Fault, fill, refused};
@@ -35,8 +35,8 @@ pub(crate) struct VersionMatch {
 /// fault of the read.
 pub(crate) fn version_fits<S: Source>(
     src: &mut Counted<S>,
-    words: &Option<VersionWords>,
-    asked: &Asked<'_>,
+    words: &Option<VersymTable>,
+    asked: &VersionQuery<'_>,
     numbers: &VersionIndexSet,
     index: u64,
 ) -> Result<VersionMatch, Fault>
@@ -64,15 +64,15 @@ pub(crate) fn version_fits<S: Source>(
 
 // Whether a version, by its word, fits what is asked for.
 #[tactic(auto, unfolding(elf_model::specs::Loader::fits))]
-fn fits(asked: &Asked<'_>, numbers: &VersionIndexSet, word: u16) -> bool
+fn fits(asked: &VersionQuery<'_>, numbers: &VersionIndexSet, word: u16) -> bool
     ensures { result ≡ fits (asked_of asked.now) (has_number numbers.now) word }
 {
     let number = version_number(word);
     let is_hidden = word != number;
     match asked {
-        Asked::NoVersion => number < 2 || !is_hidden,
-        Asked::Version(_) => numbers.contains(number),
-        Asked::DefaultVersion(_) => numbers.contains(number) && !is_hidden,
+        VersionQuery::NoVersion => number < 2 || !is_hidden,
+        VersionQuery::Version(_) => numbers.contains(number),
+        VersionQuery::DefaultVersion(_) => numbers.contains(number) && !is_hidden,
     }
 }
 

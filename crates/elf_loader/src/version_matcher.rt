@@ -4,15 +4,15 @@ ghost use Rattle.elf_table.specs.Ledger.{CallDid, fault_of_result};
 ghost use Rattle.elf_loader.specs.Answering.{SaysOf, IsSymbolWithVersym, ReturnsAnswer};
 ghost use Rattle.elf_loader.specs.NumberSets.{has_number};
 ghost use Rattle.elf_options.specs.Wants.{query_of};
-ghost use Rattle.elf_model.specs.Loader.{Symbols as AreSymbolsOf, answers};
+ghost use Rattle.elf_model.specs.Loader.{DynamicSymbols as AreSymbolsOf, answers};
 ghost use Rattle.elf_model.specs.Names.{pad64};
 ghost use Rattle.elf_hash.specs.Symbols.{IsDynamicSymbols, DynamicSymbolsInBounds};
 
 use crate::exported::is_exported;
 use crate::version_index_set::VersionIndexSet;
 use crate::version_match::version_fits;
-use elf_hash::{Matcher, SymbolMatch, Symbols};
-use elf_options::Wanted;
+use elf_hash::{DynamicSymbols, Matcher, SymbolMatch};
+use elf_options::SymbolQuery;
 use elf_source::{Counted, Source};
 use elf_table::Fault;
 
@@ -20,9 +20,9 @@ use elf_table::Fault;
 #[derive(Clone, Copy)]
 pub struct VersionMatcher<'a> {
     /// The symbols.
-    pub symbols: &'a Symbols,
+    pub symbols: &'a DynamicSymbols,
     /// What is wanted.
-    pub wanted: &'a Wanted<'a>,
+    pub wanted: &'a SymbolQuery<'a>,
     /// The numbers of the wanted version.
     pub numbers: &'a VersionIndexSet,
 }
@@ -59,8 +59,8 @@ impl<'a> Matcher for VersionMatcher<'a> {
 // Else a fault of a read.
 fn answering<S: Source>(
     src: &mut Counted<S>,
-    symbols: &Symbols,
-    wanted: &Wanted<'_>,
+    symbols: &DynamicSymbols,
+    wanted: &SymbolQuery<'_>,
     numbers: &VersionIndexSet,
     index: u64,
 ) -> Result<Option<SymbolMatch>, Fault>

@@ -7,7 +7,7 @@ ghost use Rattle.elf_model.specs.Versions.{VisitedRecord, max_records, names_ver
 ghost use Rattle.elf_hash.specs.Symbols.{VersionRecordsInBounds, DynamicSymbolsInBounds};
 ghost use Rattle.elf_note.specs.Reading.{IsVersion};
 
-use elf_hash::{Symbols, VersionRecordTable};
+use elf_hash::{DynamicSymbols, VersionRecordTable};
 use elf_note::{VersionCursor, VersionRecord};
 use elf_record::{VersionKind, version_number};
 use elf_source::{Counted, Source};
@@ -74,7 +74,7 @@ fn file_of(given: &VersionRecord, before: Option<VersionRecord>) -> Option<Versi
 /// As for [`VersionCursor::advance`], of what comes before.
 pub fn name_of<S: Source>(
     src: &mut Counted<S>,
-    symbols: &Symbols,
+    symbols: &DynamicSymbols,
     number: u16,
 ) -> Result<Option<VersionNameRecord>, Fault>
     requires lies { DynamicSymbolsInBounds src.old.seen.size symbols.now }

@@ -2,7 +2,7 @@
 use Rattle.std.proofs.Common.{◌≡◌, ℕ, ◌+◌, ◌-◌, ◌<◌, List, [], ◌∷◌, ◌++◌, length, take, drop, Some, Ok, inl, refl, ap, sym, ◌∙◌, arith, length-drop, length-take}
 use Rattle.std.proofs.lemmas.List.{take_all, take_at, take-take, append_assoc}
 use Rattle.elf_model.specs.Bytes.{slice}
-use Rattle.elf_model.specs.Names.{IsNulTerminatedAt, Name, nul_in}
+use Rattle.elf_model.specs.Names.{IsNulTerminatedAt, IsNameOf, nul_in}
 use Rattle.elf_model.proofs.NameLemmas.{inside-full, inside-below}
 use Rattle.elf_model.proofs.Nuls.{free-none, free-take, some-free, split_at_nul}
 use Rattle.elf_model.proofs.Slices.{slice-rest}
@@ -27,7 +27,7 @@ sized table index place below h = rw (inside-full table index below, inside-belo
 
 -- where the table is a range of a file, it is a range of the file too
 pub found_name : (file : List ℕ) (at size index place : ℕ) → index < length (slice file at size) → nul_in (drop index (slice file at size)) ≡ Some place
-    → Name (slice file at size) index (slice file (at + index) place)
+    → IsNameOf (slice file at size) index (slice file (at + index) place)
 found_name file at size index place below h =
     let table : List ℕ = slice file at size in
     let f = some-free (drop index table) place h in

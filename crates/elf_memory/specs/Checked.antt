@@ -7,13 +7,13 @@ use Rattle.elf_record.specs.declared.ehdr.Ehdr.{Ehdr}
 use Rattle.elf_table.specs.Load.{PassesLoadChecks}
 
 -- how many headers may be permitted at most
-abbrev pub MOST_HEADERS : ℕ
-MOST_HEADERS = 65279
+abbrev pub MAX_HEADERS : ℕ
+MAX_HEADERS = 65279
 
 -- the first check that fails before a file's section headers and program headers are read, with as many of them permitted
 -- as can be
 abbrev pub first_refused : List ℕ → Option Refusal
-first_refused file = first_refusal (before_headers file MOST_HEADERS)
+first_refused file = first_refusal (before_headers file MAX_HEADERS)
 
 -- the file header, or its first check that fails
 abbrev pub HeaderChecked : List ℕ → Result Ehdr Refusal → Type 0
@@ -22,5 +22,5 @@ HeaderChecked file (Err refusal) = first_refusal (header_checks file) ≡ Some r
 
 -- the file header, whose headers lie within the file, or the first check that fails
 abbrev pub CountsChecked : List ℕ → Result Ehdr Refusal → Type 0
-CountsChecked file (Ok header) = (first_refused file ≡ None) × IsEhdr file 0 header × PassesLoadChecks (length file) MOST_HEADERS header
+CountsChecked file (Ok header) = (first_refused file ≡ None) × IsEhdr file 0 header × PassesLoadChecks (length file) MAX_HEADERS header
 CountsChecked file (Err refusal) = first_refused file ≡ Some refusal

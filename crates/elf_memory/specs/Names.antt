@@ -1,7 +1,7 @@
 -- Where a name in a string table of a file in memory lies.
 use Rattle.std.specs.Prelude.{ℕ, ◌≡◌, ◌+◌, ◌-◌, ◌^◌, min, nat_lt, if◌then◌else◌, List, length, drop, Option, None, Some, Result, Ok, Err}
 use Rattle.elf_model.specs.Bytes.{slice}
-use Rattle.elf_model.specs.Names.{Name, nul_in, is_empty_at_zero}
+use Rattle.elf_model.specs.Names.{IsNameOf, nul_in, is_empty_at_zero}
 use Rattle.elf_model.specs.declared.causes.Cause.{Cause}
 use Rattle.elf_model.specs.declared.causes.Cause.TheVariants.{NameOutside, NameUnended}
 use Rattle.elf_model.specs.declared.causes.Refusal.{Refusal}
@@ -26,7 +26,7 @@ name_size table index =
 -- WHERE A NAME LIES: bytes of the file that are the name at that index of the string table; or why it has none
 abbrev pub FindsName : List ℕ → ByteRange → ℕ → Result (Option ByteRange) Refusal → Type 0
 FindsName file strings index (Ok (Some name)) =
-    (name.at ≡ strings.at + index) × (name_size (bytes_in_range file strings) index ≡ Ok name.len) × Name (bytes_in_range file strings) index (bytes_in_range file name)
+    (name.at ≡ strings.at + index) × (name_size (bytes_in_range file strings) index ≡ Ok name.len) × IsNameOf (bytes_in_range file strings) index (bytes_in_range file name)
 FindsName file strings index (Ok None) = ⊥
 FindsName file strings index (Err refusal) =
     (refusal.at ≡ min (strings.at + index) (2 ^ 64 - 1)) × (name_size (bytes_in_range file strings) index ≡ Err refusal.cause)

@@ -7,7 +7,7 @@ use elf_record::{Ehdr, Refusal};
 use elf_table::{check_before_load, refused_length};
 
 /// How many section headers, and as many program headers, are permitted at most.
-const MOST_HEADERS: u16 = 65_279;
+const MAX_HEADERS: u16 = 65_279;
 
 /// The file header (gABI 4, ELF Header).
 ///
@@ -32,7 +32,7 @@ pub(crate) fn checked_counts(file: &[u8]) -> Result<Ehdr, Refusal>
     ensures { CountsChecked file.now result }
 {
     let header = checked_header(file)?;
-    match check_before_load(&header, file.len() as u64, MOST_HEADERS) {
+    match check_before_load(&header, file.len() as u64, MAX_HEADERS) {
         Some(refusal) => Err(refusal),
         None => Ok(header),
     }

@@ -8,7 +8,7 @@ use crate::name::ByteRange;
 use crate::section::{Section, section_at, section_place};
 use elf_record::numbers::{SHT_NOBITS, SHT_NULL};
 use elf_record::{Cause, Refusal};
-use elf_table::ends_outside;
+use elf_table::is_out_of_bounds;
 
 /// Where the bytes of a section lie in a file that lies in memory; None where the file has no such
 /// section, or one of the type NOBITS or NULL, which has none there. No other section header is
@@ -28,7 +28,7 @@ pub fn section_bytes(file: &[u8], section: u16) -> Result<Option<ByteRange>, Ref
     if has_no_bytes(&header) {
         return Ok(None);
     }
-    if ends_outside(file.len() as u64, header.offset, header.size) {
+    if is_out_of_bounds(file.len() as u64, header.offset, header.size) {
         return Err(Refusal {
             at: place as u64,
             cause: Cause::TableOutside,

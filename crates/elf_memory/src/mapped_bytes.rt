@@ -3,7 +3,7 @@ ghost use Rattle.std.specs.Prelude.{◌≡◌, ◌≤◌, ℕ, List, length, tru
 ghost use Rattle.elf_model.specs.Mapped.{is_mapped_by};
 ghost use Rattle.elf_record.specs.Ehdr.{IsEhdr};
 ghost use Rattle.elf_table.specs.Load.{PassesLoadChecks};
-ghost use Rattle.elf_memory.specs.Checked.{MOST_HEADERS};
+ghost use Rattle.elf_memory.specs.Checked.{MAX_HEADERS};
 ghost use Rattle.elf_memory.specs.Headers.{IsSegment};
 ghost use Rattle.elf_memory.specs.MappedBytes.{FindsMapping, ReadsMapped};
 
@@ -45,7 +45,7 @@ pub fn find_mapped(file: &[u8], address: u64, size: u64) -> Result<Option<ByteRa
 /// Where the first LOAD program header stands that holds `size` bytes from an address on.
 fn mapping(file: &[u8], header: &Ehdr, address: u64, size: u64) -> Option<usize>
     requires same { IsEhdr file.now 0 header.now }
-    requires within { PassesLoadChecks (length file.now) MOST_HEADERS header.now }
+    requires within { PassesLoadChecks (length file.now) MAX_HEADERS header.now }
     ensures { FindsMapping file.now address size result }
 {
     let first = header.e_phoff as usize;

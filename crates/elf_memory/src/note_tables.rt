@@ -7,7 +7,7 @@ use crate::section::{section_at, section_place};
 use crate::segment::{segment_at, segment_place};
 use elf_record::numbers::{PT_NOTE, SHT_NOTE};
 use elf_record::{Cause, Refusal};
-use elf_table::ends_outside;
+use elf_table::is_out_of_bounds;
 
 /// The notes of a section of a file that lies in memory; None where it has no such section, or one
 /// of another type than NOTE (gABI 5, Note Section).
@@ -64,7 +64,7 @@ pub fn segment_notes(file: &[u8], segment: u16) -> Result<Option<NotePosition>, 
 fn within(size: u64, place: u64, notes: NotePosition) -> Result<Option<NotePosition>, Refusal>
     ensures { InFile size place notes result }
 {
-    if notes.left != 0 && ends_outside(size, notes.at, notes.left) {
+    if notes.left != 0 && is_out_of_bounds(size, notes.at, notes.left) {
         return Err(Refusal {
             at: place,
             cause: Cause::TableOutside,

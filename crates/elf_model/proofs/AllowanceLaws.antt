@@ -4,7 +4,7 @@ use Rattle.std.proofs.Math.Nat.{mul-le-mul_left, mul-le-mul_right, mul-add, add-
 use Rattle.elf_model.specs.ArchiveCost.{allowance, archive_ceiling, data_most, long_name_bytes}
 use Rattle.elf_model.specs.Cost.{style_ceiling, suffixes_most}
 use Rattle.elf_model.specs.Names.{name_bytes}
-use Rattle.elf_model.specs.Style.{Style}
+use Rattle.elf_model.specs.Style.{ListingStyle}
 use Rattle.elf_model.proofs.CostLemmas.{most_bound, style_ceiling-is}
 
 -- an empty file has no data
@@ -13,7 +13,7 @@ no_data true cap = omega arith
 no_data false cap = omega arith
 
 -- a ceiling is that of an empty file, and what the data may cost
-pub ceiling_is : (size headers : ℕ) (style : Style) → style_ceiling size headers style ≡ style_ceiling 0 headers style + headers * data_most size style
+pub ceiling_is : (size headers : ℕ) (style : ListingStyle) → style_ceiling size headers style ≡ style_ceiling 0 headers style + headers * data_most size style
 ceiling_is size headers style =
     let bare : ℕ = 120 + name_bytes style.cap in
     let more : ℕ = most_bound style.versions size style.cap in
@@ -44,14 +44,14 @@ more_within : (versions : Bool) (part rest all cap : ℕ) → part + rest ≤ al
 more_within true part rest all cap within = suffixes_within part rest all cap within
 more_within false part rest all cap within = omega arith
 
-data_within : (part rest all : ℕ) (style : Style) → part + rest ≤ all → data_most part style + data_most rest style ≤ data_most all style
+data_within : (part rest all : ℕ) (style : ListingStyle) → part + rest ≤ all → data_most part style + data_most rest style ≤ data_most all style
 data_within part rest all style within =
     let plain = each_within part rest all (32 + name_bytes style.cap) within in
     let more = more_within style.versions part rest all style.cap within in
     omega (arith, plain, more)
 
 -- a member takes what it may cost of an allowance
-pub allowed : (room rest size headers : ℕ) (style : Style) → 60 + size + rest ≤ room
+pub allowed : (room rest size headers : ℕ) (style : ListingStyle) → 60 + size + rest ≤ room
     → (60 + long_name_bytes style.cap) + (4 + style_ceiling size headers style) + allowance rest headers style ≤ allowance room headers style
 allowed room rest size headers style within =
     let bare : ℕ = 64 + long_name_bytes style.cap + style_ceiling 0 headers style in
@@ -65,11 +65,11 @@ allowed room rest size headers style within =
     omega (arith, product, split, filled, both, ceiling_is size headers style)
 
 -- a member's header takes no more
-pub header_allowed : (room headers : ℕ) (style : Style) → 60 ≤ room → 60 + long_name_bytes style.cap ≤ allowance room headers style
+pub header_allowed : (room headers : ℕ) (style : ListingStyle) → 60 ≤ room → 60 + long_name_bytes style.cap ≤ allowance room headers style
 header_allowed room headers style within = omega (arith, allowed room 0 0 headers style (omega arith))
 
 -- an allowance of all bytes behind the magic string is within the ceiling
-pub allowance_within : (size headers : ℕ) (style : Style) → 8 + allowance (size - 8) headers style ≤ archive_ceiling size headers style
+pub allowance_within : (size headers : ℕ) (style : ListingStyle) → 8 + allowance (size - 8) headers style ≤ archive_ceiling size headers style
 unfolding archive_ceiling
 allowance_within size headers style =
     let bare : ℕ = 64 + long_name_bytes style.cap + style_ceiling 0 headers style in

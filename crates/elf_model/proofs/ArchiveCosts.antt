@@ -7,7 +7,7 @@ use Rattle.elf_model.specs.ArchiveLaws.{ArchiveCostIsWithinCeiling, DataLieInThe
 use Rattle.elf_model.specs.Checks.{pass}
 use Rattle.elf_model.specs.Cost.{cost_where, listing_cost, style_ceiling}
 use Rattle.elf_model.specs.Names.{DisplayedName}
-use Rattle.elf_model.specs.Style.{Style}
+use Rattle.elf_model.specs.Style.{ListingStyle}
 use Rattle.elf_model.specs.declared.causes.Cause.{Cause}
 use Rattle.elf_model.specs.declared.causes.Cause.TheVariants.{MemberCut}
 use Rattle.elf_model.proofs.AllowanceLaws.{allowed, allowance_within, header_allowed}
@@ -97,7 +97,7 @@ header_none : (file : List ℕ) (cap : ℕ) (p : MemberWalkState) → nat_le (p.
 unfolding header_cost
 header_none file cap p is = rw is refl
 
-header_within : (file : List ℕ) (headers : ℕ) (style : Style) (p : MemberWalkState) → header_cost file style.cap p ≤ allowance (length file - p.at) headers style
+header_within : (file : List ℕ) (headers : ℕ) (style : ListingStyle) (p : MemberWalkState) → header_cost file style.cap p ≤ allowance (length file - p.at) headers style
 header_within file headers style p = by_room (nat_le (p.at + 60) (length file)) refl
   where
     by_room : (t : Bool) → nat_le (p.at + 60) (length file) ≡ t → header_cost file style.cap p ≤ allowance (length file - p.at) headers style
@@ -107,7 +107,7 @@ header_within file headers style p = by_room (nat_le (p.at + 60) (length file)) 
     by_room false r = omega (arith, header_none file style.cap p r)
 
 -- a member costs no more than what its data are allowed
-member_most : (file : List ℕ) (headers : ℕ) (style : Style) (parts : ℕ) (m : Member) → m.extent.at + m.extent.size ≤ length file
+member_most : (file : List ℕ) (headers : ℕ) (style : ListingStyle) (parts : ℕ) (m : Member) → m.extent.at + m.extent.size ≤ length file
     → member_cost file headers style parts m ≤ 4 + style_ceiling m.extent.size headers style
 unfolding member_cost
 member_most file headers style parts m lies =
@@ -119,7 +119,7 @@ member_most file headers style parts m lies =
     omega (arith, same, file_cost, shown, all)
 
 -- and the members from a place on no more than the bytes from there on
-members_within : (most : ℕ) (file : List ℕ) (headers : ℕ) (style : Style) (parts : ℕ) (p : MemberWalkState)
+members_within : (most : ℕ) (file : List ℕ) (headers : ℕ) (style : ListingStyle) (parts : ℕ) (p : MemberWalkState)
     → members_cost most file headers style parts p ≤ allowance (length file - p.at) headers style
 unfolding members_cost
 members_within zero file headers style parts p = omega arith

@@ -7,7 +7,7 @@ use Rattle.std.proofs.lemmas.Bool.Decides.{nat_tests}
 use Rattle.std.proofs.lemmas.List.Sorted.{list_any-IsPermutation}
 use Rattle.elf_model.specs.Choice.{EveryRow, NoSuffix, RowsOf, Suffix, Suffixed, is_named, is_whole, suits, wanted_text}
 use Rattle.elf_model.specs.ChoiceLaws.{CutNamesAreNone, NamesAloneAreChosen, NamesAreChosen, NamesFitEveryVersion, OrderChoosesNothing, VersionsAreChosen, has_sign, has_sign_first, has_version}
-use Rattle.elf_model.specs.Loader.{AT_SIGN, Asked, NoVersion, Version, DefaultVersion, Wanted, asked_after, parse_query}
+use Rattle.elf_model.specs.Loader.{AT_SIGN, VersionQuery, NoVersion, Version, DefaultVersion, SymbolQuery, asked_after, parse_query}
 use Rattle.elf_model.specs.Names.{DisplayedName}
 use Rattle.elf_model.specs.Names.DisplayedName.{Whole, Cut}
 
@@ -222,10 +222,10 @@ versions_are_chosen texts name is_default version =
     any_fits texts name (Suffixed is_default version) ∙ ap (λ b. not (has_sign name) && b) (any_version texts name is_default version)
 
 -- a name that is asked for alone fits whatever stands behind it
-alone_fits : (name : DisplayedName) (behind : Suffix) (wanted : Wanted) → is_named name NoSuffix wanted ≡ true → is_named name behind wanted ≡ true
+alone_fits : (name : DisplayedName) (behind : Suffix) (wanted : SymbolQuery) → is_named name NoSuffix wanted ≡ true → is_named name behind wanted ≡ true
 alone_fits name behind wanted fit = by (is_whole name wanted.name) wanted.asked fit
   where
-    by : (whole : Bool) (asked : Asked) → whole && suits asked NoSuffix ≡ true → whole && suits asked behind ≡ true
+    by : (whole : Bool) (asked : VersionQuery) → whole && suits asked NoSuffix ≡ true → whole && suits asked behind ≡ true
     by whole NoVersion fit = fit
     by true (Version version) fit = absurd (true≢false (sym fit))
     by true (DefaultVersion version) fit = absurd (true≢false (sym fit))
@@ -240,7 +240,7 @@ pub names_fit_every_version : NamesFitEveryVersion
 names_fit_every_version EveryRow name behind shown = refl
 names_fit_every_version (RowsOf wanted) name behind shown = go wanted shown
   where
-    go : (wanted : List Wanted) → list_any (is_named name NoSuffix) wanted ≡ true → list_any (is_named name behind) wanted ≡ true
+    go : (wanted : List SymbolQuery) → list_any (is_named name NoSuffix) wanted ≡ true → list_any (is_named name behind) wanted ≡ true
     go [] any = any
     go (first ∷ wanted) any = elim (cases_Bool (is_named name NoSuffix first)) [
       | inl fit ↦ rw (alone_fits name behind first fit) refl

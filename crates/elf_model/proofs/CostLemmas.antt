@@ -16,7 +16,7 @@ use Rattle.elf_model.specs.Versions.{DEFINITION_SIZE, DEFINED_NAME_SIZE, NEED_SI
 use Rattle.elf_model.specs.VersionRows.{version_definitions, version_needs, symbol_versions}
 use Rattle.elf_model.specs.TableKinds.{TableHeaders, symbols, relocations, section_dynamic, section_notes, segment_notes, segment_dynamic, section_kinds, segment_kinds, relocations_with_versions, suffixed_symbols, suffixes_cost, by_sections, by_segments, table_headers}
 use Rattle.elf_model.specs.Cost.{sum_over, cost_where, table_cost, kinds_cost, is_loadable, needs_segments, sections_cost, segments_cost, tables_cost, after_header as asked_after, listing_cost, ceiling, style_ceiling, suffixes_most}
-use Rattle.elf_model.specs.Style.{Style, viewed}
+use Rattle.elf_model.specs.Style.{ListingStyle, viewed}
 use Rattle.elf_model.specs.Suffixes.{first_numbers}
 use Rattle.elf_model.proofs.CheckSteps.{all_pass, pass-behind}
 use Rattle.elf_model.proofs.StyleLemmas.{view_length}
@@ -298,7 +298,7 @@ unfolding table_headers
 headers_some versions file h = rw (h, table_headers) refl
 
 -- where there are no sections all tables are those of the program headers
-without_sections : (file : List ℕ) (style : Style) (parts headers : ℕ) → (e_shnum file == 0) ≡ true → e_phnum file ≤ headers
+without_sections : (file : List ℕ) (style : ListingStyle) (parts headers : ℕ) → (e_shnum file == 0) ≡ true → e_phnum file ≤ headers
     → sections_cost file style.cap parts + segments_cost file parts + tables_cost file style parts
     ≤ headers * (120 + name_bytes style.cap + most_bound style.versions (length file) style.cap)
 unfolding sections_cost segments_cost tables_cost
@@ -318,7 +318,7 @@ without_sections file style parts headers z p =
     omega arith
 
 -- where there are sections they are those of the section headers
-with_sections : (file : List ℕ) (style : Style) (parts headers : ℕ) → (e_shnum file == 0) ≡ false → e_shnum file ≤ headers → e_phnum file ≤ headers
+with_sections : (file : List ℕ) (style : ListingStyle) (parts headers : ℕ) → (e_shnum file == 0) ≡ false → e_shnum file ≤ headers → e_phnum file ≤ headers
     → sections_cost file style.cap parts + segments_cost file parts + tables_cost file style parts
     ≤ headers * (120 + name_bytes style.cap + most_bound style.versions (length file) style.cap)
 unfolding sections_cost segments_cost tables_cost
@@ -339,7 +339,7 @@ with_sections file style parts headers z s p =
     omega arith
 
 -- what is asked for behind the file header is within the ceiling
-after_header : (file : List ℕ) (style : Style) (parts headers : ℕ) (none : Bool) → (e_shnum file == 0) ≡ none → is_loadable file headers ≡ true
+after_header : (file : List ℕ) (style : ListingStyle) (parts headers : ℕ) (none : Bool) → (e_shnum file == 0) ≡ none → is_loadable file headers ≡ true
     → sections_cost file style.cap parts + segments_cost file parts + tables_cost file style parts
     ≤ headers * (120 + name_bytes style.cap + most_bound style.versions (length file) style.cap)
 after_header file style parts headers true z h = without_sections file style parts headers z (loadable-within file headers h).1
@@ -348,7 +348,7 @@ after_header file style parts headers false z h =
     with_sections file style parts headers z l.0 l.1
 
 -- the ceiling of a style, by that of the tables of each header
-pub style_ceiling-is : (size headers : ℕ) (style : Style)
+pub style_ceiling-is : (size headers : ℕ) (style : ListingStyle)
     → style_ceiling size headers style ≡ 64 + headers * (120 + name_bytes style.cap + most_bound style.versions size style.cap)
 unfolding style_ceiling ceiling
 style_ceiling-is size headers style = by_cases style.versions
@@ -371,7 +371,7 @@ style_ceiling-is size headers style = by_cases style.versions
         omega (arith, same)
 
 -- what a listing asks for is within it
-after_within : (file : List ℕ) (headers : ℕ) (style : Style) (parts : ℕ) → 64 + asked_after file headers style parts ≤ style_ceiling (length file) headers style
+after_within : (file : List ℕ) (headers : ℕ) (style : ListingStyle) (parts : ℕ) → 64 + asked_after file headers style parts ≤ style_ceiling (length file) headers style
 after_within file headers style parts =
     let within = cost_where-within (has_tables parts && is_loadable file headers)
     (sections_cost file style.cap parts + segments_cost file parts + tables_cost file style parts)

@@ -7,7 +7,7 @@ use Rattle.std.proofs.Common.{◌≡◌, ℕ, suc, zero, ◌+◌, ◌==◌, Bool
 use Rattle.elf_model.specs.Checks.{Check, first_refusal, header_checks, load_checks}
 use Rattle.elf_model.specs.Lines.{header_line, refusal_line}
 use Rattle.elf_model.specs.Listing.{ListingItem, Line, Fault, lines_of, fault_of, report_of, guarded, where_asked, each, has, has_tables, all_parts, known_parts, file_header_items, HEADER}
-use Rattle.elf_model.specs.Style.{Style, viewed}
+use Rattle.elf_model.specs.Style.{ListingStyle, viewed}
 use Rattle.elf_model.specs.Report.{listing, load_items, loaded_items}
 use Rattle.elf_model.specs.declared.causes.Refusal.{Refusal}
 use Rattle.elf_model.specs.ListingLaws.{LastRowIsLast, RowsSplit, HeaderAloneIsListed, HeaderFaultIsListedAlone, LoadFaultIsListedSecond, NothingAfterTheFault, ListingsAppend, OtherBitsMeanNothing}
@@ -41,7 +41,7 @@ guarded-passes checks members h = rw (h, guarded) refl
 pub asked-true : (parts part : ℕ) (members : List ListingItem) → has parts part ≡ true → where_asked parts part members ≡ members
 asked-true parts part members h = rw (h, where_asked) refl
 
-pub load_none : (file : List ℕ) (headers : ℕ) (style : Style) (parts : ℕ) → has_tables parts ≡ false → load_items file headers style parts ≡ []
+pub load_none : (file : List ℕ) (headers : ℕ) (style : ListingStyle) (parts : ℕ) → has_tables parts ≡ false → load_items file headers style parts ≡ []
 unfolding load_items
 load_none file headers style parts h = by_cases (has_tables parts) h
   where
@@ -50,7 +50,7 @@ load_none file headers style parts h = by_cases (has_tables parts) h
     by_cases false h = refl
     by_cases true h = cc
 
-pub load_some : (file : List ℕ) (headers : ℕ) (style : Style) (parts : ℕ) → has_tables parts ≡ true
+pub load_some : (file : List ℕ) (headers : ℕ) (style : ListingStyle) (parts : ℕ) → has_tables parts ≡ true
     → load_items file headers style parts ≡ guarded (load_checks file headers) (loaded_items file style parts)
 unfolding load_items
 load_some file headers style parts h = by_cases (has_tables parts) (guarded (load_checks file headers) (loaded_items file style parts)) h
@@ -109,15 +109,15 @@ header_of_all : (gnu : Bool) → bit_and (all_parts gnu) HEADER ≡ HEADER
 header_of_all true = refl
 header_of_all false = refl
 
-known_once : (style : Style) (parts : ℕ) → known_parts style (known_parts style parts) ≡ known_parts style parts
+known_once : (style : ListingStyle) (parts : ℕ) → known_parts style (known_parts style parts) ≡ known_parts style parts
 known_once style parts =
     and_assoc (all_parts style.gnu) parts (all_parts style.gnu) ∙ ap (bit_and parts) (all_of_all style.gnu)
 
-header_known : (style : Style) (parts : ℕ) → has (known_parts style parts) HEADER ≡ has parts HEADER
+header_known : (style : ListingStyle) (parts : ℕ) → has (known_parts style parts) HEADER ≡ has parts HEADER
 header_known style parts =
     ap (λ n. n == HEADER) (and_assoc HEADER parts (all_parts style.gnu) ∙ ap (bit_and parts) (header_of_all style.gnu))
 
-listing_known : (file : List ℕ) (headers : ℕ) (style : Style) (parts : ℕ)
+listing_known : (file : List ℕ) (headers : ℕ) (style : ListingStyle) (parts : ℕ)
     → listing file headers style (known_parts style parts) ≡ listing file headers style parts
 unfolding listing
 listing_known file headers style parts =
@@ -127,7 +127,7 @@ listing_known file headers style parts =
     (header_known style parts)
     ∙ ap (λ known. guarded (header_checks file) (where_asked parts HEADER line ++ load_items view headers style known)) (known_once style parts)
 
-cost_known : (file : List ℕ) (headers : ℕ) (style : Style) (parts : ℕ)
+cost_known : (file : List ℕ) (headers : ℕ) (style : ListingStyle) (parts : ℕ)
     → listing_cost file headers style (known_parts style parts) ≡ listing_cost file headers style parts
 unfolding listing_cost
 cost_known file headers style parts =

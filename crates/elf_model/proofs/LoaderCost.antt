@@ -13,7 +13,7 @@ use Rattle.elf_model.specs.LoaderLaws.{LoaderCostIsWithinCeiling}
 use Rattle.elf_model.specs.LoaderScope.{HashStyle, GnuTable, SysvTable, LookupTables, lookup_tables_of, dynamic_segment_index}
 use Rattle.elf_model.specs.Records.{e_shnum, e_phnum, p_offset, p_filesz, segment_at, versym}
 use Rattle.elf_model.specs.Tables.{segment_dynamic_checks}
-use Rattle.elf_model.specs.Loader.{Wanted, Asked, asked_name, VersionWords, versym_at, answers, is_among, VersionRecordRead, Meets, Refuses, Misses, VersionRecordTable, NumberNameSource, position_after, has_record, end_reading, meetings, readings_of, readings, compared_with, naming_of}
+use Rattle.elf_model.specs.Loader.{SymbolQuery, VersionQuery, asked_name, VersymTable, versym_at, answers, is_among, VersionRecordRead, Meets, Refuses, Misses, VersionRecordTable, NumberNameSource, position_after, has_record, end_reading, meetings, readings_of, readings, compared_with, naming_of}
 use Rattle.elf_model.specs.Names.{DisplayedName, same, shown, pad64}
 use Rattle.elf_model.specs.Versions.{VisitedRecord, RecordCursorState, number_in, names_version, names_version_index, name_index, max_records, versions_in}
 use Rattle.elf_model.specs.declared.causes.Cause.{Cause}
@@ -115,7 +115,7 @@ module _ (file : List ℕ) (scope : LookupTables) where
       let fits = ltb-false scope.table.size (8 + 4 * sysv_nbucket file scope.table.place + 4 * sysv_nchain file scope.table.place) s in
       omega arith
 
-  walk_short : (wanted : Wanted) (is_wanted : ℕ → Bool) (size : ℕ) (kind : HashStyle) → scope.kind ≡ kind → scope.table.size ≤ size
+  walk_short : (wanted : SymbolQuery) (is_wanted : ℕ → Bool) (size : ℕ) (kind : HashStyle) → scope.kind ≡ kind → scope.table.size ≤ size
       → first_refusal (counts_check file scope ∷ []) ≡ None → IsShort size (walk_in file scope wanted is_wanted)
   unfolding walk_in
   walk_short wanted is_wanted size GnuTable k inside e =
@@ -130,7 +130,7 @@ module _ (file : List ℕ) (scope : LookupTables) where
       let fits = counts_fit _ _ refl refl k e in
       rw (k, walk_in) (record { few_tried = omega arith; few_words = omega arith })
 
-  told_few : (words : VersionWords) (y size : ℕ) (walked : ChainResult) (naming : NumberNameSource) → IsShort size walked → naming.read ≤ size / 8
+  told_few : (words : VersymTable) (y size : ℕ) (walked : ChainResult) (naming : NumberNameSource) → IsShort size walked → naming.read ≤ size / 8
       → IsSmallFolder size (named_by_record file scope words y walked naming)
   unfolding named_by_record
   told_few words y size walked naming short few = go naming.found refl
@@ -147,7 +147,7 @@ module _ (file : List ℕ) (scope : LookupTables) where
           unnamed (Some refusal) r = rw (f, r, named_by_record) (record { few_tried = short.few_tried; few_words = short.few_words; few_records = few })
           unnamed None r = rw (f, r, named_by_record) (record { few_tried = short.few_tried; few_words = short.few_words; few_records = few })
 
-  found_few : (asked : Asked) (records y size : ℕ) (walked : ChainResult) (words : Option VersionWords) → IsShort size walked → records ≤ size / 8
+  found_few : (asked : VersionQuery) (records y size : ℕ) (walked : ChainResult) (words : Option VersymTable) → IsShort size walked → records ≤ size / 8
       → max_records_of scope.symbols.records ≤ size / 8 → IsSmallFolder size (found_in file scope asked records y walked words)
   unfolding found_in
   found_few asked records y size walked None short few most =
@@ -166,7 +166,7 @@ module _ (file : List ℕ) (scope : LookupTables) where
                 rw (n, large, found_in) (told_few words y size walked naming short (omega arith))
           ]
 
-  looked_few : (asked : Asked) (records size : ℕ) (walked : ChainResult) → IsShort size walked → records ≤ size / 8
+  looked_few : (asked : VersionQuery) (records size : ℕ) (walked : ChainResult) → IsShort size walked → records ≤ size / 8
       → max_records_of scope.symbols.records ≤ size / 8 → IsSmallFolder size (looked_by file scope asked records walked)
   unfolding looked_by
   looked_few asked records size walked short few most = go walked.answer refl
@@ -176,7 +176,7 @@ module _ (file : List ℕ) (scope : LookupTables) where
       go (Ok None) a = rw (a, looked_by) (record { few_tried = short.few_tried; few_words = short.few_words; few_records = few })
       go (Ok (Some y)) a = rw (a, looked_by) (found_few asked records y size walked scope.symbols.words short few most)
 
-  numbers_few : (asked : Asked) (size : ℕ) → max_records_of scope.symbols.records ≤ size / 8 → (version_indices file scope asked).read ≤ size / 8
+  numbers_few : (asked : VersionQuery) (size : ℕ) → max_records_of scope.symbols.records ≤ size / 8 → (version_indices file scope asked).read ≤ size / 8
   unfolding version_indices
   numbers_few asked size most = go (asked_name asked) refl
     where
@@ -184,14 +184,14 @@ module _ (file : List ℕ) (scope : LookupTables) where
       go None n = rw (n, version_indices) (omega arith)
       go (Some version) n = worded scope.symbols.words refl
         where
-          worded : (words : Option VersionWords) → scope.symbols.words ≡ words → (version_indices file scope asked).read ≤ size / 8
+          worded : (words : Option VersymTable) → scope.symbols.words ≡ words → (version_indices file scope asked).read ≤ size / 8
           worded None w = rw (n, w, version_indices) (omega arith)
           worded (Some words) w =
               let less = compared_few file version (readings file scope.symbols.records) in
               let all = readings_few file scope.symbols.records in
               rw (n, w, version_indices) (omega arith)
 
-  loaded_few : (wanted : Wanted) (size : ℕ) → IsInside size scope → IsSmallFolder size (loaded_in file scope wanted)
+  loaded_few : (wanted : SymbolQuery) (size : ℕ) → IsInside size scope → IsSmallFolder size (loaded_in file scope wanted)
   unfolding loaded_in
   loaded_few wanted size inside = go (first_refusal (counts_check file scope ∷ [])) (version_indices file scope wanted.asked).refused refl refl
     where
@@ -206,7 +206,7 @@ module _ (file : List ℕ) (scope : LookupTables) where
           let short = walk_short wanted (λ number. is_among number (version_indices file scope wanted.asked).numbers) size _ refl inside.table_inside s in
           rw (s, r, loaded_in) (looked_few wanted.asked (version_indices file scope wanted.asked).read size _ short few inside.few_records)
 
-looked_up_few : (file : List ℕ) (headers : ℕ) (wanted : Wanted) → IsSmallFolder (length file) (loader_looked file headers wanted)
+looked_up_few : (file : List ℕ) (headers : ℕ) (wanted : SymbolQuery) → IsSmallFolder (length file) (loader_looked file headers wanted)
 unfolding loader_looked
 looked_up_few file headers wanted = go (lookup_tables_of file headers) refl
   where

@@ -5,7 +5,7 @@ use Rattle.elf_model.specs.Chains.{ChainResult}
 use Rattle.elf_model.specs.Checks.{first_refusal}
 use Rattle.elf_model.specs.GnuHash.{gnu_hash}
 use Rattle.elf_model.specs.Hash.{sysv_hash, Found, Refused}
-use Rattle.elf_model.specs.Loader.{Wanted, Asked, asked_name, VersionWords, versym_at, Symbols, symbol_offset, is_exported, version_fits, answers, NumberNameSource, is_among}
+use Rattle.elf_model.specs.Loader.{SymbolQuery, VersionQuery, asked_name, VersymTable, versym_at, DynamicSymbols, symbol_offset, is_exported, version_fits, answers, NumberNameSource, is_among}
 use Rattle.elf_model.specs.LoaderFind.{counts_check, walk_in, named_by_record, found_in, looked_by, version_indices, loaded_in, loader_looked, TOLD_BYTES}
 use Rattle.elf_model.specs.LoaderLaws.{IsTaken, LoaderFoundIsTaken}
 use Rattle.elf_model.specs.LoaderScope.{HashStyle, GnuTable, SysvTable, LookupTables, lookup_tables_of}
@@ -31,7 +31,7 @@ not_refused : (refusal : Refusal) (section index symbol : ℕ) → Refused refus
 not_refused refusal section index symbol e = cc
 
 -- what makes a symbol answer
-module _ (file : List ℕ) (symbols : Symbols) (wanted : Wanted) (is_wanted : ℕ → Bool) (y : ℕ) where
+module _ (file : List ℕ) (symbols : DynamicSymbols) (wanted : SymbolQuery) (is_wanted : ℕ → Bool) (y : ℕ) where
   record Parts : Type 0 where
     named : same symbols.strings (st_name file (symbol_offset symbols y)) wanted.name ≡ Ok true
     offered : is_exported file (symbol_offset symbols y) ≡ true
@@ -50,7 +50,7 @@ module _ (file : List ℕ) (symbols : Symbols) (wanted : Wanted) (is_wanted : �
   answer_parts e = parts_by _ _ refl refl e
 
 -- a symbol that a walk of either kind gives answers
-walk_by : (file : List ℕ) (scope : LookupTables) (wanted : Wanted) (is_wanted : ℕ → Bool) (y : ℕ) (kind : HashStyle) → scope.kind ≡ kind
+walk_by : (file : List ℕ) (scope : LookupTables) (wanted : SymbolQuery) (is_wanted : ℕ → Bool) (y : ℕ) (kind : HashStyle) → scope.kind ≡ kind
     → (walk_in file scope wanted is_wanted).answer ≡ Ok (Some y) → answers file scope.symbols wanted is_wanted y ≡ Ok true
 unfolding walk_in
 walk_by file scope wanted is_wanted y GnuTable k e =
@@ -60,7 +60,7 @@ walk_by file scope wanted is_wanted y SysvTable k e =
     sysv_found_answers file scope.table (sysv_hash wanted.name) (answers file scope.symbols wanted is_wanted) y (rw (k, walk_in) at e)
 
 -- the symbol that is told is the one that the walk gives
-module _ (file : List ℕ) (scope : LookupTables) (words : VersionWords) (y : ℕ) (walked : ChainResult) where
+module _ (file : List ℕ) (scope : LookupTables) (words : VersymTable) (y : ℕ) (walked : ChainResult) where
   told-shown :
       (naming : NumberNameSource) (found : List ℕ × VisitedRecord) → naming.found ≡ Some found
       → (name : Result DisplayedName Cause) → shown found.0 (name_index file found.1) TOLD_BYTES ≡ name
@@ -84,9 +84,9 @@ module _ (file : List ℕ) (scope : LookupTables) (words : VersionWords) (y : �
   reported_is naming (Some found) f section index symbol e = told-shown naming found f _ refl section index symbol e
   reported_is naming None f section index symbol e = absurd (told-unnamed naming _ f refl section index symbol e)
 
-module _ (file : List ℕ) (scope : LookupTables) (asked : Asked) (records y : ℕ) (walked : ChainResult) where
+module _ (file : List ℕ) (scope : LookupTables) (asked : VersionQuery) (records y : ℕ) (walked : ChainResult) where
   found-with :
-      (words : VersionWords) (name : Option (List ℕ)) → asked_name asked ≡ name
+      (words : VersymTable) (name : Option (List ℕ)) → asked_name asked ≡ name
       → (section index symbol : ℕ) → (found_in file scope asked records y walked (Some words)).lookup.answer ≡ Found section index symbol
       → IsSymbol scope y section index symbol
   unfolding found_in
@@ -98,7 +98,7 @@ module _ (file : List ℕ) (scope : LookupTables) (asked : Asked) (records y : �
       ]
 
   found_is :
-      (words : Option VersionWords) (section index symbol : ℕ)
+      (words : Option VersymTable) (section index symbol : ℕ)
       → (found_in file scope asked records y walked words).lookup.answer ≡ Found section index symbol
       → IsSymbol scope y section index symbol
   unfolding found_in
@@ -111,7 +111,7 @@ record FoundBy (scope : LookupTables) (walked : ChainResult) (section index symb
   section_is : section ≡ scope.symbols.index
   symbol_is : symbol ≡ symbol_offset scope.symbols index
 
-module _ (file : List ℕ) (scope : LookupTables) (asked : Asked) (records : ℕ) (walked : ChainResult) where
+module _ (file : List ℕ) (scope : LookupTables) (asked : VersionQuery) (records : ℕ) (walked : ChainResult) where
   found_by :
       (answer : Result (Option ℕ) Refusal) → walked.answer ≡ answer
       → (section index symbol : ℕ) → (looked_by file scope asked records walked).lookup.answer ≡ Found section index symbol
@@ -128,7 +128,7 @@ module _ (file : List ℕ) (scope : LookupTables) (asked : Asked) (records : ℕ
         symbol_is = rw same_index (is.symbol_is);
       }
 
-module _ (file : List ℕ) (scope : LookupTables) (wanted : Wanted) where
+module _ (file : List ℕ) (scope : LookupTables) (wanted : SymbolQuery) where
   is_wanted : ℕ → Bool
   is_wanted number = is_among number (version_indices file scope wanted.asked).numbers
 
@@ -143,7 +143,7 @@ module _ (file : List ℕ) (scope : LookupTables) (wanted : Wanted) where
   loaded_by None None s r section index symbol e =
       found_by file scope wanted.asked _ (walk_in file scope wanted is_wanted) _ refl section index symbol (rw (s, r, loaded_in) at e)
 
-module _ (file : List ℕ) (headers : ℕ) (wanted : Wanted) where
+module _ (file : List ℕ) (headers : ℕ) (wanted : SymbolQuery) where
   taken_by :
       (scope : Result LookupTables Refusal) → lookup_tables_of file headers ≡ scope
       → (section index symbol : ℕ) → (loader_looked file headers wanted).lookup.answer ≡ Found section index symbol

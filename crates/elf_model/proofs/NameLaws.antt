@@ -2,7 +2,7 @@
 use Rattle.std.proofs.Common.{◌≡◌, ℕ, suc, ◌+◌, ◌<◌, ◌≤◌, List, [], ◌∷◌, ◌++◌, length, take, drop, Some, None, Ok, Err, ◌⊎◌, inl, inr, refl, ap, sym, ◌∙◌, arith, length-append, length-take, length-drop, zero-le}
 use Rattle.std.proofs.lemmas.List.{take_at, take-take, append_assoc, take_all}
 use Rattle.elf_model.specs.Bytes.{slice}
-use Rattle.elf_model.specs.Names.{nul_in, IsNulTerminatedAt, Name, shown}
+use Rattle.elf_model.specs.Names.{nul_in, IsNulTerminatedAt, IsNameOf, shown}
 use Rattle.elf_model.specs.Names.DisplayedName.{Whole, Cut}
 use Rattle.elf_model.specs.NameLaws.{IsNameOutside, OneNameAtMost, ShownWholeExactly, ShownCutExactly, ShownOutsideExactly, ShownUnendedExactly, ShownCauses, PadsToPieces}
 use Rattle.elf_model.specs.declared.causes.Cause.TheVariants.{NameOutside, NameUnended}
@@ -51,7 +51,7 @@ front-named table index cap place h =
 pub shown_whole : ShownWholeExactly
 shown_whole table index cap name = (λ h. there h (view table index cap), λ h. back h.0 h.1 (view table index cap))
   where
-    there : shown table index cap ≡ Ok (Whole name) → View table index cap → Name table index name × (length name ≤ cap)
+    there : shown table index cap ≡ Ok (Whole name) → View table index cap → IsNameOf table index name × (length name ≤ cap)
     there h (is_empty e s) = let n : name ≡ [] = cc in (inr (e, n), rw n zero-le)
     there h (is_outside e s) = cc
     there h (is_whole place i n s) =
@@ -61,7 +61,7 @@ shown_whole table index cap name = (λ h. there h (view table index cap), λ h. 
     there h (is_cut i n s) = cc
     there h (is_unended i l n s) = cc
 
-    back : Name table index name → length name ≤ cap → View table index cap → shown table index cap ≡ Ok (Whole name)
+    back : IsNameOf table index name → length name ≤ cap → View table index cap → shown table index cap ≡ Ok (Whole name)
     back (inr e) l v = shown-empty table index cap e.0 ∙ ap (λ (x : List ℕ). Ok (Whole x)) (sym e.1)
     back (inl h) l (is_empty e s) = let i = named-inside table index name h in let z = ap length e.0 in absurd (omega arith)
     back (inl h) l (is_outside e s) = let i = named-inside table index name h in absurd (omega arith)

@@ -3,7 +3,7 @@ use Rattle.std.proofs.Common.{min, ◌≡◌, ℕ, suc, zero, ◌+◌, ◌<◌, 
 use Rattle.std.proofs.lemmas.List.{append_assoc, drop_all}
 use Rattle.std.proofs.lemmas.Bool.{cases_lt}
 use Rattle.elf_model.specs.Bytes.{slice}
-use Rattle.elf_model.specs.Notes.{Note, Spelt, Padded, AllPadded, EndsInZeros, EndsInSpelling, Notes, CutAt, Ends, Broken, OneNote, NoteScan, bytes_to_alignment, padded_size, first_note, first_end, next_note, walked, with_note}
+use Rattle.elf_model.specs.Notes.{Note, IsNoteEncoding, Padded, AllPadded, EndsInZeros, EndsInSpelling, Notes, CutAt, Ends, Broken, OneNote, NoteScan, bytes_to_alignment, padded_size, first_note, first_end, next_note, walked, with_note}
 use Rattle.elf_model.specs.NoteLaws.{WalkedFits, FittingIsWalked, OneListAtMost, WalkedIsCut, CutIsWalked, FitsOrIsCut}
 use Rattle.elf_model.proofs.Spellings.{NextView, ends, tails, past, found, next_view, next-ends, next-spelt, spelt-size, found-spelt}
 use Rattle.elf_model.proofs.Slices.{slice-size}
@@ -99,7 +99,7 @@ outcome-broken a place rest e = rw (walk-broken a place rest e) (cuts 0 (ap (λ 
 
 -- a note whose padding ends too early is the last
 outcome-short : (a place : ℕ) (rest : List ℕ) (note : Note) (size : ℕ) → next_note a rest ≡ OneNote note size
-    → Spelt a note (take (first_end a rest) rest) → first_end a rest ≤ length rest → size ≡ length rest
+    → IsNoteEncoding a note (take (first_end a rest) rest) → first_end a rest ≤ length rest → size ≡ length rest
     → length rest < first_end a rest + bytes_to_alignment a (first_end a rest) → Outcome a place rest (walk a place rest)
 outcome-short a place rest note size e s l z few =
     let nothing : drop size rest ≡ [] = drop_all size rest (omega arith) in
@@ -131,7 +131,7 @@ outcome-more a place rest note size e l p o = rw (walk-found a place rest note s
         cuts (size + n) (c ∙ ap (λ (x : ℕ). Some x) (add_assoc place size n)) (omega (arith, length-drop size rest))
         (take size rest, take n (drop size rest), take-add size n rest, p, q)
 
-found-padded : (a : ℕ) (rest : List ℕ) (note : Note) (size : ℕ) → Spelt a note (take (first_end a rest) rest) → first_end a rest ≤ length rest
+found-padded : (a : ℕ) (rest : List ℕ) (note : Note) (size : ℕ) → IsNoteEncoding a note (take (first_end a rest) rest) → first_end a rest ≤ length rest
     → size ≡ first_end a rest + bytes_to_alignment a (first_end a rest) → size ≤ length rest → Padded a note (take size rest)
 found-padded a rest note size s l z h =
     let end : ℕ = first_end a rest in
@@ -151,7 +151,7 @@ outcome a (suc most) place rest h = step (λ n xs. outcome a most n xs)
     step : ((n : ℕ) (xs : List ℕ) → length xs < most → Outcome a n xs (walk a n xs)) → Outcome a place rest (walk a place rest)
     step more = go (next_view a rest)
       where
-        one : (note : Note) (size : ℕ) → next_note a rest ≡ OneNote note size → Spelt a note (take (first_end a rest) rest) → first_end a rest ≤ length rest
+        one : (note : Note) (size : ℕ) → next_note a rest ≡ OneNote note size → IsNoteEncoding a note (take (first_end a rest) rest) → first_end a rest ≤ length rest
             → size ≡ min (first_end a rest + bytes_to_alignment a (first_end a rest)) (length rest)
             → (length rest < first_end a rest + bytes_to_alignment a (first_end a rest)) ⊎ (first_end a rest + bytes_to_alignment a (first_end a rest) ≤ length rest)
             → Outcome a place rest (walk a place rest)

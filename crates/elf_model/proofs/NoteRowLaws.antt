@@ -7,7 +7,7 @@ use Rattle.std.proofs.lemmas.Bool.Decides.{nat_tests}
 use Rattle.elf_model.specs.Bytes.{slice}
 use Rattle.elf_model.specs.Names.{nul_in}
 use Rattle.elf_model.specs.Names.DisplayedName.{Whole, Cut}
-use Rattle.elf_model.specs.Notes.{Note, Spelt, OneNote, NoteScan, NoteRow, bytes_to_alignment, descriptor_start, escaped_size, padded_size, first_note, first_end, next_note, note_rows, note_align, before_nul, note_shown}
+use Rattle.elf_model.specs.Notes.{Note, IsNoteEncoding, OneNote, NoteScan, NoteRow, bytes_to_alignment, descriptor_start, escaped_size, padded_size, first_note, first_end, next_note, note_rows, note_align, before_nul, note_shown}
 use Rattle.elf_model.specs.NoteLaws.{IsNoteInTable, RowsStand, IsAligned, RowsAligned, BeforeNulExactly, NoteShownWholeExactly, NoteShownCutExactly}
 use Rattle.elf_model.proofs.Nuls.{free, none-free, free-none, free-append, free-take, split_at_nul}
 use Rattle.elf_model.proofs.Spellings.{NextView, ends, tails, past, found, next_view, spelt-size, spelt-name, spelt-descriptor, found-spelt}
@@ -37,7 +37,7 @@ row-stands a place table i h l =
     let rest : List ℕ = drop place table in
     let note : Note = first_note a rest in
     let end : ℕ = first_end a rest in
-    let s : Spelt a note (take end rest) = found-spelt a rest h l in
+    let s : IsNoteEncoding a note (take end rest) = found-spelt a rest h l in
     let n : length (take end rest) ≡ end = length-take-le end rest l in
     let size : end ≡ escaped_size a note = sym n ∙ spelt-size a note (take end rest) s in
     let whole : take end rest ++ drop end rest ≡ rest = take-append-drop end rest in

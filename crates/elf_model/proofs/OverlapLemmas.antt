@@ -10,7 +10,7 @@ use Rattle.elf_model.specs.Listing.{ListingItem, Line, Fault, report_of, where_a
 use Rattle.elf_model.specs.Overlaps.{takes_memory, first_page, page_behind, loads_from, overlaps_from, overlap_checks}
 use Rattle.elf_model.specs.Records.{e_phnum, p_vaddr, p_memsz, segment_at}
 use Rattle.elf_model.specs.Report.{listing, load_items, loaded_items, table_items, view_checks}
-use Rattle.elf_model.specs.Style.{Style, viewed}
+use Rattle.elf_model.specs.Style.{ListingStyle, viewed}
 use Rattle.elf_model.specs.OverlapLaws.{NoPageIsShared, OverlapIsListedSecond, OverlapIsListedElsewhere}
 use Rattle.elf_model.specs.declared.causes.Cause.TheVariants.{LoadOverlap}
 use Rattle.elf_model.proofs.ListingLemmas.{guarded-fault, guarded-passes, asked-true, load_some}
@@ -117,7 +117,7 @@ no_page_shared file h earlier later l m s t =
     rw (here, there) at (apart file 0 (e_phnum file) 0 h earlier later l m (rw here s) (rw there t))
 
 -- the checks of a style
-pub view_elsewhere : (file : List ℕ) (style : Style) (parts : ℕ) → style.by_segments ≡ false → view_checks file style parts ≡ []
+pub view_elsewhere : (file : List ℕ) (style : ListingStyle) (parts : ℕ) → style.by_segments ≡ false → view_checks file style parts ≡ []
 unfolding view_checks
 view_elsewhere file style parts b = rw b refl
 
@@ -131,7 +131,7 @@ where_both true true checks s n = refl
 where_both true false checks s n = cc
 where_both false b checks s n = cc
 
-view_asked : (file : List ℕ) (style : Style) (parts : ℕ) → style.by_segments ≡ true → needs_segments file parts ≡ true
+view_asked : (file : List ℕ) (style : ListingStyle) (parts : ℕ) → style.by_segments ≡ true → needs_segments file parts ≡ true
     → view_checks file style parts ≡ overlap_checks file
 unfolding view_checks
 view_asked file style parts b n = where_both style.by_segments (needs_segments file parts) (overlap_checks file) b n

@@ -2,7 +2,7 @@
 use Rattle.std.proofs.Common.{◌≡◌, ℕ, zero, suc, ◌+◌, Bool, true, false, cond, List, [], ◌∷◌, ◌++◌, append-nil, length, map, filter, Option, None, Some, Result, Ok, Err, refl, sym, ap, ◌∙◌, arith, inl, inr}
 use Rattle.std.proofs.lemmas.List.Elements.{All-nil, All-cons}
 use Rattle.elf_model.specs.Checks.{first_refusal}
-use Rattle.elf_model.specs.Loader.{Compared, Meets, Misses, VersionRecordRead, VersionRecordTable, Refuses, compared_until, compared_with, end_reading, has_record, meetings, one_more, readings, readings_of, position_after, with_number}
+use Rattle.elf_model.specs.Loader.{CompareResult, Meets, Misses, VersionRecordRead, VersionRecordTable, Refuses, compared_until, compared_with, end_reading, has_record, meetings, one_more, readings, readings_of, position_after, with_number}
 use Rattle.elf_model.specs.LoaderLaws.{ComparedNumbersAreRecords, ComparingEndsAtTheFirst, EndsReadings, IsComparable, IsRefusedAt, ReadingsAreRecords, StandsAtItsEnd, WalksStandAtRecords, WalksStandAtTheirEnd, names_wanted, numbers_under, records_in, records_read}
 use Rattle.elf_model.specs.Names.{same}
 use Rattle.elf_model.specs.Versions.{VisitedRecord, RecordCursorState, Versions, next_position, first_position, visited_at, visited_from, max_records, name_index, named_at, names_version, number_in, number_word, record_checks, versions_in}
@@ -166,13 +166,13 @@ compared-nothing : (file wanted : List ℕ) → compared_with file wanted [] ≡
 unfolding compared_with
 compared-nothing file wanted = refl
 
-abbrev numbers_in : Compared → List ℕ
+abbrev numbers_in : CompareResult → List ℕ
 numbers_in compared = compared.numbers
 
-abbrev refused_in : Compared → Option Refusal
+abbrev refused_in : CompareResult → Option Refusal
 refused_in compared = compared.refused
 
-abbrev read_in : Compared → ℕ
+abbrev read_in : CompareResult → ℕ
 read_in compared = compared.read
 
 -- the numbers with one record more, which has the wanted name or not
@@ -295,7 +295,7 @@ compared_numbers_are_records file wanted definitions needs none =
     let of_needs = numbers_under file wanted needs.strings (records_in file needs).met in (
       first.numbers_are
           ∙ ap (λ (l : List ℕ). of_definitions ++ l)
-          (second.numbers_are ∙ ap (λ (c : Compared). of_needs ++ c.numbers) nothing ∙ append-nil of_needs),
+          (second.numbers_are ∙ ap (λ (c : CompareResult). of_needs ++ c.numbers) nothing ∙ append-nil of_needs),
       let last = ap read_in nothing in omega (arith, first.read_is, second.read_is, last),
     )
 

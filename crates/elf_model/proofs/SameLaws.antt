@@ -2,7 +2,7 @@
 use Rattle.std.proofs.Common.{◌≡◌, ◌≢◌, ℕ, suc, ◌<◌, ◌≤◌, ◌==◌, true, false, List, [], ◌∷◌, ◌++◌, length, get_or, take, drop, Ok, Err, ◌⊎◌, inl, inr, refl, ap, sym, ◌∙◌, arith, length-append, length-take, length-drop, get_or-take}
 use Rattle.std.proofs.lemmas.List.{take-append-le}
 use Rattle.std.proofs.lemmas.Bool.Decides.{nat_tests}
-use Rattle.elf_model.specs.Names.{IsEmptyAtZero, Name, same, begins}
+use Rattle.elf_model.specs.Names.{IsEmptyAtZero, IsNameOf, same, begins}
 use Rattle.elf_model.specs.NameLaws.{IsNameOutside, Differ, SameExactly, SameNotExactly, SameOutsideExactly, SameUnendedExactly, SameCauses}
 use Rattle.elf_model.specs.declared.causes.Cause.TheVariants.{NameOutside, NameUnended}
 use Rattle.elf_model.proofs.NameLemmas.{Place, inside, empty, outside, place_of, inside-full, inside-below, outside-full, outside-above, named-inside}
@@ -77,12 +77,12 @@ same-place table index wanted = compared (drop index table) (wanted ++ 0 ∷ [])
 pub same_exactly : SameExactly
 same_exactly table index wanted w = (λ h. there h (place_of table index), back)
   where
-    there_inside : same table index wanted ≡ Ok true → index < length table → Compared (drop index table) (wanted ++ 0 ∷ []) → Name table index wanted
+    there_inside : same table index wanted ≡ Ok true → index < length table → Compared (drop index table) (wanted ++ 0 ∷ []) → IsNameOf table index wanted
     there_inside h i (is_alike e s) = inl (w.1, e)
     there_inside h i (is_other d s) = let j = same-inside table index wanted i in cc
     there_inside h i (is_short l e s) = let j = same-inside table index wanted i in cc
 
-    there : same table index wanted ≡ Ok true → Place table index → Name table index wanted
+    there : same table index wanted ≡ Ok true → Place table index → IsNameOf table index wanted
     there h (inside i) = there_inside h i (same-place table index wanted)
     there h (empty e) = let s = same-empty table index wanted e in cc
     there h (outside o) = let s = same-outside table index wanted o in cc
@@ -92,7 +92,7 @@ same_exactly table index wanted w = (λ h. there h (place_of table index), back)
     back_inside h i (is_other d s) = absurd (alike-no-other (drop index table) (wanted ++ 0 ∷ []) h d)
     back_inside h i (is_short l e s) = let m = alike-long (drop index table) (wanted ++ 0 ∷ []) h in absurd (omega arith)
 
-    back : Name table index wanted → same table index wanted ≡ Ok true
+    back : IsNameOf table index wanted → same table index wanted ≡ Ok true
     back (inl n) = back_inside n.1 (named-inside table index wanted n) (same-place table index wanted)
     back (inr e) = let z = ap length e.1 in absurd (omega arith)
 

@@ -6,7 +6,7 @@ use Rattle.std.proofs.lemmas.Bool.{cases_lt}
 use Rattle.elf_model.specs.Bytes.{slice, field}
 use Rattle.elf_model.proofs.Slices.{field-front, slice-size}
 use Rattle.elf_model.specs.Records.{n_namesz, n_descsz, n_type}
-use Rattle.elf_model.specs.Notes.{Note, Spelt, Ends, Broken, OneNote, bytes_to_alignment, alignment_gap, descriptor_start, escaped_size, padded_size, are_zeros, first_note, first_end, next_note}
+use Rattle.elf_model.specs.Notes.{Note, IsNoteEncoding, Ends, Broken, OneNote, bytes_to_alignment, alignment_gap, descriptor_start, escaped_size, padded_size, are_zeros, first_note, first_end, next_note}
 
 -- a slice that stands behind a front
 pub slice-behind : (x y z : List ℕ) (at size : ℕ) → length x ≡ at → length y ≡ size → slice (x ++ y ++ z) at size ≡ y
@@ -60,7 +60,7 @@ next_view a rest = split (cases_lt (length rest) 12)
     split (inr h) = head h (cases_lt (length rest) (first_end a rest))
 
 -- a spelling has the note's size
-pub spelt-size : (a : ℕ) (note : Note) (text : List ℕ) → Spelt a note text → length text ≡ escaped_size a note
+pub spelt-size : (a : ℕ) (note : Note) (text : List ℕ) → IsNoteEncoding a note text → length text ≡ escaped_size a note
 spelt-size a note text s =
     ap length s.parts ∙ omega (arith, length-append (s.head ++ note.name ++ s.gap) note.descriptor, length-append (s.head ++ note.name) s.gap, length-append s.head note.name, s.head_size, s.gap_size)
 
@@ -68,7 +68,7 @@ abbrev note_of : ℕ → List ℕ → List ℕ → Note
 note_of kind name descriptor = record { kind = kind; name = name; descriptor = descriptor }
 
 -- the sizes and the type in a spelling's head
-pub spelt-fields : (a : ℕ) (note : Note) (text rest : List ℕ) → Spelt a note text
+pub spelt-fields : (a : ℕ) (note : Note) (text rest : List ℕ) → IsNoteEncoding a note text
     → (n_namesz (text ++ rest) 0 ≡ length note.name) × (n_descsz (text ++ rest) 0 ≡ length note.descriptor) × (n_type (text ++ rest) 0 ≡ note.kind)
 spelt-fields a note text rest s =
     let behind : List ℕ = note.name ++ (s.gap ++ (note.descriptor ++ rest)) in
@@ -80,19 +80,19 @@ spelt-fields a note text rest s =
     )
 
 -- the name and the descriptor in a spelling
-pub spelt-name : (a : ℕ) (note : Note) (text rest : List ℕ) → Spelt a note text → slice (text ++ rest) 12 (length note.name) ≡ note.name
+pub spelt-name : (a : ℕ) (note : Note) (text rest : List ℕ) → IsNoteEncoding a note text → slice (text ++ rest) 12 (length note.name) ≡ note.name
 spelt-name a note text rest s =
     let e : text ++ rest ≡ s.head ++ note.name ++ (s.gap ++ (note.descriptor ++ rest)) = rw (s.parts) (simp append_assoc) in
     rw e (slice-behind s.head note.name (s.gap ++ (note.descriptor ++ rest)) 12 (length note.name) s.head_size refl)
 
-pub spelt-descriptor : (a : ℕ) (note : Note) (text rest : List ℕ) → Spelt a note text
+pub spelt-descriptor : (a : ℕ) (note : Note) (text rest : List ℕ) → IsNoteEncoding a note text
     → slice (text ++ rest) (descriptor_start a (length note.name) (length note.descriptor)) (length note.descriptor) ≡ note.descriptor
 spelt-descriptor a note text rest s =
     let l : length (s.head ++ note.name ++ s.gap) ≡ descriptor_start a (length note.name) (length note.descriptor) =
     omega (arith, length-append (s.head ++ note.name) s.gap, length-append s.head note.name, s.head_size, s.gap_size) in
     rw (s.parts) (slice-behind (s.head ++ note.name ++ s.gap) note.descriptor rest (descriptor_start a (length note.name) (length note.descriptor)) (length note.descriptor) l refl)
 
-pub spelt-first : (a : ℕ) (note : Note) (text rest : List ℕ) → Spelt a note text
+pub spelt-first : (a : ℕ) (note : Note) (text rest : List ℕ) → IsNoteEncoding a note text
     → (first_note a (text ++ rest) ≡ note) × (first_end a (text ++ rest) ≡ escaped_size a note)
 spelt-first a note text rest s =
     let f = spelt-fields a note text rest s in
@@ -101,7 +101,7 @@ spelt-first a note text rest s =
     (rw (f.0, f.1, f.2, name, descriptor) refl, rw (f.0, f.1) refl)
 
 -- a spelling is what stands next
-pub next-spelt : (a : ℕ) (note : Note) (text rest : List ℕ) → Spelt a note text
+pub next-spelt : (a : ℕ) (note : Note) (text rest : List ℕ) → IsNoteEncoding a note text
     → next_note a (text ++ rest) ≡ OneNote note (min (padded_size a note) (length (text ++ rest)))
 next-spelt a note text rest s =
     let f = spelt-first a note text rest s in
@@ -111,7 +111,7 @@ next-spelt a note text rest s =
     rw (f.0, f.1) at e
 
 -- what is found is spelt
-pub found-spelt : (a : ℕ) (rest : List ℕ) → 12 ≤ length rest → first_end a rest ≤ length rest → Spelt a (first_note a rest) (take (first_end a rest) rest)
+pub found-spelt : (a : ℕ) (rest : List ℕ) → 12 ≤ length rest → first_end a rest ≤ length rest → IsNoteEncoding a (first_note a rest) (take (first_end a rest) rest)
 found-spelt a rest h l =
     let namesz : ℕ = n_namesz rest 0 in
     let descsz : ℕ = n_descsz rest 0 in

@@ -12,7 +12,7 @@ use Rattle.elf_model.specs.Listing.{has}
 use Rattle.elf_model.specs.Find.{first_that}
 use Rattle.elf_model.specs.HeaderTables.{HeaderTable, TableKind, file_sections, file_segments, held_headers, first_typed, header_field}
 use Rattle.elf_model.specs.Numbers.{SHT_GNU_VERDEF, SHT_GNU_VERNEED, SHT_GNU_VERSYM}
-use Rattle.elf_model.specs.Style.{Style}
+use Rattle.elf_model.specs.Style.{ListingStyle}
 use Rattle.elf_model.specs.Suffixes.{first_numbers}
 use Rattle.elf_model.specs.TableKinds.{symbols, relocations, section_dynamic, section_notes, section_kinds, segment_notes, segment_dynamic, segment_kinds, relocations_with_versions, suffixed_symbols, suffixes_cost}
 use Rattle.elf_model.specs.VersionCost.{is_inside, has_strings, versioned_cost, walk_cost, walks_cost}
@@ -263,7 +263,7 @@ segments_cost_rows file row cap parts is =
     0 (e_phnum file) (λ i _ below. segment_held file row (e_phnum file) i (length file) cap parts (is i (omega arith)))
 
 -- what the sections' tables cost is among the costs of all
-pub sections_counted : (file : List ℕ) (style : Style) (parts : ℕ)
+pub sections_counted : (file : List ℕ) (style : ListingStyle) (parts : ℕ)
     → sum_over (λ i. kinds_cost (section_kinds style.versions) (file_sections file) i (length file) style.cap parts) 0 (e_shnum file) ≤ tables_cost file style parts
 unfolding tables_cost sum_over
 sections_counted file style parts = by_cases (e_shnum file == 0) refl

@@ -1,7 +1,7 @@
 -- A file whose header tells of no section headers, byte by byte.
 use Rattle.std.proofs.Common.{◌≡◌, ℕ, suc, zero, ◌+◌, ◌*◌, ◌≤◌, ◌<◌, if◌then◌else◌, Bool, true, false, List, [], ◌∷◌, length, take, drop, refl, ap, sym, ◌∙◌, arith, add-zero, zero-add, length-take, inl, inr}
 use Rattle.elf_model.specs.Bytes.{number, slice, field}
-use Rattle.elf_model.specs.Style.{Style, tells_of_sections, without_sections, without_sections_from, viewed}
+use Rattle.elf_model.specs.Style.{ListingStyle, tells_of_sections, without_sections, without_sections_from, viewed}
 use Rattle.elf_model.specs.StyleLaws.{ViewIsAsLong, ViewIsSeenInSlices, ViewIsTheFileAfterTheHeader, ViewIsTheFileElsewhere, ViewTellsOfNone, ViewIsCheckedAlike, ViewIsItsOwnView}
 
 -- the length stays
@@ -13,7 +13,7 @@ from_length place (byte ∷ bytes) = ap suc (from_length (suc place) bytes)
 pub view_is_as_long : ViewIsAsLong
 view_is_as_long file = from_length 0 file
 
-pub view_length : (style : Style) (file : List ℕ) → length (viewed style file) ≡ length file
+pub view_length : (style : ListingStyle) (file : List ℕ) → length (viewed style file) ≡ length file
 view_length style file = by_cases style.by_segments
   where
     by_cases : (b : Bool) → length (elim b as (λ _. List ℕ) [ true ↦ without_sections file | false ↦ file ]) ≡ length file

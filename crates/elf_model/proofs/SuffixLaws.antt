@@ -15,7 +15,7 @@ use Rattle.elf_model.specs.declared.causes.Cause.TheVariants.{VersionCut, Versio
 use Rattle.elf_model.specs.declared.versions.VersionKind.TheVariants.{Definition, File}
 use Rattle.elf_model.specs.Records.{e_machine, r_sym, section_at, st_name, sh_link, st_shndx, versym}
 use Rattle.elf_model.specs.Rows.{chosen_row, relocation_row, symbol_named, symbol_row}
-use Rattle.elf_model.specs.Style.{Style}
+use Rattle.elf_model.specs.Style.{ListingStyle}
 use Rattle.elf_model.specs.SuffixLaws.{UndefinedHaveNoDefault, UnversionedEntriesArePlain, UnversionedSymbolsArePlain}
 use Rattle.elf_model.specs.Suffixes.{after_refusal, line_suffixed, version_numbers_of, or_refusal, walk_refusal, is_default as is_default_of, suffix_at, suffix_of, word_suffix, suffix_members, suffix_text, suffixed_line, relocation_row_with_version, suffixed_relocation_rows, suffixed_row, symbol_row_with_version, suffixed_symbol_rows, suffixes_refusal, symbol_suffix}
 use Rattle.elf_model.specs.TableKinds.{relocations, relocations_with_versions, suffixed_symbols, symbols}
@@ -67,7 +67,7 @@ no_refusal file table none = by_empty (entry_count file (section_at file table) 
     by_empty true = refl
     by_empty false = rw none refl
 
-plain_symbol : (file : List ℕ) (style : Style) (section at index : ℕ) → version_numbers_of file section ≡ None
+plain_symbol : (file : List ℕ) (style : ListingStyle) (section at index : ℕ) → version_numbers_of file section ≡ None
     → symbol_row_with_version file style section at index ≡ symbol_row file style section at index
 unfolding symbol_row_with_version symbol_row
 plain_symbol file style section at index none =
@@ -83,7 +83,7 @@ unversioned_symbols file style section at none =
     rw (no_refusal file section none) (each_same _ _ _ _ (λ i. plain_symbol file style section at i none))
 
 -- what stands behind a symbol of an entry, where its table has no version numbers
-plain_entry : (file : List ℕ) (style : Style) (section at index : ℕ) → version_numbers_of file (sh_link file at) ≡ None
+plain_entry : (file : List ℕ) (style : ListingStyle) (section at index : ℕ) → version_numbers_of file (sh_link file at) ≡ None
     → relocation_row_with_version file style section at index ≡ relocation_row file style section at index
 unfolding relocation_row_with_version relocation_row
 plain_entry file style section at index none =

@@ -13,7 +13,7 @@ use Rattle.elf_model.specs.Records.{e_shnum, sh_type, sh_offset, sh_size, sectio
 use Rattle.elf_model.specs.Report.{table_rows, kinds_rows}
 use Rattle.elf_model.specs.Fields.{LinePrefix}
 use Rattle.elf_model.specs.Rows.{chosen_row}
-use Rattle.elf_model.specs.Style.{Style}
+use Rattle.elf_model.specs.Style.{ListingStyle}
 use Rattle.elf_model.specs.Tables.{all_checks, strings_of}
 use Rattle.elf_model.specs.VersionLaws.{NamesOfNumbersAreShown, records_rows}
 use Rattle.elf_model.specs.VersionRows.{version_row, visited_rows, versions_rows, end_rows, section_versions, first_of_type, first_versions, first_strings, version_named, version_strings, version_definitions, version_needs}
@@ -54,7 +54,7 @@ guarded-none checks members h = by_first (first_refusal checks) h
     by_first None h = h
     by_first (Some refusal) h = cc
 
-table-none : (kind : TableKind) (file : List ℕ) (style : Style) (index at : ℕ) → kind.has_table file at ≡ true
+table-none : (kind : TableKind) (file : List ℕ) (style : ListingStyle) (index at : ℕ) → kind.has_table file at ≡ true
     → fault_of (table_rows kind file style index at) ≡ None → fault_of (kind.rows file style index at) ≡ None
 unfolding table_rows
 table-none kind file style index at has h =
@@ -69,7 +69,7 @@ row-shown choice front at (Err cause) h = cc
 abbrev IsShown : List ℕ → ℕ → List ℕ → VisitedRecord → Type 0
 IsShown file cap strings met = is_ok (shown strings (name_index file met) cap) ≡ true
 
-rows-shown : (file : List ℕ) (style : Style) (section : ℕ) (strings : List ℕ) (records : List VisitedRecord)
+rows-shown : (file : List ℕ) (style : ListingStyle) (section : ℕ) (strings : List ℕ) (records : List VisitedRecord)
     → fault_of (visited_rows file style section strings records) ≡ None → All (IsShown file style.cap strings) records
 unfolding visited_rows version_row
 rows-shown file style section strings [] h = All-nil _
@@ -79,7 +79,7 @@ rows-shown file style section strings (met ∷ others) h =
     All-cons (IsShown file style.cap strings) met others (row-shown style.choice _ (named_at file met) _ (front-none row more h))
     (rows-shown file style section strings others (back-none row more h))
 
-met-none : (kind : VersionKind) (file : List ℕ) (style : Style) (section at : ℕ) → fault_of (versions_rows kind file style section at) ≡ None
+met-none : (kind : VersionKind) (file : List ℕ) (style : ListingStyle) (section at : ℕ) → fault_of (versions_rows kind file style section at) ≡ None
     → fault_of (visited_rows file style section (strings_of file at) (section_versions kind file at).met) ≡ None
 unfolding versions_rows
 met-none kind file style section at h =
@@ -183,7 +183,7 @@ both-named file cap kind (met ∷ others) shown_ kinds =
     (All-tail (λ (m : VisitedRecord). IsDefinition m.kind ≡ IsDefinition kind) met others kinds))
 
 -- the records of the first section of a type, where the rows of all such sections have no fault
-module _ (file : List ℕ) (style : Style) (kind : VersionKind) (type : ℕ) (table : TableKind)
+module _ (file : List ℕ) (style : ListingStyle) (kind : VersionKind) (type : ℕ) (table : TableKind)
     (is_typed : (at : ℕ) → table.has_table file at ≡ (sh_type file at == type)) (is_listed : (i at : ℕ) → table.rows file style i at ≡ versions_rows kind file style i at)
     (strings : version_strings file kind ≡ first_strings type file)
     (no_fault : fault_of (each (λ i. table_rows table file style i (section_at file i)) 0 (e_shnum file)) ≡ None) where
@@ -225,7 +225,7 @@ version-is file number P first second met a b e = by_size (nat_lt number 2) e
     by_size false e = named-is file number P (first ++ second) met (All-append P first second a b) e
 
 -- rows of the definitions and of the needs without a fault
-pub records-none : (file : List ℕ) (style : Style)
+pub records-none : (file : List ℕ) (style : ListingStyle)
     → fault_of (each (λ i. table_rows version_definitions file style i (section_at file i)) 0 (e_shnum file)) ≡ None
     → fault_of (each (λ i. table_rows version_needs file style i (section_at file i)) 0 (e_shnum file)) ≡ None
     → fault_of (records_rows file style) ≡ None

@@ -7,7 +7,7 @@ use Rattle.elf_model.specs.Listing.{ListingItem, each}
 use Rattle.elf_model.specs.Names.{DisplayedName}
 use Rattle.elf_model.specs.Fields.{LinePrefix}
 use Rattle.elf_model.specs.Rows.{chosen_row, no_name, refused_row}
-use Rattle.elf_model.specs.Style.{Style}
+use Rattle.elf_model.specs.Style.{ListingStyle}
 use Rattle.elf_model.specs.Tables.{entry_count}
 use Rattle.elf_model.specs.Versions.{VERSYM_SIZE, VisitedRecord}
 use Rattle.elf_model.specs.VersionRows.{numbered_row, symbol_version_row, symbol_version_rows, versioned_count, versioned_symbols, version_named}
@@ -24,7 +24,7 @@ chosen-one (RowsOf names) front at name every = cc
 
 -- and so is the row of a number
 numbered-one :
-    (file : List ℕ) (style : Style) (front : LinePrefix) (entry number : ℕ) → style.choice ≡ EveryRow
+    (file : List ℕ) (style : ListingStyle) (front : LinePrefix) (entry number : ℕ) → style.choice ≡ EveryRow
     → length (numbered_row file style front entry number) ≡ 1
 unfolding numbered_row
 numbered-one file style front entry number every =

@@ -3,7 +3,7 @@ use Rattle.std.specs.Prelude.{ℕ, ◌≡◌, List, Option, None, Some}
 use Rattle.elf_model.specs.Budget.{IsBudgeted}
 use Rattle.elf_model.specs.Listing.{report_of, fault_of}
 use Rattle.elf_model.specs.Report.{listing}
-use Rattle.elf_model.specs.Style.{Style, standard}
+use Rattle.elf_model.specs.Style.{ListingStyle, standard}
 use Rattle.elf_model.specs.declared.causes.Refusal.{Refusal}
 
 -- an answer: what is written to standard output, and the status
@@ -17,7 +17,7 @@ status_of None = 0
 status_of (Some refusal) = 1
 
 -- `show`: the listing of a file in a style
-abbrev pub show_answer_by : List ℕ → ℕ → Style → ℕ → Answer
+abbrev pub show_answer_by : List ℕ → ℕ → ListingStyle → ℕ → Answer
 show_answer_by file headers style parts =
     let all = listing file headers style parts in
     record { text = report_of style.format all; status = status_of (fault_of all) }
@@ -28,7 +28,7 @@ show_answer file headers cap parts = show_answer_by file headers (standard cap) 
 
 -- `show` within a budget: what a listing within it writes, and the status of the fault that it answers. So without a budget
 -- it is `show_answer_by`; with one it is that too, or, only where it costs more than the budget, cut short, with status 1
-pub record IsShown (budget : Option ℕ) (file : List ℕ) (headers : ℕ) (style : Style) (parts : ℕ) (answer : Answer) : Type 0 where
+pub record IsShown (budget : Option ℕ) (file : List ℕ) (headers : ℕ) (style : ListingStyle) (parts : ℕ) (answer : Answer) : Type 0 where
   pub fault : Option Refusal
   pub listed : IsBudgeted budget file headers style parts answer.text fault
   pub status_is : answer.status ≡ status_of fault

@@ -13,7 +13,7 @@ use Rattle.elf_model.specs.Names.DisplayedName.{Cut}
 use Rattle.elf_model.specs.Notes.{capped}
 use Rattle.elf_model.specs.Records.{ELF_MAGIC_SIZE, has_elf_magic}
 use Rattle.elf_model.specs.Report.{listing}
-use Rattle.elf_model.specs.Style.{Style, standard}
+use Rattle.elf_model.specs.Style.{ListingStyle, standard}
 use Rattle.elf_model.specs.declared.causes.Refusal.{Refusal}
 use Rattle.elf_model.specs.declared.formats.Format.{Format}
 use Rattle.elf_model.specs.declared.formats.Format.TheVariants.{Columns}
@@ -287,7 +287,7 @@ abbrev pub member_line : Format → Member → List ℕ
 member_line format m = named_line (member_prefix format m.index m.extent.at m.extent.size) m.name
 
 -- a set of parts has one that a style knows: without one the members' lines stand alone
-abbrev pub lists_members : Style → ℕ → Bool
+abbrev pub lists_members : ListingStyle → ℕ → Bool
 lists_members style parts = not (known_parts style parts == 0)
 
 -- a member's data begin as an ELF file
@@ -295,7 +295,7 @@ abbrev pub is_elf : List ℕ → Bool
 is_elf content = nat_le ELF_MAGIC_SIZE (length content) && has_elf_magic content
 
 -- the listing of a member that is an ELF file: that of the file that its data are
-abbrev pub member_listing : List ℕ → ℕ → Style → ℕ → Member → List ListingItem
+abbrev pub member_listing : List ℕ → ℕ → ListingStyle → ℕ → Member → List ListingItem
 member_listing file headers style parts m =
     let content = bytes_in file m.extent in
     if lists_members style parts && is_elf content then listing content headers style parts else []
@@ -318,12 +318,12 @@ line_before true line items = Line line ∷ items
 line_before false line items = before_some (lines_of items) (Line line ∷ items)
 
 -- what is listed of a member: its line, and behind it its listing
-abbrev pub member_items : (alone : Bool) → List ℕ → ℕ → Style → ℕ → Member → List ListingItem
+abbrev pub member_items : (alone : Bool) → List ℕ → ℕ → ListingStyle → ℕ → Member → List ListingItem
 member_items alone file headers style parts m =
     line_before alone (member_line style.format m) (told style.format (member_listing file headers style parts m))
 
 -- what is listed of members
-unfoldable pub members_items : (alone : Bool) → List ℕ → ℕ → Style → ℕ → List Member → List ListingItem
+unfoldable pub members_items : (alone : Bool) → List ℕ → ℕ → ListingStyle → ℕ → List Member → List ListingItem
 members_items alone file headers style parts [] = []
 members_items alone file headers style parts (m ∷ ms) =
     member_items alone file headers style parts m ++ members_items alone file headers style parts ms
@@ -334,12 +334,12 @@ end_items None = []
 end_items (Some refusal) = Fault refusal ∷ []
 
 -- what is listed of members, and of the place where none stands
-unfoldable pub walk_items : (alone : Bool) → List ℕ → ℕ → Style → ℕ → Members → List ListingItem
+unfoldable pub walk_items : (alone : Bool) → List ℕ → ℕ → ListingStyle → ℕ → Members → List ListingItem
 walk_items alone file headers style parts walk =
     members_items alone file headers style parts walk.members ++ end_items walk.refusal
 
 -- WHAT IS LISTED OF AN ARCHIVE, whose members' lines may stand alone or not
-unfoldable pub archive_items : (alone : Bool) → List ℕ → ℕ → Style → ℕ → List ListingItem
+unfoldable pub archive_items : (alone : Bool) → List ℕ → ℕ → ListingStyle → ℕ → List ListingItem
 archive_items alone file headers style parts =
     guarded (archive_checks file) (walk_items alone file headers style parts (members_of file style.cap))
 
@@ -348,5 +348,5 @@ abbrev pub archive : List ℕ → (headers cap parts : ℕ) → List ℕ
 archive file headers cap parts = report_of Columns (archive_items true file headers (standard cap) parts)
 
 -- the listing of a member is refused
-abbrev pub is_refused : List ℕ → ℕ → Style → ℕ → Member → Bool
+abbrev pub is_refused : List ℕ → ℕ → ListingStyle → ℕ → Member → Bool
 is_refused file headers style parts m = is_some (fault_of (member_listing file headers style parts m))

@@ -7,7 +7,7 @@ use Rattle.elf_model.specs.Checks.{pass}
 use Rattle.elf_model.specs.Cost.{cost_where, listing_cost, style_ceiling, suffixes_most}
 use Rattle.elf_model.specs.Names.{name_bytes, pad64}
 use Rattle.elf_model.specs.Records.{ELF_MAGIC_SIZE}
-use Rattle.elf_model.specs.Style.{Style}
+use Rattle.elf_model.specs.Style.{ListingStyle}
 use Rattle.elf_model.specs.declared.causes.Refusal.{Refusal}
 
 -- the bytes that a name costs at most that does not stand in its field: cap + 2 in whole pieces of 64
@@ -25,13 +25,13 @@ header_cost file cap p =
     (MEMBER_HEADER_SIZE + cost_where (is_elsewhere (name_field file p.at)) (long_name_bytes cap))
 
 -- a member's listing costs the four bytes that say whether it is an ELF file, and what that file's listing does
-unfoldable pub member_cost : List ℕ → ℕ → Style → ℕ → Member → ℕ
+unfoldable pub member_cost : List ℕ → ℕ → ListingStyle → ℕ → Member → ℕ
 member_cost file headers style parts m =
     let content = bytes_in file m.extent in
     cost_where (lists_members style parts) (ELF_MAGIC_SIZE + cost_where (is_elf content) (listing_cost content headers style parts))
 
 -- what the members cost from where a walk has come to, at most so many, and the place where none stands
-unfoldable pub members_cost : ℕ → List ℕ → ℕ → Style → ℕ → MemberWalkState → ℕ
+unfoldable pub members_cost : ℕ → List ℕ → ℕ → ListingStyle → ℕ → MemberWalkState → ℕ
 members_cost zero file headers style parts p = 0
 members_cost (suc most) file headers style parts p =
     header_cost file style.cap p
@@ -43,25 +43,25 @@ members_cost (suc most) file headers style parts p =
     ]
 
 -- how many bytes the listing of an archive asks for at most
-unfoldable pub archive_cost : List ℕ → ℕ → Style → ℕ → ℕ
+unfoldable pub archive_cost : List ℕ → ℕ → ListingStyle → ℕ → ℕ
 archive_cost file headers style parts =
     MAGIC_SIZE
     + cost_where (pass (archive_checks file)) (members_cost (length file) file headers style parts before_members)
 
 -- what the tables in so many bytes may cost that one header describes
-abbrev pub data_most : ℕ → Style → ℕ
+abbrev pub data_most : ℕ → ListingStyle → ℕ
 data_most size style =
     size + size / 16 * (32 + name_bytes style.cap) + (if style.versions then suffixes_most size style.cap else 0)
 
 -- what members in so many bytes may cost: for each 60 bytes a header, a name elsewhere, the four bytes that mark an ELF file and
 -- what an empty file may cost, and what the data may
-abbrev pub allowance : (room headers : ℕ) → Style → ℕ
+abbrev pub allowance : (room headers : ℕ) → ListingStyle → ℕ
 allowance room headers style =
     room / MEMBER_HEADER_SIZE * (64 + long_name_bytes style.cap + style_ceiling 0 headers style) + headers * data_most room style
 
 -- what no listing of an archive of so many bytes passes: for each 60 bytes a member's header, a name elsewhere, the four bytes
 -- that mark an ELF file, and what an empty file may cost; and once what a file of all bytes may
-unfoldable pub archive_ceiling : (size headers : ℕ) → Style → ℕ
+unfoldable pub archive_ceiling : (size headers : ℕ) → ListingStyle → ℕ
 archive_ceiling size headers style =
     MAGIC_SIZE
     + size / MEMBER_HEADER_SIZE * (64 + long_name_bytes style.cap + style_ceiling 0 headers style)
@@ -69,7 +69,7 @@ archive_ceiling size headers style =
 
 -- what the listing of an archive within a budget writes, and the fault that it answers: the whole, or a front of whole lines
 -- where it costs more than the budget
-abbrev pub IsArchiveBudgeted : (alone : Bool) → Option ℕ → List ℕ → ℕ → Style → ℕ → List ℕ → Option Refusal → Type 0
+abbrev pub IsArchiveBudgeted : (alone : Bool) → Option ℕ → List ℕ → ℕ → ListingStyle → ℕ → List ℕ → Option Refusal → Type 0
 IsArchiveBudgeted alone None file headers style parts text fault =
     IsReport style.format (archive_items alone file headers style parts) text fault
 IsArchiveBudgeted alone (Some budget) file headers style parts text fault =
@@ -78,5 +78,5 @@ IsArchiveBudgeted alone (Some budget) file headers style parts text fault =
     × IsCut style.format (length file) (archive_items alone file headers style parts) text fault)
 
 -- the listing of a member is refused
-abbrev pub any_refused : List ℕ → ℕ → Style → ℕ → Bool
+abbrev pub any_refused : List ℕ → ℕ → ListingStyle → ℕ → Bool
 any_refused file headers style parts = list_any (is_refused file headers style parts) (members_of file style.cap).members

@@ -2,7 +2,7 @@
 use Rattle.std.specs.Prelude.{ℕ, ◌≡◌, ◌+◌, ◌≤◌, List, length}
 use Rattle.elf_model.specs.Archive.{Member, OneMember, MemberWalkState, MEMBER_HEADER_SIZE, next_member}
 use Rattle.elf_model.specs.ArchiveCost.{archive_ceiling, archive_cost}
-use Rattle.elf_model.specs.Style.{Style}
+use Rattle.elf_model.specs.Style.{ListingStyle}
 
 -- a member's data stand behind its header and end within the file
 abbrev pub DataLieInTheFile : Type 0
@@ -14,5 +14,5 @@ DataLieInTheFile =
 -- THE BOUND: no listing of an archive costs more than the ceiling of its length, whatever its bytes are
 abbrev pub ArchiveCostIsWithinCeiling : Type 0
 ArchiveCostIsWithinCeiling =
-    (file : List ℕ) (headers : ℕ) (style : Style) (parts : ℕ)
+    (file : List ℕ) (headers : ℕ) (style : ListingStyle) (parts : ℕ)
     → archive_cost file headers style parts ≤ archive_ceiling (length file) headers style

@@ -7,7 +7,7 @@ use Rattle.elf_model.specs.Chains.{ChainResult}
 use Rattle.elf_model.specs.Checks.{first_refusal}
 use Rattle.elf_model.specs.GnuHash.{gnu_hash, gnu_looked_up}
 use Rattle.elf_model.specs.Hash.{sysv_hash}
-use Rattle.elf_model.specs.Loader.{Asked, NoVersion, Version, Wanted, VersionRecordTable, Symbols, answers, is_among, naming_of, readings, symbol_offset, versym_at}
+use Rattle.elf_model.specs.Loader.{VersionQuery, NoVersion, Version, SymbolQuery, VersionRecordTable, DynamicSymbols, answers, is_among, naming_of, readings, symbol_offset, versym_at}
 use Rattle.elf_model.specs.LoaderFind.{counts_check, record_cost, version_indices}
 use Rattle.elf_model.specs.LoaderScope.{GnuTable, SysvTable, LookupTables, lookup_tables_of}
 use Rattle.elf_model.specs.Names.{pad64, shown}
@@ -23,7 +23,7 @@ use Rattle.elf_model.specs.declared.causes.Refusal.{Refusal}
 
 -- A SYMBOL DEFINES what is wanted: it answers a lookup, and it is not undefined. An undefined one that has a value answers too: it
 -- stands for the address of a function, and calls of that go to another file
-unfoldable pub defines : List ℕ → Symbols → Wanted → (ℕ → Bool) → ℕ → Result Bool Refusal
+unfoldable pub defines : List ℕ → DynamicSymbols → SymbolQuery → (ℕ → Bool) → ℕ → Result Bool Refusal
 defines file symbols wanted is_wanted y = elim (answers file symbols wanted is_wanted y) [
   | Err refusal ↦ Err refusal
   | Ok false ↦ Ok false
@@ -31,7 +31,7 @@ defines file symbols wanted is_wanted y = elim (answers file symbols wanted is_w
 ]
 
 -- the walk for the symbol that defines it, where the numbers of the version by its name are known
-unfoldable pub definer_walk : List ℕ → LookupTables → Wanted → (ℕ → Bool) → ChainResult
+unfoldable pub definer_walk : List ℕ → LookupTables → SymbolQuery → (ℕ → Bool) → ChainResult
 definer_walk file scope wanted is_wanted = elim scope.kind [
   | GnuTable ↦ gnu_looked_up file scope.table (gnu_hash wanted.name) (defines file scope.symbols wanted is_wanted)
   | SysvTable ↦ sysv_walked file scope.table (sysv_hash wanted.name) (defines file scope.symbols wanted is_wanted)
@@ -55,7 +55,7 @@ definer_by records walked = record { answer = walked.answer; tried = walked.trie
 
 -- once the checks of what a lookup is made in pass: the table's counts, the numbers of the version, the walk. What the symbol's
 -- version is called is not asked, as its line does not have it
-unfoldable pub definition_in : List ℕ → LookupTables → Wanted → DefinerLookup
+unfoldable pub definition_in : List ℕ → LookupTables → SymbolQuery → DefinerLookup
 definition_in file scope wanted = elim (first_refusal (counts_check file scope ∷ [])) [
   | Some refusal ↦ unwalked 0 refusal
   | None ↦
@@ -67,7 +67,7 @@ definition_in file scope wanted = elim (first_refusal (counts_check file scope �
 ]
 
 -- in a file, with so many headers permitted
-unfoldable pub definition_lookup : List ℕ → ℕ → Wanted → DefinerLookup
+unfoldable pub definition_lookup : List ℕ → ℕ → SymbolQuery → DefinerLookup
 definition_lookup file headers wanted = elim (lookup_tables_of file headers) [
   | Err refusal ↦ unwalked 0 refusal
   | Ok scope ↦ definition_in file scope wanted
@@ -75,7 +75,7 @@ definition_lookup file headers wanted = elim (lookup_tables_of file headers) [
 
 -- HOW MANY BYTES IT MAY ASK FOR once what it is made in is known: four counts, a word of a filter and one of a bucket; the chain
 -- words; a symbol, the word of its version and its name for each that is tried; the records of versions
-unfoldable pub definition_cost : Wanted → DefinerLookup → ℕ
+unfoldable pub definition_cost : SymbolQuery → DefinerLookup → ℕ
 definition_cost wanted looked =
     4 * looked.chain_words
     + looked.tried * (SYMBOL_SIZE + VERSYM_SIZE + pad64 (length wanted.name + 1))
@@ -95,13 +95,13 @@ bound_or index (Ok None) others = others
 bound_or index (Err refusal) others = StoppedIn index refusal
 
 -- in the files from an index on, with so many headers permitted in each
-unfoldable pub bound_from : ℕ → (headers : ℕ) → Wanted → List (List ℕ) → Binding
+unfoldable pub bound_from : ℕ → (headers : ℕ) → SymbolQuery → List (List ℕ) → Binding
 bound_from index headers wanted [] = BoundToNone
 bound_from index headers wanted (file ∷ files) =
     bound_or index (definition_lookup file headers wanted).answer (bound_from (suc index) headers wanted files)
 
 -- in all of them
-abbrev pub bound_in : (headers : ℕ) → Wanted → List (List ℕ) → Binding
+abbrev pub bound_in : (headers : ℕ) → SymbolQuery → List (List ℕ) → Binding
 bound_in headers wanted files = bound_from 0 headers wanted files
 
 -- WHAT A SYMBOL ASKS OTHERS FOR. It is undefined, global, weak or unique, and has a name (gABI 4, Symbol Table: an index of 0 is
@@ -130,7 +130,7 @@ whole_name strings index at = elim (shown strings index SOUGHT_BYTES) [
 
 -- the version of a number: the name of the first record that has it; a fault of the name is at what holds its index, and where
 -- none has the number at the word
-unfoldable pub reference_by_index : List ℕ → List VersionRecordTable → (number word_at : ℕ) → Result Asked Refusal
+unfoldable pub reference_by_index : List ℕ → List VersionRecordTable → (number word_at : ℕ) → Result VersionQuery Refusal
 reference_by_index file records number word_at =
     let naming = naming_of file number (readings file records) in
     elim naming.found [
@@ -145,7 +145,7 @@ reference_by_index file records number word_at =
     ]
 
 -- the version that a symbol asks for: none where there are no words of versions, and by the numbers 0 and 1
-unfoldable pub reference_version : List ℕ → Symbols → ℕ → Result Asked Refusal
+unfoldable pub reference_version : List ℕ → DynamicSymbols → ℕ → Result VersionQuery Refusal
 reference_version file symbols y = elim symbols.words [
   | None ↦ Ok NoVersion
   | Some words ↦
@@ -157,7 +157,7 @@ reference_version file symbols y = elim symbols.words [
 ]
 
 -- nothing; or its name and the version; a fault of the name is at the symbol
-unfoldable pub reference_at : List ℕ → Symbols → ℕ → Result (Option Wanted) Refusal
+unfoldable pub reference_at : List ℕ → DynamicSymbols → ℕ → Result (Option SymbolQuery) Refusal
 reference_at file symbols y =
     let at = symbol_offset symbols y in
     if not (is_reference file at) then Ok None

@@ -4,7 +4,7 @@ use Rattle.std.specs.Prelude.{ℕ, zero, suc, ◌-◌, ◌==◌, ◌||◌, nat_l
 use Rattle.elf_model.specs.BindingLines.{binding_line, is_unbound, reference_name, unbound_state}
 use Rattle.elf_model.specs.Bindings.{Binding, BoundTo, BoundToNone, StoppedIn, bound_in, is_weak, reference_at, symbols_hashed, whole_name}
 use Rattle.elf_model.specs.Lines.{refusal_line}
-use Rattle.elf_model.specs.Loader.{Meets, Misses, VersionRecordRead, VersionRecordTable, Refuses, Symbols, Wanted, asked_name, compared_with, readings, symbol_offset, versym_at}
+use Rattle.elf_model.specs.Loader.{Meets, Misses, VersionRecordRead, VersionRecordTable, Refuses, DynamicSymbols, SymbolQuery, asked_name, compared_with, readings, symbol_offset, versym_at}
 use Rattle.elf_model.specs.LoaderScope.{LookupTables, lookup_tables_of}
 use Rattle.elf_model.specs.Records.{versym}
 use Rattle.elf_model.specs.Versions.{VisitedRecord, name_index, named_at, names_version_index, number_in}
@@ -46,7 +46,7 @@ file_before file number before (Meets strings met ∷ others) =
     ]
 
 -- that of the version of a symbol, which has a word
-unfoldable pub file_of_version : List ℕ → Symbols → ℕ → Option VisitedRecord
+unfoldable pub file_of_version : List ℕ → DynamicSymbols → ℕ → Option VisitedRecord
 file_of_version file symbols y = elim symbols.words [
   | None ↦ None
   | Some words ↦
@@ -73,7 +73,7 @@ lacks_among file version (table ∷ tables) =
     let compared = compared_with file version (readings file (table ∷ tables)) in
     elim compared.refused [ Some refusal ↦ Err refusal | None ↦ Ok (is_none_of compared.numbers) ]
 
-unfoldable pub lacks_version : List ℕ → Symbols → (version : List ℕ) → Result Bool Refusal
+unfoldable pub lacks_version : List ℕ → DynamicSymbols → (version : List ℕ) → Result Bool Refusal
 lacks_version file symbols version = elim symbols.words [
   | None ↦ Ok false
   | Some words ↦ lacks_among file version (definitions_among symbols.records)
@@ -98,7 +98,7 @@ object_lacks objects name version = elim (objects.called name) [
 
 -- whether the object lacks a version of which a symbol asks for it; a weak symbol is not asked about. A fault of that object's name
 -- is at the record of the needed file
-unfoldable pub missing_version_requested : BoundObjects → List ℕ → Symbols → ℕ → Option (List ℕ) → Result Bool Refusal
+unfoldable pub missing_version_requested : BoundObjects → List ℕ → DynamicSymbols → ℕ → Option (List ℕ) → Result Bool Refusal
 missing_version_requested objects file symbols y None = Ok false
 missing_version_requested objects file symbols y (Some version) =
     if is_weak file (symbol_offset symbols y) then Ok false
@@ -111,7 +111,7 @@ missing_version_requested objects file symbols y (Some version) =
     ]
 
 -- WHAT BINDS A SYMBOL, which asks for this
-unfoldable pub state_by : BoundObjects → List ℕ → Symbols → ℕ → Wanted → Binding → Result BindingState Refusal
+unfoldable pub state_by : BoundObjects → List ℕ → DynamicSymbols → ℕ → SymbolQuery → Binding → Result BindingState Refusal
 state_by objects file symbols y wanted (BoundTo place symbol) = Ok (state.Bound (index_at objects place) symbol)
 state_by objects file symbols y wanted (StoppedIn place refusal) = Ok (state.Refused (index_at objects place))
 state_by objects file symbols y wanted BoundToNone = elim (missing_version_requested objects file symbols y (asked_name wanted.asked)) [
@@ -119,7 +119,7 @@ state_by objects file symbols y wanted BoundToNone = elim (missing_version_reque
   | Ok lacks ↦ Ok (unbound_state (is_weak file (symbol_offset symbols y)) lacks)
 ]
 
-abbrev pub state_in : BoundObjects → List ℕ → Symbols → ℕ → Wanted → Result BindingState Refusal
+abbrev pub state_in : BoundObjects → List ℕ → DynamicSymbols → ℕ → SymbolQuery → Result BindingState Refusal
 state_in objects file symbols y wanted =
     state_by objects file symbols y wanted (bound_in objects.headers wanted objects.files)
 
@@ -130,11 +130,11 @@ pub data BoundItem : Type 0 where
   Faulty : Refusal → BoundItem
 
 -- of one symbol of the object at a place: nothing where it asks for nothing
-abbrev pub reported_as : (object symbol : ℕ) → Wanted → Result BindingState Refusal → Option BoundItem
+abbrev pub reported_as : (object symbol : ℕ) → SymbolQuery → Result BindingState Refusal → Option BoundItem
 reported_as object symbol wanted (Err refusal) = Some (Faulty refusal)
 reported_as object symbol wanted (Ok found) = Some (Told object symbol found (reference_name wanted.name (asked_name wanted.asked)))
 
-unfoldable pub bound_item : BoundObjects → (place : ℕ) → List ℕ → Symbols → ℕ → Option BoundItem
+unfoldable pub bound_item : BoundObjects → (place : ℕ) → List ℕ → DynamicSymbols → ℕ → Option BoundItem
 bound_item objects place file symbols y = elim (reference_at file symbols y) [
   | Err refusal ↦ Some (Faulty refusal)
   | Ok None ↦ None
@@ -148,7 +148,7 @@ before_items (Some (Faulty refusal)) items = Faulty refusal ∷ []
 before_items (Some (Told object symbol found name)) items = Told object symbol found name ∷ items
 
 -- of so many symbols from one on
-unfoldable pub items_from : BoundObjects → (place : ℕ) → List ℕ → Symbols → (first count : ℕ) → List BoundItem
+unfoldable pub items_from : BoundObjects → (place : ℕ) → List ℕ → DynamicSymbols → (first count : ℕ) → List BoundItem
 items_from objects place file symbols y zero = []
 items_from objects place file symbols y (suc count) =
     before_items (bound_item objects place file symbols y) (items_from objects place file symbols (suc y) count)

@@ -4,7 +4,7 @@ use Rattle.elf_model.specs.Cost.{listing_cost}
 use Rattle.elf_model.specs.Lines.{refusal_line}
 use Rattle.elf_model.specs.Listing.{ListingItem, lines_of, fault_of, report_of}
 use Rattle.elf_model.specs.Report.{listing}
-use Rattle.elf_model.specs.Style.{Style}
+use Rattle.elf_model.specs.Style.{ListingStyle}
 use Rattle.elf_model.specs.declared.causes.Refusal.{Refusal}
 use Rattle.elf_model.specs.declared.formats.Format.{Format}
 use Rattle.elf_model.specs.declared.causes.Cause.TheVariants.{Budget}
@@ -33,7 +33,7 @@ pub record IsCut (format : Format) (size : ℕ) (items : List ListingItem) (text
 
 -- what a listing within a budget writes, and the fault that it answers: its report, or a front of it where it costs more
 -- than the budget. Without a budget it is the report
-abbrev pub IsBudgeted : Option ℕ → List ℕ → ℕ → Style → ℕ → List ℕ → Option Refusal → Type 0
+abbrev pub IsBudgeted : Option ℕ → List ℕ → ℕ → ListingStyle → ℕ → List ℕ → Option Refusal → Type 0
 IsBudgeted None file headers style parts text fault = IsReport style.format (listing file headers style parts) text fault
 IsBudgeted (Some budget) file headers style parts text fault =
     IsReport style.format (listing file headers style parts) text fault

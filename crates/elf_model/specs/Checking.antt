@@ -7,7 +7,7 @@ use Rattle.elf_model.specs.Fields.Field.{Decimal, Hexadecimal, Hyphen, ArgSpec}
 use Rattle.elf_model.specs.Lines.{named_line}
 use Rattle.elf_model.specs.Names.DisplayedName.{Whole}
 use Rattle.elf_model.specs.Records.{FILE_HEADER_SIZE, ELF_MAGIC_SIZE, has_elf_magic}
-use Rattle.elf_model.specs.Style.{Style}
+use Rattle.elf_model.specs.Style.{ListingStyle}
 use Rattle.elf_model.specs.declared.causes.Cause.{Cause}
 use Rattle.elf_model.specs.declared.causes.Cause.TheVariants.{NotElf}
 use Rattle.elf_model.specs.declared.causes.Refusal.{Refusal}
@@ -38,7 +38,7 @@ state_of budget file None = state.Ok
 state_of budget file (Some refusal) = if lacks_elf_magic budget file refusal then state.NoElf else state.Refused refusal
 
 -- a state is that of the listing of a file within a budget: with no budget, of its report
-pub record IsStateOf (budget : Option ℕ) (file : List ℕ) (headers : ℕ) (style : Style) (parts : ℕ) (found : FileStatus) : Type 0 where
+pub record IsStateOf (budget : Option ℕ) (file : List ℕ) (headers : ℕ) (style : ListingStyle) (parts : ℕ) (found : FileStatus) : Type 0 where
   pub text : List ℕ
   pub fault : Option Refusal
   pub listed : IsBudgeted budget file headers style parts text fault

@@ -2,7 +2,7 @@
 use Rattle.std.specs.Prelude.{ℕ, ◌&&◌, max, if◌then◌else◌, Bool, true, false, List, [], ◌∷◌, length}
 use Rattle.std.specs.List.{list_any}
 use Rattle.std.specs.Str.{bytes_eq}
-use Rattle.elf_model.specs.Loader.{Asked, NoVersion, Version, DefaultVersion, Wanted, parse_query}
+use Rattle.elf_model.specs.Loader.{VersionQuery, NoVersion, Version, DefaultVersion, SymbolQuery, parse_query}
 use Rattle.elf_model.specs.Names.{DisplayedName}
 use Rattle.elf_model.specs.Names.DisplayedName.{Whole, Cut}
 
@@ -17,7 +17,7 @@ is_whole (Whole name) wanted = bytes_eq name wanted
 is_whole (Cut front) wanted = false
 
 -- what stands behind a name is what is asked for: every version fits a name alone, and a version by its name is to be that one
-abbrev pub suits : Asked → Suffix → Bool
+abbrev pub suits : VersionQuery → Suffix → Bool
 suits NoVersion _ = true
 suits (Version version) NoSuffix = false
 suits (Version version) (Suffixed is_default name) = is_whole name version
@@ -27,10 +27,10 @@ suits (DefaultVersion version) (Suffixed is_default name) = is_default && is_who
 -- WHICH ROWS THAT END IN A NAME ARE SHOWN: every one, or those whose name, with its version, is one of some
 pub data RowFilter : Type 0 where
   EveryRow : RowFilter
-  RowsOf : List Wanted → RowFilter
+  RowsOf : List SymbolQuery → RowFilter
 
 -- a name with what stands behind it is wanted
-abbrev pub is_named : DisplayedName → Suffix → Wanted → Bool
+abbrev pub is_named : DisplayedName → Suffix → SymbolQuery → Bool
 is_named name suffix wanted = is_whole name wanted.name && suits wanted.asked suffix
 
 -- the row of a name with what stands behind it is shown
@@ -39,7 +39,7 @@ chooses EveryRow _ _ = true
 chooses (RowsOf names) name suffix = list_any (is_named name suffix) names
 
 -- what a text asks for: a name; or where versions stand behind names, a name and perhaps a version
-abbrev pub wanted_text : (versions : Bool) → List ℕ → Wanted
+abbrev pub wanted_text : (versions : Bool) → List ℕ → SymbolQuery
 wanted_text versions text = if versions then parse_query text else record { name = text; asked = NoVersion }
 
 -- how many bytes the longest of some texts has

@@ -4,7 +4,7 @@ use Rattle.std.specs.List.{list_any}
 use Rattle.std.specs.List.Sorted.{IsPermutation}
 use Rattle.std.specs.Str.{bytes_eq}
 use Rattle.elf_model.specs.Choice.{NoSuffix, RowFilter, RowsOf, Suffix, Suffixed, chooses, wanted_text}
-use Rattle.elf_model.specs.Loader.{AT_SIGN, Wanted}
+use Rattle.elf_model.specs.Loader.{AT_SIGN, SymbolQuery}
 use Rattle.elf_model.specs.Names.{DisplayedName}
 use Rattle.elf_model.specs.Names.DisplayedName.{Whole, Cut}
 
@@ -49,10 +49,10 @@ NamesFitEveryVersion =
 
 -- a name that is cut is none of them, whatever stands behind it
 abbrev pub CutNamesAreNone : Type 0
-CutNamesAreNone = (names : List Wanted) (front : List ℕ) (suffix : Suffix) → chooses (RowsOf names) (Cut front) suffix ≡ false
+CutNamesAreNone = (names : List SymbolQuery) (front : List ℕ) (suffix : Suffix) → chooses (RowsOf names) (Cut front) suffix ≡ false
 
 -- their order means nothing
 abbrev pub OrderChoosesNothing : Type 0
 OrderChoosesNothing =
-    (names others : List Wanted) → IsPermutation names others
+    (names others : List SymbolQuery) → IsPermutation names others
     → (name : DisplayedName) (suffix : Suffix) → chooses (RowsOf names) name suffix ≡ chooses (RowsOf others) name suffix

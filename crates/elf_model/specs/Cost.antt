@@ -5,7 +5,7 @@ use Rattle.elf_model.specs.Names.{name_bytes}
 use Rattle.elf_model.specs.Checks.{pass, before_headers}
 use Rattle.elf_model.specs.HeaderTables.{HeaderTable, TableKind}
 use Rattle.elf_model.specs.Listing.{has, has_tables, known_parts, SECTIONS, SEGMENTS, NOTES, DYNAMIC}
-use Rattle.elf_model.specs.Style.{Style, standard, viewed}
+use Rattle.elf_model.specs.Style.{ListingStyle, standard, viewed}
 use Rattle.elf_model.specs.TableKinds.{table_headers}
 use Rattle.elf_model.specs.Tables.{SYMBOL_SIZE}
 use Rattle.elf_model.specs.Versions.{VERSYM_SIZE, DEFINITION_SIZE, DEFINED_NAME_SIZE, NEED_SIZE}
@@ -50,20 +50,20 @@ unfoldable pub segments_cost : List ℕ → ℕ → ℕ
 segments_cost file parts = cost_where (needs_segments file parts) (PROGRAM_HEADER_SIZE * e_phnum file)
 
 -- the tables of all headers that describe tables, as far as the parts have them
-unfoldable pub tables_cost : List ℕ → Style → ℕ → ℕ
+unfoldable pub tables_cost : List ℕ → ListingStyle → ℕ → ℕ
 tables_cost file style parts =
     let tables = table_headers style.versions file in
     sum_over (λ i. kinds_cost tables.kinds tables.headers i (length file) style.cap parts) 0 tables.headers.count
 
 -- how many bytes are asked for behind the file header at most
-abbrev pub after_header : List ℕ → ℕ → Style → ℕ → ℕ
+abbrev pub after_header : List ℕ → ℕ → ListingStyle → ℕ → ℕ
 after_header file headers style parts =
     cost_where (has_tables parts && is_loadable file headers)
     (sections_cost file style.cap parts + segments_cost file parts + tables_cost file style parts)
 
 -- HOW MANY BYTES THE LISTING OF A FILE ASKS FOR at most: the file header, and what is asked for behind it for the parts that the
 -- style knows
-unfoldable pub listing_cost : List ℕ → ℕ → Style → ℕ → ℕ
+unfoldable pub listing_cost : List ℕ → ℕ → ListingStyle → ℕ → ℕ
 listing_cost file headers style parts =
     FILE_HEADER_SIZE + after_header (viewed style file) headers style (known_parts style parts)
 
@@ -85,7 +85,7 @@ suffixes_most size cap =
     + (size / DEFINITION_SIZE * (DEFINITION_SIZE + DEFINED_NAME_SIZE) + size / NEED_SIZE * NEED_SIZE)
 
 -- what no listing of a style passes: more where versions stand behind the names of symbols
-unfoldable pub style_ceiling : (size headers : ℕ) → Style → ℕ
+unfoldable pub style_ceiling : (size headers : ℕ) → ListingStyle → ℕ
 style_ceiling size headers style =
     if style.versions then ceiling size headers style.cap + headers * suffixes_most size style.cap
     else ceiling size headers style.cap

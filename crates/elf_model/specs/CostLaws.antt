@@ -8,12 +8,12 @@ use Rattle.elf_model.specs.Listing.{has}
 use Rattle.elf_model.specs.HeaderTables.{HeaderTable, TableKind, file_sections, file_segments, held_headers}
 use Rattle.elf_model.specs.TableKinds.{section_kinds, segment_kinds}
 use Rattle.elf_model.specs.Cost.{sum_over, cost_where, table_cost, kinds_cost, listing_cost, ceiling, style_ceiling}
-use Rattle.elf_model.specs.Style.{Style}
+use Rattle.elf_model.specs.Style.{ListingStyle}
 
 -- no listing costs more than the ceiling of its file's length, whatever the file's bytes are
 abbrev pub CostIsWithinCeiling : Type 0
 CostIsWithinCeiling =
-    (file : List ℕ) → (headers : ℕ) → (style : Style) → (parts : ℕ)
+    (file : List ℕ) → (headers : ℕ) → (style : ListingStyle) → (parts : ℕ)
     → listing_cost file headers style parts ≤ style_ceiling (length file) headers style
 
 -- the last cost of so many is added to the others
@@ -67,7 +67,7 @@ TablesCostKindByKind =
 -- whatever headers stand in the place of the section headers: what is asked for is within the ceiling
 abbrev pub AnyRowsAreWithinCeiling : Type 0
 AnyRowsAreWithinCeiling =
-    (table : HeaderTable) → (style : Style) → (size headers parts sections segments : ℕ) → sections ≤ headers → segments ≤ headers
+    (table : HeaderTable) → (style : ListingStyle) → (size headers parts sections segments : ℕ) → sections ≤ headers → segments ≤ headers
     → FILE_HEADER_SIZE + (SECTION_HEADER_SIZE * sections + sections * name_bytes style.cap + PROGRAM_HEADER_SIZE * segments
     + sum_over (λ i. kinds_cost (section_kinds style.versions) table i size style.cap parts) 0 sections)
     ≤ style_ceiling size headers style

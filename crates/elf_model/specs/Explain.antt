@@ -14,7 +14,7 @@ use Rattle.elf_model.specs.Values.{takes_place, kind_of}
 use Rattle.elf_model.specs.declared.causes.Cause.{Cause}
 use Rattle.elf_model.specs.declared.causes.Cause.TheVariants.{Unplaced, Undefined, Unsupported}
 use Rattle.elf_model.specs.declared.causes.Refusal.{Refusal}
-use Rattle.elf_model.specs.declared.missing.Missing.{Missing}
+use Rattle.elf_model.specs.declared.missing.MissingAddress.{MissingAddress}
 use Rattle.elf_model.specs.declared.missing.LayoutAddress.{LayoutAddress}
 use Rattle.elf_model.specs.declared.missing.LayoutAddress.TheVariants.{Place, Named, Entry}
 use Rattle.elf_model.specs.declared.relocation_types.RelocationBase.{RelocationBase}
@@ -65,13 +65,13 @@ wanted Unsupported type layout section symbol = missing_for_type type.base symbo
 wanted _ type layout section symbol = None
 
 -- that, with the number of the type and the symbol's name
-unfoldable pub missing_of : ℕ → ℕ → Option LayoutAddress → Option Missing
+unfoldable pub missing_of : ℕ → ℕ → Option LayoutAddress → Option MissingAddress
 missing_of kind name None = None
 missing_of kind name (Some wanted) = Some (record { kind = kind; name = name; wanted = wanted })
 
 -- What is missing in a layout, by the entry at the refusal's offset in a section of entries with this header, for a section
 -- that is relocated. Nothing where the type is none that stores a value, or the symbol is none of the linked table's.
-unfoldable pub missing : List ℕ → ℕ → Layout → ℕ → Refusal → Option Missing
+unfoldable pub missing : List ℕ → ℕ → Layout → ℕ → Refusal → Option MissingAddress
 missing file header layout section refusal =
     elim (kind_of (r_type file refusal.at)) [
       | None ↦ None
@@ -111,16 +111,16 @@ resolved_symbol_name strings index = elim (index == 0) [ true ↦ Ok (Whole []) 
 
 -- what is missing, and the name of the entry's symbol
 pub record MissingEntry : Type 0 where
-  pub missing : Missing
+  pub missing : MissingAddress
   pub name : DisplayedName
 
 -- that, where the name has no fault
-abbrev pub lack_with : Missing → Result DisplayedName Cause → Option MissingEntry
+abbrev pub lack_with : MissingAddress → Result DisplayedName Cause → Option MissingEntry
 lack_with missing (Ok name) = Some (record { missing = missing; name = name })
 lack_with missing (Err cause) = None
 
 -- the same of an entry in a section of entries with this header, where something is missing
-unfoldable pub lack_of : List ℕ → ℕ → Option Missing → Option MissingEntry
+unfoldable pub lack_of : List ℕ → ℕ → Option MissingAddress → Option MissingEntry
 lack_of file header None = None
 lack_of file header (Some missing) = lack_with missing (resolved_symbol_name (strings_of file (linked_at file header)) missing.name)
 

@@ -9,7 +9,7 @@ use Rattle.elf_model.specs.Lines.{named_line}
 use Rattle.elf_model.specs.Listing.{fault_of}
 use Rattle.elf_model.specs.Names.DisplayedName.{Whole}
 use Rattle.elf_model.specs.Records.{ELF_MAGIC_SIZE, has_elf_magic}
-use Rattle.elf_model.specs.Style.{Style}
+use Rattle.elf_model.specs.Style.{ListingStyle}
 use Rattle.elf_model.specs.declared.causes.Refusal.{Refusal}
 use Rattle.elf_model.specs.declared.formats.Format.{Format}
 use Rattle.elf_model.specs.declared.states.FileMagic.{FileMagic}
@@ -77,11 +77,11 @@ abbrev pub placed_after : ℕ → Refusal → Refusal
 placed_after start refusal = record { at = min (start + refusal.at) (2 ^ 64 - 1); cause = refusal.cause }
 
 -- the fault of a member's listing
-abbrev pub member_fault : List ℕ → ℕ → Style → ℕ → Member → Option Refusal
+abbrev pub member_fault : List ℕ → ℕ → ListingStyle → ℕ → Member → Option Refusal
 member_fault file headers style parts m = option_map (placed_after m.extent.at) (fault_of (member_listing file headers style parts m))
 
 -- the first of members, or that of the walk
-unfoldable pub first_fault : List ℕ → ℕ → Style → ℕ → List Member → Option Refusal → Option Refusal
+unfoldable pub first_fault : List ℕ → ℕ → ListingStyle → ℕ → List Member → Option Refusal → Option Refusal
 first_fault file headers style parts [] walk = walk
 first_fault file headers style parts (m ∷ ms) walk = elim (member_fault file headers style parts m) [
   | Some refusal ↦ Some refusal
@@ -89,7 +89,7 @@ first_fault file headers style parts (m ∷ ms) walk = elim (member_fault file h
 ]
 
 -- THE FAULT OF AN ARCHIVE: the first in order of its own checks, of its members' listings, and of the walk over them
-unfoldable pub archive_fault : List ℕ → ℕ → Style → ℕ → Option Refusal
+unfoldable pub archive_fault : List ℕ → ℕ → ListingStyle → ℕ → Option Refusal
 archive_fault file headers style parts = elim (first_refusal (archive_checks file)) [
   | Some refusal ↦ Some refusal
   | None ↦

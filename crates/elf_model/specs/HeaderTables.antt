@@ -3,7 +3,7 @@ use Rattle.std.specs.Prelude.{ℕ, ◌*◌, ◌==◌, Bool, List, Option}
 use Rattle.elf_model.specs.Find.{first_that}
 use Rattle.elf_model.specs.Listing.{ListingItem}
 use Rattle.elf_model.specs.Records.{e_shnum, e_phnum, sh_type, section_at, segment_at}
-use Rattle.elf_model.specs.Style.{Style}
+use Rattle.elf_model.specs.Style.{ListingStyle}
 use Rattle.elf_model.specs.Tables.{TableChecks}
 
 -- A TABLE OF HEADERS: how many there are; of each the bytes in which it stands, and its offset in these
@@ -39,7 +39,7 @@ pub record TableKind : Type 0 where
   pub has_table : List ℕ → ℕ → Bool
   pub checks : TableChecks
   pub asks : HeaderTable → (index file_size cap : ℕ) → ℕ
-  pub rows : List ℕ → Style → ℕ → ℕ → List ListingItem
+  pub rows : List ℕ → ListingStyle → ℕ → ℕ → List ListingItem
 
 -- as many entries as a header counts ask for so many bytes each
 abbrev pub each_entry : (List ℕ → ℕ → ℕ) → (ℕ → ℕ) → HeaderTable → (index file_size cap : ℕ) → ℕ

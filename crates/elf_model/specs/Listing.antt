@@ -3,7 +3,7 @@ use Rattle.std.specs.Prelude.{ℕ, suc, zero, ◌==◌, not, Bool, true, false, 
 use Rattle.std.specs.Int.RustNames.{bit_and}
 use Rattle.elf_model.specs.Checks.{Check, first_refusal, header_checks}
 use Rattle.elf_model.specs.Lines.{header_line, refusal_line}
-use Rattle.elf_model.specs.Style.{Style}
+use Rattle.elf_model.specs.Style.{ListingStyle}
 use Rattle.elf_model.specs.declared.causes.Refusal.{Refusal}
 use Rattle.elf_model.specs.declared.formats.Format.{Format}
 
@@ -84,7 +84,7 @@ abbrev pub all_parts : Bool → ℕ
 all_parts gnu = if gnu then GNU_ALL else ALL
 
 -- the parts that listings of a style know: other bits mean nothing
-abbrev pub known_parts : Style → ℕ → ℕ
+abbrev pub known_parts : ListingStyle → ℕ → ℕ
 known_parts style parts = bit_and parts (all_parts style.gnu)
 
 -- a set of parts has one

@@ -6,7 +6,7 @@ use Rattle.elf_model.specs.Lines.{header_line, refusal_line}
 use Rattle.elf_model.specs.Listing.{ListingItem, each, lines_of, fault_of, has, report_of, has_tables, file_header_items, known_parts, HEADER}
 use Rattle.elf_model.specs.Cost.{listing_cost}
 use Rattle.elf_model.specs.Report.{listing}
-use Rattle.elf_model.specs.Style.{Style, viewed}
+use Rattle.elf_model.specs.Style.{ListingStyle, viewed}
 use Rattle.elf_model.specs.declared.causes.Refusal.{Refusal}
 
 -- the last row of so many stands behind the others
@@ -23,14 +23,14 @@ RowsSplit =
 -- with no part that the style knows but the file header's the listing is the file header's
 abbrev pub HeaderAloneIsListed : Type 0
 HeaderAloneIsListed =
-    (file : List ℕ) → (headers : ℕ) → (style : Style) → (parts : ℕ)
+    (file : List ℕ) → (headers : ℕ) → (style : ListingStyle) → (parts : ℕ)
     → has_tables (known_parts style parts) ≡ false
     → listing file headers style parts ≡ file_header_items style.format file parts
 
 -- where a check of the file header fails, the listing is that fault's line alone, under any parts
 abbrev pub HeaderFaultIsListedAlone : Type 0
 HeaderFaultIsListedAlone =
-    (file : List ℕ) → (headers : ℕ) → (style : Style) → (parts : ℕ) → (refusal : Refusal)
+    (file : List ℕ) → (headers : ℕ) → (style : ListingStyle) → (parts : ℕ) → (refusal : Refusal)
     → first_refusal (header_checks file) ≡ Some refusal
     → (report_of style.format (listing file headers style parts) ≡ refusal_line style.format refusal)
     × (fault_of (listing file headers style parts) ≡ Some refusal)
@@ -39,7 +39,7 @@ HeaderFaultIsListedAlone =
 -- under any parts with the file header's and another that the style knows
 abbrev pub LoadFaultIsListedSecond : Type 0
 LoadFaultIsListedSecond =
-    (file : List ℕ) → (headers : ℕ) → (style : Style) → (parts : ℕ) → (refusal : Refusal)
+    (file : List ℕ) → (headers : ℕ) → (style : ListingStyle) → (parts : ℕ) → (refusal : Refusal)
     → first_refusal (header_checks file) ≡ None → first_refusal (load_checks (viewed style file) headers) ≡ Some refusal
     → has parts HEADER ≡ true → has_tables (known_parts style parts) ≡ true
     → report_of style.format (listing file headers style parts) ≡ header_line style.format file ++ refusal_line style.format refusal
@@ -59,13 +59,13 @@ ListingsAppend =
 -- bits outside the parts that a style knows mean nothing
 abbrev pub OtherBitsMeanNothing : Type 0
 OtherBitsMeanNothing =
-    (file : List ℕ) → (headers : ℕ) → (style : Style) → (parts : ℕ)
+    (file : List ℕ) → (headers : ℕ) → (style : ListingStyle) → (parts : ℕ)
     → (listing file headers style (known_parts style parts) ≡ listing file headers style parts)
     × (listing_cost file headers style (known_parts style parts) ≡ listing_cost file headers style parts)
 
 -- within a budget of at least its cost a listing is its report
 abbrev pub AmpleBudgetIsReport : Type 0
 AmpleBudgetIsReport =
-    (budget : ℕ) → (file : List ℕ) → (headers : ℕ) → (style : Style) → (parts : ℕ) → (text : List ℕ) → (fault : Option Refusal)
+    (budget : ℕ) → (file : List ℕ) → (headers : ℕ) → (style : ListingStyle) → (parts : ℕ) → (text : List ℕ) → (fault : Option Refusal)
     → listing_cost file headers style parts ≤ budget → IsBudgeted (Some budget) file headers style parts text fault
     → IsReport style.format (listing file headers style parts) text fault

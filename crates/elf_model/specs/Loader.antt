@@ -12,40 +12,40 @@ use Rattle.elf_model.specs.declared.versions.VersionKind.{VersionKind}
 
 -- which version of a symbol is asked for: the one that a name alone takes; one by its name; one by its name that is to be the
 -- symbol's default version too
-pub data Asked : Type 0 where
-  NoVersion : Asked
-  Version : List ℕ → Asked
-  DefaultVersion : List ℕ → Asked
+pub data VersionQuery : Type 0 where
+  NoVersion : VersionQuery
+  Version : List ℕ → VersionQuery
+  DefaultVersion : List ℕ → VersionQuery
 
 -- WHAT IS WANTED: a symbol's name, and which version of it
-pub record Wanted : Type 0 where
+pub record SymbolQuery : Type 0 where
   pub name : List ℕ
-  pub asked : Asked
+  pub asked : VersionQuery
 
 -- what stands between a name and its version
 abbrev pub AT_SIGN : ℕ
 AT_SIGN = 0x40
 
 -- the version behind the first such sign: behind a second that follows directly it is to be the default one
-abbrev pub asked_after : List ℕ → Asked
+abbrev pub asked_after : List ℕ → VersionQuery
 asked_after [] = Version []
 asked_after (byte ∷ bytes) = if byte == AT_SIGN then DefaultVersion bytes else Version (byte ∷ bytes)
 
 -- a text NAME, NAME@VERSION or NAME@@VERSION, parted at its first such sign
-unfoldable pub parse_query : List ℕ → Wanted
+unfoldable pub parse_query : List ℕ → SymbolQuery
 parse_query text = elim (position (λ byte. byte == AT_SIGN) text) [
   | None ↦ record { name = text; asked = NoVersion }
   | Some place ↦ record { name = take place text; asked = asked_after (drop (suc place) text) }
 ]
 
 -- the name of the version that is asked for, if one is
-abbrev pub asked_name : Asked → Option (List ℕ)
+abbrev pub asked_name : VersionQuery → Option (List ℕ)
 asked_name NoVersion = None
 asked_name (Version version) = Some version
 asked_name (DefaultVersion version) = Some version
 
 -- neither the name nor a version that is asked for is empty
-unfoldable pub is_complete : Wanted → Bool
+unfoldable pub is_complete : SymbolQuery → Bool
 is_complete wanted =
     not (length wanted.name == 0) && elim (asked_name wanted.asked) [ None ↦ true | Some version ↦ not (length version == 0) ]
 
@@ -70,21 +70,21 @@ is_hidden word = not (word == number_in word)
 
 -- a version fits what is asked for, where the numbers of the version by its name are known: a name alone takes a version that
 -- is not hidden, and a symbol without one, whose number is 0 or 1
-unfoldable pub fits : Asked → (ℕ → Bool) → ℕ → Bool
+unfoldable pub fits : VersionQuery → (ℕ → Bool) → ℕ → Bool
 fits NoVersion is_wanted word = nat_lt (number_in word) 2 || not (is_hidden word)
 fits (Version version) is_wanted word = is_wanted (number_in word)
 fits (DefaultVersion version) is_wanted word = is_wanted (number_in word) && not (is_hidden word)
 
 -- THE WORDS OF SYMBOLS' VERSIONS: where the first stands in the file, how many there are, the offset of what describes them,
 -- and its index
-pub record VersionWords : Type 0 where
+pub record VersymTable : Type 0 where
   pub place : ℕ
   pub count : ℕ
   pub head : ℕ
   pub index : ℕ
 
 -- where the word of a symbol stands
-abbrev pub versym_at : VersionWords → ℕ → ℕ
+abbrev pub versym_at : VersymTable → ℕ → ℕ
 versym_at words y = words.place + VERSYM_SIZE * y
 
 -- A TABLE OF DEFINITIONS OR NEEDS of versions: the kind of its first record, the offset of what describes it, where it stands
@@ -98,21 +98,21 @@ pub record VersionRecordTable : Type 0 where
 
 -- WHAT A LOADER KNOWS OF THE SYMBOLS of a file: the index of what describes them; where the first stands in the file; their
 -- strings, and where these begin; the words of their versions, if there are such; and the definitions and the needs of versions, in this order
-pub record Symbols : Type 0 where
+pub record DynamicSymbols : Type 0 where
   pub index : ℕ
   pub place : ℕ
   pub strings : List ℕ
   pub strings_at : ℕ
-  pub words : Option VersionWords
+  pub words : Option VersymTable
   pub records : List VersionRecordTable
 
 -- where a symbol stands in the file
-abbrev pub symbol_offset : Symbols → ℕ → ℕ
+abbrev pub symbol_offset : DynamicSymbols → ℕ → ℕ
 symbol_offset symbols y = symbols.place + SYMBOL_SIZE * y
 
 -- whether the version of a symbol fits: without words of versions each does; a symbol without a word is refused at what describes
 -- these
-unfoldable pub version_fits : List ℕ → Option VersionWords → Asked → (ℕ → Bool) → ℕ → Result Bool Refusal
+unfoldable pub version_fits : List ℕ → Option VersymTable → VersionQuery → (ℕ → Bool) → ℕ → Result Bool Refusal
 version_fits file None asked is_wanted y = Ok true
 version_fits file (Some words) asked is_wanted y =
     if nat_lt y words.count then Ok (fits asked is_wanted (versym file (versym_at words y)))
@@ -120,7 +120,7 @@ version_fits file (Some words) asked is_wanted y =
 
 -- WHETHER A SYMBOL ANSWERS: it has the wanted name, it is offered, and its version fits. It is not known where the name has
 -- a fault, at the symbol, or the symbol has no word of a version
-unfoldable pub answers : List ℕ → Symbols → Wanted → (ℕ → Bool) → ℕ → Result Bool Refusal
+unfoldable pub answers : List ℕ → DynamicSymbols → SymbolQuery → (ℕ → Bool) → ℕ → Result Bool Refusal
 answers file symbols wanted is_wanted y =
     let at = symbol_offset symbols y in
     elim (same symbols.strings (st_name file at) wanted.name) [
@@ -175,26 +175,26 @@ readings file (table ∷ tables) = readings_of file table (readings file tables)
 
 -- WHAT COMPARING GIVES: the numbers of the versions that have the wanted name; the refusal, if there is one; and how many
 -- records are read
-pub record Compared : Type 0 where
+pub record CompareResult : Type 0 where
   pub numbers : List ℕ
   pub refused : Option Refusal
   pub read : ℕ
 
 -- one record more is read
-abbrev pub one_more : Compared → Compared
+abbrev pub one_more : CompareResult → CompareResult
 one_more compared = record { numbers = compared.numbers; refused = compared.refused; read = suc compared.read }
 
 -- a number in front of the others, where a version has the wanted name
-abbrev pub with_number : Bool → ℕ → Compared → Compared
+abbrev pub with_number : Bool → ℕ → CompareResult → CompareResult
 with_number is_wanted number compared =
     record { numbers = if is_wanted then number ∷ compared.numbers else compared.numbers; refused = compared.refused; read = compared.read }
 
 -- comparing is refused at a record, which is read or not
-abbrev pub compared_until : ℕ → Refusal → Compared
+abbrev pub compared_until : ℕ → Refusal → CompareResult
 compared_until read refusal = record { numbers = []; refused = Some refusal; read = read }
 
 -- the records that name a version are compared with the wanted one; a fault of a name is at the record that holds it
-unfoldable pub compared_with : List ℕ → List ℕ → List VersionRecordRead → Compared
+unfoldable pub compared_with : List ℕ → List ℕ → List VersionRecordRead → CompareResult
 compared_with file wanted [] = record { numbers = []; refused = None; read = 0 }
 compared_with file wanted (Misses refusal ∷ others) = compared_until 0 refusal
 compared_with file wanted (Refuses refusal ∷ others) = compared_until 1 refusal

@@ -5,7 +5,7 @@ use Rattle.elf_model.specs.FindApplyAnswer.{lookup_status}
 use Rattle.elf_model.specs.Hash.{Outcome, Found, Absent, Refused}
 use Rattle.elf_model.specs.LineFronts.{symbol_prefix}
 use Rattle.elf_model.specs.Lines.{named_line, steps_line, refusal_line}
-use Rattle.elf_model.specs.Loader.{Wanted, parse_query}
+use Rattle.elf_model.specs.Loader.{SymbolQuery, parse_query}
 use Rattle.elf_model.specs.LoaderFind.{FoundVersion, loader_looked}
 use Rattle.elf_model.specs.declared.formats.Format.{Format}
 use Rattle.elf_model.specs.Names.DisplayedName.{Whole}
@@ -28,7 +28,7 @@ loader_text format file name Absent version tried = steps_line format false trie
 loader_text format file name (Refused refusal) version tried = refusal_line format refusal
 
 -- `find` as a loader: what a lookup writes, and 0 where it finds a symbol
-unfoldable pub loader_answer_for : Format → List ℕ → ℕ → Wanted → Answer
+unfoldable pub loader_answer_for : Format → List ℕ → ℕ → SymbolQuery → Answer
 loader_answer_for format file headers wanted =
     let loader = loader_looked file headers wanted in
     record {

@@ -6,7 +6,7 @@ use Rattle.elf_model.specs.Checks.{Check, refuse, first_refusal, before_headers,
 use Rattle.elf_model.specs.Cost.{cost_where}
 use Rattle.elf_model.specs.GnuHash.{gnu_hash, gnu_nbucket, gnu_nbloom, gnu_shift, before_chains, gnu_looked_up}
 use Rattle.elf_model.specs.Hash.{sysv_hash, sysv_nbucket, sysv_nchain, Found, Absent, Refused, Lookup}
-use Rattle.elf_model.specs.Loader.{Wanted, Asked, asked_name, VersionWords, versym_at, symbol_offset, answers, readings, Compared, compared_with, NumberNameSource, naming_of, is_among}
+use Rattle.elf_model.specs.Loader.{SymbolQuery, VersionQuery, asked_name, VersymTable, versym_at, symbol_offset, answers, readings, CompareResult, compared_with, NumberNameSource, naming_of, is_among}
 use Rattle.elf_model.specs.Names.{DisplayedName, shown, pad64}
 use Rattle.elf_model.specs.Names.DisplayedName.{Whole}
 use Rattle.elf_model.specs.Records.{FILE_HEADER_SIZE, SECTION_HEADER_SIZE, PROGRAM_HEADER_SIZE, e_shnum, e_phnum, p_filesz, segment_at, versym}
@@ -38,7 +38,7 @@ counts_check file scope =
     ]
 
 -- the walk for the symbol that answers, where the numbers of the version by its name are known
-unfoldable pub walk_in : List ℕ → LookupTables → Wanted → (ℕ → Bool) → ChainResult
+unfoldable pub walk_in : List ℕ → LookupTables → SymbolQuery → (ℕ → Bool) → ChainResult
 walk_in file scope wanted is_wanted = elim scope.kind [
   | GnuTable ↦ gnu_looked_up file scope.table (gnu_hash wanted.name) (answers file scope.symbols wanted is_wanted)
   | SysvTable ↦ sysv_walked file scope.table (sysv_hash wanted.name) (answers file scope.symbols wanted is_wanted)
@@ -85,7 +85,7 @@ found_lookup scope y walked records is_named version = record {
 
 -- the version of a symbol is given by the record that has its number: the record's name; a fault of the name, at the record that
 -- holds it, or the refusal that comes before; or that no record has it, at the symbol's word
-unfoldable pub named_by_record : List ℕ → LookupTables → VersionWords → ℕ → ChainResult → NumberNameSource → LoaderLookup
+unfoldable pub named_by_record : List ℕ → LookupTables → VersymTable → ℕ → ChainResult → NumberNameSource → LoaderLookup
 named_by_record file scope words y walked naming =
     let word_at = versym_at words y in
     elim naming.found [
@@ -104,7 +104,7 @@ named_by_record file scope words y walked naming =
 
 -- the version of a symbol that is found: without words there is none; the wanted one is given as it is wanted; the numbers 0 and
 -- 1 have no name
-unfoldable pub found_in : List ℕ → LookupTables → Asked → (records : ℕ) → ℕ → ChainResult → Option VersionWords → LoaderLookup
+unfoldable pub found_in : List ℕ → LookupTables → VersionQuery → (records : ℕ) → ℕ → ChainResult → Option VersymTable → LoaderLookup
 found_in file scope asked records y walked None = found_lookup scope y walked records false None
 found_in file scope asked records y walked (Some words) =
     let word = versym file (versym_at words y) in
@@ -119,7 +119,7 @@ found_in file scope asked records y walked (Some words) =
     ]
 
 -- what a lookup gives by its walk, before which so many records are read
-unfoldable pub looked_by : List ℕ → LookupTables → Asked → (records : ℕ) → ChainResult → LoaderLookup
+unfoldable pub looked_by : List ℕ → LookupTables → VersionQuery → (records : ℕ) → ChainResult → LoaderLookup
 looked_by file scope asked records walked = elim walked.answer [
   | Err refusal ↦ refused_lookup walked.tried walked.read records false refusal
   | Ok None ↦ record {
@@ -133,9 +133,9 @@ looked_by file scope asked records walked = elim walked.answer [
 ]
 
 -- the numbers of the version that is asked for by its name, where one is and the symbols have versions
-unfoldable pub version_indices : List ℕ → LookupTables → Asked → Compared
+unfoldable pub version_indices : List ℕ → LookupTables → VersionQuery → CompareResult
 version_indices file scope asked =
-    let none : Compared = record { numbers = []; refused = None; read = 0 } in
+    let none : CompareResult = record { numbers = []; refused = None; read = 0 } in
     elim (asked_name asked) [
       | None ↦ none
       | Some version ↦ elim scope.symbols.words [
@@ -145,7 +145,7 @@ version_indices file scope asked =
     ]
 
 -- a lookup once the checks of its scope pass: the table's counts, the numbers of the version, the walk
-unfoldable pub loaded_in : List ℕ → LookupTables → Wanted → LoaderLookup
+unfoldable pub loaded_in : List ℕ → LookupTables → SymbolQuery → LoaderLookup
 loaded_in file scope wanted = elim (first_refusal (counts_check file scope ∷ [])) [
   | Some refusal ↦ refused_lookup 0 0 0 false refusal
   | None ↦
@@ -159,7 +159,7 @@ loaded_in file scope wanted = elim (first_refusal (counts_check file scope ∷ [
 ]
 
 -- WHAT A LOADER'S LOOKUP GIVES in a file, with so many headers permitted
-unfoldable pub loader_looked : List ℕ → ℕ → Wanted → LoaderLookup
+unfoldable pub loader_looked : List ℕ → ℕ → SymbolQuery → LoaderLookup
 loader_looked file headers wanted = elim (lookup_tables_of file headers) [
   | Err refusal ↦ refused_lookup 0 0 0 false refusal
   | Ok scope ↦ loaded_in file scope wanted
@@ -179,12 +179,12 @@ segments_asked file =
     ])
 
 -- a record of versions, a definition with the first of its names, and the wanted version's name with each where one is asked for
-abbrev pub record_cost : Asked → ℕ
+abbrev pub record_cost : VersionQuery → ℕ
 record_cost asked = DEFINITION_SIZE + DEFINED_NAME_SIZE + elim (asked_name asked) [ None ↦ 0 | Some version ↦ pad64 (length version + 1) ]
 
 -- what is read once the headers are: the chain words; a symbol, the word of its version and its name for each that is tried;
 -- the records of versions; and the name of one that is given
-unfoldable pub lookup_asks : Wanted → LoaderLookup → ℕ
+unfoldable pub lookup_asks : SymbolQuery → LoaderLookup → ℕ
 lookup_asks wanted loader =
     4 * loader.chain_words
     + loader.lookup.compared * (SYMBOL_SIZE + VERSYM_SIZE + pad64 (length wanted.name + 1))
@@ -193,7 +193,7 @@ lookup_asks wanted loader =
 
 -- the file header alone where the section headers are not read, else that, four counts, a word of a filter, a word of a bucket,
 -- the section headers, or the program headers and the dynamic entries, and what the lookup reads
-unfoldable pub loader_cost : List ℕ → ℕ → Wanted → ℕ
+unfoldable pub loader_cost : List ℕ → ℕ → SymbolQuery → ℕ
 loader_cost file headers wanted = elim (first_refusal (before_headers file headers)) [
   | Some refusal ↦ FILE_HEADER_SIZE
   | None ↦
@@ -203,7 +203,7 @@ loader_cost file headers wanted = elim (first_refusal (before_headers file heade
 
 -- what no lookup asks for more than, whatever the file's bytes are: by its length, how many headers are permitted and what is
 -- wanted alone
-unfoldable pub loader_ceiling : (size headers : ℕ) → Wanted → ℕ
+unfoldable pub loader_ceiling : (size headers : ℕ) → SymbolQuery → ℕ
 loader_ceiling size headers wanted =
     FILE_HEADER_SIZE + 16 + 8 + 4 + SECTION_HEADER_SIZE * headers + size
     + size / 4 * (4 + SYMBOL_SIZE + VERSYM_SIZE + pad64 (length wanted.name + 1))

@@ -5,7 +5,7 @@ use Rattle.elf_model.specs.Checks.{first_refusal}
 use Rattle.elf_model.specs.Dynamic.{listed_value}
 use Rattle.elf_model.specs.Tables.{DYNAMIC_SIZE}
 use Rattle.elf_model.specs.Hash.{Found}
-use Rattle.elf_model.specs.Loader.{Meets, Misses, VersionRecordRead, VersionRecordTable, Refuses, Wanted, compared_with, symbol_offset, is_exported, naming_of, readings, position_after, version_fits, is_among}
+use Rattle.elf_model.specs.Loader.{Meets, Misses, VersionRecordRead, VersionRecordTable, Refuses, SymbolQuery, compared_with, symbol_offset, is_exported, naming_of, readings, position_after, version_fits, is_among}
 use Rattle.elf_model.specs.LoaderFind.{version_indices, loader_looked, loader_cost, loader_ceiling}
 use Rattle.elf_model.specs.LoaderScope.{LookupTables, lookup_tables_of, tagged_row}
 use Rattle.elf_model.specs.Names.{same}
@@ -16,7 +16,7 @@ use Rattle.elf_model.specs.declared.causes.Cause.TheVariants.{VersionCut}
 use Rattle.elf_model.specs.declared.causes.Refusal.{Refusal}
 
 -- A SYMBOL IS ONE TO TAKE: by what a file says of its symbols, it has the wanted name, it is offered, and its version fits
-pub record IsTaken (file : List ℕ) (headers : ℕ) (wanted : Wanted) (section index symbol : ℕ) : Type 0 where
+pub record IsTaken (file : List ℕ) (headers : ℕ) (wanted : SymbolQuery) (section index symbol : ℕ) : Type 0 where
   pub scope : LookupTables
   pub is_scope : lookup_tables_of file headers ≡ Ok scope
   pub named_by_record : section ≡ scope.symbols.index
@@ -31,14 +31,14 @@ pub record IsTaken (file : List ℕ) (headers : ℕ) (wanted : Wanted) (section 
 -- a symbol that is found is one to take
 abbrev pub LoaderFoundIsTaken : Type 0
 LoaderFoundIsTaken =
-    (file : List ℕ) (headers : ℕ) (wanted : Wanted) (section index symbol : ℕ)
+    (file : List ℕ) (headers : ℕ) (wanted : SymbolQuery) (section index symbol : ℕ)
     → (loader_looked file headers wanted).lookup.answer ≡ Found section index symbol
     → IsTaken file headers wanted section index symbol
 
 -- THE BOUND: a lookup asks for no more than the ceiling of its file's length, whatever the file's bytes are
 abbrev pub LoaderCostIsWithinCeiling : Type 0
 LoaderCostIsWithinCeiling =
-    (file : List ℕ) (headers : ℕ) (wanted : Wanted)
+    (file : List ℕ) (headers : ℕ) (wanted : SymbolQuery)
     → loader_cost file headers wanted ≤ loader_ceiling (length file) headers wanted
 
 -- the records of a table of definitions or needs

@@ -5,7 +5,7 @@ use Rattle.elf_model.specs.Chains.{HashTable}
 use Rattle.elf_model.specs.Checks.{Check, refuse, first_refusal, unless_empty, header_checks, load_checks, table_checks, is_outside}
 use Rattle.elf_model.specs.Dynamic.{dynamic_count, dynamic_at}
 use Rattle.elf_model.specs.Find.{first_that, hash_checks_from}
-use Rattle.elf_model.specs.Loader.{VersionWords, VersionRecordTable, Symbols}
+use Rattle.elf_model.specs.Loader.{VersymTable, VersionRecordTable, DynamicSymbols}
 use Rattle.elf_model.specs.Mapped.{mapped_at, mapped_place, mapped_checks, mapped_bytes}
 use Rattle.elf_model.specs.Numbers.{EM_ALPHA, SHT_HASH, SHT_GNU_HASH, SHT_GNU_VERSYM, SHT_GNU_VERDEF, SHT_GNU_VERNEED, PT_DYNAMIC, DT_HASH, DT_GNU_HASH, DT_SYMTAB, DT_STRTAB, DT_STRSZ, DT_VERSYM, DT_VERDEF, DT_VERNEED}
 use Rattle.elf_model.specs.Records.{e_machine, e_shnum, e_phnum, sh_offset, sh_size, sh_link, section_at, p_type, p_offset, p_vaddr, p_filesz, segment_at, d_tag, d_un}
@@ -34,7 +34,7 @@ pub record LookupTables : Type 0 where
   pub kind : HashStyle
   pub head : ℕ
   pub table : HashTable
-  pub symbols : Symbols
+  pub symbols : DynamicSymbols
 
 -- BY THE SECTION HEADERS. The hash table: the first section of the GNU system's, else the first of the gABI's
 unfoldable pub hash_section : List ℕ → Option (HashStyle × ℕ)
@@ -87,7 +87,7 @@ records_of_type file type kind others = elim (first_of_type file type) [
 ]
 
 -- the words of symbols' versions
-unfoldable pub section_words : List ℕ → Option VersionWords
+unfoldable pub section_words : List ℕ → Option VersymTable
 section_words file = elim (words_section file) [
   | None ↦ None
   | Some i ↦
@@ -96,7 +96,7 @@ section_words file = elim (words_section file) [
 ]
 
 -- the records of versions, where there are words of them
-abbrev pub records_with : Option VersionWords → List VersionRecordTable → List VersionRecordTable
+abbrev pub records_with : Option VersymTable → List VersionRecordTable → List VersionRecordTable
 records_with None records = []
 records_with (Some words) records = records
 
@@ -215,7 +215,7 @@ segment_strings_at file at = elim (tagged_row file at DT_STRTAB) [
 ]
 
 -- the words of symbols' versions, which the program header of an index describes
-unfoldable pub segment_words : List ℕ → (index at : ℕ) → Option VersionWords
+unfoldable pub segment_words : List ℕ → (index at : ℕ) → Option VersymTable
 segment_words file index at = elim (words_row file at) [
   | None ↦ None
   | Some row ↦ Some (record { place = rest_place file row; count = rest_size file row / VERSYM_SIZE; head = row; index = index })

@@ -1,20 +1,20 @@
 -- What is true of every string table: the laws of names.
 use Rattle.std.specs.Prelude.{◌≡◌, ◌≢◌, ℕ, ◌+◌, ◌%◌, ◌<◌, ◌≤◌, true, false, List, [], ◌∷◌, ◌++◌, length, get_or, take, drop, ◌⊎◌, ◌↔◌, None, Ok, Err}
 use Rattle.elf_model.specs.Bytes.{slice}
-use Rattle.elf_model.specs.Names.{nul_in, IsEmptyAtZero, Name, shown, same, pad64}
+use Rattle.elf_model.specs.Names.{nul_in, IsEmptyAtZero, IsNameOf, shown, same, pad64}
 use Rattle.elf_model.specs.Names.DisplayedName.{Whole, Cut}
 use Rattle.elf_model.specs.declared.causes.Cause.{Cause}
 use Rattle.elf_model.specs.declared.causes.Cause.TheVariants.{NameOutside, NameUnended}
 
 -- a table has at most one name at an index
 abbrev pub OneNameAtMost : Type 0
-OneNameAtMost = (table : List ℕ) (index : ℕ) (a b : List ℕ) → Name table index a → Name table index b → a ≡ b
+OneNameAtMost = (table : List ℕ) (index : ℕ) (a b : List ℕ) → IsNameOf table index a → IsNameOf table index b → a ≡ b
 
 -- a name is shown whole exactly where it is the name at the index and has no more than cap bytes
 abbrev pub ShownWholeExactly : Type 0
 ShownWholeExactly =
     (table : List ℕ) (index cap : ℕ) (name : List ℕ)
-    → (shown table index cap ≡ Ok (Whole name)) ↔ (Name table index name × (length name ≤ cap))
+    → (shown table index cap ≡ Ok (Whole name)) ↔ (IsNameOf table index name × (length name ≤ cap))
 
 -- the first cap bytes are shown exactly where the cap + 1 bytes at the index are in the table and have no NUL
 abbrev pub ShownCutExactly : Type 0
@@ -52,7 +52,7 @@ IsWanted wanted = (0 < length wanted) × (nul_in wanted ≡ None)
 abbrev pub SameExactly : Type 0
 SameExactly =
     (table : List ℕ) (index : ℕ) (wanted : List ℕ) → IsWanted wanted
-    → (same table index wanted ≡ Ok true) ↔ Name table index wanted
+    → (same table index wanted ≡ Ok true) ↔ IsNameOf table index wanted
 
 -- two lists have another byte at some place that both have
 abbrev pub Differ : List ℕ → List ℕ → Type 0

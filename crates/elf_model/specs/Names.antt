@@ -26,8 +26,8 @@ abbrev pub IsEmptyAtZero : List ℕ → ℕ → Type 0
 IsEmptyAtZero table index = (table ≡ []) × (index ≡ 0)
 
 -- a string table has a name at an index
-abbrev pub Name : List ℕ → ℕ → List ℕ → Type 0
-Name table index name = IsNulTerminatedAt table index name ⊎ (IsEmptyAtZero table index × (name ≡ []))
+abbrev pub IsNameOf : List ℕ → ℕ → List ℕ → Type 0
+IsNameOf table index name = IsNulTerminatedAt table index name ⊎ (IsEmptyAtZero table index × (name ≡ []))
 
 -- the same as a test
 abbrev pub is_empty_at_zero : List ℕ → ℕ → Bool

@@ -3,7 +3,7 @@ use Rattle.std.specs.Prelude.{◌≡◌, ℕ, ◌+◌, ◌%◌, ◌<◌, ◌≤�
 use Rattle.elf_model.specs.Bytes.{slice}
 use Rattle.elf_model.specs.Names.{nul_in}
 use Rattle.elf_model.specs.Names.DisplayedName.{Whole, Cut}
-use Rattle.elf_model.specs.Notes.{Note, Spelt, Notes, CutAt, walked, NoteRow, note_rows, escaped_size, note_align, before_nul, note_shown}
+use Rattle.elf_model.specs.Notes.{Note, IsNoteEncoding, Notes, CutAt, walked, NoteRow, note_rows, escaped_size, note_align, before_nul, note_shown}
 
 -- the notes that are walked to a table's end fit the table
 abbrev pub WalkedFits : Type 0
@@ -37,7 +37,7 @@ FitsOrIsCut =
 -- at the descriptor's offset
 pub record IsNoteInTable (a : ℕ) (table : List ℕ) (row : NoteRow) : Type 0 where
   pub within : row.at + escaped_size a row.note ≤ length table
-  pub spelt : Spelt a row.note (slice table row.at (escaped_size a row.note))
+  pub spelt : IsNoteEncoding a row.note (slice table row.at (escaped_size a row.note))
   pub name : slice table (row.at + 12) (length row.note.name) ≡ row.note.name
   pub descriptor : slice table row.descriptor_at (length row.note.descriptor) ≡ row.note.descriptor
 

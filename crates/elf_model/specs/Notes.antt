@@ -26,7 +26,7 @@ abbrev pub alignment_gap : ℕ → ℕ → ℕ → ℕ
 alignment_gap a namesz descsz = if descsz == 0 then 0 else bytes_to_alignment a (12 + namesz)
 
 -- a text spells a note: the head with the two sizes and the type, the name, the gap, the descriptor
-pub record Spelt (a : ℕ) (note : Note) (text : List ℕ) : Type 0 where
+pub record IsNoteEncoding (a : ℕ) (note : Note) (text : List ℕ) : Type 0 where
   pub head : List ℕ
   pub gap : List ℕ
   pub parts : text ≡ head ++ note.name ++ gap ++ note.descriptor
@@ -41,7 +41,7 @@ pub record Padded (a : ℕ) (note : Note) (text : List ℕ) : Type 0 where
   pub spelling : List ℕ
   pub padding : List ℕ
   pub parts : text ≡ spelling ++ padding
-  pub spelt : Spelt a note spelling
+  pub spelt : IsNoteEncoding a note spelling
   pub padding_size : length padding ≡ bytes_to_alignment a (length spelling)
 
 -- a text is one padded text for each note, in order
@@ -73,7 +73,7 @@ pub record EndsInSpelling (a : ℕ) (notes : List Note) (table : List ℕ) : Typ
   pub list : notes ≡ before ++ last ∷ []
   pub parts : table ≡ front ++ spelling ++ padding
   pub padded : AllPadded a before front
-  pub spelt : Spelt a last spelling
+  pub spelt : IsNoteEncoding a last spelling
   pub short : length padding < bytes_to_alignment a (length spelling)
 
 -- a table has these notes

@@ -7,7 +7,7 @@ use Rattle.elf_model.specs.Listing.{has, has_tables, known_parts, report_of, HEA
 use Rattle.elf_model.specs.Overlaps.{overlap_checks, takes_memory, first_page, page_behind}
 use Rattle.elf_model.specs.Records.{e_phnum, segment_at}
 use Rattle.elf_model.specs.Report.{listing, loaded_items, table_items}
-use Rattle.elf_model.specs.Style.{Style, viewed}
+use Rattle.elf_model.specs.Style.{ListingStyle, viewed}
 use Rattle.elf_model.specs.declared.causes.Refusal.{Refusal}
 
 -- where the checks pass, of any two LOAD segments that take up memory the later begins behind the pages of the earlier
@@ -22,7 +22,7 @@ NoPageIsShared =
 -- segments over each other has a listing of the file header's line and the fault's
 abbrev pub OverlapIsListedSecond : Type 0
 OverlapIsListedSecond =
-    (file : List ℕ) → (headers : ℕ) → (style : Style) → (parts : ℕ) → (refusal : Refusal)
+    (file : List ℕ) → (headers : ℕ) → (style : ListingStyle) → (parts : ℕ) → (refusal : Refusal)
     → first_refusal (header_checks file) ≡ None → first_refusal (load_checks (viewed style file) headers) ≡ None
     → style.by_segments ≡ true → needs_segments (viewed style file) (known_parts style parts) ≡ true
     → first_refusal (overlap_checks (viewed style file)) ≡ Some refusal
@@ -32,5 +32,5 @@ OverlapIsListedSecond =
 -- any other style lists such a file as it lists others
 abbrev pub OverlapIsListedElsewhere : Type 0
 OverlapIsListedElsewhere =
-    (file : List ℕ) → (style : Style) → (parts : ℕ) → style.by_segments ≡ false
+    (file : List ℕ) → (style : ListingStyle) → (parts : ℕ) → style.by_segments ≡ false
     → loaded_items file style parts ≡ table_items file style parts

@@ -8,7 +8,7 @@ use Rattle.elf_model.specs.Lines.{header_line}
 use Rattle.elf_model.specs.Listing.{ListingItem, Line, guarded, each, where_asked, has_tables, known_parts, report_of, fault_of, HEADER, SECTIONS, SEGMENTS}
 use Rattle.elf_model.specs.Overlaps.{overlap_checks}
 use Rattle.elf_model.specs.Rows.{section_row, segment_row}
-use Rattle.elf_model.specs.Style.{Style, standard, viewed}
+use Rattle.elf_model.specs.Style.{ListingStyle, standard, viewed}
 use Rattle.elf_model.specs.Tables.{all_checks}
 use Rattle.elf_model.specs.TableKinds.{table_headers}
 use Rattle.elf_model.specs.declared.causes.Refusal.{Refusal}
@@ -16,34 +16,34 @@ use Rattle.elf_model.specs.declared.formats.Format.TheVariants.{Columns}
 
 -- the rows of the table of a kind whose header has an index and stands at an offset, behind its checks; none where the
 -- header describes no such table
-unfoldable pub table_rows : TableKind → List ℕ → Style → ℕ → ℕ → List ListingItem
+unfoldable pub table_rows : TableKind → List ℕ → ListingStyle → ℕ → ℕ → List ListingItem
 table_rows kind file style index at =
     elim (kind.has_table file at) [ true ↦ guarded (all_checks kind.checks file at) (kind.rows file style index at) | false ↦ [] ]
 
 -- the rows of all tables of some kinds, kind by kind, as far as the parts have them
-unfoldable pub kinds_rows : List TableKind → HeaderTable → List ℕ → Style → ℕ → List ListingItem
+unfoldable pub kinds_rows : List TableKind → HeaderTable → List ℕ → ListingStyle → ℕ → List ListingItem
 kinds_rows [] headers file style parts = []
 kinds_rows (kind ∷ kinds) headers file style parts =
     where_asked parts kind.part (each (λ i. table_rows kind file style i (headers.at i)) 0 headers.count)
     ++ kinds_rows kinds headers file style parts
 
 -- the section headers, the program headers, and the tables kind by kind, as far as the parts have them
-unfoldable pub table_items : List ℕ → Style → ℕ → List ListingItem
+unfoldable pub table_items : List ℕ → ListingStyle → ℕ → List ListingItem
 table_items file style parts =
     where_asked parts SECTIONS (each (section_row file style) 0 (e_shnum file))
     ++ where_asked parts SEGMENTS (each (segment_row file style) 0 (e_phnum file))
     ++ kinds_rows (table_headers style.versions file).kinds (table_headers style.versions file).headers file style parts
 
 -- where a style finds tables by the program headers and the parts need these, LOAD segments do not lie over each other
-unfoldable pub view_checks : List ℕ → Style → ℕ → List Check
+unfoldable pub view_checks : List ℕ → ListingStyle → ℕ → List Check
 view_checks file style parts = if style.by_segments && needs_segments file parts then overlap_checks file else []
 
 -- the tables of a loaded file, behind the checks of its segments
-unfoldable pub loaded_items : List ℕ → Style → ℕ → List ListingItem
+unfoldable pub loaded_items : List ℕ → ListingStyle → ℕ → List ListingItem
 loaded_items file style parts = guarded (view_checks file style parts) (table_items file style parts)
 
 -- the load checks and what stands behind them, where the parts have more than the file header
-unfoldable pub load_items : List ℕ → ℕ → Style → ℕ → List ListingItem
+unfoldable pub load_items : List ℕ → ℕ → ListingStyle → ℕ → List ListingItem
 load_items file headers style parts =
     elim (has_tables parts) [
       | true ↦ guarded (load_checks file headers) (loaded_items file style parts)
@@ -53,7 +53,7 @@ load_items file headers style parts =
 -- THE LISTING OF A FILE: where a check of the file header fails, nothing else has a meaning, and where a load check fails, no
 -- table has. What stands behind the file header is that of the file that the style looks at, as far as the parts that the
 -- style knows have it
-unfoldable pub listing : List ℕ → ℕ → Style → ℕ → List ListingItem
+unfoldable pub listing : List ℕ → ℕ → ListingStyle → ℕ → List ListingItem
 listing file headers style parts =
     guarded (header_checks file)
     (where_asked parts HEADER (Line (header_line style.format file) ∷ []) ++ load_items (viewed style file) headers style (known_parts style parts))

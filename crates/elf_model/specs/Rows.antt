@@ -5,7 +5,7 @@ use Rattle.elf_model.specs.Records.{e_machine, e_shstrndx, sh_name, section_at, 
 use Rattle.elf_model.specs.Numbers.{DT_NEEDED, DT_SONAME, DT_RPATH, DT_RUNPATH}
 use Rattle.elf_model.specs.Names.{DisplayedName, shown}
 use Rattle.elf_model.specs.Names.DisplayedName.{Whole}
-use Rattle.elf_model.specs.Style.{Style}
+use Rattle.elf_model.specs.Style.{ListingStyle}
 use Rattle.elf_model.specs.Notes.{Note, NoteScan, note_shown}
 use Rattle.elf_model.specs.Tables.{SYMBOL_SIZE, RELA_SIZE, section_bytes, strings_of, linked_at, entry_at, symbol_checks_of}
 use Rattle.elf_model.specs.Checks.{first_refusal}
@@ -43,17 +43,17 @@ section_name file at cap =
     else shown (section_bytes file (section_at file (e_shstrndx file))) (sh_name file at) cap
 
 -- the row of a section
-unfoldable pub section_row : List ℕ → Style → ℕ → List ListingItem
+unfoldable pub section_row : List ℕ → ListingStyle → ℕ → List ListingItem
 section_row file style index =
     let at = section_at file index in
     named_row (section_prefix style.format style.gnu (e_machine file) file at index) at (section_name file at style.cap)
 
 -- the row of a program header
-unfoldable pub segment_row : List ℕ → Style → ℕ → List ListingItem
+unfoldable pub segment_row : List ℕ → ListingStyle → ℕ → List ListingItem
 segment_row file style index = Line (segment_line style.format style.gnu file (segment_at file index) index) ∷ []
 
 -- the row of a symbol of the symbol table that a section header describes
-unfoldable pub symbol_row : List ℕ → Style → ℕ → ℕ → ℕ → List ListingItem
+unfoldable pub symbol_row : List ℕ → ListingStyle → ℕ → ℕ → ℕ → List ListingItem
 symbol_row file style section at index =
     let symbol_at = entry_at file at SYMBOL_SIZE index in
     let front = symbol_prefix style.format style.gnu (e_machine file) file symbol_at section index in
@@ -73,20 +73,20 @@ symbol_named file cap header_at rela_at symbol =
     ]
 
 -- the row of a relocation entry with the name of its symbol
-unfoldable pub relocation_row : List ℕ → Style → ℕ → ℕ → ℕ → List ListingItem
+unfoldable pub relocation_row : List ℕ → ListingStyle → ℕ → ℕ → ℕ → List ListingItem
 relocation_row file style section at index =
     let rela_at = entry_at file at RELA_SIZE index in
     let symbol = symbol_named file style.cap at rela_at (r_sym file rela_at) in
     chosen_row style.choice (relocation_prefix style.format style.gnu (e_machine file) file rela_at section) symbol.0 symbol.1
 
 -- the row of a note
-unfoldable pub note_row : Style → ℕ → Note → ListingItem
+unfoldable pub note_row : ListingStyle → ℕ → Note → ListingItem
 note_row style index note =
     let front = note_prefix style.format index note.kind (length note.name) (length note.descriptor) in
     Line (note_line front (note_shown style.cap note) note.descriptor)
 
 -- the rows of notes
-unfoldable pub notes_rows : Style → ℕ → List Note → List ListingItem
+unfoldable pub notes_rows : ListingStyle → ℕ → List Note → List ListingItem
 notes_rows style index [] = []
 notes_rows style index (note ∷ notes) = note_row style index note ∷ notes_rows style index notes
 
@@ -96,7 +96,7 @@ cut_rows table_at None = []
 cut_rows table_at (Some place) = refused_row (table_at + place) NoteCut
 
 -- the rows of a table of notes at an offset, up to the place where it is cut, if it is
-unfoldable pub walk_rows : Style → ℕ → ℕ → NoteScan → List ListingItem
+unfoldable pub walk_rows : ListingStyle → ℕ → ℕ → NoteScan → List ListingItem
 walk_rows style index table_at walk = notes_rows style index walk.notes ++ cut_rows table_at walk.cut
 
 -- the value of an entry with this tag is a string table index (gABI 5, Dynamic Section)
@@ -105,7 +105,7 @@ is_string_tag tag = tag == DT_NEEDED || tag == DT_SONAME || tag == DT_RPATH || t
 
 -- the row of the dynamic entry of an index at an offset, with its string where its value is a string table index: only
 -- there the string table is looked for, which may be refused
-unfoldable pub dynamic_row : List ℕ → Style → (ℕ → Result (List ℕ) Refusal) → ℕ → ℕ → List ListingItem
+unfoldable pub dynamic_row : List ℕ → ListingStyle → (ℕ → Result (List ℕ) Refusal) → ℕ → ℕ → List ListingItem
 dynamic_row file style strings dynamic_at index =
     let front = dynamic_prefix style.format style.gnu file dynamic_at index in
     elim (is_string_tag (d_tag file dynamic_at)) [

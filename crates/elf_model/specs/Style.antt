@@ -7,7 +7,7 @@ use Rattle.elf_model.specs.declared.formats.Format.TheVariants.{Columns}
 -- HOW ROWS ARE SHOWN: how many bytes of a name, whether numbers of the GNU system have names too, whether tables are found by the
 -- program headers also where there are section headers, how a line is written, which rows that end in the name of a symbol
 -- or of a version are shown, and whether the version of a symbol stands behind its name
-pub record Style : Type 0 where
+pub record ListingStyle : Type 0 where
   pub cap : ℕ
   pub gnu : Bool
   pub by_segments : Bool
@@ -17,7 +17,7 @@ pub record Style : Type 0 where
 
 -- so many bytes of a name, with the standards' names alone, by the section headers where there are some, in columns, and every
 -- row
-abbrev pub standard : ℕ → Style
+abbrev pub standard : ℕ → ListingStyle
 standard cap = record { cap = cap; gnu = false; by_segments = false; format = Columns; choice = EveryRow; versions = false }
 
 -- the places of a file header that locate section headers: e_shoff, and e_shnum with e_shstrndx behind it
@@ -39,5 +39,5 @@ abbrev pub looked_at : Bool → List ℕ → List ℕ
 looked_at by_segments file = elim by_segments [ true ↦ without_sections file | false ↦ file ]
 
 -- the file whose tables a style lists
-abbrev pub viewed : Style → List ℕ → List ℕ
+abbrev pub viewed : ListingStyle → List ℕ → List ℕ
 viewed style file = looked_at style.by_segments file

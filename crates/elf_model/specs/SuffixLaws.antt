@@ -6,20 +6,20 @@ use Rattle.elf_model.specs.HeaderTables.{HeaderTable}
 use Rattle.elf_model.specs.Names.{DisplayedName}
 use Rattle.elf_model.specs.Numbers.{SHN_UNDEF}
 use Rattle.elf_model.specs.Records.{sh_link, st_shndx}
-use Rattle.elf_model.specs.Style.{Style}
+use Rattle.elf_model.specs.Style.{ListingStyle}
 use Rattle.elf_model.specs.Suffixes.{version_numbers_of, symbol_suffix}
 use Rattle.elf_model.specs.TableKinds.{relocations, section_kinds, relocations_with_versions, suffixed_symbols, symbols}
 
 -- the symbols of a table without a section of version numbers are listed as without versions
 abbrev pub UnversionedSymbolsArePlain : Type 0
 UnversionedSymbolsArePlain =
-    (file : List ℕ) (style : Style) (section at : ℕ) → version_numbers_of file section ≡ None
+    (file : List ℕ) (style : ListingStyle) (section at : ℕ) → version_numbers_of file section ≡ None
     → suffixed_symbols.rows file style section at ≡ symbols.rows file style section at
 
 -- and relocation entries whose symbols are of such a table
 abbrev pub UnversionedEntriesArePlain : Type 0
 UnversionedEntriesArePlain =
-    (file : List ℕ) (style : Style) (section at : ℕ) → version_numbers_of file (sh_link file at) ≡ None
+    (file : List ℕ) (style : ListingStyle) (section at : ℕ) → version_numbers_of file (sh_link file at) ≡ None
     → relocations_with_versions.rows file style section at ≡ relocations.rows file style section at
 
 -- an undefined symbol has no default version

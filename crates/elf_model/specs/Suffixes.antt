@@ -13,7 +13,7 @@ use Rattle.elf_model.specs.Names.DisplayedName.{Whole, Cut}
 use Rattle.elf_model.specs.Numbers.{SHN_UNDEF, SHT_GNU_VERDEF, SHT_GNU_VERNEED, SHT_GNU_VERSYM}
 use Rattle.elf_model.specs.Records.{e_machine, r_sym, section_at, sh_link, sh_type, st_name, st_shndx, versym}
 use Rattle.elf_model.specs.Rows.{symbol_named}
-use Rattle.elf_model.specs.Style.{Style}
+use Rattle.elf_model.specs.Style.{ListingStyle}
 use Rattle.elf_model.specs.Tables.{RELA_SIZE, SYMBOL_SIZE, all_checks, entry_at, entry_count, has_symbols, linked_at, strings_of}
 use Rattle.elf_model.specs.Text.{newline}
 use Rattle.elf_model.specs.VersionRows.{first_of_type, section_versions, symbol_versions, version_named, version_strings, version_table}
@@ -133,19 +133,19 @@ after_refusal None items = items
 after_refusal (Some refusal) items = Fault refusal ∷ []
 
 -- the row of a symbol, and those of a symbol table
-unfoldable pub symbol_row_with_version : List ℕ → Style → ℕ → ℕ → ℕ → List ListingItem
+unfoldable pub symbol_row_with_version : List ℕ → ListingStyle → ℕ → ℕ → ℕ → List ListingItem
 symbol_row_with_version file style section at index =
     let symbol_at = entry_at file at SYMBOL_SIZE index in
     let front = symbol_prefix style.format style.gnu (e_machine file) file symbol_at section index in
     suffixed_row style.choice front symbol_at (shown (strings_of file at) (st_name file symbol_at) style.cap) (symbol_suffix file style.cap section symbol_at index)
 
-unfoldable pub suffixed_symbol_rows : List ℕ → Style → ℕ → ℕ → List ListingItem
+unfoldable pub suffixed_symbol_rows : List ℕ → ListingStyle → ℕ → ℕ → List ListingItem
 suffixed_symbol_rows file style section at =
     after_refusal (suffixes_refusal file section)
     (each (symbol_row_with_version file style section at) 0 (entry_count file at SYMBOL_SIZE))
 
 -- the row of a relocation entry, whose symbol 0 has no version, and those of a table of them
-unfoldable pub relocation_row_with_version : List ℕ → Style → ℕ → ℕ → ℕ → List ListingItem
+unfoldable pub relocation_row_with_version : List ℕ → ListingStyle → ℕ → ℕ → ℕ → List ListingItem
 relocation_row_with_version file style section at index =
     let rela_at = entry_at file at RELA_SIZE index in
     let symbol = r_sym file rela_at in
@@ -155,7 +155,7 @@ relocation_row_with_version file style section at index =
     else symbol_suffix file style.cap (sh_link file at) (entry_at file (linked_at file at) SYMBOL_SIZE symbol) symbol in
     suffixed_row style.choice (relocation_prefix style.format style.gnu (e_machine file) file rela_at section) named.0 named.1 suffix
 
-unfoldable pub suffixed_relocation_rows : List ℕ → Style → ℕ → ℕ → List ListingItem
+unfoldable pub suffixed_relocation_rows : List ℕ → ListingStyle → ℕ → ℕ → List ListingItem
 suffixed_relocation_rows file style section at =
     after_refusal
     (if has_symbols file at && not (entry_count file at RELA_SIZE == 0) then suffixes_refusal file (sh_link file at) else None)

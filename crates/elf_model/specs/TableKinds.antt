@@ -8,7 +8,7 @@ use Rattle.elf_model.specs.HeaderTables.{HeaderTable, TableKind, each_entry, fil
 use Rattle.elf_model.specs.Listing.{ListingItem, each, SYMBOLS, RELOCS, NOTES, DYNAMIC}
 use Rattle.elf_model.specs.Mapped.{mapped_strings}
 use Rattle.elf_model.specs.Names.{name_bytes}
-use Rattle.elf_model.specs.Style.{Style}
+use Rattle.elf_model.specs.Style.{ListingStyle}
 use Rattle.elf_model.specs.Notes.{note_align, walked}
 use Rattle.elf_model.specs.Numbers.{SHT_RELA, SHT_NOTE, SHT_DYNAMIC, PT_NOTE, PT_DYNAMIC}
 use Rattle.elf_model.specs.Records.{e_shnum, sh_type, sh_offset, sh_size, sh_link, sh_addralign, p_type, p_offset, p_filesz, p_align}
@@ -42,7 +42,7 @@ relocations = record {
 
 -- the rows of dynamic entries (gABI 5, Dynamic Section), so many from an offset on, up to and with the first that is
 -- DT_NULL: where the strings of so many are given for the entry at an offset
-abbrev pub dynamic_rows : List ℕ → Style → (offset entries : ℕ) → (ℕ → ℕ → Result (List ℕ) Refusal) → List ListingItem
+abbrev pub dynamic_rows : List ℕ → ListingStyle → (offset entries : ℕ) → (ℕ → ℕ → Result (List ℕ) Refusal) → List ListingItem
 dynamic_rows file style offset entries strings =
     let count = dynamic_count file offset entries in
     each (λ i. dynamic_row file style (strings count) (dynamic_at offset i) i) 0 count

@@ -15,7 +15,7 @@ use Rattle.elf_model.specs.declared.traits.SearchPath.TheVariants as path
 use Rattle.elf_model.specs.declared.traits.SegmentTraits.{SegmentTraits}
 use Rattle.elf_model.specs.declared.traits.TraitColumn.{TraitColumn}
 use Rattle.elf_model.specs.declared.traits.TraitColumn.TheVariants as column
-use Rattle.elf_model.specs.declared.traits.Traits.{Traits}
+use Rattle.elf_model.specs.declared.traits.Hardening.{Hardening}
 
 -- what a file is
 unfoldable pub file_kind_name : ProgramKind → List ℕ
@@ -77,7 +77,7 @@ path_word path.Rpath = codes "rpath"
 path_word path.Absent = codes "-"
 
 -- THE LINE of a file's traits up to its path
-abbrev trait_fields : Traits → Fields
+abbrev trait_fields : Hardening → Fields
 trait_fields t = record {
   letter = codes "T";
   fields =
@@ -93,11 +93,11 @@ trait_fields t = record {
       ∷ [];
 }
 
-unfoldable pub trait_front : Format → Traits → LinePrefix
+unfoldable pub trait_front : Format → Hardening → LinePrefix
 trait_front format t = front format (codes "path") (trait_fields t)
 
 -- the line of a file: its traits, and its path
-abbrev pub trait_line : Format → Traits → List ℕ → List ℕ
+abbrev pub trait_line : Format → Hardening → List ℕ → List ℕ
 trait_line format traits its_path = named_line (trait_front format traits) (Whole its_path)
 
 -- the name of a column, and its word
@@ -112,7 +112,7 @@ column_name column.Canary = codes "canary"
 column_name column.Fortify = codes "fortify"
 column_name column.Path = codes "path"
 
-unfoldable pub column_word : Traits → TraitColumn → List ℕ
+unfoldable pub column_word : Hardening → TraitColumn → List ℕ
 column_word t column.Kind = file_kind_name t.kind
 column_word t column.Relro = relro_word t.segments
 column_word t column.Stack = stack_word t.segments
@@ -129,7 +129,7 @@ pub record Required : Type 0 where
   pub word : List ℕ
 
 -- a file has the word
-abbrev pub has_word : Traits → Required → Bool
+abbrev pub has_word : Hardening → Required → Bool
 has_word t required =
     length (column_word t required.column) == length required.word
     && starts_with nat_eq (column_word t required.column) required.word
@@ -145,28 +145,28 @@ is_program kind.Core = false
 is_program kind.Other = false
 
 -- the column of the first of some words that a file lacks
-unfoldable pub first_lacking : Traits → List Required → Option TraitColumn
+unfoldable pub first_lacking : Hardening → List Required → Option TraitColumn
 first_lacking t [] = None
 first_lacking t (required ∷ others) =
     elim (has_word t required) [ true ↦ first_lacking t others | false ↦ Some required.column ]
 
 -- what a file lacks of what is required
-unfoldable pub lacking : Traits → List Required → Option TraitColumn
+unfoldable pub lacking : Hardening → List Required → Option TraitColumn
 lacking t required = elim (is_program t.kind) [ true ↦ first_lacking t required | false ↦ None ]
 
 -- the line of what a file lacks: the column's name, and the word that it has
-abbrev pub lacking_text : Traits → TraitColumn → List ℕ
+abbrev pub lacking_text : Hardening → TraitColumn → List ℕ
 lacking_text t its_column = column_name its_column ++ codes "=" ++ column_word t its_column
 
-unfoldable pub lacking_line : Format → Traits → TraitColumn → List ℕ
+unfoldable pub lacking_line : Format → Hardening → TraitColumn → List ℕ
 lacking_line format t its_column =
     closed_line format (record { letter = codes "!"; fields = [] }) (ArgSpec (codes "trait") 0 (lacking_text t its_column))
 
 -- the lines of a file
-unfoldable pub traits_text : Format → Traits → List Required → List ℕ → List ℕ
+unfoldable pub traits_text : Format → Hardening → List Required → List ℕ → List ℕ
 traits_text format t required its_path =
     trait_line format t its_path ++ elim (lacking t required) [ None ↦ [] | Some its_column ↦ lacking_line format t its_column ]
 
 -- the exit status that a file's traits call for: 1 where it lacks a word
-unfoldable pub traits_status : Traits → List Required → ℕ
+unfoldable pub traits_status : Hardening → List Required → ℕ
 traits_status t required = elim (lacking t required) [ None ↦ 0 | Some its_column ↦ 1 ]

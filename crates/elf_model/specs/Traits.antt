@@ -9,7 +9,7 @@ use Rattle.elf_model.specs.Dynamic.{listed_value}
 use Rattle.elf_model.specs.Find.{first_that}
 use Rattle.elf_model.specs.GnuHash.{chain_word, is_chain_end, gnu_bucket_at, gnu_first, gnu_nbucket, is_chained}
 use Rattle.elf_model.specs.Hash.{sysv_nchain}
-use Rattle.elf_model.specs.Loader.{Symbols, symbol_offset}
+use Rattle.elf_model.specs.Loader.{DynamicSymbols, symbol_offset}
 use Rattle.elf_model.specs.LoaderFind.{counts_check}
 use Rattle.elf_model.specs.LoaderScope.{GnuTable, SysvTable, LookupTables, dynamic_segment_index, lookup_tables_by_segments}
 use Rattle.elf_model.specs.Names.{DisplayedName, shown}
@@ -30,7 +30,7 @@ use Rattle.elf_model.specs.declared.traits.Relro.TheVariants as relro
 use Rattle.elf_model.specs.declared.traits.SearchPath.{SearchPath}
 use Rattle.elf_model.specs.declared.traits.SearchPath.TheVariants as path
 use Rattle.elf_model.specs.declared.traits.SegmentTraits.{SegmentTraits}
-use Rattle.elf_model.specs.declared.traits.Traits.{Traits}
+use Rattle.elf_model.specs.declared.traits.Hardening.{Hardening}
 
 -- SEGMENTS. The program header of an index is of a type
 abbrev is_segment : List ℕ → (type index : ℕ) → Bool
@@ -222,7 +222,7 @@ marked_with_symbol file at marks (Whole name) = marked_by marks name (st_shndx f
 marked_with_symbol file at marks (Cut front) = marks
 
 -- what so many symbols from an index on say, beside those before; a fault of a name is at the symbol
-unfoldable pub marks_from : List ℕ → Symbols → SymbolTraitFlags → (index count : ℕ) → Result SymbolTraitFlags Refusal
+unfoldable pub marks_from : List ℕ → DynamicSymbols → SymbolTraitFlags → (index count : ℕ) → Result SymbolTraitFlags Refusal
 marks_from file symbols marks index zero = Ok marks
 marks_from file symbols marks index (suc count) =
     let at = symbol_offset symbols index in
@@ -237,7 +237,7 @@ find_symbol_traits file None = Ok no_symbol_traits
 find_symbol_traits file (Some scope) = marks_from file scope.symbols no_symbol_traits 1 (hashed_symbol_count file scope - 1)
 
 -- the traits, by the word of the features and what the symbols say
-unfoldable pub traits_with : List ℕ → ℕ → SymbolTraitFlags → Traits
+unfoldable pub traits_with : List ℕ → ℕ → SymbolTraitFlags → Hardening
 traits_with file word marks = record {
   kind = program_kind file;
   segments = segment_traits file;
@@ -250,7 +250,7 @@ traits_with file word marks = record {
 
 -- the traits of a file that has no section headers, once its headers are loaded, or the first refusal: of what a lookup is
 -- made in, LOAD segments over each other and dynamic entries first; of the properties; of the symbols' names
-unfoldable pub loaded_traits : List ℕ → Result Traits Refusal
+unfoldable pub loaded_traits : List ℕ → Result Hardening Refusal
 loaded_traits file = elim (known_symbols file) [
   | Err refusal ↦ Err refusal
   | Ok scope ↦ elim (x86_feature_word file) [
@@ -262,12 +262,12 @@ loaded_traits file = elim (known_symbols file) [
   ]
 ]
 
-unfoldable pub traits_by_segments : List ℕ → ℕ → Result Traits Refusal
+unfoldable pub traits_by_segments : List ℕ → ℕ → Result Hardening Refusal
 traits_by_segments file headers = elim (first_refusal (header_checks file ++ load_checks file headers)) [
   | Some refusal ↦ Err refusal
   | None ↦ loaded_traits file
 ]
 
 -- THE TRAITS OF A FILE, with so many headers permitted: whatever its section headers say
-unfoldable pub traits_of : List ℕ → ℕ → Result Traits Refusal
+unfoldable pub traits_of : List ℕ → ℕ → Result Hardening Refusal
 traits_of file headers = traits_by_segments (without_sections file) headers

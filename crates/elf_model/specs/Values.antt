@@ -10,8 +10,8 @@ use Rattle.elf_model.specs.declared.relocation_types.RelocationBase.{RelocationB
 use Rattle.elf_model.specs.declared.relocation_types.RelocationBase.TheVariants.{Symbol, Linkage, Table, Thread}
 use Rattle.elf_model.specs.declared.relocation_types.Formula.{Formula}
 use Rattle.elf_model.specs.declared.relocation_types.Formula.TheVariants.{Absolute, Relative}
-use Rattle.elf_model.specs.declared.relocation_types.Range.{Range}
-use Rattle.elf_model.specs.declared.relocation_types.Range.TheVariants.{Any, Unsigned, Signed, Either}
+use Rattle.elf_model.specs.declared.relocation_types.ValueRange.{ValueRange}
+use Rattle.elf_model.specs.declared.relocation_types.ValueRange.TheVariants.{Any, Unsigned, Signed, Either}
 use Rattle.elf_model.specs.declared.relocation_types.RelocationType.{RelocationType}
 
 -- the formula takes P
@@ -44,14 +44,14 @@ abbrev pub is_signed : ℕ → ℕ → Bool
 is_signed bits value = nat_lt value (2 ^ (bits - 1)) || not (nat_lt value (2 ^ 64 - 2 ^ (bits - 1)))
 
 -- a value modulo 2^64 is in the range, for so many bytes
-unfoldable pub fits_in_range : Range → ℕ → ℕ → Bool
+unfoldable pub fits_in_range : ValueRange → ℕ → ℕ → Bool
 fits_in_range Any width value = true
 fits_in_range Unsigned width value = is_unsigned (8 * width) value
 fits_in_range Signed width value = is_signed (8 * width) value
 fits_in_range Either width value = is_unsigned (8 * width) value || is_signed (8 * width) value
 
 -- a relocation type by its width, base, formula and range
-abbrev pub kind : ℕ → RelocationBase → Formula → Range → RelocationType
+abbrev pub kind : ℕ → RelocationBase → Formula → ValueRange → RelocationType
 kind width base formula range = record { width = width; base = base; formula = formula; range = range }
 
 -- the relocation types that store a value: R_X86_64_64, PC32, PLT32, GOTPCREL, 32, 32S, 16, 8, GOTTPOFF, PC64, GOTPCRELX,

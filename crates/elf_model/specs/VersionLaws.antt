@@ -10,7 +10,7 @@ use Rattle.elf_model.specs.Listing.{ListingItem, VERSIONS, fault_of}
 use Rattle.elf_model.specs.Names.{shown}
 use Rattle.elf_model.specs.Records.{section_at, sh_size}
 use Rattle.elf_model.specs.Report.{kinds_rows}
-use Rattle.elf_model.specs.Style.{Style}
+use Rattle.elf_model.specs.Style.{ListingStyle}
 use Rattle.elf_model.specs.Tables.{all_checks, entry_count}
 use Rattle.elf_model.specs.VersionCost.{has_symbol_table}
 use Rattle.elf_model.specs.VersionRows.{symbol_version_rows, symbol_versions, version_definitions, version_named, version_needs, version_strings, versioned_symbols}
@@ -85,20 +85,20 @@ FirstListNamesFirst =
 -- where every row is shown, one row for each symbol, and where these have no entry any more one that says so; entries past the last symbol have none
 abbrev pub RowsAreSymbols : Type 0
 RowsAreSymbols =
-    (file : List ℕ) (style : Style) (section at : ℕ) → style.choice ≡ EveryRow → (sh_size file at == 0) ≡ false
+    (file : List ℕ) (style : ListingStyle) (section at : ℕ) → style.choice ≡ EveryRow → (sh_size file at == 0) ≡ false
     → length (symbol_version_rows file style section at)
     ≡ (if nat_lt (entry_count file at VERSYM_SIZE) (versioned_symbols file at) then entry_count file at VERSYM_SIZE + 1
     else versioned_symbols file at)
 
 -- the rows of all definitions and needs of a file
-abbrev pub records_rows : List ℕ → Style → List ListingItem
+abbrev pub records_rows : List ℕ → ListingStyle → List ListingItem
 records_rows file style =
     kinds_rows (version_definitions ∷ version_needs ∷ []) (file_sections file) file style VERSIONS
 
 -- where they have no fault, the name of each number is shown
 abbrev pub NamesOfNumbersAreShown : Type 0
 NamesOfNumbersAreShown =
-    (file : List ℕ) (style : Style) (number : ℕ) (met : VisitedRecord) → fault_of (records_rows file style) ≡ None
+    (file : List ℕ) (style : ListingStyle) (number : ℕ) (met : VisitedRecord) → fault_of (records_rows file style) ≡ None
     → version_named file number ≡ Some met
     → is_ok (shown (version_strings file met.kind) (name_index file met) style.cap) ≡ true
 

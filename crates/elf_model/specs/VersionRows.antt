@@ -9,7 +9,7 @@ use Rattle.elf_model.specs.Names.{shown, name_bytes}
 use Rattle.elf_model.specs.Numbers.{SHT_GNU_VERDEF, SHT_GNU_VERNEED, SHT_GNU_VERSYM}
 use Rattle.elf_model.specs.Records.{sh_type, sh_offset, sh_size, sh_link, section_at, versym}
 use Rattle.elf_model.specs.Rows.{chosen_row, no_name, refused_row}
-use Rattle.elf_model.specs.Style.{Style}
+use Rattle.elf_model.specs.Style.{ListingStyle}
 use Rattle.elf_model.specs.Tables.{SYMBOL_SIZE, TableChecks, section_table, linked_at, strings_of, entry_count, entry_at, has_symbols, symbol_table_checks}
 use Rattle.elf_model.specs.VersionCost.{versioned_cost}
 use Rattle.elf_model.specs.Versions.{VERSYM_SIZE, DEFINITION_SIZE, DEFINED_NAME_SIZE, NEED_SIZE, VisitedRecord, Versions, number_in, number_word, flags_word, hash_word, named_at, name_index, versions_in, version_of}
@@ -43,13 +43,13 @@ version_prefix format kind section number flags hash =
     front format (codes "name") (version_fields kind section number flags hash)
 
 -- the row of a met record, with its name in a string table
-unfoldable pub version_row : List ℕ → Style → (section : ℕ) → (strings : List ℕ) → VisitedRecord → List ListingItem
+unfoldable pub version_row : List ℕ → ListingStyle → (section : ℕ) → (strings : List ℕ) → VisitedRecord → List ListingItem
 version_row file style section strings met =
     chosen_row style.choice (version_prefix style.format met.kind section (number_word file met) (flags_word file met) (hash_word file met))
     (named_at file met) (shown strings (name_index file met) style.cap)
 
 -- the rows of met records
-unfoldable pub visited_rows : List ℕ → Style → (section : ℕ) → (strings : List ℕ) → List VisitedRecord → List ListingItem
+unfoldable pub visited_rows : List ℕ → ListingStyle → (section : ℕ) → (strings : List ℕ) → List VisitedRecord → List ListingItem
 visited_rows file style section strings [] = []
 visited_rows file style section strings (met ∷ others) =
     version_row file style section strings met ++ visited_rows file style section strings others
@@ -64,7 +64,7 @@ abbrev pub section_versions : VersionKind → List ℕ → ℕ → Versions
 section_versions kind file at = versions_in kind file at (sh_offset file at) (sh_size file at)
 
 -- their rows, with the names in the string table that the section links to
-unfoldable pub versions_rows : VersionKind → List ℕ → Style → ℕ → ℕ → List ListingItem
+unfoldable pub versions_rows : VersionKind → List ℕ → ListingStyle → ℕ → ℕ → List ListingItem
 versions_rows kind file style section at =
     let versions = section_versions kind file at in
     visited_rows file style section (strings_of file at) versions.met ++ end_rows versions.cut
@@ -116,7 +116,7 @@ symbol_version_prefix format section index word = front format (codes "name") (s
 
 -- the row of a version of a number, which an entry at an offset holds: a number that a record names has its name, 0 and 1 have
 -- none, and any other is refused at the entry
-unfoldable pub numbered_row : List ℕ → Style → (front : LinePrefix) → (entry_at number : ℕ) → List ListingItem
+unfoldable pub numbered_row : List ℕ → ListingStyle → (front : LinePrefix) → (entry_at number : ℕ) → List ListingItem
 numbered_row file style front entry_at number =
     if nat_lt number 2 then chosen_row style.choice front entry_at no_name
     else elim (version_named file number) [
@@ -125,7 +125,7 @@ numbered_row file style front entry_at number =
     ]
 
 -- the row of a symbol's version in the section whose header stands at an offset
-unfoldable pub symbol_version_row : List ℕ → Style → (section at : ℕ) → ℕ → List ListingItem
+unfoldable pub symbol_version_row : List ℕ → ListingStyle → (section at : ℕ) → ℕ → List ListingItem
 symbol_version_row file style section at index =
     let entry_at = entry_at file at VERSYM_SIZE index in
     let word = versym file entry_at in
@@ -140,7 +140,7 @@ abbrev pub versioned_count : List ℕ → ℕ → ℕ
 versioned_count file at = min (entry_count file at VERSYM_SIZE) (versioned_symbols file at)
 
 -- the rows of symbols' versions, and where a symbol has no entry any more its refusal; a section of no bytes has none
-unfoldable pub symbol_version_rows : List ℕ → Style → ℕ → ℕ → List ListingItem
+unfoldable pub symbol_version_rows : List ℕ → ListingStyle → ℕ → ℕ → List ListingItem
 symbol_version_rows file style section at =
     if sh_size file at == 0 then []
     else

@@ -32,8 +32,8 @@ mod versions;
 
 pub use causes::{Cause, Refusal};
 pub use formats::Format;
-pub use missing::{LayoutAddress, Missing};
-pub use relocation_types::{Formula, Range, RelocationBase, RelocationType};
+pub use missing::{LayoutAddress, MissingAddress};
+pub use relocation_types::{Formula, RelocationBase, RelocationType, ValueRange};
 pub use states::{BindingState, FileMagic, FileStatus};
-pub use traits::{ProgramKind, Relro, SearchPath, SegmentTraits, TraitColumn, Traits};
+pub use traits::{Hardening, ProgramKind, Relro, SearchPath, SegmentTraits, TraitColumn};
 pub use versions::VersionKind;

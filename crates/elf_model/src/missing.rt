@@ -14,7 +14,7 @@ pub enum LayoutAddress {
 
 /// What a relocation entry was refused for want of.
 #[derive(Clone, Copy)]
-pub struct Missing {
+pub struct MissingAddress {
     /// The number of the entry's relocation type.
     pub kind: u32,
     /// Where the name of its symbol begins in the string table; 0 of symbol 0.

@@ -25,7 +25,7 @@ pub enum Formula {
 
 /// Which values a relocation type takes, of those modulo 2^64.
 #[derive(Clone, Copy)]
-pub enum Range {
+pub enum ValueRange {
     /// Any.
     Any,
     /// Those that its bytes hold as a number without a sign.
@@ -46,5 +46,5 @@ pub struct RelocationType {
     /// How its value is calculated.
     pub formula: Formula,
     /// Which values it takes.
-    pub range: Range,
+    pub range: ValueRange,
 }

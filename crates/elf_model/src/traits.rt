@@ -58,7 +58,7 @@ pub struct SegmentTraits {
 ///
 /// Each field is a column of a line, but the two of control flow, which share one.
 #[derive(Clone, Copy)]
-pub struct Traits {
+pub struct Hardening {
     /// What the file is.
     pub kind: ProgramKind,
     /// What its segments tell, where it has program headers.

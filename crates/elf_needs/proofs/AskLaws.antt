@@ -2,7 +2,7 @@
 use Rattle.std.proofs.Common.{◌≡◌, ℕ, zero, suc, ◌+◌, ◌<◌, ◌≤◌, ◌⊎◌, List, [], ◌∷◌, length, length-set, get_or, get_or-set_other, get_or-set_same, set, inl, inr, Option, None, Some, Result, Err, refl, ap, ◌∙◌, arith}
 use Rattle.std.proofs.lemmas.Bool.{cases_eq, cases_lt}
 use Rattle.std.proofs.lemmas.List.Sums.{sum_by-set}
-use Rattle.elf_model.specs.Loader.{Wanted}
+use Rattle.elf_model.specs.Loader.{SymbolQuery}
 use Rattle.elf_source.specs.Source.{CountedState}
 use Rattle.elf_table.specs.declared.fault.Fault.{Fault}
 use Rattle.elf_table.specs.declared.fault.Fault.TheVariants.{Refused, Source}
@@ -70,12 +70,12 @@ pub spends_same : {old new : LookupObjectState} {left : Option ℕ} {stop : Opti
 spends_same spends headers = record { same_file = spends.keeps.same_file; same_headers = headers; grows = spends.grows }
 
 -- some were looked in
-module _ (wanted : Wanted) (old new : List LookupObjectState) (n : ℕ) (first : AskedFirst wanted old new n) where
+module _ (wanted : SymbolQuery) (old new : List LookupObjectState) (n : ℕ) (first : AskedFirst wanted old new n) where
   first_same : (k : ℕ) (d : LookupObjectState) → (k < n) ⊎ (n ≤ k) → SameObject (get_or old k d) (get_or new k d)
   first_same k d (inl low) = let asked = first.asked k d low in record { same_file = asked.keeps.same_file; same_headers = asked.same_headers; grows = asked.grows }
   first_same k d (inr past) = rw (first.others k d past) (same_none (get_or old k d))
 
-pub asks_bind : {wanted : Wanted} {old new : List LookupObjectState} {l0 l1 : Option ℕ} {result : Result BindResult BindFault} → BindsAcross wanted old new l0 l1 result → AsksAll old new l0 l1
+pub asks_bind : {wanted : SymbolQuery} {old new : List LookupObjectState} {l0 l1 : Option ℕ} {result : Result BindResult BindFault} → BindsAcross wanted old new l0 l1 result → AsksAll old new l0 l1
 asks_bind {wanted} {old} {new} {l0} {l1} {result} binds = record {
   objects = record {
     same_length = binds.asked.same_length;
@@ -109,7 +109,7 @@ limited_then (Source fault at) asks only = tt
 pub limited_from : {a b : List LookupObjectState} {l0 l1 : Option ℕ} → AsksAll a b l0 l1 → IsLimited l1 → IsLimited l0
 limited_from {a} {b} {l0} {l1} asks limited = limited_back l0 l1 _ _ asks.pays limited
 
-failed_limited : (wanted : Wanted) (old new : LookupObjectState) (l0 l1 : Option ℕ) (fault : Fault) (a b : ℕ) → FailsIn wanted old new l1 fault → SpendsBudget l0 l1 a b → OnlyLimited l0 fault
+failed_limited : (wanted : SymbolQuery) (old new : LookupObjectState) (l0 l1 : Option ℕ) (fault : Fault) (a b : ℕ) → FailsIn wanted old new l1 fault → SpendsBudget l0 l1 a b → OnlyLimited l0 fault
 failed_limited wanted old new l0 l1 (Refused refusal) a b fails pays = λ budget.
     limited_back l0 l1 a b pays (limited_on fails.left l1 _ _ fails.pays (limited_of _ _ fails.left _ (Refused refusal) fails.says budget))
 failed_limited wanted old new l0 l1 (Source fault at) a b fails pays = tt
@@ -118,7 +118,7 @@ an_object : (objects : List LookupObjectState) (n : ℕ) → n < length objects 
 an_object [] n less = absurd (omega (arith, less))
 an_object (one ∷ objects) n less = one
 
-pub limited_bind : {wanted : Wanted} {old new : List LookupObjectState} {l0 l1 : Option ℕ} (blame : BindFault) (n : ℕ) → n < length old → BindsAcross wanted old new l0 l1 (Err blame) → OnlyLimited l0 blame.fault
+pub limited_bind : {wanted : SymbolQuery} {old new : List LookupObjectState} {l0 l1 : Option ℕ} (blame : BindFault) (n : ℕ) → n < length old → BindsAcross wanted old new l0 l1 (Err blame) → OnlyLimited l0 blame.fault
 limited_bind {wanted} {old} {new} {l0} {l1} blame n less binds = failed_limited wanted _ _ l0 l1 blame.fault _ _ (binds.says (an_object old n less)) binds.pays
 
 -- THE FILES of the objects

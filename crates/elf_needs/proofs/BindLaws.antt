@@ -4,7 +4,7 @@ use Rattle.std.proofs.lemmas.Bool.{cases_lt}
 use Rattle.std.proofs.lemmas.List.Sums.{sum_by-set}
 use Rattle.elf_model.specs.Bindings.{BoundTo, BoundToNone, DefinerLookup, StoppedIn, bound_from, bound_in, bound_or, definition_lookup}
 use Rattle.elf_model.specs.Bindings as model
-use Rattle.elf_model.specs.Loader.{Wanted}
+use Rattle.elf_model.specs.Loader.{SymbolQuery}
 use Rattle.elf_model.specs.declared.causes.Refusal.{Refusal}
 use Rattle.elf_table.specs.declared.fault.Fault.{Fault}
 use Rattle.elf_table.specs.declared.fault.Fault.TheVariants.{Refused, Source}
@@ -15,7 +15,7 @@ use Rattle.elf_needs.specs.Looks.{FailsIn, LooksInObject, SpendsBudget}
 use Rattle.elf_needs.specs.declared.bind_name.BindResult.TheVariants.{Bound, Unbound}
 
 -- so many were looked in, and none of them answers
-pub record BindsSoFar (wanted : Wanted) (old now : List LookupObjectState) (left_old left_now : Option ℕ) (n : ℕ) : Type 0 where
+pub record BindsSoFar (wanted : SymbolQuery) (old now : List LookupObjectState) (left_old left_now : Option ℕ) (n : ℕ) : Type 0 where
   pub asked : AskedFirst wanted old now n
   pub pays : SpendsBudget left_old left_now (asked_of_all old) (asked_of_all now)
   pub rest : (headers : ℕ) (files : List (List ℕ)) → AreObjectFiles headers old files → bound_in headers wanted files ≡ bound_from n headers wanted (drop n files)
@@ -30,7 +30,7 @@ pays_then (Some l0) None l2 all now next one more p q same = absurd p
 pays_then (Some l0) (Some l1) None all now next one more p q same = absurd q
 
 -- what one lookup asked for
-asked_by : (wanted : Wanted) (old new : LookupObjectState) (left_old left_new : Option ℕ) (result : Result (Option ℕ) Fault) → LooksInObject wanted old new left_old left_new result → AskedOf wanted old new
+asked_by : (wanted : SymbolQuery) (old new : LookupObjectState) (left_old left_new : Option ℕ) (result : Result (Option ℕ) Fault) → LooksInObject wanted old new left_old left_new result → AskedOf wanted old new
 asked_by wanted old new left_old left_new result looks = record {
   keeps = looks.costs.keeps;
   view = looks.costs.view;
@@ -47,7 +47,7 @@ same_element (x ∷ xs) zero d e less = refl
 same_element (x ∷ xs) (suc n) d e less = same_element xs n d e (omega (arith, less))
 
 -- one more was asked
-module _ (wanted : Wanted) (old now : List LookupObjectState) (n : ℕ) (d new : LookupObjectState) (less : n < length now) (before : AskedFirst wanted old now n) (asked : AskedOf wanted (get_or now n d) new) where
+module _ (wanted : SymbolQuery) (old now : List LookupObjectState) (n : ℕ) (d new : LookupObjectState) (less : n < length now) (before : AskedFirst wanted old now n) (asked : AskedOf wanted (get_or now n d) new) where
   at_it : (e : LookupObjectState) → AskedOf wanted (get_or old n e) (get_or (set now n new) n e)
   at_it e =
       rw (get_or-set_same now n new e less, ← before.others n e (omega arith), same_element now n e d less) asked
@@ -82,7 +82,7 @@ no_file_behind headers zero (object ∷ objects) (file ∷ files) are most = abs
 no_file_behind headers (suc n) (object ∷ objects) (file ∷ files) are most = no_file_behind headers n objects files are.2 (omega (arith, most))
 
 -- by the lookup in the first file
-first_of : (index headers : ℕ) (wanted : Wanted) (file : List ℕ) (files : List (List ℕ))
+first_of : (index headers : ℕ) (wanted : SymbolQuery) (file : List ℕ) (files : List (List ℕ))
     → bound_from index headers wanted (file ∷ files) ≡ bound_or index (definition_lookup file headers wanted).answer (bound_from (suc index) headers wanted files)
 unfolding bound_from
 first_of index headers wanted file files = refl
@@ -97,7 +97,7 @@ stopped_by : (index : ℕ) (answer : Result (Option ℕ) Refusal) (others : mode
 stopped_by index answer others refusal e = rw e refl
 
 -- ONE MORE FILE: what the lookup in it comes to
-module _ (wanted : Wanted) (old now : List LookupObjectState) (left_old left_now left_new : Option ℕ) (n : ℕ) (d new : LookupObjectState) (so_far : BindsSoFar wanted old now left_old left_now n) (less : n < length old) where
+module _ (wanted : SymbolQuery) (old now : List LookupObjectState) (left_old left_now left_new : Option ℕ) (n : ℕ) (d new : LookupObjectState) (so_far : BindsSoFar wanted old now left_old left_now n) (less : n < length old) where
   within : n < length now
   within = omega (arith, so_far.asked.same_length, less)
 
@@ -162,11 +162,11 @@ module _ (wanted : Wanted) (old now : List LookupObjectState) (left_old left_now
   }
 
 -- NO MORE FILE: the name is in none
-nothing_from : (index headers : ℕ) (wanted : Wanted) → bound_from index headers wanted [] ≡ BoundToNone
+nothing_from : (index headers : ℕ) (wanted : SymbolQuery) → bound_from index headers wanted [] ≡ BoundToNone
 unfolding bound_from
 nothing_from index headers wanted = refl
 
-pub binds_none : (wanted : Wanted) (old now : List LookupObjectState) (left_old left_now : Option ℕ) (n : ℕ) → BindsSoFar wanted old now left_old left_now n → n ≡ length old
+pub binds_none : (wanted : SymbolQuery) (old now : List LookupObjectState) (left_old left_now : Option ℕ) (n : ℕ) → BindsSoFar wanted old now left_old left_now n → n ≡ length old
     → BindsAcross wanted old now left_old left_now (Ok Unbound)
 binds_none wanted old now left_old left_now n so_far all = record {
   asked = rw (← all) so_far.asked;

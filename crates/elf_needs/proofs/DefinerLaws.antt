@@ -4,7 +4,7 @@ use Rattle.std.proofs.Common.{◌≡◌, ℕ, ◌+◌, ◌*◌, ◌≤◌, ◌==
 use Rattle.elf_model.specs.Bindings.{DefinerLookup, defines, definition_cost, definer_by, definition_in, definer_walk, unwalked}
 use Rattle.elf_model.specs.Chains.{ChainResult as NoteScan}
 use Rattle.elf_model.specs.Checks.{first_refusal}
-use Rattle.elf_model.specs.Loader.{Compared, Wanted, answers, is_among, symbol_offset}
+use Rattle.elf_model.specs.Loader.{CompareResult, SymbolQuery, answers, is_among, symbol_offset}
 use Rattle.elf_model.specs.LoaderFind.{counts_check, record_cost, version_indices}
 use Rattle.elf_model.specs.LoaderScope.{LookupTables as IsScopeOf}
 use Rattle.elf_model.specs.Numbers.{SHN_UNDEF}
@@ -27,7 +27,7 @@ use Rattle.elf_hash.specs.declared.table.HashTable.{HashTable}
 use Rattle.elf_hash.specs.declared.chain_result.ChainResult.{ChainResult}
 use Rattle.elf_hash.specs.LookupTablesFound.{IsLookupTables}
 use Rattle.elf_hash.specs.declared.lookup_tables.LookupTables.{LookupTables}
-use Rattle.elf_hash.specs.declared.symbols.Symbols.{Symbols}
+use Rattle.elf_hash.specs.declared.symbols.DynamicSymbols.{DynamicSymbols}
 use Rattle.elf_loader.specs.Answering.{IsSymbolWithVersym}
 use Rattle.elf_loader.specs.Comparing.{CollectsNumbers}
 use Rattle.elf_loader.specs.Lookups.{match_bytes}
@@ -35,7 +35,7 @@ use Rattle.elf_loader.specs.NumberSets.{has_number}
 use Rattle.elf_needs.specs.Definers.{DefinesAfter, SaysDefines, ReturnsDefiner, definer_with, the_defined}
 
 -- A TRIAL that passes over what is undefined
-module _ (file : List ℕ) (symbols : Symbols) (wanted : Wanted) (is_wanted : ℕ → Bool) (says : ℕ → Result Bool Refusal) (index : ℕ) (is : SaysDefines file symbols wanted is_wanted says) where
+module _ (file : List ℕ) (symbols : DynamicSymbols) (wanted : SymbolQuery) (is_wanted : ℕ → Bool) (says : ℕ → Result Bool Refusal) (index : ℕ) (is : SaysDefines file symbols wanted is_wanted says) where
   said : says index ≡ defines file is.told wanted is_wanted index
   said = ap (λ (s : ℕ → Result Bool Refusal). s index) is.says_so
 
@@ -76,7 +76,7 @@ module _ (file : List ℕ) (symbols : Symbols) (wanted : Wanted) (is_wanted : �
 
 -- one call behind another
 pub defines_then :
-    {wanted : Wanted} {looked : DefinerLookup} {a b c : CountedState} {result : Result (Option ℕ) Fault} (n few before few_behind before_behind : ℕ)
+    {wanted : SymbolQuery} {looked : DefinerLookup} {a b c : CountedState} {result : Result (Option ℕ) Fault} (n few before few_behind before_behind : ℕ)
     → before + n + few_behind ≤ before_behind + few → CallReads a b None n → DefinesAfter wanted few_behind before_behind looked b c result
     → DefinesAfter wanted few before looked a c result
 defines_then n few before few_behind before_behind less first looks = record {
@@ -87,24 +87,24 @@ defines_then n few before few_behind before_behind less first looks = record {
 }
 
 -- how many bytes that is
-asks_are : (wanted : Wanted) (looked : DefinerLookup)
+asks_are : (wanted : SymbolQuery) (looked : DefinerLookup)
     → definition_cost wanted looked ≡ 4 * looked.chain_words + looked.tried * match_bytes wanted + looked.records * record_cost wanted.asked
 unfolding definition_cost
 asks_are wanted looked = refl
 
 -- the walk is that of the trial
-definer_walk_is : (file : List ℕ) (scope : IsScopeOf) (wanted : Wanted) (is_wanted : ℕ → Bool)
+definer_walk_is : (file : List ℕ) (scope : IsScopeOf) (wanted : SymbolQuery) (is_wanted : ℕ → Bool)
     → definer_walk file scope wanted is_wanted ≡ walked_in file scope wanted.name (defines file scope.symbols wanted is_wanted)
 unfolding definer_walk
 definer_walk_is file scope wanted is_wanted = refl
 
 pub definer_walks :
-    {a b : CountedState} {stands : ℕ → SymbolMatch → Type 0} (file : List ℕ) (scope : IsScopeOf) (wanted : Wanted) (is_wanted : ℕ → Bool) (cost : ℕ) (result : Result ChainResult Fault)
+    {a b : CountedState} {stands : ℕ → SymbolMatch → Type 0} (file : List ℕ) (scope : IsScopeOf) (wanted : SymbolQuery) (is_wanted : ℕ → Bool) (cost : ℕ) (result : Result ChainResult Fault)
     → WalksChain stands 12 cost (walked_in file scope wanted.name (defines file scope.symbols wanted is_wanted)) a b result → WalksChain stands 12 cost (definer_walk file scope wanted is_wanted) a b result
 definer_walks file scope wanted is_wanted cost result walks = rw (definer_walk_is file scope wanted is_wanted) walks
 
 -- THE WALK, before which so many records were read
-module _ (wanted : Wanted) (before : ℕ) (walk : NoteScan) where
+module _ (wanted : SymbolQuery) (before : ℕ) (walk : NoteScan) where
   spends : before * record_cost wanted.asked + walk_bytes 12 walk.read walk.tried (match_bytes wanted) ≤ 12 + definition_cost wanted (definer_by before walk)
   spends = let are = asks_are wanted (definer_by before walk) in omega (arith, are)
 
@@ -139,8 +139,8 @@ pub place_of : (file : List ℕ) (told : IsScopeOf) (scope : LookupTables) → I
 place_of file told scope is = record { kind = is.kind; head = is.head; table = record { start = is.place; size = is.size; symbols = is.count } }
 
 -- the stages, by the definitions
-module _ (file : List ℕ) (told : IsScopeOf) (wanted : Wanted) where
-  abbrev compared : Compared
+module _ (file : List ℕ) (told : IsScopeOf) (wanted : SymbolQuery) where
+  abbrev compared : CompareResult
   compared = version_indices file told wanted.asked
 
   misshapen : (refusal : Refusal) → first_refusal (counts_check file told ∷ []) ≡ Some refusal → definition_in file told wanted ≡ unwalked 0 refusal

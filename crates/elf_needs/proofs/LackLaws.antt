@@ -2,7 +2,7 @@
 use Rattle.std.proofs.Common.{◌≡◌, ℕ, ◌+◌, ◌≤◌, ◌==◌, nat_lt, Bool, true, false, if◌then◌else◌, is_some, not, MatchBool, List, [], ◌∷◌, ◌++◌, length, Option, None, Some, Result, Ok, Err, refl, sym, ap, ◌∙◌, arith, mul-le-mul_right}
 use Rattle.std.proofs.lemmas.Bool.Decides.{nat_tests}
 use Rattle.elf_model.specs.BoundSymbols.{definitions_among, is_definition, is_none_of, lacks_among, lacks_version}
-use Rattle.elf_model.specs.Loader.{Compared, VersionRecordTable as IsTableOf, Symbols as AreSymbolsOf, Version, VersionWords as AreWordsOf, compared_with, is_among, readings}
+use Rattle.elf_model.specs.Loader.{CompareResult, VersionRecordTable as IsTableOf, DynamicSymbols as AreSymbolsOf, Version, VersymTable as AreWordsOf, compared_with, is_among, readings}
 use Rattle.elf_model.specs.LoaderFind.{version_indices}
 use Rattle.elf_model.specs.LoaderScope.{LookupTables as IsScopeOf}
 use Rattle.elf_model.specs.Names.{pad64}
@@ -15,8 +15,8 @@ use Rattle.elf_loader.specs.Tables.{max_records_of, max_versions_of}
 use Rattle.elf_loader.specs.NumberSets.{has_number}
 use Rattle.elf_hash.specs.Symbols.{AreVersionRecordTables, AreVersymTable, IsDynamicSymbols, table_if_any}
 use Rattle.elf_hash.specs.declared.symbols.VersionRecordTable.{VersionRecordTable}
-use Rattle.elf_hash.specs.declared.symbols.Symbols.{Symbols}
-use Rattle.elf_hash.specs.declared.symbols.VersionWords.{VersionWords}
+use Rattle.elf_hash.specs.declared.symbols.DynamicSymbols.{DynamicSymbols}
+use Rattle.elf_hash.specs.declared.symbols.VersymTable.{VersymTable}
 use Rattle.elf_needs.specs.Lacking.{definition_if, definitions_of}
 use Rattle.elf_needs.specs.Sought.{RefusesAs, ReturnsAs}
 
@@ -45,7 +45,7 @@ fewer_if (Some table) = go (is_definition table.kind) refl
     go true e = rw e (omega arith)
     go false e = rw e (omega arith)
 
-pub fewer_bytes : (version : List ℕ) (symbols : Symbols) → comparing_bytes (Version version) (max_versions_of (definitions_of symbols)) ≤ comparing_bytes (Version version) (max_versions_of symbols)
+pub fewer_bytes : (version : List ℕ) (symbols : DynamicSymbols) → comparing_bytes (Version version) (max_versions_of (definitions_of symbols)) ≤ comparing_bytes (Version version) (max_versions_of symbols)
 fewer_bytes version symbols =
     let first = fewer_if symbols.definitions in
     let second = fewer_if symbols.needs in
@@ -98,7 +98,7 @@ module _ (file : List ℕ) where
         records = definitions_among told.records;
       }
 
-  pub are_definitions : (told : AreSymbolsOf) (symbols : Symbols) → IsDynamicSymbols file told symbols → IsDynamicSymbols file (only_definitions told) (definitions_of symbols)
+  pub are_definitions : (told : AreSymbolsOf) (symbols : DynamicSymbols) → IsDynamicSymbols file told symbols → IsDynamicSymbols file (only_definitions told) (definitions_of symbols)
   are_definitions told symbols is = record {
     index = is.index;
     place = is.place;
@@ -112,7 +112,7 @@ module _ (file : List ℕ) where
   none_told [] are = refl
   none_told (one ∷ told) are = absurd are
 
-  module _ (told : AreSymbolsOf) (symbols : Symbols) (is : IsDynamicSymbols file told symbols) (version : List ℕ) where
+  module _ (told : AreSymbolsOf) (symbols : DynamicSymbols) (is : IsDynamicSymbols file told symbols) (version : List ℕ) where
     no_words : (words : Option AreWordsOf) → told.words ≡ words → AreVersymTable words None → lacks_version file told version ≡ Ok false
     unfolding lacks_version
     no_words None e are = rw (e, lacks_version) refl
@@ -132,7 +132,7 @@ module _ (file : List ℕ) where
         without told.words refl (none_told (definitions_among told.records) (rw (first, second) at are))
 
     -- where there are some, they are compared
-    abbrev compared_lacks : Compared → Result Bool Refusal
+    abbrev compared_lacks : CompareResult → Result Bool Refusal
     compared_lacks compared = elim compared.refused [ Some refusal ↦ Err refusal | None ↦ Ok (is_none_of compared.numbers) ]
 
     among_some : (table : IsTableOf) (tables : List IsTableOf) → lacks_among file version (table ∷ tables) ≡ compared_lacks (compared_with file version (readings file (table ∷ tables)))
@@ -157,7 +157,7 @@ module _ (file : List ℕ) where
         worded words e ∙ some_told (definitions_among told.records) (definition_if symbols.definitions) (definition_if symbols.needs) (are_definitions told symbols is).records some
     lacks_worded None e are wide some = go symbols.words refl are
       where
-        go : (words : Option VersionWords) → symbols.words ≡ words → AreVersymTable None words → lacks_version file told version ≡ compared_lacks (compared_with file version (readings file (definitions_among told.records)))
+        go : (words : Option VersymTable) → symbols.words ≡ words → AreVersymTable None words → lacks_version file told version ≡ compared_lacks (compared_with file version (readings file (definitions_among told.records)))
         go None e are = absurd (wide e)
         go (Some words) e are = absurd are
 
@@ -189,12 +189,12 @@ module _ (file : List ℕ) where
     compared_of None e wide = absurd (wide refl)
     compared_of (Some words) e wide = rw (e, version_indices) refl
 
-    words_told : (of : Option AreWordsOf) (words : Option VersionWords) → AreVersymTable of words → (words ≡ None → ⊥) → of ≡ None → ⊥
+    words_told : (of : Option AreWordsOf) (words : Option VersymTable) → AreVersymTable of words → (words ≡ None → ⊥) → of ≡ None → ⊥
     words_told None None are wide e = wide refl
     words_told (Some of) words are wide e = cc
     words_told None (Some words) are wide e = are
 
-    module _ (symbols : Symbols) (is : IsDynamicSymbols file told.symbols symbols) (wide : symbols.words ≡ None → ⊥) (some : (definition_if symbols.definitions ≡ None) × (definition_if symbols.needs ≡ None) → ⊥) where
+    module _ (symbols : DynamicSymbols) (is : IsDynamicSymbols file told.symbols symbols) (wide : symbols.words ≡ None → ⊥) (some : (definition_if symbols.definitions ≡ None) × (definition_if symbols.needs ≡ None) → ⊥) where
       whole : lacks_version file told.symbols version ≡ compared_lacks told.symbols symbols is version (version_indices file definitions_alone (Version version))
       whole =
           lacks_as told.symbols symbols is version wide some

@@ -16,7 +16,7 @@ use Rattle.elf_table.specs.Views.{strings_mapped}
 use Rattle.elf_needs.specs.Entries.{AreNeeds, IsNeed, IsHeldText, KeepsLinks, KeepsText, ReturnsLinks, ReturnsStrings, ReturnsText, first_index, text_by, with_index}
 use Rattle.elf_needs.specs.Held.{LinkInfoState}
 use Rattle.elf_needs.specs.declared.links.LinkInfo.{LinkInfo}
-use Rattle.elf_needs.specs.declared.links.Need.{Need}
+use Rattle.elf_needs.specs.declared.links.NeededLibrary.{NeededLibrary}
 
 -- THE STRINGS that entries locate
 module _ (file : List ℕ) (at : ℕ) where
@@ -75,7 +75,7 @@ module _ (texts : List (List ℕ)) (text : List ℕ) where
   text_first None told false is = rw is refl
   text_first (Some i) told b is = rw is.1 (text_kept (Some i) _ (is.0, refl))
 
-  needs_kept : (needs : List Need) (told : List NeededName) → AreNeeds texts needs told → AreNeeds (texts ++ text ∷ []) needs told
+  needs_kept : (needs : List NeededLibrary) (told : List NeededName) → AreNeeds texts needs told → AreNeeds (texts ++ text ∷ []) needs told
   needs_kept [] [] are = tt
   needs_kept (need ∷ needs) (name ∷ told) are =
       (record { at = are.0.at; below = longer texts text need.name are.0.below; name = kept_at texts (text ∷ []) need.name are.0.below ∙ are.0.name }, needs_kept needs told are.1)
@@ -85,7 +85,7 @@ module _ (texts : List (List ℕ)) (text : List ℕ) where
   last_need : (at : ℕ) → IsNeed (texts ++ text ∷ []) (record { at = at; name = length texts }) (record { at = at; name = text })
   last_need at = record { at = refl; below = last_below texts text; name = last_at texts text }
 
-needs_more : (texts : List (List ℕ)) (needs : List Need) (told : List NeededName) (need : Need) (name : NeededName) → AreNeeds texts needs told → IsNeed texts need name
+needs_more : (texts : List (List ℕ)) (needs : List NeededLibrary) (told : List NeededName) (need : NeededLibrary) (name : NeededName) → AreNeeds texts needs told → IsNeed texts need name
     → AreNeeds texts (needs ++ need ∷ []) (told ++ name ∷ [])
 needs_more texts [] [] need name are is = (is, tt)
 needs_more texts (other ∷ needs) (one ∷ told) need name are is = (are.0, needs_more texts needs told need name are.1 is)
@@ -172,7 +172,7 @@ module _ (file : List ℕ) (address size : Option ℕ) (at : ℕ) where
         unfolding linked_by
         need_told tag new is =
             let name : NeededName = record { at = at; name = k.text } in
-            let need : Need = record { at = at; name = length old.held.texts } in
+            let need : NeededLibrary = record { at = at; name = length old.held.texts } in
             let texts = old.held.texts in (
               _,
               told,
@@ -180,7 +180,7 @@ module _ (file : List ℕ) (address size : Option ℕ) (at : ℕ) where
                 more = l.more ++ k.text ∷ [];
                 texts = texts_more;
                 needed = l.needed ++ need ∷ [];
-                needs = ap (λ (n : List Need). n ++ need ∷ []) l.needs ∙ append_assoc before.needs l.needed (need ∷ []);
+                needs = ap (λ (n : List NeededLibrary). n ++ need ∷ []) l.needs ∙ append_assoc before.needs l.needed (need ∷ []);
                 are = needs_more (texts ++ k.text ∷ []) l.needed state.links.needed need name (needs_kept texts k.text l.needed state.links.needed l.are) (last_need texts k.text at);
                 soname = rw (no_text state.links.soname k.text) (text_kept texts k.text links.soname state.links.soname l.soname);
                 rpath = rw (no_text state.links.rpath k.text) (text_kept texts k.text links.rpath state.links.rpath l.rpath);

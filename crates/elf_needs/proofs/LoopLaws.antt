@@ -12,7 +12,7 @@ use Rattle.elf_table.specs.declared.fault.Fault.{Fault}
 use Rattle.elf_table.specs.declared.fault.Fault.TheVariants.{Refused, Source}
 use Rattle.elf_note.specs.DynCursors.{DynCursorState, StartsEntries, entries_left}
 use Rattle.elf_table.specs.Cursors.{CursorState, next_row, row_at, unread_bytes}
-use Rattle.elf_table.specs.Tables.{Rows, size_of}
+use Rattle.elf_table.specs.Tables.{TableRange, size_of}
 use Rattle.elf_needs.specs.Entries.{KeepsLinks, ReturnsLinks}
 use Rattle.elf_needs.specs.Held.{LinkInfoState}
 use Rattle.elf_needs.specs.declared.links.LinkInfo.{LinkInfo}
@@ -30,7 +30,7 @@ pub account_next : (unread read left rest before between later all : ℕ) → re
 account_next unread read left rest before between later all less reads spends within =
     let product = ap (λ (n : ℕ). n * 4160) less in omega (arith, product, reads, spends, within)
 
-pub account_start : (c : CursorState) (table : Rows) → c.failed ≡ None → c.unread ≡ size_of table → c.left ≡ table.count
+pub account_start : (c : CursorState) (table : TableRange) → c.failed ≡ None → c.unread ≡ size_of table → c.left ≡ table.count
     → unread_bytes c + c.left * 4160 ≡ size_of table + table.count * 4160
 account_start c table none unread left = rw (none, unread, left) refl
 
@@ -69,14 +69,14 @@ module _ (file : List ℕ) (address size : Option ℕ) where
   from_fails at n state refusal e = rw (e, linked_from) refl
 
   -- before the first entry
-  pub links_start : (table : Rows) (d : DynCursorState) → StartsEntries table d → (held : LinkInfoState) (links : LinkInfo)
+  pub links_start : (table : TableRange) (d : DynCursorState) → StartsEntries table d → (held : LinkInfoState) (links : LinkInfo)
       → links ≡ record { soname = None; rpath = None; runpath = None }
       → LeftLinks (linked_from file address size table.at (record { links = no_link_info; room = held.held.room }) (dynamic_count file table.at table.count))
       file address size (next_row d.cursor) (entries_left file d) held held links
   links_start table d s held links is =
       let index = s.index in
       let place : next_row d.cursor ≡ table.at =
-      ap (λ (t : Rows). row_at t d.cursor.index) s.its_table ∙ ap (row_at table) index ∙ first table.at table.entry in
+      ap (λ (t : TableRange). row_at t d.cursor.index) s.its_table ∙ ap (row_at table) index ∙ first table.at table.entry in
       record {
         state = _;
         keeps = keeps_none held links is;

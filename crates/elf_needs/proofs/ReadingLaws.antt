@@ -24,7 +24,7 @@ use Rattle.elf_hash.proofs.SettleLaws.{checked_fails}
 use Rattle.elf_hash.specs.Loading.{LoadsSegments}
 use Rattle.elf_hash.specs.LookupTablesFound.{FindsLookupTables}
 use Rattle.elf_table.specs.Sections.{rows}
-use Rattle.elf_table.specs.Tables.{Rows}
+use Rattle.elf_table.specs.Tables.{TableRange}
 use Rattle.elf_table.specs.Views.{dynamic_table_at}
 use Rattle.elf_needs.proofs.LoopLaws.{keeps_none}
 use Rattle.elf_needs.specs.Entries.{ReturnsLinks}
@@ -102,7 +102,7 @@ module _ (file : List ℕ) where
       unfolding linked_in
       in_is at n = refl
 
-      pub entries_are : first_refusal (segment_dynamic_checks file (segment_at file i)) ≡ None → (table : Rows)
+      pub entries_are : first_refusal (segment_dynamic_checks file (segment_at file i)) ≡ None → (table : TableRange)
           → rows (p_offset file (segment_at file i)) (p_filesz file (segment_at file i) / 16) 16 ≡ table → (told : DynamicStrings) → AreStrings file table told
           → linked_from file told.address told.size table.at (record { links = no_link_info; room = room }) (dynamic_count file table.at table.count) ≡ linked_in_segments file room
       entries_are passes table is told are =
@@ -120,7 +120,7 @@ pub links_as : (told other : Result LinkState Refusal) (old new : LinkInfoState)
 links_as told other old new result same tells = subst (λ t. ReturnsLinks t old new result) same tells
 
 -- so many rows of 16 bytes lie within a source of a size
-pub rows_most : (table : Rows) (size : ℕ) → table.entry ≡ 16 → table.count * table.entry ≤ size → table.count * 4160 ≤ size / 16 * 4160
+pub rows_most : (table : TableRange) (size : ℕ) → table.entry ≡ 16 → table.count * table.entry ≤ size → table.count * 4160 ≤ size / 16 * 4160
 rows_most table size entry within =
     let is = ap (λ (n : ℕ). table.count * n) entry in
     omega (arith, is, within)

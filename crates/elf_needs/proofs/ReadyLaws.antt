@@ -1,6 +1,6 @@
 -- Where the records of versions are such that the empty version is not refused, and their strings end in a NUL, none is refused.
 use Rattle.std.proofs.Common.{◌≡◌, ℕ, zero, suc, ◌+◌, ◌-◌, ◌*◌, ◌/◌, ◌<◌, ◌≤◌, mul-le-mul_right, IsTrue, ◌==◌, ◌||◌, nat_lt, Bool, true, false, List, [], ◌∷◌, ◌++◌, length, drop, Option, None, Some, Result, Ok, Err, IfSome, refl, sym, ap, subst, ◌∙◌, arith}
-use Rattle.elf_model.specs.Loader.{Asked, Compared, Meets, Misses, VersionRecordRead, VersionRecordTable as IsTableOf, Refuses, Version, VersionWords, asked_name, compared_with, end_reading, meetings, readings, readings_of}
+use Rattle.elf_model.specs.Loader.{VersionQuery, CompareResult, Meets, Misses, VersionRecordRead, VersionRecordTable as IsTableOf, Refuses, Version, VersymTable, asked_name, compared_with, end_reading, meetings, readings, readings_of}
 use Rattle.elf_model.specs.LoaderFind.{version_indices}
 use Rattle.elf_model.specs.LoaderScope.{LookupTables as IsScopeOf}
 use Rattle.elf_model.specs.Names.{begins, is_empty_at_zero, same}
@@ -12,7 +12,7 @@ use Rattle.std.proofs.lemmas.Bool.{eqb-false, eqb-true, ltb-true, ne_eqb}
 use Rattle.elf_model.specs.declared.causes.Refusal.{Refusal}
 use Rattle.elf_hash.specs.Symbols.{AreVersionRecordTables, IsDynamicSymbols, table_if_any}
 use Rattle.elf_hash.specs.declared.symbols.VersionRecordTable.{VersionRecordTable}
-use Rattle.elf_hash.specs.declared.symbols.Symbols.{Symbols}
+use Rattle.elf_hash.specs.declared.symbols.DynamicSymbols.{DynamicSymbols}
 use Rattle.elf_model.proofs.Slices.{slice-size}
 use Rattle.elf_model.specs.Checks.{first_refusal}
 use Rattle.elf_model.specs.LoaderFind.{counts_check, record_cost}
@@ -166,7 +166,7 @@ module _ (file version : List ℕ) where
 -- where the empty version is not refused, none is
 none_refused : (file version : List ℕ) → has_zero version ≡ false → (records : List VersionRecordRead) → StringsEnd records → (compared_with file [] records).refused ≡ None
     → (compared_with file version records).refused ≡ None
-none_refused file version plain [] ends fine = ap (λ (c : Compared). c.refused) (no_more file version)
+none_refused file version plain [] ends fine = ap (λ (c : CompareResult). c.refused) (no_more file version)
 none_refused file version plain (Misses refusal ∷ others) ends fine = let some = at_miss file [] refusal others in let no = fine in cc
 none_refused file version plain (Refuses refusal ∷ others) ends fine = let some = at_refusal file [] refusal others in let no = fine in cc
 none_refused file version plain (Meets strings met ∷ others) ends fine = go (names_version file met) refl (same strings (name_index file met) []) refl (none_refused file version plain others ends.1)
@@ -218,25 +218,25 @@ all_end file (t ∷ told) (table ∷ tables) are ends =
 
 -- THE LAW: where the empty version is not refused, and the strings of both tables end in a NUL, no version is
 module _ (file : List ℕ) (scope : IsScopeOf) where
-  unasked : (asked : Asked) → asked_name asked ≡ None → (version_indices file scope asked).refused ≡ None
+  unasked : (asked : VersionQuery) → asked_name asked ≡ None → (version_indices file scope asked).refused ≡ None
   unfolding version_indices
   unasked asked e = rw (e, version_indices) refl
 
-  wordless : (asked : Asked) (version : List ℕ) → asked_name asked ≡ Some version → scope.symbols.words ≡ None → (version_indices file scope asked).refused ≡ None
+  wordless : (asked : VersionQuery) (version : List ℕ) → asked_name asked ≡ Some version → scope.symbols.words ≡ None → (version_indices file scope asked).refused ≡ None
   unfolding version_indices
   wordless asked version e none = rw (e, version_indices) (rw none refl)
 
-  collected : (asked : Asked) (version : List ℕ) (words : VersionWords) → asked_name asked ≡ Some version → scope.symbols.words ≡ Some words
+  collected : (asked : VersionQuery) (version : List ℕ) (words : VersymTable) → asked_name asked ≡ Some version → scope.symbols.words ≡ Some words
       → (version_indices file scope asked).refused ≡ (compared_with file version (readings file scope.symbols.records)).refused
   unfolding version_indices
   collected asked version words e some = rw (e, version_indices) (rw some refl)
 
-  module _ (symbols : Symbols) (are : IsDynamicSymbols file scope.symbols symbols) (fine : (version_indices file scope (Version [])).refused ≡ None)
+  module _ (symbols : DynamicSymbols) (are : IsDynamicSymbols file scope.symbols symbols) (fine : (version_indices file scope (Version [])).refused ≡ None)
       (definitions : IfSome symbols.definitions (NamesEnd file)) (needs : IfSome symbols.needs (NamesEnd file)) where
-    pub none_is_refused : (asked : Asked) → HasNoNul asked → (version_indices file scope asked).refused ≡ None
+    pub none_is_refused : (asked : VersionQuery) → HasNoNul asked → (version_indices file scope asked).refused ≡ None
     none_is_refused asked plain = go (asked_name asked) refl plain scope.symbols.words refl
       where
-        go : (name : Option (List ℕ)) → asked_name asked ≡ name → IfSome name (λ version. has_zero version ≡ false) → (words : Option VersionWords) → scope.symbols.words ≡ words
+        go : (name : Option (List ℕ)) → asked_name asked ≡ name → IfSome name (λ version. has_zero version ≡ false) → (words : Option VersymTable) → scope.symbols.words ≡ words
             → (version_indices file scope asked).refused ≡ None
         go None e p words w = unasked asked e
         go (Some version) e p None w = wordless asked version e w

@@ -10,7 +10,7 @@ use Rattle.elf_model.specs.LoaderScope.{LookupTables as IsScopeOf}
 use Rattle.elf_model.specs.Traits.{hashed_symbol_count}
 use Rattle.elf_table.specs.Ledger.{IsRead}
 use Rattle.elf_hash.specs.SearchedTables.{HasCounts}
-use Rattle.elf_model.specs.Loader.{Asked, NoVersion, Version, NumberNameSource, Symbols as AreSymbolsOf, VersionWords as AreWordsOf, naming_of, readings, symbol_offset, versym_at}
+use Rattle.elf_model.specs.Loader.{VersionQuery, NoVersion, Version, NumberNameSource, DynamicSymbols as AreSymbolsOf, VersymTable as AreWordsOf, naming_of, readings, symbol_offset, versym_at}
 use Rattle.elf_model.specs.Names.{shown}
 use Rattle.elf_model.specs.Names.DisplayedName.{Whole as ShownWhole, Cut as ShownCut}
 use Rattle.elf_model.specs.Records.{st_name, versym}
@@ -26,8 +26,8 @@ use Rattle.elf_table.specs.Cursors.{row_at}
 use Rattle.elf_table.specs.NamesRead.{Refuses as RefusesName}
 use Rattle.elf_table.specs.Tables.{strings_in}
 use Rattle.elf_hash.specs.Symbols.{AreVersymTable, IsDynamicSymbols}
-use Rattle.elf_hash.specs.declared.symbols.Symbols.{Symbols}
-use Rattle.elf_hash.specs.declared.symbols.VersionWords.{VersionWords}
+use Rattle.elf_hash.specs.declared.symbols.DynamicSymbols.{DynamicSymbols}
+use Rattle.elf_hash.specs.declared.symbols.VersymTable.{VersymTable}
 use Rattle.elf_loader.specs.Naming.{NamesBefore}
 use Rattle.elf_loader.specs.declared.version_name_record.VersionNameRecord.{VersionNameRecord}
 use Rattle.elf_needs.specs.Sought.{RefusesAs, ReturnsSought, ReturnsWhole, asked_if}
@@ -102,7 +102,7 @@ module _ (file : List ℕ) (told : AreSymbolsOf) (number at : ℕ) where
   unspelt_by a b left by version (Source fault offset) p tells = tt
 
 -- WHETHER A SYMBOL ASKS FOR A VERSION
-module _ (file : List ℕ) (told : AreSymbolsOf) (symbols : Symbols) (y : ℕ) (is : IsDynamicSymbols file told symbols) where
+module _ (file : List ℕ) (told : AreSymbolsOf) (symbols : DynamicSymbols) (y : ℕ) (is : IsDynamicSymbols file told symbols) where
   no_words : (words : Option AreWordsOf) → told.words ≡ words → AreVersymTable words None → reference_version file told y ≡ Ok NoVersion
   unfolding reference_version
   no_words None e are = rw (e, reference_version) refl
@@ -111,7 +111,7 @@ module _ (file : List ℕ) (told : AreSymbolsOf) (symbols : Symbols) (y : ℕ) (
   pub wordless : symbols.words ≡ None → reference_version file told y ≡ Ok NoVersion
   wordless none = no_words told.words refl (rw none at is.words)
 
-  module _ (words : VersionWords) (some : symbols.words ≡ Some words) where
+  module _ (words : VersymTable) (some : symbols.words ≡ Some words) where
     cut_at : (of : Option AreWordsOf) → told.words ≡ of → AreVersymTable of (Some words) → words.words.count ≤ y → reference_version file told y ≡ Err (record { at = words.head; cause = VersionCut })
     unfolding reference_version
     cut_at None e are past = absurd are
@@ -152,7 +152,7 @@ module _ (file : List ℕ) (told : AreSymbolsOf) (symbols : Symbols) (y : ℕ) (
       numbered many = numbered_at told.words refl (rw some at is.words) many
 
 -- THE NEEDED FILE of the version of a symbol
-module _ (file : List ℕ) (told : AreSymbolsOf) (symbols : Symbols) (y : ℕ) (is : IsDynamicSymbols file told symbols) where
+module _ (file : List ℕ) (told : AreSymbolsOf) (symbols : DynamicSymbols) (y : ℕ) (is : IsDynamicSymbols file told symbols) where
   of_no_words : (words : Option AreWordsOf) → told.words ≡ words → AreVersymTable words None → file_of_version file told y ≡ None
   unfolding file_of_version
   of_no_words None e are = rw (e, file_of_version) refl
@@ -161,7 +161,7 @@ module _ (file : List ℕ) (told : AreSymbolsOf) (symbols : Symbols) (y : ℕ) (
   pub of_none : symbols.words ≡ None → file_of_version file told y ≡ None
   of_none none = of_no_words told.words refl (rw none at is.words)
 
-  module _ (words : VersionWords) (some : symbols.words ≡ Some words) (word : ℕ) (entry : words.words.entry ≡ 2) (read : word ≡ field file (row_at words.words y) 2) where
+  module _ (words : VersymTable) (some : symbols.words ≡ Some words) (word : ℕ) (entry : words.words.entry ≡ 2) (read : word ≡ field file (row_at words.words y) 2) where
     of_plain_at : (of : Option AreWordsOf) → told.words ≡ of → AreVersymTable of (Some words) → word % 2 ^ 15 < 2 → file_of_version file told y ≡ None
     unfolding file_of_version
     of_plain_at None e are few = absurd are
@@ -188,12 +188,12 @@ module _ (file : List ℕ) (told : AreSymbolsOf) (symbols : Symbols) (y : ℕ) (
     of_numbered many = of_numbered_at told.words refl (rw some at is.words) many
 
 -- what is told by the number is what is told of the symbol
-pub versioned_as : (told by : Result Asked Refusal) (fault : Fault) → told ≡ by → RefusesAs by fault → RefusesAs told fault
+pub versioned_as : (told by : Result VersionQuery Refusal) (fault : Fault) → told ≡ by → RefusesAs by fault → RefusesAs told fault
 versioned_as told by (Refused refusal) e tells = λ unless. e ∙ tells unless
 versioned_as told by (Source fault at) e tells = tt
 
 -- A SYMBOL that is read
-module _ (file : List ℕ) (told : AreSymbolsOf) (symbols : Symbols) (index : ℕ) (symbol : Sym) (is : IsDynamicSymbols file told symbols) (entry : symbols.table.entry ≡ 24) (low : index < symbols.table.count)
+module _ (file : List ℕ) (told : AreSymbolsOf) (symbols : DynamicSymbols) (index : ℕ) (symbol : Sym) (is : IsDynamicSymbols file told symbols) (entry : symbols.table.entry ≡ 24) (low : index < symbols.table.count)
     (stands : IsSym file (row_at symbols.table index) symbol) where
   place_is : row_at symbols.table index ≡ symbol_offset told index
   place_is = rw (entry, is.place) (omega arith)

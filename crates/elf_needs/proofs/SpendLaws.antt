@@ -1,6 +1,6 @@
 -- What a lookup costs between the call that sets a limit and the call that takes it away.
 use Rattle.std.proofs.Common.{◌≡◌, ℕ, ◌+◌, ◌-◌, ◌≤◌, List, Option, None, Some, Result, Ok, Err, IfOk, IfSome, option_map, refl, sym, ap, subst, ◌∙◌, arith}
-use Rattle.elf_model.specs.Loader.{Wanted}
+use Rattle.elf_model.specs.Loader.{SymbolQuery}
 use Rattle.elf_model.specs.Bindings.{definition_in, definition_lookup}
 use Rattle.elf_model.specs.LoaderScope.{LookupTables as IsScopeOf, lookup_tables_of}
 use Rattle.elf_source.specs.Source.{CountedState, SetsLimit, ExceedsBudget, SourceState, counted}
@@ -61,12 +61,12 @@ SpendsAtMost-of {a} {b} {c} {d} {left} {stop} {n} set charges free = record {
 }
 
 -- a lookup once what it is made in is known
-pub scoped : (file : List ℕ) (headers : ℕ) (wanted : Wanted) (told : IsScopeOf) → lookup_tables_of file headers ≡ Ok told → definition_lookup file headers wanted ≡ definition_in file told wanted
+pub scoped : (file : List ℕ) (headers : ℕ) (wanted : SymbolQuery) (told : IsScopeOf) → lookup_tables_of file headers ≡ Ok told → definition_lookup file headers wanted ≡ definition_in file told wanted
 unfolding definition_lookup
 scoped file headers wanted told found = rw (found, definition_lookup) refl
 
 -- THE LAW: a lookup in what is kept
-module _ (a b c d : CountedState) (headers : ℕ) (scope : LookupTables) (ready : Option HashTable) (wanted : Wanted) (left left_new : Option ℕ) (result : Result (Option ℕ) Fault) where
+module _ (a b c d : CountedState) (headers : ℕ) (scope : LookupTables) (ready : Option HashTable) (wanted : SymbolQuery) (left left_new : Option ℕ) (result : Result (Option ℕ) Fault) where
   pub looks_in : (file : List ℕ) (found : IsScopeOf) → lookup_tables_of file headers ≡ Ok found → SetsLimit a b left → DefinesAfter wanted 28 0 (definition_in file found wanted) b c result → SetsLimit c d None
       → DefinesIn file wanted (record { src = a; headers = headers }) (record { src = d; headers = headers }) left result
   looks_in file found is set looks free =

@@ -4,7 +4,7 @@ use Rattle.std.proofs.lemmas.Bool.Decides.{nat_tests}
 use Rattle.elf_model.specs.BindingLines.{reference_name, unbound_state}
 use Rattle.elf_model.specs.Bindings.{BoundTo, BoundToNone, bound_in, is_weak, reference_at, whole_name}
 use Rattle.elf_model.specs.BoundSymbols.{BoundObjects, Told, bound_item, file_lacks, file_of_version, missing_version_requested, lacks_version, object_lacks, place_of, state_by, state_in}
-use Rattle.elf_model.specs.Loader.{Asked, Symbols, Wanted, asked_name, symbol_offset}
+use Rattle.elf_model.specs.Loader.{VersionQuery, DynamicSymbols, SymbolQuery, asked_name, symbol_offset}
 use Rattle.elf_model.specs.LoaderScope.{LookupTables, lookup_tables_of}
 use Rattle.elf_model.specs.Versions.{VisitedRecord, name_index, named_at}
 use Rattle.elf_model.specs.declared.causes.Refusal.{Refusal}
@@ -19,10 +19,10 @@ use Rattle.elf_loader.specs.Naming.{IsFileIf}
 use Rattle.elf_note.specs.declared.record.VersionRecord.{VersionRecord}
 use Rattle.elf_needs.specs.Bound.{ReturnsItem}
 
-pub wanted_is : (wanted : Wanted) (name : List ℕ) (asked : Asked) → wanted.name ≡ name → wanted.asked ≡ asked → wanted ≡ record { name = name; asked = asked }
+pub wanted_is : (wanted : SymbolQuery) (name : List ℕ) (asked : VersionQuery) → wanted.name ≡ name → wanted.asked ≡ asked → wanted ≡ record { name = name; asked = asked }
 wanted_is wanted name asked n a = rw (← n, ← a) refl
 
-module _ (objects : BoundObjects) (file : List ℕ) (symbols : Symbols) (y : ℕ) (wanted : Wanted) where
+module _ (objects : BoundObjects) (file : List ℕ) (symbols : DynamicSymbols) (y : ℕ) (wanted : SymbolQuery) where
   pub state_bound : (place symbol : ℕ) → bound_in objects.headers wanted objects.files ≡ BoundTo place symbol
       → state_in objects file symbols y wanted ≡ Ok (state.Bound (get_or objects.indexes place 0) symbol)
   unfolding state_by
@@ -58,7 +58,7 @@ same_name : (strings : List ℕ) (i j x y : ℕ) → i ≡ x → j ≡ y → who
 same_name strings i j x y e f = rw (e, f) refl
 
 -- WHETHER THE OBJECT of a version's file lacks it
-module _ (objects : BoundObjects) (file : List ℕ) (symbols : Symbols) (y : ℕ) where
+module _ (objects : BoundObjects) (file : List ℕ) (symbols : DynamicSymbols) (y : ℕ) where
   pub lacks_unversioned : (version : List ℕ) (versioned : Bool) → versioned ≡ false → missing_version_requested objects file symbols y (asked_name (asked_if versioned version)) ≡ Ok false
   unfolding missing_version_requested
   lacks_unversioned version versioned e = rw (e, missing_version_requested) refl
@@ -150,7 +150,7 @@ module _ (objects : BoundObjects) (name version : List ℕ) where
         lacks_refused (Source fault at) alone tells = absurd (alone tt)
 
 -- WHAT IS TOLD OF A SYMBOL
-module _ (objects : BoundObjects) (place : ℕ) (file : List ℕ) (symbols : Symbols) (y : ℕ) where
+module _ (objects : BoundObjects) (place : ℕ) (file : List ℕ) (symbols : DynamicSymbols) (y : ℕ) where
   pub item_fault : (weak : Bool) (name version shown : List ℕ) (object : ℕ) (fault : Fault) → ReturnsSought (reference_at file symbols y) weak name version (Err fault)
       → ReturnsItem (bound_item objects place file symbols y) object y shown (Err fault)
   unfolding bound_item

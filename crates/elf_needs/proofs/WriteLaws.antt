@@ -7,7 +7,7 @@ use Rattle.elf_model.specs.BoundSymbols.{BoundItem, BoundObjects, Faulty, Told, 
 use Rattle.elf_model.specs.Budget.{IsBudgetRefusal}
 use Rattle.elf_model.specs.Checks.{first_refusal}
 use Rattle.elf_model.specs.Lines.{refusal_line}
-use Rattle.elf_model.specs.Loader.{Symbols}
+use Rattle.elf_model.specs.Loader.{DynamicSymbols}
 use Rattle.elf_model.specs.LoaderFind.{counts_check}
 use Rattle.elf_model.specs.LoaderScope.{LookupTables as IsScopeOf, lookup_tables_of}
 use Rattle.elf_model.specs.Traits.{hashed_symbol_count}
@@ -244,11 +244,11 @@ hashed_fits file told count e = go (first_refusal (counts_check file told ∷ []
     go (Some refusal) is = absurd (err_not refusal count (rw (is, symbols_hashed) at e))
     go None is = let same = ok_is (min (hashed_symbol_count file told) told.table.symbols) count (rw (is, symbols_hashed) at e) in omega (arith, same)
 
-pub items_none : (objects : BoundObjects) (place : ℕ) (file : List ℕ) (symbols : Symbols) (y count : ℕ) → count ≤ y → items_from objects place file symbols y (count - y) ≡ []
+pub items_none : (objects : BoundObjects) (place : ℕ) (file : List ℕ) (symbols : DynamicSymbols) (y count : ℕ) → count ≤ y → items_from objects place file symbols y (count - y) ≡ []
 unfolding items_from
 items_none objects place file symbols y count past = let none : count - y ≡ 0 = omega (arith, past) in rw (none, items_from) refl
 
-pub items_next : (objects : BoundObjects) (place : ℕ) (file : List ℕ) (symbols : Symbols) (y count : ℕ) → y < count
+pub items_next : (objects : BoundObjects) (place : ℕ) (file : List ℕ) (symbols : DynamicSymbols) (y count : ℕ) → y < count
     → items_from objects place file symbols y (count - y) ≡ before_items (bound_item objects place file symbols y) (items_from objects place file symbols (y + 1) (count - (y + 1)))
 unfolding items_from
 items_next objects place file symbols y count less =

@@ -2,12 +2,12 @@
 use Rattle.std.specs.Prelude.{ℕ, suc, ◌≡◌, ◌+◌, ◌<◌, ◌≤◌, List, [], ◌∷◌, length, get_or, Option, Some, Result, Ok, Err, IfErr}
 use Rattle.std.specs.List.{sum_by}
 use Rattle.elf_model.specs.Budget.{IsBudgetRefusal}
-use Rattle.elf_model.specs.Loader.{Wanted}
+use Rattle.elf_model.specs.Loader.{SymbolQuery}
 use Rattle.elf_model.specs.Bindings.{BoundTo, BoundToNone, StoppedIn, bound_in}
 use Rattle.elf_model.specs.Bindings as model
 use Rattle.elf_table.specs.declared.fault.Fault.TheVariants.{Refused, Source}
 use Rattle.elf_loader.specs.Lookups.{lookup_bytes}
-use Rattle.elf_source.specs.Source.{Keeps, SameView}
+use Rattle.elf_source.specs.Source.{KeepsSource, SameView}
 use Rattle.elf_needs.specs.Kept.{LookupObjectState}
 use Rattle.elf_needs.specs.Looks.{FailsIn, SpendsBudget, kept_cost}
 use Rattle.elf_needs.specs.declared.bind_name.BindResult.{BindResult}
@@ -27,8 +27,8 @@ AreObjectFiles headers [] (file ∷ files) = ⊥
 AreObjectFiles headers (object ∷ objects) [] = ⊥
 
 -- what one of them was asked for, for every source: it is kept, and of a known file no more than the lookup in it costs
-pub record AskedOf (wanted : Wanted) (old new : LookupObjectState) : Type 0 where
-  pub keeps : Keeps old.src.seen new.src.seen
+pub record AskedOf (wanted : SymbolQuery) (old new : LookupObjectState) : Type 0 where
+  pub keeps : KeepsSource old.src.seen new.src.seen
   pub view : SameView old.src new.src
   pub same_headers : new.headers ≡ old.headers
   pub grows : old.src.asked ≤ new.src.asked
@@ -36,7 +36,7 @@ pub record AskedOf (wanted : Wanted) (old new : LookupObjectState) : Type 0 wher
   pub known : (file : List ℕ) → old.src.seen.file ≡ Some file → new.src.asked ≤ old.src.asked + kept_cost file old.headers wanted
 
 -- the first n were asked, and of the others none
-pub record AskedFirst (wanted : Wanted) (old new : List LookupObjectState) (n : ℕ) : Type 0 where
+pub record AskedFirst (wanted : SymbolQuery) (old new : List LookupObjectState) (n : ℕ) : Type 0 where
   pub same_length : length new ≡ length old
   pub asked : (k : ℕ) (d : LookupObjectState) → k < n → AskedOf wanted (get_or old k d) (get_or new k d)
   pub others : (k : ℕ) (d : LookupObjectState) → n ≤ k → get_or new k d ≡ get_or old k d
@@ -58,7 +58,7 @@ ReturnsBinding bound (Err blame) = elim blame.fault [
 
 -- WHAT A LOOKUP OVER FILES DID: the files up to the one that answers were asked, what is left of the budget falls by what all were
 -- asked for, and where all files are known the answer is the definition's over them in order
-pub record BindsAcross (wanted : Wanted) (old new : List LookupObjectState) (left_old left_new : Option ℕ) (result : Result BindResult BindFault) : Type 0 where
+pub record BindsAcross (wanted : SymbolQuery) (old new : List LookupObjectState) (left_old left_new : Option ℕ) (result : Result BindResult BindFault) : Type 0 where
   pub asked : AskedFirst wanted old new (reached (length old) result)
   pub pays : SpendsBudget left_old left_new (asked_of_all old) (asked_of_all new)
   pub says : IfErr result (λ blame. (d : LookupObjectState) → FailsIn wanted (get_or old blame.object d) (get_or new blame.object d) left_new blame.fault)

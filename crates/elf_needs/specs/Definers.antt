@@ -2,7 +2,7 @@
 use Rattle.std.specs.Prelude.{ℕ, ◌≡◌, ◌+◌, ◌≤◌, ◌==◌, if◌then◌else◌, Bool, List, Option, None, Some, Result, Ok, Err}
 use Rattle.elf_model.specs.Bindings.{DefinerLookup, defines, definition_cost, definer_by, definer_walk, unwalked}
 use Rattle.elf_model.specs.Budget.{IsBudgetRefusal}
-use Rattle.elf_model.specs.Loader.{Compared, Symbols as AreSymbolsOf, Wanted, is_among}
+use Rattle.elf_model.specs.Loader.{CompareResult, DynamicSymbols as AreSymbolsOf, SymbolQuery, is_among}
 use Rattle.elf_model.specs.LoaderScope.{LookupTables as IsScopeOf}
 use Rattle.elf_model.specs.declared.causes.Refusal.{Refusal}
 use Rattle.elf_model.specs.Numbers.{SHN_UNDEF}
@@ -14,10 +14,10 @@ use Rattle.elf_table.specs.declared.fault.Fault.TheVariants.{Refused, Source}
 use Rattle.elf_hash.specs.LookupTablesFound.{IsLookupTables}
 use Rattle.elf_hash.specs.Symbols.{IsDynamicSymbols}
 use Rattle.elf_hash.specs.declared.lookup_tables.LookupTables.{LookupTables}
-use Rattle.elf_hash.specs.declared.symbols.Symbols.{Symbols}
+use Rattle.elf_hash.specs.declared.symbols.DynamicSymbols.{DynamicSymbols}
 
 -- it is the trial of the symbols of a file: of each it says whether it defines what is wanted
-pub record SaysDefines (file : List ℕ) (symbols : Symbols) (wanted : Wanted) (is_wanted : ℕ → Bool) (says : ℕ → Result Bool Refusal) : Type 0 where
+pub record SaysDefines (file : List ℕ) (symbols : DynamicSymbols) (wanted : SymbolQuery) (is_wanted : ℕ → Bool) (says : ℕ → Result Bool Refusal) : Type 0 where
   pub told : AreSymbolsOf
   pub are : IsDynamicSymbols file told symbols
   pub says_so : says ≡ defines file told wanted is_wanted
@@ -34,7 +34,7 @@ ReturnsDefiner looked (Err (Refused refusal)) = (IsBudgetRefusal refusal → ⊥
 ReturnsDefiner looked (Err (Source fault at)) = Unit {0}
 
 -- WHAT IS LEFT OF IT in a known file, where so many bytes of what it reads were asked for before: it asks for the others and a few
-pub record DefinesAfter (wanted : Wanted) (few before : ℕ) (looked : DefinerLookup) (old new : CountedState) (result : Result (Option ℕ) Fault) : Type 0 where
+pub record DefinesAfter (wanted : SymbolQuery) (few before : ℕ) (looked : DefinerLookup) (old new : CountedState) (result : Result (Option ℕ) Fault) : Type 0 where
   pub spent : ℕ
   pub costs : CallReads old new (fault_of_result result) spent
   pub within : before + spent ≤ few + definition_cost wanted looked
@@ -42,13 +42,13 @@ pub record DefinesAfter (wanted : Wanted) (few before : ℕ) (looked : DefinerLo
 
 -- what a call did that goes on with it: it asked for at most n bytes, and where the file is known, and what the lookup is made in,
 -- it does what is left
-abbrev pub DefinesOn : CountedState → CountedState → LookupTables → Wanted → Result (Option ℕ) Fault → (few n : ℕ) → (List ℕ → IsScopeOf → (ℕ → DefinerLookup → Type 0) → Type 0) → Type 0
+abbrev pub DefinesOn : CountedState → CountedState → LookupTables → SymbolQuery → Result (Option ℕ) Fault → (few n : ℕ) → (List ℕ → IsScopeOf → (ℕ → DefinerLookup → Type 0) → Type 0) → Type 0
 DefinesOn old new scope wanted result few n KeepsSourceUnlimited =
     CallDid old new (fault_of_result result) n
     (λ file. (is : IsScopeOf) → IsLookupTables file is scope → KeepsSourceUnlimited file is (λ before looked. DefinesAfter wanted few before looked old new result))
 
 -- the lookup once the numbers of the version are told, or why they are not
-abbrev pub definer_with : List ℕ → IsScopeOf → Wanted → Compared → DefinerLookup
+abbrev pub definer_with : List ℕ → IsScopeOf → SymbolQuery → CompareResult → DefinerLookup
 definer_with file scope wanted compared = elim compared.refused [
   | Some refusal ↦ unwalked compared.read refusal
   | None ↦ definer_by compared.read (definer_walk file scope wanted (λ number. is_among number compared.numbers))

@@ -13,7 +13,7 @@ use Rattle.elf_table.specs.declared.fault.Fault.TheVariants.{Refused, Source}
 use Rattle.elf_table.specs.Tables.{StringTableRange, strings_in}
 use Rattle.elf_needs.specs.Held.{LinkInfoState, with_text}
 use Rattle.elf_needs.specs.declared.links.LinkInfo.{LinkInfo}
-use Rattle.elf_needs.specs.declared.links.Need.{Need}
+use Rattle.elf_needs.specs.declared.links.NeededLibrary.{NeededLibrary}
 
 -- the text of the entry at an offset, by what is shown of it
 abbrev pub text_by : TextRoom → ℕ → Result DisplayedName Cause → Result (List ℕ) Refusal
@@ -66,12 +66,12 @@ IsHeldText texts None told = told ≡ None
 IsHeldText texts (Some index) told = (index < length texts) × (told ≡ Some (slice_index_or texts index []))
 
 -- a need, whose name is of an index
-pub record IsNeed (texts : List (List ℕ)) (need : Need) (told : NeededName) : Type 0 where
+pub record IsNeed (texts : List (List ℕ)) (need : NeededLibrary) (told : NeededName) : Type 0 where
   pub at : need.at ≡ told.at
   pub below : need.name < length texts
   pub name : slice_index_or texts need.name [] ≡ told.name
 
-abbrev pub AreNeeds : List (List ℕ) → List Need → List NeededName → Type 0
+abbrev pub AreNeeds : List (List ℕ) → List NeededLibrary → List NeededName → Type 0
 AreNeeds texts [] [] = Unit {0}
 AreNeeds texts (need ∷ needs) (told ∷ others) = IsNeed texts need told × AreNeeds texts needs others
 AreNeeds texts [] (told ∷ others) = ⊥
@@ -81,7 +81,7 @@ AreNeeds texts (need ∷ needs) [] = ⊥
 pub record KeepsLinks (old new : LinkInfoState) (links : LinkInfo) (state : LinkState) : Type 0 where
   pub more : List (List ℕ)
   pub texts : new.held.texts ≡ old.held.texts ++ more
-  pub needed : List Need
+  pub needed : List NeededLibrary
   pub needs : new.needs ≡ old.needs ++ needed
   pub are : AreNeeds new.held.texts needed state.links.needed
   pub soname : IsHeldText new.held.texts links.soname state.links.soname

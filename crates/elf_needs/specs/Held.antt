@@ -1,7 +1,7 @@
 -- Texts that are held, and what files need, with the room that is left.
 use Rattle.std.specs.Prelude.{ℕ, List, [], ◌∷◌, ◌++◌}
 use Rattle.elf_model.specs.Links.{TextRoom, room_after}
-use Rattle.elf_needs.specs.declared.links.Need.{Need}
+use Rattle.elf_needs.specs.declared.links.NeededLibrary.{NeededLibrary}
 
 -- texts one behind the other, and room for more
 pub record HeldTexts : Type 0 where
@@ -15,4 +15,4 @@ with_text held text = record { texts = held.texts ++ text ∷ []; room = room_af
 -- texts, and what files need
 pub record LinkInfoState : Type 0 where
   pub held : HeldTexts
-  pub needs : List Need
+  pub needs : List NeededLibrary

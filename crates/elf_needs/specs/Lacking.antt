@@ -2,7 +2,7 @@
 use Rattle.std.specs.Prelude.{◌≡◌, if◌then◌else◌, Option, None, Some}
 use Rattle.elf_model.specs.BoundSymbols.{is_definition}
 use Rattle.elf_hash.specs.declared.symbols.VersionRecordTable.{VersionRecordTable}
-use Rattle.elf_hash.specs.declared.symbols.Symbols.{Symbols}
+use Rattle.elf_hash.specs.declared.symbols.DynamicSymbols.{DynamicSymbols}
 
 -- a table, if there is one and it is of definitions
 abbrev pub definition_if : Option VersionRecordTable → Option VersionRecordTable
@@ -10,7 +10,7 @@ definition_if None = None
 definition_if (Some table) = if is_definition table.kind then Some table else None
 
 -- the symbols with those tables alone
-abbrev pub definitions_of : Symbols → Symbols
+abbrev pub definitions_of : DynamicSymbols → DynamicSymbols
 definitions_of symbols = record {
   index = symbols.index;
   table = symbols.table;
@@ -22,5 +22,5 @@ definitions_of symbols = record {
 }
 
 -- symbols have no table of records
-abbrev pub HasNoTable : Symbols → Type 0
+abbrev pub HasNoTable : DynamicSymbols → Type 0
 HasNoTable symbols = (symbols.definitions ≡ None) × (symbols.needs ≡ None)

@@ -1,9 +1,9 @@
 -- What a lookup in one file of several did, where what may be asked for is shared.
 use Rattle.std.specs.Prelude.{ℕ, ◌≡◌, ◌+◌, ◌<◌, ◌≤◌, List, Option, None, Some, Result, IfSome}
 use Rattle.elf_model.specs.Budget.{IsBudgetRefusal}
-use Rattle.elf_model.specs.Loader.{Wanted}
+use Rattle.elf_model.specs.Loader.{SymbolQuery}
 use Rattle.elf_model.specs.Bindings.{definition_cost, definition_lookup}
-use Rattle.elf_source.specs.Source.{CountedState, IsSourceFault, Keeps, SameView, counted}
+use Rattle.elf_source.specs.Source.{CountedState, IsSourceFault, KeepsSource, SameView, counted}
 use Rattle.elf_table.specs.Ledger.{fault_of_result}
 use Rattle.elf_table.specs.declared.fault.Fault.{Fault}
 use Rattle.elf_table.specs.declared.fault.Fault.TheVariants.{Refused, Source}
@@ -35,7 +35,7 @@ FaultLeaves old new left n (Source fault at) = IsSourceFault old.seen new.seen f
 -- WHAT A CALL WITH SO MUCH LEFT OF A BUDGET COSTS, for every source: it asked for at most n bytes, it kept the source, it leaves
 -- no limit, and where it stopped the fault says what is so
 pub record SpendsAtMost (old new : CountedState) (left : Option ℕ) (stop : Option Fault) (n : ℕ) : Type 0 where
-  pub keeps : Keeps old.seen new.seen
+  pub keeps : KeepsSource old.seen new.seen
   pub view : SameView old new
   pub grows : old.asked ≤ new.asked
   pub at_most : new.asked ≤ old.asked + n
@@ -44,23 +44,23 @@ pub record SpendsAtMost (old new : CountedState) (left : Option ℕ) (stop : Opt
 
 -- how many bytes a lookup in a known file asks for, once what it is made in is known: four counts, a word of a filter and one of
 -- a bucket, and what is read on the way
-abbrev pub kept_cost : List ℕ → ℕ → Wanted → ℕ
+abbrev pub kept_cost : List ℕ → ℕ → SymbolQuery → ℕ
 kept_cost file headers wanted = 28 + definition_cost wanted (definition_lookup file headers wanted)
 
 -- WHAT IT IS IN A KNOWN FILE: no more is asked for than the lookup costs, and its answer is the definition's
-pub record DefinesIn (file : List ℕ) (wanted : Wanted) (old new : LookupObjectState) (left : Option ℕ) (result : Result (Option ℕ) Fault) : Type 0 where
+pub record DefinesIn (file : List ℕ) (wanted : SymbolQuery) (old new : LookupObjectState) (left : Option ℕ) (result : Result (Option ℕ) Fault) : Type 0 where
   pub costs : SpendsAtMost old.src new.src left (fault_of_result result) (kept_cost file old.headers wanted)
   pub tells : ReturnsDefiner (definition_lookup file old.headers wanted) result
 
 -- WHAT A LOOKUP IN ONE FILE DID
-pub record LooksInObject (wanted : Wanted) (old new : LookupObjectState) (left_old left_new : Option ℕ) (result : Result (Option ℕ) Fault) : Type 0 where
+pub record LooksInObject (wanted : SymbolQuery) (old new : LookupObjectState) (left_old left_new : Option ℕ) (result : Result (Option ℕ) Fault) : Type 0 where
   pub costs : SpendsAtMost old.src new.src left_old (fault_of_result result) (lookup_bytes 28 old.src.seen.size wanted)
   pub same_headers : new.headers ≡ old.headers
   pub pays : SpendsBudget left_old left_new old.src.asked new.src.asked
   pub known : (file : List ℕ) → old.src.seen.file ≡ Some file → DefinesIn file wanted old new left_old result
 
 -- why a lookup in one file failed, for every source, where so much of the budget is left afterwards
-pub record FailsIn (wanted : Wanted) (old new : LookupObjectState) (left_new : Option ℕ) (fault : Fault) : Type 0 where
+pub record FailsIn (wanted : SymbolQuery) (old new : LookupObjectState) (left_new : Option ℕ) (fault : Fault) : Type 0 where
   pub left : Option ℕ
   pub pays : SpendsBudget left left_new old.src.asked new.src.asked
   pub says : FaultLeaves old.src new.src left (lookup_bytes 28 old.src.seen.size wanted) fault

@@ -2,7 +2,7 @@
 use Rattle.std.specs.Prelude.{ℕ, ◌≡◌, ◌+◌, ◌*◌, ◌/◌, ◌<◌, ◌==◌, ◌&&◌, if◌then◌else◌, Bool, true, false, List, [], ◌∷◌, length, Option, None, Some, Result, Ok, Err, IfSome}
 use Rattle.std.specs.List.{list_any}
 use Rattle.elf_model.specs.Checks.{first_refusal}
-use Rattle.elf_model.specs.Loader.{Asked, Version, asked_name}
+use Rattle.elf_model.specs.Loader.{VersionQuery, Version, asked_name}
 use Rattle.elf_model.specs.LoaderFind.{counts_check, record_cost, version_indices}
 use Rattle.elf_model.specs.LoaderScope.{LookupTables as IsScopeOf}
 use Rattle.elf_model.specs.Names.{same}
@@ -17,7 +17,7 @@ abbrev pub has_zero : List ℕ → Bool
 has_zero bytes = list_any (λ b. b == 0) bytes
 
 -- the name of the version that is asked for has no NUL
-abbrev pub HasNoNul : Asked → Type 0
+abbrev pub HasNoNul : VersionQuery → Type 0
 HasNoNul asked = IfSome (asked_name asked) (λ version. has_zero version ≡ false)
 
 -- bytes end in a NUL: the name at the index of the last one is the empty one
@@ -32,7 +32,7 @@ NamesEnd file records = (0 < records.table.count) × EndsInNul (strings_in file 
 pub record IsReadyTable (file : List ℕ) (told : IsScopeOf) (table : HashTable) : Type 0 where
   pub counts : first_refusal (counts_check file told ∷ []) ≡ None
   pub is : IsTable file told table
-  pub versions : (asked : Asked) → HasNoNul asked → (version_indices file told asked).refused ≡ None
+  pub versions : (asked : VersionQuery) → HasNoNul asked → (version_indices file told asked).refused ≡ None
 
 -- the same of the table, if there is one
 abbrev pub IsReadyIf : List ℕ → IsScopeOf → Option HashTable → Type 0

@@ -3,7 +3,7 @@ use Rattle.std.specs.Prelude.{ℕ, ◌≡◌, ◌+◌, ◌*◌, ◌/◌, ◌<◌
 use Rattle.elf_model.specs.Bindings.{SOUGHT_BYTES, is_weak, reference_at, symbols_hashed, whole_name}
 use Rattle.elf_model.specs.BoundSymbols.{file_of_version, lacks_version}
 use Rattle.elf_model.specs.Budget.{IsBudgetRefusal}
-use Rattle.elf_model.specs.Loader.{Asked, NoVersion, Version, Wanted, symbol_offset}
+use Rattle.elf_model.specs.Loader.{VersionQuery, NoVersion, Version, SymbolQuery, symbol_offset}
 use Rattle.elf_model.specs.LoaderFind.{record_cost}
 use Rattle.elf_model.specs.LoaderScope.{LookupTables as IsScopeOf, lookup_tables_of}
 use Rattle.elf_model.specs.Names.{name_bytes}
@@ -39,21 +39,21 @@ ReturnsWhole told name (Ok x) = told ≡ Ok name
 ReturnsWhole told name (Err fault) = RefusesAs told fault
 
 -- the version by its number is read
-abbrev pub ReturnsAsked : {X : Type 0} → Result Asked Refusal → List ℕ → Result X Fault → Type 0
+abbrev pub ReturnsAsked : {X : Type 0} → Result VersionQuery Refusal → List ℕ → Result X Fault → Type 0
 ReturnsAsked told version (Ok x) = told ≡ Ok (Version version)
 ReturnsAsked told version (Err fault) = RefusesAs told fault
 
 -- a version, or none
-abbrev pub asked_if : Bool → List ℕ → Asked
+abbrev pub asked_if : Bool → List ℕ → VersionQuery
 asked_if true version = Version version
 asked_if false version = NoVersion
 
-abbrev pub ReturnsVersionIf : Result Asked Refusal → List ℕ → Result VersionReference Fault → Type 0
+abbrev pub ReturnsVersionIf : Result VersionQuery Refusal → List ℕ → Result VersionReference Fault → Type 0
 ReturnsVersionIf told version (Ok asked) = told ≡ Ok (asked_if asked.versioned version)
 ReturnsVersionIf told version (Err fault) = RefusesAs told fault
 
 -- what a symbol asks others for is read: nothing, or the name with the version, and whether it is weak
-abbrev pub ReturnsSought : Result (Option Wanted) Refusal → (weak : Bool) → (name version : List ℕ) → Result (Option SymbolReference) Fault → Type 0
+abbrev pub ReturnsSought : Result (Option SymbolQuery) Refusal → (weak : Bool) → (name version : List ℕ) → Result (Option SymbolReference) Fault → Type 0
 ReturnsSought told weak name version (Ok None) = told ≡ Ok None
 ReturnsSought told weak name version (Ok (Some sought)) =
     (told ≡ Ok (Some (record { name = name; asked = asked_if sought.versioned version }))) × (sought.weak ≡ weak)

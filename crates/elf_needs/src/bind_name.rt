@@ -3,8 +3,8 @@ ghost use Rattle.elf_needs.specs.Binds.{BindsAcross};
 ghost use Rattle.elf_loader.specs.Lookups.{AreShort};
 ghost use Rattle.elf_options.specs.Wants.{query_of};
 
-use crate::object::Object;
-use elf_options::Wanted;
+use crate::object::LookupObject;
+use elf_options::SymbolQuery;
 use elf_source::Source;
 use elf_table::Fault;
 
@@ -41,9 +41,9 @@ pub struct BindFault {
 /// That of the first file in which the lookup fails, as [`elf_loader::look_up`] has it behind what it is
 /// made in; the name of the symbol's version is not told.
 pub fn bind<S: Source>(
-    objects: &mut [Object<S>],
+    objects: &mut [LookupObject<S>],
     left: &mut Option<u64>,
-    wanted: &Wanted<'_>,
+    wanted: &SymbolQuery<'_>,
 ) -> Result<BindResult, BindFault>
     requires { AreShort (query_of wanted.now) }
     ensures { BindsAcross (query_of wanted.now) objects.old objects.new left.old left.new result }

@@ -7,7 +7,7 @@ ghost use Rattle.elf_format.specs.Fronts.{front_of};
 ghost use Rattle.elf_model.specs.BindingLines.{binding_front, binding_line, binding_state_name, definer_fields};
 
 use elf_format::{
-    Columns, LineBuf, LinePrefix, Object, Render, begin_named, put_decimal, put_name_or_decimal,
+    Columns, Json, LineBuf, LinePrefix, Render, begin_named, put_decimal, put_name_or_decimal,
     put_text, show_named,
 };
 use elf_model::{BindingState, Format};
@@ -90,7 +90,7 @@ pub fn show_binding<W: Sink>(
     let mut front = LinePrefix::new();
     match format {
         Format::Columns => binding_row::<Columns>(&mut front, object, symbol, state),
-        Format::Object => binding_row::<Object>(&mut front, object, symbol, state),
+        Format::Object => binding_row::<Json>(&mut front, object, symbol, state),
     }
     show_named(&mut front, name, false, out)
 }

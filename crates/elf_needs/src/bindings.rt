@@ -9,7 +9,7 @@ use crate::binding_rows::show_binding;
 use crate::binding_states::is_unbound;
 use crate::bound_states::{DefinitionAt, item_of};
 use crate::faults::is_budget_fault;
-use crate::object::Object;
+use crate::object::LookupObject;
 use crate::open_objects::OpenObjects;
 use crate::reference_names::ReferenceNames;
 use crate::search_scope::{SearchScope, WriteEnd, either, failing, index_at};
@@ -66,7 +66,7 @@ fn status_after(came: WriteEnd, status: u8) -> u8
 /// # Errors
 /// A read or the output failed.
 fn bind_all<S: Source, W: Sink>(
-    objects: &mut [Object<S>],
+    objects: &mut [LookupObject<S>],
     among: &SearchScope<'_>,
     left: &mut Option<u64>,
     out: &mut Out<W>,
@@ -93,7 +93,7 @@ fn bind_all<S: Source, W: Sink>(
 /// # Errors
 /// A read or the output failed.
 fn bind_object<S: Source, W: Sink>(
-    objects: &mut [Object<S>],
+    objects: &mut [LookupObject<S>],
     among: &SearchScope<'_>,
     place: usize,
     names: &mut ReferenceNames,
@@ -128,7 +128,7 @@ fn bind_object<S: Source, W: Sink>(
 /// # Errors
 /// A read or the output failed.
 fn bind_symbol<S: Source, W: Sink>(
-    objects: &mut [Object<S>],
+    objects: &mut [LookupObject<S>],
     among: &SearchScope<'_>,
     at: DefinitionAt,
     names: &mut ReferenceNames,

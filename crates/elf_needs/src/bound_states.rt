@@ -10,7 +10,7 @@ ghost use Rattle.elf_needs.specs.Bound.{AsksAll, OfSought, OnlyLimited, ReturnsI
 use crate::bind_name::{BindFault, BindResult, bind};
 use crate::binding_states::unbound_state;
 use crate::faults::is_reported_alone;
-use crate::object::Object;
+use crate::object::LookupObject;
 use crate::reference::SymbolReference;
 use crate::reference_names::{ReferenceNames, show_name};
 use crate::search_scope::{SearchScope, index_at, place_of};
@@ -29,9 +29,9 @@ pub(crate) struct DefinitionAt {
 /// asks for nothing.
 ///
 /// # Errors
-/// Those of [`Object::sought`], and of [`state_of`].
+/// Those of [`LookupObject::sought`], and of [`state_of`].
 pub(crate) fn item_of<S: Source>(
-    objects: &mut [Object<S>],
+    objects: &mut [LookupObject<S>],
     among: &SearchScope<'_>,
     at: DefinitionAt,
     names: &mut ReferenceNames,
@@ -67,7 +67,7 @@ pub(crate) fn item_of<S: Source>(
 /// # Errors
 /// A read failed, or the budget is used up; or a fault of the name of the needed file.
 fn state_of<S: Source>(
-    objects: &mut [Object<S>],
+    objects: &mut [LookupObject<S>],
     among: &SearchScope<'_>,
     at: DefinitionAt,
     sought: &SymbolReference,
@@ -112,7 +112,7 @@ fn state_of<S: Source>(
 /// # Errors
 /// A fault of the name of the needed file; a read failed; or the budget is used up.
 fn lacks_version<S: Source>(
-    objects: &mut [Object<S>],
+    objects: &mut [LookupObject<S>],
     among: &SearchScope<'_>,
     at: DefinitionAt,
     sought: &SymbolReference,
@@ -153,7 +153,7 @@ fn lacks_version<S: Source>(
 /// # Errors
 /// A read failed; or the budget is used up.
 fn lacks_in<S: Source>(
-    objects: &mut [Object<S>],
+    objects: &mut [LookupObject<S>],
     among: &SearchScope<'_>,
     name: &[u8],
     version: &[u8],

@@ -1,7 +1,7 @@
 //! A source over another, of which some pages are kept.
 ghost use Rattle.std.specs.Prelude.{◌≡◌, ℕ, ◌+◌, ◌≤◌, List, length, take, drop, Some, IfErr, OnOk, ⊤};
 ghost use Rattle.elf_needs.specs.Pages.{GivesOf};
-ghost use Rattle.elf_source.specs.Source.{Keeps, IsSourceFault};
+ghost use Rattle.elf_source.specs.Source.{KeepsSource, IsSourceFault};
 
 use crate::page::{PAGE_BYTES, Page};
 use elf_source::{Source, SourceFault};
@@ -87,7 +87,7 @@ impl<S: Source> Source for CachedSource<S> {
         ensures slice { (file : List ℕ) → self.old.file ≡ Some file → OnOk result
             (out.new ≡ take (length out.old) (drop at file)) }
         ensures faults { IfErr result (IsSourceFault self.old self.new) }
-        ensures keeps { Keeps self.old self.new }
+        ensures keeps { KeepsSource self.old self.new }
     {
         if self.give(at, out) {
             return Ok(());

@@ -18,7 +18,7 @@ use elf_hash::{
     ChainResult, HashTable, LookupTables, Matcher, SymbolMatch, counts, excludes, walk,
 };
 use elf_loader::{VersionIndexSet, VersionMatcher, version_indices};
-use elf_options::Wanted;
+use elf_options::SymbolQuery;
 use elf_record::numbers::SHN_UNDEF;
 use elf_source::{Counted, Source};
 use elf_table::Fault;
@@ -75,7 +75,7 @@ pub(crate) fn find_definer<S: Source>(
     src: &mut Counted<S>,
     scope: &LookupTables,
     ready: &Option<HashTable>,
-    wanted: &Wanted<'_>,
+    wanted: &SymbolQuery<'_>,
 ) -> Result<Option<u64>, Fault>
     requires may { MayLookOn src.old scope.now (query_of wanted.now) }
     requires place { IfSome ready.now (λ table. place_of_table table ≡ scope.now.hash) }
@@ -96,7 +96,7 @@ pub(crate) fn find_definer<S: Source>(
 fn definition_counted<S: Source>(
     src: &mut Counted<S>,
     scope: &LookupTables,
-    wanted: &Wanted<'_>,
+    wanted: &SymbolQuery<'_>,
 ) -> Result<Option<u64>, Fault>
     requires { MayLookOn src.old scope.now (query_of wanted.now) }
     ensures { DefinesOn src.old src.new scope.now (query_of wanted.now) result 28
@@ -116,7 +116,7 @@ fn definition_unless<S: Source>(
     src: &mut Counted<S>,
     scope: &LookupTables,
     table: &HashTable,
-    wanted: &Wanted<'_>,
+    wanted: &SymbolQuery<'_>,
 ) -> Result<Option<u64>, Fault>
     requires may { MayLookOn src.old scope.now (query_of wanted.now) }
     requires place { place_of_table table.now ≡ scope.now.hash }
@@ -141,7 +141,7 @@ fn definition_in_table<S: Source>(
     src: &mut Counted<S>,
     scope: &LookupTables,
     table: &HashTable,
-    wanted: &Wanted<'_>,
+    wanted: &SymbolQuery<'_>,
 ) -> Result<Option<u64>, Fault>
     requires may { MayLookOn src.old scope.now (query_of wanted.now) }
     requires place { place_of_table table.now ≡ scope.now.hash }
@@ -162,7 +162,7 @@ fn definition_along<S: Source>(
     src: &mut Counted<S>,
     scope: &LookupTables,
     table: &HashTable,
-    wanted: &Wanted<'_>,
+    wanted: &SymbolQuery<'_>,
     numbers: &VersionIndexSet,
 ) -> Result<Option<u64>, Fault>
     requires may { MayLookOn src.old scope.now (query_of wanted.now) }

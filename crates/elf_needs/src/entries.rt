@@ -13,7 +13,7 @@ ghost use Rattle.elf_table.specs.Tables.{TableInBounds, StringsInBounds, size_of
 ghost use Rattle.elf_needs.specs.Entries.{KeepsLinks, ReturnsLinks, ReturnsStrings, with_index};
 ghost use Rattle.elf_needs.specs.Held.{LinkInfoState};
 
-use crate::links::{LinkInfo, LinkInfoStore, Need};
+use crate::links::{LinkInfo, LinkInfoStore, NeededLibrary};
 use elf_note::{DynamicStrings, dynamic_rows, entry_in};
 use elf_record::numbers::{DT_NEEDED, DT_RPATH, DT_RUNPATH, DT_SONAME};
 use elf_record::{Cause, Dyn};
@@ -101,7 +101,7 @@ fn with_entry<S: Source>(
     if tag != DT_NEEDED {
         return Ok(with_text(links, tag, text));
     }
-    if store.push_needed(Need { at, name: text }) {
+    if store.push_needed(NeededLibrary { at, name: text }) {
         return Ok(links);
     }
     refused(at, Cause::TooLong)

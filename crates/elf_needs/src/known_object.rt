@@ -2,7 +2,7 @@
 ghost use Rattle.std.specs.Prelude.{◌≡◌, is_some, option_map, position};
 ghost use Rattle.elf_needs.specs.Called.{called_by, is_called, is_text, index_by_short_name, text_told};
 
-use crate::links::{LinkInfo, LinkInfoStore, Need};
+use crate::links::{LinkInfo, LinkInfoStore, NeededLibrary};
 use crate::paths::dir_of_path;
 use crate::texts::StringArena;
 use std::alloc::{AllocError, Global};
@@ -90,7 +90,7 @@ impl ObjectList {
     }
 
     /// The need of an index, if there is one.
-    pub(crate) fn need(&self, index: usize) -> Option<Need> {
+    pub(crate) fn need(&self, index: usize) -> Option<NeededLibrary> {
         self.links.need(index)
     }
 

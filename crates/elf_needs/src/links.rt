@@ -19,7 +19,7 @@ const TEXT_CAP: NameLimit = NameLimit { bytes: 4096 };
 
 /// A library that a file needs.
 #[derive(Clone, Copy)]
-pub struct Need {
+pub struct NeededLibrary {
     /// The file offset of the dynamic entry that tells of it.
     pub at: u64,
     /// The index of its name.
@@ -42,7 +42,7 @@ pub struct LinkInfo {
 #[derive(Drop)]
 pub struct LinkInfoStore {
     texts: StringArena,
-    needs: Vec<Need>,
+    needs: Vec<NeededLibrary>,
     /// The text that is read.
     name: NameBuf,
 }
@@ -93,7 +93,7 @@ impl LinkInfoStore {
     }
 
     /// The need of an index, if there is one.
-    pub fn need(&self, index: usize) -> Option<Need>
+    pub fn need(&self, index: usize) -> Option<NeededLibrary>
         ensures { result ≡ slice_get self.now.needs index }
     {
         match self.needs.get(index) {
@@ -130,7 +130,7 @@ impl LinkInfoStore {
     }
 
     /// Keeps a need, whose name is the text that was kept last. Answers whether there is room for it.
-    pub(crate) fn push_needed(&mut self, need: Need) -> bool
+    pub(crate) fn push_needed(&mut self, need: NeededLibrary) -> bool
         ensures kept { result ≡ nat_lt (length self.old.needs) (length self.old.held.texts) }
         ensures need { self.new ≡ (if result then record {
           held = self.old.held;

@@ -10,9 +10,9 @@ ghost use Rattle.elf_model.specs.Loader.{Version};
 ghost use Rattle.elf_model.specs.LoaderScope.{LookupTables as IsScopeOf};
 ghost use Rattle.elf_hash.specs.Symbols.{IsDynamicSymbols, DynamicSymbolsInBounds};
 
-use elf_hash::{Symbols, VersionRecordTable};
+use elf_hash::{DynamicSymbols, VersionRecordTable};
 use elf_loader::version_indices;
-use elf_options::Asked;
+use elf_options::VersionQuery;
 use elf_record::VersionKind;
 use elf_source::{Counted, Source};
 use elf_table::Fault;
@@ -23,7 +23,7 @@ use elf_table::Fault;
 /// Those of [`version_indices`], of the definitions.
 pub(crate) fn lacks_version<S: Source>(
     src: &mut Counted<S>,
-    symbols: &Symbols,
+    symbols: &DynamicSymbols,
     version: &[u8],
 ) -> Result<bool, Fault>
     requires most { length version.now ≤ 4096 }
@@ -40,22 +40,22 @@ pub(crate) fn lacks_version<S: Source>(
     if is_bare(&own) {
         return Ok(false);
     }
-    let numbers = version_indices(src, &own, &Asked::Version(version))?;
+    let numbers = version_indices(src, &own, &VersionQuery::Version(version))?;
     Ok(numbers.is_empty())
 }
 
 /// Whether symbols have no table of records.
-fn is_bare(symbols: &Symbols) -> bool
+fn is_bare(symbols: &DynamicSymbols) -> bool
     ensures { MatchBool result (HasNoTable symbols.now) (HasNoTable symbols.now → ⊥) }
 {
     symbols.definitions.is_none() && symbols.needs.is_none()
 }
 
 /// The symbols with those of their tables of records alone that are definitions.
-fn definitions_of(symbols: &Symbols) -> Symbols
+fn definitions_of(symbols: &DynamicSymbols) -> DynamicSymbols
     ensures { result ≡ definitions_of symbols.now }
 {
-    Symbols {
+    DynamicSymbols {
         index: symbols.index,
         table: symbols.table,
         names: symbols.names,

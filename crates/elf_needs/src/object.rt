@@ -15,14 +15,14 @@ use crate::ready::ready_table;
 use crate::reference::{SymbolReference, reference_of, whole_name};
 use elf_hash::{HashTable, LookupTables, find_lookup_tables};
 use elf_note::VersionRecord;
-use elf_options::Wanted;
+use elf_options::SymbolQuery;
 use elf_source::{Counted, Source};
 use elf_table::{Fault, HeaderStore, NameBuf};
 use std::marker::Model;
 
 /// A file that names are looked for in: its source, and what a lookup in it is made in.
 #[derive(Drop)]
-pub struct Object<S: Source> {
+pub struct LookupObject<S: Source> {
     source: Counted<S>,
     scope: LookupTables,
     headers: u16,
@@ -30,7 +30,7 @@ pub struct Object<S: Source> {
     ready: Option<HashTable>,
 }
 
-impl<S: Source> Model for Object<S> {
+impl<S: Source> Model for LookupObject<S> {
     ghost use Rattle.elf_needs.specs.Kept.{IsKept, LookupObjectState};
 
     ghost Value = { LookupObjectState };
@@ -40,7 +40,7 @@ impl<S: Source> Model for Object<S> {
     ghost invariant = { λ o. IsKept o.source.seen o.headers o.scope o.ready };
 }
 
-impl<S: Source> Object<S> {
+impl<S: Source> LookupObject<S> {
     /// Finds what a lookup in a file is made in, as [`find_lookup_tables`] does, once, and keeps it: by its program
     /// headers, since the source hides where section headers are. The headers are loaded into the store, which
     /// is free again afterwards.
@@ -50,7 +50,7 @@ impl<S: Source> Object<S> {
     pub fn open(
         source: Counted<S>,
         store: &mut HeaderStore,
-    ) -> Result<Object<S>, (Counted<S>, Fault)>
+    ) -> Result<LookupObject<S>, (Counted<S>, Fault)>
         requires by_segments { source.hides ≡ true }
         ensures did { CallDid source (source_of result) (why_back result)
             (64 + 64 * store.old.slots + source.seen.size)
@@ -59,7 +59,7 @@ impl<S: Source> Object<S> {
     {
         let mut source = source;
         match find_lookup_tables(&mut source, store) {
-            Ok(scope) => Ok(Object {
+            Ok(scope) => Ok(LookupObject {
                 source,
                 scope,
                 headers: store.slots(),
@@ -99,7 +99,7 @@ impl<S: Source> Object<S> {
     pub(crate) fn look(
         &mut self,
         left: &mut Option<u64>,
-        wanted: &Wanted<'_>,
+        wanted: &SymbolQuery<'_>,
     ) -> Result<Option<u64>, Fault>
         requires { AreShort (query_of wanted.now) }
         ensures { LooksInObject (query_of wanted.now) self.old self.new left.old left.new result }
@@ -153,7 +153,7 @@ impl<S: Source> Object<S> {
         sought
     }
 
-    /// Reads the name of the needed file whose record is told by [`Object::sought`]. No more is asked for
+    /// Reads the name of the needed file whose record is told by [`LookupObject::sought`]. No more is asked for
     /// than what is left of a budget, where there is one; what was asked for is taken off. Afterwards no
     /// limit is set.
     ///

@@ -6,7 +6,7 @@ ghost use Rattle.elf_needs.specs.ObjectLines.{file_state, object_front, object_l
 
 use crate::states::ObjectState;
 use elf_format::{
-    Columns, LineBuf, LinePrefix, Object, Render, begin, begin_named, put_closing, put_decimal,
+    Columns, Json, LineBuf, LinePrefix, Render, begin, begin_named, put_closing, put_decimal,
     put_fault, put_hexadecimal, put_name_or_decimal, put_text, show_named,
 };
 use elf_model::{FileStatus, Format};
@@ -78,7 +78,7 @@ pub fn show_object<W: Sink>(
     let mut front = LinePrefix::new();
     match format {
         Format::Columns => object_row::<Columns>(&mut front, index, needer, state),
-        Format::Object => object_row::<Object>(&mut front, index, needer, state),
+        Format::Object => object_row::<Json>(&mut front, index, needer, state),
     }
     show_named(&mut front, path, false, out)
 }
@@ -93,7 +93,7 @@ pub fn show_too_many<W: Sink>(place: u64, format: Format, out: &mut Out<W>) -> R
 {
     match format {
         Format::Columns => out.put(&too_many_row::<Columns>(place)),
-        Format::Object => out.put(&too_many_row::<Object>(place)),
+        Format::Object => out.put(&too_many_row::<Json>(place)),
     }
 }
 

@@ -4,7 +4,7 @@ ghost use Rattle.elf_needs.specs.Opens.{AsksKept, KeepsOne};
 
 use crate::budget::spend_budget;
 use crate::cached_source::CachedSource;
-use crate::object::Object;
+use crate::object::LookupObject;
 use elf_record::{Cause, Refusal};
 use elf_source::{Counted, Source};
 use elf_table::{Fault, HeaderStore};
@@ -15,7 +15,7 @@ use std::alloc::{AllocError, Global};
 #[derive(Drop)]
 pub struct OpenObjects<S: Source + Drop> {
     /// The objects.
-    pub objects: Vec<Object<S>>,
+    pub objects: Vec<LookupObject<S>>,
     /// Their indexes among all.
     pub indexes: Vec<u16>,
     most: usize,
@@ -38,7 +38,7 @@ impl<S: Source + Drop> OpenObjects<S> {
     }
 
     /// Puts an object behind the others.
-    fn push(&mut self, index: u16, object: Object<S>)
+    fn push(&mut self, index: u16, object: LookupObject<S>)
         ensures { KeepsOne self.old.objects.items self.new.objects.items object }
     {
         if self.indexes.push(index).is_ok() {
@@ -54,7 +54,7 @@ impl<S: Source + Drop> OpenObjects<CachedSource<S>> {
     /// off. Without a budget whole pages of it are read.
     ///
     /// # Errors
-    /// Those of [`Object::open`] but `NoHash`.
+    /// Those of [`LookupObject::open`] but `NoHash`.
     pub fn keep(
         &mut self,
         index: u16,
@@ -71,7 +71,7 @@ impl<S: Source + Drop> OpenObjects<CachedSource<S>> {
         let mut source = Counted::new(CachedSource::new(source, keeps));
         source.mask_section_headers(true);
         source.limit(*left);
-        match Object::open(source, store) {
+        match LookupObject::open(source, store) {
             Ok(object) => {
                 let mut object = object;
                 spend_budget(left, object.asked());

@@ -1,7 +1,7 @@
 //! A page of a file.
 ghost use Rattle.std.specs.Prelude.{◌≡◌, ℕ, ◌<◌, List, [], Some};
 ghost use Rattle.elf_needs.specs.Pages.{GivesHeld, IsPageOf};
-ghost use Rattle.elf_source.specs.Source.{Keeps};
+ghost use Rattle.elf_source.specs.Source.{KeepsSource};
 
 use elf_source::Source;
 use std::marker::Model;
@@ -60,7 +60,7 @@ impl Page {
     /// fails nothing is held.
     pub(crate) fn load<S: Source>(&mut self, source: &mut S, at: u64)
         requires { at < (S.seen source.old).size }
-        ensures keeps { Keeps (S.seen source.old) (S.seen source.new) }
+        ensures keeps { KeepsSource (S.seen source.old) (S.seen source.new) }
         ensures held { (file : List ℕ) → (S.seen source.old).file ≡ Some file →
             IsPageOf file self.new }
     {

@@ -10,7 +10,7 @@ ghost use Rattle.elf_options.specs.Wants.{asked_of};
 
 use elf_hash::{HashTable, LookupTables, VersionRecordTable, counts};
 use elf_loader::version_indices;
-use elf_options::Asked;
+use elf_options::VersionQuery;
 use elf_source::{Counted, Source};
 use elf_table::Fault;
 
@@ -31,7 +31,7 @@ pub(crate) fn ready_table<S: Source>(
 {
     let table = counts(src, &scope.hash)?;
     let symbols = &scope.symbols;
-    let _numbers = version_indices(src, symbols, &Asked::Version(&[]))?;
+    let _numbers = version_indices(src, symbols, &VersionQuery::Version(&[]))?;
     let definitions_end = ends_in_nul(src, &symbols.definitions)?;
     let needs_end = ends_in_nul(src, &symbols.needs)?;
     Ok(table_where(definitions_end, needs_end, table))
@@ -68,7 +68,7 @@ fn ends_in_nul<S: Source>(
 }
 
 /// Whether the name of the version that is asked for has a NUL.
-pub(crate) fn has_nul(asked: &Asked<'_>) -> bool
+pub(crate) fn has_nul(asked: &VersionQuery<'_>) -> bool
     ensures { MatchBool result ⊤ (HasNoNul (asked_of asked.now)) }
 {
     match asked.name() {

@@ -6,14 +6,14 @@ ghost use Rattle.elf_loader.specs.Naming.{IsFileIf};
 ghost use Rattle.elf_loader.specs.Tables.{max_versions_of};
 ghost use Rattle.elf_model.specs.Bindings.{SOUGHT_BYTES, is_reference, is_weak, reference_at, reference_by_index, reference_version, whole_name};
 ghost use Rattle.elf_model.specs.BoundSymbols.{file_before, file_of_version};
-ghost use Rattle.elf_model.specs.Loader.{Symbols as AreSymbolsOf, is_among, readings, symbol_offset};
+ghost use Rattle.elf_model.specs.Loader.{DynamicSymbols as AreSymbolsOf, is_among, readings, symbol_offset};
 ghost use Rattle.elf_model.specs.Names.{name_bytes};
 ghost use Rattle.elf_model.specs.Numbers.{STB_GLOBAL, STB_WEAK, STB_GNU_UNIQUE};
 ghost use Rattle.elf_record.specs.Sym.{IsSym};
 ghost use Rattle.elf_hash.specs.Symbols.{IsDynamicSymbols, DynamicSymbolsInBounds};
 ghost use Rattle.elf_table.specs.Tables.{StringsInBounds, strings_in};
 
-use elf_hash::Symbols;
+use elf_hash::DynamicSymbols;
 use elf_loader::{name_of, read_half};
 use elf_note::VersionRecord;
 use elf_record::gnu_numbers::STB_GNU_UNIQUE;
@@ -62,7 +62,7 @@ const NO_VERSION: VersionReference = VersionReference {
 /// has; at what holds the name of the version the same as of the symbol's. Else a fault of a read.
 pub(crate) fn reference_symbol<S: Source>(
     src: &mut Counted<S>,
-    symbols: &Symbols,
+    symbols: &DynamicSymbols,
     index: u64,
     name: &mut NameBuf,
     version: &mut NameBuf,
@@ -97,7 +97,7 @@ pub(crate) fn reference_symbol<S: Source>(
 /// Those of [`reference_symbol`].
 pub(crate) fn reference_of<S: Source>(
     src: &mut Counted<S>,
-    symbols: &Symbols,
+    symbols: &DynamicSymbols,
     index: u64,
     name: &mut NameBuf,
     version: &mut NameBuf,
@@ -167,7 +167,7 @@ pub(crate) fn whole_name<S: Source>(
 /// Those of [`reference_symbol`] behind its name.
 fn reference_version<S: Source>(
     src: &mut Counted<S>,
-    symbols: &Symbols,
+    symbols: &DynamicSymbols,
     index: u64,
     version: &mut NameBuf,
 ) -> Result<VersionReference, Fault>
@@ -205,7 +205,7 @@ fn reference_version<S: Source>(
 /// Those of [`reference_symbol`] behind the word.
 fn by_number<S: Source>(
     src: &mut Counted<S>,
-    symbols: &Symbols,
+    symbols: &DynamicSymbols,
     number: u16,
     at: u64,
     version: &mut NameBuf,

@@ -8,7 +8,7 @@ ghost use Rattle.elf_model.specs.Loader.{asked_name};
 ghost use Rattle.elf_options.specs.Wants.{query_of};
 
 use arrayvec::ArrayVec;
-use elf_options::{Asked, Wanted};
+use elf_options::{SymbolQuery, VersionQuery};
 use elf_table::NameBuf;
 
 /// How many bytes a name with its version has at most: both with what stands between them.
@@ -42,21 +42,21 @@ impl ReferenceNames {
     }
 
     /// What is looked for.
-    pub fn wanted(&self, versioned: bool) -> Wanted<'_>
+    pub fn wanted(&self, versioned: bool) -> SymbolQuery<'_>
         ensures short { AreShort (query_of result) }
         ensures name { (query_of result).name ≡ self.now.name }
         ensures asked { (query_of result).asked ≡ asked_if versioned self.now.version }
     {
         let name = self.name.bytes();
         if !versioned {
-            return Wanted {
+            return SymbolQuery {
                 name,
-                asked: Asked::NoVersion,
+                asked: VersionQuery::NoVersion,
             };
         }
-        Wanted {
+        SymbolQuery {
             name,
-            asked: Asked::Version(self.version.bytes()),
+            asked: VersionQuery::Version(self.version.bytes()),
         }
     }
 }

@@ -6,7 +6,7 @@ use crate::buffers::NeedsBuffers;
 use crate::cached_source::CachedSource;
 use crate::candidates::FileSource;
 use crate::known_object::{KnownObject, MOST_OBJECTS, ObjectList};
-use crate::links::{LinkInfo, Need};
+use crate::links::{LinkInfo, NeededLibrary};
 use crate::object_file::{ObjectFile, ReadAccount};
 use crate::object_rows::{show_object, show_too_many};
 use crate::open_objects::OpenObjects;
@@ -47,7 +47,7 @@ pub struct NeedsOptions<'a> {
 
 /// What an object comes to: its state, what its dynamic entries tell, and where its needs are.
 #[derive(Clone, Copy)]
-struct Told {
+struct ObjectReport {
     state: ObjectState,
     links: LinkInfo,
     needs: usize,
@@ -65,7 +65,7 @@ pub struct Listed {
 
 /// Whether a walk goes on.
 #[derive(Clone, Copy, PartialEq, Eq)]
-enum Onward {
+enum ControlFlow {
     /// It does.
     Yes,
     /// There are more objects than are listed.
@@ -152,7 +152,7 @@ impl<W: Sink> DependencyWalk<'_, '_, W> {
             let Some(known) = self.objects.get(index) else {
                 return Ok(self.listed(true));
             };
-            if self.needs_of(rt, index, &known, opened)? == Onward::TooMany {
+            if self.needs_of(rt, index, &known, opened)? == ControlFlow::TooMany {
                 return Ok(self.listed(false));
             }
         }
@@ -189,7 +189,10 @@ impl<W: Sink> DependencyWalk<'_, '_, W> {
     }
 
     /// Reads the machine of the program, and what it needs.
-    fn read_program<S: Source>(&mut self, file: &mut ObjectFile<S>) -> Result<Told, NeedsFault>
+    fn read_program<S: Source>(
+        &mut self,
+        file: &mut ObjectFile<S>,
+    ) -> Result<ObjectReport, NeedsFault>
         ensures asks { AsksFile file.old file.new self.old.search.account self.new.search.account }
     {
         match file.machine(&mut self.search.account) {
@@ -208,7 +211,7 @@ impl<W: Sink> DependencyWalk<'_, '_, W> {
         index: usize,
         known: &KnownObject,
         opened: &mut OpenFiles<R::File>,
-    ) -> Result<Onward, NeedsFault>
+    ) -> Result<ControlFlow, NeedsFault>
     where
         R::File: FileExt,
         ensures asks { AsksFiles opened.old.objects.items opened.new.objects.items 0
@@ -216,7 +219,7 @@ impl<W: Sink> DependencyWalk<'_, '_, W> {
     {
         for place in known.needs..known.needs_end {
             let Some(need) = self.objects.need(place) else {
-                return Ok(Onward::Yes);
+                return Ok(ControlFlow::Yes);
             };
             let objects = &self.objects;
             if objects.has_name(objects.links.text(need.name)) {
@@ -225,11 +228,11 @@ impl<W: Sink> DependencyWalk<'_, '_, W> {
             if self.objects.len() >= MOST_OBJECTS {
                 self.status = 1;
                 show_too_many(need.at, self.format, &mut self.out).map_err(NeedsFault::Out)?;
-                return Ok(Onward::TooMany);
+                return Ok(ControlFlow::TooMany);
             }
             self.take(rt, index, known, need, opened)?;
         }
-        Ok(Onward::Yes)
+        Ok(ControlFlow::Yes)
     }
 
     /// Looks for a library that an object needs, reads it, and writes its line.
@@ -238,7 +241,7 @@ impl<W: Sink> DependencyWalk<'_, '_, W> {
         rt: &R,
         index: usize,
         needer: &KnownObject,
-        need: Need,
+        need: NeededLibrary,
         opened: &mut OpenFiles<R::File>,
     ) -> Result<(), NeedsFault>
     where
@@ -298,13 +301,13 @@ impl<W: Sink> DependencyWalk<'_, '_, W> {
     /// Reads what a file needs. What was asked of it is taken off the budget. It is not made part of its
     /// callers, whose stack would hold its buffers twice.
     #[inline(never)]
-    fn read<S: Source>(&mut self, file: &mut ObjectFile<S>) -> Result<Told, NeedsFault>
+    fn read<S: Source>(&mut self, file: &mut ObjectFile<S>) -> Result<ObjectReport, NeedsFault>
         ensures asks { AsksFile file.old file.new self.old.search.account self.new.search.account }
     {
         let needs = self.objects.links.needs();
         let account = &mut self.search.account;
         match file.links(account, &mut self.store, &mut self.objects.links) {
-            Ok(links) => Ok(Told {
+            Ok(links) => Ok(ObjectReport {
                 state: ObjectState::Found,
                 links,
                 needs,
@@ -320,9 +323,9 @@ impl<W: Sink> DependencyWalk<'_, '_, W> {
     fn keep<S: Source + Drop>(
         &mut self,
         file: ObjectFile<S>,
-        told: Result<Told, NeedsFault>,
+        told: Result<ObjectReport, NeedsFault>,
         opened: &mut OpenObjects<CachedSource<S>>,
-    ) -> Result<Told, NeedsFault>
+    ) -> Result<ObjectReport, NeedsFault>
         ensures asks { AsksFiles opened.old.objects.items opened.new.objects.items file.asked
             self.old.search.account self.new.search.account }
     {
@@ -347,7 +350,13 @@ impl<W: Sink> DependencyWalk<'_, '_, W> {
     }
 
     /// Adds an object, and answers its index.
-    fn add(&mut self, needer: Option<u16>, name: Option<u32>, path: Option<u32>, told: &Told) -> u16
+    fn add(
+        &mut self,
+        needer: Option<u16>,
+        name: Option<u32>,
+        path: Option<u32>,
+        told: &ObjectReport,
+    ) -> u16
         ensures account { self.new.search.account ≡ self.old.search.account }
     {
         if !matches!(told.state, ObjectState::Found) {
@@ -366,8 +375,8 @@ impl<W: Sink> DependencyWalk<'_, '_, W> {
 }
 
 /// What an object comes to of which nothing but its state is told.
-fn told_alone(state: ObjectState) -> Told {
-    Told {
+fn told_alone(state: ObjectState) -> ObjectReport {
+    ObjectReport {
         state,
         links: LinkInfo {
             soname: None,

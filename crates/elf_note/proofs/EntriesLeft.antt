@@ -8,7 +8,7 @@ use Rattle.elf_model.specs.Records.{d_tag, d_un}
 use Rattle.elf_model.proofs.DynamicLaws.{count-zero, count-null, count-more, value-none, value-here, value-more}
 use Rattle.elf_model.proofs.Slices.{field-slice}
 use Rattle.elf_table.specs.Cursors.{CursorState, GivesRow, Advances, next_row}
-use Rattle.elf_table.specs.Tables.{Rows}
+use Rattle.elf_table.specs.Tables.{TableRange}
 use Rattle.elf_note.specs.DynCursors.{DynCursorState, AdvancesEntries, GivesEntry, EndsEntries, entries_left, first_value, value_here}
 
 is-same : (x y : ℕ) → (x == y) ≡ true → x ≡ y
@@ -34,7 +34,7 @@ pub next-place : (file : Option (List ℕ)) (old new : CursorState) → GivesRow
 next-place file old new g e =
     let next = g.next_index in
     let moved : old.table.at + new.index * 16 ≡ old.table.at + old.index * 16 + 16 = omega arith in
-    ap (λ (t : Rows). t.at + new.index * t.entry) g.same_table ∙ ap (λ (x : ℕ). old.table.at + new.index * x) e ∙ moved
+    ap (λ (t : TableRange). t.at + new.index * t.entry) g.same_table ∙ ap (λ (x : ℕ). old.table.at + new.index * x) e ∙ moved
     ∙ ap (λ (x : ℕ). old.table.at + old.index * x + 16) (sym e)
 
 one-less : (file : List ℕ) (old new : DynCursorState) → old.ended ≡ false → new.ended ≡ (d_tag file (next_row old.cursor) == DT_NULL)

@@ -4,13 +4,13 @@ use Rattle.elf_model.specs.Bytes.{slice}
 use Rattle.elf_source.specs.Source.{CountedState, ReadsUpTo}
 use Rattle.elf_source.proofs.ReadsLaws.{ReadsUpTo-none, ReadsUpTo-then, ReadsUpTo-to}
 use Rattle.elf_table.specs.Cursors.{HoldsRows, next_row, unread_bytes}
-use Rattle.elf_table.specs.Tables.{Rows, size_of}
+use Rattle.elf_table.specs.Tables.{TableRange, size_of}
 use Rattle.elf_note.specs.DynCursors.{DynCursorState, GivesEntry, StartsEntries, entries_left}
 use Rattle.elf_note.proofs.EntriesLeft.{next-place}
 
 -- where a loop over the entries of a table stands: its cursor did not fail, what was asked for is no longer unread, and what is
 -- held is the file's
-pub record GoesOver (table : Rows) (before after : CountedState) (d : DynCursorState) : Type 0 where
+pub record GoesOver (table : TableRange) (before after : CountedState) (d : DynCursorState) : Type 0 where
   pub same_table : d.cursor.table ≡ table
   pub not_failed : d.cursor.failed ≡ None
   pub reads : ReadsUpTo before after (size_of table)
@@ -18,7 +18,7 @@ pub record GoesOver (table : Rows) (before after : CountedState) (d : DynCursorS
   pub agrees : (file : List ℕ) → before.seen.file ≡ Some file → HoldsRows file d.cursor
 
 -- before the first entry
-pub goes-start : {table : Rows} (c : CountedState) {d : DynCursorState} → StartsEntries table d → GoesOver table c c d
+pub goes-start : {table : TableRange} (c : CountedState) {d : DynCursorState} → StartsEntries table d → GoesOver table c c d
 goes-start {table} c {d} s =
     let unread = s.unread in
     let well = s.not_failed in
@@ -32,11 +32,11 @@ goes-start {table} c {d} s =
     }
 
 -- what was asked for by a step more
-pub goes-reads : {table : Rows} {a b c : CountedState} {old : DynCursorState} → GoesOver table a b old → ReadsUpTo b c (unread_bytes old.cursor) → ReadsUpTo a c (size_of table)
+pub goes-reads : {table : TableRange} {a b c : CountedState} {old : DynCursorState} → GoesOver table a b old → ReadsUpTo b c (unread_bytes old.cursor) → ReadsUpTo a c (size_of table)
 goes-reads g reads = ReadsUpTo-to (ReadsUpTo-then g.reads reads) (let x = reads.at_most in let y = g.account in omega arith)
 
 -- behind an entry
-module _ {table : Rows} {a b : CountedState} {old new : DynCursorState} (g : GoesOver table a b old) (s : GivesEntry b.seen.file old new) where
+module _ {table : TableRange} {a b : CountedState} {old new : DynCursorState} (g : GoesOver table a b old) (s : GivesEntry b.seen.file old new) where
   pub goes-next : {c : CountedState} → ReadsUpTo b c (unread_bytes old.cursor) → c.asked + unread_bytes new.cursor ≤ b.asked + unread_bytes old.cursor → GoesOver table a c new
   goes-next reads account = record {
     same_table = s.gives.same_table ∙ g.same_table;
@@ -52,7 +52,7 @@ module _ {table : Rows} {a b : CountedState} {old new : DynCursorState} (g : Goe
 
     module _ (rows : table.entry ≡ 16) where
       entry : old.cursor.table.entry ≡ 16
-      entry = ap (λ (t : Rows). t.entry) g.same_table ∙ rows
+      entry = ap (λ (t : TableRange). t.entry) g.same_table ∙ rows
 
       pub goes-place : next_row new.cursor ≡ next_row old.cursor + 16
       goes-place = next-place b.seen.file old.cursor new.cursor s.gives entry

@@ -10,7 +10,7 @@ use Rattle.elf_table.specs.Faults.{IsOfRead}
 use Rattle.elf_table.specs.declared.fault.Fault.{Fault}
 use Rattle.elf_table.specs.declared.fault.Fault.TheVariants.{Refused, Source}
 use Rattle.elf_note.specs.Words.{HoldsName, HoldsWords, aux_word, checks_of, distance_of_name, end_of_named_record}
-use Rattle.elf_note.specs.Reading.{Fits, BufferedTable, ReadsRecord, bytes_each, index_bytes, record_position_of, unheld}
+use Rattle.elf_note.specs.Reading.{IsPositionInTable, BufferedTable, ReadsRecord, bytes_each, index_bytes, record_position_of, unheld}
 use Rattle.elf_note.specs.declared.record_position.RecordPosition.{RecordPosition}
 use Rattle.elf_note.specs.declared.record_fields.VersionRecordFields.{VersionRecordFields}
 pub use Rattle.elf_table.proofs.Absent.{none-of}
@@ -81,7 +81,7 @@ record-checked file table size s words inside h =
 
 pub fits_along :
     (size : ℕ) (kind : VersionKind) (o : Option RecordPosition) → IfSome o (λ s. (s.place < 2 ^ 64 + 2 ^ 32) × (s.owner ≡ 0)) → IfSome o (λ s. s.kind ≡ kind)
-    → IfSome o (Fits size (bytes_each kind))
+    → IfSome o (IsPositionInTable size (bytes_each kind))
 fits_along size kind None near same = tt
 fits_along size kind (Some s) near same = record { near = near.0; owner = omega (arith, near.1); pays = rw same (omega arith) }
 

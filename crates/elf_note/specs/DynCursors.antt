@@ -6,7 +6,7 @@ use Rattle.elf_model.specs.Records.{d_tag, d_un}
 use Rattle.elf_source.specs.Onward.{ReadsOnward}
 use Rattle.elf_source.specs.Source.{SourceState, CountedState}
 use Rattle.elf_table.specs.Cursors.{CursorState, HoldsRows, FailsRows, GivesRow, ShowsRow, asked_to, next_row, unread_bytes}
-use Rattle.elf_table.specs.Tables.{Rows, size_of}
+use Rattle.elf_table.specs.Tables.{TableRange, size_of}
 use Rattle.elf_table.specs.declared.fault.Fault.{Fault}
 use Rattle.elf_table.specs.declared.row.Row.{Row}
 use Rattle.elf_note.specs.declared.string_values.DynamicStrings.{DynamicStrings}
@@ -21,7 +21,7 @@ abbrev pub entries_left : List ℕ → DynCursorState → ℕ
 entries_left file d = if d.ended then 0 else dynamic_count file (next_row d.cursor) d.cursor.left
 
 -- a cursor before the first entry of a table
-pub record StartsEntries (table : Rows) (d : DynCursorState) : Type 0 where
+pub record StartsEntries (table : TableRange) (d : DynCursorState) : Type 0 where
   pub its_table : d.cursor.table ≡ table
   pub index : d.cursor.index ≡ 0
   pub left : d.cursor.left ≡ table.count
@@ -78,6 +78,6 @@ abbrev pub value_here : List ℕ → ℕ → ℕ → Option ℕ
 value_here file at tag = elim (d_tag file at == tag) [ true ↦ Some (d_un file at) | false ↦ None ]
 
 -- the values that locate a string table, of the entries of a table that are listed
-pub record AreStrings (file : List ℕ) (table : Rows) (found : DynamicStrings) : Type 0 where
+pub record AreStrings (file : List ℕ) (table : TableRange) (found : DynamicStrings) : Type 0 where
   pub its_address : found.address ≡ listed_value file table.at table.count DT_STRTAB
   pub its_size : found.size ≡ listed_value file table.at table.count DT_STRSZ

@@ -9,7 +9,7 @@ use Rattle.elf_model.specs.declared.causes.Cause.TheVariants.{NoteCut}
 use Rattle.elf_source.specs.Onward.{ReadsOnward}
 use Rattle.elf_source.specs.Source.{SourceState, CountedState}
 use Rattle.elf_table.specs.Faults.{IsOfRead}
-use Rattle.elf_table.specs.Tables.{Rows}
+use Rattle.elf_table.specs.Tables.{TableRange}
 use Rattle.elf_table.specs.Windows.{WindowState, HoldsBytes, StillHolds, MovesOn, bytes_left, frontier, range_end}
 use Rattle.elf_table.specs.declared.fault.Fault.{Fault}
 use Rattle.elf_table.specs.declared.fault.Fault.TheVariants.{Refused}
@@ -21,7 +21,7 @@ use Rattle.elf_note.specs.declared.note_row.NoteRow.{NoteRow}
 -- a cursor: its table, the alignment of its notes, the bytes of the table that are left, the note that it shows with the
 -- first bytes of its descriptor, and the fault where it failed
 pub record NoteCursorState : Type 0 where
-  pub table : Rows
+  pub table : TableRange
   pub align : ℕ
   pub ahead : WindowState
   pub found : FoundNote
@@ -29,7 +29,7 @@ pub record NoteCursorState : Type 0 where
   pub failed : Option Fault
 
 -- a cursor before the first note of a table, of the alignment that its header has
-pub record StartsNotes (table : Rows) (align : ℕ) (c : NoteCursorState) : Type 0 where
+pub record StartsNotes (table : TableRange) (align : ℕ) (c : NoteCursorState) : Type 0 where
   pub its_table : c.table ≡ table
   pub its_align : c.align ≡ note_align align
   pub ahead : c.ahead ≡ record { at = table.at; held = []; unread = table.count; page = 4096 }

@@ -9,7 +9,7 @@ use Rattle.elf_model.specs.declared.versions.VersionKind.TheVariants.{Definition
 use Rattle.elf_table.specs.Faults.{IsOfRead}
 use Rattle.elf_table.specs.declared.fault.Fault.{Fault}
 use Rattle.elf_table.specs.declared.fault.Fault.TheVariants.{Refused, Source}
-use Rattle.elf_table.specs.Tables.{Rows, TableInBounds}
+use Rattle.elf_table.specs.Tables.{TableRange, TableInBounds}
 use Rattle.elf_source.specs.Source.{CountedState}
 use Rattle.elf_table.specs.Ledger.{CallDid, fault_of_result}
 use Rattle.elf_note.specs.Words.{HoldsWords}
@@ -21,7 +21,7 @@ use Rattle.elf_model.specs.Checks.{first_refusal}
 
 -- a table whose bytes are held, all of them, or are read piece by piece
 pub record BufferedTable : Type 0 where
-  pub table : Rows
+  pub table : TableRange
   pub whole : Bool
   pub bytes : List ℕ
 
@@ -88,7 +88,7 @@ abbrev pub bytes_each : VersionKind → ℕ
 bytes_each kind = elim kind [ Definition ↦ DEFINITION_SIZE + DEFINED_NAME_SIZE | File ↦ NEED_SIZE | Need ↦ NEED_SIZE ]
 
 -- a cursor before the first record of a table, of which something tells at an offset
-pub record StartsVersions (kind : VersionKind) (head : ℕ) (table : Rows) (c : VersionCursorState) : Type 0 where
+pub record StartsVersions (kind : VersionKind) (head : ℕ) (table : TableRange) (c : VersionCursorState) : Type 0 where
   pub its_table : c.held.table ≡ table
   pub standing : option_map record_position_of c.standing ≡ first_position kind head table.count
   pub left : c.left ≡ max_records kind table.count
@@ -174,7 +174,7 @@ ReadsRecord file table size stand (Err (Source fault at)) = Unit {0}
 
 -- where a walk stands is not far behind a table of some bytes, a needed version's file is in it, and the record that is to come
 -- asks for no more than so many bytes
-pub record Fits (size each : ℕ) (s : RecordPosition) : Type 0 where
+pub record IsPositionInTable (size each : ℕ) (s : RecordPosition) : Type 0 where
   pub near : s.place < 2 ^ 64 + 2 ^ 32
   pub owner : s.owner ≤ size
   pub pays : bytes_each s.kind ≤ each
@@ -182,7 +182,7 @@ pub record Fits (size each : ℕ) (s : RecordPosition) : Type 0 where
 -- of any table a record's number is small, and where it leads fits
 pub record StepFits (size each : ℕ) (step : VersionRecordStep) : Type 0 where
   pub number : number_in step.record.number < VERSION_NUMBERS
-  pub next : IfSome step.next (Fits size each)
+  pub next : IfSome step.next (IsPositionInTable size each)
 
 -- what meeting the record that is to come says of the records that were left and are left
 abbrev pub ReturnsMet : List ℕ → Versions → Versions → Result VersionRecord Fault → Type 0

@@ -127,7 +127,7 @@ impl ReadAhead {
         let at = table.place(index);
         let end = table.at() + table.len() * table.entry();
         self.symbols
-            .bring(src, at, SYMBOL_BYTES, end, &mut self.credit)?;
+            .fill_buf(src, at, SYMBOL_BYTES, end, &mut self.credit)?;
         Ok(Sym::decode(whole(self.symbols.part(at, SYMBOL_BYTES))))
     }
 
@@ -155,7 +155,7 @@ impl ReadAhead {
         let mut done: u64 = 0;
         while done < want {
             let at = start + done;
-            self.names.bring(src, at, 1, end, &mut self.credit)?;
+            self.names.fill_buf(src, at, 1, end, &mut self.credit)?;
             let piece = self.names.part(at, want - done);
             if let Some(place) = find_nul(piece) {
                 name.add(&piece[..place], cap);

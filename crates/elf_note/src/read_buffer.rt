@@ -58,7 +58,7 @@ impl<const N: usize> ReadBuffer<N> {
     ///
     /// # Errors
     /// A fault of the read, or a refusal for want of budget, at `at`. Then nothing is held.
-    pub(crate) fn bring<S: Source>(
+    pub(crate) fn fill_buf<S: Source>(
         &mut self,
         src: &mut Counted<S>,
         at: u64,

@@ -4,7 +4,7 @@ ghost use Rattle.elf_model.specs.Budget.{IsBudgetRefusal};
 ghost use Rattle.elf_model.specs.Checks.{first_refusal};
 ghost use Rattle.elf_model.specs.Versions.{record_size, along, first_position, visited_at, number_in};
 ghost use Rattle.elf_model.specs.declared.versions.VersionKind.TheVariants.{Need};
-ghost use Rattle.elf_note.specs.Reading.{Fits, KnowsAhead, KnowsFiles, LeadsTo, bytes_each, record_position_of};
+ghost use Rattle.elf_note.specs.Reading.{IsPositionInTable, KnowsAhead, KnowsFiles, LeadsTo, bytes_each, record_position_of};
 ghost use Rattle.elf_note.specs.Words.{HoldsWords, PassesWords, checks_of, distance_of_name, end_of_named_record};
 
 use crate::record_fields::VersionRecordFields;
@@ -137,7 +137,7 @@ pub(crate) fn behind(
         HoldsWords file (visited_at table (record_position_of stand.now)) words.now →
         LeadsTo file table (record_position_of stand.now) result }
     ensures fits { (size : ℕ) → stand.now.place ≤ size → stand.now.owner ≤ size →
-        IfSome result (Fits size (bytes_each stand.now.kind)) }
+        IfSome result (IsPositionInTable size (bytes_each stand.now.kind)) }
 {
     let place = stand.place as u64;
     let at = table + place;

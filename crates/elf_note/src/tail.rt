@@ -25,7 +25,7 @@ pub(crate) fn ends_in_zeros<S: Source>(
         IfOk result (λ zeros. zeros ≡ are_zeros (rest file window.old)) }
 {
     let left = window.left();
-    window.bring(src, left)?;
+    window.fill_buf(src, left)?;
     let zeros = are_zeros(window.front());
     window.skip(left);
     Ok(zeros)

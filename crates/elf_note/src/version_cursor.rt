@@ -6,7 +6,7 @@ ghost use Rattle.elf_table.specs.declared.fault.Fault.{Fault};
 ghost use Rattle.elf_table.specs.Tables.{TableInBounds};
 ghost use Rattle.elf_model.specs.Versions.{max_records};
 ghost use Rattle.elf_model.specs.declared.versions.VersionKind.TheVariants.{Need};
-ghost use Rattle.elf_note.specs.Reading.{Fits, IsCursorOf, KeepsWalk, LeavesVisited, LeavesWalk, MeetsIn};
+ghost use Rattle.elf_note.specs.Reading.{IsPositionInTable, IsCursorOf, KeepsWalk, LeavesVisited, LeavesWalk, MeetsIn};
 ghost use Rattle.elf_note.specs.Reading.{StartsVersions, StepsIn, bytes_each, unread, why_stopped_now};
 
 use crate::record::VersionRecord;
@@ -35,7 +35,7 @@ pub struct VersionCursor {
 
 impl Model for VersionCursor {
     ghost use Rattle.std.specs.Prelude.{◌≡◌, ◌+◌, ◌^◌, ◌<◌, ◌≤◌, IfSome};
-    ghost use Rattle.elf_note.specs.Reading.{Fits, VersionCursorState};
+    ghost use Rattle.elf_note.specs.Reading.{IsPositionInTable, VersionCursorState};
 
     ghost Value = { VersionCursorState };
 
@@ -48,7 +48,7 @@ impl Model for VersionCursor {
     } };
 
     ghost invariant = { λ c. (c.held.table.at + c.held.table.count < 2 ^ 64)
-        × IfSome c.standing (Fits c.held.table.count c.each) };
+        × IfSome c.standing (IsPositionInTable c.held.table.count c.each) };
 }
 
 impl VersionCursor {
@@ -112,7 +112,7 @@ impl VersionCursor {
     /// rows are single bytes: no more than `left` records are met.
     pub fn resumed(table: Table, standing: Option<RecordPosition>, left: u64) -> VersionCursor
         requires bytes { table.entry ≡ 1 }
-        requires fits { IfSome standing (Fits table.count 28) }
+        requires fits { IfSome standing (IsPositionInTable table.count 28) }
         ensures its_table { result.held.table ≡ table }
         ensures alone { result.held.whole ≡ false }
         ensures stands { result.standing ≡ standing }
@@ -131,7 +131,7 @@ impl VersionCursor {
     /// Where the walk stands; None behind the last record.
     pub fn standing(&self) -> Option<RecordPosition>
         ensures is { result ≡ self.now.standing }
-        ensures fits { IfSome result (Fits self.now.held.table.count self.now.each) }
+        ensures fits { IfSome result (IsPositionInTable self.now.held.table.count self.now.each) }
     {
         self.standing
     }

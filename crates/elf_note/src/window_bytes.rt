@@ -23,7 +23,7 @@ pub(crate) fn take<S: Source>(
     ensures taken { (file : List ℕ) → src.old.seen.file ≡ Some file → HoldsBytes file window.old →
         OnOk result (out.new ≡ slice file window.old.at (length out.old)) }
 {
-    window.bring(src, out.len() as u64)?;
+    window.fill_buf(src, out.len() as u64)?;
     out.copy_from_slice(&window.front()[..out.len()]);
     window.skip(out.len() as u64);
     Ok(())

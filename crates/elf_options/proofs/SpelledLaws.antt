@@ -16,7 +16,7 @@ use Rattle.elf_model.specs.declared.traits.SearchPath.TheVariants as path
 use Rattle.elf_model.specs.declared.traits.SegmentTraits.{SegmentTraits}
 use Rattle.elf_model.specs.declared.traits.TraitColumn.{TraitColumn}
 use Rattle.elf_model.specs.declared.traits.TraitColumn.TheVariants as column
-use Rattle.elf_model.specs.declared.traits.Traits.{Traits}
+use Rattle.elf_model.specs.declared.traits.Hardening.{Hardening}
 use Rattle.elf_options.specs.Spelled.{column_named, column_words, split_at_sign, parsed_trait_word, word_in, word_of_parts, word_under}
 
 -- THE FIRST SIGN parts a text
@@ -110,17 +110,17 @@ listed : (P : List ℕ → Type 0) (word : List ℕ) (words : List (List ℕ)) �
 listed P word [] each is = cc
 listed P word (other ∷ words) each is = first_listed P word other (list_any (bytes_eq word) words) (bytes_eq word other) refl each.0 (listed P word words each.1) is
 
-abbrev plain : Traits
+abbrev plain : Hardening
 plain = record { kind = kind.Exec; segments = None; ibt = false; shstk = false; canary = false; fortify = false; path = path.Absent }
 
 abbrev segments : SegmentTraits
 segments = record { relro = relro.Full; stack_executable = false; pages_writable = false; text_patched = false }
 
-abbrev with_segments : SegmentTraits → Traits
+abbrev with_segments : SegmentTraits → Hardening
 with_segments told = record plain { segments = Some told }
 
 abbrev Tells : TraitColumn → List ℕ → Type 0
-Tells its_column word = (t : Traits) × (word ≡ column_word t its_column)
+Tells its_column word = (t : Hardening) × (word ≡ column_word t its_column)
 
 each_told : (its_column : TraitColumn) → Each (Tells its_column) (column_words its_column)
 unfolding column_words column_word file_kind_name relro_text relro_word stack_word pages_word text_word cet_word canary_word fortify_word path_word
@@ -182,7 +182,7 @@ either_of its_column first second tells_first absent one other =
     segments_listed (column_words its_column) (λ s. either_word (tells_first s) first second) absent
     (λ s. either_listed (column_words its_column) first second one other (tells_first s))
 
-word_listed : (t : Traits) (its_column : TraitColumn) → list_any (bytes_eq (column_word t its_column)) (column_words its_column) ≡ true
+word_listed : (t : Hardening) (its_column : TraitColumn) → list_any (bytes_eq (column_word t its_column)) (column_words its_column) ≡ true
 unfolding column_words column_word relro_word stack_word pages_word text_word canary_word fortify_word
 word_listed t column.Kind = kind_listed t.kind
 word_listed t column.Relro = segments_listed (column_words column.Relro) (λ s. relro_text s.relro) refl (λ s. relro_listed s.relro) t.segments
@@ -224,12 +224,12 @@ signed column.Path word = refl
 abbrev word_by : Bool → TraitColumn → List ℕ → Option Required
 word_by is its_column word = elim is as (λ _. Option Required) [ true ↦ Some (record { column = its_column; word = word }) | false ↦ None ]
 
-pub told : (t : Traits) (its_column : TraitColumn) → parsed_trait_word (lacking_text t its_column) ≡ Some (record { column = its_column; word = column_word t its_column })
+pub told : (t : Hardening) (its_column : TraitColumn) → parsed_trait_word (lacking_text t its_column) ≡ Some (record { column = its_column; word = column_word t its_column })
 told t its_column =
     ap parsed_trait_word (sym (signed its_column (column_word t its_column))) ∙ spelled its_column (column_word t its_column) ∙ ap (λ b. word_by b its_column (column_word t its_column)) (word_listed t its_column)
 
 abbrev IsRowReported : List ℕ → Required → Type 0
-IsRowReported text required = (t : Traits) × (text ≡ lacking_text t required.column) × (required.word ≡ column_word t required.column)
+IsRowReported text required = (t : Hardening) × (text ≡ lacking_text t required.column) × (required.word ≡ column_word t required.column)
 
 told_word : (text word : List ℕ) (its_column : TraitColumn) (required : Required) → text ≡ column_name its_column ++ 61 ∷ word → word_in its_column word ≡ Some required → IsRowReported text required
 told_word text word its_column required made is = by (list_any (bytes_eq word) (column_words its_column)) refl is

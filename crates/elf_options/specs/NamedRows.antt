@@ -1,7 +1,7 @@
 -- How rows are shown where those of some names are.
 use Rattle.std.specs.Prelude.{ℕ, Bool, List, map, max, min, if◌then◌else◌}
 use Rattle.elf_model.specs.Choice.{RowsOf, most_bytes, wanted_text}
-use Rattle.elf_model.specs.Style.{Style}
+use Rattle.elf_model.specs.Style.{ListingStyle}
 
 -- how many bytes of a name are looked at at least: so that a version can be told, no fewer than are shown
 abbrev pub least_cap : (versions : Bool) → ℕ → ℕ
@@ -12,7 +12,7 @@ abbrev pub named_cap : List (List ℕ) → (least : ℕ) → ℕ
 named_cap names least = min (max (most_bytes names) least) 4096
 
 -- HOW ROWS ARE SHOWN of which those alone stand whose name, with its version, one of these asks for: as else, but for that
-abbrev pub named_style : List (List ℕ) → Style → Style
+abbrev pub named_style : List (List ℕ) → ListingStyle → ListingStyle
 named_style names style =
     record (style) {
       cap = named_cap names (least_cap style.versions style.cap);

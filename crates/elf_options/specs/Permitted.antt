@@ -1,14 +1,14 @@
 -- The caps of a listing.
 use Rattle.std.specs.Prelude.{ℕ, ◌≡◌, ◌≤◌, false, Option, None, Some}
-use Rattle.elf_model.specs.Style.{Style as Styled, standard}
+use Rattle.elf_model.specs.Style.{ListingStyle as Styled, standard}
 use Rattle.elf_options.specs.declared.caps.NameLimit.{NameLimit}
 use Rattle.elf_options.specs.declared.caps.Caps.{Caps}
 use Rattle.elf_options.specs.declared.caps.Limits.{Limits}
-use Rattle.elf_options.specs.declared.caps.Style.{Style}
+use Rattle.elf_options.specs.declared.caps.ListingStyle.{ListingStyle}
 use Rattle.elf_options.specs.Chosen.{choice_of}
 
 -- a style as the definitions of listings have it
-abbrev pub style_of : Style → Styled
+abbrev pub style_of : ListingStyle → Styled
 style_of style = record { cap = style.cap.bytes; gnu = style.gnu; by_segments = style.by_segments; format = style.format; choice = choice_of style.choice; versions = style.versions }
 
 -- how many headers may be permitted

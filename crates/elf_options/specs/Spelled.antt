@@ -4,7 +4,7 @@ use Rattle.std.specs.List.{list_any}
 use Rattle.elf_model.specs.TraitWords.{Required, column_word, lacking_text}
 use Rattle.elf_model.specs.declared.traits.TraitColumn.{TraitColumn}
 use Rattle.elf_model.specs.declared.traits.TraitColumn.TheVariants as column
-use Rattle.elf_model.specs.declared.traits.Traits.{Traits}
+use Rattle.elf_model.specs.declared.traits.Hardening.{Hardening}
 
 -- what stands before and behind the first of the bytes that is this sign
 unfoldable pub split_at_sign : ℕ → List ℕ → Option (List ℕ × List ℕ)
@@ -62,6 +62,6 @@ parsed_trait_word text = word_of_parts (split_at_sign 61 text)
 
 -- JUST THOSE texts spell words of what some file has
 pub record SpellsTraits : Type 0 where
-  pub told : (t : Traits) (its_column : TraitColumn) → parsed_trait_word (lacking_text t its_column) ≡ Some (record { column = its_column; word = column_word t its_column })
+  pub told : (t : Hardening) (its_column : TraitColumn) → parsed_trait_word (lacking_text t its_column) ≡ Some (record { column = its_column; word = column_word t its_column })
   pub tells : (text : List ℕ) (required : Required) → parsed_trait_word text ≡ Some required
-      → (t : Traits) × (text ≡ lacking_text t required.column) × (required.word ≡ column_word t required.column)
+      → (t : Hardening) × (text ≡ lacking_text t required.column) × (required.word ≡ column_word t required.column)

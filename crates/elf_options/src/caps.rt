@@ -5,9 +5,9 @@ use crate::row_filter::RowFilter;
 use elf_model::Format;
 
 /// The most headers that may be permitted.
-const MOST_HEADERS: u16 = 65_279;
+const MAX_HEADERS: u16 = 65_279;
 /// The most bytes of a name that may be shown.
-const MOST_NAME: u16 = 4_096;
+const MAX_NAME: u16 = 4_096;
 
 /// How many bytes of a name are shown, 1 to 4,096.
 #[derive(Clone, Copy)]
@@ -25,7 +25,7 @@ impl NameLimit {
     pub fn new(bytes: u16) -> Option<NameLimit>
         ensures { PermitsName bytes result }
     {
-        if bytes == 0 || bytes > MOST_NAME {
+        if bytes == 0 || bytes > MAX_NAME {
             return None;
         }
         Some(NameLimit { bytes })
@@ -37,7 +37,7 @@ impl NameLimit {
 /// that end in the name of a symbol or of a version are shown, and whether the version of a symbol
 /// stands behind its name.
 #[derive(Clone, Copy)]
-pub struct Style<'n> {
+pub struct ListingStyle<'n> {
     /// How many bytes of a name are shown.
     pub cap: NameLimit,
     /// Whether numbers of the GNU system have names.
@@ -52,18 +52,18 @@ pub struct Style<'n> {
     pub versions: bool,
 }
 
-impl Style<'_> {
+impl ListingStyle<'_> {
     ghost use Rattle.std.specs.Prelude.{◌≡◌};
     ghost use Rattle.elf_model.specs.Style.{standard};
     ghost use Rattle.elf_options.specs.Permitted.{style_of};
 
     /// So many bytes of a name, the names of the standards alone, tables found by the section headers
     /// where there are some, lines in columns, every row, and no versions behind names.
-    pub fn standard(cap: NameLimit) -> Style<'static>
+    pub fn standard(cap: NameLimit) -> ListingStyle<'static>
         ensures same { result.cap ≡ cap }
         ensures style { style_of result ≡ standard cap.bytes }
     {
-        Style {
+        ListingStyle {
             cap,
             gnu: false,
             by_segments: false,
@@ -94,7 +94,7 @@ impl Limits {
     pub fn new(headers: u16, budget: Option<u64>) -> Option<Limits>
         ensures { PermitsHeaders headers budget result }
     {
-        if headers == 0 || headers > MOST_HEADERS {
+        if headers == 0 || headers > MAX_HEADERS {
             return None;
         }
         Some(Limits { headers, budget })
@@ -107,7 +107,7 @@ pub struct Caps<'n> {
     /// The limits on what is read.
     pub limits: Limits,
     /// How rows are shown.
-    pub style: Style<'n>,
+    pub style: ListingStyle<'n>,
 }
 
 impl<'n> Caps<'n> {
@@ -120,7 +120,7 @@ impl<'n> Caps<'n> {
         ensures { Permits headers name result }
     {
         let limits = Limits::new(headers, None)?;
-        let style = Style::standard(NameLimit::new(name)?);
+        let style = ListingStyle::standard(NameLimit::new(name)?);
         Some(Caps { limits, style })
     }
 

@@ -19,7 +19,7 @@ mod styles;
 mod symbol_query;
 mod versioned_name;
 
-pub use caps::{Caps, Limits, NameLimit, Style};
+pub use caps::{Caps, Limits, ListingStyle, NameLimit};
 pub use list_file::read_names;
 pub use names::{SortedStrings, sort_strings};
 pub use names_fault::NamesFault;
@@ -28,4 +28,4 @@ pub use row_filter::{RowFilter, VersionSuffix};
 pub use row_names::{gather_names, is_valid_row_name};
 pub use spelled::{parsed_trait_word, spells_traits};
 pub use styles::style_with_names;
-pub use symbol_query::{Asked, Wanted, parse_query};
+pub use symbol_query::{SymbolQuery, VersionQuery, parse_query};

@@ -4,7 +4,7 @@ ghost use Rattle.elf_options.specs.Permitted.{style_of};
 ghost use Rattle.elf_options.specs.Names.{NeverDescend, texts_of};
 ghost use Rattle.elf_options.specs.NamedRows.{least_cap, named_cap, named_style};
 
-use crate::caps::{NameLimit, Style};
+use crate::caps::{ListingStyle, NameLimit};
 use crate::names::SortedStrings;
 use crate::row_filter::RowFilter;
 
@@ -12,11 +12,11 @@ use crate::row_filter::RowFilter;
 /// asks for, which are in the rising order of their bytes: as `style` has it, but that as many bytes of a
 /// name are looked at as the longest text has, 1 to 4,096; and where versions stand behind names, no
 /// fewer than `style` shows. Where they do, a text may ask for a version.
-pub fn style_with_names<'n>(style: Style<'_>, names: &'n [&'n [u8]]) -> Style<'n>
+pub fn style_with_names<'n>(style: ListingStyle<'_>, names: &'n [&'n [u8]]) -> ListingStyle<'n>
     requires { NeverDescend names.now }
     ensures { style_of result ≡ named_style (texts_of names.now) (style_of style.entry) }
 {
-    Style {
+    ListingStyle {
         cap: cap_of(names, least_cap(style.versions, style.cap)),
         gnu: style.gnu,
         by_segments: style.by_segments,

@@ -9,7 +9,7 @@ const AT_SIGN: u8 = b'@';
 
 /// Which version of a symbol is asked for.
 #[derive(Clone, Copy)]
-pub enum Asked<'a> {
+pub enum VersionQuery<'a> {
     /// The one that a name alone takes: a version that is not hidden, or none.
     NoVersion,
     /// One by its name.
@@ -20,14 +20,14 @@ pub enum Asked<'a> {
 
 /// A symbol that is looked up, by its name and its version.
 #[derive(Clone, Copy)]
-pub struct Wanted<'a> {
+pub struct SymbolQuery<'a> {
     /// The name of the symbol.
     pub name: &'a [u8],
     /// The version that is asked for.
-    pub asked: Asked<'a>,
+    pub asked: VersionQuery<'a>,
 }
 
-impl<'a> Wanted<'a> {
+impl<'a> SymbolQuery<'a> {
     /// Whether neither the name nor a version that is asked for is empty.
     #[tactic(auto, unfolding(elf_model::specs::Loader::is_complete))]
     pub fn is_complete(&self) -> bool
@@ -37,14 +37,16 @@ impl<'a> Wanted<'a> {
     }
 }
 
-impl<'a> Asked<'a> {
+impl<'a> VersionQuery<'a> {
     /// The name of the version that is asked for, if one is.
     pub fn name(&self) -> Option<&'a [u8]>
         ensures { option_map (λ name. name.now) result ≡ asked_name (asked_of self.now) }
     {
         match self {
-            Asked::NoVersion => None,
-            Asked::Version(version) | Asked::DefaultVersion(version) => Some(*version),
+            VersionQuery::NoVersion => None,
+            VersionQuery::Version(version) | VersionQuery::DefaultVersion(version) => Some(
+                *version,
+            ),
         }
     }
 
@@ -56,8 +58,9 @@ impl<'a> Asked<'a> {
         ] }
     {
         match self {
-            Asked::NoVersion => false,
-            Asked::Version(version) | Asked::DefaultVersion(version) => version.is_empty(),
+            VersionQuery::NoVersion => false,
+            VersionQuery::Version(version) | VersionQuery::DefaultVersion(version) =>
+                version.is_empty(),
         }
     }
 }
@@ -66,15 +69,15 @@ impl<'a> Asked<'a> {
 /// behind a second that follows directly the version is to be the default one. A version may hold
 /// further `@`. Each part may be empty.
 #[tactic(auto, unfolding(elf_model::specs::Loader::parse_query))]
-pub fn parse_query(text: &[u8]) -> Wanted<'_>
+pub fn parse_query(text: &[u8]) -> SymbolQuery<'_>
     ensures { query_of result ≡ parse_query text.now }
 {
     match find_sign(text) {
-        None => Wanted {
+        None => SymbolQuery {
             name: text,
-            asked: Asked::NoVersion,
+            asked: VersionQuery::NoVersion,
         },
-        Some(place) => Wanted {
+        Some(place) => SymbolQuery {
             name: &text[..place],
             asked: asked_after(&text[place + 1..]),
         },
@@ -95,13 +98,13 @@ fn find_sign(text: &[u8]) -> Option<usize>
 }
 
 // The version behind the first sign.
-fn asked_after(text: &[u8]) -> Asked<'_>
+fn asked_after(text: &[u8]) -> VersionQuery<'_>
     ensures { asked_of result ≡ asked_after text.now }
 {
     if has_sign_first(text) {
-        return Asked::DefaultVersion(&text[1..]);
+        return VersionQuery::DefaultVersion(&text[1..]);
     }
-    Asked::Version(text)
+    VersionQuery::Version(text)
 }
 
 /// Whether the sign stands in a name.

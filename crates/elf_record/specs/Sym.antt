@@ -4,8 +4,8 @@ use Rattle.elf_model.specs.Bytes.{field}
 use Rattle.elf_model.specs.Numbers.{SHN_UNDEF, SHN_LORESERVE, SHN_ABS, SHN_COMMON}
 use Rattle.elf_record.specs.Parts.{RecordField, Number}
 use Rattle.elf_record.specs.declared.sym.Sym.{Sym}
-use Rattle.elf_record.specs.declared.sym.Place.{Place}
-use Rattle.elf_record.specs.declared.sym.Place.TheVariants.{Undefined, Section, Absolute, Common, Reserved}
+use Rattle.elf_record.specs.declared.sym.SymbolSection.{SymbolSection}
+use Rattle.elf_record.specs.declared.sym.SymbolSection.TheVariants.{Undefined, Section, Absolute, Common, Reserved}
 
 -- at an offset stands a symbol with these fields, each at its place (gABI 4, Symbol Table)
 pub record IsSym (file : List ℕ) (at : ℕ) (r : Sym) : Type 0 where
@@ -23,7 +23,7 @@ sym_parts r =
     ∷ Number 8 r.st_value ∷ Number 8 r.st_size ∷ []
 
 -- where a symbol with this section index is defined (gABI 4, Special Section Indexes)
-abbrev pub IsPlace : ℕ → Place → Type 0
+abbrev pub IsPlace : ℕ → SymbolSection → Type 0
 IsPlace index Undefined = index ≡ SHN_UNDEF
 IsPlace index (Section section) = (index ≡ section) × (0 < index) × (index < SHN_LORESERVE)
 IsPlace index Absolute = index ≡ SHN_ABS

@@ -31,7 +31,7 @@ pub use parts::Parts;
 pub use phdr::Phdr;
 pub use rela::Rela;
 pub use shdr::Shdr;
-pub use sym::{Place, Sym};
+pub use sym::{Sym, SymbolSection};
 pub use verdef::Verdef;
 pub use vernaux::Vernaux;
 pub use verneed::Verneed;

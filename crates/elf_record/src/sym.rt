@@ -24,7 +24,7 @@ pub struct Sym {
 
 /// Where a symbol is defined (gABI 4, Special Section Indexes).
 #[derive(Clone, Copy)]
-pub enum Place {
+pub enum SymbolSection {
     /// Not in this file: the index 0.
     Undefined,
     /// In the section with this index, from 1 to 0xfeff. The file may have fewer sections.
@@ -91,15 +91,15 @@ impl Sym {
     }
 
     /// Where the symbol is defined, by `st_shndx` (gABI 4, Special Section Indexes).
-    pub fn place(&self) -> Place
+    pub fn place(&self) -> SymbolSection
         ensures { IsPlace self.now.st_shndx result }
     {
         match self.st_shndx {
-            SHN_UNDEF => Place::Undefined,
-            SHN_ABS => Place::Absolute,
-            SHN_COMMON => Place::Common,
-            index if index < SHN_LORESERVE => Place::Section(index),
-            index => Place::Reserved(index),
+            SHN_UNDEF => SymbolSection::Undefined,
+            SHN_ABS => SymbolSection::Absolute,
+            SHN_COMMON => SymbolSection::Common,
+            index if index < SHN_LORESERVE => SymbolSection::Section(index),
+            index => SymbolSection::Reserved(index),
         }
     }
 

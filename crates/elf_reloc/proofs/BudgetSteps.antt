@@ -6,7 +6,7 @@ use Rattle.elf_model.specs.ApplyCost.{apply_cost, apply_cost_in_order, apply_cos
 use Rattle.elf_model.specs.Placing.{Layout}
 use Rattle.elf_source.specs.Output.{OutState}
 use Rattle.elf_source.specs.Source.{CountedState, ReadsUpTo}
-use Rattle.elf_source.proofs.ReadsLaws.{IsSourceFault-then, Keeps-then}
+use Rattle.elf_source.proofs.ReadsLaws.{IsSourceFault-then, KeepsSource-then}
 use Rattle.elf_table.specs.Faults.{IsOfCheck, IsReadFault}
 use Rattle.elf_table.specs.declared.fault.Fault.{Fault}
 use Rattle.elf_reloc.specs.Applied.{ApplySays, ReadsWithin, BudgetTooSmall, write_passes}
@@ -22,7 +22,7 @@ pub spends_to : {a b : CountedState} {n : ℕ} (k : ℕ) → ReadsWithin a b n �
 spends_to k spends asked = grind arith
 
 pub spends_then : {a b c : CountedState} {n m : ℕ} (k : ℕ) → ReadsUpTo a b n → ReadsWithin b c m → c.asked ≤ a.asked + k → ReadsWithin a c k
-spends_then k reads spends asked = grind (arith, Keeps-then)
+spends_then k reads spends asked = grind (arith, KeepsSource-then)
 
 -- a fault of a read
 pub fault_applies : (a b : CountedState) (out : OutState) (n k : ℕ) (fault : Fault) → n ≤ k → IsReadFault a b n fault → ApplySays a b out k (stop_of fault)

@@ -9,11 +9,11 @@ use Rattle.elf_model.specs.Tables.{RELA_SIZE, entry_count, relocation_table_chec
 use Rattle.elf_table.specs.declared.fault.Fault.{Fault}
 use Rattle.elf_table.specs.declared.fault.Fault.TheVariants.{Refused, Source}
 use Rattle.elf_table.specs.Relocations.{RefusedBy}
-use Rattle.elf_table.specs.Tables.{Rows}
+use Rattle.elf_table.specs.Tables.{TableRange}
 use Rattle.elf_reloc.specs.Explained.{has_row}
 
 -- an entry of the table is one of the section
-pub row_is : (file : List ℕ) (header rela : ℕ) (table : Rows) → table.at ≡ sh_offset file header → table.count ≡ entry_count file header RELA_SIZE
+pub row_is : (file : List ℕ) (header rela : ℕ) (table : TableRange) → table.at ≡ sh_offset file header → table.count ≡ entry_count file header RELA_SIZE
     → table.entry ≡ 24 → has_row table rela ≡ has_entry file header rela
 unfolding has_entry
 row_is file header rela table at count entry =
@@ -22,7 +22,7 @@ row_is file header rela table at count entry =
     rw (at, count, entry, same) refl
 
 -- then the table has entries
-pub row_some : (table : Rows) (rela : ℕ) → has_row table rela ≡ true → 0 < table.count
+pub row_some : (table : TableRange) (rela : ℕ) → has_row table rela ≡ true → 0 < table.count
 row_some table rela there = grind (arith, nat_tests)
 
 module _ (file : List ℕ) (section rela header : ℕ) where

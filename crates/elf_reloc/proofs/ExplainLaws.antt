@@ -11,7 +11,7 @@ use Rattle.elf_model.specs.Tables.{linked_at, strings_of}
 use Rattle.elf_model.specs.declared.causes.Cause.{Cause}
 use Rattle.elf_model.specs.declared.causes.Cause.TheVariants.{Unplaced, Undefined, Unsupported}
 use Rattle.elf_model.specs.declared.causes.Refusal.{Refusal}
-use Rattle.elf_model.specs.declared.missing.Missing.{Missing}
+use Rattle.elf_model.specs.declared.missing.MissingAddress.{MissingAddress}
 use Rattle.elf_model.specs.declared.relocation_types.RelocationType.{RelocationType}
 use Rattle.elf_model.proofs.CheckSteps.{first_refusal-none, first_refusal-some}
 use Rattle.elf_table.specs.Faults.{HeaderRead, IsOfRead}
@@ -69,11 +69,11 @@ told_of file header lacking names = by_name lacking.missing.name refl
     by_name zero e = unnamed _ _ e ∙ sym (unnamed _ _ e)
     by_name (suc n) e = ap (λ (strings : List ℕ). resolved_symbol_name strings lacking.missing.name) (names (λ zero. omega (arith, zero, e)))
 
-pub lacks_nothing : (file : List ℕ) (header : ℕ) (missed : Option Missing) → Lacks file header missed None → lack_of file header missed ≡ None
+pub lacks_nothing : (file : List ℕ) (header : ℕ) (missed : Option MissingAddress) → Lacks file header missed None → lack_of file header missed ≡ None
 unfolding lack_of
 lacks_nothing file header missed lacks = rw (lacks, lack_of) refl
 
-pub lacks_told : (file : List ℕ) (header : ℕ) (missed : Option Missing) (lacking : MissingItem) → Lacks file header missed (Some lacking)
+pub lacks_told : (file : List ℕ) (header : ℕ) (missed : Option MissingAddress) (lacking : MissingItem) → Lacks file header missed (Some lacking)
     → lack_of file header missed ≡ lack_with lacking.missing (resolved_symbol_name (strings_in file lacking.names) lacking.missing.name)
 unfolding lack_of
 lacks_told file header missed lacking lacks = rw (lacks.0, lack_of) (ap (lack_with lacking.missing) (sym (told_of file header lacking lacks.1)))
@@ -90,7 +90,7 @@ load_explains file headers lack (Refused refusal) name store passed slots loads 
 load_explains file headers lack (Source fault at) name store passed slots loads = tt
 
 -- behind those checks nothing is refused but for want of budget
-pub loaded_explains : (file : List ℕ) (headers : ℕ) (lack : Option MissingEntry) (result : Result (Option (Missing × NameEnd)) Fault) (name : List ℕ)
+pub loaded_explains : (file : List ℕ) (headers : ℕ) (lack : Option MissingEntry) (result : Result (Option (MissingAddress × NameEnd)) Fault) (name : List ℕ)
     → ExplainsLoaded lack result name → Explains file headers lack result name
 loaded_explains file headers lack (Ok found) name explains = explains
 loaded_explains file headers lack (Err (Refused refusal)) name explains = λ other. absurd (other explains)

@@ -20,7 +20,7 @@ use Rattle.elf_reloc.specs.Walk.{FindsEntry, changes_left}
 use Rattle.elf_reloc.specs.Windows.{WritesBytes, UnreadSays}
 use Rattle.elf_table.specs.Stops.{stop_of}
 use Rattle.elf_reloc.specs.declared.entry.ApplyTarget.{ApplyTarget as TargetCode}
-use Rattle.elf_reloc.specs.declared.walk.Entries.{Entries}
+use Rattle.elf_reloc.specs.declared.walk.RelocationWalk.{RelocationWalk}
 use Rattle.elf_table.specs.declared.run_fault.RunFault.{RunFault}
 use Rattle.elf_reloc.proofs.WindowSteps.{and_is, window_more, window_stopped, take_more}
 use Rattle.elf_model.proofs.Slices.{slice-size, slice-slice, slice-rest}
@@ -264,5 +264,5 @@ underway_start base h left patches a low none are inside rises =
     }
 
 -- a fault of the walk, by the change that it stands for
-pub finds_refusal : (file : List ℕ) (target : TargetCode) (old new : Entries) (fault : Fault) (a b : CountedState) → IsUnlimitedReadFault a b fault → FindsEntry file target old new (Err fault) → (refusal : Refusal) → fault ≡ Refuses refusal → (more : List SectionChange) × (changes_left file target old ≡ Fails refusal ∷ more)
+pub finds_refusal : (file : List ℕ) (target : TargetCode) (old new : RelocationWalk) (fault : Fault) (a b : CountedState) → IsUnlimitedReadFault a b fault → FindsEntry file target old new (Err fault) → (refusal : Refusal) → fault ≡ Refuses refusal → (more : List SectionChange) × (changes_left file target old ≡ Fails refusal ∷ more)
 finds_refusal file target old new fault a b wanted finds refusal e = grind arith

@@ -10,7 +10,7 @@ use Rattle.elf_model.specs.Values.{kind_of}
 use Rattle.elf_model.specs.declared.causes.Refusal.{Refusal}
 use Rattle.elf_model.specs.declared.relocation_types.RelocationType.{RelocationType}
 use Rattle.elf_model.specs.Tables.{linked_at, strings_of}
-use Rattle.elf_model.specs.declared.missing.Missing.{Missing}
+use Rattle.elf_model.specs.declared.missing.MissingAddress.{MissingAddress}
 use Rattle.elf_model.specs.declared.missing.LayoutAddress.{LayoutAddress}
 use Rattle.elf_table.specs.Tables.{StringTableRange, strings_in}
 use Rattle.elf_record.specs.declared.rela.Rela.{Rela}
@@ -41,7 +41,7 @@ names_of : (file : List ℕ) (header rela : ℕ) (named : RelocationSymbol) → 
 names_of file header rela named is some = (is.fields (λ zero. some (is.zero zero).0)).2
 
 -- what is missing, by what is wanted
-pub lacks_by : (file : List ℕ) (header rela kind : ℕ) (named : RelocationSymbol) (wanted : Option LayoutAddress) (missed : Option Missing) (found : Option MissingItem)
+pub lacks_by : (file : List ℕ) (header rela kind : ℕ) (named : RelocationSymbol) (wanted : Option LayoutAddress) (missed : Option MissingAddress) (found : Option MissingItem)
     → NamesEntrySymbol file header rela named → missed ≡ missing_of kind named.name wanted → LackOf kind named wanted found → Lacks file header missed found
 unfolding missing_of
 lacks_by file header rela kind named wanted missed None is same lack = same ∙ lack

@@ -7,14 +7,14 @@ use Rattle.elf_model.specs.declared.causes.Refusal.{Refusal}
 use Rattle.elf_model.specs.Bytes.{slice}
 use Rattle.elf_table.specs.Cursors.{CursorState, GivesRow, HoldsRows, Advances, ShowsRow}
 use Rattle.elf_table.specs.declared.row.Row.{Row}
-use Rattle.elf_table.specs.Tables.{Rows}
+use Rattle.elf_table.specs.Tables.{TableRange}
 use Rattle.elf_table.specs.Sections.{table_of}
 
 -- how many entries a table has that was answered
 abbrev counted_by : Option Refusal → ℕ → ℕ
 counted_by first n = elim first [ Some refusal ↦ 0 | None ↦ n ]
 
-pub entries_counted : (bytes : List ℕ) (at size place : ℕ) (table : Rows) → Ok table ≡ table_of bytes at size place 24
+pub entries_counted : (bytes : List ℕ) (at size place : ℕ) (table : TableRange) → Ok table ≡ table_of bytes at size place 24
     → table.count ≡ counted_by (first_refusal (table_checks_of bytes at size place 24)) (sh_size bytes at / 24)
 entries_counted bytes at size place table h = grind (arith, nat_tests)
 
@@ -28,7 +28,7 @@ pub record GivenRow (old : CursorState) (row : Row) (file : List ℕ) (size from
   pub bytes : row.bytes.now ≡ slice file row.at size
   pub here : row.at ≡ from + row.index * size
 
-pub given_row : (holds : Option (List ℕ)) (old new : CursorState) (row : Row) (file : List ℕ) (table : Rows) (size from : ℕ)
+pub given_row : (holds : Option (List ℕ)) (old new : CursorState) (row : Row) (file : List ℕ) (table : TableRange) (size from : ℕ)
     → GivesRow holds old new → ShowsRow new row → holds ≡ Some file → HoldsRows file old → old.table ≡ table → table.entry ≡ size → table.at ≡ from
     → GivenRow old row file size from
 given_row holds old new row file table size from gives lends held agrees same entry at = grind arith

@@ -13,7 +13,7 @@ use Rattle.elf_reloc.specs.Costs.{ValueOrRefusal}
 use Rattle.elf_reloc.specs.Passes.{folded, Folds, ChecksEntries}
 use Rattle.elf_reloc.specs.Walk.{changes_left, FindsEntry}
 use Rattle.elf_reloc.specs.declared.entry.ApplyTarget.{ApplyTarget as TargetCode}
-use Rattle.elf_reloc.specs.declared.walk.Entries.{Entries}
+use Rattle.elf_reloc.specs.declared.walk.RelocationWalk.{RelocationWalk}
 
 module _ {A : Type 0} (step : A → StoredBytes → A) (value : A) where
   pub folded-some : (changes rest : List SectionChange) (patch : StoredBytes) (answer : Result A Refusal) → changes ≡ Put patch ∷ rest → folded step value changes ≡ answer → folded step (step value patch) rest ≡ answer
@@ -28,7 +28,7 @@ module _ {A : Type 0} (step : A → StoredBytes → A) (value : A) where
   unfolding folded
   folded-fails changes rest refusal answer e h = sym h ∙ ap (folded step value) e
 
-  pub folded-fault : (file : List ℕ) (target : TargetCode) (old new : Entries) (fault : Fault) (answer : Result A Refusal) → FindsEntry file target old new (Err fault) → folded step value (changes_left file target old) ≡ answer → ValueOrRefusal (Err fault) answer
+  pub folded-fault : (file : List ℕ) (target : TargetCode) (old new : RelocationWalk) (fault : Fault) (answer : Result A Refusal) → FindsEntry file target old new (Err fault) → folded step value (changes_left file target old) ≡ answer → ValueOrRefusal (Err fault) answer
   folded-fault file target old new fault answer finds h = grind (arith, folded-fails)
 
 -- the same fault of a check

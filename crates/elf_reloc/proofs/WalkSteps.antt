@@ -10,7 +10,7 @@ use Rattle.elf_table.specs.Cursors.{CursorState, GivesRow, unread_bytes}
 use Rattle.elf_table.specs.Store.{row}
 use Rattle.elf_table.specs.Relocations.{Relocates}
 use Rattle.elf_table.specs.Sections.{table_of}
-use Rattle.elf_table.specs.Tables.{Rows, TableInBounds}
+use Rattle.elf_table.specs.Tables.{TableRange, TableInBounds}
 use Rattle.elf_reloc.proofs.Opened.{entries_counted}
 use Rattle.elf_source.specs.Source.{CountedState, ReadsUpTo}
 use Rattle.elf_source.proofs.ReadsLaws.{ReadsUpTo-none, ReadsUpTo-then, ReadsUpTo-to}
@@ -19,9 +19,9 @@ use Rattle.elf_table.specs.declared.fault.Fault.{Fault}
 use Rattle.elf_table.specs.declared.fault.Fault.TheVariants.{Refused, Source}
 use Rattle.elf_reloc.specs.Entries.{target_as, patch_as, beside_entry_cost, Changes, Refers}
 use Rattle.elf_reloc.specs.Walk.{AsksOf, IsWalkAlive, changes_from, rows_changes, changes_left, changes_all, entry_count_in, entries_from, sections_of, steps_left, walk_left, walk_all, StepsWalk, FindsEntry, ReadsEntries}
-use Rattle.elf_reloc.specs.declared.entry.Placed.{Placed}
+use Rattle.elf_reloc.specs.declared.entry.PlacedPatch.{PlacedPatch}
 use Rattle.elf_reloc.specs.declared.entry.ApplyTarget.{ApplyTarget as TargetCode}
-use Rattle.elf_reloc.specs.declared.walk.Entries.{Entries}
+use Rattle.elf_reloc.specs.declared.walk.RelocationWalk.{RelocationWalk}
 use Rattle.elf_reloc.specs.declared.walk.WalkStep.{WalkStep}
 
 sum-suc : (cost : ℕ → ℕ) (i n : ℕ) → sum_over cost i (suc n) ≡ cost i + sum_over cost (suc i) n
@@ -71,27 +71,27 @@ unfolding section_changes rows_changes
 section_rows file target at h f = rw (h, section_changes) (rw (f, section_changes) refl)
 
 -- what is left where no row is left
-pub left-rows : (file : List ℕ) (target : TargetCode) (e : Entries) → e.cursor.left ≡ 0 → changes_left file target e ≡ changes_from file target e.next (sections_of target - e.next)
+pub left-rows : (file : List ℕ) (target : TargetCode) (e : RelocationWalk) → e.cursor.left ≡ 0 → changes_left file target e ≡ changes_from file target e.next (sections_of target - e.next)
 unfolding changes_left
 left-rows file target e none = grind (arith, rows-none)
 
-pub left-end : (file : List ℕ) (target : TargetCode) (e : Entries) → e.cursor.left ≡ 0 → sections_of target ≤ e.next → changes_left file target e ≡ []
+pub left-end : (file : List ℕ) (target : TargetCode) (e : RelocationWalk) → e.cursor.left ≡ 0 → sections_of target ≤ e.next → changes_left file target e ≡ []
 left-end file target e none past = grind (arith, left-rows, from-none)
 
 -- the next section was passed: it gives nothing
-pub left-passed : (file : List ℕ) (target : TargetCode) (old new : Entries) → old.cursor.left ≡ 0 → new.cursor.left ≡ 0 → new.next ≡ old.next + 1 → old.next < sections_of target
+pub left-passed : (file : List ℕ) (target : TargetCode) (old new : RelocationWalk) → old.cursor.left ≡ 0 → new.cursor.left ≡ 0 → new.next ≡ old.next + 1 → old.next < sections_of target
     → section_changes (target_as file target) (section_at file old.next) ≡ [] → changes_left file target old ≡ changes_left file target new
 left-passed file target old new none none' step below nothing = grind (arith, left-rows, from-next)
 
 -- it was opened: its rows are left
-pub left-opened : (file : List ℕ) (target : TargetCode) (old new : Entries) → old.cursor.left ≡ 0 → new.next ≡ old.next + 1 → new.current ≡ old.next → new.cursor.index ≡ 0 → new.cursor.left ≡ entry_count file (section_at file old.next) 24
+pub left-opened : (file : List ℕ) (target : TargetCode) (old new : RelocationWalk) → old.cursor.left ≡ 0 → new.next ≡ old.next + 1 → new.current ≡ old.next → new.cursor.index ≡ 0 → new.cursor.left ≡ entry_count file (section_at file old.next) 24
     → old.next < sections_of target → section_changes (target_as file target) (section_at file old.next) ≡ rows_changes file target (section_at file old.next) 0 (entry_count file (section_at file old.next) 24)
     → changes_left file target old ≡ changes_left file target new
 unfolding changes_left
 left-opened file target old new none step here first counted below are = grind (arith, rows-none, from-next)
 
 -- it was refused
-pub left-refused : (file : List ℕ) (target : TargetCode) (old : Entries) (refusal : Refusal) → old.cursor.left ≡ 0 → old.next < sections_of target
+pub left-refused : (file : List ℕ) (target : TargetCode) (old : RelocationWalk) (refusal : Refusal) → old.cursor.left ≡ 0 → old.next < sections_of target
     → section_changes (target_as file target) (section_at file old.next) ≡ Fails refusal ∷ [] → (rest : List SectionChange) × (changes_left file target old ≡ Fails refusal ∷ rest)
 left-refused file target old refusal none below are = (
   changes_from file target (old.next + 1) (sections_of target - (old.next + 1)),
@@ -100,7 +100,7 @@ left-refused file target old refusal none below are = (
 )
 
 -- a row was given
-pub left-row : (file : List ℕ) (target : TargetCode) (old new : Entries) (at : ℕ) → new.next ≡ old.next → new.current ≡ old.current → new.cursor.index ≡ old.cursor.index + 1 → new.cursor.left + 1 ≡ old.cursor.left
+pub left-row : (file : List ℕ) (target : TargetCode) (old new : RelocationWalk) (at : ℕ) → new.next ≡ old.next → new.current ≡ old.current → new.cursor.index ≡ old.cursor.index + 1 → new.cursor.left + 1 ≡ old.cursor.left
     → at ≡ sh_offset file (section_at file old.current) + old.cursor.index * 24
     → changes_left file target old ≡ entry_changes (target_as file target) (section_at file old.current) at ++ changes_left file target new
 unfolding changes_left
@@ -124,71 +124,71 @@ unfolding entry_count_in
 entries-other target i h = rw (h, entry_count_in) refl
 
 pub entries-table :
-    (target : TargetCode) (i : ℕ) (table : Rows) → applies_to (row target.file.store.now i) target.section 0 ≡ true
+    (target : TargetCode) (i : ℕ) (table : TableRange) → applies_to (row target.file.store.now i) target.section 0 ≡ true
     → Ok table ≡ table_of (row target.file.store.now i) 0 target.file.loaded.size (section_place target.file.loaded.header i) 24
     → table.count ≡ entry_count_in target i
 unfolding entry_count_in
 entries-table target i table h found = grind (arith, entries_counted)
 
 -- the cost of what is left
-pub cost-begins : (target : TargetCode) (e : Entries) → e.cursor.failed ≡ None → e.cursor.unread ≡ 0 → e.cursor.left ≡ 0 → e.next ≡ 0 → walk_left target e ≡ walk_all target
+pub cost-begins : (target : TargetCode) (e : RelocationWalk) → e.cursor.failed ≡ None → e.cursor.unread ≡ 0 → e.cursor.left ≡ 0 → e.next ≡ 0 → walk_left target e ≡ walk_all target
 unfolding walk_left walk_all
 cost-begins target e f u l n = grind arith
 
-pub left-begins : (file : List ℕ) (target : TargetCode) (e : Entries) → e.cursor.left ≡ 0 → e.next ≡ 0 → changes_left file target e ≡ changes_all file target
+pub left-begins : (file : List ℕ) (target : TargetCode) (e : RelocationWalk) → e.cursor.left ≡ 0 → e.next ≡ 0 → changes_left file target e ≡ changes_all file target
 left-begins file target e l n = grind (arith, left-rows)
 
 pub cost-opened :
-    (target : TargetCode) (old new : Entries) → new.cursor.failed ≡ None → new.cursor.unread ≡ new.cursor.left * 24 → new.next ≡ old.next + 1 → old.next < sections_of target
+    (target : TargetCode) (old new : RelocationWalk) → new.cursor.failed ≡ None → new.cursor.unread ≡ new.cursor.left * 24 → new.next ≡ old.next + 1 → old.next < sections_of target
     → new.cursor.left ≡ entry_count_in target old.next → walk_left target new ≤ walk_left target old
 unfolding walk_left
 cost-opened target old new f u step below counted = grind (arith, entries-next)
 
-pub cost-passed : (target : TargetCode) (old new : Entries) → new.cursor ≡ old.cursor → new.next ≡ old.next + 1 → old.next < sections_of target → walk_left target new ≤ walk_left target old
+pub cost-passed : (target : TargetCode) (old new : RelocationWalk) → new.cursor ≡ old.cursor → new.next ≡ old.next + 1 → old.next < sections_of target → walk_left target new ≤ walk_left target old
 unfolding walk_left
 cost-passed target old new same step below = grind (arith, entries-next)
 
 -- the steps that are left: a section was passed, and has no more rows than the file has bytes
-pub rows-few : (size : ℕ) (table : Rows) → table.entry ≡ 24 → TableInBounds size table → table.count ≤ size
+pub rows-few : (size : ℕ) (table : TableRange) → table.entry ≡ 24 → TableInBounds size table → table.count ≤ size
 rows-few size table entry within = grind arith
 
-pub steps-passed : (target : TargetCode) (old new : Entries) → new.next ≡ old.next + 1 → old.next < sections_of target → new.cursor.left ≤ target.file.loaded.size → steps_left target new < steps_left target old
+pub steps-passed : (target : TargetCode) (old new : RelocationWalk) → new.next ≡ old.next + 1 → old.next < sections_of target → new.cursor.left ≤ target.file.loaded.size → steps_left target new < steps_left target old
 unfolding steps_left
 steps-passed target old new step below few =
     let n : sections_of target - old.next ≡ suc (sections_of target - new.next) = omega arith in
     rw n (omega arith)
 
 -- what the walk holds refers to the symbols of its section
-refers_here : (file : List ℕ) (target : TargetCode) (new : Entries) (section : ℕ) → new.current ≡ section → Refers file target (section_at file section) new.symbols → Refers file target (section_at file new.current) new.symbols
+refers_here : (file : List ℕ) (target : TargetCode) (new : RelocationWalk) (section : ℕ) → new.current ≡ section → Refers file target (section_at file section) new.symbols → Refers file target (section_at file new.current) new.symbols
 refers_here file target new section here h = let P : ℕ → Type 0 = λ k. Refers file target (section_at file k) new.symbols in subst P (sym here) h
 
 -- a section was opened, or refused
-pub opened-fault : (file : List ℕ) (target : TargetCode) (old new : Entries) (fault : Fault) → old.cursor.left ≡ 0 → old.next < sections_of target → applies_to file target.section (section_at file old.next) ≡ true
+pub opened-fault : (file : List ℕ) (target : TargetCode) (old new : RelocationWalk) (fault : Fault) → old.cursor.left ≡ 0 → old.next < sections_of target → applies_to file target.section (section_at file old.next) ≡ true
     → Relocates file (section_at file old.next) (Err fault) → StepsWalk file target old new (Err fault)
 opened-fault file target old new (Refused refusal) none below applies h = λ other.
     left-refused file target old refusal none below (section_fault (target_as file target) (section_at file old.next) refusal applies h)
 opened-fault file target old new (Source fault at) none below applies h = absurd h
 
-pub opened-rows : (file : List ℕ) (target : TargetCode) (old new : Entries) (table : Rows) → new.cursor.table ≡ table → new.cursor.index ≡ 0 → new.cursor.left ≡ table.count → new.cursor.held ≡ [] → new.next ≡ old.next + 1 → new.current ≡ old.next
+pub opened-rows : (file : List ℕ) (target : TargetCode) (old new : RelocationWalk) (table : TableRange) → new.cursor.table ≡ table → new.cursor.index ≡ 0 → new.cursor.left ≡ table.count → new.cursor.held ≡ [] → new.next ≡ old.next + 1 → new.current ≡ old.next
     → old.cursor.left ≡ 0 → old.next < sections_of target → applies_to file target.section (section_at file old.next) ≡ true
     → Relocates file (section_at file old.next) (Ok (table, new.symbols.linked)) → new.symbols.last ≡ None → (changes_left file target old ≡ changes_left file target new) × ReadsEntries file target new
 opened-rows file target old new table same first counted held step here none below applies h fresh =
     (grind (arith, left-opened, section_rows), record { agrees = rw held refl; links = grind arith; placed = grind arith })
 
 -- a row was read, and then its symbol and names
-pub cost-row : (target : TargetCode) (old new : Entries) (before middle after : ℕ) → new.next ≡ old.next → old.cursor.failed ≡ None → new.cursor.failed ≡ None → new.cursor.left + 1 ≡ old.cursor.left
+pub cost-row : (target : TargetCode) (old new : RelocationWalk) (before middle after : ℕ) → new.next ≡ old.next → old.cursor.failed ≡ None → new.cursor.failed ≡ None → new.cursor.left + 1 ≡ old.cursor.left
     → middle + unread_bytes new.cursor ≤ before + unread_bytes old.cursor → after ≤ middle + beside_entry_cost target → after + walk_left target new ≤ before + walk_left target old
 unfolding walk_left
 cost-row target old new before middle after same f f' less account own = grind arith
 
 -- the source failed before a row
-cost-fault : (target : TargetCode) (old new : Entries) (before after : ℕ) (fault : Fault) → new.next ≡ old.next → new.cursor.failed ≡ Some fault
+cost-fault : (target : TargetCode) (old new : RelocationWalk) (before after : ℕ) (fault : Fault) → new.next ≡ old.next → new.cursor.failed ≡ Some fault
     → after + unread_bytes new.cursor ≤ before + unread_bytes old.cursor → after + walk_left target new ≤ before + walk_left target old
 unfolding walk_left
 cost-fault target old new before after fault next failed account = rw (next, failed) (omega (arith, account))
 
 -- the bytes that are still to be read of a section are left to ask for
-pub unread-left : (target : TargetCode) (e : Entries) → unread_bytes e.cursor ≤ walk_left target e
+pub unread-left : (target : TargetCode) (e : RelocationWalk) → unread_bytes e.cursor ≤ walk_left target e
 unfolding walk_left
 unread-left target e = omega arith
 
@@ -197,52 +197,52 @@ pub reads-left : {a b : CountedState} {n : ℕ} (left left' : ℕ) → ReadsUpTo
 reads-left left left' reads account = ReadsUpTo-to reads (omega (arith, account))
 
 -- steps one after another
-pub asks-none : (target : TargetCode) (e : Entries) (a : CountedState) → AsksOf a a target e e
+pub asks-none : (target : TargetCode) (e : RelocationWalk) (a : CountedState) → AsksOf a a target e e
 asks-none target e a = record { reads = ReadsUpTo-none a (walk_left target e); account = omega arith }
 
-pub asks-then : {target : TargetCode} {old mid new : Entries} {a b c : CountedState} → AsksOf a b target old mid → AsksOf b c target mid new → AsksOf a c target old new
+pub asks-then : {target : TargetCode} {old mid new : RelocationWalk} {a b c : CountedState} → AsksOf a b target old mid → AsksOf b c target mid new → AsksOf a c target old new
 asks-then p q = record { reads = ReadsUpTo-to (ReadsUpTo-then p.reads q.reads) (omega (arith, p.account, q.account)); account = omega (arith, p.account, q.account) }
 
-pub finds-fault : (file : List ℕ) (target : TargetCode) (old mid new : Entries) (fault : Fault) → changes_left file target old ≡ changes_left file target mid
+pub finds-fault : (file : List ℕ) (target : TargetCode) (old mid new : RelocationWalk) (fault : Fault) → changes_left file target old ≡ changes_left file target mid
     → StepsWalk file target mid new (Err fault) → FindsEntry file target old new (Err fault)
 finds-fault file target old mid new (Refused refusal) same walked = λ other. let found = walked other in (found.0, same ∙ found.1)
 finds-fault file target old mid new (Source fault at) same walked = tt
 
 -- a row was read, and then what is beside it
-pub row-asks : (target : TargetCode) (old new : Entries) (a b c : CountedState) → new.next ≡ old.next → old.cursor.failed ≡ None → new.cursor.failed ≡ None → new.cursor.left + 1 ≡ old.cursor.left
+pub row-asks : (target : TargetCode) (old new : RelocationWalk) (a b c : CountedState) → new.next ≡ old.next → old.cursor.failed ≡ None → new.cursor.failed ≡ None → new.cursor.left + 1 ≡ old.cursor.left
     → ReadsUpTo a b (unread_bytes old.cursor) → b.asked + unread_bytes new.cursor ≤ a.asked + unread_bytes old.cursor → ReadsUpTo b c (beside_entry_cost target) → AsksOf a c target old new
 row-asks target old new a b c same f f' less reads account own =
     let all = cost-row target old new a.asked b.asked c.asked same f f' less account own.at_most in
     record { reads = reads-left (walk_left target old) (walk_left target new) (ReadsUpTo-then reads own) all; account = all }
 
-pub row-goes : (size : ℕ) (target : TargetCode) (holds : Option (List ℕ)) (old new : Entries) → GivesRow holds old.cursor new.cursor → new.next ≡ old.next → new.count ≡ old.count → new.symbols.linked ≡ old.symbols.linked
+pub row-goes : (size : ℕ) (target : TargetCode) (holds : Option (List ℕ)) (old new : RelocationWalk) → GivesRow holds old.cursor new.cursor → new.next ≡ old.next → new.count ≡ old.count → new.symbols.linked ≡ old.symbols.linked
     → IsWalkAlive size target old → IsWalkAlive size target new
 row-goes size target holds old new gives next count linked goes = record {
   not_failed = gives.still_not_failed;
-  entry = ap (λ (t : Rows). t.entry) gives.same_table ∙ goes.entry;
+  entry = ap (λ (t : TableRange). t.entry) gives.same_table ∙ goes.entry;
   within = rw gives.same_table goes.within;
   linked = rw linked goes.linked;
   next = omega (arith, goes.next);
   few = omega (arith, goes.few);
 }
 
-pub goes-same : (size size' : ℕ) (target : TargetCode) (old : Entries) (cursor : CursorState) → size' ≡ size → cursor ≡ old.cursor → IsWalkAlive size target old
+pub goes-same : (size size' : ℕ) (target : TargetCode) (old : RelocationWalk) (cursor : CursorState) → size' ≡ size → cursor ≡ old.cursor → IsWalkAlive size target old
     → IsWalkAlive size' target (record { cursor = cursor; symbols = old.symbols; current = old.current; next = old.next; count = old.count })
 goes-same size size' target old cursor sized same goes = rw (sized, same) goes
 
-pub steps-row : (target : TargetCode) (old new : Entries) → new.next ≡ old.next → new.cursor.left + 1 ≡ old.cursor.left → steps_left target new < steps_left target old
+pub steps-row : (target : TargetCode) (old new : RelocationWalk) → new.next ≡ old.next → new.cursor.left + 1 ≡ old.cursor.left → steps_left target new < steps_left target old
 unfolding steps_left
 steps-row target old new next less = rw next (omega arith)
 
 -- the source failed before a row
-pub fault-asks : (target : TargetCode) (old new : Entries) (a b : CountedState) (fault : Fault) → new.next ≡ old.next → new.cursor.failed ≡ Some fault
+pub fault-asks : (target : TargetCode) (old new : RelocationWalk) (a b : CountedState) (fault : Fault) → new.next ≡ old.next → new.cursor.failed ≡ Some fault
     → ReadsUpTo a b (unread_bytes old.cursor) → b.asked + unread_bytes new.cursor ≤ a.asked + unread_bytes old.cursor → AsksOf a b target old new
 fault-asks target old new a b fault next failed reads account =
     let all = cost-fault target old new a.asked b.asked fault next failed account in
     record { reads = reads-left (walk_left target old) (walk_left target new) reads all; account = all }
 
 -- no row is left: what the step to the next section did
-pub end-asks : (target : TargetCode) (old new : Entries) (a b : CountedState) (cursor : CursorState) → cursor ≡ old.cursor
+pub end-asks : (target : TargetCode) (old new : RelocationWalk) (a b : CountedState) (cursor : CursorState) → cursor ≡ old.cursor
     → walk_left target new ≤ walk_left target (record { cursor = cursor; symbols = old.symbols; current = old.current; next = old.next; count = old.count })
     → ReadsUpTo a b (unread_bytes old.cursor) → b.asked + unread_bytes cursor ≤ a.asked + unread_bytes old.cursor → AsksOf a b target old new
 end-asks target old new a b cursor same fewer reads account =
@@ -252,29 +252,29 @@ end-asks target old new a b cursor same fewer reads account =
     record { reads = reads-left (walk_left target old) (walk_left target new) reads all; account = all }
 
 -- what a row gives is the first of what is left
-module _ (file : List ℕ) (target : TargetCode) (old new : Entries) (at : ℕ) (next : new.next ≡ old.next) (here : new.current ≡ old.current) (index : new.cursor.index ≡ old.cursor.index + 1) (less : new.cursor.left + 1 ≡ old.cursor.left)
+module _ (file : List ℕ) (target : TargetCode) (old new : RelocationWalk) (at : ℕ) (next : new.next ≡ old.next) (here : new.current ≡ old.current) (index : new.cursor.index ≡ old.cursor.index + 1) (less : new.cursor.left + 1 ≡ old.cursor.left)
     (place : at ≡ sh_offset file (section_at file old.current) + old.cursor.index * 24) where
-  pub row-stores : (placed : Placed) → entry_changes (target_as file target) (section_at file old.current) at ≡ Put (patch_as placed) ∷ [] → changes_left file target old ≡ Put (patch_as placed) ∷ changes_left file target new
+  pub row-stores : (placed : PlacedPatch) → entry_changes (target_as file target) (section_at file old.current) at ≡ Put (patch_as placed) ∷ [] → changes_left file target old ≡ Put (patch_as placed) ∷ changes_left file target new
   row-stores placed h = left-row file target old new at next here index less place ∙ ap (λ l. l ++ changes_left file target new) h
 
   pub row-nothing : entry_changes (target_as file target) (section_at file old.current) at ≡ [] → changes_left file target old ≡ changes_left file target new
   row-nothing h = left-row file target old new at next here index less place ∙ ap (λ l. l ++ changes_left file target new) h
 
-  pub row-fails : (fault : Fault) (after : Entries) → Changes (Err fault) (entry_changes (target_as file target) (section_at file old.current) at) → StepsWalk file target old after (Err fault)
+  pub row-fails : (fault : Fault) (after : RelocationWalk) → Changes (Err fault) (entry_changes (target_as file target) (section_at file old.current) at) → StepsWalk file target old after (Err fault)
   row-fails (Refused refusal) after h = λ other.
       (changes_left file target new, left-row file target old new at next here index less place ∙ ap (λ l. l ++ changes_left file target new) (h other))
   row-fails (Source fault offset) after h = tt
 
-pub reads-row : (file : List ℕ) (target : TargetCode) (holds : Option (List ℕ)) (old new : Entries) → GivesRow holds old.cursor new.cursor → holds ≡ Some file → new.current ≡ old.current → ReadsEntries file target old
+pub reads-row : (file : List ℕ) (target : TargetCode) (holds : Option (List ℕ)) (old new : RelocationWalk) → GivesRow holds old.cursor new.cursor → holds ≡ Some file → new.current ≡ old.current → ReadsEntries file target old
     → Refers file target (section_at file old.current) new.symbols → ReadsEntries file target new
 reads-row file target holds old new gives held here reads refers = record {
   agrees = gives.agrees file held reads.agrees;
   links = λ some. refers_here file target new old.current here refers;
-  placed = λ some. ap (λ (t : Rows). t.at) gives.same_table ∙ (reads.placed (omega (arith, some, gives.one_less)) ∙ ap (λ k. sh_offset file (section_at file k)) (sym here));
+  placed = λ some. ap (λ (t : TableRange). t.at) gives.same_table ∙ (reads.placed (omega (arith, some, gives.one_less)) ∙ ap (λ k. sh_offset file (section_at file k)) (sym here));
 }
 
-pub same-walked : (file : List ℕ) (target : TargetCode) (old new : Entries) (cursor : CursorState) (result : Result WalkStep Fault) → cursor ≡ old.cursor
-    → (let now : Entries = record { cursor = cursor; symbols = old.symbols; current = old.current; next = old.next; count = old.count } in ReadsEntries file target now → StepsWalk file target now new result) → ReadsEntries file target old → StepsWalk file target old new result
+pub same-walked : (file : List ℕ) (target : TargetCode) (old new : RelocationWalk) (cursor : CursorState) (result : Result WalkStep Fault) → cursor ≡ old.cursor
+    → (let now : RelocationWalk = record { cursor = cursor; symbols = old.symbols; current = old.current; next = old.next; count = old.count } in ReadsEntries file target now → StepsWalk file target now new result) → ReadsEntries file target old → StepsWalk file target old new result
 same-walked file target old new cursor result same walked reads =
-    let P : CursorState → Type 0 = λ c. (let now : Entries = record { cursor = c; symbols = old.symbols; current = old.current; next = old.next; count = old.count } in ReadsEntries file target now → StepsWalk file target now new result) in
+    let P : CursorState → Type 0 = λ c. (let now : RelocationWalk = record { cursor = c; symbols = old.symbols; current = old.current; next = old.next; count = old.count } in ReadsEntries file target now → StepsWalk file target now new result) in
     subst P same walked (record { agrees = reads.agrees; links = reads.links; placed = reads.placed })

@@ -10,7 +10,7 @@ use Rattle.elf_model.specs.Records.{e_shnum, section_at}
 use Rattle.elf_model.specs.declared.causes.Refusal.{Refusal}
 use Rattle.elf_source.specs.Growth.{OutGrows}
 use Rattle.elf_source.specs.Output.{OutState, SinkTakes, SinkTakesPrefix, IsOutFault}
-use Rattle.elf_source.specs.Source.{CountedState, IsSourceFault, Keeps}
+use Rattle.elf_source.specs.Source.{CountedState, IsSourceFault, KeepsSource}
 use Rattle.elf_table.specs.Load.{IsOpen, LoadedFile}
 use Rattle.elf_table.specs.Store.{StoreState}
 use Rattle.elf_table.specs.declared.fault.Fault.{Fault}
@@ -70,7 +70,7 @@ ApplySays old new out n (Out fault) = IsOutFault out fault
 
 -- WHAT WAS ASKED FOR, for every source: at most n bytes more, and never past a limit that was set; the source is kept
 pub record ReadsWithin (old new : CountedState) (n : ℕ) : Type 0 where
-  pub keeps : Keeps old.seen new.seen
+  pub keeps : KeepsSource old.seen new.seen
   pub grows : old.asked ≤ new.asked
   pub at_most : new.asked ≤ old.asked + n
   pub within : (most : ℕ) → old.most ≡ Some most → new.asked ≤ most

@@ -17,7 +17,7 @@ use Rattle.elf_table.specs.Ledger.{CallReads}
 use Rattle.elf_table.specs.declared.fault.Fault.{Fault}
 use Rattle.elf_table.specs.declared.fault.Fault.TheVariants.{Refused, Source}
 use Rattle.elf_table.specs.Relocations.{RefersTo}
-use Rattle.elf_reloc.specs.declared.entry.Placed.{Placed}
+use Rattle.elf_reloc.specs.declared.entry.PlacedPatch.{PlacedPatch}
 use Rattle.elf_reloc.specs.declared.entry.RelocationSymbols.{RelocationSymbols}
 use Rattle.elf_reloc.specs.declared.entry.CachedAddress.{CachedAddress}
 use Rattle.elf_reloc.specs.declared.entry.ApplyTarget.{ApplyTarget as TargetCode}
@@ -27,22 +27,22 @@ abbrev pub target_as : List ℕ → TargetCode → ApplyTarget
 target_as file target = record { file = file; section = target.section; size = target.size; layout = target.layout.now }
 
 -- the bytes that are stored
-abbrev pub patch_as : Placed → StoredBytes
+abbrev pub patch_as : PlacedPatch → StoredBytes
 patch_as placed = record { at = placed.offset; bytes = patched_bytes placed.patch }
 
 -- they lie within so many bytes
-abbrev pub IsPlacedInside : ℕ → Placed → Type 0
+abbrev pub IsPlacedInside : ℕ → PlacedPatch → Type 0
 IsPlacedInside size placed = placed.offset + length (patched_bytes placed.patch) ≤ size
 
 -- what an entry gives: nothing, bytes that are stored, or its fault, unless that is for want of budget
-abbrev pub Changes : Result (Option Placed) Fault → List SectionChange → Type 0
+abbrev pub Changes : Result (Option PlacedPatch) Fault → List SectionChange → Type 0
 Changes (Ok None) changes = changes ≡ []
 Changes (Ok (Some placed)) changes = changes ≡ Put (patch_as placed) ∷ []
 Changes (Err (Refused refusal)) changes = (IsBudgetRefusal refusal → ⊥) → changes ≡ Fails refusal ∷ []
 Changes (Err (Source fault at)) changes = Unit {0}
 
 -- what an entry of a type gives: bytes that are stored, or its fault, unless that is for want of budget
-abbrev pub Does : Result Placed Fault → SectionChange → Type 0
+abbrev pub Does : Result PlacedPatch Fault → SectionChange → Type 0
 Does (Ok placed) change = change ≡ Put (patch_as placed)
 Does (Err (Refused refusal)) change = (IsBudgetRefusal refusal → ⊥) → change ≡ Fails refusal
 Does (Err (Source fault at)) change = Unit {0}

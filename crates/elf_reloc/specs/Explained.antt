@@ -11,7 +11,7 @@ use Rattle.elf_model.specs.Tables.{linked_at, strings_of}
 use Rattle.elf_model.specs.declared.causes.Cause.{Cause}
 use Rattle.elf_model.specs.declared.causes.Cause.TheVariants.{Unplaced, Undefined, Unsupported}
 use Rattle.elf_model.specs.declared.causes.Refusal.{Refusal}
-use Rattle.elf_model.specs.declared.missing.Missing.{Missing}
+use Rattle.elf_model.specs.declared.missing.MissingAddress.{MissingAddress}
 use Rattle.elf_model.specs.declared.missing.LayoutAddress.{LayoutAddress}
 use Rattle.elf_record.specs.Rela.{IsRela}
 use Rattle.elf_record.specs.declared.rela.Rela.{Rela}
@@ -20,7 +20,7 @@ use Rattle.elf_table.specs.declared.fault.Fault.{Fault}
 use Rattle.elf_table.specs.declared.fault.Fault.TheVariants.{Refused, Source}
 use Rattle.elf_table.specs.Cursors.{row_at}
 use Rattle.elf_table.specs.Relocations.{RefersTo}
-use Rattle.elf_table.specs.Tables.{Rows, StringTableRange, SymbolTableInBounds, strings_in}
+use Rattle.elf_table.specs.Tables.{TableRange, StringTableRange, SymbolTableInBounds, strings_in}
 use Rattle.elf_table.specs.declared.names.NameEnd.{NameEnd}
 use Rattle.elf_table.specs.NamesRead.{shown_by}
 use Rattle.elf_reloc.specs.declared.missing_item.MissingItem.{MissingItem}
@@ -42,36 +42,36 @@ abbrev pub explain_bytes : ℕ → ℕ
 explain_bytes slots = 64 + 64 * slots + entry_bytes
 
 -- what is lacking, with the bytes of the symbol's name
-abbrev pub lack_as : List ℕ → Option (Missing × NameEnd) → Option MissingEntry
+abbrev pub lack_as : List ℕ → Option (MissingAddress × NameEnd) → Option MissingEntry
 lack_as name None = None
 lack_as name (Some found) = Some (record { missing = found.0; name = shown_by found.1 name })
 
 -- WHAT IS EXPLAINED of a file: what the layout lacks; or the refusal of the file's own checks, unless it is for want of budget
-abbrev pub Explains : List ℕ → (headers : ℕ) → Option MissingEntry → Result (Option (Missing × NameEnd)) Fault → List ℕ → Type 0
+abbrev pub Explains : List ℕ → (headers : ℕ) → Option MissingEntry → Result (Option (MissingAddress × NameEnd)) Fault → List ℕ → Type 0
 Explains file headers lack (Ok found) name = lack_as name found ≡ lack
 Explains file headers lack (Err (Refused refusal)) name = (IsBudgetRefusal refusal → ⊥) → first_refusal (header_checks file ++ load_checks file headers) ≡ Some refusal
 Explains file headers lack (Err (Source fault at)) name = Unit {0}
 
 -- the same behind those checks: nothing is refused but for want of budget
-abbrev pub ExplainsLoaded : Option MissingEntry → Result (Option (Missing × NameEnd)) Fault → List ℕ → Type 0
+abbrev pub ExplainsLoaded : Option MissingEntry → Result (Option (MissingAddress × NameEnd)) Fault → List ℕ → Type 0
 ExplainsLoaded lack (Ok found) name = lack_as name found ≡ lack
 ExplainsLoaded lack (Err fault) name = IsOfRead fault
 
 -- an entry of 24 bytes of a table stands at an offset
-abbrev pub has_row : Rows → ℕ → Bool
+abbrev pub has_row : TableRange → ℕ → Bool
 has_row table at = let index = (at - table.at) / 24 in nat_lt index table.count && row_at table index == at
 
 -- a section relocates another and has an entry at an offset, and refers to these symbols; or it does not
-abbrev pub HasEntry : List ℕ → ℕ → ℕ → ℕ → Option (Option (Rows × StringTableRange)) → Type 0
+abbrev pub HasEntry : List ℕ → ℕ → ℕ → ℕ → Option (Option (TableRange × StringTableRange)) → Type 0
 HasEntry file section rela header None = relocates_at file section rela header ≡ false
 HasEntry file section rela header (Some linked) = (relocates_at file section rela header ≡ true) × RefersTo file header linked
 
 -- an entry lies within a source of this size, and the symbols that it may refer to
-abbrev pub EntryWithin : ℕ → ℕ → Option (Rows × StringTableRange) → Type 0
+abbrev pub EntryWithin : ℕ → ℕ → Option (TableRange × StringTableRange) → Type 0
 EntryWithin size rela linked = (rela + 24 ≤ size) × IfSome linked (SymbolTableInBounds size)
 
 -- THE SECTION OF ENTRIES that a refusal points into, by the symbols that it refers to
-abbrev pub FoundEntries : List ℕ → ℕ → ℕ → Option (Option (Rows × StringTableRange)) → Type 0
+abbrev pub FoundEntries : List ℕ → ℕ → ℕ → Option (Option (TableRange × StringTableRange)) → Type 0
 FoundEntries file section rela None = refused_in file section rela ≡ None
 FoundEntries file section rela (Some linked) = (index : ℕ) × (refused_in file section rela ≡ Some index) × RefersTo file (section_at file index) linked
 
@@ -102,13 +102,13 @@ LackOf kind named wanted None = missing_of kind named.name wanted ≡ None
 LackOf kind named wanted (Some lacking) = (missing_of kind named.name wanted ≡ Some lacking.missing) × (lacking.names ≡ named.names)
 
 -- what is missing is known, with the string table of the symbol's name where it has one
-abbrev pub Lacks : List ℕ → (header : ℕ) → Option Missing → Option MissingItem → Type 0
+abbrev pub Lacks : List ℕ → (header : ℕ) → Option MissingAddress → Option MissingItem → Type 0
 Lacks file header missing None = missing ≡ None
 Lacks file header missing (Some lacking) =
     (missing ≡ Some lacking.missing) × (lacking.missing.name ≢ 0 → strings_in file lacking.names ≡ strings_of file (linked_at file header))
 
 -- that, once the entry was read
-abbrev pub LacksRead : List ℕ → (header : ℕ) → Option Missing → Result (Option MissingItem) Fault → Type 0
+abbrev pub LacksRead : List ℕ → (header : ℕ) → Option MissingAddress → Result (Option MissingItem) Fault → Type 0
 LacksRead file header missing (Ok found) = Lacks file header missing found
 LacksRead file header missing (Err fault) = IsOfRead fault
 

@@ -15,9 +15,9 @@ use Rattle.elf_table.specs.Tables.{TableInBounds, SymbolTableInBounds}
 use Rattle.elf_table.specs.declared.fault.Fault.{Fault}
 use Rattle.elf_table.specs.declared.fault.Fault.TheVariants.{Refused, Source}
 use Rattle.elf_reloc.specs.Entries.{target_as, patch_as, beside_entry_cost, IsPlacedInside, Refers}
-use Rattle.elf_reloc.specs.declared.entry.Placed.{Placed}
+use Rattle.elf_reloc.specs.declared.entry.PlacedPatch.{PlacedPatch}
 use Rattle.elf_reloc.specs.declared.entry.ApplyTarget.{ApplyTarget as TargetCode}
-use Rattle.elf_reloc.specs.declared.walk.Entries.{Entries}
+use Rattle.elf_reloc.specs.declared.walk.RelocationWalk.{RelocationWalk}
 use Rattle.elf_reloc.specs.declared.walk.WalkStep.{WalkStep}
 use Rattle.elf_reloc.specs.declared.walk.WalkStep.TheVariants.{Stores, Nothing, End}
 
@@ -35,7 +35,7 @@ unfoldable pub changes_from : List ℕ → TargetCode → ℕ → ℕ → List S
 changes_from file target i n = flat_map (section_changes (target_as file target)) (places_from (section_at file) i n)
 
 -- what the entries that are left do
-unfoldable pub changes_left : List ℕ → TargetCode → Entries → List SectionChange
+unfoldable pub changes_left : List ℕ → TargetCode → RelocationWalk → List SectionChange
 changes_left file target e =
     rows_changes file target (section_at file e.current) e.cursor.index e.cursor.left
     ++ changes_from file target e.next (sections_of target - e.next)
@@ -62,7 +62,7 @@ unfoldable pub entries_from : TargetCode → ℕ → ℕ
 entries_from target i = sum_over (entry_count_in target) i (sections_of target - i)
 
 -- what the walk may still ask for
-unfoldable pub walk_left : TargetCode → Entries → ℕ
+unfoldable pub walk_left : TargetCode → RelocationWalk → ℕ
 walk_left target e =
     (unread_bytes e.cursor + unless_failed e.cursor.failed (e.cursor.left * beside_entry_cost target))
     + entries_from target e.next * (24 + beside_entry_cost target)
@@ -72,16 +72,16 @@ unfoldable pub walk_all : TargetCode → ℕ
 walk_all target = entries_from target 0 * (24 + beside_entry_cost target)
 
 -- what was asked for is no longer left to the walk
-pub record AsksOf (before after : CountedState) (target : TargetCode) (old new : Entries) : Type 0 where
+pub record AsksOf (before after : CountedState) (target : TargetCode) (old new : RelocationWalk) : Type 0 where
   pub reads : ReadsUpTo before after (walk_left target old)
   pub account : after.asked + walk_left target new ≤ before.asked + walk_left target old
 
 -- how many steps are left at most
-unfoldable pub steps_left : TargetCode → Entries → ℕ
+unfoldable pub steps_left : TargetCode → RelocationWalk → ℕ
 steps_left target e = (sections_of target - e.next) * (target.file.loaded.size + 1) + e.cursor.left
 
 -- the walk has not failed, and what it reads lies within a source of this size
-pub record IsWalkAlive (size : ℕ) (target : TargetCode) (e : Entries) : Type 0 where
+pub record IsWalkAlive (size : ℕ) (target : TargetCode) (e : RelocationWalk) : Type 0 where
   pub not_failed : e.cursor.failed ≡ None
   pub entry : e.cursor.table.entry ≡ 24
   pub within : TableInBounds size e.cursor.table
@@ -90,17 +90,17 @@ pub record IsWalkAlive (size : ℕ) (target : TargetCode) (e : Entries) : Type 0
   pub few : e.count ≤ e.next * 2 ^ 64
 
 -- the rows that are left are the file's
-pub record ReadsEntries (file : List ℕ) (target : TargetCode) (e : Entries) : Type 0 where
+pub record ReadsEntries (file : List ℕ) (target : TargetCode) (e : RelocationWalk) : Type 0 where
   pub agrees : HoldsRows file e.cursor
   pub links : 0 < e.cursor.left → Refers file target (section_at file e.current) e.symbols
   pub placed : 0 < e.cursor.left → e.cursor.table.at ≡ sh_offset file (section_at file e.current)
 
 -- entries are counted where their section is opened
-abbrev CountsEntries : TargetCode → Entries → Entries → Type 0
+abbrev CountsEntries : TargetCode → RelocationWalk → RelocationWalk → Type 0
 CountsEntries target old new = new.count + entries_from target new.next ≡ old.count + entries_from target old.next
 
 -- a step of the walk; a refusal for want of budget says nothing of the entries
-abbrev pub StepsWalk : List ℕ → TargetCode → Entries → Entries → Result WalkStep Fault → Type 0
+abbrev pub StepsWalk : List ℕ → TargetCode → RelocationWalk → RelocationWalk → Result WalkStep Fault → Type 0
 StepsWalk file target old new (Ok (Stores placed)) = (changes_left file target old ≡ Put (patch_as placed) ∷ changes_left file target new) × ReadsEntries file target new
 StepsWalk file target old new (Ok Nothing) = (changes_left file target old ≡ changes_left file target new) × ReadsEntries file target new
 StepsWalk file target old new (Ok End) = changes_left file target old ≡ []
@@ -108,44 +108,44 @@ StepsWalk file target old new (Err (Refused refusal)) = (IsBudgetRefusal refusal
 StepsWalk file target old new (Err (Source fault at)) = Unit {0}
 
 -- the next entry that stores bytes; a refusal for want of budget says nothing of the entries
-abbrev pub FindsEntry : List ℕ → TargetCode → Entries → Entries → Result (Option Placed) Fault → Type 0
+abbrev pub FindsEntry : List ℕ → TargetCode → RelocationWalk → RelocationWalk → Result (Option PlacedPatch) Fault → Type 0
 FindsEntry file target old new (Ok (Some placed)) = (changes_left file target old ≡ Put (patch_as placed) ∷ changes_left file target new) × ReadsEntries file target new
 FindsEntry file target old new (Ok None) = changes_left file target old ≡ []
 FindsEntry file target old new (Err (Refused refusal)) = (IsBudgetRefusal refusal → ⊥) → (rest : List SectionChange) × (changes_left file target old ≡ Fails refusal ∷ rest)
 FindsEntry file target old new (Err (Source fault at)) = Unit {0}
 
 -- a step gives bytes inside the section, and fewer steps are left; or none, and the sections are counted
-abbrev pub StepGives : TargetCode → Entries → Entries → WalkStep → Type 0
+abbrev pub StepGives : TargetCode → RelocationWalk → RelocationWalk → WalkStep → Type 0
 StepGives target old new (Stores placed) = (steps_left target new < steps_left target old) × IsPlacedInside target.size placed
 StepGives target old new Nothing = steps_left target new < steps_left target old
 StepGives target old new End = entries_from target new.next ≡ 0
 
 -- the same of the next entry that stores bytes
-abbrev pub FoundGives : TargetCode → Entries → Entries → Option Placed → Type 0
+abbrev pub FoundGives : TargetCode → RelocationWalk → RelocationWalk → Option PlacedPatch → Type 0
 FoundGives target old new (Some placed) = (steps_left target new < steps_left target old) × IsPlacedInside target.size placed
 FoundGives target old new None = entries_from target new.next ≡ 0
 
 -- the walk went on: it may go on from there, the sections that were opened are counted, and this is what it gives
-pub record WentOn {X : Type 0} (size : ℕ) (target : TargetCode) (old new : Entries) (Gives : X → Type 0) (found : X) : Type 0 where
+pub record WentOn {X : Type 0} (size : ℕ) (target : TargetCode) (old new : RelocationWalk) (Gives : X → Type 0) (found : X) : Type 0 where
   pub goes : IsWalkAlive size target new
   pub counts : CountsEntries target old new
   pub gives : Gives found
 
 -- WHAT A CALL OF THE WALK DID: it asked for no more than was left to the walk, and went on; and where the file is known
 -- what it tells
-pub record StepsRelocationWalk {X : Type 0} (before after : CountedState) (target : TargetCode) (old new : Entries) (result : Result X Fault) (Gives : X → Type 0) (Tells : List ℕ → Type 0) : Type 0 where
+pub record StepsRelocationWalk {X : Type 0} (before after : CountedState) (target : TargetCode) (old new : RelocationWalk) (result : Result X Fault) (Gives : X → Type 0) (Tells : List ℕ → Type 0) : Type 0 where
   pub asks : AsksOf before after target old new
   pub says : IfErr result (IsReadFault before after (walk_left target old))
   pub went : IfOk result (WentOn before.seen.size target old new Gives)
   pub known : (file : List ℕ) → before.seen.file ≡ Some file → ReadsEntries file target old → Tells file
 
 -- a walk over the entries may go on: the target's file is that of the source
-pub record MayWalk (src : CountedState) (target : TargetCode) (e : Entries) : Type 0 where
+pub record MayWalk (src : CountedState) (target : TargetCode) (e : RelocationWalk) : Type 0 where
   pub opened : IsOpen src target.file.loaded target.file.store.now
   pub goes : IsWalkAlive src.seen.size target e
 
 -- a walk that is before the first entry, whatever the target
-pub record BeginsWalk (e : Entries) : Type 0 where
+pub record BeginsWalk (e : RelocationWalk) : Type 0 where
   pub begins : (size : ℕ) (target : TargetCode) → IsWalkAlive size target e
   pub left : (target : TargetCode) → walk_left target e ≡ walk_all target
   pub none : (target : TargetCode) → e.count + entries_from target e.next ≡ entries_from target 0

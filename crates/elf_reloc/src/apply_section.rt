@@ -24,7 +24,9 @@ use elf_layout::{Addresses, Layout};
 use elf_record::numbers::{EM_X86_64, ET_REL, SHT_NOBITS, SHT_NULL};
 use elf_record::{Cause, Refusal, SectionFlags, Shdr};
 use elf_source::{Counted, Out, Sink, Source};
-use elf_table::{Fault, File, HeaderStore, Loaded, RunFault, ends_outside, header, load, refused};
+use elf_table::{
+    Fault, HeaderStore, Loaded, RunFault, SectionView, header, is_out_of_bounds, load, refused,
+};
 
 /// What was applied.
 #[derive(Clone, Copy)]
@@ -38,7 +40,7 @@ pub struct Applied {
 /// Where the bytes of a section stand, and how many there are; none for a section without bytes in
 /// the file.
 #[tactic(auto, unfolding(crate::proofs::Words::request))]
-fn held(file: &File<'_>, section: u16) -> Result<(u64, u64), Fault>
+fn held(file: &SectionView<'_>, section: u16) -> Result<(u64, u64), Fault>
     ensures refusal { IfErr result IsOfCheck }
     ensures within { IfOk result (λ found. found.0 + found.1 ≤ file.now.loaded.size) }
     ensures held { (bytes : List ℕ) → HoldsSectionHeaders bytes file.now.loaded file.now.store.now →
@@ -62,7 +64,7 @@ fn held(file: &File<'_>, section: u16) -> Result<(u64, u64), Fault>
         return Ok((0, 0));
     }
     let size = file.loaded.size();
-    if ends_outside(size, found.sh_offset, found.sh_size) {
+    if is_out_of_bounds(size, found.sh_offset, found.sh_size) {
         return refused(file.place(section), Cause::TableOutside);
     }
     Ok((found.sh_offset, found.sh_size))
@@ -195,7 +197,7 @@ fn apply_loaded<S: Source, W: Sink>(
     ensures { AppliesLoaded src.old src.new out.old out.new result store.now.slots section
         layout.now }
 {
-    let file = File { loaded, store };
+    let file = SectionView { loaded, store };
     let found = held(&file, section)?;
     let target = ApplyTarget {
         file,

@@ -4,7 +4,7 @@ ghost use Rattle.elf_model.specs.Records.{section_at};
 ghost use Rattle.elf_table.specs.Load.{HoldsSectionHeaders};
 ghost use Rattle.elf_reloc.specs.Explained.{EntryWithin, FoundEntries, HasEntry, has_row};
 
-use elf_table::{File, Names, Table};
+use elf_table::{Names, SectionView, Table};
 
 /// Symbols with the string table of their names.
 pub(crate) type LinkedSymbolTable = Option<(Table, Names)>;
@@ -12,7 +12,11 @@ pub(crate) type LinkedSymbolTable = Option<(Table, Names)>;
 /// The first section of relocation entries for a section whose checks pass and of whose entries one
 /// stands at the file offset `rela` (gABI 4, Relocation): the symbols that it refers to. None where
 /// there is no such section. No bytes are read.
-pub(crate) fn entries_at(file: &File<'_>, section: u16, rela: u64) -> Option<LinkedSymbolTable>
+pub(crate) fn entries_at(
+    file: &SectionView<'_>,
+    section: u16,
+    rela: u64,
+) -> Option<LinkedSymbolTable>
     ensures within { IfSome result (EntryWithin file.now.loaded.size rela) }
     ensures found { (bytes : List ℕ) → HoldsSectionHeaders bytes file.now.loaded file.now.store.now →
         FoundEntries bytes section rela result }
@@ -27,7 +31,12 @@ pub(crate) fn entries_at(file: &File<'_>, section: u16, rela: u64) -> Option<Lin
 
 /// The symbols that the section of an index refers to, where it holds relocation entries for
 /// another, its checks pass, and one of its entries stands at the file offset `rela`.
-fn entry_in(file: &File<'_>, index: u16, section: u16, rela: u64) -> Option<LinkedSymbolTable>
+fn entry_in(
+    file: &SectionView<'_>,
+    index: u16,
+    section: u16,
+    rela: u64,
+) -> Option<LinkedSymbolTable>
     requires { index < file.now.store.now.loaded }
     ensures within { IfSome result (EntryWithin file.now.loaded.size rela) }
     ensures has { (bytes : List ℕ) → HoldsSectionHeaders bytes file.now.loaded file.now.store.now →

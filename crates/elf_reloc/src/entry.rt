@@ -24,7 +24,7 @@ use elf_model::{Formula, RelocationBase, RelocationType};
 use elf_record::numbers::R_X86_64_NONE;
 use elf_record::{Cause, Rela};
 use elf_source::{Counted, Source};
-use elf_table::{Fault, File, Names, Table, refused};
+use elf_table::{Fault, Names, SectionView, Table, refused};
 
 /// Symbols with the string table of their names.
 pub(crate) type LinkedSymbolTable = Option<(Table, Names)>;
@@ -49,7 +49,7 @@ pub(crate) struct RelocationSymbols {
 /// with the addresses that are given.
 #[derive(Clone, Copy)]
 pub(crate) struct ApplyTarget<'a> {
-    pub(crate) file: File<'a>,
+    pub(crate) file: SectionView<'a>,
     pub(crate) layout: &'a Addresses<'a>,
     pub(crate) section: u16,
     pub(crate) size: u64,
@@ -58,7 +58,7 @@ pub(crate) struct ApplyTarget<'a> {
 /// The bytes that an entry, which stands at the file offset `at`, stores at an offset of the
 /// section.
 #[derive(Clone, Copy)]
-pub(crate) struct Placed {
+pub(crate) struct PlacedPatch {
     pub(crate) at: u64,
     pub(crate) offset: u64,
     pub(crate) patch: Patch,
@@ -73,7 +73,7 @@ pub(crate) fn entry_change<S: Source>(
     entry: &Rela,
     at: u64,
     symbols: &mut RelocationSymbols,
-) -> Result<Option<Placed>, Fault>
+) -> Result<Option<PlacedPatch>, Fault>
     requires within { IfSome symbols.old.linked (SymbolTableInBounds src.old.seen.size) }
     ensures inside { IfOk result (λ found. IfSome found (IsPlacedInside target.now.size)) }
     ensures did { DidFor src.old src.new target.now symbols.old symbols.new (fault_of_result result)
@@ -114,7 +114,7 @@ fn stored<S: Source>(
     at: u64,
     symbols: &mut RelocationSymbols,
     found: RelocationType,
-) -> Result<Placed, Fault>
+) -> Result<PlacedPatch, Fault>
     requires within { IfSome symbols.old.linked (SymbolTableInBounds src.old.seen.size) }
     requires width { IsWidth found.width }
     requires sized { IsSized found.range found.width }
@@ -132,7 +132,7 @@ fn stored<S: Source>(
         return refused(at, Cause::Unplaced);
     };
     match patch_of(found, value, entry.r_addend, place) {
-        Ok(patch) => Ok(Placed { at, offset, patch }),
+        Ok(patch) => Ok(PlacedPatch { at, offset, patch }),
         Err(_) => refused(at, Cause::Overflow),
     }
 }

@@ -10,10 +10,10 @@ use crate::entries::entries_at;
 use crate::missing_item::lacking_at;
 use crate::symbol_name::read_name;
 use elf_layout::Addresses;
-use elf_model::Missing;
+use elf_model::MissingAddress;
 use elf_record::{Cause, Refusal};
 use elf_source::{Counted, Source};
-use elf_table::{Fault, File, HeaderStore, NameBuf, NameEnd, header, load};
+use elf_table::{Fault, HeaderStore, NameBuf, NameEnd, SectionView, header, load};
 
 /// What the layout lacks where the section of an index of a relocatable file was refused in it: by
 /// the relocation entry that stands at the refusal's offset, in the first section of entries for the
@@ -39,7 +39,7 @@ pub fn explain<S: Source>(
     layout: &Addresses<'_>,
     refusal: Refusal,
     name: &mut NameBuf,
-) -> Result<Option<(Missing, NameEnd)>, Fault>
+) -> Result<Option<(MissingAddress, NameEnd)>, Fault>
     ensures slots { store.new.slots ≡ store.old.slots }
     ensures unread { may_be_missing refusal.cause ≡ false → src.new ≡ src.old }
     ensures did { CallDid src.old src.new (fault_of_result result) (explain_bytes store.old.slots)
@@ -51,7 +51,14 @@ pub fn explain<S: Source>(
     }
     let header = header(src)?;
     let loaded = load(src, store, &header)?;
-    explain_loaded(src, &File { loaded, store }, section, layout, refusal, name)
+    explain_loaded(
+        src,
+        &SectionView { loaded, store },
+        section,
+        layout,
+        refusal,
+        name,
+    )
 }
 
 /// Whether an entry that is refused for this cause may lack an address.
@@ -71,12 +78,12 @@ fn may_be_missing(cause: Cause) -> bool
 /// A fault of a read, or a refusal for want of budget, at the offset that was asked for.
 fn explain_loaded<S: Source>(
     src: &mut Counted<S>,
-    file: &File<'_>,
+    file: &SectionView<'_>,
     section: u16,
     layout: &Addresses<'_>,
     refusal: Refusal,
     name: &mut NameBuf,
-) -> Result<Option<(Missing, NameEnd)>, Fault>
+) -> Result<Option<(MissingAddress, NameEnd)>, Fault>
     requires { file.now.loaded.size ≡ src.old.seen.size }
     ensures { CallDid src.old src.new (fault_of_result result) entry_bytes
         (λ bytes. HoldsSectionHeaders bytes file.now.loaded file.now.store.now →

@@ -14,10 +14,10 @@ ghost use Rattle.elf_reloc.specs.Walk.{walk_all};
 ghost use Rattle.elf_reloc.specs.Windows.{Copies, MayWrite, NoRefusal, NotForBudget, OfPatches};
 ghost use Rattle.elf_reloc.specs.Windows.{UnreadSays, WritesBytes};
 
-use crate::entry::{ApplyTarget, Placed};
+use crate::entry::{ApplyTarget, PlacedPatch};
 use crate::passes::put_in;
 use crate::patch::Patch;
-use crate::walk::Entries;
+use crate::walk::RelocationWalk;
 use elf_record::{Cause, Refusal};
 use elf_source::{Counted, Out, OutFault, Sink, Source};
 use elf_table::{Fault, RunFault, fill};
@@ -144,7 +144,7 @@ impl PendingBytes {
     }
 
     /// Stores the bytes of an entry.
-    fn patch(&mut self, placed: &Placed)
+    fn patch(&mut self, placed: &PlacedPatch)
         requires fits { end_of self.old < 2 ^ 64 }
         requires patch { placed.now.offset + length (patch_as placed.now).bytes < 2 ^ 64 }
         ensures low { self.new.low ≡ self.old.low }
@@ -195,7 +195,7 @@ impl PendingBytes {
         src: &mut Counted<S>,
         at: u64,
         size: u64,
-        placed: &Placed,
+        placed: &PlacedPatch,
         out: &mut Out<W>,
     ) -> Result<(), RunFault>
         requires may { MayRead src.old at size }
@@ -302,7 +302,7 @@ pub(crate) fn write_one_pass<S: Source, W: Sink>(
         (λ patches text. OffsetsAscend 0 patches → WritesBytes out.old out.new result text) file }
 {
     let size = target.size;
-    let mut entries = Entries::new();
+    let mut entries = RelocationWalk::new();
     let mut held = PendingBytes::new();
     'entries: loop {
         match entries.next(src, target)? {

@@ -22,7 +22,7 @@ mod walk;
 mod windows;
 
 pub use apply_section::{Applied, apply, apply_with};
-pub use elf_model::{Formula, Range, RelocationBase, RelocationType};
+pub use elf_model::{Formula, RelocationBase, RelocationType, ValueRange};
 pub use explanation::explain;
 pub use patch::Patch;
 pub use relocation_types::{relocation_type, takes_place};

@@ -17,7 +17,7 @@ use elf_layout::{Addresses, Among, ITEM_NAME_BYTES, NamedAddress, SortedNames};
 use elf_model::RelocationBase;
 use elf_record::gnu_numbers::STT_GNU_IFUNC;
 use elf_record::numbers::{SHN_UNDEF, STB_WEAK, STT_LOOS};
-use elf_record::{Cause, Place, Sym};
+use elf_record::{Cause, Sym, SymbolSection};
 use elf_source::{Counted, Source};
 use elf_table::{Fault, Names, fill, refused};
 
@@ -176,7 +176,10 @@ fn is_system_specific(symbol: &Sym) -> bool
     ensures { (file : List ℕ) (at : ℕ) → IsSym file at symbol.now →
         result ≡ is_system_specific file at }
 {
-    let is_defined = matches!(symbol.place(), Place::Absolute | Place::Section(_));
+    let is_defined = matches!(
+        symbol.place(),
+        SymbolSection::Absolute | SymbolSection::Section(_)
+    );
     is_defined && symbol.kind() >= STT_LOOS
 }
 
@@ -216,15 +219,15 @@ fn section_symbol_value<S: Source>(
         (λ file strings. section_symbol_value file strings layout.now entry symbol.now.at) }
 {
     match symbol.fields.place() {
-        Place::Absolute => Ok(symbol.fields.st_value),
-        Place::Undefined => defined_value(src, layout, symbol, entry),
-        Place::Common => defined_value(src, layout, symbol, entry),
-        Place::Section(section) => placed_at(
+        SymbolSection::Absolute => Ok(symbol.fields.st_value),
+        SymbolSection::Undefined => defined_value(src, layout, symbol, entry),
+        SymbolSection::Common => defined_value(src, layout, symbol, entry),
+        SymbolSection::Section(section) => placed_at(
             entry,
             layout.section_address(section),
             symbol.fields.st_value,
         ),
-        Place::Reserved(_) => refused(entry, Cause::Unplaced),
+        SymbolSection::Reserved(_) => refused(entry, Cause::Unplaced),
     }
 }
 

@@ -12,7 +12,7 @@ ghost use Rattle.elf_reloc.specs.Explained.{EntrySymbolRead};
 use crate::entries::LinkedSymbolTable;
 use crate::relocation_types::{relocation_type, takes_place};
 use elf_layout::Addresses;
-use elf_model::{Formula, LayoutAddress, Missing, RelocationBase, RelocationType};
+use elf_model::{Formula, LayoutAddress, MissingAddress, RelocationBase, RelocationType};
 use elf_record::gnu_numbers::STT_GNU_IFUNC;
 use elf_record::numbers::{SHN_LORESERVE, SHN_UNDEF};
 use elf_record::{Cause, Refusal, Rela};
@@ -32,7 +32,7 @@ pub(crate) struct RelocationSymbol {
 /// What an entry lacks, with the string table of its symbol's name, and the symbol's file offset.
 #[derive(Clone, Copy)]
 pub(crate) struct MissingItem {
-    pub(crate) missing: Missing,
+    pub(crate) missing: MissingAddress,
     pub(crate) names: Names,
     pub(crate) at: u64,
 }
@@ -134,7 +134,7 @@ fn lacking_of(
 {
     let wanted = wanted?;
     Some(MissingItem {
-        missing: Missing {
+        missing: MissingAddress {
             kind,
             name: named.name,
             wanted,

@@ -9,8 +9,8 @@ ghost use Rattle.elf_reloc.specs.Entries.{patch_as};
 ghost use Rattle.elf_reloc.specs.Passes.{ChecksEntries, Folds, MayPatch, folded, rising, storing};
 ghost use Rattle.elf_reloc.specs.Walk.{changes_all, entries_from, walk_all};
 
-use crate::entry::{ApplyTarget, Placed};
-use crate::walk::Entries;
+use crate::entry::{ApplyTarget, PlacedPatch};
+use crate::walk::RelocationWalk;
 use elf_source::{Counted, Source};
 use elf_table::Fault;
 
@@ -38,7 +38,7 @@ pub(crate) fn check<S: Source>(
     ensures did { CallDid src.old src.new (fault_of_result result) (walk_all target.now)
         (λ file. ChecksEntries result (folded rising (true, 0) (changes_all file target.now))) }
 {
-    let mut entries = Entries::new();
+    let mut entries = RelocationWalk::new();
     let mut rises = true;
     let mut low = 0;
     'entries: while let Some(placed) = entries.next(src, target)? {
@@ -74,7 +74,7 @@ pub(crate) fn patch_window<S: Source>(
         (λ file. Folds result window.new
         (folded (storing low (length window.old)) window.old (changes_all file target.now))) }
 {
-    let mut entries = Entries::new();
+    let mut entries = RelocationWalk::new();
     'entries: while let Some(placed) = entries.next(src, target)? {
         put_in(window, low, &placed);
     }
@@ -82,7 +82,7 @@ pub(crate) fn patch_window<S: Source>(
 }
 
 /// Stores the part of some bytes that falls into a window, which begins at an offset.
-pub(crate) fn put_in(window: &mut [u8], low: u64, placed: &Placed)
+pub(crate) fn put_in(window: &mut [u8], low: u64, placed: &PlacedPatch)
     requires window { low + length window.old < 2 ^ 64 }
     requires patch { placed.now.offset + length (patch_as placed.now).bytes < 2 ^ 64 }
     ensures { window.new ≡ put (clipped low (length window.old) (patch_as placed.now)) window.old }

@@ -6,7 +6,7 @@ ghost use Rattle.elf_reloc.specs.Walk.{BeginsWalk, FindsEntry, FoundGives, IsWal
 ghost use Rattle.elf_reloc.specs.Walk.{ReadsEntries, StepGives, StepsWalk, StepsRelocationWalk, WentOn};
 ghost use Rattle.elf_reloc.specs.Walk.{walk_left};
 
-use crate::entry::{ApplyTarget, Placed, RelocationSymbols, entry_change};
+use crate::entry::{ApplyTarget, PlacedPatch, RelocationSymbols, entry_change};
 use elf_record::Rela;
 use elf_source::{Counted, Source};
 use elf_table::{Cursor, Fault, Row, Table};
@@ -14,7 +14,7 @@ use elf_table::{Cursor, Fault, Row, Table};
 /// The relocation entries for a section, one after another: the rows of a section of entries, the
 /// sections that are still to be looked at, and how many entries the sections before those have.
 #[derive(Drop)]
-pub(crate) struct Entries {
+pub(crate) struct RelocationWalk {
     cursor: Cursor,
     symbols: RelocationSymbols,
     current: u16,
@@ -25,19 +25,19 @@ pub(crate) struct Entries {
 /// What a step of the walk gives.
 pub(crate) enum WalkStep {
     /// An entry that stores bytes.
-    Stores(Placed),
+    Stores(PlacedPatch),
     /// Nothing: the walk goes on.
     Nothing,
     /// There is no entry any more.
     End,
 }
 
-impl Entries {
+impl RelocationWalk {
     /// Before the first entry.
-    pub(crate) fn new() -> Entries
+    pub(crate) fn new() -> RelocationWalk
         ensures { BeginsWalk result }
     {
-        Entries {
+        RelocationWalk {
             cursor: Cursor::new(Table::new(0, 0, 24)),
             symbols: RelocationSymbols {
                 linked: None,
@@ -64,7 +64,7 @@ impl Entries {
         &mut self,
         src: &mut Counted<S>,
         target: &ApplyTarget<'_>,
-    ) -> Result<Option<Placed>, Fault>
+    ) -> Result<Option<PlacedPatch>, Fault>
         requires { MayWalk src.old target.now self.old }
         ensures { StepsRelocationWalk src.old src.new target.now self.old self.new result
             (FoundGives target.now self.old self.new)

@@ -6,7 +6,7 @@ use Rattle.elf_model.specs.Budget.{IsBudgetRefusal, IsBudgeted, IsReport}
 use Rattle.elf_model.specs.Cost.{listing_cost}
 use Rattle.elf_model.specs.Listing.{ListingItem, end_text, lines_of, report_of}
 use Rattle.elf_model.specs.Report.{listing}
-use Rattle.elf_model.specs.Style.{Style}
+use Rattle.elf_model.specs.Style.{ListingStyle}
 use Rattle.elf_options.specs.Permitted.{style_of}
 use Rattle.elf_model.specs.declared.formats.Format.{Format}
 use Rattle.elf_model.specs.declared.causes.Refusal.{Refusal}
@@ -23,13 +23,13 @@ use Rattle.elf_requests.specs.Requests.{RunsShow}
 abbrev answer_of : List ℕ → Option Refusal → Answer
 answer_of text fault = record { text = text; status = status_of fault }
 
-report_shown : (file : List ℕ) (headers : ℕ) (style : Style) (parts : ℕ) (text : List ℕ) (fault : Option Refusal) → IsReport style.format (listing file headers style parts) text fault
+report_shown : (file : List ℕ) (headers : ℕ) (style : ListingStyle) (parts : ℕ) (text : List ℕ) (fault : Option Refusal) → IsReport style.format (listing file headers style parts) text fault
     → answer_of text fault ≡ show_answer_by file headers style parts
 report_shown file headers style parts text fault is =
     ap (λ t. answer_of t fault) is.text_is ∙ ap (λ f. answer_of (report_of style.format (listing file headers style parts)) f) is.fault_is
 
 -- a report whose fault is not for want of budget is the whole answer
-whole_report : (budget : Option ℕ) (file : List ℕ) (headers : ℕ) (style : Style) (parts : ℕ) (text : List ℕ) (fault : Option Refusal) → IsBudgeted budget file headers style parts text fault
+whole_report : (budget : Option ℕ) (file : List ℕ) (headers : ℕ) (style : ListingStyle) (parts : ℕ) (text : List ℕ) (fault : Option Refusal) → IsBudgeted budget file headers style parts text fault
     → ((refusal : Refusal) → fault ≡ Some refusal → IsBudgetRefusal refusal → ⊥) → answer_of text fault ≡ show_answer_by file headers style parts
 whole_report None file headers style parts text fault is other = report_shown file headers style parts text fault is
 whole_report (Some budget) file headers style parts text fault (inl is) other = report_shown file headers style parts text fault is
@@ -40,7 +40,7 @@ report_ends : (format : Format) (all : List ListingItem) (text : List ℕ) (faul
 report_ends format all text fault refusal some is =
     (format, lines_of all, is.text_is ∙ ap (λ end. lines_of all ++ end_text format end) (sym (some ∙ is.fault_is)))
 
-ends_in : (budget : Option ℕ) (file : List ℕ) (headers : ℕ) (style : Style) (parts : ℕ) (text : List ℕ) (fault : Option Refusal) (refusal : Refusal) → Some refusal ≡ fault
+ends_in : (budget : Option ℕ) (file : List ℕ) (headers : ℕ) (style : ListingStyle) (parts : ℕ) (text : List ℕ) (fault : Option Refusal) (refusal : Refusal) → Some refusal ≡ fault
     → IsBudgeted budget file headers style parts text fault → EndsInRefusal refusal text
 ends_in None file headers style parts text fault refusal some is = report_ends style.format (listing file headers style parts) text fault refusal some is
 ends_in (Some budget) file headers style parts text fault refusal some (inl is) = report_ends style.format (listing file headers style parts) text fault refusal some is

@@ -8,7 +8,7 @@ use Rattle.elf_model.specs.Answer.{Answer}
 use Rattle.elf_model.specs.Find.{looked}
 use Rattle.elf_model.specs.FindApplyAnswer.{IsAnswered, find_answer}
 use Rattle.elf_model.specs.Lines.{named_line}
-use Rattle.elf_model.specs.Loader.{AT_SIGN, Wanted, asked_after, asked_name, parse_query}
+use Rattle.elf_model.specs.Loader.{AT_SIGN, SymbolQuery, asked_after, asked_name, parse_query}
 use Rattle.elf_model.specs.LoaderAnswer.{found_version_line, loader_answer_for}
 use Rattle.elf_model.specs.LoaderFind.{FoundVersion, loader_looked}
 use Rattle.elf_model.specs.VersionRows.{symbol_version_prefix}
@@ -106,12 +106,12 @@ pub find_refuses : (format : Format) (file : List ℕ) (headers : ℕ) (wanted :
 find_refuses format file headers wanted (Refuses refusal) walks = λ other. rw (walks other) refl
 find_refuses format file headers wanted (Unread fault at) walks = tt
 
-pub resolve_is : (format : Format) (file : List ℕ) (headers : ℕ) (wanted : Wanted)
+pub resolve_is : (format : Format) (file : List ℕ) (headers : ℕ) (wanted : SymbolQuery)
     → loader_answer_for format file headers wanted ≡ resolved_answer format file wanted.name (loader_looked file headers wanted)
 unfolding loader_answer_for
 resolve_is format file headers wanted = refl
 
-pub resolve_refuses : (format : Format) (file : List ℕ) (headers : ℕ) (wanted : Wanted) (told : List ℕ) (fault : Fault)
+pub resolve_refuses : (format : Format) (file : List ℕ) (headers : ℕ) (wanted : SymbolQuery) (told : List ℕ) (fault : Fault)
     → ReturnsLookup file wanted.asked told (loader_looked file headers wanted) (Err fault) → RefusesAs format (loader_answer_for format file headers wanted) fault
 resolve_refuses format file headers wanted told (Refuses refusal) tells = λ other. let is = resolve_is format file headers wanted in rw is (rw (tells other) refl)
 resolve_refuses format file headers wanted told (Unread fault at) tells = tt

@@ -13,7 +13,7 @@ use Rattle.elf_model.specs.declared.causes.Cause.TheVariants.{Budget}
 use Rattle.elf_model.specs.declared.causes.Refusal.{Refusal}
 use Rattle.elf_model.proofs.BudgetLaws.{is_budget_fault}
 use Rattle.elf_source.specs.Growth.{OutGrows}
-use Rattle.elf_source.specs.Source.{CountedState, Keeps, SetsLimit, counted}
+use Rattle.elf_source.specs.Source.{CountedState, KeepsSource, SetsLimit, counted}
 use Rattle.elf_source.specs.Output.{OutState, SinkTakes, SinkTakesPrefix}
 use Rattle.elf_source.proofs.LimitLaws.{budget_below, late_budget}
 use Rattle.elf_source.proofs.PutsLaws.{SinkTakes-nothing, SinkTakesPrefix-all, SinkTakesPrefix-more, SinkTakesPrefix-then}
@@ -116,7 +116,7 @@ answered_stop format b budget size cost whole (Out fault) told s0 s1 small set s
 -- what a task did, by what was asked for behind the limit
 pub runs :
     {a b : OutState} {Gives : List ℕ → Type 0} {result : Result ℕ RunFault} (budget : Option ℕ) (s0 s1 s3 : CountedState) (n : ℕ) (cost : List ℕ → ℕ) → SetsLimit s0 s1 budget → OutGrows a b
-    → Keeps s1.seen s3.seen → s3.most ≡ None → s3.asked ≤ s1.asked + n → IfSome budget (λ bytes. s3.asked ≤ s0.asked + bytes) → IfErr result (FaultSays s0 s3 b)
+    → KeepsSource s1.seen s3.seen → s3.most ≡ None → s3.asked ≤ s1.asked + n → IfSome budget (λ bytes. s3.asked ≤ s0.asked + bytes) → IfErr result (FaultSays s0 s3 b)
     → ((file : List ℕ) → s1.seen.file ≡ Some file → (s3.asked ≤ s1.asked + cost file) × Gives file)
     → Runs s0 s3 a b result (AsksUpTo budget s0 s3 n) cost Gives
 runs budget s0 s1 s3 n cost set grows keeps free most within says known =

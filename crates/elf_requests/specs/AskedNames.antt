@@ -6,7 +6,7 @@ use Rattle.elf_cli.specs.Options.{AreLimitOptions, IsStyle, has_versions_option}
 use Rattle.elf_cli.specs.RowNames.{AreChosenParts, has_name_option, name_words}
 use Rattle.elf_record.specs.declared.parts.Parts.{Parts}
 use Rattle.elf_requests.specs.Asked.{IsFileNamed, IsText}
-use Rattle.elf_requests.specs.declared.checks.Choosing.{Choosing}
+use Rattle.elf_requests.specs.declared.checks.FilteredRequest.{FilteredRequest}
 use Rattle.elf_requests.specs.declared.checks.NameArgs.{NameArgs}
 use Rattle.elf_cli.specs.declared.faults.RequestFault.{RequestFault}
 use Rattle.elf_cli.specs.declared.faults.RequestFault.TheVariants.{BadName, Memory, NamesFull}
@@ -41,7 +41,7 @@ AreRows all rows parts None = (has_name_option rows ≡ false) × all
 AreRows all rows parts (Some asked) = AreNamesAsked rows asked × AreChosenParts rows parts
 
 -- a listing of the file whose path stands among the values, of the rows of names
-pub record IsChoosing (command : Text) (rows : List Row) (asked : Choosing) : Type 0 where
+pub record IsChoosing (command : Text) (rows : List Row) (asked : FilteredRequest) : Type 0 where
   pub show : command ≡ codes "show"
   pub path : IsFileNamed rows asked.listing.file
   pub limits : AreLimitOptions rows asked.listing.limits

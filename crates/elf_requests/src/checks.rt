@@ -4,7 +4,7 @@ use elf_cli::ListingRequest;
 use elf_model::Format;
 use elf_options::RequiredTrait;
 use elf_record::Parts;
-use elf_table::{Limits, Style};
+use elf_table::{Limits, ListingStyle};
 
 /// What is asked for.
 #[derive(Drop)]
@@ -14,7 +14,7 @@ pub enum ParsedCommand<'a> {
     /// A section is applied, with the items of a file too.
     Laid(ApplyWithLayout<'a>),
     /// Those rows of one file are listed that have one of some names.
-    Chosen(Choosing<'a>),
+    Chosen(FilteredRequest<'a>),
     /// Many files are checked.
     Check(CheckRequest<'a>),
     /// Many files are listed.
@@ -51,7 +51,7 @@ pub struct NameArgs<'a> {
 
 /// A listing of those rows of one file that have one of some names.
 #[derive(Drop)]
-pub struct Choosing<'a> {
+pub struct FilteredRequest<'a> {
     /// The listing, whose style chooses no rows yet.
     pub listing: ListingRequest<'a>,
     /// The names.
@@ -78,7 +78,7 @@ pub struct CheckRequest<'a> {
     /// The parts of a listing that count.
     pub parts: Parts,
     /// How rows are shown in such a listing.
-    pub style: Style<'static>,
+    pub style: ListingStyle<'static>,
     /// Whether an archive has the state of its members' listings.
     pub members: bool,
 }
@@ -94,7 +94,7 @@ pub struct ListRequest<'a> {
     /// The parts of a listing.
     pub parts: Parts,
     /// How rows are shown.
-    pub style: Style<'a>,
+    pub style: ListingStyle<'a>,
     /// Whether archives are listed too.
     pub members: bool,
     /// The names of which the rows alone are listed, where that is asked for.
@@ -126,7 +126,7 @@ pub struct ArchiveRequest<'a> {
     /// The parts of a listing.
     pub parts: Parts,
     /// How rows are shown.
-    pub style: Style<'a>,
+    pub style: ListingStyle<'a>,
     /// The names of which the rows alone are listed, where that is asked for.
     pub names: Option<NameArgs<'a>>,
 }

@@ -25,8 +25,8 @@ mod words;
 
 pub use archive_request::archive_status;
 pub use checks::{
-    ApplyWithLayout, ArchiveRequest, CheckRequest, Choosing, ListRequest, NameArgs, NeedsRequest,
-    ParsedCommand, PathArgs, TraitsRequest,
+    ApplyWithLayout, ArchiveRequest, CheckRequest, FilteredRequest, ListRequest, NameArgs,
+    NeedsRequest, ParsedCommand, PathArgs, TraitsRequest,
 };
 pub use names::{checked_name, checked_symbol};
 pub use requests::{LookupName, LookupSymbol, Request, Task};

@@ -6,7 +6,7 @@ ghost use Rattle.elf_model.specs.NameLaws.{IsWanted};
 use elf_layout::{Addresses, Layout};
 use elf_model::Format;
 use elf_record::Parts;
-use elf_table::{Limits, Style};
+use elf_table::{Limits, ListingStyle};
 
 /// What is asked for: which file, how much of it may be read, and what is done with it.
 #[derive(Clone, Copy)]
@@ -27,7 +27,7 @@ pub enum Task<'a> {
         /// The parts.
         parts: Parts,
         /// How rows are shown.
-        style: Style<'a>,
+        style: ListingStyle<'a>,
     },
     /// A name is looked up in it.
     Find {

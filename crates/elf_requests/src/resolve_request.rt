@@ -25,7 +25,7 @@ use elf_format::{
 use elf_listing::show_stop;
 use elf_loader::{FoundSymbol, FoundVersion, SymbolLookup, VersionName, look_up};
 use elf_model::Format;
-use elf_options::{Asked, Wanted, parse_query};
+use elf_options::{SymbolQuery, VersionQuery, parse_query};
 use elf_source::{Counted, Out, OutFault, Sink, Source};
 use elf_table::{HeaderStore, Limits, NameBuf, NameEnd, RunFault};
 
@@ -80,7 +80,7 @@ pub(crate) fn resolve<S: Source, W: Sink>(
 /// A fault of the output, with a front of the lines written.
 fn show_resolved<W: Sink>(
     lookup: &SymbolLookup,
-    wanted: &Wanted<'_>,
+    wanted: &SymbolQuery<'_>,
     name: &NameBuf,
     format: Format,
     out: &mut Out<W>,
@@ -110,7 +110,7 @@ fn show_resolved<W: Sink>(
 /// A fault of the output, with a front of the lines written.
 fn show_found<W: Sink>(
     found: &FoundSymbol,
-    wanted: &Wanted<'_>,
+    wanted: &SymbolQuery<'_>,
     name: &NameBuf,
     format: Format,
     out: &mut Out<W>,
@@ -153,7 +153,7 @@ fn show_found<W: Sink>(
 fn show_version<W: Sink>(
     index: u64,
     version: &FoundVersion,
-    asked: &Asked<'_>,
+    asked: &VersionQuery<'_>,
     name: &NameBuf,
     format: Format,
     out: &mut Out<W>,
@@ -168,7 +168,11 @@ fn show_version<W: Sink>(
 }
 
 /// The name of a version, and whether it is cut.
-fn version_name<'a>(version: VersionName, asked: &Asked<'a>, name: &'a NameBuf) -> (&'a [u8], bool)
+fn version_name<'a>(
+    version: VersionName,
+    asked: &VersionQuery<'a>,
+    name: &'a NameBuf,
+) -> (&'a [u8], bool)
     ensures { shown_as result.1 result.0.now
         ≡ name_shown (asked_name (asked_of asked.now)) name.now version }
 {

@@ -9,7 +9,7 @@ ghost use Rattle.elf_requests.specs.Asked.{IsFileNamed};
 ghost use Rattle.elf_requests.specs.AskedNames.{AreNamesAsked};
 ghost use Rattle.elf_requests.specs.Checks.{ParsesTo};
 
-use crate::checks::{Choosing, NameArgs, ParsedCommand};
+use crate::checks::{FilteredRequest, NameArgs, ParsedCommand};
 use crate::name_words::names_of;
 use crate::words::parse_listing;
 use clap::ArgMatches;
@@ -49,7 +49,7 @@ fn chosen_of<'a>(options: &ArgMatches<'a>, names: NameArgs<'a>) -> Option<Parsed
     ensures { ParsesTo (Some (codes "show", rows_of (found_of options.now))) (Ok result) }
 {
     match chosen_listing_of(options) {
-        Some(listing) => Some(ParsedCommand::Chosen(Choosing { listing, names })),
+        Some(listing) => Some(ParsedCommand::Chosen(FilteredRequest { listing, names })),
         None => None,
     }
 }

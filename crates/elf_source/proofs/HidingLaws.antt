@@ -5,7 +5,7 @@ use Rattle.std.proofs.lemmas.List.{take_more_set, drop_more, drop-set-lt}
 use Rattle.elf_model.specs.Style.{tells_of_sections, without_sections, without_sections_from}
 use Rattle.elf_model.proofs.StyleLemmas.{view_in_slices, view_is_its_own}
 use Rattle.std.specs.Prelude.{option_map}
-use Rattle.elf_source.specs.Source.{CountedState, IsSourceFault, MasksSectionHeaders, IsHonest, Keeps, ExceedsBudget, ReadsUpTo, SourceState, file_by, seen_by}
+use Rattle.elf_source.specs.Source.{CountedState, IsSourceFault, MasksSectionHeaders, IsHonest, KeepsSource, ExceedsBudget, ReadsUpTo, SourceState, file_by, seen_by}
 use Rattle.elf_source.specs.declared.faults.SourceFault.{SourceFault}
 use Rattle.elf_source.specs.declared.faults.SourceFault.TheVariants.{Device, Ended}
 
@@ -65,13 +65,13 @@ view_of true (Some bytes) file is =
     ap Some (sym (view_is_its_own bytes) ∙ ap without_sections same)
 
 -- what is kept of a source is kept of what is seen of it
-keeps_seen : (hides : Bool) (s t : SourceState) → Keeps s t → Keeps (seen_by hides s) (seen_by hides t)
+keeps_seen : (hides : Bool) (s t : SourceState) → KeepsSource s t → KeepsSource (seen_by hides s) (seen_by hides t)
 keeps_seen hides s t k = record { same_size = k.same_size; no_fewer = k.no_fewer; same_file = ap (file_by hides) k.same_file; same_whole = k.same_whole }
 
 -- reads while something is hidden, which is shown again as before
 pub ReadsUpTo-hidden : {a b c d : CountedState} {n : ℕ} → MasksSectionHeaders a b true → ReadsUpTo b c n → MasksSectionHeaders c d a.hides → ReadsUpTo a d n
 ReadsUpTo-hidden {a} {b} {c} {d} {n} hide p show =
-    let kept : Keeps a.source d.source = rw (hide.same_source, ← show.same_source) at p.view.keeps in
+    let kept : KeepsSource a.source d.source = rw (hide.same_source, ← show.same_source) at p.view.keeps in
     record {
       keeps = rw (a.is_seen, d.is_seen, show.is_hidden) (keeps_seen a.hides a.source d.source kept);
       grows = omega (arith, hide.same_asked, show.same_asked, p.grows);

@@ -1,33 +1,33 @@
 -- What reads one after another come to.
 use Rattle.std.proofs.Common.{ℕ, ◌+◌, ◌≤◌, ◌∙◌, sym, refl, arith}
-use Rattle.elf_source.specs.Source.{SourceState, Keeps, IsSourceFault, CountedState, ReadsUpTo, ExceedsBudget}
+use Rattle.elf_source.specs.Source.{SourceState, KeepsSource, IsSourceFault, CountedState, ReadsUpTo, ExceedsBudget}
 use Rattle.elf_source.specs.declared.faults.SourceFault.{SourceFault}
 use Rattle.elf_source.specs.declared.faults.SourceFault.TheVariants.{Device, Ended}
 
-pub Keeps-then : {a b c : SourceState} → Keeps a b → Keeps b c → Keeps a c
-Keeps-then p q = record { same_size = q.same_size ∙ p.same_size; no_fewer = omega arith; same_file = q.same_file ∙ p.same_file; same_whole = q.same_whole ∙ p.same_whole }
+pub KeepsSource-then : {a b c : SourceState} → KeepsSource a b → KeepsSource b c → KeepsSource a c
+KeepsSource-then p q = record { same_size = q.same_size ∙ p.same_size; no_fewer = omega arith; same_file = q.same_file ∙ p.same_file; same_whole = q.same_whole ∙ p.same_whole }
 
-Keeps-all : (s : SourceState) → Keeps s s
-Keeps-all s = record { same_size = refl; no_fewer = omega arith; same_file = refl; same_whole = refl }
+KeepsSource-all : (s : SourceState) → KeepsSource s s
+KeepsSource-all s = record { same_size = refl; no_fewer = omega arith; same_file = refl; same_whole = refl }
 
 -- nothing was read
 pub ReadsUpTo-none : (c : CountedState) (n : ℕ) → ReadsUpTo c c n
 ReadsUpTo-none c n = record {
-  keeps = Keeps-all c.seen;
+  keeps = KeepsSource-all c.seen;
   grows = omega arith;
   at_most = omega arith;
   same_limit = refl;
-  view = record { keeps = Keeps-all c.source; hides = refl };
+  view = record { keeps = KeepsSource-all c.source; hides = refl };
 }
 
 -- reads, and then others
 pub ReadsUpTo-then : {a b c : CountedState} {n m : ℕ} → ReadsUpTo a b n → ReadsUpTo b c m → ReadsUpTo a c (n + m)
 ReadsUpTo-then p q = record {
-  keeps = Keeps-then p.keeps q.keeps;
+  keeps = KeepsSource-then p.keeps q.keeps;
   grows = omega arith;
   at_most = omega arith;
   same_limit = q.same_limit ∙ p.same_limit;
-  view = record { keeps = Keeps-then p.view.keeps q.view.keeps; hides = q.view.hides ∙ p.view.hides };
+  view = record { keeps = KeepsSource-then p.view.keeps q.view.keeps; hides = q.view.hides ∙ p.view.hides };
 }
 
 -- reads, in a bound that is known otherwise
@@ -35,7 +35,7 @@ pub ReadsUpTo-to : {a b : CountedState} {n k : ℕ} → ReadsUpTo a b n → b.as
 ReadsUpTo-to p within = record { keeps = p.keeps; grows = p.grows; at_most = within; same_limit = p.same_limit; view = p.view }
 
 -- a fault of the source after other reads
-pub IsSourceFault-then : (a b c : SourceState) (fault : SourceFault) → Keeps a b → IsSourceFault b c fault → IsSourceFault a c fault
+pub IsSourceFault-then : (a b c : SourceState) (fault : SourceFault) → KeepsSource a b → IsSourceFault b c fault → IsSourceFault a c fault
 IsSourceFault-then a b c Device p q = omega arith
 IsSourceFault-then a b c Ended p q = q
 

@@ -1,6 +1,6 @@
 -- What is seen of a range of a source, and of one that was set anew.
 use Rattle.std.specs.Prelude.{◌≡◌, ℕ, ◌+◌, ◌≤◌, false, List, length, take, drop, Option, Some, option_map}
-use Rattle.elf_source.specs.Source.{CountedState, SourceState, Whole}
+use Rattle.elf_source.specs.Source.{CountedState, SourceState, RangeParent}
 
 -- the file of so many bytes from an offset of another, where that is known
 abbrev pub file_within : Option (List ℕ) → ℕ → ℕ → Option (List ℕ)
@@ -30,12 +30,12 @@ IsWholeRange seen = seen.whole ≡ Some (record { size = seen.size; file = seen.
 
 -- so many bytes from an offset on lie within what a source is a range of
 abbrev pub LiesWithin : SourceState → ℕ → ℕ → Type 0
-LiesWithin seen start size = (whole : Whole) × (seen.whole ≡ Some whole) × (start + size ≤ whole.size)
+LiesWithin seen start size = (whole : RangeParent) × (seen.whole ≡ Some whole) × (start + size ≤ whole.size)
 
 -- a range was set anew, nothing of it is hidden, and of the account nothing changed
 pub record Narrows (old new : CountedState) (start size : ℕ) : Type 0 where
   pub size_is : new.seen.size ≡ size
-  pub file_is : (whole : Whole) → old.seen.whole ≡ Some whole → new.seen.file ≡ file_within whole.file start size
+  pub file_is : (whole : RangeParent) → old.seen.whole ≡ Some whole → new.seen.file ≡ file_within whole.file start size
   pub same_whole : new.seen.whole ≡ old.seen.whole
   pub same_failures : new.seen.failures ≡ old.seen.failures
   pub same_asked : new.asked ≡ old.asked

@@ -9,7 +9,7 @@ use Rattle.elf_source.specs.declared.faults.AskFault.{AskFault}
 use Rattle.elf_source.specs.declared.faults.AskFault.TheVariants.{Source, Budget}
 
 -- what a source is a range of: its size in bytes, and its file, where one is known
-pub record Whole : Type 0 where
+pub record RangeParent : Type 0 where
   pub size : ℕ
   pub file : Option (List ℕ)
 
@@ -20,7 +20,7 @@ pub record SourceState : Type 0 where
   pub failures : ℕ
   pub file : Option (List ℕ)
   pub sized : (bytes : List ℕ) → file ≡ Some bytes → length bytes ≡ size
-  pub whole : Option Whole
+  pub whole : Option RangeParent
 
 -- a source is honest: its reads give the slices of a file, and its count of failures may still rise
 pub record IsHonest (seen : SourceState) : Type 0 where
@@ -29,7 +29,7 @@ pub record IsHonest (seen : SourceState) : Type 0 where
   pub not_worn : seen.failures < 2 ^ 64 - 1
 
 -- what a read keeps, fault or not
-pub record Keeps (old new : SourceState) : Type 0 where
+pub record KeepsSource (old new : SourceState) : Type 0 where
   pub same_size : new.size ≡ old.size
   pub no_fewer : old.failures ≤ new.failures
   pub same_file : new.file ≡ old.file
@@ -109,12 +109,12 @@ IsReadable c at n = (at + n ≤ c.seen.size) × (n ≤ 4096)
 
 -- what is hidden stays so, and the source but for its failures
 pub record SameView (old new : CountedState) : Type 0 where
-  pub keeps : Keeps old.source new.source
+  pub keeps : KeepsSource old.source new.source
   pub hides : new.hides ≡ old.hides
 
 -- WHAT READS DO, fault or not: they ask for at most n bytes, and keep the source and the limit
 pub record ReadsUpTo (old new : CountedState) (n : ℕ) : Type 0 where
-  pub keeps : Keeps old.seen new.seen
+  pub keeps : KeepsSource old.seen new.seen
   pub grows : old.asked ≤ new.asked
   pub at_most : new.asked ≤ old.asked + n
   pub same_limit : new.most ≡ old.most
@@ -152,7 +152,7 @@ ReadsSourceOnce one_read old new at n (Err Budget) = new.source ≡ old.source
 
 -- a read outside the limit: it is counted, and what is left of the limit stays
 pub record FillsUnlimited (old new : CountedState) (n : ℕ) : Type 0 where
-  pub keeps : Keeps old.seen new.seen
+  pub keeps : KeepsSource old.seen new.seen
   pub asks : new.asked ≡ counted old.asked n
   pub same_left : left new ≡ option_map (λ bytes. counted new.asked bytes - new.asked) (left old)
   pub view : SameView old new

@@ -1,6 +1,6 @@
 //! A source whose reads are counted.
 ghost use Rattle.std.specs.Prelude.{◌≡◌, ℕ, ◌+◌, ◌-◌, ◌^◌, ◌<◌, ◌≤◌, List, length, take, drop, false, None, Some, IfErr, OnOk};
-ghost use Rattle.elf_source.specs.Source.{ReadsUpTo, IsSourceFault, IsAskFault, CountsRead, ReadsSourceOnce, RecordsStop, FillsUnlimited, MasksSectionHeaders, IsReadable, IsWithin, Keeps, SetsLimit, SameView, left};
+ghost use Rattle.elf_source.specs.Source.{ReadsUpTo, IsSourceFault, IsAskFault, CountsRead, ReadsSourceOnce, RecordsStop, FillsUnlimited, MasksSectionHeaders, IsReadable, IsWithin, KeepsSource, SetsLimit, SameView, left};
 
 use crate::faults::{AskFault, SourceFault};
 use crate::section_header_mask::hide;
@@ -182,7 +182,7 @@ impl<S: Source> Counted<S> {
     fn read(&mut self, at: u64, out: &mut [u8]) -> Result<(), SourceFault>
         requires { at + length out.old ≤ self.old.seen.size }
         ensures account { (self.new.asked ≡ self.old.asked) × (self.new.most ≡ self.old.most) }
-        ensures keeps { Keeps self.old.seen self.new.seen }
+        ensures keeps { KeepsSource self.old.seen self.new.seen }
         ensures view { SameView self.old self.new }
         ensures length { length out.new ≡ length out.old }
         ensures stops { RecordsStop self.old self.new at result }

@@ -1,6 +1,6 @@
 //! A source of which one read fails.
 ghost use Rattle.std.specs.Prelude.{◌≡◌, ℕ, ◌+◌, ◌≤◌, List, Some, None, length, take, drop, Err, IfErr, OnOk, ⊤};
-ghost use Rattle.elf_source.specs.Source.{Keeps, IsSourceFault};
+ghost use Rattle.elf_source.specs.Source.{KeepsSource, IsSourceFault};
 ghost use Rattle.elf_source.specs.Failing.{Failing, seen_failing};
 
 use crate::faults::SourceFault;
@@ -56,7 +56,7 @@ impl<S: Source> Source for FailSource<S> {
         ensures slice { (file : List ℕ) → self.old.source.file ≡ Some file → OnOk result
             (out.new ≡ take (length out.old) (drop at file)) }
         ensures faults { IfErr result (IsSourceFault (seen_failing self.old) (seen_failing self.new)) }
-        ensures keeps { Keeps (seen_failing self.old) (seen_failing self.new) }
+        ensures keeps { KeepsSource (seen_failing self.old) (seen_failing self.new) }
         ensures fails { self.old.due ≡ Some 0 → (result ≡ Err SourceFault.Device)
             × (self.new.source ≡ self.old.source) × (self.new.due ≡ None) }
         ensures counts { (n : ℕ) → self.old.due ≡ Some (n + 1) → (self.new.due ≡ Some n)

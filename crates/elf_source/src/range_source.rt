@@ -1,6 +1,6 @@
 //! A source over a range of another source.
 ghost use Rattle.std.specs.Prelude.{◌≡◌, ℕ, ◌+◌, ◌^◌, ◌<◌, ◌≤◌, List, length, take, drop, Some, IfErr, OnOk, ⊤};
-ghost use Rattle.elf_source.specs.Source.{Keeps, IsSourceFault};
+ghost use Rattle.elf_source.specs.Source.{KeepsSource, IsSourceFault};
 ghost use Rattle.elf_source.specs.Ranges.{IsWholeRange, LiesWithin, Narrows, Widens, file_within, seen_range};
 
 use crate::counted::Counted;
@@ -92,7 +92,7 @@ impl<S: Source> Source for RangeSource<S> {
         ensures slice { (file : List ℕ) → (seen_range self.old).file ≡ Some file → OnOk result
             (out.new ≡ take (length out.old) (drop at file)) }
         ensures faults { IfErr result (IsSourceFault (seen_range self.old) (seen_range self.new)) }
-        ensures keeps { Keeps (seen_range self.old) (seen_range self.new) }
+        ensures keeps { KeepsSource (seen_range self.old) (seen_range self.new) }
         ensures passes { S.one_read self.old.below (self.old.start + at)
             (length out.old) self.new.below }
     {

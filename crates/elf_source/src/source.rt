@@ -1,6 +1,6 @@
 //! What a source of bytes promises.
 ghost use Rattle.std.specs.Prelude.{◌≡◌, ℕ, ◌+◌, ◌^◌, ◌<◌, ◌≤◌, List, length, take, drop, Some, IfErr, OnOk};
-ghost use Rattle.elf_source.specs.Source.{SourceState, Keeps, IsSourceFault};
+ghost use Rattle.elf_source.specs.Source.{SourceState, KeepsSource, IsSourceFault};
 
 use crate::faults::SourceFault;
 
@@ -32,6 +32,6 @@ pub trait Source {
         ensures slice { (file : List ℕ) → (seen self.old).file ≡ Some file → OnOk result
             (out.new ≡ take (length out.old) (drop at file)) }
         ensures faults { IfErr result (IsSourceFault (seen self.old) (seen self.new)) }
-        ensures keeps { Keeps (seen self.old) (seen self.new) }
+        ensures keeps { KeepsSource (seen self.old) (seen self.new) }
         ensures once { one_read (seen self.old) at (length out.old) (seen self.new) };
 }

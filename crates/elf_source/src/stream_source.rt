@@ -1,7 +1,7 @@
 //! A source over a reader.
 ghost use Rattle.std.specs.Prelude.{◌≡◌, ◌+◌, ◌-◌, ◌^◌, ◌<◌, ◌≤◌, ℕ, List, Some, length, take, drop, IfOk, IfErr, OnOk, Err};
 ghost use Rattle.elf_source.specs.Reader.{TurnsWithin};
-ghost use Rattle.elf_source.specs.Source.{Keeps, IsSourceFault};
+ghost use Rattle.elf_source.specs.Source.{KeepsSource, IsSourceFault};
 
 use crate::faults::{INTERRUPTED_TURNS, ReadAtFault, SourceFault};
 use crate::reader::Reader;
@@ -96,7 +96,7 @@ impl<R: Reader> Source for StreamSource<R> {
         ensures slice { (file : List ℕ) → self.old.seen.file ≡ Some file → OnOk result
             (out.new ≡ take (length out.old) (drop at file)) }
         ensures faults { IfErr result (IsSourceFault self.old.seen self.new.seen) }
-        ensures keeps { Keeps self.old.seen self.new.seen }
+        ensures keeps { KeepsSource self.old.seen self.new.seen }
         ensures once { self.new.seen.failures ≤ self.old.seen.failures + 1 }
         // No more than 64 turns are interrupted.
         ensures few { self.new.interrupted ≤ self.old.interrupted + 64 }

@@ -1,6 +1,6 @@
 //! A source that answers from two files in turn.
 ghost use Rattle.std.specs.Prelude.{◌≡◌, ℕ, ◌+◌, ◌≤◌, List, length, take, drop, Ok, Some, None, IfErr, IfSome, OnOk, if◌then◌else◌};
-ghost use Rattle.elf_source.specs.Source.{Keeps, IsSourceFault};
+ghost use Rattle.elf_source.specs.Source.{KeepsSource, IsSourceFault};
 ghost use Rattle.elf_source.specs.Failing.{Turning, seen_turning};
 
 use crate::faults::SourceFault;
@@ -66,7 +66,7 @@ impl<'a> Source for TurnSource<'a> {
         ensures slice { (file : List ℕ) → (seen_turning self.old).file ≡ Some file → OnOk result
             (out.new ≡ take (length out.old) (drop at file)) }
         ensures faults { IfErr result (IsSourceFault (seen_turning self.old) (seen_turning self.new)) }
-        ensures keeps { Keeps (seen_turning self.old) (seen_turning self.new) }
+        ensures keeps { KeepsSource (seen_turning self.old) (seen_turning self.new) }
         ensures once { seen_turning self.new ≡ seen_turning self.old }
     {
         let bytes = if self.turned { self.second } else { self.first };

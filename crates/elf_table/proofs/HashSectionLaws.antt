@@ -15,7 +15,7 @@ use Rattle.elf_table.specs.declared.fault.Fault.TheVariants.{Refused, Source}
 use Rattle.elf_table.specs.HashSections.{AreHashed, ChecksThenValue, front_checks}
 use Rattle.elf_table.specs.Relocations.{RefusedBy}
 use Rattle.elf_table.specs.Sections.{symbols_at}
-use Rattle.elf_table.specs.Tables.{Rows, StringTableRange}
+use Rattle.elf_table.specs.Tables.{TableRange, StringTableRange}
 use Rattle.elf_table.proofs.RelocationLaws.{symbols-fail, symbols-pass}
 
 not_not : (b : Bool) → not (not b) ≡ b
@@ -45,7 +45,7 @@ module _ (least : ℕ) (file : List ℕ) (at size link : ℕ) (header : Shdr) (l
     symbols_refused (Refused refusal) symbols = left ∙ symbols-fail file _ (Refused refusal) (sym (symbols ∙ ap (symbols_at file) here))
     symbols_refused (Source fault offset) symbols = symbols-fail file _ (Source fault offset) (sym (symbols ∙ ap (symbols_at file) here))
 
-    pub symbols_hashed : (index : ℕ) (symbols : Rows × StringTableRange) → index ≡ header.sh_link → Ok symbols ≡ symbols_at file link
+    pub symbols_hashed : (index : ℕ) (symbols : TableRange × StringTableRange) → index ≡ header.sh_link → Ok symbols ≡ symbols_at file link
         → ChecksThenValue (hash_checks_from least file at) (AreHashed file at) (Ok (index, symbols))
     symbols_hashed index symbols to found =
         let are = symbols-pass file (linked_at file at) symbols (sym (found ∙ ap (symbols_at file) here)) in

@@ -7,7 +7,7 @@ use Rattle.elf_model.specs.Tables.{linked_at, has_symbols, symbol_table_checks, 
 use Rattle.elf_model.specs.declared.causes.Refusal.{Refusal}
 use Rattle.elf_model.specs.declared.causes.Cause.TheVariants.{EntrySize}
 use Rattle.elf_model.proofs.CheckSteps.{first_refusal-some, first_refusal-none, first_refusal-back}
-use Rattle.elf_table.specs.Tables.{Rows, StringTableRange}
+use Rattle.elf_table.specs.Tables.{TableRange, StringTableRange}
 use Rattle.elf_table.specs.Sections.{answered, checked, rows, strings, names_at, table_at, table_of, string_table_at, symbols_at}
 use Rattle.elf_table.specs.Relocations.{RefusedBy, AreSymbols, RefersTo, Links, AreRelocations}
 use Rattle.elf_table.specs.declared.fault.Fault.{Fault}
@@ -56,7 +56,7 @@ module _ (file : List ℕ) (at : ℕ) where
       front (Refused refusal) k = first_refusal-some (table_checks file at 24) back refusal k
       front (Source fault offset) k = k
 
-  module _ (table : Rows) (held : table_at file at 24 ≡ Ok table) where
+  module _ (table : TableRange) (held : table_at file at 24 ≡ Ok table) where
     table_is : table ≡ rows (sh_offset file at) (sh_size file at / 24) 24
     table_is = elim (cases_Bool (sh_size file at == 0)) [
       | inl empty ↦ let none = rw (empty, table_at, table_of) at held in rw (eqb-true (sh_size file at) 0 empty) (cc)
@@ -68,7 +68,7 @@ module _ (file : List ℕ) (at : ℕ) where
     no_rows none = elim (cases_Bool (sh_size file at == 0)) [
       | inl empty ↦ empty
       | inr some ↦
-          let zero = no_bytes (passed_first _ _ _ (rw (some, table_at, table_of) at held)).0 (sym (ap (λ (t : Rows). t.count) table_is) ∙ none) in
+          let zero = no_bytes (passed_first _ _ _ (rw (some, table_at, table_of) at held)).0 (sym (ap (λ (t : TableRange). t.count) table_is) ∙ none) in
           rw zero refl
     ]
 
@@ -78,7 +78,7 @@ module _ (file : List ℕ) (at : ℕ) where
     -- where there are rows, what stands behind decides
     behind : (back : List Check) → (table.count ≡ 0 → ⊥) → first_refusal (unless_empty (sh_size file at) (table_checks file at 24 ++ back)) ≡ first_refusal back
     behind back rows = elim (cases_Bool (sh_size file at == 0)) [
-      | inl empty ↦ absurd (rows (ap (λ (t : Rows). t.count) table_is ∙ rw (eqb-true (sh_size file at) 0 empty) refl))
+      | inl empty ↦ absurd (rows (ap (λ (t : TableRange). t.count) table_is ∙ rw (eqb-true (sh_size file at) 0 empty) refl))
       | inr some ↦ rw some (first_refusal-none (table_checks file at 24) back (passed_first _ _ _ (rw (some, table_at, table_of) at held)).0)
     ]
 
@@ -93,12 +93,12 @@ module _ (file : List ℕ) (at : ℕ) where
     -- the symbols, which have no names where there are none
     pub symbols_none : table.count ≡ 0 → (names : StringTableRange) → names ≡ strings table.at 0 → Ok (table, names) ≡ symbols_at file at
     symbols_none none names is =
-        let own : table ≡ rows (sh_offset file at) 0 24 = table_is ∙ ap (λ (n : ℕ). rows (sh_offset file at) n 24) (sym (ap (λ (t : Rows). t.count) table_is) ∙ none) in
+        let own : table ≡ rows (sh_offset file at) 0 24 = table_is ∙ ap (λ (n : ℕ). rows (sh_offset file at) n 24) (sym (ap (λ (t : TableRange). t.count) table_is) ∙ none) in
         rw (no_rows none, symbols_at, is, own) refl
 
     pub symbols_some : (table.count ≡ 0 → ⊥) → (names : StringTableRange) → string_table_at file at ≡ Ok names → Ok (table, names) ≡ symbols_at file at
     symbols_some rows names h = elim (cases_Bool (sh_size file at == 0)) [
-      | inl empty ↦ absurd (rows (ap (λ (t : Rows). t.count) table_is ∙ rw (eqb-true (sh_size file at) 0 empty) refl))
+      | inl empty ↦ absurd (rows (ap (λ (t : TableRange). t.count) table_is ∙ rw (eqb-true (sh_size file at) 0 empty) refl))
       | inr some ↦
           let own = passed_first _ _ table (rw (some, table_at, table_of) at held) in
           let named = passed_first _ _ names h in
@@ -108,17 +108,17 @@ module _ (file : List ℕ) (at : ℕ) where
     pub relocations_none : table.count ≡ 0 → AreRelocations file at table None
     relocations_none none = record {
       pass = passes_empty (linked_table_checks file at) none;
-      counted = ap (λ (t : Rows). t.count) table_is;
-      placed = ap (λ (t : Rows). t.at) table_is;
+      counted = ap (λ (t : TableRange). t.count) table_is;
+      placed = ap (λ (t : TableRange). t.at) table_is;
       refers = λ some. absurd (omega (arith, some, none));
       none = λ _. refl;
     }
 
-    pub relocations_some : (linked : Option (Rows × StringTableRange)) → (table.count ≡ 0 → ⊥) → Links file at (Ok linked) → AreRelocations file at table linked
+    pub relocations_some : (linked : Option (TableRange × StringTableRange)) → (table.count ≡ 0 → ⊥) → Links file at (Ok linked) → AreRelocations file at table linked
     relocations_some linked rows links = record {
       pass = behind (linked_table_checks file at) rows ∙ links.0;
-      counted = ap (λ (t : Rows). t.count) table_is;
-      placed = ap (λ (t : Rows). t.at) table_is;
+      counted = ap (λ (t : TableRange). t.count) table_is;
+      placed = ap (λ (t : TableRange). t.at) table_is;
       refers = λ _. links.1;
       none = λ none. absurd (rows none);
     }
@@ -134,7 +134,7 @@ symbols-refused file at (Refused refusal) h = elim (cases_Bool (sh_size file at 
 ]
 symbols-refused file at (Source fault offset) h = absurd h
 
-pub symbols-pass : (file : List ℕ) (at : ℕ) (symbols : Rows × StringTableRange) → symbols_at file at ≡ Ok symbols → (first_refusal (symbol_table_checks file at) ≡ None) × AreSymbols file at symbols
+pub symbols-pass : (file : List ℕ) (at : ℕ) (symbols : TableRange × StringTableRange) → symbols_at file at ≡ Ok symbols → (first_refusal (symbol_table_checks file at) ≡ None) × AreSymbols file at symbols
 symbols-pass file at symbols h = elim (cases_Bool (sh_size file at == 0)) [
   | inl empty ↦
       let is : (rows (sh_offset file at) 0 24, strings (sh_offset file at) 0) ≡ symbols = let answer = rw (empty, symbols_at) at h in cc in (
@@ -160,14 +160,14 @@ module _ (file : List ℕ) (at link : ℕ) (is : link ≡ sh_link file at) (has 
   pub linked-fails : (fault : Fault) → symbols_at file (section_at file link) ≡ Err fault → Links file at (Err fault)
   linked-fails fault h = rw has (symbols-fail file (linked_at file at) fault (ap (λ k. symbols_at file (section_at file k)) (sym is) ∙ h))
 
-  pub linked-some : (symbols : Rows × StringTableRange) → symbols_at file (section_at file link) ≡ Ok symbols → Links file at (Ok (Some symbols))
+  pub linked-some : (symbols : TableRange × StringTableRange) → symbols_at file (section_at file link) ≡ Ok symbols → Links file at (Ok (Some symbols))
   linked-some symbols h =
       let p = symbols-pass file (linked_at file at) symbols (ap (λ k. symbols_at file (section_at file k)) (sym is) ∙ h) in
       (rw has p.0, (has, p.1))
 
 -- linked symbols, where they are there
-pub refers : (file : List ℕ) (header : ℕ) (linked : Option (Rows × StringTableRange)) (symbols : Rows × StringTableRange) → linked ≡ Some symbols → RefersTo file header linked → RefersTo file header (Some symbols)
+pub refers : (file : List ℕ) (header : ℕ) (linked : Option (TableRange × StringTableRange)) (symbols : TableRange × StringTableRange) → linked ≡ Some symbols → RefersTo file header linked → RefersTo file header (Some symbols)
 refers file header linked symbols is h = subst (RefersTo file header) is h
 
-pub refers-nowhere : (file : List ℕ) (header : ℕ) (linked : Option (Rows × StringTableRange)) → linked ≡ None → RefersTo file header linked → has_symbols file header ≡ false
+pub refers-nowhere : (file : List ℕ) (header : ℕ) (linked : Option (TableRange × StringTableRange)) → linked ≡ None → RefersTo file header linked → has_symbols file header ≡ false
 refers-nowhere file header linked is h = subst (RefersTo file header) is h

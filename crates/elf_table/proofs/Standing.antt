@@ -7,7 +7,7 @@ use Rattle.elf_model.specs.Bytes.{slice}
 use Rattle.elf_source.specs.Onward.{ReadsOnward}
 use Rattle.elf_source.specs.Source.{SourceState}
 use Rattle.elf_source.proofs.OnwardLaws.{onward_more, onward_none, onward_then}
-use Rattle.elf_table.specs.Tables.{Rows, size_of}
+use Rattle.elf_table.specs.Tables.{TableRange, size_of}
 use Rattle.elf_table.specs.Cursors.{CursorState, GivesRow, IsAtRow, page_of, row_at}
 use Rattle.elf_table.specs.Faults.{IsAt}
 use Rattle.elf_table.specs.Windows.{WindowState, HoldsBytes, StillHolds, HoldsCount, frontier, bytes_left, range_end}
@@ -19,7 +19,7 @@ mul-split : (d r u entry : ℕ) → d + r ≡ u → d * entry + r * entry ≡ u 
 mul-split d r u entry e = omega (arith, ap (λ (x : ℕ). x * entry) e)
 
 -- the row that was shown is passed over
-pub Stands-skip : (table : Rows) (index shown : ℕ) (old new : WindowState) → new.at ≡ old.at + shown → new.held ≡ drop shown old.held
+pub Stands-skip : (table : TableRange) (index shown : ℕ) (old new : WindowState) → new.at ≡ old.at + shown → new.held ≡ drop shown old.held
     → IsAtRow table index shown old → IsAtRow table index 0 new
 Stands-skip table index shown old new at held s = record {
   its_place = let p = s.its_place in omega arith;
@@ -33,7 +33,7 @@ no_rows zero entry few = omega arith
 no_rows (suc rows) entry few = absurd (omega arith)
 
 -- a window that holds no whole row stands where it reads
-pub fault_at_row : (table : Rows) (index : ℕ) (w : WindowState) (fault : Fault) → IsAtRow table index 0 w → length w.held < table.entry → IsAt (frontier w) fault
+pub fault_at_row : (table : TableRange) (index : ℕ) (w : WindowState) (fault : Fault) → IsAtRow table index 0 w → length w.held < table.entry → IsAt (frontier w) fault
     → IsAt (row_at table index) fault
 fault_at_row table index w fault s few is =
     let p = s.its_place in
@@ -59,7 +59,7 @@ some_rows : (entry : ℕ) → 0 < entry → entry ≤ 4096 → 0 < 4096 / entry
 some_rows entry some small = grind (arith, common_steps)
 
 -- the bytes that are left are those of the rows that are left
-left_rows : (table : Rows) (index : ℕ) (w : WindowState) → index ≤ table.count → IsAtRow table index 0 w → range_end w ≡ table.at + size_of table
+left_rows : (table : TableRange) (index : ℕ) (w : WindowState) → index ≤ table.count → IsAtRow table index 0 w → range_end w ≡ table.at + size_of table
     → bytes_left w ≡ (table.count - index) * table.entry
 left_rows table index w below s ends =
     let p = s.its_place in
@@ -67,7 +67,7 @@ left_rows table index w below s ends =
     omega arith
 
 -- a window that was to hold a row holds whole rows
-pub Stands-next : (table : Rows) (index entry : ℕ) (old new : WindowState) → entry ≡ table.entry → 0 < entry → entry ≤ 4096 → index < table.count → old.page ≡ page_of table.entry
+pub Stands-next : (table : TableRange) (index entry : ℕ) (old new : WindowState) → entry ≡ table.entry → 0 < entry → entry ≤ 4096 → index < table.count → old.page ≡ page_of table.entry
     → range_end old ≡ table.at + size_of table → IsAtRow table index 0 old → HoldsCount old new entry → IsAtRow table (index + 1) entry new
 Stands-next table index entry old new e some small below page ends s h =
     let more = go (cases_lt (length old.held) entry) in
@@ -90,7 +90,7 @@ Stands-next table index entry old new e some small below page ends s h =
         rows_held (suc rows) n = omega arith
 
 -- what a cursor's fields mean
-abbrev pub reading : Rows → ℕ → ℕ → Option Fault → WindowState → CursorState
+abbrev pub reading : TableRange → ℕ → ℕ → Option Fault → WindowState → CursorState
 reading table index shown failed w = record {
   table = table;
   index = index;
@@ -102,7 +102,7 @@ reading table index shown failed w = record {
 }
 
 -- a window that passed over a row and holds the next gives it
-pub Gives-next : (file : Option (List ℕ)) (table : Rows) (index shown entry : ℕ) (failed : Option Fault) (old passed new : WindowState) → entry ≡ table.entry → failed ≡ None
+pub Gives-next : (file : Option (List ℕ)) (table : TableRange) (index shown entry : ℕ) (failed : Option Fault) (old passed new : WindowState) → entry ≡ table.entry → failed ≡ None
     → index < table.count → passed.at ≡ old.at + shown → passed.held ≡ drop shown old.held → IsAtRow table index 0 passed → HoldsCount passed new entry
     → StillHolds file passed new → GivesRow file (reading table index shown failed old) (reading table (index + 1) entry failed new)
 Gives-next file table index shown entry failed old passed new e nf below at held s h agrees =

@@ -16,7 +16,7 @@ use Rattle.elf_table.specs.declared.fault.Fault.{Fault}
 use Rattle.elf_table.specs.declared.fault.Fault.TheVariants.{Refused, Source}
 use Rattle.elf_table.specs.Relocations.{RefusedBy}
 use Rattle.elf_table.specs.Sections.{checked, rows, string_table_of, strings, symbols_at, table_at, table_of}
-use Rattle.elf_table.specs.Tables.{Rows, StringTableRange}
+use Rattle.elf_table.specs.Tables.{TableRange, StringTableRange}
 use Rattle.elf_table.specs.Versions.{AreVersioned}
 use Rattle.elf_table.proofs.RelocationLaws.{passed_first, symbols-fail, symbols-pass, table-fails}
 
@@ -34,14 +34,14 @@ strings-are bytes at size place names h = by_cases (sh_type bytes at == SHT_STRT
 
 -- a section that is not empty, whose own checks have others behind them
 module _ (file : List ℕ) (at : ℕ) (some : (sh_size file at == 0) ≡ false) where
-  own : (table : Rows) → table_at file at 2 ≡ Ok table → (first_refusal (table_checks file at 2) ≡ None) × (rows (sh_offset file at) (sh_size file at / 2) 2 ≡ table)
+  own : (table : TableRange) → table_at file at 2 ≡ Ok table → (first_refusal (table_checks file at 2) ≡ None) × (rows (sh_offset file at) (sh_size file at / 2) 2 ≡ table)
   own table held = passed_first _ _ _ (rw (some, table_at, table_of) at held)
 
   behind : (front back : List Check) (fault : Fault) → first_refusal front ≡ None → RefusedBy back fault → RefusedBy (front ++ back) fault
   behind front back (Refused refusal) pass by = first_refusal-none front back pass ∙ by
   behind front back (Source fault offset) pass by = by
 
-  module _ (table : Rows) (held : table_at file at 2 ≡ Ok table) where
+  module _ (table : TableRange) (held : table_at file at 2 ≡ Ok table) where
     pub unlinked : (sh_link file at == 0 || not (has_symbols file at)) ≡ true → first_refusal (all_checks symbol_versions.checks file at) ≡ Some (record { at = at; cause = BadLink })
     unfolding symbol_versions
     unlinked none = rw some (first_refusal-none (table_checks file at 2) (symbols_checks file at) (own table held).0 ∙ rw none refl)
@@ -52,26 +52,26 @@ module _ (file : List ℕ) (at : ℕ) (some : (sh_size file at == 0) ≡ false) 
       symbols_refused fault h =
           rw some (behind (table_checks file at 2) (symbols_checks file at) fault (own table held).0 (rw linked (symbols-fail file (linked_at file at) fault h)))
 
-      pub versioned : (symbols : Rows × StringTableRange) → symbols_at file (linked_at file at) ≡ Ok symbols → AreVersioned file at table symbols.0.count
+      pub versioned : (symbols : TableRange × StringTableRange) → symbols_at file (linked_at file at) ≡ Ok symbols → AreVersioned file at table symbols.0.count
       unfolding symbol_versions
       versioned symbols h =
           let p = symbols-pass file (linked_at file at) symbols h in
           record {
             pass = rw some (first_refusal-none (table_checks file at 2) (symbols_checks file at) (own table held).0 ∙ rw linked p.0);
-            counted = ap (λ (t : Rows). t.count) (sym (own table held).1);
-            placed = ap (λ (t : Rows). t.at) (sym (own table held).1);
+            counted = ap (λ (t : TableRange). t.count) (sym (own table held).1);
+            placed = ap (λ (t : TableRange). t.at) (sym (own table held).1);
             symbols = λ _. p.1.counted;
           }
 
 -- an empty one has no checks
-pub unversioned : (file : List ℕ) (at : ℕ) (table : Rows) → sh_size file at ≡ 0 → table_at file at 2 ≡ Ok table → AreVersioned file at table 0
+pub unversioned : (file : List ℕ) (at : ℕ) (table : TableRange) → sh_size file at ≡ 0 → table_at file at 2 ≡ Ok table → AreVersioned file at table 0
 unfolding symbol_versions
 unversioned file at table none held =
     let is : rows (sh_offset file at) 0 2 ≡ table = let h = rw (none, table_at, table_of) at held in cc in
     record {
       pass = rw none refl;
-      counted = ap (λ (t : Rows). t.count) (sym is) ∙ rw none refl;
-      placed = ap (λ (t : Rows). t.at) (sym is);
+      counted = ap (λ (t : TableRange). t.count) (sym is) ∙ rw none refl;
+      placed = ap (λ (t : TableRange). t.at) (sym is);
       symbols = λ some. let other = rw none at some in cc;
     }
 
@@ -85,7 +85,7 @@ table-refused file at fault h = let p = table-fails (sh_size file at == 0) _ _ (
     front (Source fault offset) k = k
 
 -- the headers in the store tell of checks that pass
-pub symbols-stored : (bytes : List ℕ) (size place : ℕ) (table : Rows) (named : Bool) → table_of bytes 0 size place 24 ≡ Ok table → (sh_size bytes 0 == 0 || named) ≡ true
+pub symbols-stored : (bytes : List ℕ) (size place : ℕ) (table : TableRange) (named : Bool) → table_of bytes 0 size place 24 ≡ Ok table → (sh_size bytes 0 == 0 || named) ≡ true
     → (sh_size bytes 0 == 0 || (pass (table_checks_of bytes 0 size 0 24) && named)) ≡ true
 symbols-stored bytes size place table named held names = elim (cases_Bool (sh_size bytes 0 == 0)) [
   | inl empty ↦ rw empty refl

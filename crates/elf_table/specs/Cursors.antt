@@ -1,7 +1,7 @@
 -- What a cursor over a table gives, row by row.
 use Rattle.std.specs.Prelude.{ℕ, ◌≡◌, ◌+◌, ◌-◌, ◌*◌, ◌/◌, Bool, true, false, List, length, Option, None, Some, Result, Ok, Err}
 use Rattle.elf_model.specs.Bytes.{slice}
-use Rattle.elf_table.specs.Tables.{Rows, size_of}
+use Rattle.elf_table.specs.Tables.{TableRange, size_of}
 use Rattle.elf_table.specs.declared.fault.Fault.{Fault}
 use Rattle.elf_table.specs.Faults.{IsAt}
 use Rattle.elf_table.specs.declared.row.Row.{Row}
@@ -10,7 +10,7 @@ use Rattle.elf_table.specs.Windows.{WindowState}
 -- a cursor: its table, the index of the next row, how many rows are left to give, how many bytes are not asked for yet,
 -- the bytes that it holds of the next rows, the bytes of the row that it shows, and the fault where it failed
 pub record CursorState : Type 0 where
-  pub table : Rows
+  pub table : TableRange
   pub index : ℕ
   pub left : ℕ
   pub unread : ℕ
@@ -19,7 +19,7 @@ pub record CursorState : Type 0 where
   pub failed : Option Fault
 
 -- the file offset of a row
-abbrev pub row_at : Rows → ℕ → ℕ
+abbrev pub row_at : TableRange → ℕ → ℕ
 row_at table index = table.at + index * table.entry
 
 -- the file offset of the next row
@@ -31,7 +31,7 @@ abbrev pub page_of : ℕ → ℕ
 page_of entry = 4096 / entry * entry
 
 -- a window stands at the row that is shown, which has so many bytes, and holds whole rows behind it
-pub record IsAtRow (table : Rows) (index shown : ℕ) (w : WindowState) : Type 0 where
+pub record IsAtRow (table : TableRange) (index shown : ℕ) (w : WindowState) : Type 0 where
   pub its_place : w.at + shown ≡ row_at table index
   pub rows : ℕ
   pub whole : length w.held ≡ shown + rows * table.entry

@@ -6,7 +6,7 @@ use Rattle.elf_model.specs.Tables.{linked_at}
 use Rattle.elf_model.specs.declared.causes.Cause.TheVariants.{BadLink, HashShape, TableOutside}
 use Rattle.elf_record.specs.declared.shdr.Shdr.{Shdr}
 use Rattle.elf_table.specs.Relocations.{AreSymbols, RefusedBy}
-use Rattle.elf_table.specs.Tables.{Rows, StringTableRange}
+use Rattle.elf_table.specs.Tables.{TableRange, StringTableRange}
 use Rattle.elf_table.specs.declared.fault.Fault.{Fault}
 
 -- A VALUE BEHIND CHECKS: they pass, and the value is so; or the fault is the first of them that fails
@@ -15,7 +15,7 @@ ChecksThenValue checks Is (Ok value) = (first_refusal checks ≡ None) × Is val
 ChecksThenValue checks Is (Err fault) = RefusedBy checks fault
 
 -- the index of a section of symbols, the symbols, and the string table of their names
-pub record AreHashed (file : List ℕ) (at : ℕ) (found : ℕ × (Rows × StringTableRange)) : Type 0 where
+pub record AreHashed (file : List ℕ) (at : ℕ) (found : ℕ × (TableRange × StringTableRange)) : Type 0 where
   pub link : found.0 ≡ sh_link file at
   pub symbols : AreSymbols file (linked_at file at) found.1
 

@@ -3,7 +3,7 @@ use Rattle.std.specs.Prelude.{ℕ, ◌≡◌, ◌<◌, true, false, List, Option
 use Rattle.elf_model.specs.Checks.{Check, first_refusal}
 use Rattle.elf_model.specs.Records.{sh_offset, sh_size}
 use Rattle.elf_model.specs.Tables.{SYMBOL_SIZE, RELA_SIZE, linked_at, entry_count, has_symbols, linked_table_checks, relocation_table_checks}
-use Rattle.elf_table.specs.Tables.{Rows, StringTableRange}
+use Rattle.elf_table.specs.Tables.{TableRange, StringTableRange}
 use Rattle.elf_table.specs.Sections.{strings, names_at}
 use Rattle.elf_table.specs.declared.fault.Fault.{Fault}
 use Rattle.elf_table.specs.declared.fault.Fault.TheVariants.{Refused, Source}
@@ -14,7 +14,7 @@ RefusedBy checks (Refused refusal) = first_refusal checks ≡ Some refusal
 RefusedBy checks (Source fault at) = ⊥
 
 -- the symbols of the section with this header, and the string table of their names; no bytes of an empty one
-pub record AreSymbols (file : List ℕ) (header : ℕ) (symbols : Rows × StringTableRange) : Type 0 where
+pub record AreSymbols (file : List ℕ) (header : ℕ) (symbols : TableRange × StringTableRange) : Type 0 where
   pub counted : symbols.0.count ≡ entry_count file header SYMBOL_SIZE
   pub sized : symbols.0.entry ≡ SYMBOL_SIZE
   pub placed : symbols.0.at ≡ sh_offset file header
@@ -23,18 +23,18 @@ pub record AreSymbols (file : List ℕ) (header : ℕ) (symbols : Rows × String
 
 -- the symbols that the section with this header refers to: those of the section that its link names, or none where that
 -- holds no symbols
-abbrev pub RefersTo : List ℕ → ℕ → Option (Rows × StringTableRange) → Type 0
+abbrev pub RefersTo : List ℕ → ℕ → Option (TableRange × StringTableRange) → Type 0
 RefersTo file header None = has_symbols file header ≡ false
 RefersTo file header (Some symbols) = (has_symbols file header ≡ true) × AreSymbols file (linked_at file header) symbols
 
 -- the symbols that are linked to, once their checks pass, or the first of those that fails
-abbrev pub Links : List ℕ → ℕ → Result (Option (Rows × StringTableRange)) Fault → Type 0
+abbrev pub Links : List ℕ → ℕ → Result (Option (TableRange × StringTableRange)) Fault → Type 0
 Links file header (Ok linked) = (first_refusal (linked_table_checks file header) ≡ None) × RefersTo file header linked
 Links file header (Err fault) = RefusedBy (linked_table_checks file header) fault
 
 -- the relocation entries of the section with this header, whose checks pass, and the symbols that they refer to; where
 -- there is no entry, none are looked for
-pub record AreRelocations (file : List ℕ) (header : ℕ) (table : Rows) (linked : Option (Rows × StringTableRange)) : Type 0 where
+pub record AreRelocations (file : List ℕ) (header : ℕ) (table : TableRange) (linked : Option (TableRange × StringTableRange)) : Type 0 where
   pub pass : first_refusal (relocation_table_checks file header) ≡ None
   pub counted : table.count ≡ entry_count file header RELA_SIZE
   pub placed : table.at ≡ sh_offset file header
@@ -42,6 +42,6 @@ pub record AreRelocations (file : List ℕ) (header : ℕ) (table : Rows) (linke
   pub none : table.count ≡ 0 → linked ≡ None
 
 -- what a section of relocation entries answers: those, or the first of its checks that fails
-abbrev pub Relocates : List ℕ → ℕ → Result (Rows × Option (Rows × StringTableRange)) Fault → Type 0
+abbrev pub Relocates : List ℕ → ℕ → Result (TableRange × Option (TableRange × StringTableRange)) Fault → Type 0
 Relocates file header (Ok found) = AreRelocations file header found.0 found.1
 Relocates file header (Err fault) = RefusedBy (relocation_table_checks file header) fault

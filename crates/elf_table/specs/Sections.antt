@@ -5,7 +5,7 @@ use Rattle.elf_model.specs.Records.{sh_type, sh_offset, sh_size, sh_link, e_shst
 use Rattle.elf_model.specs.Numbers.{SHT_STRTAB}
 use Rattle.elf_model.specs.declared.causes.Refusal.{Refusal}
 use Rattle.elf_model.specs.declared.causes.Cause.TheVariants.{NotStrings, TableOutside}
-use Rattle.elf_table.specs.Tables.{Rows, StringTableRange}
+use Rattle.elf_table.specs.Tables.{TableRange, StringTableRange}
 use Rattle.elf_table.specs.declared.fault.Fault.{Fault}
 use Rattle.elf_table.specs.declared.fault.Fault.TheVariants.{Refused}
 
@@ -19,7 +19,7 @@ abbrev pub checked : {A : Type 0} → List Check → A → Result A Fault
 checked checks value = answered (first_refusal checks) value
 
 -- so many rows of one size from an offset on
-abbrev pub rows : ℕ → ℕ → ℕ → Rows
+abbrev pub rows : ℕ → ℕ → ℕ → TableRange
 rows at count entry = record { at = at; count = count; entry = entry }
 
 -- so many bytes of names from an offset on
@@ -28,13 +28,13 @@ strings at size = record { at = at; size = size }
 
 -- so many bytes from an offset on as rows of one size, in a file of so many bytes; none have no checks, and refusals
 -- name a place
-abbrev pub rows_of : ℕ → ℕ → ℕ → ℕ → ℕ → Result Rows Fault
+abbrev pub rows_of : ℕ → ℕ → ℕ → ℕ → ℕ → Result TableRange Fault
 rows_of file_size offset size place entry =
     checked (unless_empty size (whole_checks_of file_size offset size place entry)) (rows offset (size / entry) entry)
 
 -- the table of a section whose header stands at an offset of some bytes, in a file of so many bytes;
 -- an empty one has no checks
-abbrev pub table_of : List ℕ → ℕ → ℕ → ℕ → ℕ → Result Rows Fault
+abbrev pub table_of : List ℕ → ℕ → ℕ → ℕ → ℕ → Result TableRange Fault
 table_of bytes at file_size place entry =
     elim (sh_size bytes at == 0) [
       | true ↦ Ok (rows (sh_offset bytes at) 0 entry)
@@ -42,7 +42,7 @@ table_of bytes at file_size place entry =
     ]
 
 -- the table of a section of the file
-abbrev pub table_at : List ℕ → ℕ → ℕ → Result Rows Fault
+abbrev pub table_at : List ℕ → ℕ → ℕ → Result TableRange Fault
 table_at file at entry = table_of file at (length file) at entry
 
 -- the names in a section of the file
@@ -64,7 +64,7 @@ abbrev pub section_names : List ℕ → Option StringTableRange
 section_names file = elim (has_section_names file) [ true ↦ Some (names_at file (section_at file (e_shstrndx file))) | false ↦ None ]
 
 -- so many bytes of the file as rows of one byte; none has no check
-abbrev pub byte_rows : ℕ → ℕ → ℕ → ℕ → Result Rows Fault
+abbrev pub byte_rows : ℕ → ℕ → ℕ → ℕ → Result TableRange Fault
 byte_rows file_size offset size place =
     elim (size == 0) [
       | true ↦ Ok (rows offset 0 1)
@@ -72,7 +72,7 @@ byte_rows file_size offset size place =
     ]
 
 -- the symbols of a section of the file with their string table; two empty ones where it is empty
-abbrev pub symbols_at : List ℕ → ℕ → Result (Rows × StringTableRange) Fault
+abbrev pub symbols_at : List ℕ → ℕ → Result (TableRange × StringTableRange) Fault
 symbols_at file at =
     elim (sh_size file at == 0) [
       | true ↦ Ok (rows (sh_offset file at) 0 24, strings (sh_offset file at) 0)

@@ -3,27 +3,27 @@ use Rattle.std.specs.Prelude.{ℕ, ◌≡◌, ◌+◌, ◌*◌, ◌<◌, ◌≤�
 use Rattle.elf_model.specs.Bytes.{slice}
 
 -- a table: the offset of its first row, how many rows there are, and the size of a row
-pub record Rows : Type 0 where
+pub record TableRange : Type 0 where
   pub at : ℕ
   pub count : ℕ
   pub entry : ℕ
 
 -- how many bytes a table has
-abbrev pub size_of : Rows → ℕ
+abbrev pub size_of : TableRange → ℕ
 size_of table = table.count * table.entry
 
 -- a table that is not empty ends within a source of this size
-abbrev pub TableInBounds : ℕ → Rows → Type 0
+abbrev pub TableInBounds : ℕ → TableRange → Type 0
 TableInBounds size table = 0 < table.count → table.at + size_of table ≤ size
 
 -- a table of rows of one size, of so many bytes, that ends within a source of this size where it is not empty
-pub record Spans (size width bytes : ℕ) (table : Rows) : Type 0 where
+pub record Spans (size width bytes : ℕ) (table : TableRange) : Type 0 where
   pub within : TableInBounds size table
   pub entry : table.entry ≡ width
   pub sized : size_of table ≡ bytes
 
 -- a table of single bytes that ends within a source of this size, empty or not
-pub record BytesWithin (size : ℕ) (table : Rows) : Type 0 where
+pub record BytesWithin (size : ℕ) (table : TableRange) : Type 0 where
   pub within : table.at + table.count ≤ size
   pub single : table.entry ≡ 1
 
@@ -41,5 +41,5 @@ abbrev pub StringsInBounds : ℕ → StringTableRange → Type 0
 StringsInBounds size names = 0 < names.size → names.at + names.size ≤ size
 
 -- symbols with their string table lie within a source of this size
-abbrev pub SymbolTableInBounds : ℕ → Rows × StringTableRange → Type 0
+abbrev pub SymbolTableInBounds : ℕ → TableRange × StringTableRange → Type 0
 SymbolTableInBounds size symbols = (symbols.0.entry ≡ 24) × TableInBounds size symbols.0 × StringsInBounds size symbols.1

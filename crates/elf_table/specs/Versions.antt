@@ -10,11 +10,11 @@ use Rattle.elf_model.specs.Versions.{VERSYM_SIZE}
 use Rattle.elf_table.specs.Store.{row}
 use Rattle.elf_table.specs.declared.fault.Fault.{Fault}
 use Rattle.elf_table.specs.Relocations.{RefusedBy}
-use Rattle.elf_table.specs.Tables.{Rows}
-use Rattle.elf_table.specs.declared.file.File.{File}
+use Rattle.elf_table.specs.Tables.{TableRange}
+use Rattle.elf_table.specs.declared.file.SectionView.{SectionView}
 
 -- the section headers of a loaded file, as its store has them
-abbrev pub sections_in : File → HeaderTable
+abbrev pub sections_in : SectionView → HeaderTable
 sections_in f = held_headers f.store.now.loaded (row f.store.now)
 
 -- a section is empty, or it links to a string table
@@ -22,13 +22,13 @@ abbrev pub has_names : HeaderTable → (index file_size : ℕ) → Bool
 has_names headers i file_size = header_field headers sh_size i == 0 || has_strings headers i file_size
 
 -- a section links to a section of symbols, which is not the first
-pub record LinksToSymbols (f : File) (section : ℕ) : Type 0 where
+pub record LinksToSymbols (f : SectionView) (section : ℕ) : Type 0 where
   pub below : sh_link (row f.store.now section) 0 < f.store.now.loaded
   pub small : sh_link (row f.store.now section) 0 < 2 ^ 16
   pub linked : (links (sections_in f) section && is_symbol_table (row f.store.now (sh_link (row f.store.now section) 0)) 0) ≡ true
 
 -- THE VERSIONS OF SYMBOLS of a section that is not empty, and the symbols that it links to, by the headers in the store
-pub record CountsVersions (f : File) (section : ℕ) (table : Rows) (count : ℕ) : Type 0 where
+pub record CountsVersions (f : SectionView) (section : ℕ) (table : TableRange) (count : ℕ) : Type 0 where
   pub entry : table.entry ≡ VERSYM_SIZE
   pub counted : table.count ≡ header_field (sections_in f) sh_size section / VERSYM_SIZE
   pub linked : (header_field (sections_in f) sh_size section == 0) ≡ false → has_symbol_table (sections_in f) section f.loaded.size ≡ true
@@ -36,13 +36,13 @@ pub record CountsVersions (f : File) (section : ℕ) (table : Rows) (count : ℕ
       → count ≡ header_field (sections_in f) sh_size (header_field (sections_in f) sh_link section) / SYMBOL_SIZE
 
 -- the same by a file, whose checks pass
-pub record AreVersioned (file : List ℕ) (header : ℕ) (table : Rows) (count : ℕ) : Type 0 where
+pub record AreVersioned (file : List ℕ) (header : ℕ) (table : TableRange) (count : ℕ) : Type 0 where
   pub pass : first_refusal (all_checks symbol_versions.checks file header) ≡ None
   pub counted : table.count ≡ entry_count file header VERSYM_SIZE
   pub placed : table.at ≡ sh_offset file header
   pub symbols : (sh_size file header == 0) ≡ false → count ≡ versioned_symbols file header
 
 -- what a section of versions of symbols answers: those, or the first of its checks that fails
-abbrev pub Versioned : List ℕ → ℕ → Result (Rows × ℕ) Fault → Type 0
+abbrev pub Versioned : List ℕ → ℕ → Result (TableRange × ℕ) Fault → Type 0
 Versioned file header (Ok found) = AreVersioned file header found.0 found.1
 Versioned file header (Err fault) = RefusedBy (all_checks symbol_versions.checks file header) fault

@@ -10,7 +10,7 @@ use Rattle.elf_table.specs.Load.{HoldsProgramHeaders}
 use Rattle.elf_table.specs.Relocations.{RefusedBy}
 use Rattle.elf_table.specs.Sections.{byte_rows, checked, rows, rows_of, strings}
 use Rattle.elf_table.specs.Store.{segment_bytes}
-use Rattle.elf_table.specs.Tables.{Rows, StringTableRange}
+use Rattle.elf_table.specs.Tables.{TableRange, StringTableRange}
 use Rattle.elf_table.specs.declared.fault.Fault.{Fault}
 use Rattle.elf_table.specs.declared.fault.Fault.TheVariants.{Refused}
 use Rattle.elf_table.specs.declared.segment_view.ExecutionView.{ExecutionView}
@@ -21,9 +21,9 @@ ReturnsSegment v segment answer has =
     (file : List ℕ) → HoldsProgramHeaders file v.loaded v.store.now → answer ≡ has file (segment_at file segment)
 
 -- CHECKS ALONE: all pass, or the fault is the first of them that fails
-abbrev pub Decides : List Check → Result (Unit {0}) Fault → Type 0
-Decides checks (Ok passed) = first_refusal checks ≡ None
-Decides checks (Err fault) = RefusedBy checks fault
+abbrev pub ChecksDecide : List Check → Result (Unit {0}) Fault → Type 0
+ChecksDecide checks (Ok passed) = first_refusal checks ≡ None
+ChecksDecide checks (Err fault) = RefusedBy checks fault
 
 -- the file offset of the program header of an index
 abbrev pub segment_place : Ehdr → ℕ → ℕ
@@ -31,19 +31,19 @@ segment_place header i = header.e_phoff + 56 * i
 
 -- the dynamic entries of a segment whose program header stands at an offset of some bytes, in a file of so many bytes;
 -- the refusals name a place
-abbrev pub dynamic_of : List ℕ → ℕ → ℕ → ℕ → Result Rows Fault
+abbrev pub dynamic_of : List ℕ → ℕ → ℕ → ℕ → Result TableRange Fault
 dynamic_of bytes at file_size place = rows_of file_size (p_offset bytes at) (p_filesz bytes at) place 16
 
 -- those of a segment of the file
-abbrev pub dynamic_table_at : List ℕ → ℕ → Result Rows Fault
+abbrev pub dynamic_table_at : List ℕ → ℕ → Result TableRange Fault
 dynamic_table_at file at = dynamic_of file at (length file) at
 
 -- the bytes of the segment whose program header stands at an offset
-abbrev pub byte_table_at : List ℕ → ℕ → Result Rows Fault
+abbrev pub byte_table_at : List ℕ → ℕ → Result TableRange Fault
 byte_table_at file at = byte_rows (length file) (p_offset file at) (p_filesz file at) at
 
 -- those of a segment, by its program header in the store
-abbrev pub dynamic_in : ExecutionView → ℕ → Result Rows Fault
+abbrev pub dynamic_in : ExecutionView → ℕ → Result TableRange Fault
 dynamic_in v segment =
     dynamic_of (segment_bytes v.store.now segment) 0 v.loaded.size (segment_place v.loaded.header segment)
 
@@ -72,13 +72,13 @@ first_of_kind file kind = first_that (λ i. p_type file (segment_at file i) == k
 
 -- the rest of a segment's bytes from an address on, by its program header at an offset of some bytes, in a file of so many
 -- bytes; the refusal names a place
-abbrev pub rest_of : List ℕ → ℕ → ℕ → ℕ → ℕ → Result Rows Fault
+abbrev pub rest_of : List ℕ → ℕ → ℕ → ℕ → ℕ → Result TableRange Fault
 rest_of bytes at file_size place v =
     checked (refuse (is_outside file_size (p_offset bytes at) (p_filesz bytes at)) place TableOutside ∷ [])
     (rows (p_offset bytes at + (v - p_vaddr bytes at)) (p_filesz bytes at - (v - p_vaddr bytes at)) 1)
 
 -- the rest of the bytes of the first LOAD segment that has an address, which an entry gives
-abbrev pub rest_mapped : List ℕ → ℕ → ℕ → Result Rows Fault
+abbrev pub rest_mapped : List ℕ → ℕ → ℕ → Result TableRange Fault
 rest_mapped file v entry = elim (mapped_at file v 1) [
   | None ↦ Err (Refused (record { at = entry; cause = Unmapped }))
   | Some at ↦ rest_of file at (length file) at v

@@ -8,7 +8,7 @@ ghost use Rattle.elf_table.specs.Tables.{Spans, StringsInBounds};
 
 use crate::fault::{Fault, refused};
 use crate::names::Names;
-use crate::ranges::ends_outside;
+use crate::ranges::is_out_of_bounds;
 use crate::table::Table;
 use elf_record::numbers::{SHT_DYNSYM, SHT_STRTAB, SHT_SYMTAB};
 use elf_record::{Cause, Shdr};
@@ -51,7 +51,7 @@ pub(crate) fn checked_rows(
     if bytes % entry != 0 {
         return refused(place, Cause::SizeNotWhole);
     }
-    if ends_outside(size, offset, bytes) {
+    if is_out_of_bounds(size, offset, bytes) {
         return refused(place, Cause::TableOutside);
     }
     Ok(Table::new(offset, bytes / entry, entry))
@@ -63,7 +63,7 @@ pub(crate) fn checked_bytes(offset: u64, bytes: u64, size: u64, place: u64) -> R
     ensures value { result ≡ byte_rows size offset bytes place }
     ensures lies { MatchResult result (Spans size 1 bytes) IsOfCheck }
 {
-    if bytes != 0 && ends_outside(size, offset, bytes) {
+    if bytes != 0 && is_out_of_bounds(size, offset, bytes) {
         return refused(place, Cause::TableOutside);
     }
     Ok(Table::new(offset, bytes, 1))
@@ -83,7 +83,7 @@ pub fn checked_strings(header: &Shdr, size: u64, place: u64) -> Result<Names, Fa
     if header.sh_type != SHT_STRTAB {
         return refused(place, Cause::NotStrings);
     }
-    if ends_outside(size, header.sh_offset, header.sh_size) {
+    if is_out_of_bounds(size, header.sh_offset, header.sh_size) {
         return refused(place, Cause::TableOutside);
     }
     Ok(Names::new(header.sh_offset, header.sh_size))

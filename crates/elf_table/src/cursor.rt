@@ -99,7 +99,7 @@ impl Cursor {
         self.window.skip(self.shown);
         self.shown = 0;
         let entry = self.table.entry();
-        if let Err(fault) = self.window.bring(src, entry) {
+        if let Err(fault) = self.window.fill_buf(src, entry) {
             self.failed = Some(fault);
             return Err(fault);
         }

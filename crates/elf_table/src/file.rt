@@ -6,7 +6,7 @@ use crate::store::HeaderStore;
 
 /// A loaded file with the store that holds its section headers.
 #[derive(Clone, Copy)]
-pub struct File<'a> {
+pub struct SectionView<'a> {
     /// The file.
     pub loaded: Loaded,
     /// The section headers.

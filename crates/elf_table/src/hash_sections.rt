@@ -12,9 +12,9 @@ ghost use Rattle.elf_table.specs.HashSections.{AreHashed, HashFits, PassesFront,
 ghost use Rattle.elf_table.specs.Tables.{SymbolTableInBounds};
 
 use crate::fault::Fault;
-use crate::file::File;
+use crate::file::SectionView;
 use crate::names::Names;
-use crate::ranges::ends_outside;
+use crate::ranges::is_out_of_bounds;
 use crate::table::Table;
 use elf_record::numbers::{EM_ALPHA, SHT_HASH};
 use elf_record::{Cause, Refusal, Shdr};
@@ -22,7 +22,7 @@ use elf_record::{Cause, Refusal, Shdr};
 /// The size of a wide word of a hash table in bytes, in place of 4.
 const WIDE_WORD_BYTES: u64 = 8;
 
-impl File<'_> {
+impl SectionView<'_> {
     /// The index of the section of symbols that a section with a hash table refers to, the symbols,
     /// rows of 24 bytes, and the string table with their names. The hash table's section has `least`
     /// bytes at least; that it is of a type with hash tables is the caller's matter. No bytes are read
@@ -32,7 +32,7 @@ impl File<'_> {
     /// The first check that fails, at the section's header: `TableOutside` where it ends past the
     /// end of the file, at every size; `HashShape` where it has fewer bytes, or where it is a HASH
     /// section of a file of Alpha whose entries have 8 bytes: so have its table's words then;
-    /// `BadLink` where its link is 0 or names no section of symbols. Then those of [`File::symbols`]
+    /// `BadLink` where its link is 0 or names no section of symbols. Then those of [`SectionView::symbols`]
     /// at the linked section.
     pub fn hashed(&self, section: u16, least: u64) -> Result<(u16, (Table, Names)), Fault>
         requires { section < self.now.store.now.loaded }
@@ -72,7 +72,7 @@ fn refused_front(
     ensures passes { MatchOption result (PassesFront least size header.now linked)
         (λ _. Unit {0}) }
 {
-    if ends_outside(size, header.sh_offset, header.sh_size) {
+    if is_out_of_bounds(size, header.sh_offset, header.sh_size) {
         return Some(Refusal {
             at: place,
             cause: Cause::TableOutside,
@@ -95,7 +95,7 @@ fn refused_front(
 
 // Whether a section is a hash table whose words have 8 bytes: a HASH section of a file of Alpha, whose
 // entry size says so.
-fn holds_wide_words(file: &File<'_>, header: &Shdr) -> bool
+fn holds_wide_words(file: &SectionView<'_>, header: &Shdr) -> bool
     ensures { (bytes : List ℕ) (at : ℕ) → HoldsSectionHeaders bytes file.now.loaded file.now.store.now →
         IsShdr bytes at header.now → result ≡ has_64_bit_words bytes at }
 {

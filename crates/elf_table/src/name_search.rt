@@ -39,7 +39,7 @@ pub fn search_name<S: Source, const N: usize>(
 {
     let mut done: u64 = 0;
     while done < want {
-        window.bring(src, 1)?;
+        window.fill_buf(src, 1)?;
         let front = window.front();
         let count = (front.len() as u64).min(want - done);
         let piece = &front[..count as usize];

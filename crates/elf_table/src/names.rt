@@ -209,7 +209,7 @@ fn match_pieces<S: Source, const N: usize>(
     let mut window: Window<N> = Window::new(start, want, N as u64);
     let mut done: u64 = 0;
     while done < want {
-        window.bring(src, 1)?;
+        window.fill_buf(src, 1)?;
         let piece = window.front();
         let count = piece.len() as u64;
         if !agrees(piece, wanted, done as usize) {

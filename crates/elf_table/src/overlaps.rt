@@ -4,7 +4,7 @@ ghost use Rattle.elf_model.specs.Overlaps.{first_page, overlap_checks, page_behi
 ghost use Rattle.elf_record.specs.Phdr.{IsPhdr};
 ghost use Rattle.elf_table.specs.Faults.{IsOfCheck};
 ghost use Rattle.elf_table.specs.Load.{HoldsProgramHeaders};
-ghost use Rattle.elf_table.specs.Views.{Decides};
+ghost use Rattle.elf_table.specs.Views.{ChecksDecide};
 
 use crate::fault::{Fault, refused};
 use crate::segment_view::ExecutionView;
@@ -24,7 +24,7 @@ impl ExecutionView<'_> {
     /// `LoadOverlap` at the program header of the first that does not.
     pub fn check_overlaps(&self) -> Result<(), Fault>
         ensures held { (file : List ℕ) → HoldsProgramHeaders file self.now.loaded self.now.store.now →
-            Decides (overlap_checks file) result }
+            ChecksDecide (overlap_checks file) result }
         ensures refusal { IfErr result IsOfCheck }
     {
         let count = self.segments();

@@ -4,7 +4,7 @@ ghost use Rattle.elf_model.specs.Checks.{is_outside};
 
 /// Whether `bytes` bytes from the offset `offset` on end past a file of `size` bytes. The sum is a
 /// whole number, which nothing wraps.
-pub fn ends_outside(size: u64, offset: u64, bytes: u64) -> bool
+pub fn is_out_of_bounds(size: u64, offset: u64, bytes: u64) -> bool
     ensures { result ≡ is_outside size offset bytes }
 {
     u128::from(offset) + u128::from(bytes) > u128::from(size)

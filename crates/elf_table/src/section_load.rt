@@ -12,7 +12,7 @@ ghost use Rattle.elf_table.specs.Store.{emptied, HoldsSections};
 
 use crate::fault::{Fault, refusal_at};
 use crate::loaded::Loaded;
-use crate::ranges::ends_outside;
+use crate::ranges::is_out_of_bounds;
 use crate::store::HeaderStore;
 use elf_record::numbers::{PN_XNUM, SHN_XINDEX, SHT_STRTAB};
 use elf_record::sizes::{PROGRAM_HEADER_BYTES, SECTION_HEADER_BYTES};
@@ -108,7 +108,7 @@ fn refused_names(store: &HeaderStore, header: &Ehdr, size: u64) -> Option<Refusa
     if section.sh_type != SHT_STRTAB {
         return refusal_at(place, Cause::NotStrings);
     }
-    if ends_outside(size, section.sh_offset, section.sh_size) {
+    if is_out_of_bounds(size, section.sh_offset, section.sh_size) {
         return refusal_at(place, Cause::TableOutside);
     }
     None
@@ -143,10 +143,10 @@ pub fn check_before_load(header: &Ehdr, size: u64, headers: u16) -> Option<Refus
     if header.e_phnum != 0 && u64::from(header.e_phentsize) != PROGRAM_HEADER_BYTES {
         return refusal_at(0x36, Cause::EntrySize);
     }
-    if header.e_shnum != 0 && ends_outside(size, header.e_shoff, sections) {
+    if header.e_shnum != 0 && is_out_of_bounds(size, header.e_shoff, sections) {
         return refusal_at(0x28, Cause::TableOutside);
     }
-    if header.e_phnum != 0 && ends_outside(size, header.e_phoff, segments) {
+    if header.e_phnum != 0 && is_out_of_bounds(size, header.e_phoff, segments) {
         return refusal_at(0x20, Cause::TableOutside);
     }
     if header.e_shnum != 0 && header.e_shstrndx >= header.e_shnum {

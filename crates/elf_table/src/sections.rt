@@ -5,7 +5,7 @@ ghost use Rattle.elf_model.specs.Numbers.{SHT_GNU_VERSYM as VERSYM};
 ghost use Rattle.elf_record.specs.Shdr.{IsShdr};
 ghost use Rattle.elf_table.specs.Load.{HoldsSectionHeaders, PassesLoadChecks, section_place};
 ghost use Rattle.elf_table.specs.Faults.{IsOfCheck};
-ghost use Rattle.elf_table.specs.Files.{Tells, program_headers, table_in, size_in};
+ghost use Rattle.elf_table.specs.Files.{AnswersSection, program_headers, table_in, size_in};
 ghost use Rattle.elf_table.specs.Sections.{byte_rows, table_at, string_table_at, section_names};
 ghost use Rattle.elf_table.specs.Sections.{symbols_at};
 ghost use Rattle.elf_table.specs.Relocations.{Links, Relocates};
@@ -20,9 +20,9 @@ ghost use Rattle.elf_table.specs.Tables.{TableInBounds, Spans, StringsInBounds, 
 
 use crate::checks::{checked_bytes, checked_strings, checked_table, holds_symbols};
 use crate::fault::{Fault, refused};
-use crate::file::File;
+use crate::file::SectionView;
 use crate::names::Names;
-use crate::ranges::ends_outside;
+use crate::ranges::is_out_of_bounds;
 use crate::table::Table;
 use elf_record::gnu_numbers::SHT_GNU_VERSYM;
 use elf_record::sizes::{
@@ -31,7 +31,7 @@ use elf_record::sizes::{
 };
 use elf_record::{Cause, Shdr};
 
-impl File<'_> {
+impl SectionView<'_> {
     /// How many section headers there are.
     pub fn sections(&self) -> u16
         ensures { result ≡ self.now.store.now.loaded }
@@ -39,7 +39,7 @@ impl File<'_> {
         self.store.loaded()
     }
 
-    /// The section header of an index below [`File::sections`] (gABI 4, Section Header).
+    /// The section header of an index below [`SectionView::sections`] (gABI 4, Section Header).
     pub fn section(&self, section: u16) -> Shdr
         requires { section < self.now.store.now.loaded }
         ensures fields { IsShdr (row self.now.store.now section) 0 result }
@@ -86,7 +86,7 @@ impl File<'_> {
         requires below { section < self.now.store.now.loaded }
         requires entry { (0 < entry) × (entry ≤ 4096) }
         ensures value { result ≡ table_in self.now section entry }
-        ensures held { Tells self.now section result (λ file at. table_at file at entry) }
+        ensures held { AnswersSection self.now section result (λ file at. table_at file at entry) }
         ensures lies { MatchResult result
             (Spans self.now.loaded.size entry (size_in self.now section)) IsOfCheck }
     {
@@ -107,7 +107,7 @@ impl File<'_> {
     /// `TableOutside` where it ends past the end of the file, both at the linked section's header.
     pub fn strings(&self, section: u16) -> Result<Names, Fault>
         requires below { section < self.now.store.now.loaded }
-        ensures held { Tells self.now section result string_table_at }
+        ensures held { AnswersSection self.now section result string_table_at }
         ensures within { IfOk result (StringsInBounds self.now.loaded.size) }
         ensures found { IfOk result (λ names.
             has_strings (sections_in self.now) section self.now.loaded.size ≡ true) }
@@ -141,7 +141,7 @@ impl File<'_> {
             return None;
         }
         let section = self.store.section(self.loaded.header().e_shstrndx);
-        if ends_outside(self.loaded.size(), section.sh_offset, section.sh_size) {
+        if is_out_of_bounds(self.loaded.size(), section.sh_offset, section.sh_size) {
             return None;
         }
         Some(Names::new(section.sh_offset, section.sh_size))
@@ -152,10 +152,10 @@ impl File<'_> {
     /// bytes are read (gABI 4, Symbol Table).
     ///
     /// # Errors
-    /// The first check that fails: those of [`File::table`], then those of [`File::strings`].
+    /// The first check that fails: those of [`SectionView::table`], then those of [`SectionView::strings`].
     pub fn symbols(&self, section: u16) -> Result<(Table, Names), Fault>
         requires below { section < self.now.store.now.loaded }
-        ensures held { Tells self.now section result symbols_at }
+        ensures held { AnswersSection self.now section result symbols_at }
         ensures table { IfOk result (λ symbols. Ok symbols.0 ≡ table_in self.now section 24) }
         ensures sized { IfOk result (λ symbols. size_of symbols.0 ≡ size_in self.now section) }
         ensures within { IfOk result (SymbolTableInBounds self.now.loaded.size) }
@@ -176,7 +176,7 @@ impl File<'_> {
     /// where that names no section of symbols (gABI 4, Relocation). No bytes are read.
     ///
     /// # Errors
-    /// Those of [`File::symbols`] at the linked section.
+    /// Those of [`SectionView::symbols`] at the linked section.
     pub fn linked(&self, section: u16) -> Result<Option<(Table, Names)>, Fault>
         requires below { section < self.now.store.now.loaded }
         ensures held { (file : List ℕ) → HoldsSectionHeaders file self.now.loaded self.now.store.now →
@@ -198,11 +198,11 @@ impl File<'_> {
     }
 
     /// The relocation entries of a section, rows of 24 bytes, and the symbols that they refer to,
-    /// as [`File::linked`] answers; no rows and None where the section is empty, with no check. The
+    /// as [`SectionView::linked`] answers; no rows and None where the section is empty, with no check. The
     /// section's type is not looked at. No bytes are read (gABI 4, Relocation).
     ///
     /// # Errors
-    /// The first check that fails: those of [`File::table`], then those of [`File::linked`].
+    /// The first check that fails: those of [`SectionView::table`], then those of [`SectionView::linked`].
     pub fn relocations(&self, section: u16) -> Result<(Table, Option<(Table, Names)>), Fault>
         requires below { section < self.now.store.now.loaded }
         ensures held { (file : List ℕ) → HoldsSectionHeaders file self.now.loaded self.now.store.now →
@@ -258,8 +258,8 @@ impl File<'_> {
     /// looked at. No bytes are read (Linux Standard Base Core, Symbol Versioning).
     ///
     /// # Errors
-    /// The first check that fails: those of [`File::table`]; `BadLink` at the section's header where
-    /// its link is 0 or names no section of symbols; then those of [`File::symbols`] at the linked
+    /// The first check that fails: those of [`SectionView::table`]; `BadLink` at the section's header where
+    /// its link is 0 or names no section of symbols; then those of [`SectionView::symbols`] at the linked
     /// section.
     pub fn symbol_versions(&self, section: u16) -> Result<(Table, u64), Fault>
         requires below { section < self.now.store.now.loaded }

@@ -8,7 +8,7 @@ ghost use Rattle.elf_table.specs.Views.{rest_of, strings_placed};
 
 use crate::fault::{Fault, refused};
 use crate::names::Names;
-use crate::ranges::ends_outside;
+use crate::ranges::is_out_of_bounds;
 use crate::table::Table;
 use elf_record::numbers::PT_LOAD;
 use elf_record::{Cause, Phdr};
@@ -65,7 +65,7 @@ pub(crate) fn checked_rest(
         result ≡ rest_of file at size place address }
     ensures lies { MatchResult result (BytesWithin size) IsOfCheck }
 {
-    if ends_outside(size, header.p_offset, header.p_filesz) {
+    if is_out_of_bounds(size, header.p_offset, header.p_filesz) {
         return refused(place, Cause::TableOutside);
     }
     let skipped = address - header.p_vaddr;

@@ -23,9 +23,9 @@ pub struct Table {
 
 impl Model for Table {
     ghost use Rattle.std.specs.Prelude.{◌+◌, ◌*◌, ◌^◌, ◌<◌, ◌≤◌};
-    ghost use Rattle.elf_table.specs.Tables.{Rows};
+    ghost use Rattle.elf_table.specs.Tables.{TableRange};
 
-    ghost Value = { Rows };
+    ghost Value = { TableRange };
 
     ghost view = { λ t. record { at = t.at; count = t.count; entry = t.entry } };
 

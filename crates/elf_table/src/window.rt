@@ -97,7 +97,7 @@ impl<const N: usize> Window<N> {
     /// # Errors
     /// A fault of a read, or a refusal for want of budget, at the first byte that was not asked for
     /// yet. Nothing is held then, and the place is behind the bytes that were to be read.
-    pub fn bring<S: Source>(&mut self, src: &mut Counted<S>, count: u64) -> Result<(), Fault>
+    pub fn fill_buf<S: Source>(&mut self, src: &mut Counted<S>, count: u64) -> Result<(), Fault>
         requires left { HasLeft src.old.seen.size self.old count }
         requires small { count ≤ self.old.page }
         ensures went { ReadsThroughWindow S.one_read src.old src.new self.old self.new result }

@@ -6,7 +6,7 @@ use elf_requests::{Request, Task, run};
 use elf_source::{
     Counted, FailSource, MemorySource, Out, OutFault, SliceSink, Source, SourceFault, WriteSink,
 };
-use elf_table::{HeaderBuffer, HeaderStore, Limits, NameLimit, RunFault, Style};
+use elf_table::{HeaderBuffer, HeaderStore, Limits, ListingStyle, NameLimit, RunFault};
 use std::process::Abort;
 use std::test::Fail;
 
@@ -25,7 +25,7 @@ pub(crate) fn request(headers: u16, task: Task<'_>) -> Result<Request<'_>, Fail>
 
 /// A listing of some parts, with names of 63 bytes.
 pub(crate) fn listing(headers: u16, parts: Parts) -> Result<Request<'static>, Fail> {
-    let style = Style::standard(NameLimit::new(63).ok_or("cap")?);
+    let style = ListingStyle::standard(NameLimit::new(63).ok_or("cap")?);
     request(headers, Task::Show { parts, style })
 }
 

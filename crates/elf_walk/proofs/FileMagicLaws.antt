@@ -4,7 +4,7 @@ use Rattle.std.specs.Prelude.{IfSome}
 use Rattle.elf_model.specs.ArchiveCost.{archive_ceiling}
 use Rattle.elf_model.specs.Cost.{style_ceiling}
 use Rattle.elf_model.specs.FileLists.{front_size}
-use Rattle.elf_model.specs.Style.{Style}
+use Rattle.elf_model.specs.Style.{ListingStyle}
 use Rattle.elf_model.specs.declared.states.FileStatus.{FileStatus}
 use Rattle.elf_model.specs.declared.states.FileStatus.TheVariants as state
 use Rattle.elf_source.specs.Source.{CountedState}
@@ -16,7 +16,7 @@ use Rattle.elf_walk.specs.CheckedFile.{AsksNoMore, check_ceiling}
 use Rattle.elf_walk.specs.Members.{FindsSorted, FindsSortedState}
 
 -- what a file asks for, by the ceiling of an archive of as many bytes
-check_most : (short : Bool) (size headers : ℕ) (style : Style) → (if short then 4 else style_ceiling size headers style) ≤ archive_ceiling size headers style
+check_most : (short : Bool) (size headers : ℕ) (style : ListingStyle) → (if short then 4 else style_ceiling size headers style) ≤ archive_ceiling size headers style
 unfolding archive_ceiling
 check_most true size headers style = omega arith
 check_most false size headers style = omega arith

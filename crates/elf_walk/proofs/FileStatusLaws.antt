@@ -1,5 +1,5 @@
 -- The state of a file, by what is known of its listing.
-use Rattle.elf_model.specs.Style.{Style}
+use Rattle.elf_model.specs.Style.{ListingStyle}
 use Rattle.elf_options.specs.Permitted.{style_of}
 use Rattle.std.proofs.Common.{◌≡◌, ℕ, ◌+◌, ◌<◌, ◌≤◌, Bool, true, false, if◌then◌else◌, List, length, Option, None, Some, inl, refl, sym, ap, ◌∙◌, nat_lt, arith, ◌^◌}
 use Rattle.std.specs.Prelude.{Ok, Err, IfSome}
@@ -29,13 +29,13 @@ short_first file short =
     let few : nat_lt (length file) 64 ≡ true = grind (arith, nat_tests) in
     rw (below, few) refl
 
-reported : (budget : Option ℕ) (file : List ℕ) (headers : ℕ) (style : Style) (parts : ℕ) (refusal : Refusal) → first_refusal (header_checks file) ≡ Some refusal
+reported : (budget : Option ℕ) (file : List ℕ) (headers : ℕ) (style : ListingStyle) (parts : ℕ) (refusal : Refusal) → first_refusal (header_checks file) ≡ Some refusal
     → IsBudgeted budget file headers style parts (report_of style.format (listing file headers style parts)) (Some refusal)
 reported None file headers style parts refusal first = record { text_is = refl; fault_is = sym (header_fault file headers style parts refusal first).1 }
 reported (Some bytes) file headers style parts refusal first = inl record { text_is = refl; fault_is = sym (header_fault file headers style parts refusal first).1 }
 
 -- the state of a short file
-short_file_status : (budget : Option ℕ) (file : List ℕ) (headers : ℕ) (style : Style) (parts : ℕ) (found : FileStatus) → length file < 64
+short_file_status : (budget : Option ℕ) (file : List ℕ) (headers : ℕ) (style : ListingStyle) (parts : ℕ) (found : FileStatus) → length file < 64
     → found ≡ state_of budget file (Some (short_refusal file)) → IsStateOf budget file headers style parts found
 short_file_status budget file headers style parts found short is = record {
   text = report_of style.format (listing file headers style parts);
@@ -89,13 +89,13 @@ refused_read a b true refusal found is = rw is tt
 refused_read a b false refusal found is = rw is tt
 
 -- what the check of a short file may ask for, and of one that has room for a file header
-pub cost_short : (file : List ℕ) (headers : ℕ) (style : Style) (parts : ℕ) → length file < 64 → check_cost file headers style parts ≡ 4
+pub cost_short : (file : List ℕ) (headers : ℕ) (style : ListingStyle) (parts : ℕ) → length file < 64 → check_cost file headers style parts ≡ 4
 cost_short file headers style parts short = let few : nat_lt (length file) 64 ≡ true = grind (arith, nat_tests) in rw few refl
 
-pub cost_long : (file : List ℕ) (headers : ℕ) (style : Style) (parts : ℕ) → 64 ≤ length file → check_cost file headers style parts ≡ listing_cost file headers style parts
+pub cost_long : (file : List ℕ) (headers : ℕ) (style : ListingStyle) (parts : ℕ) → 64 ≤ length file → check_cost file headers style parts ≡ listing_cost file headers style parts
 cost_long file headers style parts long = let more : nat_lt (length file) 64 ≡ false = grind (arith, nat_tests) in rw more refl
 
-pub most_short : (size headers : ℕ) (style : Style) → size < 64 → check_ceiling size headers style ≡ 4
+pub most_short : (size headers : ℕ) (style : ListingStyle) → size < 64 → check_ceiling size headers style ≡ 4
 most_short size headers style short = let few : nat_lt size 64 ≡ true = grind (arith, nat_tests) in rw few refl
 
 pub asks_long : (caps : Caps) (old new : CountedState) → 64 ≤ old.seen.size → new.asked ≤ old.asked + style_ceiling old.seen.size caps.limits.headers (style_of caps.style)

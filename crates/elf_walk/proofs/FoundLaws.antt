@@ -11,7 +11,7 @@ use Rattle.elf_model.specs.declared.causes.Cause.TheVariants.{Budget, Short}
 use Rattle.elf_model.specs.declared.causes.Refusal.{Refusal}
 use Rattle.elf_model.specs.declared.states.FileStatus.{FileStatus}
 use Rattle.elf_model.specs.declared.states.FileStatus.TheVariants as state
-use Rattle.elf_model.specs.declared.traits.Traits.{Traits}
+use Rattle.elf_model.specs.declared.traits.Hardening.{Hardening}
 use Rattle.elf_model.proofs.BudgetLaws.{is_budget_fault}
 use Rattle.elf_model.proofs.StyleLemmas.{from_length}
 use Rattle.elf_source.specs.Source.{CountedState, SetsLimit}
@@ -33,7 +33,7 @@ refused_first : (file : List ℕ) (headers : ℕ) (refusal : Refusal) → first_
     → traits_by_segments file headers ≡ Err refusal
 unfolding traits_by_segments
 refused_first file headers refusal is =
-    subst (λ (first : Option Refusal). traits_by_segments file headers ≡ (elim first as (λ _. Result Traits Refusal) [ Some it ↦ Err it | None ↦ loaded_traits file ])) is refl
+    subst (λ (first : Option Refusal). traits_by_segments file headers ≡ (elim first as (λ _. Result Hardening Refusal) [ Some it ↦ Err it | None ↦ loaded_traits file ])) is refl
 
 without_sections_are : (file : List ℕ) (headers : ℕ) → traits_of file headers ≡ traits_by_segments (without_sections file) headers
 unfolding traits_of
@@ -47,12 +47,12 @@ short_traits file headers short =
     ∙ ap (λ at. Err (record { at = at; cause = Short })) same
 
 -- what the definitions tell is found, within every budget
-told : (budget : Option ℕ) (headers : ℕ) (file : List ℕ) (found : Result Traits FileStatus) → found ≡ traits_found budget file (traits_of file headers)
+told : (budget : Option ℕ) (headers : ℕ) (file : List ℕ) (found : Result Hardening FileStatus) → found ≡ traits_found budget file (traits_of file headers)
     → IsFoundWithin budget headers file found
 told None headers file found is = is
 told (Some bytes) headers file found is = inl is
 
-finds : (budget : Option ℕ) (headers : ℕ) (file : List ℕ) (found : Result Traits FileStatus) → IsFoundWithin budget headers file found → FindsWithin budget headers file found
+finds : (budget : Option ℕ) (headers : ℕ) (file : List ℕ) (found : Result Hardening FileStatus) → IsFoundWithin budget headers file found → FindsWithin budget headers file found
 finds budget headers file (Ok traits) is = is
 finds budget headers file (Err state.Ok) is = is
 finds budget headers file (Err (state.Refused refusal)) is = is
@@ -74,7 +74,7 @@ short_within budget headers file state.Unread short is = tt
 short_within budget headers file state.Memory short is = short_is budget headers file state.Memory short is
 
 -- THE TRAITS of a file that has them
-pub found_within : (budget : Option ℕ) (headers : ℕ) (file : List ℕ) (traits : Traits) (s1 s2 : CountedState) → FindsTraits file headers s1 s2 (Ok traits)
+pub found_within : (budget : Option ℕ) (headers : ℕ) (file : List ℕ) (traits : Hardening) (s1 s2 : CountedState) → FindsTraits file headers s1 s2 (Ok traits)
     → FindsWithin budget headers file (Ok traits)
 found_within budget headers file traits s1 s2 did =
     finds budget headers file (Ok traits) (told budget headers file (Ok traits) (sym (ap (traits_found budget file) did.finds)))

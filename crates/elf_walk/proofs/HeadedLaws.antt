@@ -5,9 +5,9 @@ use Rattle.elf_model.specs.Archive.{archive_items}
 use Rattle.elf_model.specs.Choice.{RowFilter, EveryRow, RowsOf}
 use Rattle.elf_model.specs.FileLists.{headed, members_alone}
 use Rattle.elf_model.specs.Listing.{fault_of, report_of}
-use Rattle.elf_model.specs.Loader.{Wanted}
+use Rattle.elf_model.specs.Loader.{SymbolQuery}
 use Rattle.elf_model.specs.Report.{listing}
-use Rattle.elf_model.specs.Style.{Style}
+use Rattle.elf_model.specs.Style.{ListingStyle}
 use Rattle.elf_model.specs.declared.causes.Refusal.{Refusal}
 use Rattle.elf_model.specs.declared.states.FileMagic.{FileMagic}
 use Rattle.elf_model.specs.declared.states.FileMagic.TheVariants as sort
@@ -28,12 +28,12 @@ use Rattle.elf_archive.specs.Listed.{AnswersAfter, ArchiveSays, ReportsArchive}
 use Rattle.elf_walk.specs.Lists.{IsListedText, ListsHeaded, ListsSort, ReturnsRefused, WroteHeaded, lists_refused}
 
 -- something is what is listed
-pub record SomeListed (kind : FileMagic) (file : List ℕ) (limits : Limits) (style : Style) (parts : ℕ) : Type 0 where
+pub record SomeListed (kind : FileMagic) (file : List ℕ) (limits : Limits) (style : ListingStyle) (parts : ℕ) : Type 0 where
   pub text : List ℕ
   pub fault : Option Refusal
   pub listed : IsListedText kind limits.budget file limits.headers style parts text fault
 
-some_listed : (kind : FileMagic) (file : List ℕ) (limits : Limits) (style : Style) (parts : ℕ) → SomeListed kind file limits style parts
+some_listed : (kind : FileMagic) (file : List ℕ) (limits : Limits) (style : ListingStyle) (parts : ℕ) → SomeListed kind file limits style parts
 some_listed kind file limits style parts = by_kind kind limits.budget refl
   where
     by_kind : (kind : FileMagic) (budget : Option ℕ) → limits.budget ≡ budget → SomeListed kind file limits style parts
@@ -60,7 +60,7 @@ some_listed kind file limits style parts = by_kind kind limits.budget refl
     by_kind sort.Foreign budget is = record { text = []; fault = None; listed = (refl, refl) }
 
 -- the output failed at the line
-pub path_stops : (kind : FileMagic) (line file : List ℕ) (limits : Limits) (style : Style) (parts : ℕ) (old new : OutState) (fault : OutFault)
+pub path_stops : (kind : FileMagic) (line file : List ℕ) (limits : Limits) (style : ListingStyle) (parts : ℕ) (old new : OutState) (fault : OutFault)
     → ((text : List ℕ) → SinkTakesPrefix old new (headed style.choice line text)) → ListsHeaded kind line file limits style parts old new (Err (Out fault))
 path_stops kind line file limits style parts old new fault front =
     let some = some_listed kind file limits style parts in
@@ -74,7 +74,7 @@ pub line_unheld : (line : List ℕ) (choice : RowFilter) (old new : OutState) (f
 line_unheld line choice old new fault breaks text = record { front = []; rest = headed choice line text; split = refl; takes = broken_takes old new fault breaks }
 
 -- the line stands before each listing
-pub every_headed : (kind : FileMagic) (line file : List ℕ) (limits : Limits) (style : Style) (parts : ℕ) (old mid new : OutState) (result : Result Bool RunFault) → style.choice ≡ EveryRow
+pub every_headed : (kind : FileMagic) (line file : List ℕ) (limits : Limits) (style : ListingStyle) (parts : ℕ) (old mid new : OutState) (result : Result Bool RunFault) → style.choice ≡ EveryRow
     → SinkTakes old mid line → ListsSort kind file limits style parts mid new result → ListsHeaded kind line file limits style parts old new result
 every_headed kind line file limits style parts old mid new result every p q =
     record { text = q.text; fault = q.fault; listed = q.listed; wrote = rw every (by_result result q.wrote); refused = q.refused }
@@ -86,13 +86,13 @@ every_headed kind line file limits style parts old mid new result every p q =
     by_result (Err (Out fault)) wrote = SinkTakesPrefix-then line q.text p wrote
 
 -- by names the line stands before a text that has some byte
-headed_names : (names : List Wanted) (line text : List ℕ) → headed (RowsOf names) line text ≡ before_text line text
+headed_names : (names : List SymbolQuery) (line text : List ℕ) → headed (RowsOf names) line text ≡ before_text line text
 headed_names names line [] = refl
 headed_names names line (byte ∷ text) = refl
 
 module _ (old mid before last : OutState) (line : List ℕ) (held : DeferredLine) (p : KeepsDeferred old mid line held) (ends : EndsLine held before last) where
   -- the line that was held, and the listing behind it
-  pub held_headed : (kind : FileMagic) (file : List ℕ) (limits : Limits) (style : Style) (parts : ℕ) (names : List Wanted) (listed result : Result Bool RunFault) → style.choice ≡ RowsOf names
+  pub held_headed : (kind : FileMagic) (file : List ℕ) (limits : Limits) (style : ListingStyle) (parts : ℕ) (names : List SymbolQuery) (listed result : Result Bool RunFault) → style.choice ≡ RowsOf names
       → AnswersAfter listed last result → ListsSort kind file limits style parts mid before listed → ListsHeaded kind line file limits style parts old last result
   held_headed kind file limits style parts names listed result named is q = by_result listed is q.wrote q.refused
     where

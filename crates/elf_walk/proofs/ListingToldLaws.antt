@@ -7,7 +7,7 @@ use Rattle.elf_model.specs.declared.states.FileMagic.{FileMagic}
 use Rattle.elf_model.specs.declared.states.FileMagic.TheVariants as sort
 use Rattle.elf_model.specs.declared.states.FileStatus.TheVariants.{Unread}
 use Rattle.elf_source.specs.Output.{OutState}
-use Rattle.elf_source.specs.Source.{CountedState, IsSourceFault, Keeps}
+use Rattle.elf_source.specs.Source.{CountedState, IsSourceFault, KeepsSource}
 use Rattle.elf_source.specs.declared.faults.OutFault.{OutFault}
 use Rattle.elf_source.specs.declared.faults.SourceFault.{SourceFault}
 use Rattle.elf_source.specs.declared.faults.SourceFault.TheVariants.{Device, Ended}
@@ -45,7 +45,7 @@ pub fault_fails : (before after : CountedState) (fault : SourceFault) → IsSour
 fault_fails before after Device rose = λ honest. rose
 fault_fails before after Ended never = λ honest. absurd (never honest)
 
-pub fault_after : (a b c : CountedState) → Keeps a.seen b.seen → FailsRead b c Unread → FailsRead a c Unread
+pub fault_after : (a b c : CountedState) → KeepsSource a.seen b.seen → FailsRead b c Unread → FailsRead a c Unread
 fault_after a b c keeps fails = λ honest. let rose = fails honest in omega (arith, keeps.no_fewer, rose)
 
 -- what is told of a file that is not of another kind

@@ -3,7 +3,7 @@ use Rattle.std.specs.Prelude.{ℕ, ◌≡◌, ◌+◌, ◌≤◌, nat_lt, if◌t
 use Rattle.elf_model.specs.Checking.{IsStateOf}
 use Rattle.elf_model.specs.Cost.{listing_cost, style_ceiling}
 use Rattle.elf_model.specs.Records.{FILE_HEADER_SIZE, ELF_MAGIC_SIZE}
-use Rattle.elf_model.specs.Style.{Style}
+use Rattle.elf_model.specs.Style.{ListingStyle}
 use Rattle.elf_model.specs.declared.states.FileStatus.{FileStatus}
 use Rattle.elf_model.specs.declared.states.FileStatus.TheVariants as state
 use Rattle.elf_source.specs.Source.{CountedState}
@@ -18,12 +18,12 @@ FindsState caps parts file state.Unread = ⊤
 FindsState caps parts file found = IsStateOf caps.limits.budget file caps.limits.headers (style_of caps.style) parts found
 
 -- what a file's check may ask for: of one that is too short for a file header its first bytes
-abbrev pub check_cost : List ℕ → ℕ → Style → ℕ → ℕ
+abbrev pub check_cost : List ℕ → ℕ → ListingStyle → ℕ → ℕ
 check_cost file headers style parts =
     if nat_lt (length file) FILE_HEADER_SIZE then ELF_MAGIC_SIZE else listing_cost file headers style parts
 
 -- the same of every source
-abbrev pub check_ceiling : (size headers : ℕ) → Style → ℕ
+abbrev pub check_ceiling : (size headers : ℕ) → ListingStyle → ℕ
 check_ceiling size headers style = if nat_lt size FILE_HEADER_SIZE then ELF_MAGIC_SIZE else style_ceiling size headers style
 
 -- what is asked for: no more than a ceiling, and no more than the budget
@@ -34,7 +34,7 @@ pub record AsksNoMore (most : ℕ) (allowed : Option ℕ) (old new : CountedStat
 -- WHAT THE CHECK OF A FILE DID. For every source: the store has as many slots, the source is kept and no limit is left, the file
 -- is unread only where a read failed, and no more is asked for than the ceiling and the budget. Where the file is known: the
 -- state that was found, and what that may ask for
-pub record ChecksFile (headers now : ℕ) (caps : Caps) (parts : ℕ) (old new : CountedState) (found : FileStatus) (finds : Caps → ℕ → List ℕ → FileStatus → Type 0) (costs : List ℕ → ℕ → Style → ℕ → ℕ) (most : ℕ → ℕ → Style → ℕ) : Type 0 where
+pub record ChecksFile (headers now : ℕ) (caps : Caps) (parts : ℕ) (old new : CountedState) (found : FileStatus) (finds : Caps → ℕ → List ℕ → FileStatus → Type 0) (costs : List ℕ → ℕ → ListingStyle → ℕ → ℕ) (most : ℕ → ℕ → ListingStyle → ℕ) : Type 0 where
   pub slots : now ≡ headers
   pub leaves : KeepsSourceUnlimited old new
   pub state : (file : List ℕ) → old.seen.file ≡ Some file → finds caps parts file found

@@ -8,26 +8,26 @@ use Rattle.elf_model.specs.Traits.{traits_of}
 use Rattle.elf_model.specs.declared.causes.Refusal.{Refusal}
 use Rattle.elf_model.specs.declared.states.FileStatus.{FileStatus}
 use Rattle.elf_model.specs.declared.states.FileStatus.TheVariants as state
-use Rattle.elf_model.specs.declared.traits.Traits.{Traits}
+use Rattle.elf_model.specs.declared.traits.Hardening.{Hardening}
 
 -- the traits of a file, or the state of one that is refused
-abbrev pub traits_found : Option ℕ → List ℕ → Result Traits Refusal → Result Traits FileStatus
+abbrev pub traits_found : Option ℕ → List ℕ → Result Hardening Refusal → Result Hardening FileStatus
 traits_found budget file (Ok traits) = Ok traits
 traits_found budget file (Err refusal) = Err (state_of budget file (Some refusal))
 
 -- a refusal for want of budget, at an offset of the file
-abbrev pub LacksBudget : (size : ℕ) → Result Traits FileStatus → Type 0
+abbrev pub LacksBudget : (size : ℕ) → Result Hardening FileStatus → Type 0
 LacksBudget size (Err (state.Refused refusal)) = IsBudgetRefusal refusal × (refusal.at < size)
 LacksBudget size _ = ⊥
 
 -- the same within a budget: or, where the traits cost more, a refusal for want of it
-abbrev pub IsFoundWithin : Option ℕ → (headers : ℕ) → List ℕ → Result Traits FileStatus → Type 0
+abbrev pub IsFoundWithin : Option ℕ → (headers : ℕ) → List ℕ → Result Hardening FileStatus → Type 0
 IsFoundWithin None headers file found = found ≡ traits_found None file (traits_of file headers)
 IsFoundWithin (Some bytes) headers file found =
     (found ≡ traits_found (Some bytes) file (traits_of file headers)) ⊎ ((bytes < traits_cost file headers) × LacksBudget (length file) found)
 
 -- WHAT IS FOUND of a file: that, unless a read failed
-abbrev pub FindsWithin : Option ℕ → (headers : ℕ) → List ℕ → Result Traits FileStatus → Type 0
+abbrev pub FindsWithin : Option ℕ → (headers : ℕ) → List ℕ → Result Hardening FileStatus → Type 0
 FindsWithin budget headers file (Err state.Unread) = ⊤
 FindsWithin budget headers file found = IsFoundWithin budget headers file found
 

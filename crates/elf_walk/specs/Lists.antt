@@ -5,7 +5,7 @@ use Rattle.elf_model.specs.Budget.{IsBudgeted}
 use Rattle.elf_model.specs.Choice.{RowFilter}
 use Rattle.elf_model.specs.Cost.{listing_cost, style_ceiling}
 use Rattle.elf_model.specs.FileLists.{headed, members_alone}
-use Rattle.elf_model.specs.Style.{Style}
+use Rattle.elf_model.specs.Style.{ListingStyle}
 use Rattle.elf_model.specs.declared.causes.Refusal.{Refusal}
 use Rattle.elf_model.specs.declared.states.FileMagic.{FileMagic}
 use Rattle.elf_model.specs.declared.states.FileMagic.TheVariants as sort
@@ -17,24 +17,24 @@ use Rattle.elf_listing.specs.Reports.{WroteText}
 
 -- a text with this fault is what is listed of a file of a sort within a budget: its listing, or that of an archive, whose members'
 -- lines stand alone where all rows are shown
-abbrev pub IsListedText : FileMagic → Option ℕ → List ℕ → ℕ → Style → ℕ → List ℕ → Option Refusal → Type 0
+abbrev pub IsListedText : FileMagic → Option ℕ → List ℕ → ℕ → ListingStyle → ℕ → List ℕ → Option Refusal → Type 0
 IsListedText sort.Elf = IsBudgeted
 IsListedText sort.Archive = λ budget file headers style. IsArchiveBudgeted (members_alone style.choice) budget file headers style
 IsListedText sort.Foreign = λ budget file headers style parts text fault. (text ≡ []) × (fault ≡ None)
 
 -- the listing of a member is refused
-abbrev pub lists_refused : FileMagic → List ℕ → ℕ → Style → ℕ → Bool
+abbrev pub lists_refused : FileMagic → List ℕ → ℕ → ListingStyle → ℕ → Bool
 lists_refused sort.Archive = any_refused
 lists_refused _ = λ file headers style parts. false
 
 -- how many bytes it asks for at most
-abbrev pub sort_cost : FileMagic → List ℕ → ℕ → Style → ℕ → ℕ
+abbrev pub sort_cost : FileMagic → List ℕ → ℕ → ListingStyle → ℕ → ℕ
 sort_cost sort.Elf = listing_cost
 sort_cost sort.Archive = archive_cost
 sort_cost sort.Foreign = λ file headers style parts. 0
 
 -- the same of every source
-abbrev pub sort_ceiling : FileMagic → (size headers : ℕ) → Style → ℕ
+abbrev pub sort_ceiling : FileMagic → (size headers : ℕ) → ListingStyle → ℕ
 sort_ceiling sort.Elf = style_ceiling
 sort_ceiling sort.Archive = archive_ceiling
 sort_ceiling sort.Foreign = λ size headers style. 0
@@ -45,7 +45,7 @@ ReturnsRefused (Ok refused) any = refused ≡ any
 ReturnsRefused (Err stop) any = Unit {0}
 
 -- WHAT WAS LISTED of a file of a sort: a text with a fault was written, whole where the answer tells that it is, else a front of it
-pub record ListsSort (kind : FileMagic) (file : List ℕ) (limits : Limits) (style : Style) (parts : ℕ) (old new : OutState) (result : Result Bool RunFault) : Type 0 where
+pub record ListsSort (kind : FileMagic) (file : List ℕ) (limits : Limits) (style : ListingStyle) (parts : ℕ) (old new : OutState) (result : Result Bool RunFault) : Type 0 where
   pub text : List ℕ
   pub fault : Option Refusal
   pub listed : IsListedText kind limits.budget file limits.headers style parts text fault
@@ -61,7 +61,7 @@ WroteHeaded choice line old new (Err (Source cause at)) text fault =
     (front : List ℕ) × (rest : List ℕ) × (text ≡ front ++ rest) × SinkTakes old new (headed choice line front)
 WroteHeaded choice line old new (Err (Out cause)) text fault = SinkTakesPrefix old new (headed choice line text)
 
-pub record ListsHeaded (kind : FileMagic) (line file : List ℕ) (limits : Limits) (style : Style) (parts : ℕ) (old new : OutState) (result : Result Bool RunFault) : Type 0 where
+pub record ListsHeaded (kind : FileMagic) (line file : List ℕ) (limits : Limits) (style : ListingStyle) (parts : ℕ) (old new : OutState) (result : Result Bool RunFault) : Type 0 where
   pub text : List ℕ
   pub fault : Option Refusal
   pub listed : IsListedText kind limits.budget file limits.headers style parts text fault

@@ -2,7 +2,7 @@
 use Rattle.std.specs.Prelude.{ℕ, ◌≡◌, ◌+◌, ⊤, true, List, length, None, Some}
 use Rattle.elf_model.specs.ArchiveCost.{archive_ceiling, archive_cost}
 use Rattle.elf_model.specs.FileLists.{budget_after, file_magic, front_size}
-use Rattle.elf_model.specs.Style.{Style}
+use Rattle.elf_model.specs.Style.{ListingStyle}
 use Rattle.elf_model.specs.declared.states.FileMagic.{FileMagic}
 use Rattle.elf_model.specs.declared.states.FileMagic.TheVariants as sort
 use Rattle.elf_model.specs.declared.states.FileStatus.{FileStatus}
@@ -45,14 +45,14 @@ FindsSorted caps parts file state.Unread = ⊤
 FindsSorted caps parts file found = FindsSortedState caps parts file found
 
 -- what such a check may ask for: the bytes that tell what the file is, and what its sort costs
-abbrev pub cost_by : FileMagic → List ℕ → ℕ → Style → ℕ → ℕ
+abbrev pub cost_by : FileMagic → List ℕ → ℕ → ListingStyle → ℕ → ℕ
 cost_by sort.Elf file headers style parts = check_cost file headers style parts
 cost_by sort.Archive file headers style parts = archive_cost file headers style parts
 cost_by sort.Foreign file headers style parts = 0
 
-abbrev pub sorted_cost : Caps → List ℕ → ℕ → Style → ℕ → ℕ
+abbrev pub sorted_cost : Caps → List ℕ → ℕ → ListingStyle → ℕ → ℕ
 sorted_cost caps file headers style parts = 8 + cost_by (file_magic true caps.limits.budget file) file headers style parts
 
 -- the same of every source
-abbrev pub sorted_ceiling : ℕ → ℕ → Style → ℕ
+abbrev pub sorted_ceiling : ℕ → ℕ → ListingStyle → ℕ
 sorted_ceiling size headers style = 8 + archive_ceiling size headers style

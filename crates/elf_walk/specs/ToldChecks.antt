@@ -1,7 +1,7 @@
 -- What is told of one checked file among many.
 use Rattle.std.specs.Prelude.{ℕ, ◌≡◌, ◌+◌, ◌≤◌, Bool, true, false, List, Some, Result, IfOk}
 use Rattle.elf_model.specs.Checking.{check_line}
-use Rattle.elf_model.specs.Style.{Style}
+use Rattle.elf_model.specs.Style.{ListingStyle}
 use Rattle.elf_model.specs.declared.states.FileStatus.{FileStatus}
 use Rattle.elf_source.specs.Output.{OutPuts, OutState}
 use Rattle.elf_source.specs.Source.{CountedState}
@@ -19,12 +19,12 @@ Finds true = FindsSorted
 Finds false = FindsState
 
 -- what its check may ask for
-abbrev pub cost_of_check : (members : Bool) → Caps → List ℕ → ℕ → Style → ℕ → ℕ
+abbrev pub cost_of_check : (members : Bool) → Caps → List ℕ → ℕ → ListingStyle → ℕ → ℕ
 cost_of_check true caps file headers style parts = sorted_cost caps file headers style parts
 cost_of_check false caps file headers style parts = check_cost file headers style parts
 
 -- the same of every source
-abbrev pub ceiling_of_check : (members : Bool) → ℕ → ℕ → Style → ℕ
+abbrev pub ceiling_of_check : (members : Bool) → ℕ → ℕ → ListingStyle → ℕ
 ceiling_of_check true = sorted_ceiling
 ceiling_of_check false = check_ceiling
 

@@ -5,7 +5,7 @@ use Rattle.elf_model.specs.TraitWords.{Required, traits_status, traits_text}
 use Rattle.elf_model.specs.declared.formats.Format.{Format}
 use Rattle.elf_model.specs.declared.states.FileStatus.{FileStatus}
 use Rattle.elf_model.specs.declared.states.FileStatus.TheVariants as state
-use Rattle.elf_model.specs.declared.traits.Traits.{Traits}
+use Rattle.elf_model.specs.declared.traits.Hardening.{Hardening}
 use Rattle.elf_source.specs.Output.{OutPuts, OutState}
 use Rattle.elf_source.specs.Source.{CountedState}
 use Rattle.elf_source.specs.declared.faults.OutFault.{OutFault}
@@ -22,7 +22,7 @@ pub record PutsWith (text : List ℕ) (its_status : ℕ) (old new : OutState) (a
   pub status : IfOk answer (λ status. status ≡ its_status)
 
 -- what is put by what is found of a file: the lines of its traits; nothing of a file of another kind; else the line of its state
-abbrev pub PutsFound : Format → List Required → List ℕ → Result Traits FileStatus → (old new : OutState) → Result ℕ OutFault → Type 0
+abbrev pub PutsFound : Format → List Required → List ℕ → Result Hardening FileStatus → (old new : OutState) → Result ℕ OutFault → Type 0
 PutsFound format required path (Ok traits) old new answer =
     PutsWith (traits_text format traits required path) (traits_status traits required) old new answer
 PutsFound format required path (Err state.NoElf) old new answer = (new ≡ old) × (answer ≡ Ok 0)
@@ -32,7 +32,7 @@ PutsFound format required path (Err found) old new answer = PutsWith (check_line
 -- bytes where the file is known, and that of what it lacks; nothing of a file of another kind; else the line of its state,
 -- unread only where a read failed; no more is asked of the source than the traits cost, and than the budget of a file
 pub record ReturnsTraits (rule : TraitOptions) (path : List ℕ) (before after : CountedState) (old new : OutState) (answer : Result ℕ OutFault) : Type 0 where
-  pub found : Result Traits FileStatus
+  pub found : Result Hardening FileStatus
   pub finds : (file : List ℕ) → before.seen.file ≡ Some file → FindsWithin rule.limits.budget rule.limits.headers file found
   pub read : IfErr found (FailsRead before after)
   pub puts : PutsFound rule.format (required_words rule.required.now) path found old new answer

@@ -1,13 +1,13 @@
 //! The traits of one file among many.
 ghost use Rattle.std.specs.Prelude.{◌≡◌, ◌+◌, ◌≤◌, ◌^◌, ℕ, List, None, Some, IfErr};
-ghost use Rattle.elf_source.specs.Source.{Keeps};
+ghost use Rattle.elf_source.specs.Source.{KeepsSource};
 ghost use Rattle.elf_walk.specs.Checked.{FailsRead};
 ghost use Rattle.elf_walk.specs.CheckedFile.{AsksNoMore};
 ghost use Rattle.elf_walk.specs.Found.{FindsWithin, file_traits_ceiling, file_traits_cost};
 
 use crate::short::{refused_state, short_file_status};
 use elf_loader::find_traits;
-use elf_model::{FileStatus, Traits};
+use elf_model::{FileStatus, Hardening};
 use elf_source::{Counted, Source};
 use elf_table::{Fault, HeaderStore, Limits};
 
@@ -24,10 +24,10 @@ pub fn traits_within<S: Source>(
     src: &mut Counted<S>,
     store: &mut HeaderStore,
     limits: Limits,
-) -> Result<Traits, FileStatus>
+) -> Result<Hardening, FileStatus>
     requires { (store.old.slots ≡ limits.headers) × (src.old.asked ≤ 2 ^ 127) }
     ensures slots { store.new.slots ≡ store.old.slots }
-    ensures keeps { Keeps src.old.seen src.new.seen }
+    ensures keeps { KeepsSource src.old.seen src.new.seen }
     ensures free { src.new.most ≡ None }
     ensures finds { (file : List ℕ) → src.old.seen.file ≡ Some file →
         FindsWithin limits.budget limits.headers file result }

@@ -5,7 +5,7 @@ ghost use Rattle.elf_model.specs.Bytes.{field};
 ghost use Rattle.elf_model.specs.FileLists.{file_magic, front_size, may_read_bytes};
 ghost use Rattle.elf_model.specs.Records.{has_elf_magic};
 ghost use Rattle.elf_model.specs.declared.states.FileMagic.TheVariants.{Archive, Elf, Foreign};
-ghost use Rattle.elf_source.specs.Source.{IsSourceFault, FillsUnlimited, Keeps};
+ghost use Rattle.elf_source.specs.Source.{IsSourceFault, FillsUnlimited, KeepsSource};
 ghost use Rattle.elf_walk.specs.Fronts.{front_asked};
 
 use elf_model::FileMagic;
@@ -33,7 +33,7 @@ pub fn find_file_type<S: Source>(
     members: bool,
     budget: Option<u64>,
 ) -> Result<FileMagic, SourceFault>
-    ensures keeps { Keeps src.old.seen src.new.seen }
+    ensures keeps { KeepsSource src.old.seen src.new.seen }
     ensures shows { src.new.hides ≡ src.old.hides }
     ensures free { src.new.most ≡ None }
     ensures asks { src.new.asked ≤ src.old.asked + front_asked members budget src.old.seen.size }

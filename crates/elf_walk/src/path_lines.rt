@@ -6,7 +6,7 @@ ghost use Rattle.elf_archive.specs.Listed.{HoldsOrBreaks};
 ghost use Rattle.elf_source.specs.Output.{OutPuts};
 
 use elf_archive::DEFERRED_LINE_BYTES;
-use elf_format::{Columns, LinePrefix, Object, Render, begin_named, show_named};
+use elf_format::{Columns, Json, LinePrefix, Render, begin_named, show_named};
 use elf_model::Format;
 use elf_source::{DeferredLine, DeferredSink, Out, OutFault, Sink, SliceSink};
 
@@ -32,7 +32,7 @@ pub fn show_path<W: Sink>(path: &[u8], format: Format, out: &mut Out<W>) -> Resu
     let mut front = LinePrefix::new();
     match format {
         Format::Columns => path_row::<Columns>(&mut front),
-        Format::Object => path_row::<Object>(&mut front),
+        Format::Object => path_row::<Json>(&mut front),
     }
     show_named(&mut front, path, false, out)
 }

@@ -4,13 +4,13 @@ ghost use Rattle.elf_model.specs.TraitWords.{has_word, is_program, lacking};
 ghost use Rattle.elf_options.specs.Required.{required_word, required_words};
 
 use elf_format::column_word;
-use elf_model::{ProgramKind, TraitColumn, Traits};
+use elf_model::{Hardening, ProgramKind, TraitColumn};
 use elf_options::RequiredTrait;
 
 /// The column of the first of some words that a file lacks, if it lacks one. None is required of a file
 /// that is neither a program nor a library.
 #[tactic(auto, unfolding(elf_model::specs::TraitWords::lacking, elf_model::specs::TraitWords::first_lacking))]
-pub fn lacking(traits: Traits, required: &[RequiredTrait<'_>]) -> Option<TraitColumn>
+pub fn lacking(traits: Hardening, required: &[RequiredTrait<'_>]) -> Option<TraitColumn>
     ensures { result ≡ lacking traits (required_words required.now) }
 {
     if !is_program(traits.kind) {
@@ -25,7 +25,7 @@ pub fn lacking(traits: Traits, required: &[RequiredTrait<'_>]) -> Option<TraitCo
 }
 
 /// Whether a file has the word that is required of a column.
-fn has_word(traits: Traits, wanted: &RequiredTrait<'_>) -> bool
+fn has_word(traits: Hardening, wanted: &RequiredTrait<'_>) -> bool
     ensures { result ≡ has_word traits (required_word wanted.now) }
 {
     let word = column_word(traits, wanted.column).as_bytes();

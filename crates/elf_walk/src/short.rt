@@ -3,7 +3,7 @@ ghost use Rattle.std.specs.Prelude.{◌≡◌, ◌+◌, ◌<◌, ◌≤◌, ◌^
 ghost use Rattle.elf_model.specs.Checking.{is_not_elf, may_read_magic};
 ghost use Rattle.elf_model.specs.Records.{has_elf_magic};
 ghost use Rattle.elf_model.specs.declared.states.FileStatus.TheVariants.{NoElf, Refused};
-ghost use Rattle.elf_source.specs.Source.{IsSourceFault, FillsUnlimited, Keeps};
+ghost use Rattle.elf_source.specs.Source.{IsSourceFault, FillsUnlimited, KeepsSource};
 ghost use Rattle.elf_walk.specs.Checked.{FailsRead, FindsShort};
 
 use elf_model::{Cause, FileStatus, Refusal};
@@ -21,7 +21,7 @@ const MAGIC_BYTES: u64 = 4;
 pub fn short_file_status<S: Source>(src: &mut Counted<S>, budget: Option<u64>) -> FileStatus
     requires short { src.old.seen.size < 64 }
     requires few { src.old.asked ≤ 2 ^ 127 }
-    ensures keeps { Keeps src.old.seen src.new.seen }
+    ensures keeps { KeepsSource src.old.seen src.new.seen }
     ensures free { src.new.most ≡ None }
     ensures read { FailsRead src.old src.new result }
     ensures asks { src.new.asked ≤ src.old.asked + 4 }

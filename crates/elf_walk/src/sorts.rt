@@ -13,7 +13,7 @@ use elf_listing::show;
 use elf_model::FileMagic;
 use elf_record::Parts;
 use elf_source::{Counted, DeferredSink, Out, RangeSource, Sink, Source};
-use elf_table::{Caps, HeaderStore, RunFault, Style};
+use elf_table::{Caps, HeaderStore, ListingStyle, RunFault};
 
 /// Writes the listing of a file of a sort: of an ELF file its own, of an archive that of its members, whose
 /// lines stand alone where all rows are shown, of another file nothing. The last line is that of its refusal, if it has one. Answers whether the listing
@@ -62,7 +62,7 @@ pub fn list_by_type<S: Source, W: Sink>(
 }
 
 /// Whether the lines of members stand alone.
-fn are_alone(style: &Style) -> bool
+fn are_alone(style: &ListingStyle) -> bool
     ensures { result ≡ members_alone (style_of style.now).choice }
 {
     !style.choice.by_name

@@ -9,7 +9,7 @@ use crate::file_traits::traits_within;
 use crate::required::lacking;
 use crate::statuses::status;
 use elf_format::{show_check, show_missing_trait, show_traits};
-use elf_model::{FileStatus, Format, Traits};
+use elf_model::{FileStatus, Format, Hardening};
 use elf_options::RequiredTrait;
 use elf_source::{Counted, DeferredSink, Out, OutFault, RangeSource, Sink, Source};
 use elf_table::{HeaderStore, Limits};
@@ -87,7 +87,7 @@ impl<'a> FileVisitor for TraitReport<'a> {
 /// A fault of the output, with a front of the lines written.
 #[tactic(auto, unfolding(elf_model::specs::TraitWords::traits_text, elf_model::specs::TraitWords::traits_status))]
 fn show_lines<W: Sink>(
-    traits: Traits,
+    traits: Hardening,
     rule: &TraitOptions<'_>,
     path: &[u8],
     out: &mut Out<W>,

@@ -15,9 +15,9 @@ use Rattle.elf_listing.specs.Reports.{KeepsSourceUnlimited}
 use Rattle.elf_archive.specs.Listed.{ArchiveSays, AsksInArchive, ReportsArchive}
 use Rattle.elf_walk.specs.declared.lists.ListFault.{ListFault}
 use Rattle.elf_walk.specs.declared.lists.ListFault.TheVariants as list
-use Rattle.elf_cli.specs.Endings.{Ends, PutsRest, wants_rest}
-use Rattle.elf_cli.specs.declared.outputs.Ended.{Ended}
-use Rattle.elf_cli.specs.declared.outputs.Ended.TheVariants.{Status, Told, Unwritten}
+use Rattle.elf_cli.specs.Endings.{ProgramEnds, PutsRest, wants_rest}
+use Rattle.elf_cli.specs.declared.outputs.RunEnd.{RunEnd}
+use Rattle.elf_cli.specs.declared.outputs.RunEnd.TheVariants.{Status, Told, Unwritten}
 use Rattle.elf_requests.specs.ArchiveAnswers.{refused_by}
 
 -- there was no memory
@@ -44,7 +44,7 @@ pub record EndsRunOver {W A : Type 0} (contents : W → Option (List ℕ)) (does
   pub did : does old new before after answer
   pub last : BufWriter W A
   pub stands : after.taken ≡ writer_contents contents last
-  pub ends : Ends answer sink.failed status line
+  pub ends : ProgramEnds answer sink.failed status line
   pub rest : PutsRest (wants_rest answer) sink.failed (writer_buffer last) (contents (writer_inner last)) (contents sink.writer)
 
 -- the refusal whose line went out
@@ -63,14 +63,14 @@ pub record RunsArchive (caps : Caps) (parts : ℕ) (old new : CountedState) (bef
   pub status : IfOk answer (λ status. status ≤ 1)
 
 -- how a run ended whose list came to an end, or to none
-abbrev pub EndsList : Result (Unit {0}) ListFault → Result (Unit {0}) Ended → Type 0
+abbrev pub EndsList : Result (Unit {0}) ListFault → Result (Unit {0}) RunEnd → Type 0
 EndsList (Ok x) result = result ≡ Ok x
 EndsList (Err list.Read) (Err (Told ending)) = (ending.0 ≡ 3) × (ending.1.now ≡ codes "elfsee: read fault")
 EndsList (Err list.Read) result = ⊥
 EndsList (Err (list.Out fault)) result = result ≡ Err Unwritten
 
 -- a run stopped before its end: a list can't be opened or read, or the output failed
-abbrev pub StopsCheck : Ended → Type 0
+abbrev pub StopsCheck : RunEnd → Type 0
 StopsCheck (Status status) = ⊥
 StopsCheck (Told ending) = EndsWithoutFile ending.0 ending.1.now
 StopsCheck Unwritten = ⊤

@@ -4,14 +4,14 @@ use Rattle.elf_options.specs.NamedRows.{named_style}
 use Rattle.elf_options.specs.declared.names_fault.NamesFault.{NamesFault}
 use Rattle.elf_options.specs.declared.names_fault.NamesFault.TheVariants.{Read, TooLarge, BadName, Memory}
 use Rattle.elf_options.specs.Permitted.{style_of}
-use Rattle.elf_options.specs.declared.caps.Style.{Style}
+use Rattle.elf_options.specs.declared.caps.ListingStyle.{ListingStyle}
 use Rattle.elf_record.specs.declared.parts.Parts.{Parts}
 use Rattle.elf_requests.specs.declared.requests.Task.{Task}
 use Rattle.elf_requests.specs.declared.requests.Task.TheVariants.{Show}
 use Rattle.elfsee.specs.Ends.{EndsWithoutMemory}
 
 -- a task lists these parts, of which the rows of these names alone are shown, in a style that is else this one
-abbrev pub ShowsRowsOf : List (List ℕ) → Parts → Style → Task → Type 0
+abbrev pub ShowsRowsOf : List (List ℕ) → Parts → ListingStyle → Task → Type 0
 ShowsRowsOf names parts style (Show shown styled) = (shown ≡ parts) × (style_of styled ≡ named_style names (style_of style))
 ShowsRowsOf names parts style _ = ⊥
 

@@ -13,7 +13,7 @@ use elf_options::style_with_names;
 use elf_record::Parts;
 use elf_requests::{ArchiveRequest, archive_status};
 use elf_source::{Counted, DeferredSink, Out, RangeSource, Source, WriteSink};
-use elf_table::{Caps, HeaderBuffer, HeaderStore, Limits, Style};
+use elf_table::{Caps, HeaderBuffer, HeaderStore, Limits, ListingStyle};
 use std::io::{self, BufWriter, Write};
 use std::os::unix::fs::FileExt;
 use std::rt::Files;
@@ -57,7 +57,7 @@ where
 }
 
 /// The caps of these limits and of this style.
-fn caps_of<'a>(limits: Limits, style: Style<'a>) -> Caps<'a>
+fn caps_of<'a>(limits: Limits, style: ListingStyle<'a>) -> Caps<'a>
     ensures { result ≡ record { limits = limits; style = style.entry } }
 {
     Caps { limits, style }
@@ -65,7 +65,7 @@ fn caps_of<'a>(limits: Limits, style: Style<'a>) -> Caps<'a>
 
 /// The caps of these limits, with the rows of these names, which are in the rising order of their
 /// bytes, and else of this style.
-fn caps_by_names<'n>(limits: Limits, style: Style<'_>, names: &'n [&'n [u8]]) -> Caps<'n>
+fn caps_by_names<'n>(limits: Limits, style: ListingStyle<'_>, names: &'n [&'n [u8]]) -> Caps<'n>
     requires { NeverDescend names.now }
     ensures limits { result.limits ≡ limits }
     ensures style { style_of result.style

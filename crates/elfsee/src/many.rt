@@ -3,7 +3,7 @@ ghost use Rattle.std.specs.Prelude.{◌≡◌, ◌<◌, IfErr};
 ghost use Rattle.elfsee.specs.Ends.{EndsList, EndsWithoutMemory, StopsCheck};
 
 use elf_cli::{
-    CANNOT_OPEN, Ended, ExitLine, LineSink, OUT_OF_MEMORY, OUTPUT_BYTES, PIPE_BYTES, READ_FAULT,
+    CANNOT_OPEN, ExitLine, LineSink, OUT_OF_MEMORY, OUTPUT_BYTES, PIPE_BYTES, READ_FAULT, RunEnd,
     end_lines,
 };
 use elf_model::Format;
@@ -150,11 +150,11 @@ fn kept_bytes<R: Files>(rt: &R) -> usize
 
 /// Writes what is left of the output, and answers how the program ends.
 fn end_many<W: Sink + Drop, A: FileVisitor + Drop>(
-    ended: Result<u8, Ended>,
+    ended: Result<u8, RunEnd>,
     many: FileRun<LineSink<W>, Stderr, A>,
 ) -> ExitLine {
     let ended = match ended {
-        Ok(status) => Ended::Status(status),
+        Ok(status) => RunEnd::Status(status),
         Err(ended) => ended,
     };
     let output = many.into_out().into_inner().into_inner();
@@ -172,20 +172,20 @@ fn visit_all<R: Files + Input, W: Sink, A: FileVisitor + Drop>(
     many: &mut FileRun<W, Stderr, A>,
     walk: &mut DirWalk,
     entries: &mut [u8],
-) -> Result<u8, Ended>
+) -> Result<u8, RunEnd>
 where
     R::File: FileExt,
     ensures { IfErr result StopsCheck }
 {
     if let Err(OutFault { .. }) = visit_paths(rt, many, walk, &files.paths) {
-        return Err(Ended::Unwritten);
+        return Err(RunEnd::Unwritten);
     }
     if let Some(list) = files.list {
         visit_listed(rt, many, walk, list, entries)?;
     }
     match many.end() {
         Ok(status) => Ok(status),
-        Err(OutFault { .. }) => Err(Ended::Unwritten),
+        Err(OutFault { .. }) => Err(RunEnd::Unwritten),
     }
 }
 
@@ -218,7 +218,7 @@ fn visit_listed<R: Files + Input, W: Sink, A: FileVisitor + Drop>(
     walk: &mut DirWalk,
     list: &str,
     entries: &mut [u8],
-) -> Result<(), Ended>
+) -> Result<(), RunEnd>
 where
     R::File: FileExt,
     ensures { IfErr result StopsCheck }
@@ -228,18 +228,18 @@ where
     }
     match fs::open(rt, list) {
         Ok(mut file) => listed(visit_list(rt, many, walk, &mut file, entries)),
-        Err(_) => Err(Ended::Told(CANNOT_OPEN)),
+        Err(_) => Err(RunEnd::Told(CANNOT_OPEN)),
     }
 }
 
 /// What a list answers, or how the run ended where it came to no end.
-fn listed(answer: Result<(), ListFault>) -> Result<(), Ended>
+fn listed(answer: Result<(), ListFault>) -> Result<(), RunEnd>
     ensures ends { EndsList answer result }
     ensures stops { IfErr result StopsCheck }
 {
     match answer {
         Ok(()) => Ok(()),
-        Err(ListFault::Read) => Err(Ended::Told(READ_FAULT)),
-        Err(ListFault::Out(_)) => Err(Ended::Unwritten),
+        Err(ListFault::Read) => Err(RunEnd::Told(READ_FAULT)),
+        Err(ListFault::Out(_)) => Err(RunEnd::Unwritten),
     }
 }

@@ -8,7 +8,7 @@ ghost use Rattle.elfsee.specs.Naming.{EndsNames, EndsWithoutNames, ShowsRowsOf};
 use crate::answer_request;
 use elf_cli::{ExitLine, ListingRequest, OUT_OF_MEMORY};
 use elf_options::{NamesFault, gather_names, read_names, style_with_names};
-use elf_requests::{Choosing, NameArgs, Request, Task};
+use elf_requests::{FilteredRequest, NameArgs, Request, Task};
 use std::alloc::Global;
 use std::fs;
 use std::io::{ErrorKind, Stderr};
@@ -23,7 +23,7 @@ use std::rt::Files;
 #[inline(never)]
 pub fn show_chosen<R: Files + Print + AllocGlobal>(
     rt: &R,
-    asked: &Choosing<'_>,
+    asked: &FilteredRequest<'_>,
     errors: Stderr,
 ) -> Result<ExitLine, ExitLine>
 where

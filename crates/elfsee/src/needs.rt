@@ -1,7 +1,7 @@
 //! What a program needs.
 
 use elf_cli::{
-    CANNOT_OPEN, Ended, ExitLine, OUT_OF_MEMORY, OUTPUT_BYTES, READ_FAULT, end_run, open,
+    CANNOT_OPEN, ExitLine, OUT_OF_MEMORY, OUTPUT_BYTES, READ_FAULT, RunEnd, end_run, open,
 };
 use elf_needs::{
     DependencyWalk, MOST_OBJECTS, NeedsBuffers, NeedsFault, NeedsOptions, OpenFiles, OpenObjects,
@@ -100,10 +100,10 @@ fn settings<'a>(asked: &NeedsRequest<'a>) -> NeedsOptions<'a> {
 }
 
 /// How a run ended, by what a walk answered.
-fn ended(listed: Result<u8, NeedsFault>) -> Ended {
+fn ended(listed: Result<u8, NeedsFault>) -> RunEnd {
     match listed {
-        Ok(status) => Ended::Status(status),
-        Err(NeedsFault::Read) => Ended::Told(READ_FAULT),
-        Err(NeedsFault::Out(OutFault { .. })) => Ended::Unwritten,
+        Ok(status) => RunEnd::Status(status),
+        Err(NeedsFault::Read) => RunEnd::Told(READ_FAULT),
+        Err(NeedsFault::Out(OutFault { .. })) => RunEnd::Unwritten,
     }
 }

@@ -3,27 +3,27 @@ use Rattle.std.proofs.Common.{◌≡◌, ◌≤◌, ℕ, List, Option, Some, len
 use Rattle.std.specs.Prelude.{IfSome}
 use Rattle.elf_model.specs.Budget.{IsBudgeted}
 use Rattle.elf_model.specs.Cost.{listing_cost}
-use Rattle.elf_model.specs.Style.{Style}
+use Rattle.elf_model.specs.Style.{ListingStyle}
 use Rattle.elf_capi.specs.Asked.{AsksListing, GivesListing, BorrowedTexts, caller_style, parts_in, style_in}
 use Rattle.elf_capi.specs.Limits.{AreCaps, budget_of, headers_of}
 use Rattle.elf_capi.specs.Shown.{FillsMemory, HasStyledListing, ShowsInMemory}
 use Rattle.elf_capi.specs.Told.{IsStatus}
 use Rattle.elf_capi.specs.declared.caller_listing.CallerListing.{CallerListing}
-use Rattle.elf_capi.specs.declared.end.End.{End}
+use Rattle.elf_capi.specs.declared.end.CallEnd.{CallEnd}
 use Rattle.elf_capi.specs.declared.limits.CallerLimits.{CallerLimits}
-use Rattle.elf_capi.specs.declared.call_status.Told.{Told}
-use Rattle.elf_capi.specs.declared.call_status.Told.TheVariants.{Done, Refused, Full, BadCall}
+use Rattle.elf_capi.specs.declared.call_status.CallStatus.{CallStatus}
+use Rattle.elf_capi.specs.declared.call_status.CallStatus.TheVariants.{Done, Refused, Full, BadCall}
 
 module _ (file : List ℕ) (limits : CallerLimits) (room : ℕ) (asked : List ℕ) (names : Option BorrowedTexts) (listing : CallerListing) (gives : GivesListing asked names (Some listing)) where
   -- what fills the memory
-  fills : (out : List ℕ) (written : ℕ) (told : Told)
+  fills : (out : List ℕ) (written : ℕ) (told : CallStatus)
       → FillsMemory (IsBudgeted (budget_of limits) file (headers_of limits room) (caller_style listing limits.name) listing.parts.0) out written told
       → FillsMemory (IsBudgeted (budget_of limits) file (headers_of limits room) (style_in asked names limits.name) (parts_in asked)) out written told
   fills out written told fill =
-      subst (λ (style : Style). FillsMemory (IsBudgeted (budget_of limits) file (headers_of limits room) style (parts_in asked)) out written told) (gives.2 limits.name)
+      subst (λ (style : ListingStyle). FillsMemory (IsBudgeted (budget_of limits) file (headers_of limits room) style (parts_in asked)) out written told) (gives.2 limits.name)
       (subst (λ parts. FillsMemory (IsBudgeted (budget_of limits) file (headers_of limits room) (caller_style listing limits.name) parts) out written told) gives.1 fill)
 
-  pub shows_asked : (before out : List ℕ) (end : End) (told : Told)
+  pub shows_asked : (before out : List ℕ) (end : CallEnd) (told : CallStatus)
       → ShowsInMemory (AreCaps limits room) file limits room (caller_style listing limits.name) listing.parts.0 before out end told
       → ShowsInMemory (AreCaps limits room × AsksListing asked names) file limits room (style_in asked names limits.name) (parts_in asked) before out end told
   shows_asked before out end Done shows = ((shows.0, gives.0), fills out end.written Done shows.1)
@@ -35,11 +35,11 @@ module _ (file : List ℕ) (limits : CallerLimits) (room : ℕ) (asked : List �
   pub costs_asked : (n : ℕ) → n ≤ listing_cost file (headers_of limits room) (caller_style listing limits.name) listing.parts.0
       → n ≤ listing_cost file (headers_of limits room) (style_in asked names limits.name) (parts_in asked)
   costs_asked n within =
-      subst (λ (style : Style). n ≤ listing_cost file (headers_of limits room) style (parts_in asked)) (gives.2 limits.name)
+      subst (λ (style : ListingStyle). n ≤ listing_cost file (headers_of limits room) style (parts_in asked)) (gives.2 limits.name)
       (subst (λ parts. n ≤ listing_cost file (headers_of limits room) (caller_style listing limits.name) parts) gives.1 within)
 
 -- what was listed, told as numbers: the counts stay
-pub told_listing : (May : Type 0) (file : List ℕ) (limits : CallerLimits) (room : ℕ) (style : Style) (parts status : ℕ) (before out : List ℕ) (old new : End) (told : Told)
+pub told_listing : (May : Type 0) (file : List ℕ) (limits : CallerLimits) (room : ℕ) (style : ListingStyle) (parts status : ℕ) (before out : List ℕ) (old new : CallEnd) (told : CallStatus)
     → ShowsInMemory May file limits room style parts before out old told → old.written ≤ length out → old.asked ≤ listing_cost file (headers_of limits room) style parts
     → IfSome (budget_of limits) (λ bytes. old.asked ≤ bytes) → new.written ≡ old.written → new.asked ≡ old.asked → IsStatus status new told
     → HasStyledListing May file limits room style parts status before out new
@@ -52,11 +52,11 @@ told_listing May file limits room style parts status before out old new told sho
   budget = subst (λ (n : ℕ). IfSome (budget_of limits) (λ bytes. n ≤ bytes)) (sym asked) budget;
 }
   where
-    fills_same : (t : Told) → FillsMemory (IsBudgeted (budget_of limits) file (headers_of limits room) style parts) out old.written t
+    fills_same : (t : CallStatus) → FillsMemory (IsBudgeted (budget_of limits) file (headers_of limits room) style parts) out old.written t
         → FillsMemory (IsBudgeted (budget_of limits) file (headers_of limits room) style parts) out new.written t
     fills_same t fill = subst (λ (n : ℕ). FillsMemory (IsBudgeted (budget_of limits) file (headers_of limits room) style parts) out n t) (sym written) fill
 
-    same : (t : Told) → ShowsInMemory May file limits room style parts before out old t → ShowsInMemory May file limits room style parts before out new t
+    same : (t : CallStatus) → ShowsInMemory May file limits room style parts before out old t → ShowsInMemory May file limits room style parts before out new t
     same Done s = (s.0, fills_same Done s.1)
     same (Refused refusal) s = (s.0, fills_same (Refused refusal) s.1)
     same Full s = (s.0, fills_same Full s.1)

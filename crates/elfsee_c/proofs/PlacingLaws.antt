@@ -7,15 +7,15 @@ use Rattle.elf_reloc.specs.Explained.{explain_bytes}
 use Rattle.elf_capi.specs.Applied.{AppliesFor}
 use Rattle.elf_capi.specs.LentLayouts.{ExplainsTold, MayBorrowLayout, PlacesInMemory, lent_layout}
 use Rattle.elf_capi.specs.Limits.{AreInRange, budget_of, headers_of}
-use Rattle.elf_capi.specs.declared.end.End.{End}
+use Rattle.elf_capi.specs.declared.end.CallEnd.{CallEnd}
 use Rattle.elf_capi.specs.declared.lent_layout.CallerLayout.{CallerLayout}
 use Rattle.elf_capi.specs.declared.limits.CallerLimits.{CallerLimits}
 use Rattle.elf_capi.specs.declared.missing.CallerMissing.{CallerMissing}
-use Rattle.elf_capi.specs.declared.call_status.Told.{Told}
-use Rattle.elf_capi.specs.declared.call_status.Told.TheVariants.{Done, Refused, Full, BadCall}
+use Rattle.elf_capi.specs.declared.call_status.CallStatus.{CallStatus}
+use Rattle.elf_capi.specs.declared.call_status.CallStatus.TheVariants.{Done, Refused, Full, BadCall}
 
 -- by each answer
-places_by : (file : List ℕ) (limits : CallerLimits) (section : ℕ) (layout : CallerLayout) (room : ℕ) (before out : List ℕ) (end : End) (missing : CallerMissing) (told : Told)
+places_by : (file : List ℕ) (limits : CallerLimits) (section : ℕ) (layout : CallerLayout) (room : ℕ) (before out : List ℕ) (end : CallEnd) (missing : CallerMissing) (told : CallStatus)
     → AreInRange limits room → MayBorrowLayout layout → AppliesFor file (headers_of limits room) (budget_of limits) section (lent_layout layout) out end.written told
     → ExplainsTold file (headers_of limits room) (budget_of limits) section (lent_layout layout) (apply_cost_by_order file (headers_of limits room) section (lent_layout layout)) told missing
     → end.asked ≤ apply_cost_by_order file (headers_of limits room) section (lent_layout layout) + explain_bytes (headers_of limits room)
@@ -29,7 +29,7 @@ places_by file limits section layout room before out end missing Full range lend
 places_by file limits section layout room before out end missing BadCall range lend applies explains cost within = absurd applies
 
 -- WHAT A CALL DID, from what it was made with
-pub places : (file : List ℕ) (limits : CallerLimits) (section : ℕ) (layout : CallerLayout) (room : ℕ) (before out : List ℕ) (end : End) (missing : CallerMissing) (told : Told) (slots : ℕ) (budget : Option ℕ) (given : Layout)
+pub places : (file : List ℕ) (limits : CallerLimits) (section : ℕ) (layout : CallerLayout) (room : ℕ) (before out : List ℕ) (end : CallEnd) (missing : CallerMissing) (told : CallStatus) (slots : ℕ) (budget : Option ℕ) (given : Layout)
     → slots ≡ headers_of limits room → budget ≡ budget_of limits → given ≡ lent_layout layout → AreInRange limits room → MayBorrowLayout layout
     → AppliesFor file slots budget section given out end.written told → ExplainsTold file slots budget section given (apply_cost_by_order file slots section given) told missing
     → end.asked ≤ apply_cost_by_order file slots section given + explain_bytes slots → IfSome budget (λ bytes. end.asked ≤ bytes)

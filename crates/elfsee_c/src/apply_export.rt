@@ -3,8 +3,8 @@ ghost use Rattle.std.specs.Prelude.{◌≡◌, ◌≤◌, length};
 ghost use Rattle.elf_capi.specs.Applied.{AppliesInMemory, IsApplied};
 
 use elf_capi::{
-    ApplyInput, CallOutcome, CallerLimits, End, Job, Told, layout_from, limits_of, report_status,
-    short, write_section,
+    ApplyCall, ApplyInput, CallEnd, CallOutcome, CallStatus, CallerLimits, layout_from, limits_of,
+    report_status, short, write_section,
 };
 use elf_layout::{Addresses, Layout};
 use elf_table::HeaderStore;
@@ -22,10 +22,10 @@ const LAST_INDEX: u32 = 65_535;
 pub extern "C" fn elfsee_apply(
     file: &[u8],
     limits: &CallerLimits,
-    job: &Job<'_>,
+    job: &ApplyCall<'_>,
     room: &mut [u8],
     out: &mut [u8],
-    end: &mut End,
+    end: &mut CallEnd,
 ) -> u32
     ensures { IsApplied file.now limits.now job.now (length room.old) result out.old out.new
         end.new }
@@ -38,11 +38,11 @@ pub extern "C" fn elfsee_apply(
 fn apply_to(
     file: &[u8],
     limits: &CallerLimits,
-    job: &Job<'_>,
+    job: &ApplyCall<'_>,
     room: &mut [u8],
     out: &mut [u8],
-    end: &mut End,
-) -> Told
+    end: &mut CallEnd,
+) -> CallStatus
     ensures applies { AppliesInMemory file.now limits.now job.now (length room.old) out.old out.new
         end.new result }
     ensures within { end.new.written ≤ length out.new }
@@ -50,11 +50,11 @@ fn apply_to(
 {
     end.clear();
     let Some(limits) = limits_of(limits, room.len()) else {
-        return Told::BadCall;
+        return CallStatus::BadCall;
     };
     let mut layout = Layout::new();
     if job.section > LAST_INDEX || !layout_from(job.items, &mut layout) {
-        return Told::BadCall;
+        return CallStatus::BadCall;
     }
     let mut store = HeaderStore::over(room, limits.headers);
     let addresses = Addresses::fixed(&layout);
@@ -64,13 +64,13 @@ fn apply_to(
         budget: limits.budget,
     };
     let mut outcome = CallOutcome {
-        told: Told::BadCall,
+        told: CallStatus::BadCall,
         asked: 0,
     };
     let written = write_section(file, &mut store, &wanted, out, &mut outcome);
     end.asked = short(outcome.asked);
     end.written = match outcome.told {
-        Told::Refused(_) => 0,
+        CallStatus::Refused(_) => 0,
         _ => written as u64,
     };
     outcome.told

@@ -2,7 +2,7 @@
 ghost use Rattle.elf_memory.specs.SectionBytes.{ReadsSectionBytes};
 ghost use Rattle.elf_capi.specs.Ends.{ReturnsRead};
 
-use elf_capi::{End, tell};
+use elf_capi::{CallEnd, tell};
 use elf_memory::{ByteRange, section_bytes};
 
 /// Tells where the bytes of a section lie in a file that lies in memory. No other section header is
@@ -17,7 +17,7 @@ pub extern "C" fn elfsee_section_bytes(
     file: &[u8],
     section: u16,
     range: &mut ByteRange,
-    end: &mut End,
+    end: &mut CallEnd,
 ) -> u32
     ensures { ReturnsRead (ReadsSectionBytes file.now section) result range.old range.new end.new }
 {

@@ -4,7 +4,7 @@ ghost use Rattle.elf_model.specs.Find.{find_cost};
 ghost use Rattle.elf_capi.specs.Found.{CallLooks, HasLookup};
 ghost use Rattle.elf_capi.specs.Limits.{budget_of, headers_of};
 
-use elf_capi::{CallerLimits, End, LookupFields, limits_of, look_in, report_found};
+use elf_capi::{CallEnd, CallerLimits, LookupFields, limits_of, look_in, report_found};
 use elf_hash::Lookup;
 use elf_record::Refusal;
 use elf_table::HeaderStore;
@@ -25,7 +25,7 @@ pub extern "C" fn elfsee_find(
     room: &mut [u8],
     name: &[u8],
     found: &mut LookupFields,
-    end: &mut End,
+    end: &mut CallEnd,
 ) -> u32
     ensures { HasLookup file.now limits.now (length room.old) name.now result found.new end.new }
 {
@@ -41,7 +41,7 @@ fn look_up(
     limits: &CallerLimits,
     room: &mut [u8],
     name: &[u8],
-    end: &mut End,
+    end: &mut CallEnd,
 ) -> Option<Result<Lookup, Refusal>>
     requires { end.old.asked ≡ 0 }
     ensures looks { CallLooks file.now limits.now (length room.old) name.now end.new.asked result }

@@ -4,7 +4,7 @@ ghost use Rattle.elf_capi.specs.Hashed.{hashed_cost};
 ghost use Rattle.elf_capi.specs.HashedRows.{HasHashed, OpensHashed, by_flags};
 ghost use Rattle.elf_capi.specs.Limits.{budget_of, headers_of};
 
-use elf_capi::{CallerLimits, End, RowPosition, limits_of, open_hashed, report_opened};
+use elf_capi::{CallEnd, CallerLimits, RowPosition, limits_of, open_hashed, report_opened};
 use elf_record::Refusal;
 use elf_table::HeaderStore;
 
@@ -25,7 +25,7 @@ pub extern "C" fn elfsee_hashed_symbols(
     flags: u32,
     room: &mut [u8],
     rows: &mut RowPosition,
-    end: &mut End,
+    end: &mut CallEnd,
 ) -> u32
     ensures { HasHashed file.now limits.now (length room.old) flags
         result rows.old rows.new end.new }

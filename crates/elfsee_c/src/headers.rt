@@ -2,14 +2,14 @@
 ghost use Rattle.elf_memory.specs.Headers.{ReadsHeader, ReadsSection, ReadsSegment};
 ghost use Rattle.elf_capi.specs.Ends.{ReturnsRead};
 
-use elf_capi::{End, tell};
+use elf_capi::{CallEnd, tell};
 use elf_memory::{Header, Section, Segment, read_header, read_section, read_segment};
 
 /// Reads the file header of a file that lies in memory (gABI 4, ELF Header).
 ///
 /// Answers 0 where it was read, and 1 where a check of it fails, with the first that does in `end`.
 #[unsafe(no_mangle)]
-pub extern "C" fn elfsee_header(file: &[u8], header: &mut Header, end: &mut End) -> u32
+pub extern "C" fn elfsee_header(file: &[u8], header: &mut Header, end: &mut CallEnd) -> u32
     ensures { ReturnsRead (ReadsHeader file.now) result header.old header.new end.new }
 {
     tell(read_header(file), header, end)
@@ -26,7 +26,7 @@ pub extern "C" fn elfsee_section(
     file: &[u8],
     index: u16,
     section: &mut Section,
-    end: &mut End,
+    end: &mut CallEnd,
 ) -> u32
     ensures { ReturnsRead (ReadsSection file.now index) result section.old section.new end.new }
 {
@@ -40,7 +40,7 @@ pub extern "C" fn elfsee_segment(
     file: &[u8],
     index: u16,
     segment: &mut Segment,
-    end: &mut End,
+    end: &mut CallEnd,
 ) -> u32
     ensures { ReturnsRead (ReadsSegment file.now index) result segment.old segment.new end.new }
 {

@@ -3,7 +3,7 @@ ghost use Rattle.elf_memory.specs.MappedBytes.{ReadsMapped};
 ghost use Rattle.elf_capi.specs.SegmentDynamic.{ReadsSegmentDynamic};
 ghost use Rattle.elf_capi.specs.Ends.{ReturnsRead};
 
-use elf_capi::{End, RowPosition, segment_dynamic, tell};
+use elf_capi::{CallEnd, RowPosition, segment_dynamic, tell};
 use elf_memory::{ByteRange, find_mapped};
 
 /// Checks the dynamic entries of a segment, and sets `rows` before the first: as many as up to and
@@ -17,7 +17,7 @@ pub extern "C" fn elfsee_segment_dynamic(
     file: &[u8],
     segment: u16,
     rows: &mut RowPosition,
-    end: &mut End,
+    end: &mut CallEnd,
 ) -> u32
     ensures { ReturnsRead (ReadsSegmentDynamic file.now segment) result rows.old rows.new end.new }
 {
@@ -36,7 +36,7 @@ pub extern "C" fn elfsee_mapped(
     address: u64,
     size: u64,
     range: &mut ByteRange,
-    end: &mut End,
+    end: &mut CallEnd,
 ) -> u32
     ensures { ReturnsRead (ReadsMapped file.now address size) result range.old range.new end.new }
 {

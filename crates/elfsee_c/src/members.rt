@@ -3,14 +3,18 @@ ghost use Rattle.elf_archive.specs.MemberRows.{OpensMembers, StepsMember};
 ghost use Rattle.elf_capi.specs.Ends.{ReturnsRead};
 
 use elf_archive::{MemberPosition, MemberRow, next_member, open_members};
-use elf_capi::{End, tell};
+use elf_capi::{CallEnd, tell};
 
 /// Checks that a file that lies in memory is an archive, and sets `members` before its first member.
 ///
 /// Answers 0 where it is, and 1 where it is none, with the first check that fails in `end`: `Short`,
 /// `Thin` or `NotArchive`, at offset 0.
 #[unsafe(no_mangle)]
-pub extern "C" fn elfsee_members(file: &[u8], members: &mut MemberPosition, end: &mut End) -> u32
+pub extern "C" fn elfsee_members(
+    file: &[u8],
+    members: &mut MemberPosition,
+    end: &mut CallEnd,
+) -> u32
     ensures { ReturnsRead (OpensMembers file.now) result members.old members.new end.new }
 {
     tell(open_members(file), members, end)
@@ -26,7 +30,7 @@ pub extern "C" fn elfsee_next_member(
     file: &[u8],
     members: &mut MemberPosition,
     member: &mut MemberRow,
-    end: &mut End,
+    end: &mut CallEnd,
 ) -> u32
     ensures { ReturnsRead (StepsMember file.now members.old members.new)
         result member.old member.new end.new }

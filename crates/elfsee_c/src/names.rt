@@ -4,7 +4,7 @@ ghost use Rattle.elf_memory.specs.Names.{FindsName};
 ghost use Rattle.elf_capi.specs.Ends.{ReturnsOpened, ReturnsRead};
 ghost use Rattle.elf_capi.specs.CallOpenings.{OpensNames};
 
-use elf_capi::{CallerLimits, End, limits_of, names_in, report_opened, tell};
+use elf_capi::{CallEnd, CallerLimits, limits_of, names_in, report_opened, tell};
 use elf_memory::{ByteRange, find_name};
 
 /// Finds where the name at an offset in a string table lies, without its NUL. The string table is
@@ -19,7 +19,7 @@ pub extern "C" fn elfsee_name(
     strings: &ByteRange,
     offset: u64,
     name: &mut ByteRange,
-    end: &mut End,
+    end: &mut CallEnd,
 ) -> u32
     ensures { ReturnsRead (FindsName file.now strings.now offset) result name.old name.new end.new }
 {
@@ -38,7 +38,7 @@ pub extern "C" fn elfsee_section_names(
     limits: &CallerLimits,
     room: &[u8],
     strings: &mut ByteRange,
-    end: &mut End,
+    end: &mut CallEnd,
 ) -> u32
     ensures { ReturnsOpened (OpensNames file.now limits.now (length room.now))
         result strings.old strings.new end.new }

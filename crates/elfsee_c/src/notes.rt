@@ -2,7 +2,7 @@
 ghost use Rattle.elf_memory.specs.NoteRows.{ReadsSectionNotes, ReadsSegmentNotes, TakesNote};
 ghost use Rattle.elf_capi.specs.Ends.{ReturnsRead};
 
-use elf_capi::{End, tell};
+use elf_capi::{CallEnd, tell};
 use elf_memory::{Note, NotePosition, next_note, section_notes, segment_notes};
 
 /// Checks that the notes of a section lie within the file, and sets `notes` before the first. No
@@ -16,7 +16,7 @@ pub extern "C" fn elfsee_notes(
     file: &[u8],
     section: u16,
     notes: &mut NotePosition,
-    end: &mut End,
+    end: &mut CallEnd,
 ) -> u32
     ensures { ReturnsRead (ReadsSectionNotes file.now section) result notes.old notes.new end.new }
 {
@@ -30,7 +30,7 @@ pub extern "C" fn elfsee_segment_notes(
     file: &[u8],
     segment: u16,
     notes: &mut NotePosition,
-    end: &mut End,
+    end: &mut CallEnd,
 ) -> u32
     ensures { ReturnsRead (ReadsSegmentNotes file.now segment) result notes.old notes.new end.new }
 {
@@ -46,7 +46,7 @@ pub extern "C" fn elfsee_next_note(
     file: &[u8],
     notes: &mut NotePosition,
     note: &mut Note,
-    end: &mut End,
+    end: &mut CallEnd,
 ) -> u32
     ensures { ReturnsRead (TakesNote file.now notes.old notes.new) result note.old note.new end.new }
 {

@@ -3,8 +3,8 @@ ghost use Rattle.std.specs.Prelude.{◌≡◌, ◌≤◌, length};
 ghost use Rattle.elf_capi.specs.LentLayouts.{CountsWritten, IsPlaced, PlacesInMemory};
 
 use elf_capi::{
-    ApplyInput, CallerLayout, CallerLimits, CallerMissing, End, Told, limits_of, place_section,
-    report_status,
+    ApplyInput, CallEnd, CallStatus, CallerLayout, CallerLimits, CallerMissing, limits_of,
+    place_section, report_status,
 };
 use elf_layout::Addresses;
 use elf_table::HeaderStore;
@@ -29,7 +29,7 @@ pub extern "C" fn elfsee_apply_lent(
     room: &mut [u8],
     out: &mut [u8],
     missing: &mut CallerMissing,
-    end: &mut End,
+    end: &mut CallEnd,
 ) -> u32
     ensures { IsPlaced file.now limits.now section layout.now (length room.old)
         result out.old out.new missing.new end.new }
@@ -47,8 +47,8 @@ fn place_in(
     room: &mut [u8],
     out: &mut [u8],
     missing: &mut CallerMissing,
-    end: &mut End,
-) -> Told
+    end: &mut CallEnd,
+) -> CallStatus
     ensures places { PlacesInMemory file.now limits.now section layout.now (length room.old)
         out.old out.new end.new missing.new result }
     ensures written { CountsWritten end.new result }
@@ -58,10 +58,10 @@ fn place_in(
     end.clear();
     missing.clear();
     let Some(limits) = limits_of(limits, room.len()) else {
-        return Told::BadCall;
+        return CallStatus::BadCall;
     };
     let Some(lent) = layout.lend() else {
-        return Told::BadCall;
+        return CallStatus::BadCall;
     };
     let addresses = Addresses::lent(&lent);
     let mut store = HeaderStore::over(room, limits.headers);

@@ -6,7 +6,7 @@ ghost use Rattle.elf_capi.specs.Limits.{budget_of, headers_of};
 ghost use Rattle.elf_capi.specs.Queries.{IsPermitted, asks_of, wanted_by};
 ghost use Rattle.elf_capi.specs.Resolved.{IsResolved, Resolves, ResolvesIn, ReturnsResolved, file_of, nothing_resolved};
 
-use elf_capi::{CallerLimits, End, Query, Resolved, limits_of, report_resolved, resolve_in};
+use elf_capi::{CallEnd, CallerLimits, Query, Resolved, limits_of, report_resolved, resolve_in};
 use elf_loader::SymbolLookup;
 use elf_record::Refusal;
 use elf_table::{HeaderStore, NameBuf};
@@ -31,7 +31,7 @@ pub extern "C" fn elfsee_look_up(
     version: &[u8],
     room: &mut [u8],
     resolved: &mut Resolved,
-    end: &mut End,
+    end: &mut CallEnd,
 ) -> u32
     ensures { IsResolved file.now limits.now (length room.old)
         (record { flags = flags; name = name.now; version = version.now })
@@ -57,7 +57,7 @@ fn resolve(
     query: &Query<'_>,
     room: &mut [u8],
     told: &mut NameBuf,
-    end: &mut End,
+    end: &mut CallEnd,
 ) -> Option<Result<SymbolLookup, Refusal>>
     requires { end.old.asked ≡ 0 }
     ensures resolves { Resolves file.now limits.now (length room.old) (asks_of query.now) told.new

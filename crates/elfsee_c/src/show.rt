@@ -7,7 +7,7 @@ ghost use Rattle.elf_capi.specs.Limits.{AreCaps, budget_of, headers_of};
 ghost use Rattle.elf_capi.specs.Shown.{HasAskedListing, HasListing, ShowsInMemory};
 
 use elf_capi::{
-    CallOutcome, CallerLimits, CallerListing, End, Told, caps_of, list, listing_of,
+    CallEnd, CallOutcome, CallStatus, CallerLimits, CallerListing, caps_of, list, listing_of,
     named_listing_of, report_status, short,
 };
 use elf_record::Parts;
@@ -25,7 +25,7 @@ pub extern "C" fn elfsee_show(
     parts: u16,
     room: &mut [u8],
     out: &mut [u8],
-    end: &mut End,
+    end: &mut CallEnd,
 ) -> u32
     ensures { HasListing file.now limits.now
         (length room.old) parts result out.old out.new end.new }
@@ -52,7 +52,7 @@ pub extern "C" fn elfsee_list(
     asked: &[u8],
     room: &mut [u8],
     out: &mut [u8],
-    end: &mut End,
+    end: &mut CallEnd,
 ) -> u32
     ensures { HasAskedListing file.now limits.now
         (length room.old) asked.now None result out.old out.new end.new }
@@ -76,7 +76,7 @@ pub extern "C" fn elfsee_list_names(
     names: &[&[u8]],
     room: &mut [u8],
     out: &mut [u8],
-    end: &mut End,
+    end: &mut CallEnd,
 ) -> u32
     ensures { HasAskedListing file.now limits.now
         (length room.old) asked.now (Some names.now) result out.old out.new end.new }
@@ -93,8 +93,8 @@ fn list_to(
     listing: Option<CallerListing<'_>>,
     room: &mut [u8],
     out: &mut [u8],
-    end: &mut End,
-) -> Told
+    end: &mut CallEnd,
+) -> CallStatus
     ensures shows { let room = length room.old in
         (asked : List ℕ) (names : Option BorrowedTexts) → GivesListing asked names listing.entry →
         ShowsInMemory (AreCaps limits.now room × AsksListing asked names) file.now limits.now room
@@ -110,7 +110,7 @@ fn list_to(
     end.clear();
     match listing {
         Some(listing) => show_to(file, limits, listing, room, out, end),
-        None => Told::BadCall,
+        None => CallStatus::BadCall,
     }
 }
 
@@ -121,8 +121,8 @@ fn show_to(
     listing: CallerListing<'_>,
     room: &mut [u8],
     out: &mut [u8],
-    end: &mut End,
-) -> Told
+    end: &mut CallEnd,
+) -> CallStatus
     ensures shows { let room = length room.old in
         ShowsInMemory (AreCaps limits.now room) file.now limits.now room
         (caller_style listing.entry limits.now.name) listing.entry.parts.0
@@ -135,11 +135,11 @@ fn show_to(
 {
     end.clear();
     let Some(caps) = caps_of(limits, room.len(), listing) else {
-        return Told::BadCall;
+        return CallStatus::BadCall;
     };
     let mut store = HeaderStore::over(room, caps.headers());
     let mut outcome = CallOutcome {
-        told: Told::BadCall,
+        told: CallStatus::BadCall,
         asked: 0,
     };
     end.written = list(file, &mut store, caps, listing.parts, out, &mut outcome) as u64;

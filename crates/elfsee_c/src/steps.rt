@@ -7,9 +7,9 @@ ghost use Rattle.elf_capi.specs.VersionRecords.{IsVersionWord};
 ghost use Rattle.elf_capi.specs.declared.dynamic.Dynamic.{Dynamic as OneDynamic};
 ghost use Rattle.elf_capi.specs.declared.relocations.Relocation.{Relocation as OneRelocation};
 ghost use Rattle.elf_capi.specs.declared.symbol.Symbol.{Symbol as OneSymbol};
-ghost use Rattle.elf_capi.specs.declared.version_words.VersionWord.{VersionWord as OneWord};
+ghost use Rattle.elf_capi.specs.declared.version_words.Versym.{Versym as OneWord};
 
-use elf_capi::{Dynamic, Relocation, RowPosition, Symbol, VersionWord, next_rows};
+use elf_capi::{Dynamic, Relocation, RowPosition, Symbol, Versym, next_rows};
 
 /// Reads the next symbols to the front of `out`, as many as there are and as it has room for, steps
 /// over them, and answers how many (gABI 4, Symbol Table).
@@ -60,7 +60,7 @@ pub extern "C" fn elfsee_next_dynamic(
 pub extern "C" fn elfsee_next_version_words(
     file: &[u8],
     rows: &mut RowPosition,
-    out: &mut [VersionWord],
+    out: &mut [Versym],
 ) -> usize
     ensures steps { StepsRows (length file.now) 2 rows.old rows.new (length out.old) result }
     ensures read { (k : ℕ) (none : OneWord) → k < result →

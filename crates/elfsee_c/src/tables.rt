@@ -4,7 +4,7 @@ ghost use Rattle.elf_capi.specs.declared.kind.RowKind.TheVariants.{Symbols, Relo
 ghost use Rattle.elf_capi.specs.CallOpenings.{OpensRows};
 ghost use Rattle.elf_capi.specs.Ends.{ReturnsOpened};
 
-use elf_capi::{CallerLimits, End, RowKind, RowPosition, limits_of, report_opened, rows_in};
+use elf_capi::{CallEnd, CallerLimits, RowKind, RowPosition, limits_of, report_opened, rows_in};
 
 /// Checks the table of symbols that a section of a file is, and sets `rows` before its first. So many
 /// headers are permitted as the limits say, and as the room has 64 bytes for; no byte of it is looked at.
@@ -21,7 +21,7 @@ pub extern "C" fn elfsee_symbols(
     section: u16,
     room: &[u8],
     rows: &mut RowPosition,
-    end: &mut End,
+    end: &mut CallEnd,
 ) -> u32
     ensures { ReturnsOpened (OpensRows Symbols file.now limits.now (length room.now) section)
         result rows.old rows.new end.new }
@@ -48,7 +48,7 @@ pub extern "C" fn elfsee_relocations(
     section: u16,
     room: &[u8],
     rows: &mut RowPosition,
-    end: &mut End,
+    end: &mut CallEnd,
 ) -> u32
     ensures { ReturnsOpened (OpensRows Relocations file.now limits.now (length room.now) section)
         result rows.old rows.new end.new }
@@ -75,7 +75,7 @@ pub extern "C" fn elfsee_dynamic(
     section: u16,
     room: &[u8],
     rows: &mut RowPosition,
-    end: &mut End,
+    end: &mut CallEnd,
 ) -> u32
     ensures { ReturnsOpened (OpensRows Dynamic file.now limits.now (length room.now) section)
         result rows.old rows.new end.new }
@@ -102,7 +102,7 @@ pub extern "C" fn elfsee_version_words(
     section: u16,
     room: &[u8],
     rows: &mut RowPosition,
-    end: &mut End,
+    end: &mut CallEnd,
 ) -> u32
     ensures { ReturnsOpened (OpensRows VersionWords file.now limits.now (length room.now) section)
         result rows.old rows.new end.new }

@@ -5,7 +5,7 @@ ghost use Rattle.elf_capi.specs.Ends.{ReturnsOpened, ReturnsRead};
 ghost use Rattle.elf_capi.specs.CallOpenings.{OpensRecords};
 
 use elf_capi::{
-    CallerLimits, End, RecordRow, VersionRecordPosition, limits_of, next_record, records_in,
+    CallEnd, CallerLimits, RecordRow, VersionRecordPosition, limits_of, next_record, records_in,
     report_opened, tell,
 };
 
@@ -24,7 +24,7 @@ pub extern "C" fn elfsee_version_records(
     section: u16,
     room: &[u8],
     records: &mut VersionRecordPosition,
-    end: &mut End,
+    end: &mut CallEnd,
 ) -> u32
     ensures { ReturnsOpened (OpensRecords file.now limits.now (length room.now) section)
         result records.old records.new end.new }
@@ -46,7 +46,7 @@ pub extern "C" fn elfsee_next_version_record(
     file: &[u8],
     records: &mut VersionRecordPosition,
     row: &mut RecordRow,
-    end: &mut End,
+    end: &mut CallEnd,
 ) -> u32
     ensures { ReturnsRead (StepsRecord file.now records.old records.new)
         result row.old row.new end.new }

@@ -9,13 +9,13 @@ ghost use Rattle.elf_capi.specs.declared.dynamic.Dynamic.{Dynamic as OneDynamic}
 ghost use Rattle.elf_capi.specs.declared.kind.RowKind.TheVariants.{Dynamic as DynamicRows};
 ghost use Rattle.elf_capi.specs.declared.relocations.Relocation.{Relocation as OneRelocation};
 ghost use Rattle.elf_capi.specs.declared.symbol.Symbol.{Symbol as OneSymbol};
-ghost use Rattle.elf_capi.specs.declared.version_words.VersionWord.{VersionWord as OneWord};
+ghost use Rattle.elf_capi.specs.declared.version_words.Versym.{Versym as OneWord};
 ghost use Rattle.elf_capi.specs.Limits.{budget_of};
 ghost use Rattle.elf_capi.specs.CallOpenings.{OpensRows};
 ghost use Rattle.elf_capi.specs.Within.{OpensAlways, OpensEntries, StepsBudgeted, ReturnsEntries};
 
 use elf_capi::{
-    CallerLimits, Dynamic, End, Relocation, RowPosition, Symbol, VersionWord, count_entries,
+    CallEnd, CallerLimits, Dynamic, Relocation, RowPosition, Symbol, Versym, count_entries,
     dynamic_within, entries_left, limits_of, next_within, report_opened, segment_dynamic_within,
 };
 use elf_record::Refusal;
@@ -35,7 +35,7 @@ pub extern "C" fn elfsee_dynamic_within(
     room: &[u8],
     asked: &mut u64,
     rows: &mut RowPosition,
-    end: &mut End,
+    end: &mut CallEnd,
 ) -> u32
     ensures tells { ReturnsEntries
         (OpensRows DynamicRows file.now limits.now (length room.now) section)
@@ -59,7 +59,7 @@ pub extern "C" fn elfsee_segment_dynamic_within(
     segment: u16,
     asked: &mut u64,
     rows: &mut RowPosition,
-    end: &mut End,
+    end: &mut CallEnd,
 ) -> u32
     ensures tells { ReturnsEntries (OpensAlways (ReadsSegmentDynamic file.now segment))
         limits.now asked.old asked.new result rows.old rows.new end.new }
@@ -82,7 +82,7 @@ pub extern "C" fn elfsee_next_symbols_within(
     asked: &mut u64,
     rows: &mut RowPosition,
     out: &mut [Symbol],
-    end: &mut End,
+    end: &mut CallEnd,
 ) -> usize
     ensures steps { StepsBudgeted (length file.now) 24 limits.now asked.old asked.new
         rows.old rows.new (length out.old) result end.new }
@@ -102,7 +102,7 @@ pub extern "C" fn elfsee_next_relocations_within(
     asked: &mut u64,
     rows: &mut RowPosition,
     out: &mut [Relocation],
-    end: &mut End,
+    end: &mut CallEnd,
 ) -> usize
     ensures steps { StepsBudgeted (length file.now) 24 limits.now asked.old asked.new
         rows.old rows.new (length out.old) result end.new }
@@ -122,7 +122,7 @@ pub extern "C" fn elfsee_next_dynamic_within(
     asked: &mut u64,
     rows: &mut RowPosition,
     out: &mut [Dynamic],
-    end: &mut End,
+    end: &mut CallEnd,
 ) -> usize
     ensures steps { StepsBudgeted (length file.now) 16 limits.now asked.old asked.new
         rows.old rows.new (length out.old) result end.new }
@@ -144,8 +144,8 @@ pub extern "C" fn elfsee_next_version_words_within(
     limits: &CallerLimits,
     asked: &mut u64,
     rows: &mut RowPosition,
-    out: &mut [VersionWord],
-    end: &mut End,
+    out: &mut [Versym],
+    end: &mut CallEnd,
 ) -> usize
     ensures steps { StepsBudgeted (length file.now) 2 limits.now asked.old asked.new
         rows.old rows.new (length out.old) result end.new }

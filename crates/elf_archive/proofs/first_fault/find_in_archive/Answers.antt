@@ -7,7 +7,7 @@ use Rattle.elf_model.proofs.AllowanceLaws.{allowance_within}
 use Rattle.elf_source.proofs.GrowthLaws.{grows_not}
 use Rattle.elf_options.specs.Permitted.{style_of}
 use Rattle.elf_archive.proofs.ArchiveLaws.{magic_within, magic_cost, passed_cost}
-use Rattle.elf_archive.proofs.ConsumeLaws.{Consumes-fault, Consumes-then}
+use Rattle.elf_archive.proofs.ConsumeLaws.{ReadsAtMostIn-fault, ReadsAtMostIn-then}
 use Rattle.elf_archive.proofs.FaultLaws.{magic_fault, passed_fault}
 use Rattle.elf_archive.proofs.first_fault.find_in_archive.Goals as goal
 
@@ -20,8 +20,8 @@ returns-in_err-magic-clause-finds g c =
     record {
       slots = refl;
       grows = grows_not _;
-      ceiling = rw (p.1, p.2) (Consumes-fault _ _ c.args.out.now _ 8 _ (magic_within c.args.src.now.seen.size headers style) fails.asks.0 fails.asks.1);
-      cost = λ file held. rw (p.1, p.2) (Consumes-fault _ _ c.args.out.now _ 8 _ (magic_cost file headers style c.args.parts.0) fails.asks.0 fails.asks.1);
+      ceiling = rw (p.1, p.2) (ReadsAtMostIn-fault _ _ c.args.out.now _ 8 _ (magic_within c.args.src.now.seen.size headers style) fails.asks.0 fails.asks.1);
+      cost = λ file held. rw (p.1, p.2) (ReadsAtMostIn-fault _ _ c.args.out.now _ 8 _ (magic_cost file headers style c.args.parts.0) fails.asks.0 fails.asks.1);
       shows = λ file held. rw (p.1, p.2) (magic_fault file headers style c.args.parts.0 _ (fails.read file held));
     }
 
@@ -37,10 +37,10 @@ returns-clause-finds g c =
     record {
       slots = did.slots;
       grows = did.grows;
-      ceiling = Consumes-then _ _ _ _ _ 8 (allowance (c.magic.new.src.seen.size - 8) headers style) _ (omega (arith, same, within)) reads did.ceiling;
+      ceiling = ReadsAtMostIn-then _ _ _ _ _ 8 (allowance (c.magic.new.src.seen.size - 8) headers style) _ (omega (arith, same, within)) reads did.ceiling;
       cost = λ file held.
           let cost = passed_cost file headers style parts (c.in_ok-magic.ensures.read file held) in
-          Consumes-then _ _ _ _ _ 8 (members_cost (length file) file headers style parts before_members) _ (omega (arith, cost)) reads (did.cost file (reads.keeps.same_file ∙ held));
+          ReadsAtMostIn-then _ _ _ _ _ 8 (members_cost (length file) file headers style parts before_members) _ (omega (arith, cost)) reads (did.cost file (reads.keeps.same_file ∙ held));
       shows = λ file held.
           rw (passed_fault file headers style parts (c.in_ok-magic.ensures.read file held)) (did.shows file (reads.keeps.same_file ∙ held));
     }

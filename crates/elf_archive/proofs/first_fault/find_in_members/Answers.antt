@@ -10,9 +10,9 @@ use Rattle.elf_source.specs.Source.{ReadsUpTo}
 use Rattle.elf_table.specs.declared.run_fault.RunFault.TheVariants.{Refused}
 use Rattle.elf_options.specs.Permitted.{style_of}
 use Rattle.elf_table.specs.Stops.{stop_of}
-use Rattle.elf_archive.specs.Listed.{Consumes}
+use Rattle.elf_archive.specs.Listed.{ReadsAtMostIn}
 use Rattle.elf_archive.specs.Members.{IsMemberWalkInBounds, member_of, step_cost}
-use Rattle.elf_archive.proofs.ConsumeLaws.{Consumes-fault, Consumes-then, still_whole}
+use Rattle.elf_archive.proofs.ConsumeLaws.{ReadsAtMostIn-fault, ReadsAtMostIn-then, still_whole}
 use Rattle.elf_archive.proofs.FaultLaws.{check_begins, check_ends, check_more, fault_of_member, fault_takes, sound_member, step_cost_left, stop_of_member, walk_fault}
 use Rattle.elf_archive.proofs.ListingLaws.{cost_of_data, header_first, member_allowed, step_allowed, step_ends, step_within}
 use Rattle.elf_archive.proofs.first_fault.find_in_members.Goals as goal
@@ -47,16 +47,16 @@ returns-in_err-member g c =
     record {
       slots = known.slots;
       grows = known.grows;
-      ceiling = rw (p.1, p.2) (Consumes-then {X = Unit {0}} _ _ _ c.members.out (Err (stop_of c.in_err-member.field-0.0)) known.bytes bytes _ within known.reads
-          (Consumes-fault _ _ c.members.out _ bytes _ (omega arith) c.in_err-member.ensures.asks.0 c.in_err-member.ensures.asks.1));
+      ceiling = rw (p.1, p.2) (ReadsAtMostIn-then {X = Unit {0}} _ _ _ c.members.out (Err (stop_of c.in_err-member.field-0.0)) known.bytes bytes _ within known.reads
+          (ReadsAtMostIn-fault _ _ c.members.out _ bytes _ (omega arith) c.in_err-member.ensures.asks.0 c.in_err-member.ensures.asks.1));
       cost = λ file held.
           let now = known.reads.keeps.same_file ∙ held in
           let walks = known.walks file held in
           let asks = c.in_err-member.ensures.cost file now in
           let least = header_first file headers style parts c.members.cursor (next_member file style.cap c.members.cursor) in
           let most = step_cost_left file headers style parts (length file) before_members c.members.cursor _ _ walks in
-          rw (p.1, p.2) (Consumes-then {X = Unit {0}} _ _ _ c.members.out (Err (stop_of c.in_err-member.field-0.0)) walks.spent (header_cost file style.cap c.members.cursor) _ (omega (arith, least, most)) walks.reads
-          (Consumes-fault _ _ c.members.out _ (header_cost file style.cap c.members.cursor) _ (omega arith) asks.0 asks.1));
+          rw (p.1, p.2) (ReadsAtMostIn-then {X = Unit {0}} _ _ _ c.members.out (Err (stop_of c.in_err-member.field-0.0)) walks.spent (header_cost file style.cap c.members.cursor) _ (omega (arith, least, most)) walks.reads
+          (ReadsAtMostIn-fault _ _ c.members.out _ (header_cost file style.cap c.members.cursor) _ (omega arith) asks.0 asks.1));
       shows = λ file held.
           let now = known.reads.keeps.same_file ∙ held in
           rw (p.1, p.2) (walk_fault file headers style parts (length file) before_members c.members.cursor c.advance.new.self _ _ c.advance.new.name _ (known.walks file held) (c.in_err-member.ensures.tells file now));
@@ -93,8 +93,8 @@ returns-in_err-refusal g c =
     record {
       slots = did.slots ∙ known.slots;
       grows = grows_then known.grows did.grows;
-      ceiling = rw (p.1, p.2) (Consumes-then {X = Unit {0}} _ _ _ c.list_member.new.out (Err c.in_err-refusal.field-0.0) known.bytes (first + second) _ within known.reads
-          (Consumes-then {X = Unit {0}} _ _ _ c.list_member.new.out (Err c.in_err-refusal.field-0.0) first second _ (omega arith) c.in_ok-member.ensures.asks.0 did.ceiling));
+      ceiling = rw (p.1, p.2) (ReadsAtMostIn-then {X = Unit {0}} _ _ _ c.list_member.new.out (Err c.in_err-refusal.field-0.0) known.bytes (first + second) _ within known.reads
+          (ReadsAtMostIn-then {X = Unit {0}} _ _ _ c.list_member.new.out (Err c.in_err-refusal.field-0.0) first second _ (omega arith) c.in_ok-member.ensures.asks.0 did.ceiling));
       cost = λ file held.
           let now = known.reads.keeps.same_file ∙ held in
           let walks = known.walks file held in
@@ -102,12 +102,12 @@ returns-in_err-refusal g c =
           let header = c.in_ok-member.ensures.cost file now in
           let here : ℕ = header_cost file style.cap c.members.cursor in
           let there : ℕ = member_cost file headers style parts m in
-          let takes : Consumes {X = Unit {0}} c.advance.new.src c.list_member.new.src c.list_member.new.out (Err c.in_err-refusal.field-0.0) there =
-          subst (λ (n : ℕ). Consumes {X = Unit {0}} c.advance.new.src c.list_member.new.src c.list_member.new.out (Err c.in_err-refusal.field-0.0) n) (cost_of_data file headers style parts m)
+          let takes : ReadsAtMostIn {X = Unit {0}} c.advance.new.src c.list_member.new.src c.list_member.new.out (Err c.in_err-refusal.field-0.0) there =
+          subst (λ (n : ℕ). ReadsAtMostIn {X = Unit {0}} c.advance.new.src c.list_member.new.src c.list_member.new.out (Err c.in_err-refusal.field-0.0) n) (cost_of_data file headers style parts m)
           (rw known.slots at (did.cost file (header.0.keeps.same_file ∙ now))) in
           let most = rw tells.0 at (step_cost_left file headers style parts (length file) before_members c.members.cursor _ _ walks) in
-          rw (p.1, p.2) (Consumes-then {X = Unit {0}} _ _ _ c.list_member.new.out (Err c.in_err-refusal.field-0.0) walks.spent (here + there) _ (omega (arith, most)) walks.reads
-          (Consumes-then {X = Unit {0}} _ _ _ c.list_member.new.out (Err c.in_err-refusal.field-0.0) here there _ (omega arith) header.0 takes));
+          rw (p.1, p.2) (ReadsAtMostIn-then {X = Unit {0}} _ _ _ c.list_member.new.out (Err c.in_err-refusal.field-0.0) walks.spent (here + there) _ (omega (arith, most)) walks.reads
+          (ReadsAtMostIn-then {X = Unit {0}} _ _ _ c.list_member.new.out (Err c.in_err-refusal.field-0.0) here there _ (omega arith) header.0 takes));
       shows = λ file held.
           let now = c.in_ok-member.ensures.asks.0.keeps.same_file ∙ (known.reads.keeps.same_file ∙ held) in
           rw (p.1, p.2) (stop_of_member _ _ file slots style parts m c.in_err-refusal.field-0.0 _ (did.shows file now));
@@ -130,7 +130,7 @@ returns-in-Some-2 g c =
     (omega (arith, passes.begins, passes.lies)) (omega (arith, passes.begins, passes.ends)) in
     let within = step_ends c.args.src.now.seen.size size headers slots style known.bytes (first + second) _ c.members.cursor known.reads.keeps.same_size known.slots known.within (omega (arith, most)) in
     let own = rw c.in-Some-2.is at c.in_ok-refusal.ensures.own in
-    let takes : (n : ℕ) → ReadsUpTo c.args.src.now c.list_member.new.src n → Consumes {X = Unit {0}} c.args.src.now c.list_member.new.src c.list_member.new.out (Err (Refused c.placed.result)) n =
+    let takes : (n : ℕ) → ReadsUpTo c.args.src.now c.list_member.new.src n → ReadsAtMostIn {X = Unit {0}} c.args.src.now c.list_member.new.src c.list_member.new.out (Err (Refused c.placed.result)) n =
     λ n. fault_takes _ _ c.list_member.new.out n _ c.in-Some-2.refusal c.placed.result own c.placed.ensures in
     let all = ReadsUpTo-then known.reads (ReadsUpTo-then c.in_ok-member.ensures.asks.0 did.ceiling.0) in
     record {
@@ -204,7 +204,7 @@ returns g c =
     record {
       slots = known.slots;
       grows = known.grows;
-      ceiling = Consumes-then {X = Unit {0}} _ _ _ c.members.out (Ok tt) known.bytes bytes _ within known.reads (c.in_ok-member.ensures.asks.0, tt);
+      ceiling = ReadsAtMostIn-then {X = Unit {0}} _ _ _ c.members.out (Ok tt) known.bytes bytes _ within known.reads (c.in_ok-member.ensures.asks.0, tt);
       cost = λ file held.
           let now = known.reads.keeps.same_file ∙ held in
           let ends = rw none at (c.in_ok-member.ensures.tells file now) in

@@ -6,7 +6,7 @@ use Rattle.elf_source.proofs.GrowthLaws.{grows_not, grows_then}
 use Rattle.elf_source.proofs.ReadsLaws.{ReadsUpTo-none, ReadsUpTo-then}
 use Rattle.elf_options.specs.Permitted.{style_of}
 use Rattle.elf_archive.specs.Members.{IsMemberWalkInBounds}
-use Rattle.elf_archive.proofs.ConsumeLaws.{Consumes-then, still_whole}
+use Rattle.elf_archive.proofs.ConsumeLaws.{ReadsAtMostIn-then, still_whole}
 use Rattle.elf_archive.proofs.ListingLaws.{step_ends, step_within}
 use Rattle.elf_archive.proofs.WalkLaws.{WalksMembers, of_members, walk_begins, walk_ends, walk_more, walk_stops}
 use Rattle.elf_archive.proofs.listing.list_members.Goals as goal
@@ -42,7 +42,7 @@ returns-in_err-refused g c =
     record {
       slots = did.slots ∙ known.slots;
       grows = grows_then known.grows did.grows;
-      ceiling = rw (p.1, p.2) (Consumes-then {X = Unit {0}} _ _ _ c.list_next.new.out (Err c.in_err-refused.field-0.0) known.bytes step.bytes _ within known.reads step.takes);
+      ceiling = rw (p.1, p.2) (ReadsAtMostIn-then {X = Unit {0}} _ _ _ c.list_next.new.out (Err c.in_err-refused.field-0.0) known.bytes step.bytes _ within known.reads step.takes);
       cost = λ file held. rw (p.1, p.2) (walks file held).0;
       shows = λ file held. rw (p.1, p.2) (of_members c.args.choice.alone file headers style parts c.args.src.now c.list_next.new.src c.args.out.now c.list_next.new.out (Err c.in_err-refused.field-0.0) (walks file held));
     }
@@ -112,7 +112,7 @@ returns g c =
     record {
       slots = did.slots ∙ known.slots;
       grows = grows_then known.grows did.grows;
-      ceiling = Consumes-then {X = Unit {0}} _ _ _ c.list_next.new.out (Ok tt) known.bytes step.bytes _ within known.reads (step.takes.0, tt);
+      ceiling = ReadsAtMostIn-then {X = Unit {0}} _ _ _ c.list_next.new.out (Ok tt) known.bytes step.bytes _ within known.reads (step.takes.0, tt);
       cost = λ file held. (walks file held).0;
       shows = λ file held. of_members c.args.choice.alone file headers style parts c.args.src.now c.list_next.new.src c.args.out.now c.list_next.new.out (Ok c.members.any) (walks file held);
     }

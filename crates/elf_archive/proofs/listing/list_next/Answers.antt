@@ -9,9 +9,9 @@ use Rattle.elf_source.proofs.PutsLaws.{SinkTakes-nothing}
 use Rattle.elf_options.specs.Permitted.{style_of}
 use Rattle.elf_listing.proofs.RowLaws.{WroteUntilStop-first}
 use Rattle.elf_source.specs.Source.{ReadsUpTo}
-use Rattle.elf_archive.specs.Listed.{Consumes}
+use Rattle.elf_archive.specs.Listed.{ReadsAtMostIn}
 use Rattle.elf_archive.specs.Members.{member_of, step_cost}
-use Rattle.elf_archive.proofs.ConsumeLaws.{Consumes-fault, Consumes-then, still_whole}
+use Rattle.elf_archive.proofs.ConsumeLaws.{ReadsAtMostIn-fault, ReadsAtMostIn-then, still_whole}
 use Rattle.elf_archive.proofs.ListingLaws.{cost_of_data, header_first, member_allowed, step_allowed, unread_next}
 use Rattle.elf_archive.proofs.listing.list_next.Goals as goal
 
@@ -35,11 +35,11 @@ returns-in_err-member g c =
       within = rw (p.1, p.2) (record {
         bytes = bytes;
         within = omega (arith, most);
-        takes = Consumes-fault _ _ c.args.out.now _ bytes _ (omega arith) c.in_err-member.ensures.asks.0 c.in_err-member.ensures.asks.1;
+        takes = ReadsAtMostIn-fault _ _ c.args.out.now _ bytes _ (omega arith) c.in_err-member.ensures.asks.0 c.in_err-member.ensures.asks.1;
       });
       cost = λ file held.
           let asks = c.in_err-member.ensures.cost file held in
-          rw (p.1, p.2) (Consumes-fault _ _ c.args.out.now _ _ _ (header_first file headers style c.args.choice.parts.0 c.args.cursor.now _) asks.0 asks.1);
+          rw (p.1, p.2) (ReadsAtMostIn-fault _ _ c.args.out.now _ _ _ (header_first file headers style c.args.choice.parts.0 c.args.cursor.now _) asks.0 asks.1);
       text = λ file held.
           rw (p.1, p.2) (WroteUntilStop-first _ _ _
           (unread_next c.args.choice.alone file headers style c.args.choice.parts.0 c.args.cursor.now c.advance.new.self c.advance.new.name _ (c.in_err-member.ensures.tells file held)));
@@ -100,13 +100,13 @@ returns-in_err-refused g c =
       within = rw (p.1, p.2) (record {
         bytes = first + second;
         within = omega (arith, most);
-        takes = Consumes-then {X = Unit {0}} _ _ _ c.list_with_line.new.out (Err c.in_err-refused.field-0.0) first second _ (omega arith) c.in_ok-member.ensures.asks.0 did.ceiling;
+        takes = ReadsAtMostIn-then {X = Unit {0}} _ _ _ c.list_with_line.new.out (Err c.in_err-refused.field-0.0) first second _ (omega arith) c.in_ok-member.ensures.asks.0 did.ceiling;
       });
       cost = λ file held.
           let tells = rw c.in-Some.is at (c.in_ok-member.ensures.tells file held) in
           let now = c.in_ok-member.ensures.asks.0.keeps.same_file ∙ held in
-          rw (p.1, p.2, tells.0) (Consumes-then {X = Unit {0}} _ _ _ c.list_with_line.new.out (Err c.in_err-refused.field-0.0) (header_cost file c.args.choice.style.cap.bytes c.args.cursor.now) (member_cost file headers style c.args.choice.parts.0 m) _ (omega arith)
-          (c.in_ok-member.ensures.cost file held).0 (subst (λ (n : ℕ). Consumes {X = Unit {0}} c.advance.new.src c.list_with_line.new.src c.list_with_line.new.out (Err c.in_err-refused.field-0.0) n) (cost_of_data file headers style c.args.choice.parts.0 m) (did.cost file now)));
+          rw (p.1, p.2, tells.0) (ReadsAtMostIn-then {X = Unit {0}} _ _ _ c.list_with_line.new.out (Err c.in_err-refused.field-0.0) (header_cost file c.args.choice.style.cap.bytes c.args.cursor.now) (member_cost file headers style c.args.choice.parts.0 m) _ (omega arith)
+          (c.in_ok-member.ensures.cost file held).0 (subst (λ (n : ℕ). ReadsAtMostIn {X = Unit {0}} c.advance.new.src c.list_with_line.new.src c.list_with_line.new.out (Err c.in_err-refused.field-0.0) n) (cost_of_data file headers style c.args.choice.parts.0 m) (did.cost file now)));
       text = λ file held.
           let tells = rw c.in-Some.is at (c.in_ok-member.ensures.tells file held) in
           let now = c.in_ok-member.ensures.asks.0.keeps.same_file ∙ held in
@@ -134,12 +134,12 @@ returns g c =
       within = record {
         bytes = first + second;
         within = omega (arith, most);
-        takes = Consumes-then {X = Unit {0}} _ _ _ c.list_with_line.new.out (Ok tt) first second _ (omega arith) c.in_ok-member.ensures.asks.0 (did.ceiling.0, tt);
+        takes = ReadsAtMostIn-then {X = Unit {0}} _ _ _ c.list_with_line.new.out (Ok tt) first second _ (omega arith) c.in_ok-member.ensures.asks.0 (did.ceiling.0, tt);
       };
       cost = λ file held.
           let tells = rw c.in-Some.is at (c.in_ok-member.ensures.tells file held) in
           let now = c.in_ok-member.ensures.asks.0.keeps.same_file ∙ held in
-          rw (tells.0) (Consumes-then {X = Unit {0}} _ _ _ c.list_with_line.new.out (Ok tt) (header_cost file c.args.choice.style.cap.bytes c.args.cursor.now) (member_cost file headers style c.args.choice.parts.0 m) _ (omega arith)
+          rw (tells.0) (ReadsAtMostIn-then {X = Unit {0}} _ _ _ c.list_with_line.new.out (Ok tt) (header_cost file c.args.choice.style.cap.bytes c.args.cursor.now) (member_cost file headers style c.args.choice.parts.0 m) _ (omega arith)
           (c.in_ok-member.ensures.cost file held).0 (subst (λ (n : ℕ). ReadsUpTo c.advance.new.src c.list_with_line.new.src n) (cost_of_data file headers style c.args.choice.parts.0 m) (did.cost file now).0, tt));
       text = λ file held.
           let tells = rw c.in-Some.is at (c.in_ok-member.ensures.tells file held) in

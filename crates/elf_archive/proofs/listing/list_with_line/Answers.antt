@@ -6,7 +6,7 @@ use Rattle.elf_source.proofs.GrowthLaws.{grows_front, grows_then}
 use Rattle.elf_source.proofs.LineLaws.{broken_takes}
 use Rattle.elf_source.proofs.ReadsLaws.{ReadsUpTo-none}
 use Rattle.elf_options.specs.Permitted.{style_of}
-use Rattle.elf_archive.specs.Listed.{Consumes}
+use Rattle.elf_archive.specs.Listed.{ReadsAtMostIn}
 use Rattle.elf_archive.specs.Members.{member_of}
 use Rattle.elf_archive.proofs.HeldLaws.{broken_stops, held_consumes, held_grows, held_refused, held_writes, line_fails_first, line_writes, told_clean}
 use Rattle.elf_archive.proofs.listing.list_with_line.Goals as goal
@@ -63,7 +63,7 @@ returns g c =
     let mid = c.defer_member_line.new.out in
     let old = c.list_reported-listed.new.out in
     let new = c.end_listed.new.out in
-    let takes : (n : ℕ) → Consumes c.args.src.now c.list_reported-listed.new.src old c.list_reported-listed.result n → Consumes c.args.src.now c.list_reported-listed.new.src new c.end_listed.result n =
+    let takes : (n : ℕ) → ReadsAtMostIn c.args.src.now c.list_reported-listed.new.src old c.list_reported-listed.result n → ReadsAtMostIn c.args.src.now c.list_reported-listed.new.src new c.end_listed.result n =
     λ n. held_consumes began mid old new line c.in_ok-line.line c.in_ok-line.ensures.holds c.end_listed.ensures.line _ _ n c.list_reported-listed.result c.end_listed.result did.grows c.end_listed.ensures.listed in
     record {
       slots = did.slots;

@@ -9,7 +9,7 @@ use Rattle.elf_source.proofs.ReadsLaws.{ReadsUpTo-none, ReadsUpTo-to}
 use Rattle.elf_options.specs.Permitted.{style_of}
 use Rattle.elf_archive.specs.Listed.{IsAll, member_at}
 use Rattle.elf_archive.specs.Members.{IsInBounds, extent_of}
-use Rattle.elf_archive.proofs.ConsumeLaws.{Consumes-fault, Consumes-then, lies_within, still_whole}
+use Rattle.elf_archive.proofs.ConsumeLaws.{ReadsAtMostIn-fault, ReadsAtMostIn-then, lies_within, still_whole}
 use Rattle.elf_archive.proofs.ListingLaws.{member_listed, member_elf}
 use Rattle.elf_archive.proofs.NarrowLaws.{part_consumes, part_file}
 use Rattle.elf_archive.proofs.ToldLaws.{lists_part, own_part, part_unread}
@@ -33,11 +33,11 @@ returns-in_err-begins_elf-clause-lists g c =
     record {
       slots = refl;
       grows = grows_not _;
-      ceiling = rw (p.1, p.2) (Consumes-fault _ _ c.args.out.now _ 4 _ (omega arith) fails.asks.0 fails.asks.1);
+      ceiling = rw (p.1, p.2) (ReadsAtMostIn-fault _ _ c.args.out.now _ 4 _ (omega arith) fails.asks.0 fails.asks.1);
       cost = λ file held.
           let asked : lists_members (style_of c.args.style) c.args.parts.0 ≡ true = search rules in
           let cost = member_listed file c.args.store.now.slots (style_of c.args.style) c.args.parts.0 (member_at (extent_of c.args.extent)) asked in
-          rw (p.1, p.2) (Consumes-fault _ _ c.args.out.now _ 4 _ (omega (arith, cost)) fails.asks.0 fails.asks.1);
+          rw (p.1, p.2) (ReadsAtMostIn-fault _ _ c.args.out.now _ 4 _ (omega (arith, cost)) fails.asks.0 fails.asks.1);
       shows = λ file held. rw (p.1, p.2) (part_unread _ _ _ fails.fault);
     }
 
@@ -74,7 +74,7 @@ returns-clause-lists g c =
     record {
       slots = c.list-listed.ensures.slots;
       grows = c.list-listed.ensures.grows;
-      ceiling = Consumes-then _ _ _ c.list-listed.new.out c.end_part.result 4 (style_ceiling c.narrow.new.self.seen.size c.args.store.now.slots (style_of c.args.style)) _ (omega (arith, same)) reads
+      ceiling = ReadsAtMostIn-then _ _ _ c.list-listed.new.out c.end_part.result 4 (style_ceiling c.narrow.new.self.seen.size c.args.store.now.slots (style_of c.args.style)) _ (omega (arith, same)) reads
           (part_consumes _ _ _ _ _ _ _ _ _ _ whole lies c.narrow.ensures c.list-listed.ensures.ceiling c.widen.ensures c.end_part.ensures);
       cost = λ file held.
           let now = reads.keeps.same_file ∙ held in
@@ -82,7 +82,7 @@ returns-clause-lists g c =
           let elf : is_elf (bytes_in file (extent_of c.args.extent)) ≡ true = search rules in
           let cost = member_elf file c.args.store.now.slots (style_of c.args.style) c.args.parts.0 (member_at (extent_of c.args.extent)) (extent_of c.args.extent) asked refl elf in
           let part = part_file _ _ file _ _ whole c.narrow.ensures now in
-          Consumes-then _ _ _ c.list-listed.new.out c.end_part.result 4 (listing_cost (bytes_in file (extent_of c.args.extent)) c.args.store.now.slots (style_of c.args.style) c.args.parts.0) _ (omega (arith, cost)) reads
+          ReadsAtMostIn-then _ _ _ c.list-listed.new.out c.end_part.result 4 (listing_cost (bytes_in file (extent_of c.args.extent)) c.args.store.now.slots (style_of c.args.style) c.args.parts.0) _ (omega (arith, cost)) reads
           (part_consumes _ _ _ _ _ _ _ _ _ _ whole lies c.narrow.ensures (c.list-listed.ensures.cost (bytes_in file (extent_of c.args.extent)) part) c.widen.ensures c.end_part.ensures);
       shows = λ file held.
           let now = reads.keeps.same_file ∙ held in

@@ -4,7 +4,7 @@ use Rattle.elf_model.specs.Versions.{visited_from, next_position, with_visited}
 use Rattle.elf_model.proofs.VersionSteps.{met-ended}
 use Rattle.elf_source.specs.Source.{SourceState}
 use Rattle.elf_table.specs.declared.fault.Fault.TheVariants.{Refused}
-use Rattle.elf_table.specs.Tables.{Rows}
+use Rattle.elf_table.specs.Tables.{TableRange}
 use Rattle.elf_note.specs.Reading.{BufferedTable, IsCursorOf, record_position_of, versions_left}
 use Rattle.elf_capi.specs.VersionRecords.{bytes_within, records_left, standing_in}
 use Rattle.elf_capi.proofs.RecordLaws.{goes_on, left_is, visited_inside}
@@ -24,9 +24,9 @@ advance-met-requires c = λ some.
     let known = ap (λ (s : SourceState). s.file) c.new-src.ensures.seen ∙ ap Some c.new.ensures in
     let sized = c.new-src.result.seen.sized file known in
     let its = c.resumed-cursor.ensures.its_table in
-    let at = ap (λ (t : Rows). t.at) its ∙ c.table-table.ensures.at in
-    let count = ap (λ (t : Rows). t.count) its ∙ c.table-table.ensures.count in
-    let entry = ap (λ (t : Rows). t.entry) its ∙ c.table-table.ensures.bytes in
+    let at = ap (λ (t : TableRange). t.at) its ∙ c.table-table.ensures.at in
+    let count = ap (λ (t : TableRange). t.count) its ∙ c.table-table.ensures.count in
+    let entry = ap (λ (t : TableRange). t.entry) its ∙ c.table-table.ensures.bytes in
     rw entry (omega (arith, some, sized, at, count))
 
 pub returns-in-Ok-Some : goal.returns-in-Ok-Some
@@ -53,8 +53,8 @@ returns-in-Ok-Some c =
     let first = sym before ∙ gives.first in
     let inside = visited_inside file records.at size records.left stand gives.met (versions_left file new) (ap (λ o. visited_from file records.at size o records.left) stood ∙ first) in
     let held = ap (λ (h : BufferedTable). h.table) c.advance-met.ensures.keeps.same_held ∙ resumed.its_table in
-    let at = ap (λ (t : Rows). t.at) held ∙ c.table-table.ensures.at in
-    let count = ap (λ (t : Rows). t.count) held ∙ c.table-table.ensures.count in
+    let at = ap (λ (t : TableRange). t.at) held ∙ c.table-table.ensures.at in
+    let count = ap (λ (t : TableRange). t.count) held ∙ c.table-table.ensures.count in
     let leads : option_map record_position_of new.standing ≡ next_position file records.at stand =
     rw (resumed.stands, resumed.its_table, c.table-table.ensures.at) at step.leads in
     let all = rw (count) at c.standing-in-Ok-Some.ensures.fits in

@@ -1,7 +1,7 @@
 -- The first segment of dynamic entries, and what these tell.
 use Rattle.std.proofs.Common.{ap, sym, ◌∙◌, arith}
 use Rattle.std.proofs.lemmas.Result.{err_from_is_err_and}
-use Rattle.elf_table.specs.Tables.{Rows}
+use Rattle.elf_table.specs.Tables.{TableRange}
 use Rattle.elf_table.proofs.LedgerLaws.{CallDid-as, CallDid-none, CallDid-stop}
 use Rattle.elf_hash.proofs.EntryLaws.{entries_are}
 use Rattle.elf_hash.proofs.FoundLaws.{asked_within, did_check, dynamic_is, dynamic_refused, index_is, read_finds, segment_finds, segments_none, size_within}
@@ -56,7 +56,7 @@ returns g c =
           let some = index_is file ∙ (sym (c.first_segment.ensures.first file views) ∙ c.in-Some.is) in
           let held = c.in_ok-table.ensures.held file views in
           let is = (dynamic_is file _ some _ held).1 in
-          let are = entries_are file _ c.in_ok-table.table _ (sym (ap (λ (t : Rows). t.at) is)) (sym (ap (λ (t : Rows). t.count) is)) listed in
+          let are = entries_are file _ c.in_ok-table.table _ (sym (ap (λ (t : TableRange). t.at) is)) (sym (ap (λ (t : TableRange). t.count) is)) listed in
           (costs _ (asked_within file _ some _ held), segment_finds file _ some _ held _ (c.by_entries.ensures.held file views are)));
       within = c.by_entries.ensures.within;
     }

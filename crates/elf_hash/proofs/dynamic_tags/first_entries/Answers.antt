@@ -3,7 +3,7 @@ use Rattle.std.proofs.Common.{◌≡◌, ℕ, List, Some, ap, ◌∙◌, arith, 
 use Rattle.elf_record.specs.Dyn.{IsDyn}
 use Rattle.elf_table.proofs.LedgerLaws.{CallDid-of}
 use Rattle.elf_table.specs.Cursors.{next_row, row_at}
-use Rattle.elf_table.specs.Tables.{Rows}
+use Rattle.elf_table.specs.Tables.{TableRange}
 use Rattle.elf_note.proofs.EntriesLeft.{given, ended}
 use Rattle.elf_note.proofs.EntriesLoop.{goes-fewer, goes-next, goes-place, goes-reads, goes-row, goes-start}
 use Rattle.elf_hash.proofs.EntryLaws.{each_end, each_step, takes_at}
@@ -21,7 +21,7 @@ entries-preserved g c =
     let at : ℕ = next_row l.cursor.cursor in
     let row = c.row-row.ensures in
     let index : c.row-row.result.index ≡ l.cursor.cursor.index = let x = row.its_index in let y = s.gives.next_index in omega arith in
-    let offset : c.row-row.result.at ≡ at = row.its_offset ∙ (ap (λ (t : Rows). row_at t c.row-row.result.index) s.gives.same_table ∙ ap (row_at l.cursor.cursor.table) index) in
+    let offset : c.row-row.result.at ≡ at = row.its_offset ∙ (ap (λ (t : TableRange). row_at t c.row-row.result.index) s.gives.same_table ∙ ap (row_at l.cursor.cursor.table) index) in
     let stands : (file : List ℕ) → c.args.src.now.seen.file ≡ Some file → IsDyn file at c.entry_in.result =
     λ file h. c.entry_in.ensures file at (row.its_bytes ∙ goes-row i.goes s file h c.requires.rows) in
     record {

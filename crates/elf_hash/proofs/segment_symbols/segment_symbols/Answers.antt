@@ -1,7 +1,7 @@
 -- The entries, the symbols, their strings, then the tables of versions.
 use Rattle.std.proofs.Common.{rules, ap, refl}
 use Rattle.std.proofs.lemmas.Result.{err_from_is_err_and}
-use Rattle.elf_table.specs.Tables.{Rows}
+use Rattle.elf_table.specs.Tables.{TableRange}
 use Rattle.elf_hash.proofs.LookupTableLaws.{names_told, strings_refuse, symbols_missing, symbols_refuse, symbols_settle, versions_refuse}
 use Rattle.elf_table.proofs.Absent.{none-of}
 use Rattle.elf_hash.proofs.SettleLaws.{finds, refuses}
@@ -46,4 +46,4 @@ returns c = finds _ (search rules) (λ bytes views at are.
     let row = c.rows_in.ensures in
     symbols_settle bytes at c.args.row c.args.found.now _ _ _ are told _ rest _ names c.args.segment _ c.in_ok-versions.versions
     (c.in_ok-versions.ensures.held bytes views at are (names_told bytes at c.args.row c.args.found.now _ _ _ are told _ rest _ names))
-    refl (ap (λ (t : Rows). t.at) row) (ap (λ (t : Rows). t.count) row) refl refl refl refl)
+    refl (ap (λ (t : TableRange). t.at) row) (ap (λ (t : TableRange). t.count) row) refl refl refl refl)

@@ -2,7 +2,7 @@
 use Rattle.std.proofs.Common.{rules, ap, refl}
 use Rattle.std.proofs.lemmas.Result.{err_from_is_err_and}
 use Rattle.elf_model.specs.Numbers.{DT_VERDEF, DT_VERNEED}
-use Rattle.elf_table.specs.Tables.{Rows}
+use Rattle.elf_table.specs.Tables.{TableRange}
 use Rattle.elf_table.proofs.Absent.{none-of}
 use Rattle.elf_hash.proofs.SegmentLaws.{definition_row_refused, need_row_refused, rows_none, rows_versions, words_row_refused}
 use Rattle.elf_hash.proofs.SettleLaws.{finds, refuses}
@@ -35,5 +35,5 @@ pub returns : goal.returns
 returns c = finds _ (search rules) (λ bytes views at are names.
     let row = c.rows_in.ensures in
     rows_versions bytes c.args.segment at c.words_entry.result _ (c.words_entry.ensures bytes at are) c.in-Some.is _ _ _ (c.in_ok-rest.ensures.value bytes views)
-    (ap (λ (t : Rows). t.at) row) (ap (λ (t : Rows). t.count) row) refl refl refl
+    (ap (λ (t : TableRange). t.at) row) (ap (λ (t : TableRange). t.count) row) refl refl refl
     (c.in_ok-definitions.ensures.held bytes views at DT_VERDEF are.verdef names) (c.in_ok-needs.ensures.held bytes views at DT_VERNEED are.verneed names))

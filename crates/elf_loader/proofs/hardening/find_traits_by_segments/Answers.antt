@@ -1,6 +1,6 @@
 -- The symbols that are known, the dynamic entries, the word of the features, and what the symbols tell.
 use Rattle.std.proofs.Common.{ℕ, ◌+◌, ◌*◌, Ok, ap, sym, ◌∙◌, arith}
-use Rattle.elf_model.specs.declared.traits.Traits.{Traits}
+use Rattle.elf_model.specs.declared.traits.Hardening.{Hardening}
 use Rattle.std.proofs.lemmas.Result.{err_from_is_err_and}
 use Rattle.elf_model.specs.TraitCost.{properties_asked, trait_entries_asked}
 use Rattle.elf_table.proofs.LedgerLaws.{CallReads-more, CallReads-then, CallDid-as, CallDid-then}
@@ -102,5 +102,5 @@ returns g c =
     let traits = c.traits_with.ensures file views entries.finds in
     record {
       costs = CallReads-then _ (omega (arith, symbols)) (CallReads-then (entries_asked file + counts_asked file + trait_entries_asked file + properties_asked file) (omega arith) (CallReads-then (entries_asked file + counts_asked file + trait_entries_asked file) (omega arith) known.costs entries.costs) word.costs) marks.costs;
-      finds = traits_are file scope.0 scope.1 _ word.finds _ marks.finds ∙ ap (λ (t : Traits). Ok t) (sym traits);
+      finds = traits_are file scope.0 scope.1 _ word.finds _ marks.finds ∙ ap (λ (t : Hardening). Ok t) (sym traits);
     })

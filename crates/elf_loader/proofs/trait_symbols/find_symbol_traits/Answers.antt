@@ -1,6 +1,6 @@
 -- No symbol but the first, or the rows of the others.
 use Rattle.std.proofs.Common.{◌≡◌, ℕ, ◌+◌, ◌-◌, ◌*◌, ◌<◌, Ok, sym, ap, ◌∙◌, arith}
-use Rattle.elf_table.specs.Tables.{Rows}
+use Rattle.elf_table.specs.Tables.{TableRange}
 use Rattle.elf_model.specs.Traits.{SymbolTraitFlags, marks_from, no_symbol_traits}
 use Rattle.elf_table.proofs.LedgerLaws.{CallDid-as, CallDid-none}
 use Rattle.elf_loader.proofs.MarkLaws.{marks_as, no_rows, rows_from}
@@ -19,8 +19,8 @@ symbol_traits_of_rows-requires-clause-within g c = rw c.rows_after_first-rows.en
 pub returns : goal.returns
 returns g c =
     let rows = c.rows_after_first-rows.ensures in
-    let count : c.rows_after_first-rows.result.count ≡ c.args.count - 1 = ap (λ (t : Rows). t.count) rows in
-    let at : c.rows_after_first-rows.result.at ≡ c.args.symbols.now.table.at + 24 = ap (λ (t : Rows). t.at) rows in
+    let count : c.rows_after_first-rows.result.count ≡ c.args.count - 1 = ap (λ (t : TableRange). t.count) rows in
+    let at : c.rows_after_first-rows.result.at ≡ c.args.symbols.now.table.at + 24 = ap (λ (t : TableRange). t.at) rows in
     let bytes = ap (λ (n : ℕ). n * 88) count in
     let some : 0 < c.args.symbols.now.table.count = omega (arith, c.if-count-lt2.false, c.requires.few) in
     CallDid-as _ (omega (arith, bytes)) c.symbol_traits_of_rows.ensures

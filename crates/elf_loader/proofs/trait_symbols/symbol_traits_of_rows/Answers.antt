@@ -5,7 +5,7 @@ use Rattle.elf_model.specs.Bytes.{slice}
 use Rattle.elf_source.proofs.ReadsLaws.{ReadsUpTo-none, ReadsUpTo-then, ReadsUpTo-to}
 use Rattle.elf_hash.proofs.ExtentLaws.{row_ended, row_given}
 use Rattle.elf_table.specs.Cursors.{next_row, row_at}
-use Rattle.elf_table.specs.Tables.{Rows, strings_in}
+use Rattle.elf_table.specs.Tables.{TableRange, strings_in}
 use Rattle.elf_loader.specs.Marks.{symbol_traits_of}
 use Rattle.elf_loader.proofs.MarkLaws.{at_is_read, mark_more, mark_none, mark_stops, read_symbol_traits}
 use Rattle.elf_table.proofs.CursorLaws.{agrees_none}
@@ -47,7 +47,7 @@ returns-in_err-marks g c =
     let old = c.symbols.cursor in
     let new = c.advance.new.self in
     let s = row_given c.symbols.src.seen.file old new c.in_ok-advance.field-0 c.if-branch.true a.steps in
-    let size : old.table.entry ≡ 24 = ap (λ (t : Rows). t.entry) i.same_table ∙ c.requires.entry in
+    let size : old.table.entry ≡ 24 = ap (λ (t : TableRange). t.entry) i.same_table ∙ c.requires.entry in
     let account = i.account in
     let more = a.account in
     let less = s.one_less in
@@ -60,7 +60,7 @@ returns-in_err-marks g c =
           let now = i.reads.keeps.same_file ∙ held in
           let later = a.reads.keeps.same_file ∙ now in
           let row = c.row.ensures in
-          let place : c.row.result.at ≡ next_row old = row.its_offset ∙ (ap (λ (t : Rows). row_at t c.row.result.index) s.same_table ∙ ap (row_at old.table) (omega (arith, row.its_index, s.next_index))) in
+          let place : c.row.result.at ≡ next_row old = row.its_offset ∙ (ap (λ (t : TableRange). row_at t c.row.result.index) s.same_table ∙ ap (row_at old.table) (omega (arith, row.its_index, s.next_index))) in
           let bytes = row.its_bytes ∙ s.exact file now (i.agrees file held) ∙ ap (slice file (next_row old)) size ∙ ap (λ (n : ℕ). slice file n 24) (sym place) in
           let tells = w.tells file later (i.held file held) bytes in
           mark_stops file (strings_in file c.args.names) (next_row old) new.left old.left c.symbols.marks (omega (arith, less)) _ (i.left file held) c.row.result.at place _ tells;
@@ -73,7 +73,7 @@ symbols-preserved g c =
     let old = c.symbols.cursor in
     let new = c.advance.new.self in
     let s = row_given c.symbols.src.seen.file old new c.in_ok-advance.field-0 c.if-branch.true a.steps in
-    let size : old.table.entry ≡ 24 = ap (λ (t : Rows). t.entry) i.same_table ∙ c.requires.entry in
+    let size : old.table.entry ≡ 24 = ap (λ (t : TableRange). t.entry) i.same_table ∙ c.requires.entry in
     let account = i.account in
     let more = a.account in
     let less = s.one_less in
@@ -91,7 +91,7 @@ symbols-preserved g c =
           let now = i.reads.keeps.same_file ∙ held in
           let later = a.reads.keeps.same_file ∙ now in
           let row = c.row.ensures in
-          let place : c.row.result.at ≡ next_row old = row.its_offset ∙ (ap (λ (t : Rows). row_at t c.row.result.index) s.same_table ∙ ap (row_at old.table) (omega (arith, row.its_index, s.next_index))) in
+          let place : c.row.result.at ≡ next_row old = row.its_offset ∙ (ap (λ (t : TableRange). row_at t c.row.result.index) s.same_table ∙ ap (row_at old.table) (omega (arith, row.its_index, s.next_index))) in
           let bytes = row.its_bytes ∙ s.exact file now (i.agrees file held) ∙ ap (slice file (next_row old)) size ∙ ap (λ (n : ℕ). slice file n 24) (sym place) in
           let tells = w.tells file later (i.held file held) bytes in
           let next = next_is _ old new s size in

@@ -1,7 +1,7 @@
 -- The first segment of dynamic entries, and what these tell.
 use Rattle.std.proofs.Common.{ap, sym, ◌∙◌, arith}
 use Rattle.std.proofs.lemmas.Result.{err_from_is_err_and}
-use Rattle.elf_table.specs.Tables.{Rows}
+use Rattle.elf_table.specs.Tables.{TableRange}
 use Rattle.elf_table.proofs.LedgerLaws.{CallDid-as, CallDid-none, CallDid-stop}
 use Rattle.elf_hash.proofs.FoundLaws.{dynamic_is, index_is, size_within}
 use Rattle.elf_table.proofs.Absent.{none-of}
@@ -38,5 +38,5 @@ returns g c =
     let is = (dynamic_is file _ some _ held).1 in
     record {
       costs = costs _ (entries_within file _ some _ held);
-      finds = listed_finds file _ some c.in_ok-table.table (sym (ap (λ (t : Rows). t.at) is)) (sym (ap (λ (t : Rows). t.count) is)) _ listed;
+      finds = listed_finds file _ some c.in_ok-table.table (sym (ap (λ (t : TableRange). t.at) is)) (sym (ap (λ (t : TableRange). t.count) is)) _ listed;
     })

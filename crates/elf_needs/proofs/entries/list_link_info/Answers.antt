@@ -6,7 +6,7 @@ use Rattle.elf_source.proofs.ReadsLaws.{ReadsUpTo-none, ReadsUpTo-then, ReadsUpT
 use Rattle.elf_note.proofs.EntriesLeft.{ended, given, next-place}
 use Rattle.elf_table.proofs.CursorLaws.{agrees_none}
 use Rattle.elf_table.specs.Cursors.{next_row, row_at}
-use Rattle.elf_table.specs.Tables.{Rows, size_of}
+use Rattle.elf_table.specs.Tables.{TableRange, size_of}
 use Rattle.elf_needs.proofs.LoopLaws.{account_next, account_start, at_is_read, charges_after, link_more, link_stops, links_end, links_start, read_links_stop}
 use Rattle.elf_needs.proofs.entries.list_link_info.Goals as goal
 
@@ -53,7 +53,7 @@ returns-in_err-links g c =
     let old = c.entries.cursor in
     let new = c.advance.new.self in
     let s = given c.entries.src.seen.file old new c.in_ok-advance.field-0 c.if-branch.true a.steps in
-    let size : old.cursor.table.entry ≡ 16 = ap (λ (t : Rows). t.entry) i.same_table ∙ c.requires.rows in
+    let size : old.cursor.table.entry ≡ 16 = ap (λ (t : TableRange). t.entry) i.same_table ∙ c.requires.rows in
     let account = i.account in
     let more = a.keeps.account in
     let less = s.gives.one_less in
@@ -66,7 +66,7 @@ returns-in_err-links g c =
           let now = i.reads.keeps.same_file ∙ held in
           let later = a.asks.reads.keeps.same_file ∙ now in
           let row = c.row-row.ensures in
-          let place : c.row-row.result.at ≡ next_row old.cursor = row.its_offset ∙ (ap (λ (t : Rows). row_at t c.row-row.result.index) s.gives.same_table ∙ ap (row_at old.cursor.table) (omega (arith, row.its_index, s.gives.next_index))) in
+          let place : c.row-row.result.at ≡ next_row old.cursor = row.its_offset ∙ (ap (λ (t : TableRange). row_at t c.row-row.result.index) s.gives.same_table ∙ ap (row_at old.cursor.table) (omega (arith, row.its_index, s.gives.next_index))) in
           let bytes = row.its_bytes ∙ s.gives.exact file now (i.agrees file held) ∙ ap (slice file (next_row old.cursor)) size ∙ ap (λ (n : ℕ). slice file n 16) (sym place) in
           let dyn = c.entry_in-entry.ensures file c.row-row.result.at bytes in
           let l = i.left file held views in
@@ -80,7 +80,7 @@ entries-preserved g c =
     let old = c.entries.cursor in
     let new = c.advance.new.self in
     let s = given c.entries.src.seen.file old new c.in_ok-advance.field-0 c.if-branch.true a.steps in
-    let size : old.cursor.table.entry ≡ 16 = ap (λ (t : Rows). t.entry) i.same_table ∙ c.requires.rows in
+    let size : old.cursor.table.entry ≡ 16 = ap (λ (t : TableRange). t.entry) i.same_table ∙ c.requires.rows in
     let w = c.in_ok-links.ensures in
     let spent = w.costs.reads.at_most in
     let all = account_next _ _ _ _ _ _ _ _ s.gives.one_less a.keeps.account spent i.account in
@@ -94,7 +94,7 @@ entries-preserved g c =
           let now = i.reads.keeps.same_file ∙ held in
           let later = a.asks.reads.keeps.same_file ∙ now in
           let row = c.row-row.ensures in
-          let place : c.row-row.result.at ≡ next_row old.cursor = row.its_offset ∙ (ap (λ (t : Rows). row_at t c.row-row.result.index) s.gives.same_table ∙ ap (row_at old.cursor.table) (omega (arith, row.its_index, s.gives.next_index))) in
+          let place : c.row-row.result.at ≡ next_row old.cursor = row.its_offset ∙ (ap (λ (t : TableRange). row_at t c.row-row.result.index) s.gives.same_table ∙ ap (row_at old.cursor.table) (omega (arith, row.its_index, s.gives.next_index))) in
           let bytes = row.its_bytes ∙ s.gives.exact file now (i.agrees file held) ∙ ap (slice file (next_row old.cursor)) size ∙ ap (λ (n : ℕ). slice file n 16) (sym place) in
           let dyn = c.entry_in-entry.ensures file c.row-row.result.at bytes in
           let next = next-place c.entries.src.seen.file old.cursor new.cursor s.gives size in

@@ -3,7 +3,7 @@ use Rattle.std.proofs.Common.{◌≡◌, ℕ, ◌+◌, ap, sym, ◌∙◌, arith
 use Rattle.std.proofs.lemmas.Result.{err_from_is_err_and}
 use Rattle.elf_table.specs.declared.fault.Fault.TheVariants.{Refused}
 use Rattle.elf_table.proofs.LedgerLaws.{CallDid-as, CallDid-stop, CallDid-then}
-use Rattle.elf_table.specs.Tables.{Rows}
+use Rattle.elf_table.specs.Tables.{TableRange}
 use Rattle.elf_note.specs.Reading.{record_position_of}
 use Rattle.elf_table.proofs.Absent.{none-of}
 use Rattle.elf_note.proofs.WordLaws.{asks-words, asks-name, distance-inside, read-fails, record-checked}
@@ -13,8 +13,8 @@ pub returns-in-Some-clause-did : goal.returns-in-Some-clause-did
 returns-in-Some-clause-did g c =
     let h = c.args.held.now in
     let s = c.args.stand.now in
-    let at : c.at.result + s.place ≡ h.table.at + s.place = ap (λ (x : ℕ). x + s.place) (c.at.ensures ∙ ap (λ (t : Rows). t.at) c.table-table.ensures.is) in
-    let size : c.len.result ≡ h.table.count = c.len.ensures ∙ ap (λ (t : Rows). t.count) c.table-table.ensures.is in
+    let at : c.at.result + s.place ≡ h.table.at + s.place = ap (λ (x : ℕ). x + s.place) (c.at.ensures ∙ ap (λ (t : TableRange). t.at) c.table-table.ensures.is) in
+    let size : c.len.result ≡ h.table.count = c.len.ensures ∙ ap (λ (t : TableRange). t.count) c.table-table.ensures.is in
     let passes = rw c.in-Some.is at c.refused_words.ensures.passes in
     let checked = rw (at, size) at c.refused_words.ensures.is in
     CallDid-as _ (asks-words h s.kind) (CallDid-stop (Refused c.in-Some.refusal) passes c.in_ok-words.ensures.did)
@@ -26,8 +26,8 @@ given-requires g c =
     let h = c.args.held.now in
     let s = c.args.stand.now in
     let aux = c.in_ok-words.words.aux in
-    let at : c.at.result ≡ h.table.at = c.at.ensures ∙ ap (λ (t : Rows). t.at) c.table-table.ensures.is in
-    let size : c.len.result ≡ h.table.count = c.len.ensures ∙ ap (λ (t : Rows). t.count) c.table-table.ensures.is in
+    let at : c.at.result ≡ h.table.at = c.at.ensures ∙ ap (λ (t : TableRange). t.at) c.table-table.ensures.is in
+    let size : c.len.result ≡ h.table.count = c.len.ensures ∙ ap (λ (t : TableRange). t.count) c.table-table.ensures.is in
     let passes = rw (none-of c.refused_words.result c.in_default.not-Some) at c.refused_words.ensures.passes in
     let inside = passes.ends in
     omega (arith, at, size, inside, distance-inside s.kind aux, c.table-table.ensures.ends)
@@ -37,9 +37,9 @@ returns-clause-did g c =
     let h = c.args.held.now in
     let s = c.args.stand.now in
     let words = c.in_ok-words.words in
-    let at : c.at.result + s.place ≡ h.table.at + s.place = ap (λ (x : ℕ). x + s.place) (c.at.ensures ∙ ap (λ (t : Rows). t.at) c.table-table.ensures.is) in
-    let size : c.len.result ≡ h.table.count = c.len.ensures ∙ ap (λ (t : Rows). t.count) c.table-table.ensures.is in
-    let same : c.at-2.result ≡ h.table.at = c.at-2.ensures ∙ ap (λ (t : Rows). t.at) c.table-table.ensures.is in
+    let at : c.at.result + s.place ≡ h.table.at + s.place = ap (λ (x : ℕ). x + s.place) (c.at.ensures ∙ ap (λ (t : TableRange). t.at) c.table-table.ensures.is) in
+    let size : c.len.result ≡ h.table.count = c.len.ensures ∙ ap (λ (t : TableRange). t.count) c.table-table.ensures.is in
+    let same : c.at-2.result ≡ h.table.at = c.at-2.ensures ∙ ap (λ (t : TableRange). t.at) c.table-table.ensures.is in
     let checked = rw (at, size) at c.refused_words.ensures.is in
     let passes = none-of c.refused_words.result c.in_default.not-Some in
     let leads = rw same at c.behind.ensures.leads in
@@ -91,13 +91,13 @@ returns-in_err-name g c =
 pub read_name-requires : goal.read_name-requires
 read_name-requires g c =
     let h = c.args.held.now in
-    let size : c.len.result ≡ h.table.count = c.len.ensures ∙ ap (λ (t : Rows). t.count) c.table-table.ensures.is in
+    let size : c.len.result ≡ h.table.count = c.len.ensures ∙ ap (λ (t : TableRange). t.count) c.table-table.ensures.is in
     let passes = rw (none-of c.refused_words.result c.in_default.not-Some) at c.refused_words.ensures.passes in
     let same = c.in_ok-words.ensures.did.costs.reads.keeps.same_size in
     record { within = rw same c.requires.has.within; inside = rw size at passes.ends; low = c.requires.has.low }
 
 pub behind-requires : goal.behind-requires
 behind-requires g c =
-    let at : c.at-2.result ≡ c.args.held.now.table.at = c.at-2.ensures ∙ ap (λ (t : Rows). t.at) c.table-table.ensures.is in
+    let at : c.at-2.result ≡ c.args.held.now.table.at = c.at-2.ensures ∙ ap (λ (t : TableRange). t.at) c.table-table.ensures.is in
     let ends = c.table-table.ensures.ends in
     (omega (arith, at, ends, c.requires.has.inside), omega (arith, at, ends, c.requires.owner))

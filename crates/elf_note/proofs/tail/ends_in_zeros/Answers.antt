@@ -3,10 +3,10 @@ use Rattle.elf_table.proofs.FaultLaws.{of-read}
 use Rattle.elf_table.proofs.ThroughLaws.{through_err, through_ok, through_skip}
 use Rattle.elf_note.proofs.tail.ends_in_zeros.Goals as goal
 
-pub returns-in_err-bring : goal.returns-in_err-bring
-returns-in_err-bring g c =
+pub returns-in_err-fill_buf : goal.returns-in_err-fill_buf
+returns-in_err-fill_buf g c =
     let p = err_from_is_err_and c.from_residual.result c.from_residual.ensures.1 in
-    let e = c.in_err-bring.ensures in
+    let e = c.in_err-fill_buf.ensures in
     rw (p.1, p.2)
     (record {
       reads = record { went = through_err e.went; fault = of-read _ _ e.brings.1 };
@@ -16,6 +16,6 @@ returns-in_err-bring g c =
 
 pub returns-clause-reads : goal.returns-clause-reads
 returns-clause-reads g c =
-    let e = c.in_ok-bring.ensures in
+    let e = c.in_ok-fill_buf.ensures in
     let s = c.skip.ensures in
     record { went = through_skip (through_ok _ e.went) s; fault = tt }

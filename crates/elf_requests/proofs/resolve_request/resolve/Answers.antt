@@ -1,6 +1,6 @@
 -- What the lookup gives is the answer, or the budget ends it.
 use Rattle.std.proofs.Common.{rules, ◌≡◌, ℕ, List, Ok, Err, sym, ap, subst}
-use Rattle.elf_model.specs.Loader.{Asked, Wanted, parse_query}
+use Rattle.elf_model.specs.Loader.{VersionQuery, SymbolQuery, parse_query}
 use Rattle.elf_model.specs.LoaderAnswer.{loader_answer}
 use Rattle.elf_model.specs.LoaderFind.{loader_ceiling, loader_cost, loader_looked}
 use Rattle.elf_model.specs.Style.{looked_at}
@@ -25,9 +25,9 @@ returns-in-Ok-clause-runs g c =
     let finds = did.known file held in
     let viewed = looked_at c.args.style.by_segments file in
     let is = resolve_is c.args.style.format viewed limits.headers wanted in
-    let name = ap (λ (w : Wanted). w.name) c.parse_query-wanted.ensures in
-    let asked = ap (λ (w : Wanted). w.asked) c.parse_query-wanted.ensures in
-    let answers = subst (λ (a : Asked). AnswersLoaderLookup viewed a c.look_up-found.new.name (loader_looked viewed limits.headers wanted) c.in-Ok.lookup) (sym asked) finds.tells in
+    let name = ap (λ (w : SymbolQuery). w.name) c.parse_query-wanted.ensures in
+    let asked = ap (λ (w : SymbolQuery). w.asked) c.parse_query-wanted.ensures in
+    let answers = subst (λ (a : VersionQuery). AnswersLoaderLookup viewed a c.look_up-found.new.name (loader_looked viewed limits.headers wanted) c.in-Ok.lookup) (sym asked) finds.tells in
     let wrote = c.show_resolved.ensures.text viewed (loader_looked viewed limits.headers wanted) answers in (
       finds.costs,
       rw is (

@@ -8,20 +8,20 @@ use Rattle.elf_model.specs.LineFronts.{dynamic_prefix}
 use Rattle.elf_listing.specs.Strings.{strings_reported, string_told}
 use Rattle.elf_listing.proofs.RowLaws.{WroteSome-as}
 use Rattle.elf_listing.proofs.StringsTold.{entry_is, reported_row, told_shown, WroteUntilStop-told}
-use Rattle.elf_listing.proofs.ListsLaws.{Lists-named, Lists-unread}
+use Rattle.elf_listing.proofs.ListsLaws.{ListingCalls-named, ListingCalls-unread}
 use Rattle.elf_listing.proofs.listing.Listing.dynamic_row.Goals as goal
 
 pub returns-in_err-end : goal.returns-in_err-end
 returns-in_err-end g c =
     let p = err_from_is_err_and c.from_residual.result c.from_residual.ensures.1 in
-    rw (p.1, p.2) (Lists-unread _ _ _ _ _ _ (omega arith) c.in_err-end.ensures.fetches (λ file held at of_kind row.
+    rw (p.1, p.2) (ListingCalls-unread _ _ _ _ _ _ (omega arith) c.in_err-end.ensures.fetches (λ file held at of_kind row.
     let decoded = c.decode-entry.ensures.stands file c.args.row.now.at (c.whole.ensures ∙ row.bytes) in
     let here : c.args.row.now.at ≡ dynamic_at at c.args.row.now.index = omega (arith, row.here) in
     rw (entry_is file (dynamic_prefix c.args.self.now.style.format c.args.self.now.style.gnu file c.args.row.now.at c.args.row.now.index) (style_of c.args.self.now.style) c.args.row.now.at c.args.row.now.index (dynamic_at at c.args.row.now.index) (strings_reported c.args.strings.now file) refl here, c.in_err-end.ensures.fetches.1)
     (WroteUntilStop-told _ _ c.args.row.now.at _ c.read_string.new.self.name _ (c.in_err-end.ensures.read file held of_kind decoded))))
 
 pub returns : goal.returns
-returns g c = Lists-named _ _ _ _ _ _ _ _ (omega arith) c.in_ok-end.ensures.fetches c.named_line.ensures (λ file held at of_kind row.
+returns g c = ListingCalls-named _ _ _ _ _ _ _ _ (omega arith) c.in_ok-end.ensures.fetches c.named_line.ensures (λ file held at of_kind row.
     let decoded = c.decode-entry.ensures.stands file c.args.row.now.at (c.whole.ensures ∙ row.bytes) in
     let here : c.args.row.now.at ≡ dynamic_at at c.args.row.now.index = omega (arith, row.here) in
     let read = told_shown c.args.row.now.at _ _ (string_told (strings_reported c.args.strings.now file) file c.args.self.now.style.cap.bytes c.args.row.now.at) (c.in_ok-end.ensures.read file held of_kind decoded) in

@@ -3,27 +3,27 @@ use Rattle.elf_options.specs.Permitted.{style_of}
 use Rattle.std.proofs.Common.{◌≡◌, ℕ, List, refl, arith}
 use Rattle.std.proofs.lemmas.Result.{err_from_is_err_and}
 use Rattle.elf_model.specs.Listing.{ListingItem}
-use Rattle.elf_options.specs.declared.caps.Style.{Style}
-use Rattle.elf_table.specs.declared.file.File.{File}
+use Rattle.elf_options.specs.declared.caps.ListingStyle.{ListingStyle}
+use Rattle.elf_table.specs.declared.file.SectionView.{SectionView}
 use Rattle.elf_listing.specs.Parts.{listed_by}
 use Rattle.elf_listing.specs.declared.parts.Part.{Part}
-use Rattle.elf_listing.proofs.ListsLaws.{Lists-nothing}
+use Rattle.elf_listing.proofs.ListsLaws.{ListingCalls-nothing}
 use Rattle.elf_listing.proofs.LoopLaws.{rows_none}
 use Rattle.elf_listing.proofs.PartsLaws.{headers_stopped, headers_then}
 use Rattle.elf_listing.proofs.listing.Listing.headers.Goals as goal
 
 -- what a header asks for, and its items
-abbrev costs : Part → File → Style → ℕ → ℕ
+abbrev costs : Part → SectionView → ListingStyle → ℕ → ℕ
 costs part f style = (listed_by part).cost f.loaded f.store.now style.cap.bytes
 
-abbrev shown : Part → Style → List ℕ → ℕ → List ListingItem
+abbrev shown : Part → ListingStyle → List ℕ → ℕ → List ListingItem
 shown part style file i = (listed_by part).items file (style_of style) i
 
 pub headers-init : goal.headers-init
 headers-init g c = record {
   counted = c.header_count-count.ensures;
   below = omega arith;
-  so_far = Lists-nothing _ _ _ _ (λ file held. rows_none _ _ _ refl);
+  so_far = ListingCalls-nothing _ _ _ _ (λ file held. rows_none _ _ _ refl);
 }
 
 pub returns-in_err-header : goal.returns-in_err-header

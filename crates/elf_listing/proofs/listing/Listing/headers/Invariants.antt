@@ -4,7 +4,7 @@ use Rattle.std.proofs.Common.{◌≡◌, ℕ, ◌-◌, ◌≤◌, List, Ok}
 use Rattle.elf_model.specs.Cost.{sum_over}
 use Rattle.elf_model.specs.Listing.{each}
 use Rattle.elf_listing.specs.Parts.{listed_by}
-use Rattle.elf_listing.specs.Shows.{Lists, ListingWrote}
+use Rattle.elf_listing.specs.Shows.{ListingCalls, ListingWrote}
 use Rattle.elf_listing.proofs.listing.Listing.headers.Given as goal
 
 abbrev pub invariant-headers : goal.invariant-headers
@@ -14,7 +14,7 @@ invariant-headers g l =
     record {
       counted : l.count ≡ (listed_by l.part).count f.store.now;
       below : l.index ≤ l.count;
-      so_far : Lists {X = Unit {0}} l.fn.self l.self (Ok tt) (sum_over ((listed_by l.part).cost f.loaded f.store.now cap) 0 l.index)
+      so_far : ListingCalls {X = Unit {0}} l.fn.self l.self (Ok tt) (sum_over ((listed_by l.part).cost f.loaded f.store.now cap) 0 l.index)
           (ListingWrote {X = Unit {0}} l.fn.self l.self (Ok tt) (λ file. each ((listed_by l.part).items file (style_of l.fn.self.style)) 0 l.index));
     }
 

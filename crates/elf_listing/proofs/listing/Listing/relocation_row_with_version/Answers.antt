@@ -10,7 +10,7 @@ use Rattle.elf_table.specs.declared.names.NameEnd.{NameEnd}
 use Rattle.elf_table.specs.declared.names.NameEnd.TheVariants.{Whole}
 use Rattle.elf_listing.specs.Suffixed.{suffix_read}
 use Rattle.elf_listing.proofs.RowLaws.{WroteSome-as, chosen-as}
-use Rattle.elf_listing.proofs.ListsLaws.{Lists-hidden, Lists-named, Lists-unread}
+use Rattle.elf_listing.proofs.ListsLaws.{ListingCalls-hidden, ListingCalls-named, ListingCalls-unread}
 use Rattle.elf_listing.proofs.ShowLaws.{Whole-none}
 use Rattle.elf_listing.proofs.SuffixShown.{ListingReads-then, WroteUntilStop-suffix, WroteUntilStop-unnamed, suffixed-hidden, suffixed-shown, suffixed_relocation_is}
 use Rattle.elf_listing.proofs.listing.Listing.relocation_row_with_version.Goals as goal
@@ -18,7 +18,7 @@ use Rattle.elf_listing.proofs.listing.Listing.relocation_row_with_version.Goals 
 pub returns-in_err-read : goal.returns-in_err-read
 returns-in_err-read g c =
     let p = err_from_is_err_and c.from_residual.result c.from_residual.ensures.1 in
-    rw (p.1, p.2) (Lists-unread _ _ _ _ _ _ (omega arith) c.in_err-read.ensures.fetches (λ file held at_of of_kind row.
+    rw (p.1, p.2) (ListingCalls-unread _ _ _ _ _ _ (omega arith) c.in_err-read.ensures.fetches (λ file held at_of of_kind row.
     let at = section_at file c.args.section in
     let decoded = c.decode-entry.ensures.stands file c.args.row.now.at (c.whole.ensures ∙ row.bytes) in
     let here : c.args.row.now.at ≡ sh_offset file at + c.args.row.now.index * 24 = omega (arith, of_kind.1, row.here) in
@@ -33,7 +33,7 @@ returns-in_err-suffix g c =
     let same = first.0.same_style in
     let cap = c.args.self.now.style.cap.bytes in
     let both = ListingReads-then {X = NameEnd} _ _ _ c.in_ok-read.read (Err c.in_err-suffix.field-0.0) _ _ (24 + name_bytes cap + (2 + name_bytes cap)) (rw same (omega arith)) first c.in_err-suffix.ensures.fetches in
-    rw (p.1, p.2) (Lists-unread _ _ _ _ _ _ (omega arith) both (λ file held at_of of_kind row.
+    rw (p.1, p.2) (ListingCalls-unread _ _ _ _ _ _ (omega arith) both (λ file held at_of of_kind row.
     let at = section_at file c.args.section in
     let decoded = c.decode-entry.ensures.stands file c.args.row.now.at (c.whole.ensures ∙ row.bytes) in
     let here : c.args.row.now.at ≡ sh_offset file at + c.args.row.now.index * 24 = omega (arith, of_kind.1, row.here) in
@@ -50,7 +50,7 @@ returns-then-not-is_versioned_row_shown g c =
     let same = first.0.same_style in
     let cap = c.args.self.now.style.cap.bytes in
     let both = ListingReads-then {X = NameEnd} _ _ _ c.in_ok-read.read (Ok Whole) _ _ (24 + name_bytes cap + (2 + name_bytes cap)) (rw same (omega arith)) first c.in_ok-suffix.ensures.fetches in
-    Lists-hidden _ _ _ _ _ _ (omega arith) both (λ file held at_of of_kind row.
+    ListingCalls-hidden _ _ _ _ _ _ (omega arith) both (λ file held at_of of_kind row.
     let at = section_at file c.args.section in
     let decoded = c.decode-entry.ensures.stands file c.args.row.now.at (c.whole.ensures ∙ row.bytes) in
     let here : c.args.row.now.at ≡ sh_offset file at + c.args.row.now.index * 24 = omega (arith, of_kind.1, row.here) in
@@ -71,7 +71,7 @@ returns g c =
     let same = first.0.same_style in
     let cap = c.args.self.now.style.cap.bytes in
     let both = ListingReads-then {X = NameEnd} _ _ _ c.in_ok-read.read (Ok Whole) _ _ (24 + name_bytes cap + (2 + name_bytes cap)) (rw same (omega arith)) first c.in_ok-suffix.ensures.fetches in
-    Lists-named _ _ _ _ _ _ _ _ (omega arith) both c.suffixed_line.ensures (λ file held at_of of_kind row.
+    ListingCalls-named _ _ _ _ _ _ _ _ (omega arith) both c.suffixed_line.ensures (λ file held at_of of_kind row.
     let at = section_at file c.args.section in
     let decoded = c.decode-entry.ensures.stands file c.args.row.now.at (c.whole.ensures ∙ row.bytes) in
     let here : c.args.row.now.at ≡ sh_offset file at + c.args.row.now.index * 24 = omega (arith, of_kind.1, row.here) in

@@ -12,12 +12,12 @@ use Rattle.elf_table.specs.Store.{row}
 use Rattle.elf_listing.proofs.RowLaws.{WroteSome-as}
 use Rattle.elf_listing.proofs.SectionCosts.{section_within}
 use Rattle.elf_listing.proofs.SectionShown.{no_table, table_fails, table_passes}
-use Rattle.elf_listing.proofs.ListsLaws.{Lists-nothing, Lists-refused, Lists-within}
+use Rattle.elf_listing.proofs.ListsLaws.{ListingCalls-nothing, ListingCalls-refused, ListingCalls-within}
 use Rattle.elf_listing.proofs.listing.Listing.relocations.Goals as goal
 
 pub returns-then-section-ne-SHT_RELA : goal.returns-then-section-ne-SHT_RELA
 unfolding relocations
-returns-then-section-ne-SHT_RELA g c = Lists-nothing _ _ _ _ (λ file held.
+returns-then-section-ne-SHT_RELA g c = ListingCalls-nothing _ _ _ _ (λ file held.
     let stands = c.section.ensures.stands file (c.args.self.now.loaded.belongs file held) in
     no_table relocations file _ _ _ _ (ne_eqb _ _ (λ same. c.if-section-ne-SHT_RELA.true (stands.sh_type ∙ same))))
 
@@ -25,7 +25,7 @@ pub returns-in_err-found : goal.returns-in_err-found
 unfolding relocations
 returns-in_err-found g c =
     let p = err_from_is_err_and c.from_residual.result c.from_residual.ensures.1 in
-    rw (p.1, p.2) (Lists-refused _ _ _ _ (search rules) (λ file held.
+    rw (p.1, p.2) (ListingCalls-refused _ _ _ _ (search rules) (λ file held.
     let belongs = c.args.self.now.loaded.belongs file held in
     let kind = sym (c.section.ensures.stands file belongs).sh_type ∙ c.if-section-ne-SHT_RELA.false in
     table_fails relocations file _ _ _ (eq-eqb _ _ kind) _ _ (c.in_err-found.ensures.held file belongs)))
@@ -37,7 +37,7 @@ returns g c =
     let cap = c.args.self.now.style.cap.bytes in
     let style = style_of c.args.self.now.style in
     let kind = sym c.section.ensures.fields.sh_type ∙ c.if-section-ne-SHT_RELA.false in
-    Lists-within _ _ _ _ _ _ _ (section_within relocations f.store.now c.args.section f.loaded.size _ cap 24 _ _ (eq-eqb _ _ kind) refl refl c.in_ok-found.ensures.table) c.rows.ensures (λ file held.
+    ListingCalls-within _ _ _ _ _ _ _ (section_within relocations f.store.now c.args.section f.loaded.size _ cap 24 _ _ (eq-eqb _ _ kind) refl refl c.in_ok-found.ensures.table) c.rows.ensures (λ file held.
     let belongs = c.args.self.now.loaded.belongs file held in
     let at = section_at file c.args.section in
     let kind = sym (c.section.ensures.stands file belongs).sh_type ∙ c.if-section-ne-SHT_RELA.false in

@@ -10,16 +10,16 @@ use Rattle.elf_model.specs.TableKinds.{relocations, relocations_with_versions}
 use Rattle.elf_listing.specs.Parts.{store_sections}
 use Rattle.elf_listing.specs.Suffixed.{linked_count, suffix_bytes, walks_asked}
 use Rattle.elf_listing.specs.declared.suffixes.VersionLookup.{VersionLookup}
-use Rattle.elf_listing.proofs.ListsLaws.{Lists-nothing, Lists-refused, Lists-unread}
+use Rattle.elf_listing.proofs.ListsLaws.{ListingCalls-nothing, ListingCalls-refused, ListingCalls-unread}
 use Rattle.elf_listing.proofs.RowLaws.{WroteSome-as}
 use Rattle.elf_listing.proofs.SectionShown.{no_table, table_fails}
 use Rattle.elf_listing.proofs.SuffixCosts.{plain_within, rows_within, suffixed_within, walks_fewer, walks_within}
-use Rattle.elf_listing.proofs.SuffixTables.{Lists-behind, entries_plain, entries_refused, entries_shown, linked_found, no_entries}
+use Rattle.elf_listing.proofs.SuffixTables.{ListingCalls-behind, entries_plain, entries_refused, entries_shown, linked_found, no_entries}
 use Rattle.elf_listing.proofs.listing.Listing.relocations_with_versions.Goals as goal
 
 pub returns-then-header-ne-SHT_RELA : goal.returns-then-header-ne-SHT_RELA
 unfolding relocations_with_versions
-returns-then-header-ne-SHT_RELA g c = Lists-nothing _ _ _ _ (λ file held.
+returns-then-header-ne-SHT_RELA g c = ListingCalls-nothing _ _ _ _ (λ file held.
     let stands = c.section-header.ensures.stands file (c.args.self.now.loaded.belongs file held) in
     no_table relocations_with_versions file _ _ _ _ (ne_eqb _ _ (λ same. c.if-header-ne-SHT_RELA.true (stands.sh_type ∙ same))))
 
@@ -27,13 +27,13 @@ pub returns-in_err-entries : goal.returns-in_err-entries
 unfolding relocations_with_versions
 returns-in_err-entries g c =
     let p = err_from_is_err_and c.from_residual.result c.from_residual.ensures.1 in
-    rw (p.1, p.2) (Lists-refused _ _ _ _ (search rules) (λ file held.
+    rw (p.1, p.2) (ListingCalls-refused _ _ _ _ (search rules) (λ file held.
     let belongs = c.args.self.now.loaded.belongs file held in
     let kind = sym (c.section-header.ensures.stands file belongs).sh_type ∙ c.if-header-ne-SHT_RELA.false in
     table_fails relocations_with_versions file _ _ _ (eq-eqb _ _ kind) _ _ (c.in_err-entries.ensures.held file belongs)))
 
 pub returns-then-is_empty : goal.returns-then-is_empty
-returns-then-is_empty g c = Lists-nothing _ _ _ _ (λ file held.
+returns-then-is_empty g c = ListingCalls-nothing _ _ _ _ (λ file held.
     let belongs = c.args.self.now.loaded.belongs file held in
     let kind = sym (c.section-header.ensures.stands file belongs).sh_type ∙ c.if-header-ne-SHT_RELA.false in
     let none = c.is_empty.ensures.0 c.if-is_empty.true in
@@ -53,7 +53,7 @@ returns-in_err-found g c =
     let within = suffixed_within relocations_with_versions f.store.now c.args.section (sh_link (row f.store.now c.args.section) 0) f.loaded.size _ cap 24 (24 + (24 + name_bytes cap)) _ (eq-eqb _ _ kind) refl refl c.in_ok-entries.ensures.table in
     let fetches = rw link at c.in_err-found.ensures.fetches in
     let fewer = walks_fewer headers (sh_link (row f.store.now c.args.section) 0) (linked_count c.in_ok-entries.entries.1) count f.loaded.size some in
-    rw (p.1, p.2) (Lists-unread _ _ _ _ _ _ (walks_within headers (sh_link (row f.store.now c.args.section) 0) f.loaded.size cap 24 (24 + name_bytes cap) (linked_count c.in_ok-entries.entries.1) count _ fewer within) fetches (λ file held.
+    rw (p.1, p.2) (ListingCalls-unread _ _ _ _ _ _ (walks_within headers (sh_link (row f.store.now c.args.section) 0) f.loaded.size cap 24 (24 + name_bytes cap) (linked_count c.in_ok-entries.entries.1) count _ fewer within) fetches (λ file held.
     let belongs = c.args.self.now.loaded.belongs file held in
     let stands = c.section-header.ensures.stands file belongs in
     let kind = sym stands.sh_type ∙ c.if-header-ne-SHT_RELA.false in
@@ -74,7 +74,7 @@ returns-in-None g c =
     let within = suffixed_within relocations_with_versions f.store.now c.args.section (sh_link (row f.store.now c.args.section) 0) f.loaded.size _ cap 24 (24 + (24 + name_bytes cap)) _ (eq-eqb _ _ kind) refl refl c.in_ok-entries.ensures.table in
     let fetches = rw link at c.in_ok-found.ensures.fetches in
     let fewer = walks_fewer headers (sh_link (row f.store.now c.args.section) 0) (linked_count c.in_ok-entries.entries.1) count f.loaded.size some in
-    Lists-behind {Y = Option VersionLookup} _ _ _ None _ _ _ _ _ (rw fetches.0.same_style (plain_within headers (sh_link (row f.store.now c.args.section) 0) f.loaded.size cap 24 (24 + name_bytes cap) (linked_count c.in_ok-entries.entries.1) count _ fewer within)) fetches c.rows.ensures (λ file held.
+    ListingCalls-behind {Y = Option VersionLookup} _ _ _ None _ _ _ _ _ (rw fetches.0.same_style (plain_within headers (sh_link (row f.store.now c.args.section) 0) f.loaded.size cap 24 (24 + name_bytes cap) (linked_count c.in_ok-entries.entries.1) count _ fewer within)) fetches c.rows.ensures (λ file held.
     let belongs = c.args.self.now.loaded.belongs file held in
     let stands = c.section-header.ensures.stands file belongs in
     let kind = sym stands.sh_type ∙ c.if-header-ne-SHT_RELA.false in
@@ -98,7 +98,7 @@ returns-in-Some g c =
     let fetches = rw link at c.in_ok-found.ensures.fetches in
     let fewer = walks_fewer headers (sh_link (row f.store.now c.args.section) 0) (linked_count c.in_ok-entries.entries.1) count f.loaded.size some in
     let pays = (rw (c.in-Some.is, link) at c.in_ok-found.ensures.pays) cap in
-    Lists-behind {Y = Option VersionLookup} _ _ _ None _ _ _ _ _ (rw fetches.0.same_style (rows_within headers (sh_link (row f.store.now c.args.section) 0) f.loaded.size cap 24 (24 + name_bytes cap) (linked_count c.in_ok-entries.entries.1) count _ fewer within (2 + name_bytes cap) pays)) fetches c.rows-in-Some.ensures (λ file held.
+    ListingCalls-behind {Y = Option VersionLookup} _ _ _ None _ _ _ _ _ (rw fetches.0.same_style (rows_within headers (sh_link (row f.store.now c.args.section) 0) f.loaded.size cap 24 (24 + name_bytes cap) (linked_count c.in_ok-entries.entries.1) count _ fewer within (2 + name_bytes cap) pays)) fetches c.rows-in-Some.ensures (λ file held.
     let belongs = c.args.self.now.loaded.belongs file held in
     let stands = c.section-header.ensures.stands file belongs in
     let kind = sym stands.sh_type ∙ c.if-header-ne-SHT_RELA.false in

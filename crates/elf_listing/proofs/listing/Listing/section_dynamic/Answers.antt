@@ -9,18 +9,18 @@ use Rattle.elf_table.specs.Store.{row}
 use Rattle.elf_listing.proofs.RowLaws.{WroteSome-as}
 use Rattle.elf_listing.proofs.SectionCosts.{section_within}
 use Rattle.elf_listing.proofs.SectionShown.{dynamic_fails, dynamic_passes, empty_dynamic, no_table, strings_fail, table_fails, table_passes}
-use Rattle.elf_listing.proofs.ListsLaws.{Lists-nothing, Lists-refused, Lists-within}
+use Rattle.elf_listing.proofs.ListsLaws.{ListingCalls-nothing, ListingCalls-refused, ListingCalls-within}
 use Rattle.elf_listing.proofs.listing.Listing.section_dynamic.Goals as goal
 
 pub returns-then-header-ne-SHT_DYNAMIC : goal.returns-then-header-ne-SHT_DYNAMIC
 unfolding section_dynamic
-returns-then-header-ne-SHT_DYNAMIC g c = Lists-nothing _ _ _ _ (λ file held.
+returns-then-header-ne-SHT_DYNAMIC g c = ListingCalls-nothing _ _ _ _ (λ file held.
     let stands = c.section-header.ensures.stands file (c.args.self.now.loaded.belongs file held) in
     no_table section_dynamic file _ _ _ _ (ne_eqb _ _ (λ same. c.if-header-ne-SHT_DYNAMIC.true (stands.sh_type ∙ same))))
 
 pub returns-then-header-eq0 : goal.returns-then-header-eq0
 unfolding section_dynamic
-returns-then-header-eq0 g c = Lists-nothing _ _ _ _ (λ file held.
+returns-then-header-eq0 g c = ListingCalls-nothing _ _ _ _ (λ file held.
     let stands = c.section-header.ensures.stands file (c.args.self.now.loaded.belongs file held) in
     let kind = sym stands.sh_type ∙ c.if-header-ne-SHT_DYNAMIC.false in
     empty_dynamic file _ _ _ (section_at file c.args.section) (eq-eqb _ _ kind) (sym stands.sh_size ∙ c.if-header-eq0.true))
@@ -29,7 +29,7 @@ pub returns-in_err-table : goal.returns-in_err-table
 unfolding section_dynamic
 returns-in_err-table g c =
     let p = err_from_is_err_and c.from_residual.result c.from_residual.ensures.1 in
-    rw (p.1, p.2) (Lists-refused _ _ _ _ (search rules) (λ file held.
+    rw (p.1, p.2) (ListingCalls-refused _ _ _ _ (search rules) (λ file held.
     let belongs = c.args.self.now.loaded.belongs file held in
     let kind = sym (c.section-header.ensures.stands file belongs).sh_type ∙ c.if-header-ne-SHT_DYNAMIC.false in
     table_fails section_dynamic file _ _ _ (eq-eqb _ _ kind) _ _ (dynamic_fails file _ _ (sym (c.in_err-table.ensures.held file belongs)))))
@@ -38,7 +38,7 @@ pub returns-in_err-names : goal.returns-in_err-names
 unfolding section_dynamic
 returns-in_err-names g c =
     let p = err_from_is_err_and c.from_residual-in_err-names.result c.from_residual-in_err-names.ensures.1 in
-    rw (p.1, p.2) (Lists-refused _ _ _ _ (search rules) (λ file held.
+    rw (p.1, p.2) (ListingCalls-refused _ _ _ _ (search rules) (λ file held.
     let belongs = c.args.self.now.loaded.belongs file held in
     let stands = c.section-header.ensures.stands file belongs in
     let kind = sym stands.sh_type ∙ c.if-header-ne-SHT_DYNAMIC.false in
@@ -53,7 +53,7 @@ returns g c =
     let cap = c.args.self.now.style.cap.bytes in
     let style = style_of c.args.self.now.style in
     let kind = sym c.section-header.ensures.fields.sh_type ∙ c.if-header-ne-SHT_DYNAMIC.false in
-    Lists-within _ _ _ _ _ _ _ (section_within section_dynamic f.store.now c.args.section f.loaded.size _ cap 16 _ _ (eq-eqb _ _ kind) refl refl c.in_ok-table.ensures.value) c.rows.ensures (λ file held.
+    ListingCalls-within _ _ _ _ _ _ _ (section_within section_dynamic f.store.now c.args.section f.loaded.size _ cap 16 _ _ (eq-eqb _ _ kind) refl refl c.in_ok-table.ensures.value) c.rows.ensures (λ file held.
     let belongs = c.args.self.now.loaded.belongs file held in
     let stands = c.section-header.ensures.stands file belongs in
     let at = section_at file c.args.section in

@@ -5,13 +5,13 @@ use Rattle.elf_model.specs.Records.{section_at, e_shnum}
 use Rattle.elf_listing.proofs.RowLaws.{WroteSome-as, WroteUntilStop-name}
 use Rattle.elf_listing.proofs.SectionCosts.{name_within}
 use Rattle.elf_listing.proofs.SectionShown.{section_is}
-use Rattle.elf_listing.proofs.ListsLaws.{Lists-named, Lists-unread}
+use Rattle.elf_listing.proofs.ListsLaws.{ListingCalls-named, ListingCalls-unread}
 use Rattle.elf_listing.proofs.listing.Listing.section_line.Goals as goal
 
 pub returns-in_err-end : goal.returns-in_err-end
 returns-in_err-end g c =
     let p = err_from_is_err_and c.from_residual.result c.from_residual.ensures.1 in
-    rw (p.1, p.2) (Lists-unread _ _ _ _ _ _ (omega (arith, name_within c.names-names.result c.args.self.now.file.loaded.header.e_shstrndx c.args.self.now.style.cap.bytes c.names-names.ensures.unnamed)) c.in_err-end.ensures.fetches (λ file held.
+    rw (p.1, p.2) (ListingCalls-unread _ _ _ _ _ _ (omega (arith, name_within c.names-names.result c.args.self.now.file.loaded.header.e_shstrndx c.args.self.now.style.cap.bytes c.names-names.ensures.unnamed)) c.in_err-end.ensures.fetches (λ file held.
     let belongs = c.args.self.now.loaded.belongs file held in
     let stands = c.section-header.ensures.stands file belongs in
     let some : 0 < e_shnum file = omega (arith, c.requires.below, belongs.count, belongs.header.e_shnum) in
@@ -20,7 +20,7 @@ returns-in_err-end g c =
     (WroteUntilStop-name _ _ _ _ [] _ (c.in_err-end.ensures.read file held))))
 
 pub returns : goal.returns
-returns g c = Lists-named _ _ _ _ _ _ _ _ (omega (arith, name_within c.names-names.result c.args.self.now.file.loaded.header.e_shstrndx c.args.self.now.style.cap.bytes c.names-names.ensures.unnamed)) c.in_ok-end.ensures.fetches c.named_line.ensures (λ file held.
+returns g c = ListingCalls-named _ _ _ _ _ _ _ _ (omega (arith, name_within c.names-names.result c.args.self.now.file.loaded.header.e_shstrndx c.args.self.now.style.cap.bytes c.names-names.ensures.unnamed)) c.in_ok-end.ensures.fetches c.named_line.ensures (λ file held.
     let belongs = c.args.self.now.loaded.belongs file held in
     let stands = c.section-header.ensures.stands file belongs in
     let front = rw (c.requires.format, c.naming-naming.ensures.gnu, c.naming-naming.ensures.machine file held) at (c.section_prefix.ensures.front file (section_at file c.args.section) stands) in

@@ -9,17 +9,17 @@ use Rattle.elf_model.specs.Records.{section_at, sh_addralign, sh_size}
 use Rattle.elf_model.specs.Rows.{walk_rows}
 use Rattle.elf_model.specs.TableKinds.{section_notes}
 use Rattle.elf_table.specs.Store.{row}
-use Rattle.elf_table.specs.Tables.{Rows}
+use Rattle.elf_table.specs.Tables.{TableRange}
 use Rattle.elf_listing.specs.Parts.{store_sections}
 use Rattle.elf_listing.proofs.RowLaws.{WroteSome-as}
 use Rattle.elf_listing.proofs.SectionCosts.{range_within}
 use Rattle.elf_listing.proofs.SectionShown.{empty_fails, no_table, range_of_file, range_passes, section_placed, table_fails, table_passes}
-use Rattle.elf_listing.proofs.ListsLaws.{Lists-nothing, Lists-refused, Lists-within}
+use Rattle.elf_listing.proofs.ListsLaws.{ListingCalls-nothing, ListingCalls-refused, ListingCalls-within}
 use Rattle.elf_listing.proofs.listing.Listing.section_notes.Goals as goal
 
 pub returns-then-header-ne-SHT_NOTE : goal.returns-then-header-ne-SHT_NOTE
 unfolding section_notes
-returns-then-header-ne-SHT_NOTE g c = Lists-nothing _ _ _ _ (λ file held.
+returns-then-header-ne-SHT_NOTE g c = ListingCalls-nothing _ _ _ _ (λ file held.
     let stands = c.section-header.ensures.stands file (c.args.self.now.loaded.belongs file held) in
     no_table section_notes file _ _ _ _ (ne_eqb _ _ (λ same. c.if-header-ne-SHT_NOTE.true (stands.sh_type ∙ same))))
 
@@ -27,7 +27,7 @@ pub returns-in_err-table : goal.returns-in_err-table
 unfolding section_notes
 returns-in_err-table g c =
     let p = err_from_is_err_and c.from_residual.result c.from_residual.ensures.1 in
-    rw (p.1, p.2) (Lists-refused _ _ _ _ (search rules) (λ file held.
+    rw (p.1, p.2) (ListingCalls-refused _ _ _ _ (search rules) (λ file held.
     let belongs = c.args.self.now.loaded.belongs file held in
     let stands = c.section-header.ensures.stands file belongs in
     let at = section_at file c.args.section in
@@ -45,7 +45,7 @@ returns g c =
     let fields = c.section-header.ensures.fields in
     let kind = sym fields.sh_type ∙ c.if-header-ne-SHT_NOTE.false in
     let value = rw (fields.sh_offset, fields.sh_size) at c.in_ok-table.ensures.value in
-    Lists-within _ _ _ _ _ _ _ (range_within section_notes (store_sections f.store.now) c.args.section f.loaded.size _ _ _ cap (λ n. n) _ (eq-eqb _ _ kind) refl refl (omega arith) value) c.notes.ensures (λ file held.
+    ListingCalls-within _ _ _ _ _ _ _ (range_within section_notes (store_sections f.store.now) c.args.section f.loaded.size _ _ _ cap (λ n. n) _ (eq-eqb _ _ kind) refl refl (omega arith) value) c.notes.ensures (λ file held.
     let belongs = c.args.self.now.loaded.belongs file held in
     let stands = c.section-header.ensures.stands file belongs in
     let at = section_at file c.args.section in
@@ -54,5 +54,5 @@ returns g c =
     let value = range_of_file belongs.size stands.sh_offset stands.sh_size place c.in_ok-table.ensures.value in
     let found = range_passes file _ (sh_size file at) at _ value in
     WroteSome-as _ _ _ (table_passes section_notes file style c.args.section at (eq-eqb _ _ kind) found.0
-    ∙ ap (λ (t : Rows). walk_rows style c.args.section t.at (walked (note_align (sh_addralign file at)) (slice file t.at t.count))) found.1)
+    ∙ ap (λ (t : TableRange). walk_rows style c.args.section t.at (walked (note_align (sh_addralign file at)) (slice file t.at t.count))) found.1)
     (rw stands.sh_addralign at (c.notes.ensures.shows file held)))

@@ -16,12 +16,12 @@ use Rattle.elf_listing.proofs.SegmentShown.{views}
 use Rattle.elf_listing.proofs.ShowLaws.{SpentCredit-behind, SpentCredit-fault}
 use Rattle.elf_listing.proofs.ViewedLaws.{still_viewed}
 use Rattle.elf_source.proofs.GrowthLaws.{grows_not}
-use Rattle.elf_listing.proofs.ListsLaws.{Lists-nothing, Lists-refused}
+use Rattle.elf_listing.proofs.ListsLaws.{ListingCalls-nothing, ListingCalls-refused}
 use Rattle.elf_listing.proofs.listing.Listing.segment_dynamic.Goals as goal
 
 pub returns-then-segment-ne-PT_DYNAMIC : goal.returns-then-segment-ne-PT_DYNAMIC
 unfolding segment_dynamic
-returns-then-segment-ne-PT_DYNAMIC g c = Lists-nothing _ _ _ _ (λ file held.
+returns-then-segment-ne-PT_DYNAMIC g c = ListingCalls-nothing _ _ _ _ (λ file held.
     let viewed = views file _ _ _ (c.args.self.now.loaded.belongs file held) c.args.self.now.viewed held (omega (arith, c.requires)) in
     let stands = c.segment.ensures.stands file (rw (c.view-view.ensures.loaded, c.view-view.ensures.store) viewed) in
     no_table segment_dynamic file _ _ _ _ (ne_eqb _ _ (λ same. c.if-segment-ne-PT_DYNAMIC.true (stands.p_type ∙ same))))
@@ -30,7 +30,7 @@ pub returns-in_err-table : goal.returns-in_err-table
 unfolding segment_dynamic
 returns-in_err-table g c =
     let p = err_from_is_err_and c.from_residual.result c.from_residual.ensures.1 in
-    rw (p.1, p.2) (Lists-refused _ _ _ _ (search rules) (λ file held.
+    rw (p.1, p.2) (ListingCalls-refused _ _ _ _ (search rules) (λ file held.
     let viewed = views file _ _ _ (c.args.self.now.loaded.belongs file held) c.args.self.now.viewed held (omega (arith, c.requires)) in
     let view : HoldsProgramHeaders file c.view-view.result.loaded c.view-view.result.store.now = rw (c.view-view.ensures.loaded, c.view-view.ensures.store) viewed in
     let stands = c.segment.ensures.stands file view in

@@ -9,18 +9,18 @@ use Rattle.elf_model.specs.Records.{segment_at, p_align, p_filesz}
 use Rattle.elf_model.specs.Rows.{walk_rows}
 use Rattle.elf_model.specs.TableKinds.{segment_notes}
 use Rattle.elf_table.specs.Store.{segment_bytes}
-use Rattle.elf_table.specs.Tables.{Rows}
+use Rattle.elf_table.specs.Tables.{TableRange}
 use Rattle.elf_listing.specs.Parts.{store_segments}
 use Rattle.elf_listing.proofs.RowLaws.{WroteSome-as}
 use Rattle.elf_listing.proofs.SectionCosts.{range_within}
 use Rattle.elf_listing.proofs.SectionShown.{empty_fails, no_table, range_of_file, range_passes, table_fails, table_passes}
 use Rattle.elf_listing.proofs.SegmentShown.{views}
-use Rattle.elf_listing.proofs.ListsLaws.{Lists-nothing, Lists-refused, Lists-within}
+use Rattle.elf_listing.proofs.ListsLaws.{ListingCalls-nothing, ListingCalls-refused, ListingCalls-within}
 use Rattle.elf_listing.proofs.listing.Listing.segment_notes.Goals as goal
 
 pub returns-then-header-ne-PT_NOTE : goal.returns-then-header-ne-PT_NOTE
 unfolding segment_notes
-returns-then-header-ne-PT_NOTE g c = Lists-nothing _ _ _ _ (λ file held.
+returns-then-header-ne-PT_NOTE g c = ListingCalls-nothing _ _ _ _ (λ file held.
     let viewed = views file _ _ _ (c.args.self.now.loaded.belongs file held) c.args.self.now.viewed held (omega (arith, c.requires)) in
     let stands = c.segment-header.ensures.stands file (rw (c.view.ensures.loaded, c.view.ensures.store) viewed) in
     no_table segment_notes file _ _ _ _ (ne_eqb _ _ (λ same. c.if-header-ne-PT_NOTE.true (stands.p_type ∙ same))))
@@ -29,7 +29,7 @@ pub returns-in_err-table : goal.returns-in_err-table
 unfolding segment_notes
 returns-in_err-table g c =
     let p = err_from_is_err_and c.from_residual.result c.from_residual.ensures.1 in
-    rw (p.1, p.2) (Lists-refused _ _ _ _ (search rules) (λ file held.
+    rw (p.1, p.2) (ListingCalls-refused _ _ _ _ (search rules) (λ file held.
     let belongs = c.args.self.now.loaded.belongs file held in
     let viewed = views file _ _ _ belongs c.args.self.now.viewed held (omega (arith, c.requires)) in
     let stands = c.segment-header.ensures.stands file (rw (c.view.ensures.loaded, c.view.ensures.store) viewed) in
@@ -49,7 +49,7 @@ returns g c =
     let fields = rw c.view.ensures.store at c.segment-header.ensures.fields in
     let kind = sym fields.p_type ∙ c.if-header-ne-PT_NOTE.false in
     let value = rw (fields.p_offset, fields.p_filesz) at c.in_ok-table.ensures.value in
-    Lists-within _ _ _ _ _ _ _ (range_within segment_notes (store_segments f.store.now) c.args.segment f.loaded.size _ _ _ cap (λ n. n) _ (eq-eqb _ _ kind) refl refl (omega arith) value) c.notes.ensures (λ file held.
+    ListingCalls-within _ _ _ _ _ _ _ (range_within segment_notes (store_segments f.store.now) c.args.segment f.loaded.size _ _ _ cap (λ n. n) _ (eq-eqb _ _ kind) refl refl (omega arith) value) c.notes.ensures (λ file held.
     let belongs = c.args.self.now.loaded.belongs file held in
     let viewed = views file _ _ _ belongs c.args.self.now.viewed held (omega (arith, c.requires)) in
     let stands = c.segment-header.ensures.stands file (rw (c.view.ensures.loaded, c.view.ensures.store) viewed) in
@@ -60,5 +60,5 @@ returns g c =
     let value = range_of_file belongs.size stands.p_offset stands.p_filesz place c.in_ok-table.ensures.value in
     let found = range_passes file _ (p_filesz file at) at _ value in
     WroteSome-as _ _ _ (table_passes segment_notes file style c.args.segment at (eq-eqb _ _ kind) found.0
-    ∙ ap (λ (t : Rows). walk_rows style c.args.segment t.at (walked (note_align (p_align file at)) (slice file t.at t.count))) found.1)
+    ∙ ap (λ (t : TableRange). walk_rows style c.args.segment t.at (walked (note_align (p_align file at)) (slice file t.at t.count))) found.1)
     (rw stands.p_align at (c.notes.ensures.shows file held)))

@@ -7,7 +7,7 @@ use Rattle.elf_model.specs.Listing.{each, has, SEGMENTS}
 use Rattle.elf_model.specs.Records.{e_phnum, e_phoff}
 use Rattle.elf_model.specs.Rows.{segment_row}
 use Rattle.elf_table.specs.Sections.{rows}
-use Rattle.elf_table.specs.Tables.{Rows}
+use Rattle.elf_table.specs.Tables.{TableRange}
 use Rattle.elf_listing.specs.Kinds.{rows_cost}
 use Rattle.elf_listing.specs.declared.rows.RowLayout.TheVariants.{Segments}
 use Rattle.elf_listing.specs.Parts.{segments_listed}
@@ -18,7 +18,7 @@ use Rattle.elf_listing.proofs.ShowLaws.{SpentCredit-within}
 use Rattle.elf_listing.proofs.listing.Listing.segments.Goals as goal
 
 -- the rows of a file with sections are asked for as they are counted
-rows_within : (parts : ℕ) (loaded : LoadedFile) (table : Rows) (cap : ℕ) → has parts SEGMENTS ≡ true → (loaded.header.e_shnum == 0) ≡ false
+rows_within : (parts : ℕ) (loaded : LoadedFile) (table : TableRange) (cap : ℕ) → has parts SEGMENTS ≡ true → (loaded.header.e_shnum == 0) ≡ false
     → table ≡ rows loaded.header.e_phoff loaded.header.e_phnum 56 → rows_cost Segments table cap ≤ segments_listed parts loaded
 rows_within parts loaded table cap asked some is = rw (is, asked, some) (omega arith)
 
@@ -53,8 +53,8 @@ returns g c = record {
   shows = λ file held.
       let belongs = c.args.self.now.loaded.belongs file held in
       let asked : has c.args.parts.0 SEGMENTS ≡ true = sym (c.contains.ensures tt) ∙ c.if-not-contains.false in
-      let at : c.segments-table.result.at ≡ e_phoff file = ap (λ (rows : Rows). rows.at) c.segments-table.ensures.value ∙ belongs.header.e_phoff in
-      let all : c.segments-table.result.count ≡ e_phnum file = ap (λ (rows : Rows). rows.count) c.segments-table.ensures.value ∙ belongs.header.e_phnum in
+      let at : c.segments-table.result.at ≡ e_phoff file = ap (λ (rows : TableRange). rows.at) c.segments-table.ensures.value ∙ belongs.header.e_phoff in
+      let all : c.segments-table.result.count ≡ e_phnum file = ap (λ (rows : TableRange). rows.count) c.segments-table.ensures.value ∙ belongs.header.e_phnum in
       WroteSome-as _ _ _ (ap (λ b. elim b [ true ↦ each (segment_row file (style_of c.args.self.now.style)) 0 (e_phnum file) | false ↦ [] ]) asked ∙ ap (each (segment_row file (style_of c.args.self.now.style)) 0) (sym all))
       (c.rows.ensures.shows file held (λ some. at));
 }

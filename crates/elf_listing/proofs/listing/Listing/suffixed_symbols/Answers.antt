@@ -14,16 +14,16 @@ use Rattle.elf_table.proofs.RelocationLaws.{symbols-fail, symbols-pass}
 use Rattle.elf_listing.specs.Parts.{store_sections}
 use Rattle.elf_listing.specs.Suffixed.{SuffixesOr, suffix_bytes, walks_asked}
 use Rattle.elf_listing.specs.declared.suffixes.VersionLookup.{VersionLookup}
-use Rattle.elf_listing.proofs.ListsLaws.{Lists-nothing, Lists-refused, Lists-unread}
+use Rattle.elf_listing.proofs.ListsLaws.{ListingCalls-nothing, ListingCalls-refused, ListingCalls-unread}
 use Rattle.elf_listing.proofs.RowLaws.{WroteSome-as}
 use Rattle.elf_listing.proofs.SectionShown.{no_table, table_fails, table_passes}
 use Rattle.elf_listing.proofs.SuffixCosts.{no_fewer, plain_within, rows_within, suffixed_within, walks_within}
-use Rattle.elf_listing.proofs.SuffixTables.{Lists-behind, symbols_plain, symbols_refused, symbols_shown}
+use Rattle.elf_listing.proofs.SuffixTables.{ListingCalls-behind, symbols_plain, symbols_refused, symbols_shown}
 use Rattle.elf_listing.proofs.listing.Listing.suffixed_symbols.Goals as goal
 
 pub returns-then-not-holds_symbols : goal.returns-then-not-holds_symbols
 unfolding suffixed_symbols
-returns-then-not-holds_symbols g c = Lists-nothing _ _ _ _ (λ file held.
+returns-then-not-holds_symbols g c = ListingCalls-nothing _ _ _ _ (λ file held.
     let stands = c.section.ensures.stands file (c.args.self.now.loaded.belongs file held) in
     let kind : is_symbol_table file (section_at file c.args.section) ≡ false = let is = c.holds_symbols.ensures file _ stands in cc in
     no_table suffixed_symbols file _ _ _ _ kind)
@@ -32,7 +32,7 @@ pub returns-in_err-symbols : goal.returns-in_err-symbols
 unfolding suffixed_symbols
 returns-in_err-symbols g c =
     let p = err_from_is_err_and c.from_residual.result c.from_residual.ensures.1 in
-    rw (p.1, p.2) (Lists-refused _ _ _ _ (search rules) (λ file held.
+    rw (p.1, p.2) (ListingCalls-refused _ _ _ _ (search rules) (λ file held.
     let belongs = c.args.self.now.loaded.belongs file held in
     let at = section_at file c.args.section in
     let kind : is_symbol_table file at ≡ true = let is = c.holds_symbols.ensures file at (c.section.ensures.stands file belongs) in cc in
@@ -51,7 +51,7 @@ returns-in_err-found g c =
     let section = c.from.ensures in
     let fetches = rw (same, section) at c.in_err-found.ensures.fetches in
     let cost = walks_within (store_sections f.store.now) c.args.section f.loaded.size cap 24 (name_bytes cap) c.in_ok-symbols.symbols.0.count c.in_ok-symbols.symbols.0.count _ (no_fewer _) within in
-    rw (p.1, p.2) (Lists-unread _ _ _ _ _ _ cost fetches (λ file held.
+    rw (p.1, p.2) (ListingCalls-unread _ _ _ _ _ _ cost fetches (λ file held.
     let belongs = c.args.self.now.loaded.belongs file held in
     let at = section_at file c.args.section in
     let kind : is_symbol_table file at ≡ true = let is = c.holds_symbols.ensures file at (c.section.ensures.stands file belongs) in cc in
@@ -71,7 +71,7 @@ returns-in-None g c =
     let section = c.from.ensures in
     let fetches = rw (same, section) at c.in_ok-found.ensures.fetches in
     let cost = plain_within (store_sections f.store.now) c.args.section f.loaded.size cap 24 (name_bytes cap) c.in_ok-symbols.symbols.0.count c.in_ok-symbols.symbols.0.count _ (no_fewer _) within in
-    Lists-behind {Y = Option VersionLookup} _ _ _ None _ _ _ _ _ (rw fetches.0.same_style cost) fetches c.rows.ensures (λ file held.
+    ListingCalls-behind {Y = Option VersionLookup} _ _ _ None _ _ _ _ _ (rw fetches.0.same_style cost) fetches c.rows.ensures (λ file held.
     let belongs = c.args.self.now.loaded.belongs file held in
     let at = section_at file c.args.section in
     let kind : is_symbol_table file at ≡ true = let is = c.holds_symbols.ensures file at (c.section.ensures.stands file belongs) in cc in
@@ -93,7 +93,7 @@ returns-in-Some g c =
     let fetches = rw (same, section) at c.in_ok-found.ensures.fetches in
     let pays = (rw (c.in-Some.is, section) at c.in_ok-found.ensures.pays) cap in
     let cost = rows_within (store_sections f.store.now) c.args.section f.loaded.size cap 24 (name_bytes cap) c.in_ok-symbols.symbols.0.count c.in_ok-symbols.symbols.0.count _ (no_fewer _) within (2 + name_bytes cap) pays in
-    Lists-behind {Y = Option VersionLookup} _ _ _ None _ _ _ _ _ (rw fetches.0.same_style cost) fetches c.rows-in-Some.ensures (λ file held.
+    ListingCalls-behind {Y = Option VersionLookup} _ _ _ None _ _ _ _ _ (rw fetches.0.same_style cost) fetches c.rows-in-Some.ensures (λ file held.
     let belongs = c.args.self.now.loaded.belongs file held in
     let at = section_at file c.args.section in
     let kind : is_symbol_table file at ≡ true = let is = c.holds_symbols.ensures file at (c.section.ensures.stands file belongs) in cc in

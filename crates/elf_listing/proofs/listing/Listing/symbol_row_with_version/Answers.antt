@@ -9,7 +9,7 @@ use Rattle.elf_table.specs.declared.names.NameEnd.{NameEnd}
 use Rattle.elf_table.specs.declared.names.NameEnd.TheVariants.{Whole}
 use Rattle.elf_listing.specs.Suffixed.{suffix_read}
 use Rattle.elf_listing.proofs.RowLaws.{WroteSome-as, chosen-as}
-use Rattle.elf_listing.proofs.ListsLaws.{Lists-hidden, Lists-named, Lists-unread}
+use Rattle.elf_listing.proofs.ListsLaws.{ListingCalls-hidden, ListingCalls-named, ListingCalls-unread}
 use Rattle.elf_listing.proofs.ShowLaws.{Whole-none}
 use Rattle.elf_listing.proofs.SuffixShown.{ListingReads-then, WroteUntilStop-suffix, WroteUntilStop-unnamed, suffixed-hidden, suffixed-shown, suffixed_symbol_is}
 use Rattle.elf_listing.proofs.listing.Listing.symbol_row_with_version.Goals as goal
@@ -17,7 +17,7 @@ use Rattle.elf_listing.proofs.listing.Listing.symbol_row_with_version.Goals as g
 pub returns-in_err-end : goal.returns-in_err-end
 returns-in_err-end g c =
     let p = err_from_is_err_and c.from_residual.result c.from_residual.ensures.1 in
-    rw (p.1, p.2) (Lists-unread _ _ _ _ _ _ (omega arith) c.in_err-end.ensures.fetches (λ file held at of_kind row.
+    rw (p.1, p.2) (ListingCalls-unread _ _ _ _ _ _ (omega arith) c.in_err-end.ensures.fetches (λ file held at of_kind row.
     let decoded = c.decode-symbol.ensures.stands file c.args.row.now.at (c.whole.ensures ∙ row.bytes) in
     let here : c.args.row.now.at ≡ sh_offset file (section_at file c.args.section) + c.args.row.now.index * 24 = omega (arith, of_kind.1, row.here) in
     rw (suffixed_symbol_is file (style_of c.args.self.now.style) _ _ _ _ _ _ refl of_kind.0 (c.from-off.ensures ∙ decoded.st_name) here, c.in_err-end.ensures.fetches.1) (WroteUntilStop-unnamed _ _ _ _ _ [] _ _ (c.in_err-end.ensures.read file held))))
@@ -29,7 +29,7 @@ returns-in_err-suffix g c =
     let same = first.0.same_style in
     let cap = c.args.self.now.style.cap.bytes in
     let both = ListingReads-then {X = NameEnd} _ _ _ c.in_ok-end.end (Err c.in_err-suffix.field-0.0) _ _ (name_bytes cap + (2 + name_bytes cap)) (rw same (omega arith)) first c.in_err-suffix.ensures.fetches in
-    rw (p.1, p.2) (Lists-unread _ _ _ _ _ _ (omega arith) both (λ file held at of_kind row.
+    rw (p.1, p.2) (ListingCalls-unread _ _ _ _ _ _ (omega arith) both (λ file held at of_kind row.
     let decoded = c.decode-symbol.ensures.stands file c.args.row.now.at (c.whole.ensures ∙ row.bytes) in
     let here : c.args.row.now.at ≡ sh_offset file (section_at file c.args.section) + c.args.row.now.index * 24 = omega (arith, of_kind.1, row.here) in
     let defined = ap (λ (n : ℕ). not (n == 0)) decoded.st_shndx in
@@ -44,7 +44,7 @@ returns-then-not-is_versioned_row_shown g c =
     let same = first.0.same_style in
     let cap = c.args.self.now.style.cap.bytes in
     let both = ListingReads-then {X = NameEnd} _ _ _ c.in_ok-end.end (Ok Whole) _ _ (name_bytes cap + (2 + name_bytes cap)) (rw same (omega arith)) first c.in_ok-suffix.ensures.fetches in
-    Lists-hidden _ _ _ _ _ _ (omega arith) both (λ file held at of_kind row.
+    ListingCalls-hidden _ _ _ _ _ _ (omega arith) both (λ file held at of_kind row.
     let decoded = c.decode-symbol.ensures.stands file c.args.row.now.at (c.whole.ensures ∙ row.bytes) in
     let here : c.args.row.now.at ≡ sh_offset file (section_at file c.args.section) + c.args.row.now.index * 24 = omega (arith, of_kind.1, row.here) in
     let defined = ap (λ (n : ℕ). not (n == 0)) decoded.st_shndx in
@@ -63,7 +63,7 @@ returns g c =
     let same = first.0.same_style in
     let cap = c.args.self.now.style.cap.bytes in
     let both = ListingReads-then {X = NameEnd} _ _ _ c.in_ok-end.end (Ok Whole) _ _ (name_bytes cap + (2 + name_bytes cap)) (rw same (omega arith)) first c.in_ok-suffix.ensures.fetches in
-    Lists-named _ _ _ _ _ _ _ _ (omega arith) both c.suffixed_line.ensures (λ file held at of_kind row.
+    ListingCalls-named _ _ _ _ _ _ _ _ (omega arith) both c.suffixed_line.ensures (λ file held at of_kind row.
     let decoded = c.decode-symbol.ensures.stands file c.args.row.now.at (c.whole.ensures ∙ row.bytes) in
     let here : c.args.row.now.at ≡ sh_offset file (section_at file c.args.section) + c.args.row.now.index * 24 = omega (arith, of_kind.1, row.here) in
     let defined = ap (λ (n : ℕ). not (n == 0)) decoded.st_shndx in

@@ -6,22 +6,22 @@ use Rattle.elf_table.specs.Load.{section_place}
 use Rattle.elf_options.specs.Permitted.{style_of}
 use Rattle.elf_model.specs.Records.{section_at, sh_size}
 use Rattle.elf_model.specs.VersionRows.{symbol_versions}
-use Rattle.elf_listing.proofs.ListsLaws.{Lists-nothing, Lists-refused, Lists-unread}
+use Rattle.elf_listing.proofs.ListsLaws.{ListingCalls-nothing, ListingCalls-refused, ListingCalls-unread}
 use Rattle.elf_listing.proofs.SectionShown.{no_table, table_fails, table_passes}
 use Rattle.elf_listing.proofs.VersionedCosts.{versioned-within}
 use Rattle.elf_listing.proofs.RowLaws.{WroteSome-as}
-use Rattle.elf_listing.proofs.VersionedShown.{Lists-behind, WroteUntilStop-no-check, definitions-whole, empty-is, needs-whole, rows-are, walks-whole}
+use Rattle.elf_listing.proofs.VersionedShown.{ListingCalls-behind, WroteUntilStop-no-check, definitions-whole, empty-is, needs-whole, rows-are, walks-whole}
 use Rattle.elf_listing.proofs.listing.Listing.symbol_versions.Goals as goal
 
 pub returns-then-header-ne-SHT_GNU_VERSYM : goal.returns-then-header-ne-SHT_GNU_VERSYM
 unfolding symbol_versions
-returns-then-header-ne-SHT_GNU_VERSYM g c = Lists-nothing _ _ _ _ (λ file held.
+returns-then-header-ne-SHT_GNU_VERSYM g c = ListingCalls-nothing _ _ _ _ (λ file held.
     let stands = c.section-header.ensures.stands file (c.args.self.now.loaded.belongs file held) in
     no_table symbol_versions file _ _ _ _ (ne_eqb _ _ (λ same. c.if-header-ne-SHT_GNU_VERSYM.true (stands.sh_type ∙ same))))
 
 pub returns-then-header-eq0 : goal.returns-then-header-eq0
 unfolding symbol_versions
-returns-then-header-eq0 g c = Lists-nothing _ _ _ _ (λ file held.
+returns-then-header-eq0 g c = ListingCalls-nothing _ _ _ _ (λ file held.
     let stands = c.section-header.ensures.stands file (c.args.self.now.loaded.belongs file held) in
     let kind = sym stands.sh_type ∙ c.if-header-ne-SHT_GNU_VERSYM.false in
     empty-is file _ _ _ (section_at file c.args.section) (eq-eqb _ _ kind) (sym stands.sh_size ∙ c.if-header-eq0.true))
@@ -30,7 +30,7 @@ pub returns-in_err-found : goal.returns-in_err-found
 unfolding symbol_versions
 returns-in_err-found g c =
     let p = err_from_is_err_and c.from_residual.result c.from_residual.ensures.1 in
-    rw (p.1, p.2) (Lists-refused _ _ _ _ c.in_err-found.ensures.refusal (λ file held.
+    rw (p.1, p.2) (ListingCalls-refused _ _ _ _ c.in_err-found.ensures.refusal (λ file held.
     let belongs = c.args.self.now.loaded.belongs file held in
     let stands = c.section-header.ensures.stands file belongs in
     let kind = sym stands.sh_type ∙ c.if-header-ne-SHT_GNU_VERSYM.false in
@@ -48,7 +48,7 @@ returns-in_err-numbered g c =
     let counts = c.in_ok-found.ensures.counts in
     let within = versioned-within f.store.now c.args.section f.loaded.size _ cap _ _ typed (sym c.in_ok-found.ensures.table) some (counts.linked some) counts.counted (counts.symbols some) in
     let fetches = c.in_err-numbered.ensures.numbers.fetches in
-    rw (p.1, p.2) (Lists-unread _ _ _ _ _ _ (omega (arith, within)) fetches (λ file held.
+    rw (p.1, p.2) (ListingCalls-unread _ _ _ _ _ _ (omega (arith, within)) fetches (λ file held.
     let no_fault = c.requires.awaits file held in
     rw fetches.1
     (WroteUntilStop-no-check file [] _ _ _ (walks-whole file (definitions-whole file style no_fault) (needs-whole file style no_fault)) (c.in_err-numbered.ensures.numbers.read file held))))
@@ -66,7 +66,7 @@ returns g c =
     let within = versioned-within f.store.now c.args.section f.loaded.size _ cap _ _ typed (sym c.in_ok-found.ensures.table) some (counts.linked some) counts.counted (counts.symbols some) in
     let fetches = c.in_ok-numbered.ensures.numbers.fetches in
     let same = fetches.0.same_style in
-    Lists-behind _ _ _ c.in_ok-numbered.numbered _ _ _ _ _ _ (rw same (omega (arith, within))) fetches c.versioned.ensures (λ file held.
+    ListingCalls-behind _ _ _ c.in_ok-numbered.numbered _ _ _ _ _ _ (rw same (omega (arith, within))) fetches c.versioned.ensures (λ file held.
     let belongs = c.args.self.now.loaded.belongs file held in
     let stands = c.section-header.ensures.stands file belongs in
     let at = section_at file c.args.section in

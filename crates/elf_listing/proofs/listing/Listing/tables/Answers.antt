@@ -3,8 +3,8 @@ use Rattle.elf_options.specs.Permitted.{style_of}
 use Rattle.std.proofs.Common.{ℕ, ◌+◌, List, ◌++◌}
 use Rattle.std.proofs.lemmas.Result.{err_from_is_err_and}
 use Rattle.elf_model.specs.Listing.{ListingItem}
-use Rattle.elf_options.specs.declared.caps.Style.{Style}
-use Rattle.elf_table.specs.declared.file.File.{File}
+use Rattle.elf_options.specs.declared.caps.ListingStyle.{ListingStyle}
+use Rattle.elf_table.specs.declared.file.SectionView.{SectionView}
 use Rattle.elf_listing.specs.Parts.{relocations_part, segments_listed, symbols_part}
 use Rattle.elf_listing.specs.declared.parts.Part.{Part}
 use Rattle.elf_listing.specs.declared.parts.Part.TheVariants.{SectionNotes, SegmentNotes, SectionDynamic, SegmentDynamic, Definitions, Needs, SymbolVersions}
@@ -13,23 +13,23 @@ use Rattle.elf_listing.proofs.PartsLaws.{Parts-as, Parts-more, Parts-then, cost_
 use Rattle.elf_listing.proofs.listing.Listing.tables.Goals as goal
 
 -- what the program headers ask for, and their items; and those of two parts
-abbrev segments_cost : ℕ → File → Style → ℕ
+abbrev segments_cost : ℕ → SectionView → ListingStyle → ℕ
 segments_cost parts f style = segments_listed parts f.loaded
 
-abbrev segments_shown : ℕ → File → Style → List ℕ → List ListingItem
+abbrev segments_shown : ℕ → SectionView → ListingStyle → List ℕ → List ListingItem
 segments_shown parts f style file = segment_part file (style_of style) parts
 
-abbrev pair_cost : ℕ → Part → Part → File → Style → ℕ
+abbrev pair_cost : ℕ → Part → Part → SectionView → ListingStyle → ℕ
 pair_cost parts first second f style = cost_asked parts first f style + cost_asked parts second f style
 
-abbrev pair_items : ℕ → Part → Part → File → Style → List ℕ → List ListingItem
+abbrev pair_items : ℕ → Part → Part → SectionView → ListingStyle → List ℕ → List ListingItem
 pair_items parts first second f style file = items_asked parts first f style file ++ items_asked parts second f style file
 
 -- those of the symbols and the relocation entries, as the style has it
-abbrev named_cost : ℕ → File → Style → ℕ
+abbrev named_cost : ℕ → SectionView → ListingStyle → ℕ
 named_cost parts f style = pair_cost parts (symbols_part style.versions) (relocations_part style.versions) f style
 
-abbrev named_items : ℕ → File → Style → List ℕ → List ListingItem
+abbrev named_items : ℕ → SectionView → ListingStyle → List ℕ → List ListingItem
 named_items parts f style file = pair_items parts (symbols_part style.versions) (relocations_part style.versions) f style file
 
 pub returns-in_err-part : goal.returns-in_err-part

@@ -1,7 +1,7 @@
 use Rattle.std.proofs.Common.{◌≡◌, [], refl, sym, ◌∙◌, arith}
 use Rattle.std.proofs.lemmas.Result.{err_from_is_err_and}
 use Rattle.elf_options.specs.Permitted.{style_of}
-use Rattle.elf_listing.proofs.ListsLaws.{Lists-hidden, Lists-named, Lists-unread}
+use Rattle.elf_listing.proofs.ListsLaws.{ListingCalls-hidden, ListingCalls-named, ListingCalls-unread}
 use Rattle.elf_listing.proofs.NumberedShown.{reported_is, word_is}
 use Rattle.elf_listing.proofs.RowLaws.{WroteUntilStop-chosen, WroteSome-as, chosen-hidden, chosen-shown, chosen-as}
 use Rattle.elf_listing.proofs.ShowLaws.{Whole-none}
@@ -10,13 +10,13 @@ use Rattle.elf_listing.proofs.listing.Listing.version_number.Goals as goal
 pub returns-in_err-end : goal.returns-in_err-end
 returns-in_err-end g c =
     let p = err_from_is_err_and c.from_residual.result c.from_residual.ensures.1 in
-    rw (p.1, p.2) (Lists-unread _ _ _ _ _ _ (omega arith) c.in_err-end.ensures.fetches (λ file held at of_kind row.
+    rw (p.1, p.2) (ListingCalls-unread _ _ _ _ _ _ (omega arith) c.in_err-end.ensures.fetches (λ file held at of_kind row.
     let word = word_is file _ c.args.row.now.at _ row.bytes c.u16_at-word.ensures in
     rw (sym row.here, reported_is file (style_of c.args.self.now.style) c.args.numbered.now c.args.section c.args.row.now.at c.args.row.now.index _ _ word refl, c.in_err-end.ensures.fetches.1)
     (WroteUntilStop-chosen _ _ _ _ _ [] _ (rw c.version_number-number.ensures at c.in_err-end.ensures.read file held))))
 
 pub returns : goal.returns
-returns g c = Lists-named _ _ _ _ _ _ _ _ (omega arith) c.in_ok-end.ensures.fetches c.named_line.ensures (λ file held at of_kind row.
+returns g c = ListingCalls-named _ _ _ _ _ _ _ _ (omega arith) c.in_ok-end.ensures.fetches c.named_line.ensures (λ file held at of_kind row.
     let word = word_is file _ c.args.row.now.at _ row.bytes c.u16_at-word.ensures in
     let read = rw c.version_number-number.ensures at c.in_ok-end.ensures.read file held in
     let told = reported_is file (style_of c.args.self.now.style) c.args.numbered.now c.args.section c.args.row.now.at c.args.row.now.index _ _ word (rw c.requires.format at c.symbol_version_prefix.ensures.front) in
@@ -25,7 +25,7 @@ returns g c = Lists-named _ _ _ _ _ _ _ _ (omega arith) c.in_ok-end.ensures.fetc
     (c.named_line.ensures.shows _ _ read)))
 
 pub returns-then-not-is_shown : goal.returns-then-not-is_shown
-returns-then-not-is_shown g c = Lists-hidden _ _ _ _ _ _ (omega arith) c.in_ok-end.ensures.fetches (λ file held at of_kind row.
+returns-then-not-is_shown g c = ListingCalls-hidden _ _ _ _ _ _ (omega arith) c.in_ok-end.ensures.fetches (λ file held at of_kind row.
     let word = word_is file _ c.args.row.now.at _ row.bytes c.u16_at-word.ensures in
     rw (
       sym row.here,

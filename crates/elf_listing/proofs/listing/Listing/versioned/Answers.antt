@@ -5,9 +5,9 @@ use Rattle.std.proofs.lemmas.Result.{err_from_is_err_and}
 use Rattle.elf_model.specs.Names.{name_bytes}
 use Rattle.elf_model.specs.Versions.{VERSYM_SIZE}
 use Rattle.elf_note.proofs.SpendsLaws.{SpendsAtMost-to}
-use Rattle.elf_table.specs.Tables.{Rows}
+use Rattle.elf_table.specs.Tables.{TableRange}
 use Rattle.elf_listing.specs.SymbolVersions.{versioned_items}
-use Rattle.elf_listing.proofs.ListsLaws.{Lists-within}
+use Rattle.elf_listing.proofs.ListsLaws.{ListingCalls-within}
 use Rattle.elf_listing.proofs.ShowLaws.{WroteUntilStop-more}
 use Rattle.elf_listing.proofs.VersionedShown.{Ends-behind}
 use Rattle.elf_listing.proofs.VersionSections.{same_le}
@@ -18,9 +18,9 @@ unfolding versioned_items
 returns-in_err-rows g c =
     let p = err_from_is_err_and c.from_residual.result c.from_residual.ensures.1 in
     let shape = c.first_entries-rows.ensures in
-    let cost = ap (λ (t : Rows). t.count * (VERSYM_SIZE + name_bytes c.args.self.now.style.cap.bytes)) shape in
+    let cost = ap (λ (t : TableRange). t.count * (VERSYM_SIZE + name_bytes c.args.self.now.style.cap.bytes)) shape in
     rw (p.1, p.2)
-    (Lists-within _ _ _ _ _ _ _ (omega (arith, cost)) c.in_err-rows.ensures (λ file held. WroteUntilStop-more _ _ _ _ _ (rw shape at (c.in_err-rows.ensures.shows file held (λ some. tt)))))
+    (ListingCalls-within _ _ _ _ _ _ _ (omega (arith, cost)) c.in_err-rows.ensures (λ file held. WroteUntilStop-more _ _ _ _ _ (rw shape at (c.in_err-rows.ensures.shows file held (λ some. tt)))))
 
 pub returns-then-len-symbols : goal.returns-then-len-symbols
 unfolding versioned_items
@@ -28,7 +28,7 @@ returns-then-len-symbols g c =
     let shape = c.first_entries-rows.ensures in
     let done = c.in_ok-rows.ensures in
     let fewer : nat_lt c.args.table.count c.args.symbols ≡ true = grind (arith, nat_tests, c.len.ensures, c.if-len-symbols.true) in
-    let cost = ap (λ (t : Rows). t.count * (VERSYM_SIZE + name_bytes c.args.self.now.style.cap.bytes)) shape in
+    let cost = ap (λ (t : TableRange). t.count * (VERSYM_SIZE + name_bytes c.args.self.now.style.cap.bytes)) shape in
     let account = done.spent.0.account in
     record {
       grows = done.grows;
@@ -43,7 +43,7 @@ returns g c =
     let shape = c.first_entries-rows.ensures in
     let done = c.in_ok-rows.ensures in
     let whole : nat_lt c.args.table.count c.args.symbols ≡ false = grind (arith, nat_tests, c.len.ensures, c.if-len-symbols.false) in
-    let cost = ap (λ (t : Rows). t.count * (VERSYM_SIZE + name_bytes c.args.self.now.style.cap.bytes)) shape in
+    let cost = ap (λ (t : TableRange). t.count * (VERSYM_SIZE + name_bytes c.args.self.now.style.cap.bytes)) shape in
     let account = done.spent.0.account in
     record {
       grows = done.grows;

@@ -12,7 +12,7 @@ use Rattle.elf_source.proofs.GrowthLaws.{grows_not}
 use Rattle.elf_note.specs.Reading.{bytes_each}
 use Rattle.elf_listing.specs.Parts.{store_sections}
 use Rattle.elf_listing.specs.Versions.{records_kind}
-use Rattle.elf_listing.proofs.ListsLaws.{Lists-nothing, Lists-refused}
+use Rattle.elf_listing.proofs.ListsLaws.{ListingCalls-nothing, ListingCalls-refused}
 use Rattle.elf_listing.proofs.RowLaws.{WroteUntilStop-unread-first, WroteSome-as}
 use Rattle.elf_listing.proofs.SectionCosts.{range_within}
 use Rattle.elf_listing.proofs.SectionShown.{no_table, range_of_file, section_placed, table_fails}
@@ -22,12 +22,12 @@ use Rattle.elf_listing.proofs.ViewedLaws.{still_viewed}
 use Rattle.elf_listing.proofs.listing.Listing.versions.Goals as goal
 
 pub returns-then-header-section_type : goal.returns-then-header-section_type
-returns-then-header-section_type g c = Lists-nothing _ _ _ _ (λ file held.
+returns-then-header-section_type g c = ListingCalls-nothing _ _ _ _ (λ file held.
     let stands = c.section-header.ensures.stands file (c.args.self.now.loaded.belongs file held) in
     no_table (records_kind c.args.kind) file _ _ _ _ (ne_eqb _ _ (λ same. c.if-header-section_type.true (stands.sh_type ∙ (same ∙ sym c.section_type.ensures)))))
 
 pub returns-then-header-eq0 : goal.returns-then-header-eq0
-returns-then-header-eq0 g c = Lists-nothing _ _ _ _ (λ file held.
+returns-then-header-eq0 g c = ListingCalls-nothing _ _ _ _ (λ file held.
     let stands = c.section-header.ensures.stands file (c.args.self.now.loaded.belongs file held) in
     let kind = sym stands.sh_type ∙ (c.if-header-section_type.false ∙ c.section_type.ensures) in
     none_are c.args.kind file _ _ _ (section_at file c.args.section) (eq-eqb _ _ kind) (sym stands.sh_size ∙ c.if-header-eq0.true))
@@ -35,7 +35,7 @@ returns-then-header-eq0 g c = Lists-nothing _ _ _ _ (λ file held.
 pub returns-in_err-table : goal.returns-in_err-table
 returns-in_err-table g c =
     let p = err_from_is_err_and c.from_residual.result c.from_residual.ensures.1 in
-    rw (p.1, p.2) (Lists-refused _ _ _ _ (search rules) (λ file held.
+    rw (p.1, p.2) (ListingCalls-refused _ _ _ _ (search rules) (λ file held.
     let belongs = c.args.self.now.loaded.belongs file held in
     let stands = c.section-header.ensures.stands file belongs in
     let at = section_at file c.args.section in
@@ -48,7 +48,7 @@ returns-in_err-table g c =
 pub returns-in_err-names : goal.returns-in_err-names
 returns-in_err-names g c =
     let p = err_from_is_err_and c.from_residual-in_err-names.result c.from_residual-in_err-names.ensures.1 in
-    rw (p.1, p.2) (Lists-refused _ _ _ _ c.in_err-names.ensures.refusal (λ file held.
+    rw (p.1, p.2) (ListingCalls-refused _ _ _ _ c.in_err-names.ensures.refusal (λ file held.
     let belongs = c.args.self.now.loaded.belongs file held in
     let stands = c.section-header.ensures.stands file belongs in
     let at = section_at file c.args.section in

@@ -8,8 +8,8 @@ use Rattle.elf_note.proofs.read_ahead.ReadAhead.symbol.Goals as goal
 
 pub returns-clause-read : goal.returns-clause-read
 returns-clause-read g c = λ file h a.
-    let b = c.in_ok-bring.ensures in
-    let held = c.bring.new.self in
+    let b = c.in_ok-fill_buf.ensures in
+    let held = c.fill_buf.new.self in
     let at = c.place-at.result in
     let ends = b.brings.ends in
     let known = rw (← c.self.view_is) at a in

@@ -1,0 +1,14 @@
+-- No section so far is of the type.
+use Rattle.std.proofs.Common.{◌≡◌, ◌==◌, ℕ, ◌<◌, false, List}
+use Rattle.elf_model.specs.HeaderTables.{file_sections, header_field}
+use Rattle.elf_model.specs.Records.{sh_type}
+use Rattle.elf_table.specs.Load.{HoldsSectionHeaders}
+use Rattle.elf_table.specs.Versions.{sections_in}
+use Rattle.elf_table.proofs.file.SectionView.first.Given as goal
+
+abbrev pub invariant-loop-section : goal.invariant-loop-section
+invariant-loop-section l = record {
+  value : (i : ℕ) → i < l.section → (header_field (sections_in l.self) sh_type i == l.sh_type) ≡ false;
+  held : (file : List ℕ) → HoldsSectionHeaders file l.self.loaded l.self.store.now → (i : ℕ) → i < l.section
+      → (header_field (file_sections file) sh_type i == l.sh_type) ≡ false;
+}
