@@ -1,9 +1,6 @@
 //! The names of members.
 ghost use Rattle.std.specs.Prelude.{◌≡◌, ◌+◌, ℕ, ◌^◌, ◌<◌, ◌≤◌, List, length, take, Some, IfErr, IfOk, OnOk};
-ghost use Rattle.elf_model.specs.Archive.{bsd_name, long_name, member_name, name_in_data, parsed_member_name, trimmed};
-ghost use Rattle.elf_model.specs.ArchiveCost.{long_name_bytes};
-ghost use Rattle.elf_model.specs.Bytes.{slice};
-ghost use Rattle.elf_model.specs.Notes.{capped};
+ghost use Rattle.elf_model.specs.Prelude.{bsd_name, capped, long_name, long_name_bytes, member_name, name_in_data, parsed_member_name, slice, trimmed};
 ghost use Rattle.elf_table.specs.Faults.{IsOfRead};
 ghost use Rattle.elf_format.specs.Named.{shown_as};
 ghost use Rattle.elf_archive.specs.Members.{AsksAtMost, FrontRead, LengthTold, NameShown, NamesInBounds};

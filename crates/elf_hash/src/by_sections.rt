@@ -1,10 +1,8 @@
 //! The tables that a lookup searches, by the section headers.
 ghost use Rattle.std.specs.Prelude.{◌≡◌, ◌<◌, ◌^◌, ℕ, List, IfSome};
 ghost use Rattle.std.specs.Option.{option_map};
-ghost use Rattle.elf_model.specs.LoaderScope.{hash_section, scope_by_sections, section_checks, section_lookup_tables};
-ghost use Rattle.elf_model.specs.Records.{section_at};
-ghost use Rattle.elf_table.specs.Load.{HoldsSectionHeaders};
-ghost use Rattle.elf_table.specs.HashSections.{ChecksThenValue};
+ghost use Rattle.elf_model.specs.Prelude.{hash_section, scope_by_sections, section_at, section_checks, section_lookup_tables};
+ghost use Rattle.elf_table.specs.Prelude.{ChecksThenValue, HoldsSectionHeaders};
 ghost use Rattle.elf_hash.specs.HashStyles.{hash_style_of};
 ghost use Rattle.elf_hash.specs.Headers.{FindsIn, HasHeader};
 ghost use Rattle.elf_hash.specs.HashSections.{found_at};

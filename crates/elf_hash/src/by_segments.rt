@@ -1,9 +1,7 @@
 //! The tables that a lookup searches, by the program headers.
 ghost use Rattle.std.specs.Prelude.{◌≡◌, ◌<◌, ◌^◌, ℕ, List};
-ghost use Rattle.elf_model.specs.LoaderScope.{lookup_tables_by_segments, scope_in_segments, has_wide_kind, segment_checks, segment_lookup_tables};
-ghost use Rattle.elf_model.specs.Records.{d_un, segment_at};
-ghost use Rattle.elf_table.specs.Load.{HoldsProgramHeaders};
-ghost use Rattle.elf_table.specs.HashSections.{ChecksThenValue};
+ghost use Rattle.elf_model.specs.Prelude.{d_un, has_wide_kind, lookup_tables_by_segments, scope_in_segments, segment_at, segment_checks, segment_lookup_tables};
+ghost use Rattle.elf_table.specs.Prelude.{ChecksThenValue, HoldsProgramHeaders};
 ghost use Rattle.elf_hash.specs.Entries.{AreTaggedEntries};
 ghost use Rattle.elf_hash.specs.HashStyles.{hash_style_of};
 ghost use Rattle.elf_hash.specs.Headers.{FindsIn, HasHeader, IsOfSource};

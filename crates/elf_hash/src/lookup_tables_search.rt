@@ -1,8 +1,7 @@
 //! The tables that a lookup searches, found by the headers of a file.
 ghost use Rattle.std.specs.Prelude.{◌≡◌, ◌+◌, ◌*◌, ◌<◌, ◌≤◌, ◌^◌, ℕ, List, IfOk};
 ghost use Rattle.elf_model.specs.LoaderFind.{segments_asked};
-ghost use Rattle.elf_table.specs.Ledger.{CallReads, CallDid, fault_of_result};
-ghost use Rattle.elf_table.specs.Load.{HoldsSectionHeaders, SegmentsInBounds};
+ghost use Rattle.elf_table.specs.Prelude.{CallDid, CallReads, HoldsSectionHeaders, SegmentsInBounds, fault_of_result};
 ghost use Rattle.elf_hash.specs.Finding.{FindsScope, scope_loaded, segments_bytes};
 ghost use Rattle.elf_hash.specs.Headers.{IsOfSource};
 ghost use Rattle.elf_hash.specs.LookupTablesFound.{FindsLookupTables, LookupTablesInBounds};

@@ -3,8 +3,7 @@ ghost use Rattle.std.specs.Prelude.{◌≡◌, ℕ, ◌+◌, ◌*◌};
 ghost use Rattle.elf_table.specs.Ledger.{CallDid, fault_of_result};
 ghost use Rattle.elf_loader.specs.Tables.{max_versions_of};
 ghost use Rattle.elf_loader.specs.Telling.{ReturnsVersionName, parsed_member_bytes};
-ghost use Rattle.elf_model.specs.Loader.{VersymTable as AreWordsOf, naming_of, readings, versym_at};
-ghost use Rattle.elf_model.specs.LoaderScope.{LookupTables as IsScopeOf};
+ghost use Rattle.elf_model.specs.Prelude.{LookupTables as IsScopeOf, VersymTable as AreWordsOf, naming_of, readings, versym_at};
 ghost use Rattle.elf_hash.specs.Symbols.{IsDynamicSymbols, DynamicSymbolsInBounds};
 
 use crate::version_name_record::name_of;

@@ -1,13 +1,11 @@
 //! Which versions fit what is asked for.
 ghost use Rattle.std.specs.Prelude.{◌≡◌, ℕ, ◌+◌, ◌≤◌, List, IfSome};
-ghost use Rattle.elf_table.specs.Ledger.{CallDid, IsRead, fault_of_result};
+ghost use Rattle.elf_table.specs.Prelude.{CallDid, IsRead, TableInBounds, fault_of_result};
 ghost use Rattle.elf_loader.specs.Answering.{ReturnsFit};
 ghost use Rattle.elf_loader.specs.NumberSets.{has_number};
 ghost use Rattle.elf_options.specs.Wants.{asked_of};
-ghost use Rattle.elf_model.specs.Bytes.{field, slice};
-ghost use Rattle.elf_model.specs.Loader.{VersymTable as AreWordsOf, fits, version_fits};
+ghost use Rattle.elf_model.specs.Prelude.{VersymTable as AreWordsOf, field, fits, slice, version_fits};
 ghost use Rattle.elf_hash.specs.Symbols.{AreVersymTable};
-ghost use Rattle.elf_table.specs.Tables.{TableInBounds};
 ghost use Rattle.std.specs.Prelude.{Option};
 
 use crate::version_index_set::VersionIndexSet;

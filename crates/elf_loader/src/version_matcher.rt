@@ -4,8 +4,7 @@ ghost use Rattle.elf_table.specs.Ledger.{CallDid, fault_of_result};
 ghost use Rattle.elf_loader.specs.Answering.{SaysOf, IsSymbolWithVersym, ReturnsAnswer};
 ghost use Rattle.elf_loader.specs.NumberSets.{has_number};
 ghost use Rattle.elf_options.specs.Wants.{query_of};
-ghost use Rattle.elf_model.specs.Loader.{DynamicSymbols as AreSymbolsOf, answers};
-ghost use Rattle.elf_model.specs.Names.{pad64};
+ghost use Rattle.elf_model.specs.Prelude.{DynamicSymbols as AreSymbolsOf, answers, pad64};
 ghost use Rattle.elf_hash.specs.Symbols.{IsDynamicSymbols, DynamicSymbolsInBounds};
 
 use crate::exported::is_exported;

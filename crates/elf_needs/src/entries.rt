@@ -1,15 +1,8 @@
 //! The dynamic entries that tell how a file is linked.
 ghost use Rattle.std.specs.Prelude.{◌≡◌, ◌+◌, ◌*◌, ◌==◌, ℕ, List, None, Some, IfErr, IfOk, if◌then◌else◌};
-ghost use Rattle.elf_table.specs.Faults.{IsOfCheck};
-ghost use Rattle.elf_table.specs.Ledger.{CallDid, fault_of_result};
-ghost use Rattle.elf_table.specs.Load.{HoldsProgramHeaders};
-ghost use Rattle.elf_model.specs.Dynamic.{dynamic_count};
-ghost use Rattle.elf_model.specs.Links.{is_link, linked_from, linked_with, no_link_info};
-ghost use Rattle.elf_model.specs.Links.{LinkState};
-ghost use Rattle.elf_model.specs.Mapped.{strings_at};
-ghost use Rattle.elf_model.specs.Records.{d_tag};
+ghost use Rattle.elf_table.specs.Prelude.{CallDid, HoldsProgramHeaders, IsOfCheck, StringsInBounds, TableInBounds, fault_of_result, size_of};
+ghost use Rattle.elf_model.specs.Prelude.{LinkState, d_tag, dynamic_count, is_link, linked_from, linked_with, no_link_info, strings_at};
 ghost use Rattle.elf_record.specs.Dyn.{IsDyn};
-ghost use Rattle.elf_table.specs.Tables.{TableInBounds, StringsInBounds, size_of};
 ghost use Rattle.elf_needs.specs.Entries.{KeepsLinks, ReturnsLinks, ReturnsStrings, with_index};
 ghost use Rattle.elf_needs.specs.Held.{LinkInfoState};
 

@@ -1,9 +1,7 @@
 //! The sections of one type, and the checks of one that is a hash table.
 ghost use Rattle.std.specs.Prelude.{◌≡◌, ◌<◌, ℕ, List};
 ghost use Rattle.std.specs.Prelude.{IfOk, IfErr, MatchOption};
-ghost use Rattle.elf_model.specs.Checks.{first_refusal};
-ghost use Rattle.elf_model.specs.Find.{has_64_bit_words, hash_checks_from};
-ghost use Rattle.elf_model.specs.Records.{section_at};
+ghost use Rattle.elf_model.specs.Prelude.{first_refusal, has_64_bit_words, hash_checks_from, section_at};
 ghost use Rattle.elf_record.specs.Shdr.{IsShdr};
 ghost use Rattle.elf_table.specs.Faults.{IsOfCheck};
 ghost use Rattle.elf_table.specs.Load.{HoldsSectionHeaders};

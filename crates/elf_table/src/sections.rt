@@ -1,7 +1,6 @@
 //! The checks of a loaded file's sections.
 ghost use Rattle.std.specs.Prelude.{◌≡◌, ℕ, ◌<◌, ◌≤◌, ◌^◌, ◌==◌, ◌&&◌, ◌||◌, not, List, true, None, Ok, IfOk, IfErr, IfSome, IsTrue, MatchResult};
-ghost use Rattle.elf_model.specs.Records.{section_at};
-ghost use Rattle.elf_model.specs.Numbers.{SHT_GNU_VERSYM as VERSYM};
+ghost use Rattle.elf_model.specs.Prelude.{SHT_GNU_VERSYM as VERSYM, file_sections, first_numbers, first_typed, has_strings, has_symbols, section_at, sh_link};
 ghost use Rattle.elf_record.specs.Shdr.{IsShdr};
 ghost use Rattle.elf_table.specs.Load.{HoldsSectionHeaders, PassesLoadChecks, section_place};
 ghost use Rattle.elf_table.specs.Faults.{IsOfCheck};
@@ -10,11 +9,6 @@ ghost use Rattle.elf_table.specs.Sections.{byte_rows, table_at, string_table_at,
 ghost use Rattle.elf_table.specs.Sections.{symbols_at};
 ghost use Rattle.elf_table.specs.Relocations.{Links, Relocates};
 ghost use Rattle.elf_table.specs.Versions.{CountsVersions, LinksToSymbols, Versioned, has_names, sections_in};
-ghost use Rattle.elf_model.specs.HeaderTables.{file_sections, first_typed};
-ghost use Rattle.elf_model.specs.Records.{sh_link};
-ghost use Rattle.elf_model.specs.Suffixes.{first_numbers};
-ghost use Rattle.elf_model.specs.Tables.{has_symbols};
-ghost use Rattle.elf_model.specs.VersionCost.{has_strings};
 ghost use Rattle.elf_table.specs.Store.{row};
 ghost use Rattle.elf_table.specs.Tables.{TableInBounds, Spans, StringsInBounds, SymbolTableInBounds, size_of};
 

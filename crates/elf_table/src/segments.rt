@@ -1,8 +1,7 @@
 //! The checks of the segments of a file in the segment view.
 ghost use Rattle.std.specs.Prelude.{◌≡◌, ◌+◌, ◌≤◌, ◌<◌, ℕ, List, IfOk, IfErr, IfSome, MatchResult};
 ghost use Rattle.std.specs.Option.{option_map};
-ghost use Rattle.elf_model.specs.Records.{segment_at};
-ghost use Rattle.elf_model.specs.Mapped.{mapped_at};
+ghost use Rattle.elf_model.specs.Prelude.{mapped_at, segment_at};
 ghost use Rattle.elf_record.specs.Phdr.{IsPhdr};
 ghost use Rattle.elf_table.specs.Faults.{IsOfCheck};
 ghost use Rattle.elf_table.specs.Load.{HoldsProgramHeaders};
