@@ -95,7 +95,8 @@ fn list_archive<S: Source, W: Sink>(
     ensures lists { GoesThrough store.old.slots store.new.slots (style_of choice.entry.style)
         choice.entry.parts.0 src.old src.new out.old out.new result
         (archive_ceiling src.old.seen.size) archive_cost (λ file headers style parts.
-        ListsMembers out.old out.new result (archive_items choice.entry.alone file headers style parts)
+        ListsMembers out.old out.new result
+        (archive_items choice.entry.alone file headers style parts)
         (any_refused file headers style parts)) }
     ensures unread { (refusal : Refuses) →
         first_refusal (archive_length_checks src.old.seen.size) ≡ Some refusal →

@@ -115,7 +115,8 @@ fn read_reported<S: Source>(
     requires names { NamesInBounds src.old.seen.size names }
     ensures asks { AsksAtMost src.old src.new result (told_cost field.now cap.bytes) }
     ensures read { (file : List ℕ) → src.old.seen.file ≡ Some file →
-        NameShown at result name.new (parsed_member_name file cap.bytes (extent_of_names names) field.now) }
+        NameShown at result name.new
+        (parsed_member_name file cap.bytes (extent_of_names names) field.now) }
 {
     match long_offset(field) {
         Some(offset) => read_long_name(src, names, offset, at, cap, name),

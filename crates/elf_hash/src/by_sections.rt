@@ -26,7 +26,8 @@ use elf_table::{Fault, SectionView, refused};
 /// tables of versions.
 pub(crate) fn by_sections(file: &SectionView<'_>) -> Result<LookupTables, Fault>
     requires small { file.now.loaded.size < 2 ^ 63 }
-    ensures { FindsIn HoldsSectionHeaders file.now.loaded file.now.store.now result LookupTablesInBounds
+    ensures { FindsIn HoldsSectionHeaders file.now.loaded file.now.store.now result
+        LookupTablesInBounds
         (λ bytes. FindsLookupTables bytes (scope_by_sections bytes) result) }
 {
     let Some((kind, section)) = hash_section(file) else {
@@ -60,9 +61,11 @@ fn section_lookup_tables(
     section: u16,
 ) -> Result<LookupTables, Fault>
     requires { HasHeader section file.now.store.now.loaded file.now.loaded.size }
-    ensures { FindsIn HoldsSectionHeaders file.now.loaded file.now.store.now result LookupTablesInBounds (λ bytes.
+    ensures { FindsIn HoldsSectionHeaders file.now.loaded file.now.store.now result
+        LookupTablesInBounds (λ bytes.
         ChecksThenValue (section_checks bytes (hash_style_of kind) (section_at bytes section))
-        (IsLookupTables bytes (section_lookup_tables bytes (hash_style_of kind) (section_at bytes section)))
+        (IsLookupTables bytes
+        (section_lookup_tables bytes (hash_style_of kind) (section_at bytes section)))
         result) }
 {
     let (index, (table, names)) = file.hashed(section, kind.min_hash_bytes())?;

@@ -61,9 +61,11 @@ fn by_entries(
     found: &DynamicTags,
 ) -> Result<LookupTables, Fault>
     requires { HasHeader segment view.now.store.now.segments view.now.loaded.size }
-    ensures { FindsIn HoldsProgramHeaders view.now.loaded view.now.store.now result LookupTablesInBounds (λ bytes.
+    ensures { FindsIn HoldsProgramHeaders view.now.loaded view.now.store.now result
+        LookupTablesInBounds (λ bytes.
         AreTaggedEntries bytes (segment_at bytes segment) found.now →
-        FindsLookupTables bytes (scope_by_entries bytes segment (segment_at bytes segment)) result) }
+        FindsLookupTables bytes (scope_by_entries bytes segment (segment_at bytes segment))
+        result) }
 {
     let Some((kind, row)) = hash_entry(found) else {
         return refused(0x20, Cause::NoHash);
@@ -98,12 +100,15 @@ fn segment_lookup_tables(
     row: &DynEntry,
 ) -> Result<LookupTables, Fault>
     requires { HasHeader segment view.now.store.now.segments view.now.loaded.size }
-    ensures { FindsIn HoldsProgramHeaders view.now.loaded view.now.store.now result LookupTablesInBounds (λ bytes.
+    ensures { FindsIn HoldsProgramHeaders view.now.loaded view.now.store.now result
+        LookupTablesInBounds (λ bytes.
         AreTaggedEntries bytes (segment_at bytes segment) found.now →
         d_un bytes row.now.at ≡ row.now.value →
-        ChecksThenValue (segment_checks bytes (hash_style_of kind) (segment_at bytes segment) row.now.at)
+        ChecksThenValue
+        (segment_checks bytes (hash_style_of kind) (segment_at bytes segment) row.now.at)
         (IsLookupTables bytes
-        (segment_lookup_tables bytes (hash_style_of kind) segment (segment_at bytes segment) row.now.at))
+        (segment_lookup_tables bytes (hash_style_of kind) segment (segment_at bytes segment)
+        row.now.at))
         result) }
 {
     let hash = view.rest(row.value, row.at)?;

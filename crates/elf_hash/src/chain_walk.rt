@@ -65,7 +65,8 @@ pub fn walk<S: Source, T: Matcher>(
     ensures { CallDid src.old src.new (fault_of_result result) (walk_bytes 12
         ((place_of_table table.now).size / 4) ((place_of_table table.now).size / 4)
         (T.cost trial.now))
-        (λ file. (scope : LookupTables) (says : ℕ → Result Bool Refusal) → IsTable file scope table.now →
+        (λ file. (scope : LookupTables) (says : ℕ → Result Bool Refusal) →
+        IsTable file scope table.now →
         T.is_of trial.now file says → WalksChain (T.stands trial.now file) 12 (T.cost trial.now)
         (walked_in file scope name.now says) src.old src.new result) }
 {

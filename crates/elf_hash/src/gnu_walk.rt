@@ -161,7 +161,8 @@ fn tried_where<S: Source, T: Matcher>(
 ) -> Result<Option<SymbolMatch>, Fault>
     requires below { index < T.symbols trial.now }
     requires lies { T.lies trial.now src.old.seen.size }
-    ensures { CallDid src.old src.new (fault_of_result result) (cost_where is_wanted (T.cost trial.now))
+    ensures { CallDid src.old src.new (fault_of_result result)
+        (cost_where is_wanted (T.cost trial.now))
         (λ file. (says : ℕ → Result Bool Refusal) → T.is_of trial.now file says →
         TriesDefinedSymbol is_wanted (T.stands trial.now file) says index result) }
 {

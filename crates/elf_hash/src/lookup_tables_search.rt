@@ -54,7 +54,8 @@ fn loaded_scope<S: Source>(
     requires whole { store.old.loaded ≡ loaded.header.e_shnum }
     requires few { loaded.header.e_phnum ≤ store.old.slots }
     ensures did { CallDid src.old src.new (fault_of_result result)
-        (segments_bytes loaded.header src.old.seen.size) (λ file. HoldsSectionHeaders file loaded store.old →
+        (segments_bytes loaded.header src.old.seen.size)
+        (λ file. HoldsSectionHeaders file loaded store.old →
         CallReads src.old src.new (fault_of_result result) (segments_asked file)
         × FindsLookupTables file (scope_loaded file) result) }
     ensures slots { store.new.slots ≡ store.old.slots }

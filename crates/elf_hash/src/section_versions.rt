@@ -21,7 +21,8 @@ use elf_table::{Fault, Names, SectionView, Table, refused};
 /// The first check that fails: those of the words, of the definitions, of the needs.
 pub(crate) fn section_versions(file: &SectionView<'_>, link: u32) -> Result<VersionTables, Fault>
     requires small { file.now.loaded.size < 2 ^ 63 }
-    ensures { FindsIn HoldsSectionHeaders file.now.loaded file.now.store.now result VersionsInBounds (λ bytes.
+    ensures { FindsIn HoldsSectionHeaders file.now.loaded file.now.store.now result
+        VersionsInBounds (λ bytes.
         (at : ℕ) → sh_link bytes at ≡ link → ChecksThenValue (version_checks bytes at)
         (AreVersions bytes (section_words bytes)
         (records_of_type bytes SHT_GNU_VERDEF Definition
@@ -127,7 +128,8 @@ fn section_records(
 ) -> Result<VersionRecordTable, Fault>
     requires header { HasHeader section file.now.store.now.loaded file.now.loaded.size }
     requires kind { kind ≡ Need → ⊥ }
-    ensures { FindsIn HoldsSectionHeaders file.now.loaded file.now.store.now result VersionRecordsInBounds (λ bytes.
+    ensures { FindsIn HoldsSectionHeaders file.now.loaded file.now.store.now result
+        VersionRecordsInBounds (λ bytes.
         ChecksThenValue (all_checks version_table bytes (section_at bytes section))
         (IsVersionRecordTable bytes (records_at bytes kind (section_at bytes section))) result) }
 {
@@ -150,7 +152,8 @@ fn section_records(
 fn record_names(file: &SectionView<'_>, section: u16, table: Table) -> Result<Names, Fault>
     requires below { section < file.now.store.now.loaded }
     ensures some { IfErr result (λ fault. 0 < table.count) }
-    ensures finds { FindsIn HoldsSectionHeaders file.now.loaded file.now.store.now result StringsInBounds
+    ensures finds { FindsIn HoldsSectionHeaders file.now.loaded file.now.store.now result
+        StringsInBounds
         (λ bytes. 0 < table.count → result ≡ string_table_at bytes (section_at bytes section)) }
 {
     if table.is_empty() {

@@ -29,7 +29,8 @@ pub(crate) fn segment_symbols(
     row: u64,
 ) -> Result<DynamicSymbols, Fault>
     requires small { view.now.loaded.size < 2 ^ 63 }
-    ensures { FindsIn HoldsProgramHeaders view.now.loaded view.now.store.now result DynamicSymbolsInBounds (λ bytes.
+    ensures { FindsIn HoldsProgramHeaders view.now.loaded view.now.store.now result
+        DynamicSymbolsInBounds (λ bytes.
         (at : ℕ) → AreTaggedEntries bytes at found.now →
         ChecksThenValue (rows_checks bytes at row) (AreRowsSymbols bytes segment at) result) }
 {
@@ -88,7 +89,8 @@ fn segment_versions(
 ) -> Result<VersionTables, Fault>
     requires small { view.now.loaded.size < 2 ^ 63 }
     requires names { StringsInBounds view.now.loaded.size names }
-    ensures { FindsIn HoldsProgramHeaders view.now.loaded view.now.store.now result VersionsInBounds (λ bytes.
+    ensures { FindsIn HoldsProgramHeaders view.now.loaded view.now.store.now result
+        VersionsInBounds (λ bytes.
         (at : ℕ) → AreTaggedEntries bytes at found.now →
         strings_in bytes names ≡ segment_strings bytes at → ChecksThenValue (version_rows bytes at)
         (AreVersions bytes (segment_words bytes segment at) (rows_records bytes at)) result) }

@@ -35,7 +35,8 @@ pub(crate) fn load_view<S: Source>(
         HoldsSectionHeaders file loaded.now store.old → OnOk result
         (HoldsSectionHeaders file loaded.now store.new × HoldsSegments file store.new) }
     ensures checked { (file : List ℕ) → src.old.seen.file ≡ Some file →
-        HoldsSectionHeaders file loaded.now store.old → (style.entry.by_segments ≡ true → e_shnum file ≡ 0) →
+        HoldsSectionHeaders file loaded.now store.old →
+        (style.entry.by_segments ≡ true → e_shnum file ≡ 0) →
         ChecksView (view_checks file (style_of style.entry) parts.0) result }
 {
     read_view(src, store, loaded, parts)?;

@@ -49,7 +49,8 @@ fn compare_record<S: Source>(
     requires within { StringsInBounds src.old.seen.size names.now }
     requires small { number_in given.now.number < VERSION_NUMBERS }
     ensures { CallDid src.old src.new (fault_of_result result) (pad64 (length version.now + 1))
-        (λ file. (met : VisitedRecord) (others : List VersionRecordRead) → IsVersion file met given.now →
+        (λ file. (met : VisitedRecord) (others : List VersionRecordRead) →
+        IsVersion file met given.now →
         ComparesOne numbers.old numbers.new
         (compared_with file version.now (Meets (strings_in file names.now) met ∷ others))
         (compared_with file version.now others) result) }

@@ -40,10 +40,12 @@ pub(crate) fn parsed_member_name<S: Source>(
     name: &mut NameBuf,
 ) -> Result<ResolvedVersionName, Fault>
     requires lies { DynamicSymbolsInBounds src.old.seen.size symbols.now }
-    ensures { CallDid src.old src.new (fault_of_result result) (max_versions_of symbols.now * 28 + parsed_member_bytes)
+    ensures { CallDid src.old src.new (fault_of_result result)
+        (max_versions_of symbols.now * 28 + parsed_member_bytes)
         (λ file. (told : IsScopeOf) (is : AreWordsOf) (y : ℕ) →
         IsDynamicSymbols file told.symbols symbols.now → at ≡ versym_at is y →
-        ReturnsVersionName file told is y (naming_of file number (readings file told.symbols.records))
+        ReturnsVersionName file told is y
+        (naming_of file number (readings file told.symbols.records))
         src.old src.new name.new result) }
 {
     let Some(named) = name_of(src, symbols, number)? else {

@@ -65,7 +65,8 @@ fn symbol_traits_of_rows<S: Source>(
     requires within { TableInBounds src.old.seen.size rows }
     requires names { StringsInBounds src.old.seen.size names }
     ensures { CallDid src.old src.new (fault_of_result result) (rows.count * 88)
-        (λ file. ReturnsMarks (marks_in file rows.at (strings_in file names) (symbol_traits_of before)
+        (λ file. ReturnsMarks
+        (marks_in file rows.at (strings_in file names) (symbol_traits_of before)
         rows.count) result) }
 {
     let mut ahead = ReadAhead::new();
@@ -97,7 +98,8 @@ fn with_symbol<S: Source>(
     ensures agrees { WhereAgrees src.old.seen.file ahead.old (λ file. IsAheadOf file ahead.new) }
     ensures tells { WhereAgrees src.old.seen.file ahead.old (λ file.
         row.now.bytes.now ≡ slice file row.now.at 24 →
-        ReturnsMarks (marks_with file row.now.at (strings_in file names) (symbol_traits_of marks)) result) }
+        ReturnsMarks (marks_with file row.now.at (strings_in file names) (symbol_traits_of marks))
+        result) }
 {
     let symbol = symbol_in(row);
     let index = NameIndex {

@@ -66,7 +66,8 @@ fn answering<S: Source>(
     requires most { length wanted.now.name.now ≤ 4096 }
     requires below { index < symbols.now.table.count }
     requires lies { DynamicSymbolsInBounds src.old.seen.size symbols.now }
-    ensures { CallDid src.old src.new (fault_of_result result) (26 + pad64 (length wanted.now.name.now + 1))
+    ensures { CallDid src.old src.new (fault_of_result result)
+        (26 + pad64 (length wanted.now.name.now + 1))
         (λ file. (told : AreSymbolsOf) → IsDynamicSymbols file told symbols.now →
         ReturnsAnswer file symbols.now index
         (answers file told (query_of wanted.now) (has_number numbers.now) index) result) }

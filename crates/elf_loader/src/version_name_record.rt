@@ -57,7 +57,8 @@ pub(crate) fn name_in_table<S: Source>(
 
 /// The record of the needed file that the next record is a version of, behind one more record.
 fn file_of(given: &VersionRecord, before: Option<VersionRecord>) -> Option<VersionRecord>
-    ensures { (bytes : List ℕ) (met : VisitedRecord) (told : Option VisitedRecord) → IsVersion bytes met given.now →
+    ensures { (bytes : List ℕ) (met : VisitedRecord) (told : Option VisitedRecord) →
+        IsVersion bytes met given.now →
         IsFileIf bytes told before → IsFileIf bytes (file_or met told) result }
 {
     match given.kind {

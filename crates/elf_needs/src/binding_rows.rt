@@ -84,7 +84,8 @@ pub fn show_binding<W: Sink>(
     format: Format,
     out: &mut Out<W>,
 ) -> Result<(), OutFault>
-    ensures puts { OutPuts out.old out.new result (binding_line format object symbol state name.now) }
+    ensures puts { OutPuts out.old out.new result
+        (binding_line format object symbol state name.now) }
 {
     let mut front = LinePrefix::new();
     match format {

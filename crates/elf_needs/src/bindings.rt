@@ -71,7 +71,8 @@ fn bind_all<S: Source, W: Sink>(
     out: &mut Out<W>,
 ) -> Result<WriteEnd, NeedsFault>
     ensures asks { AsksAll objects.old objects.new left.old left.new }
-    ensures known { (headers : ℕ) (files : List (List ℕ)) → AreObjectFiles headers objects.old files →
+    ensures known { (headers : ℕ) (files : List (List ℕ)) →
+        AreObjectFiles headers objects.old files →
         WritesLines among.now.format (bound_items (bound_among headers files among.now))
         (IsLimited left.old) out.old out.new result }
 {
@@ -101,7 +102,8 @@ fn bind_object<S: Source, W: Sink>(
 ) -> Result<WriteEnd, NeedsFault>
     requires { place < length objects.old }
     ensures asks { AsksAll objects.old objects.new left.old left.new }
-    ensures known { (headers : ℕ) (files : List (List ℕ)) → AreObjectFiles headers objects.old files →
+    ensures known { (headers : ℕ) (files : List (List ℕ)) →
+        AreObjectFiles headers objects.old files →
         WritesLines among.now.format (object_items (bound_among headers files among.now) place
         (get_or files place [])) (IsLimited left.old) out.old out.new result }
 {
@@ -138,7 +140,8 @@ fn bind_symbol<S: Source, W: Sink>(
     ensures asks { AsksAll objects.old objects.new left.old left.new }
     ensures known { (headers : ℕ) (files : List (List ℕ)) (told : IsScopeOf) →
         AreObjectFiles headers objects.old files →
-        lookup_tables_of (get_or files at.place []) headers ≡ Ok told → at.symbol < told.table.symbols →
+        lookup_tables_of (get_or files at.place []) headers ≡ Ok told →
+        at.symbol < told.table.symbols →
         WritesSymbol among.now.format (bound_item (bound_among headers files among.now) at.place
         (get_or files at.place []) told.symbols at.symbol) (IsLimited left.old) out.old out.new
         result }

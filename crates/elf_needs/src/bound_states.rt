@@ -40,7 +40,8 @@ pub(crate) fn item_of<S: Source>(
     ensures limited { IfErr result (OnlyLimited left.old) }
     ensures known { (headers : ℕ) (files : List (List ℕ)) (told : IsScopeOf) →
         AreObjectFiles headers objects.old files →
-        lookup_tables_of (get_or files at.place []) headers ≡ Ok told → at.symbol < told.table.symbols →
+        lookup_tables_of (get_or files at.place []) headers ≡ Ok told →
+        at.symbol < told.table.symbols →
         ReturnsItem (bound_item (bound_among headers files among.now) at.place
         (get_or files at.place []) told.symbols at.symbol)
         (get_or among.now.indexes.now at.place 0) at.symbol names.new.shown.items result }
@@ -122,7 +123,8 @@ fn lacks_version<S: Source>(
     ensures limited { IfErr result (OnlyLimited left.old) }
     ensures shown { names.new.shown ≡ names.old.shown }
     ensures known { OfSought objects.old at.place at.symbol sought.now (λ headers files told.
-        ReturnsAs (missing_version_requested (bound_among headers files among.now) (get_or files at.place [])
+        ReturnsAs (missing_version_requested (bound_among headers files among.now)
+        (get_or files at.place [])
         told.symbols at.symbol (asked_name (asked_if sought.now.versioned names.old.version)))
         result) }
 {
@@ -160,7 +162,8 @@ fn lacks_in<S: Source>(
     requires { length version.now ≤ 4096 }
     ensures asks { AsksAll objects.old objects.new left.old left.new }
     ensures limited { IfErr result (OnlyLimited left.old) }
-    ensures known { (headers : ℕ) (files : List (List ℕ)) → AreObjectFiles headers objects.old files →
+    ensures known { (headers : ℕ) (files : List (List ℕ)) →
+        AreObjectFiles headers objects.old files →
         ReturnsAs (Ok (object_lacks (bound_among headers files among.now) name.now version.now))
         result }
 {

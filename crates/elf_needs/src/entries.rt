@@ -39,7 +39,8 @@ pub(crate) fn list_link_info<S: Source>(
     requires within { TableInBounds src.old.seen.size table }
     requires size { strings.now.view.now.loaded.size ≡ src.old.seen.size }
     ensures { CallDid src.old src.new (fault_of_result result) (size_of table + table.count * 4160)
-        (λ file. HoldsProgramHeaders file strings.now.view.now.loaded strings.now.view.now.store.now →
+        (λ file. HoldsProgramHeaders file strings.now.view.now.loaded
+        strings.now.view.now.store.now →
         ReturnsLinks (linked_from file strings.now.told.address strings.now.told.size table.at
         (record { links = no_link_info; room = store.old.held.room })
         (dynamic_count file table.at table.count)) store.old store.new result) }
@@ -79,7 +80,8 @@ fn with_entry<S: Source>(
 ) -> Result<LinkInfo, Fault>
     requires { strings.now.view.now.loaded.size ≡ src.old.seen.size }
     ensures { CallDid src.old src.new (fault_of_result result) 4160
-        (λ file. HoldsProgramHeaders file strings.now.view.now.loaded strings.now.view.now.store.now →
+        (λ file. HoldsProgramHeaders file strings.now.view.now.loaded
+        strings.now.view.now.store.now →
         IsDyn file at entry.now → (before : LinkInfoState) (state : LinkState) →
         KeepsLinks before store.old links state →
         ReturnsLinks (linked_with file strings.now.told.address strings.now.told.size at state)
@@ -123,7 +125,8 @@ fn mapped_strings(strings: &DynamicTexts<'_, '_>, at: u64) -> Result<Names, Faul
     ensures within { IfOk result (StringsInBounds strings.now.view.now.loaded.size) }
     ensures refusal { IfErr result IsOfCheck }
     ensures tells { (file : List ℕ) →
-        HoldsProgramHeaders file strings.now.view.now.loaded strings.now.view.now.store.now → ReturnsStrings file
+        HoldsProgramHeaders file strings.now.view.now.loaded strings.now.view.now.store.now →
+        ReturnsStrings file
         (strings_at file at strings.now.told.address strings.now.told.size) result }
 {
     let Some(address) = strings.told.address else {

@@ -23,7 +23,8 @@ pub(crate) fn ready_table<S: Source>(
 ) -> Result<Option<HashTable>, Fault>
     requires { LookupTablesInBounds src.old.seen.size scope.now }
     ensures did { CallDid src.old src.new (fault_of_result result) (ready_bytes src.old.seen.size)
-        (λ file. (told : IsScopeOf) → IsLookupTables file told scope.now → ReturnsReady file told result) }
+        (λ file. (told : IsScopeOf) → IsLookupTables file told scope.now →
+        ReturnsReady file told result) }
     ensures place { IfOk result (λ ready.
         IfSome ready (λ table. place_of_table table ≡ scope.now.hash)) }
 {

@@ -69,7 +69,8 @@ pub(crate) fn reference_symbol<S: Source>(
         ReturnsSought (reference_at file told index) (is_weak file (symbol_offset told index))
         name.new version.new result) }
     ensures file { (bytes : List ℕ) → src.old.seen.file ≡ Some bytes → (told : AreSymbolsOf) →
-        IsDynamicSymbols bytes told symbols.now → SeeksOf bytes (file_of_version bytes told index) result }
+        IsDynamicSymbols bytes told symbols.now →
+        SeeksOf bytes (file_of_version bytes told index) result }
 {
     let symbol = symbols.table.symbol(src, index)?;
     if !is_reference(&symbol) {
@@ -104,7 +105,8 @@ pub(crate) fn reference_of<S: Source>(
         ReturnsSought (reference_at file told index) (is_weak file (symbol_offset told index))
         name.new version.new result) }
     ensures file { (bytes : List ℕ) → src.old.seen.file ≡ Some bytes → (told : AreSymbolsOf) →
-        IsDynamicSymbols bytes told symbols.now → SeeksOf bytes (file_of_version bytes told index) result }
+        IsDynamicSymbols bytes told symbols.now →
+        SeeksOf bytes (file_of_version bytes told index) result }
 {
     if index >= symbols.table.len() {
         return Ok(None);

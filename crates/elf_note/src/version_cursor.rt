@@ -176,7 +176,8 @@ impl VersionCursor {
         requires within { TableInBounds src.old.seen.size self.old.held.table }
         requires stands { self.old.standing ≡ Some stand.now }
         requires going { self.old.failed ≡ None }
-        ensures did { CallDid src.old src.new (fault_of_result result) (unread self.old - unread self.new)
+        ensures did { CallDid src.old src.new (fault_of_result result)
+            (unread self.old - unread self.new)
             (λ file. IsCursorOf file self.old → MeetsIn file self.old self.new result) }
         ensures keeps { KeepsWalk self.old self.new }
         ensures leaves { LeavesVisited self.old self.new result }

@@ -70,7 +70,8 @@ pub(crate) fn lacking_at<S: Source>(
 /// A fault of the read, or a refusal for want of budget, at that offset.
 fn read_entry<S: Source>(src: &mut Counted<S>, at: u64) -> Result<Rela, Fault>
     requires { at + 24 ≤ src.old.seen.size }
-    ensures { CallDid src.old src.new (fault_of_result result) 24 (λ file. EntryRead file at result) }
+    ensures { CallDid src.old src.new (fault_of_result result) 24
+        (λ file. EntryRead file at result) }
 {
     let mut bytes = [0; 24];
     fill(src, at, &mut bytes)?;

@@ -37,7 +37,8 @@ pub fn load<S: Source>(
     ensures segments { store.new.segments ≡ 0 }
     // At most the section headers are asked for, and nothing where the file header refuses the
     // file.
-    ensures reads { ReadsUpTo src.old src.new (load_cost header.now src.old.seen.size store.old.slots) }
+    ensures reads { ReadsUpTo src.old src.new
+        (load_cost header.now src.old.seen.size store.old.slots) }
     ensures says { IfErr result
         (IsReadFault src.old src.new (load_cost header.now src.old.seen.size store.old.slots)) }
     ensures early { (refusal : Refuses) →
@@ -65,7 +66,8 @@ pub fn load<S: Source>(
 /// as the store has slots.
 fn refused_unread(store: &HeaderStore, header: &Ehdr, size: u64) -> Option<Refusal>
     ensures refusal { result ≡ first_refusal (early_of header.now size store.now.slots) }
-    ensures passes { MatchOption result (PassesLoadChecks size store.now.slots header.now) (λ _. Unit {0}) }
+    ensures passes { MatchOption result (PassesLoadChecks size store.now.slots header.now)
+        (λ _. Unit {0}) }
     ensures permitted { store.now.slots ≤ 65279 }
 {
     let headers = store.slots();
