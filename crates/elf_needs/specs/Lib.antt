@@ -19,3 +19,4 @@ pub mod Requests
 pub mod Budget
 pub mod Called
 pub mod ObjectLines
+pub mod Prelude
