@@ -2,11 +2,14 @@
 use Rattle.std.proofs.Common.{◌≡◌, ℕ, zero, suc, ◌+◌, ◌<◌, ◌≤◌, ◌-◌, ◌^◌, ◌⊎◌, min, List, [], ◌∷◌, length, length-set, get_or, get_or-set_other, get_or-set_same, set, inl, inr, Option, None, Some, Result, Err, refl, sym, ap, subst, ◌∙◌, arith}
 use Rattle.std.proofs.lemmas.Bool.{cases_eq, cases_lt}
 use Rattle.std.proofs.lemmas.List.Sums.{sum_by-set}
-use Rattle.elf_model.specs.Prelude.{IsBudgetRefusal, Refusal, SymbolQuery}
+use Rattle.elf_model.specs.Prelude.{IsBudgetRefusal, SymbolQuery}
+use Rattle.elf_model.specs.declared.causes.Refusal.{Refusal}
 use Rattle.elf_source.specs.Source.{counted}
-use Rattle.elf_table.specs.Prelude.{Fault}
+use Rattle.elf_table.specs.declared.fault.Fault.{Fault}
 use Rattle.elf_table.specs.declared.fault.Fault.TheVariants.{Refused, Source}
-use Rattle.elf_needs.specs.Prelude.{AreObjectFiles, AskedFirst, AsksAll, BindFault, BindResult, BindsAcross, FailsIn, FaultLeaves, LookupObjectState, OnlyShort, SameObject, SpendsAtMost, SpendsBudget, UsesUp, asked_of_all, reached}
+use Rattle.elf_needs.specs.Prelude.{AreObjectFiles, AskedFirst, AsksAll, BindsAcross, FailsIn, FaultLeaves, LookupObjectState, OnlyShort, SameObject, SpendsAtMost, SpendsBudget, UsesUp, asked_of_all, reached}
+use Rattle.elf_needs.specs.declared.bind_name.BindFault.{BindFault}
+use Rattle.elf_needs.specs.declared.bind_name.BindResult.{BindResult}
 use Rattle.elf_needs.proofs.OpenLaws.{pays_then}
 
 same_none : (o : LookupObjectState) → SameObject o o
