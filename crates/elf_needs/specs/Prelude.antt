@@ -7,7 +7,7 @@ pub use Rattle.elf_needs.specs.Held.{LinkInfoState}
 pub use Rattle.elf_needs.specs.Kept.{IsKept, IsReadyIn, LookupObjectState}
 pub use Rattle.elf_needs.specs.Lacking.{definition_if, definitions_of}
 pub use Rattle.elf_needs.specs.Looks.{DefinesIn, FailsIn, FaultLeaves, LooksInObject, OverLeft, Prepares, SpendsAtMost, SpendsBudget, kept_cost}
-pub use Rattle.elf_needs.specs.Opens.{AsksKept, KeepsOne, SpendsBudgetAtLeast}
+pub use Rattle.elf_needs.specs.Opens.{AsksKept, KeepsIndex, KeepsOne, SpendsBudgetAtLeast}
 pub use Rattle.elf_needs.specs.Reading.{ReturnsLookupRefusal, linked_in_segments, lookup_passed}
 pub use Rattle.elf_needs.specs.Ready.{IsReadyIf, ReturnsReady, ready_bytes}
 pub use Rattle.elf_needs.specs.Searching.{DOLLAR, MOST_PATH_BYTES, SearchPathText, Token, dir_paths, given_dirs, if_short, path_in, root_before, rpath_of, search_dirs, unless_runpath}

@@ -1,6 +1,7 @@
 //! The objects that are known so far.
-ghost use Rattle.std.specs.Prelude.{◌≡◌, is_some, option_map, position};
-ghost use Rattle.elf_needs.specs.Called.{called_by, is_called, is_text, index_by_short_name, text_told};
+ghost use Rattle.std.specs.Prelude.{◌≡◌, ◌++◌, ◌∷◌, [], IfSome, is_some, length, option_map, position, slice_get};
+ghost use Rattle.elf_needs.specs.Held.{with_text};
+ghost use Rattle.elf_needs.specs.Called.{IsDirOfObject, called_by, is_called, is_text, index_by_short_name, text_told};
 
 use crate::links::{LinkInfo, LinkInfoStore, NeededLibrary};
 use crate::paths::dir_of_path;
@@ -58,25 +59,38 @@ impl ObjectList {
     }
 
     /// How many there are.
-    pub(crate) fn len(&self) -> usize {
+    pub(crate) fn len(&self) -> usize
+        ensures { result ≡ length self.now.known.items }
+    {
         self.known.len()
     }
 
     /// The object of an index, if there is one.
-    pub(crate) fn get(&self, index: usize) -> Option<KnownObject> {
+    pub(crate) fn get(&self, index: usize) -> Option<KnownObject>
+        ensures { result ≡ slice_get self.now.known.items index }
+    {
         match self.known.get(index) {
             Some(known) => Some(*known),
             None => None,
         }
     }
 
-    /// Keeps a path, and answers its index. None where there is no room for it.
-    pub(crate) fn keep_path(&mut self, path: &[u8]) -> Option<u32> {
+    /// Keeps a path, and returns its index. None if there is no room for it.
+    pub(crate) fn keep_path(&mut self, path: &[u8]) -> Option<u32>
+        ensures kept { IfSome result (λ index. self.new.paths ≡ with_text self.old.paths path.now) }
+        ensures index { IfSome result (λ index. index ≡ length self.old.paths.texts) }
+        ensures same { (self.new.known ≡ self.old.known) × (self.new.links ≡ self.old.links) }
+    {
         self.paths.push(path)
     }
 
-    /// Adds an object behind the others. Answers its index; None where there are 512.
-    pub(crate) fn add(&mut self, known: KnownObject) -> Option<u16> {
+    /// Adds an object after the others, and returns its index. None if there are 512.
+    pub(crate) fn add(&mut self, known: KnownObject) -> Option<u16>
+        ensures added { IfSome result (λ index.
+            self.new.known.items ≡ self.old.known.items ++ known ∷ []) }
+        ensures index { IfSome result (λ index. index ≡ length self.old.known.items) }
+        ensures same { (self.new.paths ≡ self.old.paths) × (self.new.links ≡ self.old.links) }
+    {
         if self.known.len() >= MOST_OBJECTS {
             return None;
         }
@@ -90,7 +104,9 @@ impl ObjectList {
     }
 
     /// The need of an index, if there is one.
-    pub(crate) fn need(&self, index: usize) -> Option<NeededLibrary> {
+    pub(crate) fn need(&self, index: usize) -> Option<NeededLibrary>
+        ensures { result ≡ slice_get self.now.links.needs index }
+    {
         self.links.need(index)
     }
 
@@ -105,8 +121,10 @@ impl ObjectList {
         }
     }
 
-    /// The folder of an object, which stands for `$ORIGIN`.
-    pub(crate) fn folder(&self, known: &KnownObject) -> &[u8] {
+    /// Returns the directory of an object, which stands for `$ORIGIN`.
+    pub(crate) fn folder(&self, known: &KnownObject) -> &[u8]
+        ensures { IsDirOfObject self.now.paths.texts known.now.path result.now }
+    {
         match known.path {
             Some(path) => dir_of_path(self.paths.get(path)),
             None => b".",

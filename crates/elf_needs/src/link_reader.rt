@@ -1,10 +1,9 @@
 //! What one file needs.
 ghost use Rattle.std.specs.Prelude.{◌≡◌, ◌<◌, ◌^◌, ◌+◌, ◌*◌, ◌/◌, ℕ, List};
 ghost use Rattle.elf_table.specs.Prelude.{CallDid, HoldsProgramHeaders, fault_of_result};
-ghost use Rattle.elf_model.specs.Prelude.{e_shnum, links_by_segments, links_ceiling, links_of, loaded_links, lookup_refusal};
-ghost use Rattle.elf_source.specs.Source.{ReadsUpTo};
+ghost use Rattle.elf_model.specs.Prelude.{e_shnum, field, links_by_segments, links_ceiling, links_of, loaded_links, lookup_refusal};
 ghost use Rattle.elf_needs.specs.Entries.{ReturnsLinks};
-ghost use Rattle.elf_needs.specs.Reading.{ReturnsLookupRefusal, linked_in_segments, lookup_passed};
+ghost use Rattle.elf_needs.specs.Reading.{ReturnsLookupRefusal, ReturnsMachine, linked_in_segments, lookup_passed, machine_by};
 
 use crate::entries::{DynamicTexts, list_link_info, no_link_info};
 use crate::links::{LinkInfo, LinkInfoStore};
@@ -24,25 +23,50 @@ const CLASS_64: u8 = 2;
 
 const LITTLE_ENDIAN: u8 = 1;
 
-/// The machine of a file of 64 bits that is little-endian; None of any other file.
+/// Returns the machine of a file of 64 bits that is little-endian; None of any other file.
 ///
 /// # Errors
 /// A fault of a read, or a refusal for want of budget.
 pub fn machine_of<S: Source>(src: &mut Counted<S>) -> Result<Option<u16>, Fault>
-    ensures { ReadsUpTo src.old src.new 20 }
+    ensures { CallDid src.old src.new (fault_of_result result) 20
+        (λ file. ReturnsMachine file result) }
 {
     if src.length() < FRONT_BYTES as u64 {
         return Ok(None);
     }
     let mut front = [0; FRONT_BYTES];
     fill(src, 0, &mut front)?;
-    if word(&[front[0], front[1], front[2], front[3]]) != MAGIC
-        || front[4] != CLASS_64
-        || front[5] != LITTLE_ENDIAN
+    Ok(machine_by(&front))
+}
+
+/// Returns the machine that the first bytes of a file tell.
+fn machine_by(front: &[u8; FRONT_BYTES]) -> Option<u16>
+    ensures { result ≡ machine_by front.now }
+{
+    if magic_in(front) == MAGIC
+        && byte_at(front, 4) == CLASS_64
+        && byte_at(front, 5) == LITTLE_ENDIAN
     {
-        return Ok(None);
+        return Some(u16_at(front, 18));
     }
-    Ok(Some(u16_at(&front, 18)))
+    None
+}
+
+/// Returns the number of the first four bytes.
+fn magic_in(front: &[u8; FRONT_BYTES]) -> u32
+    ensures { result ≡ field front.now 0 4 }
+{
+    let mut magic = [0; 4];
+    magic.copy_from_slice(&front[..4]);
+    word(&magic)
+}
+
+/// Returns the byte at a place.
+fn byte_at(front: &[u8; FRONT_BYTES], place: usize) -> u8
+    requires { place < 20 }
+    ensures { result ≡ field front.now place 1 }
+{
+    front[place]
 }
 
 /// How a file is linked, as a loader sees it: by its program headers, whatever its section headers are. The
@@ -155,8 +179,8 @@ fn check_lookup<S: Source>(src: &mut Counted<S>, view: &ExecutionView<'_>) -> Re
     }
 }
 
-/// No fault where there is no hash table, else the fault.
-fn without_hash(fault: Fault) -> Result<(), Fault>
+/// Returns no fault if it is that there is no hash table, else the fault.
+pub(crate) fn without_hash(fault: Fault) -> Result<(), Fault>
     ensures { result ≡ lookup_passed fault }
 {
     match fault {

@@ -1,6 +1,7 @@
 //! The objects of a program, in a loader's order.
 ghost use Rattle.std.specs.Prelude.{◌≡◌};
 ghost use Rattle.elf_needs.specs.Budget.{AsksFile, AsksFiles};
+ghost use Rattle.elf_needs.specs.Walked.{status_with, told_alone};
 
 use crate::buffers::NeedsBuffers;
 use crate::cached_source::CachedSource;
@@ -349,7 +350,7 @@ impl<W: Sink> DependencyWalk<'_, '_, W> {
         }
     }
 
-    /// Adds an object, and answers its index.
+    /// Adds an object, and returns its index. One that is missing or refused makes the status 1.
     fn add(
         &mut self,
         needer: Option<u16>,
@@ -358,6 +359,8 @@ impl<W: Sink> DependencyWalk<'_, '_, W> {
         told: &ObjectReport,
     ) -> u16
         ensures account { self.new.search.account ≡ self.old.search.account }
+        ensures status { self.new.status ≡ status_with told.now.state self.old.status }
+        ensures same { (self.new.format ≡ self.old.format) × (self.new.out ≡ self.old.out) }
     {
         if !matches!(told.state, ObjectState::Found) {
             self.status = 1;
@@ -374,8 +377,10 @@ impl<W: Sink> DependencyWalk<'_, '_, W> {
     }
 }
 
-/// What an object comes to of which nothing but its state is told.
-fn told_alone(state: ObjectState) -> ObjectReport {
+/// Returns the report of an object of which nothing but its state is told.
+fn told_alone(state: ObjectState) -> ObjectReport
+    ensures { result ≡ told_alone state }
+{
     ObjectReport {
         state,
         links: LinkInfo {
