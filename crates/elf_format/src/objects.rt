@@ -6,7 +6,7 @@ ghost use Rattle.elf_model.specs.Fields.{member_key, name_or_value, quoted, stri
 ghost use Rattle.elf_model.specs.Fields.{string_text};
 ghost use Rattle.elf_model.specs.Lines.{name_byte_text};
 
-use crate::columns::{LineBuf, put, put_hex};
+use crate::columns::{LineBuf, put, write_hex};
 use itoa::{Buffer, Integer};
 
 /// Puts a comma, a key and a colon.
@@ -99,7 +99,7 @@ pub(crate) fn put_quoted_byte(line: &mut LineBuf, byte: u8)
         b' '..=b'~' => line.push(byte),
         _ => {
             put(line, b"\\\\x");
-            put_hex(line, 2, u64::from(byte));
+            write_hex(line, 2, u64::from(byte));
         }
     }
 }

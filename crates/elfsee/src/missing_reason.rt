@@ -37,13 +37,13 @@ pub fn report_missing_reason<S: Source>(
 {
     if asks_why(request) {
         if let Ok(errors) = BufWriter::with_capacity(alloc, ERROR_LINE_BYTES, errors) {
-            tell_into(request, refusal, src, store, errors);
+            report_into(request, refusal, src, store, errors);
         }
     }
 }
 
 /// Tells what would help where a request to apply was refused, within the rest of the read budget.
-fn tell_into<S: Source>(
+fn report_into<S: Source>(
     request: &Request<'_>,
     refusal: Refusal,
     src: &mut Counted<S>,
@@ -55,7 +55,7 @@ fn tell_into<S: Source>(
         (explain_bytes store.old.slots) }
 {
     let mut out = Out::new(WriteSink::new(errors));
-    let _ = tell_rest(request, refusal, src, store, &mut out);
+    let _ = report_rest(request, refusal, src, store, &mut out);
     let _ = write_rest(out.into_inner().into_inner(), true);
 }
 
@@ -65,7 +65,7 @@ fn tell_into<S: Source>(
 /// # Errors
 /// A refusal of the file, or because the budget is used up; a fault of the source or of the output. A
 /// front of the line was written.
-fn tell_rest<S: Source, W: Sink>(
+fn report_rest<S: Source, W: Sink>(
     request: &Request<'_>,
     refusal: Refusal,
     src: &mut Counted<S>,
@@ -80,7 +80,7 @@ fn tell_rest<S: Source, W: Sink>(
         WroteUpTo out.old out.new result (explanation (lack_in file request.now.task refusal)) }
 {
     limit_rest(src, request.limits.budget);
-    let told = tell_lack(request, refusal, src, store, out);
+    let told = report_missing(request, refusal, src, store, out);
     src.limit(None);
     told
 }
@@ -115,7 +115,7 @@ fn asks_why(request: &Request<'_>) -> bool
 /// # Errors
 /// As [`write_missing`].
 #[tactic(auto, unfolding(crate::specs::Explaining::lack_in))]
-fn tell_lack<S: Source, W: Sink>(
+fn report_missing<S: Source, W: Sink>(
     request: &Request<'_>,
     refusal: Refusal,
     src: &mut Counted<S>,
