@@ -1,7 +1,6 @@
 -- Changes row by row and section by section, and what they store.
 use Rattle.std.proofs.Common.{◌≡◌, ℕ, zero, suc, List, ◌∷◌, ◌++◌, length, Result, Ok, Err, refl, ap}
-use Rattle.elf_model.specs.Apply.{StoredBytes, places_from, and_patches}
-use Rattle.elf_model.specs.declared.causes.Refusal.{Refusal}
+use Rattle.elf_model.specs.Prelude.{Refusal, StoredBytes, and_patches, places_from}
 
 -- as many places as entries
 pub length-places_from : (place : ℕ → ℕ) (i n : ℕ) → length (places_from place i n) ≡ n
