@@ -7,9 +7,10 @@ use Rattle.elf_model.specs.declared.causes.Refusal.{Refusal}
 use Rattle.elf_source.specs.Source.{counted}
 use Rattle.elf_table.specs.declared.fault.Fault.{Fault}
 use Rattle.elf_table.specs.declared.fault.Fault.TheVariants.{Refused, Source}
-use Rattle.elf_needs.specs.Prelude.{AreObjectFiles, AskedFirst, AsksAll, BindsAcross, FailsIn, FaultLeaves, LookupObjectState, OnlyShort, SameObject, SpendsAtMost, SpendsBudget, UsesUp, asked_of_all, reached}
+use Rattle.elf_needs.specs.Prelude.{AreObjectFiles, AskedFirst, AsksAll, BindsAcross, FailsIn, FaultLeaves, LookupObjectState, SameObject, SpendsAtMost, SpendsBudget, asked_of_all, reached}
 use Rattle.elf_needs.specs.declared.bind_name.BindFault.{BindFault}
 use Rattle.elf_needs.specs.declared.bind_name.BindResult.{BindResult}
+use Rattle.elf_needs.specs.Bound.{OnlyShort, UsesUp}
 use Rattle.elf_needs.proofs.OpenLaws.{pays_then}
 
 same_none : (o : LookupObjectState) → SameObject o o
@@ -110,10 +111,12 @@ pub short_bind : {wanted : SymbolQuery} {old new : List LookupObjectState} {l0 l
 short_bind {wanted} {old} {new} {l0} {l1} blame binds = by_fault blame.fault (λ d. binds.says d)
   where
     by_fault : (fault : Fault) → ((d : LookupObjectState) → FailsIn wanted (get_or old blame.object d) (get_or new blame.object d) l1 fault) → OnlyShort new l1 fault
-    by_fault (Refused refusal) fails = λ budget.
-        (blame.object, λ d.
-        let failed = fails d in
-        used_up (get_or old blame.object d) (get_or new blame.object d) failed.left l1 _ refusal failed.says budget failed.pays (binds.asked.asked blame.object d (omega arith)).keeps.same_size)
+    by_fault (Refused refusal) fails = λ budget. (
+      blame.object,
+      λ d.
+          let failed = fails d in
+          used_up (get_or old blame.object d) (get_or new blame.object d) failed.left l1 _ refusal failed.says budget failed.pays (binds.asked.asked blame.object d (omega arith)).keeps.same_size,
+    )
     by_fault (Source fault at) fails = tt
 
 -- THE FILES of the objects

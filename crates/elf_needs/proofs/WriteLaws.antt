@@ -3,9 +3,10 @@ use Rattle.std.proofs.Common.{◌≡◌, ℕ, zero, suc, ◌+◌, ◌-◌, ◌<�
 use Rattle.elf_model.proofs.BudgetLaws.{is_budget_fault}
 use Rattle.elf_model.specs.Prelude.{BoundItem, BoundObjects, DynamicSymbols, Faulty, IsBudgetRefusal, LookupTables as IsScopeOf, Told, any_unbound, before_items, binding_line, bound_item, bound_text, counted_items, counts_check, first_refusal, hashed_symbol_count, is_failed, is_unbound, item_line, items_from, lookup_tables_of, object_items, objects_items, refusal_line, symbols_hashed}
 use Rattle.elf_model.specs.declared.states.BindingState.{BindingState}
+use Rattle.elf_needs.specs.Bound.{IsBudgetShort, IsCutText, LeadsItems, OnlyShort, ReturnsFault, ReturnsItem, WritesLines, WritesSoFar, WritesSymbol, failing_of}
 use Rattle.elf_model.specs.declared.formats.Format.{Format}
 use Rattle.elf_model.specs.declared.causes.Refusal.{Refusal}
-use Rattle.elf_needs.specs.Prelude.{AreObjectFiles, CountsHashed, IsBudgetShort, IsCutText, LeadsItems, LookupObjectState, OnlyShort, RefusesAs, ReturnsFault, ReturnsItem, WritesLines, WritesSoFar, WritesSymbol, failing_of}
+use Rattle.elf_needs.specs.Prelude.{AreObjectFiles, CountsHashed, LookupObjectState, RefusesAs}
 use Rattle.elf_needs.specs.declared.search_scope.WriteEnd.TheVariants.{Cut, Ended, Whole}
 use Rattle.elf_needs.specs.declared.walk.NeedsFault.{NeedsFault}
 use Rattle.elf_needs.specs.declared.walk.NeedsFault.TheVariants.{Out, Read}

@@ -1,11 +1,13 @@
 //! The lines of the symbols that the objects of a program ask others for.
 ghost use Rattle.std.specs.Prelude.{◌≡◌, ◌≤◌, length};
 ghost use Rattle.arrayvec.specs.ArrayVec.{array_vec_len};
-ghost use Rattle.elf_model.specs.Prelude.{asked_name, binding_front, binding_line, binding_state_name, definer_fields, line_requested, with_fields};
-ghost use Rattle.elf_needs.specs.Requests.{after_request, before_request};
-ghost use Rattle.elf_options.specs.Wants.{query_of};
+ghost use Rattle.elf_model.specs.Prelude.{binding_front, binding_line, binding_state_name, definer_fields, with_fields};
 ghost use Rattle.elf_source.specs.Output.{OutPuts};
 ghost use Rattle.elf_format.specs.Fronts.{front_of};
+ghost use Rattle.elf_model.specs.BindingLines.{line_requested};
+ghost use Rattle.elf_model.specs.Loader.{asked_name};
+ghost use Rattle.elf_needs.specs.Requests.{after_request, before_request};
+ghost use Rattle.elf_options.specs.Wants.{query_of};
 
 use elf_format::{
     Columns, Json, LineBuf, LinePrefix, Render, SecondName, begin_named, put_decimal,

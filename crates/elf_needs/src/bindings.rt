@@ -1,8 +1,9 @@
 //! From where the symbols come that the objects of a program ask others for.
 ghost use Rattle.std.specs.Prelude.{◌≡◌, ◌<◌, ℕ, [], List, Ok, get_or, length};
 ghost use Rattle.elf_needs.specs.Binds.{AreObjectFiles};
-ghost use Rattle.elf_model.specs.Prelude.{LookupTables as IsScopeOf, before_items, bound_item, bound_items, lookup_tables_of, object_items};
-ghost use Rattle.elf_needs.specs.Bound.{AsksAll, IsBudgetShort, ReturnsFault, WritesSymbol, WritesBindings, WritesLines, bound_among, bound_of, status_after};
+ghost use Rattle.elf_model.specs.BoundSymbols.{before_items, bound_item, bound_items, object_items};
+ghost use Rattle.elf_model.specs.LoaderScope.{LookupTables as IsScopeOf, lookup_tables_of};
+ghost use Rattle.elf_needs.specs.Bound.{AsksAll, IsBudgetShort, ReturnsFault, WritesBindings, WritesLines, WritesSymbol, bound_among, bound_of, status_after};
 
 use crate::binding_rows::show_binding;
 use crate::binding_states::is_unbound;

@@ -2,7 +2,9 @@
 ghost use Rattle.std.specs.Prelude.{◌≡◌, ◌<◌, ◌≤◌, ℕ, [], List, Option, None, Some, Ok, IfErr, get_or, length};
 ghost use Rattle.elf_needs.specs.Binds.{AreObjectFiles};
 ghost use Rattle.elf_needs.specs.Sought.{ReturnsAs, asked_if};
-ghost use Rattle.elf_model.specs.Prelude.{LookupTables as IsScopeOf, asked_name, bound_item, lookup_tables_of, missing_version_requested, object_lacks, state_in};
+ghost use Rattle.elf_model.specs.BoundSymbols.{bound_item, missing_version_requested, object_lacks, state_in};
+ghost use Rattle.elf_model.specs.Loader.{asked_name};
+ghost use Rattle.elf_model.specs.LoaderScope.{LookupTables as IsScopeOf, lookup_tables_of};
 ghost use Rattle.elf_needs.specs.Bound.{AsksAll, OfSought, OnlyShort, ReturnsItem, bound_among};
 
 use crate::bind_name::{BindFault, BindResult, bind};

@@ -45,7 +45,7 @@ returns-in-Err-clause-asks g c =
     asks_one c.args.objects.now c.in-Some-place_of.place c.index-objects-place.result c.lacks_version.new.self (omega (arith, c.if-place-objects.false)) (spends_same e.costs e.same_headers) e.pays
 
 pub returns-in-Err-clause-short : goal.returns-in-Err-clause-short
-returns-in-Err-clause-short g c = 
+returns-in-Err-clause-short g c =
     let costs = rw c.in-Err.is at c.lacks_version.ensures.costs in
     short_one c.args.objects.now c.in-Some-place_of.place c.index-objects-place.result c.lacks_version.new.self c.in-Err.fault (omega (arith, c.if-place-objects.false)) costs c.lacks_version.ensures.pays
 
