@@ -1,4 +1,4 @@
--- The names that are there, and behind them those that are left, are the names that there were and those of the list.
+-- The names so far, followed by the remaining ones, are the previous names and those of the list.
 use Rattle.std.proofs.Common.{◌≡◌, ◌++◌, All}
 use Rattle.elf_options.specs.Names.{texts_of}
 use Rattle.elf_options.specs.NameLists.{IsNoNames, IsRowName, after_bytes, after_lines, listed_names, line_names}
