@@ -1,4 +1,5 @@
--- What a budget allows, by the number of lines and the offset of the read; and what is shown, by what a budget allows.
+-- What a budget allows, by the number of lines and the offset of the read; and what is shown, by
+-- what a budget allows.
 use Rattle.elf_model.specs.declared.formats.Format.TheVariants.{Columns}
 use Rattle.elf_model.specs.Style.{standard}
 use Rattle.std.proofs.Common.{◌≡◌, ◌<◌, ◌⊎◌, ℕ, List, ◌++◌, length, take, drop, Option, None, Some, refl, ap, sym, ◌∙◌, inl, inr}

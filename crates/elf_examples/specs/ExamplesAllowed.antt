@@ -23,7 +23,8 @@ TheCostSuffices =
     (size cost : ℕ) (whole answer : Answer)
     → (IsAnswered Columns None size cost whole answer → answer ≡ whole) × (IsAnswered Columns (Some cost) size cost whole answer → answer ≡ whole)
 
--- within less the whole or that line is answered, whose offset is below the file's length, and nothing else
+-- within less the whole or that line is answered, whose offset is below the file's length, and
+-- nothing else
 abbrev pub LessMayEndAnAnswer : Type 0
 LessMayEndAnAnswer =
     (size cost budget : ℕ) (whole : Answer)
@@ -37,7 +38,8 @@ StatesOfReports =
     (file : List ℕ) (headers : ℕ) (style : ListingStyle) (parts : ℕ) (found : FileStatus)
     → IsStateOf None file headers style parts found → found ≡ state_of None file (fault_of (listing file headers style parts))
 
--- within a budget it is that of the listing's fault, by as many of the file's bytes as the budget lets be looked at
+-- within a budget it is that of the listing's fault, by as many of the file's bytes as the budget
+-- lets be looked at
 abbrev pub StatesWithinABudget : Type 0
 StatesWithinABudget =
     (budget : Option ℕ) (file : List ℕ) (headers : ℕ) (style : ListingStyle) (parts : ℕ) (found : FileStatus)

@@ -1,4 +1,5 @@
--- Worked examples of fields and names: records whose bytes all differ, and each number that has a name.
+-- Worked examples of fields and names: records whose bytes all differ, and each number that has a
+-- name.
 use Rattle.std.specs.Prelude.{◌≡◌, ℕ, false, List, [], ◌∷◌, codes, map}
 use Rattle.elf_model.specs.declared.formats.Format.TheVariants.{Columns}
 use Rattle.elf_model.specs.Records.{e_type, e_machine, e_entry, e_phoff, e_shoff, e_flags, e_phentsize, e_phnum, e_shentsize, e_shnum, e_shstrndx, sh_name, sh_type, sh_flags, sh_addr, sh_offset, sh_size, sh_link, sh_info, sh_addralign, sh_entsize, p_type, p_flags, p_offset, p_vaddr, p_paddr, p_filesz, p_memsz, p_align, st_name, st_info, st_other, st_shndx, st_value, st_size, r_offset, r_info, r_addend, d_tag, d_un, n_namesz, n_descsz, n_type}
@@ -57,7 +58,7 @@ OtherFieldsStand =
     × (n_descsz places_as_bytes 0x40 ≡ 0x47464544)
     × (n_type places_as_bytes 0x40 ≡ 0x4b4a4948)
 
--- each field is as wide as it is, and no wider, also where a line shows fewer digits of it or a name
+-- each field is as wide as it is, and no wider, also if a line shows fewer digits of it or a name
 abbrev pub FieldsHaveWidths : Type 0
 FieldsHaveWidths =
     (map (λ read. read places_as_bytes) (e_type ∷ e_machine ∷ e_entry ∷ e_phoff ∷ e_shoff ∷ e_flags ∷ e_phnum ∷ e_shnum ∷ e_shstrndx ∷ [])
@@ -72,13 +73,13 @@ FieldsHaveWidths =
     × (map (λ read. read places_as_bytes 0x40) (r_offset ∷ r_info ∷ r_addend ∷ d_tag ∷ d_un ∷ [])
     ≡ 0x4746454443424140 ∷ 0x4f4e4d4c4b4a4948 ∷ 0x5756555453525150 ∷ 0x4746454443424140 ∷ 0x4f4e4d4c4b4a4948 ∷ [])
 
--- each file type, and the number behind the last
+-- each file type, and the number after the last
 abbrev pub FileTypesHaveNames : Type 0
 FileTypesHaveNames =
     map file_type_text (numbers_from 0 6)
     ≡ codes "NONE" ∷ codes "REL" ∷ codes "EXEC" ∷ codes "DYN" ∷ codes "CORE" ∷ codes "0005" ∷ []
 
--- each section type, the numbers between them, and the number behind the last
+-- each section type, the numbers between them, and the number after the last
 abbrev pub SectionTypesHaveNames : Type 0
 SectionTypesHaveNames =
     map (section_type_text false 62) (numbers_from 0 20)
@@ -95,7 +96,7 @@ SectionFlagsHaveLetters =
     ≡ [] ∷ codes "W" ∷ codes "A" ∷ codes "X" ∷ codes "?" ∷ codes "M" ∷ codes "S" ∷ codes "I" ∷ codes "L" ∷ codes "O"
     ∷ codes "G" ∷ codes "T" ∷ codes "C" ∷ codes "?" ∷ codes "?" ∷ []
 
--- each segment type, and the number behind the last
+-- each segment type, and the number after the last
 abbrev pub SegmentTypesHaveNames : Type 0
 SegmentTypesHaveNames =
     map (segment_type_text false) (numbers_from 0 9)
@@ -131,7 +132,7 @@ RelocationTypesHaveNames =
     × (map (relocation_type_text false 62) (numbers_from 23 3) ≡ codes "#23" ∷ codes "PC64" ∷ codes "#25" ∷ [])
     × (map (relocation_type_text false 61) (numbers_from 0 3) ≡ codes "#0" ∷ codes "#1" ∷ codes "#2" ∷ [])
 
--- each dynamic tag, and the number behind the last
+-- each dynamic tag, and the number after the last
 abbrev pub DynamicTagsHaveNames : Type 0
 DynamicTagsHaveNames =
     map (dynamic_tag_text false) (numbers_from 0 32)

@@ -1,4 +1,5 @@
--- Worked examples of symbols whose type is specific to the system, indirect functions first, and of sections that are compressed.
+-- Worked examples of symbols whose type is specific to the system, indirect functions first, and of
+-- sections that are compressed.
 use Rattle.std.specs.Prelude.{◌≡◌, ℕ, ◌++◌, ◌+◌, List, [], ◌∷◌, codes, None}
 use Rattle.elf_model.specs.ApplyCost.{apply_cost}
 use Rattle.elf_model.specs.Bytes.{little}
@@ -23,8 +24,9 @@ call_of type kind = with_bytes 0x50 (little 4 kind) (with_symbol 4 (symbol_of ty
 abbrev pub eight_of : ℕ → ℕ → List ℕ
 eight_of type kind = with_bytes 0x48 (little 8 0 ++ little 4 kind) (with_bytes 0xf8 (little 8 8) (with_symbol 4 (symbol_of type 1 0x30)))
 
--- calls and pointers to an indirect function go to its procedure linkage table entry: R_X86_64_PC32, PLT32, 32, 32S, 16, 64
--- and PC64; where its value is absolute, or its section has no address, as well
+-- calls and pointers to an indirect function go to its procedure linkage table entry:
+-- R_X86_64_PC32, PLT32, 32, 32S, 16, 64 and PC64; if its value is absolute, or its section has no
+-- address, as well
 abbrev pub FunctionsAreEntries : Type 0
 FunctionsAreEntries =
     WritesSection (call_of 10 2) entry_layout (0xe8 ∷ 0xfb ∷ 0x0f ∷ 0 ∷ 0 ∷ [])
@@ -37,7 +39,8 @@ FunctionsAreEntries =
     × WritesSection (with_bytes 0x50 (little 4 10) (with_symbol 4 (symbol_of 10 0xfff1 0x30))) unplaced_layout (0xe8 ∷ 0xfc ∷ 0x1f ∷ 0 ∷ 0 ∷ [])
     × WritesSection (with_bytes 0x50 (little 4 10) (with_symbol 4 (symbol_of 10 0xfeff 0x30))) unplaced_layout (0xe8 ∷ 0xfc ∷ 0x1f ∷ 0 ∷ 0 ∷ [])
 
--- without such an entry they are refused, by the types that take it too; no definition and no address of a section helps
+-- without such an entry they are refused, by the types that take it too; no definition and no
+-- address of a section helps
 abbrev pub FunctionsWithoutEntries : Type 0
 FunctionsWithoutEntries =
     let other : Layout = record { lookup = Compared; sections = (1, 0x1000) ∷ []; definitions = (codes "f", 0x3000) ∷ []; linkage = (codes "g", 0x2000) ∷ (codes "ff", 0x2000) ∷ []; table = []; thread = [] } in
@@ -51,8 +54,8 @@ FunctionsWithoutEntries =
     × RefusesToApply (eight_of 10 1) placed_layout 0x48 Unsupported
     × RefusesToApply (with_symbol 4 (symbol_of 10 0xfff1 0x30)) placed_layout 0x48 Unsupported
 
--- S of the other types that are specific to the system is not known, so that only a type that takes L is applied, where there is
--- one; the types before them have their own value
+-- S of the other types that are specific to the system is not known, so that only a type that takes
+-- L is applied, if there is one; the types before them have their own value
 abbrev pub OtherTypesAreRefused : Type 0
 OtherTypesAreRefused =
     RefusesToApply (call_of 11 2) full_layout 0x48 Unsupported
@@ -64,8 +67,8 @@ OtherTypesAreRefused =
     × WritesSection (call_of 9 2) full_layout (0xe8 ∷ 0x2b ∷ 0 ∷ 0 ∷ 0 ∷ [])
     × WritesSection (call_of 2 2) full_layout (0xe8 ∷ 0x2b ∷ 0 ∷ 0 ∷ 0 ∷ [])
 
--- the type says nothing of an undefined or a common symbol, of one at another reserved index, nor where an entry takes one
--- of the global offset table's
+-- the type says nothing of an undefined or a common symbol, of one at another reserved index, nor
+-- where an entry takes one of the global offset table's
 abbrev pub OthersAreAsBefore : Type 0
 OthersAreAsBefore =
     WritesSection (with_symbol 4 (symbol_of 10 0 0)) defined_layout (0xe8 ∷ 0xfb ∷ 0x1f ∷ 0 ∷ 0 ∷ [])
@@ -77,8 +80,8 @@ OthersAreAsBefore =
     × WritesSection (call_of 11 22) table_layout (0xe8 ∷ 0xfb ∷ 0x3f ∷ 0 ∷ 0 ∷ [])
     × RefusesToApply (call_of 10 9) full_layout 0x48 Unsupported
 
--- the place, the name, the symbol's type, the section's address, the value: each entry here fails the next check as well; the
--- name is looked at only where there are names of such entries
+-- the place, the name, the symbol's type, the section's address, the value: each entry here fails
+-- the next check as well; the name is looked at only if there are names of such entries
 abbrev pub FunctionsInOrder : Type 0
 FunctionsInOrder =
     let high : Layout = record { lookup = Searched; sections = (1, 0) ∷ []; definitions = []; linkage = (codes "f", 0x80000004) ∷ []; table = []; thread = [] } in
@@ -92,8 +95,8 @@ FunctionsInOrder =
     × RefusesToApply (call_of 10 11) high 0x48 Overflow
     × WritesSection (call_of 10 10) high (0xe8 ∷ 0 ∷ 0 ∷ 0 ∷ 0x80 ∷ [])
 
--- what helps with an indirect function is the item of its procedure linkage table entry alone, with the other types where the
--- entry takes L
+-- what helps with an indirect function is the item of its procedure linkage table entry alone, with
+-- the other types where the entry takes L
 abbrev pub EntriesWouldHelp : Type 0
 EntriesWouldHelp =
     MissesInCall (call_of 10 2) placed_layout Unsupported (lacks 2 1 Entry)
@@ -110,8 +113,9 @@ EntriesWouldHelp =
 abbrev pub flagged : ℕ → List ℕ
 flagged flags = with_bytes 0xe0 (little 8 flags) one_call
 
--- a section that is compressed is refused at its header, whatever other flags it has; behind the index and before its range,
--- with bytes in the file or without; no entry is looked at, and the section that the entries stand in may have the flag
+-- a section that is compressed is refused at its header, whatever other flags it has; after the
+-- index and before its range, with bytes in the file or without; no entry is looked at, and the
+-- section that the entries are in may have the flag
 abbrev pub CompressedIsRefused : Type 0
 CompressedIsRefused =
     RefusesToApply (flagged 0x800) entry_layout 0xd8 Unsupported

@@ -1,4 +1,4 @@
--- Worked examples of the names of numbers of the GNU system: each number that has one, and its neighbours.
+-- Worked examples of the names of GNU numbers: each number that has one, and its neighbours.
 use Rattle.std.specs.Prelude.{◌≡◌, [], ◌∷◌, codes, map, true, false}
 use Rattle.elf_model.specs.NameTables.{bindings, dynamic_tag_text, name_or_number, places, relocation_type_text}
 use Rattle.elf_model.specs.NameTables.{section_flags_text, section_type_text, segment_type_text, symbol_types}
@@ -123,7 +123,7 @@ FlagsElsewhere =
     (0x90000002 ∷ 0x10000000 ∷ 0x80000000 ∷ [])
     ≡ codes "AE?" ∷ codes "?" ∷ codes "E" ∷ []
 
--- without the names of the GNU system none of them has
+-- without the GNU names none of them has
 abbrev pub FlagsWithoutGnu : Type 0
 FlagsWithoutGnu =
     map (section_flags_text false 62)

@@ -1,4 +1,5 @@
--- Worked examples of symbols in a layout, of what comes before relocation entries, and of what that costs.
+-- Worked examples of symbols in a layout, of what comes before relocation entries, and of what that
+-- costs.
 use Rattle.std.specs.Prelude.{◌≡◌, ℕ, List, codes, ◌+◌, ◌*◌, ◌-◌, ◌^◌, ◌++◌, pos, [], ◌∷◌, map, replicate, take, true, false, Ok, Err}
 use Rattle.elf_model.specs.Bytes.{little}
 use Rattle.elf_model.specs.Apply.{applied}
@@ -50,7 +51,8 @@ EntriesAreForAll =
     × WritesSection (with_symbol 6 (little 2 0xff05)) entry_layout (0xe8 ∷ 0xfb ∷ 0x0f ∷ 0 ∷ 0 ∷ [])
     × RefusesToApply (with_symbol 0 (little 4 0xffffffff ++ little 2 0x10 ++ little 2 0xfff1 ++ little 8 0x2000)) entry_layout 0x78 NameOutside
 
--- a section without bytes of type NULL may stand anywhere; one of another type and of size 0 is within the file
+-- a section without bytes of type NULL may be anywhere; one of another type and of size 0 is within
+-- the file
 abbrev pub SectionBytesAreChecked : Type 0
 SectionBytesAreChecked =
     (applied (with_bytes 0xdc (little 4 0) (with_bytes 0xf0 (little 8 0x1000) (with_entries_header 44 (little 4 2)))) 5 1 empty_layout ≡ Ok [])
@@ -58,7 +60,7 @@ SectionBytesAreChecked =
     × (applied (with_bytes 0xf0 (little 8 472 ++ zeros 8) (with_entries_header 44 (little 4 2))) 5 1 empty_layout ≡ Ok [])
     × RefusesToApply (with_bytes 0xf0 (little 8 473 ++ zeros 8) (with_entries_header 44 (little 4 2))) empty_layout 0xd8 TableOutside
 
--- the file's length, the file header and the load checks come before what is asked for
+-- the file's length, the file header and the load checks come before what is requested
 abbrev pub RequestsCheckTheFile : Type 0
 RequestsCheckTheFile =
     RefusesSection 0 (take 63 one_call) empty_layout 63 Short
@@ -74,7 +76,7 @@ PlacesAreWhole =
     RefusesToApply (with_bytes 0x48 (little 8 (2 ^ 64 - 4)) one_call) entry_layout 0x48 PlaceOutside
     × RefusesToApply (with_bytes 0x48 (little 8 (2 ^ 64 - 1)) one_call) entry_layout 0x48 PlaceOutside
 
--- where a check of the file header fails the file header alone is asked for
+-- where a check of the file header fails the file header alone is requested
 abbrev pub BadHeadersCost : Type 0
 BadHeadersCost =
     (cost (with_bytes 4 (little 1 1) one_symbol_table) 3 63 ALL ≡ 64)
@@ -105,8 +107,8 @@ EntriesWithoutAddends =
     WritesSection (with_entries_header 4 (little 4 9)) entry_layout (0xe8 ∷ zeros 4)
     × (apply_cost (with_entries_header 4 (little 4 9)) 5 1 entry_layout ≡ 64 + 320 + 5)
 
--- the entries for a section are as many as a table's size holds, whatever stands behind it, in tables whose sh_info is the
--- section in all its bits
+-- the entries for a section are as many as a table's size holds, whatever follows it, in tables
+-- whose sh_info is the section in all its bits
 abbrev pub EntriesOfTheSection : Type 0
 EntriesOfTheSection =
     WritesSection (with_bytes 0x118 (little 8 24) overlapping_relocations) empty_layout (0x44 ∷ 0x33 ∷ 0x22 ∷ 0x11 ∷ zeros 4)
@@ -114,7 +116,7 @@ EntriesOfTheSection =
     × WritesSection (with_entries_header 44 (little 4 0x10001)) entry_layout (0xe8 ∷ zeros 4)
     × (apply_cost (with_entries_header 44 (little 4 0x10001)) 5 1 entry_layout ≡ 64 + 320 + 5)
 
--- the numbers between the types that are applied, and behind them
+-- the numbers between the types that are applied, and after them
 abbrev pub OtherTypesAreUnsupported : Type 0
 OtherTypesAreUnsupported =
     map (λ type. value type 0 0 (pos 0) 0)
@@ -127,7 +129,7 @@ WeakIsDefined =
     WritesSection (with_symbol 4 (little 1 0x20)) defined_layout (0xe8 ∷ 0xfb ∷ 0x1f ∷ 0 ∷ 0 ∷ [])
     × RefusesToApply (with_symbol 0 (little 4 0xffffffff ++ little 1 0x20)) defined_layout 0x78 NameOutside
 
--- behind the last section there are no entries
+-- after the last section there are no entries
 abbrev pub EntriesPastTheLastSection : Type 0
 EntriesPastTheLastSection =
     let file = overlapping_relocations ++ section_header 4 0x40 0x48 0x18 0 1 0 24 in
@@ -137,7 +139,8 @@ EntriesPastTheLastSection =
 abbrev pub layout_of : ℕ → List (List ℕ × ℕ) → List (List ℕ × ℕ) → Layout
 layout_of address definitions linkage = record { lookup = Compared; sections = (1, address) ∷ []; definitions = definitions; linkage = linkage; table = []; thread = [] }
 
--- an address may be 0: a definition's, a linkage table entry's, a section's as the place and as the symbol's
+-- an address may be 0: a definition's, a linkage table entry's, a section's as the place and as the
+-- symbol's
 abbrev pub AddressesMayBeZero : Type 0
 AddressesMayBeZero =
     WritesSection one_call (layout_of 0x1000 ((codes "f", 0) ∷ []) []) (0xe8 ∷ 0xfb ∷ 0xef ∷ 0xff ∷ 0xff ∷ [])
@@ -145,7 +148,8 @@ AddressesMayBeZero =
     × WritesSection one_call (layout_of 0 [] ((codes "f", 0x2000) ∷ [])) (0xe8 ∷ 0xfb ∷ 0x1f ∷ 0 ∷ 0 ∷ [])
     × WritesSection (with_symbol 6 (little 2 1 ++ little 8 0x2000)) (layout_of 0 [] []) (0xe8 ∷ 0xfb ∷ 0x1f ∷ 0 ∷ 0 ∷ [])
 
--- of two items with one index or one name the first stands; two indices are one only where all their bits are the same
+-- of two items with one index or one name the first is; two indices are one only if all their bits
+-- are the same
 abbrev pub FirstItemStands : Type 0
 FirstItemStands =
     WritesSection one_call (layout_of 0x1000 ((codes "f", 0x3000) ∷ (codes "f", 0x9000) ∷ []) []) (0xe8 ∷ 0xfb ∷ 0x1f ∷ 0 ∷ 0 ∷ [])
@@ -157,7 +161,8 @@ FirstItemStands =
     (record { lookup = Compared; sections = (0x101, 0x9000) ∷ (1, 0x1000) ∷ []; definitions = []; linkage = (codes "f", 0x2000) ∷ []; table = []; thread = [] })
     (0xe8 ∷ 0xfb ∷ 0x0f ∷ 0 ∷ 0 ∷ [])
 
--- a name that another item's is not equal to may still be one that cannot be compared: here the table ends behind `f`
+-- a name that another item's is not equal to may still be one that cannot be compared: here the
+-- table ends after `f`
 abbrev pub LaterNamesAreCompared : Type 0
 LaterNamesAreCompared =
     let file = with_bytes 0x1b8 (little 8 2) one_call in
@@ -165,7 +170,8 @@ LaterNamesAreCompared =
     × RefusesToApply file (layout_of 0x1000 [] ((codes "g", 0x9000) ∷ (codes "f", 0x3000) ∷ [])) 0x78 NameUnended
     × RefusesToApply file (layout_of 0x1000 ((codes "g", 0x9000) ∷ []) []) 0x48 Undefined
 
--- the value of a symbol without a section is no part of its address: of a common one it is an alignment
+-- the value of a symbol without a section is no part of its address: of a common one it is an
+-- alignment
 abbrev pub DefinitionsStandAlone : Type 0
 DefinitionsStandAlone =
     WritesSection (with_symbol 6 (little 2 0xfff2 ++ little 8 16)) defined_layout (0xe8 ∷ 0xfb ∷ 0x1f ∷ 0 ∷ 0 ∷ [])

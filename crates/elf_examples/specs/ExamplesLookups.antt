@@ -1,4 +1,5 @@
--- Worked examples of lookups: longer hashes, tables with other counts, and what comes before a walk.
+-- Worked examples of lookups: longer hashes, tables with other counts, and what comes before a
+-- walk.
 use Rattle.std.specs.Prelude.{◌≡◌, ℕ, ◌+◌, List, ◌++◌, [], ◌∷◌, codes, flat_map, replicate, take}
 use Rattle.elf_model.specs.Bytes.{little}
 use Rattle.elf_model.specs.Find.{looked, find_cost}
@@ -11,8 +12,8 @@ use Rattle.elf_examples.specs.ExamplesHash.{hash_comes_last, FindsSymbol, FindsN
 use Rattle.elf_model.specs.declared.causes.Cause.TheVariants.{Short, BadClass, TooManyHeaders, TableOutside, BadLink, EntrySize, NotStrings, NoHash, HashShape, HashIndex, HashCycle}
 use Rattle.elf_model.specs.declared.formats.Format.TheVariants.{Columns}
 
--- names whose hash has each of its top four bits set on the way, one whose hash has all lower bits and none of these, and
--- bytes above 127
+-- names whose hash has each of its top four bits set on the way, one whose hash has all lower bits
+-- and none of these, and bytes above 127
 abbrev pub LongerHashes : Type 0
 LongerHashes =
     (sysv_hash (codes "_Unwind_Resume") ≡ 0x08d2aad5)
@@ -22,8 +23,8 @@ LongerHashes =
     × (sysv_hash (replicate 8 0x80) ≡ 0x08888000)
     × (sysv_hash (replicate 7 0x0f) ≡ 0x0fffffff)
 
--- one bucket, whose chain goes from symbol 19 down to symbol 1 and ends; the words stand at 0x1a8, the symbols at 0x204,
--- the first of which is `a` and all others are `b`
+-- one bucket, whose chain goes from symbol 19 down to symbol 1 and ends; the words are at 0x1a8,
+-- the symbols at 0x204, the first of which is `a` and all others are `b`
 abbrev pub long_chain : List ℕ
 long_chain =
     with_bytes 0x100 (little 8 0x1a8 ++ little 8 0x5c) (with_symbols_header 24 (little 8 0x204 ++ little 8 0x1e0))
@@ -81,7 +82,7 @@ LookupsCheckTheFile =
     × RefusesLookup (with_bytes 0x3e (little 2 4) hash_with_cycle) (codes "a") 0x3e BadLink
     × RefusesLookup (with_bytes 0x3e (little 2 1) hash_with_cycle) (codes "a") 0xe8 NotStrings
 
--- behind a refusal no name is compared
+-- after a refusal no name is compared
 abbrev pub RefusalsCompareNothing : Type 0
 RefusalsCompareNothing =
     ComparesNames (with_bytes 4 (little 1 1) hash_with_cycle) (codes "a") 0
@@ -93,7 +94,7 @@ RefusalsCompareNothing =
     × (find_cost (with_symbols_header 56 (little 8 25)) 4 (codes "a") ≡ 76 + 256)
     × (find_cost (hash_file (1 ∷ 4 ∷ 1 ∷ 0 ∷ 2 ∷ 1 ∷ [])) 4 (codes "a") ≡ 76 + 256)
 
--- the name that was wanted is written whole, and spelt as in a listing
+-- the name that was wanted is written whole, and written as in a listing
 abbrev pub WantedNameIsWritten : Type 0
 WantedNameIsWritten =
     (find_answer Columns (with_strings_header 24 (little 8 0x1a8 ++ little 8 302) ++ (0 ∷ replicate 300 97 ++ zeros 1)) 4 (replicate 300 97)
@@ -111,7 +112,8 @@ WantedNameIsWritten =
       status = 0;
     })
 
--- a hash table of another kind, of type 0x6ffffff6, is none; nor is a section whose type has other bits
+-- a hash table of another kind, of type 0x6ffffff6, is none; nor is a section whose type has other
+-- bits
 abbrev pub OtherHashIsNone : Type 0
 OtherHashIsNone =
     RefusesLookup (with_hash_header 4 (little 4 0x6ffffff6)) (codes "a") 0x28 NoHash
@@ -124,7 +126,7 @@ UndefinedIsFound =
     FindsSymbol (with_bytes 0x76 (zeros 2) hash_with_cycle) (codes "a") 2 1 0x70 1
     × FindsSymbol (with_bytes 0x74 (zeros 4) hash_with_cycle) (codes "a") 2 1 0x70 1
 
--- behind the last section there is none
+-- after the last section there is none
 abbrev pub HashPastTheLastSection : Type 0
 HashPastTheLastSection = RefusesLookup (one_symbol_table ++ section_header 5 0 0x40 0x18 1 0 0 4) (codes "main") 0x28 NoHash
 
@@ -148,14 +150,15 @@ ThreeBuckets =
 abbrev pub HashLinkBeforeCounts : Type 0
 HashLinkBeforeCounts = RefusesLookup (with_hash_header 32 (little 8 8 ++ little 4 0)) (codes "a") 0xe8 BadLink
 
--- the size of an entry in a hash table's header is not checked but in files of Alpha, and bytes may stand behind its words
+-- the size of an entry in a hash table's header is not checked but in files of Alpha, and bytes may
+-- follow its words
 abbrev pub HashEntriesAreNotChecked : Type 0
 HashEntriesAreNotChecked =
     FindsSymbol (with_hash_header 56 (little 8 8)) (codes "a") 2 1 0x70 1
     × FindsSymbol (with_hash_header 32 (little 8 25)) (codes "a") 2 1 0x70 1
 
--- in a file of Alpha a hash table with entries of 8 bytes is refused, behind its range and before its link; with entries of 4
--- bytes it is one like any other
+-- in a file of Alpha a hash table with entries of 8 bytes is refused, after its range and before
+-- its link; with entries of 4 bytes it is one like any other
 abbrev pub WideWordsAreRefused : Type 0
 WideWordsAreRefused =
     RefusesLookup (with_bytes 18 (little 2 0x9026) (with_hash_header 56 (little 8 8))) (codes "a") 0xe8 HashShape
@@ -165,6 +168,6 @@ WideWordsAreRefused =
     × RefusesLookup (with_bytes 18 (little 2 0x9026) (with_hash_header 24 (little 8 0x1000 ++ little 8 0x18 ++ little 4 2 ++ zeros 12 ++ little 8 8))) (codes "a") 0xe8 TableOutside
     × RefusesLookup (with_bytes 18 (little 2 0x9026) (with_hash_header 40 (zeros 16 ++ little 8 8))) (codes "a") 0xe8 HashShape
 
--- the symbols are those of the linked table, also where an earlier section is one
+-- the symbols are those of the linked table, also if an earlier section is one
 abbrev pub LinkedSymbolsCount : Type 0
 LinkedSymbolsCount = FindsSymbol (with_bytes 0xac (little 4 11) hash_with_cycle) (codes "a") 2 1 0x70 1

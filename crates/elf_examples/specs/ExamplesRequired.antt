@@ -30,7 +30,8 @@ nx = record { column = column.Stack; word = codes "nx" }
 abbrev rpath : Required
 rpath = record { column = column.Path; word = codes "rpath" }
 
--- a program that lacks no word has its line alone; else the first word that it lacks has a line, and the status is 1
+-- a program that lacks no word has its line alone; otherwise the first word that it lacks has a
+-- line, and the status is 1
 abbrev pub RequiredRows : Type 0
 RequiredRows =
     (traits_text Columns (weak kind.Pie) [] (codes "p") ≡ codes "T pie    partial exec  w^x   fixed -         -      fortify rpath   p\n")
@@ -54,7 +55,7 @@ NothingRequired =
     × (traits_status (weak kind.Static) (full ∷ []) ≡ 1)
     × (traits_status (weak kind.Exec) (full ∷ []) ≡ 1)
 
--- a front of a word is not it, nor is a word with more behind it
+-- a prefix of a word is not it, nor is a word with more after it
 abbrev pub WordsAreWhole : Type 0
 WordsAreWhole =
     (traits_status (weak kind.Pie) (record { column = column.Relro; word = codes "partial" } ∷ []) ≡ 0)

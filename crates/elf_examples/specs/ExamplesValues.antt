@@ -22,7 +22,8 @@ CallTakesEntry =
     (value 4 7 0x2000 (negsuc 3) 0x1001 ≡ Ok (0xfb ∷ 0x0f ∷ 0 ∷ 0 ∷ []))
     × (value 4 7 0x80000000 (pos 0) 0 ≡ Err Overflow)
 
--- R_X86_64_32 is a number without a sign, R_X86_64_32S one in two's complement; both of the value modulo 2^64
+-- R_X86_64_32 is a number without a sign, R_X86_64_32S one in two's complement; both of the value
+-- modulo 2^64
 abbrev pub Bits32 : Type 0
 Bits32 =
     Overflows 10 0xffffffff (pos 1) 0

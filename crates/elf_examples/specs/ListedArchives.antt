@@ -10,7 +10,8 @@ use Rattle.elf_model.specs.declared.formats.Format.TheVariants.{Columns}
 use Rattle.elf_model.specs.Fixtures.{one_symbol_table, bare_header}
 use Rattle.elf_model.specs.FixturesArchive.{archive_of, library, member, member_header}
 
--- the members alone: an index of symbols, a table of names, an odd size with its padding, a long name
+-- the members alone: an index of symbols, a table of names, an odd size with its padding, a long
+-- name
 abbrev pub MembersList : Type 0
 MembersList =
     archive library 3 63 0
@@ -20,7 +21,7 @@ MembersList =
     ++ codes "A     3 000000000000012a 0000000000000138 one_symbol_table.o\n"
     ++ codes "A     4 000000000000029e 0000000000000040 b.o\n"
 
--- and behind each that is an ELF file its listing, with offsets from its own first byte
+-- and after each that is an ELF file its listing, with offsets from its own first byte
 abbrev pub ArchiveOfNamesLists : Type 0
 ArchiveOfNamesLists =
     archive library 3 63 ALL
@@ -52,7 +53,7 @@ WhatIsNoArchiveIsRefused =
     × (archive (codes "!<arch>\r") 3 63 0 ≡ codes "! 0000000000000000 not-archive\n")
     × (archive (codes "!<arch>\n") 3 63 0 ≡ [])
 
--- where no member stands
+-- where no member is
 abbrev pub CutMembersAreRefused : Type 0
 CutMembersAreRefused =
     (archive (codes "!<arch>\nx") 3 63 0 ≡ codes "! 0000000000000008 member-cut\n")
@@ -78,8 +79,8 @@ MemberNames =
     × (archive (archive_of (member (codes "/1x") [])) 3 63 0 ≡ codes "A     0 0000000000000044 0000000000000000 /1x\n")
     × (archive (archive_of (member (codes "abcd/") [])) 3 3 0 ≡ codes "A     0 0000000000000044 0000000000000000 abc\\+\n")
 
--- long names: whole with as many bytes as are shown and a slash, cut with one byte more; without a table, behind its end,
--- without a newline
+-- long names: whole with as many bytes as are shown and a slash, cut with one byte more; without a
+-- table, after its end, without a newline
 abbrev pub LongNames : Type 0
 LongNames =
     (archive (archive_of (member (codes "//") (codes "abc/\n\n") ++ member (codes "/0") [])) 3 3 0
@@ -99,7 +100,8 @@ ArchivesCost =
     × (archive_cost (codes "!<arch>\n") 3 (standard 63) ALL ≡ 8)
     × (archive_cost (codes "!<thin>\n") 3 (standard 63) ALL ≡ 8)
 
--- a member that is cut costs its header where that is whole, to the last byte, and its name where that stands elsewhere
+-- a member that is cut costs its header if that is whole, to the last byte, and its name if that is
+-- elsewhere
 abbrev pub CutMembersCost : Type 0
 CutMembersCost =
     (archive_cost (codes "!<arch>\nx") 3 (standard 63) ALL ≡ 8)
@@ -108,7 +110,8 @@ CutMembersCost =
     × (archive_cost (archive_of (member_header (codes "/5") (codes "1"))) 3 (standard 63) ALL ≡ 8 + 60 + 128)
     × (archive_cost (archive_of (member_header (codes "#1/5") (codes "1"))) 3 (standard 63) ALL ≡ 8 + 60 + 128)
 
--- what none passes with versions behind names: 59 bytes have room for two symbols, two definitions and three needs
+-- what none passes with versions after names: 59 bytes have room for two symbols, two definitions
+-- and three needs
 abbrev pub CeilingsWithVersions : Type 0
 CeilingsWithVersions =
     archive_ceiling 59 1 (record { cap = 63; gnu = true; by_segments = false; format = Columns; choice = EveryRow; versions = true })

@@ -29,7 +29,8 @@ StatesOfFiles =
     × (whole_state (take 100 one_symbol_table) ≡ refused (record { at = 0x28; cause = TableOutside }))
     × (whole_state (with_bytes 0x3 (little 1 0x47) bare_header) ≡ state.NoElf)
 
--- each front of a file header is refused once the magic number is whole, and is of another kind before
+-- each prefix of a file header is refused once the magic number is whole, and is of another kind
+-- before
 abbrev pub StatesOfFronts : Type 0
 StatesOfFronts =
     (map (λ n. whole_state (take n bare_header)) (numbers_from 0 4) ≡ map (λ n. state.NoElf) (numbers_from 0 4))
@@ -38,7 +39,8 @@ StatesOfFronts =
     × (whole_state (with_bytes 0x0 (little 1 0x7e) (take 63 bare_header)) ≡ state.NoElf)
     × (whole_state (codes "#!/bin/sh\n") ≡ state.NoElf)
 
--- the first bytes of a short file are looked at where the budget has four; the first of a longer one in the file header
+-- the first bytes of a short file are looked at where the budget has four; the first of a longer
+-- one in the file header
 abbrev pub StatesWithinBudgets : Type 0
 StatesWithinBudgets =
     (state_of (Some 4) (codes "text\n") (report_fault (codes "text\n") 3 63 ALL) ≡ state.NoElf)

@@ -1,4 +1,5 @@
--- Many files listed, and archives checked: the line of a path, what a file is by its first bytes, and the fault of an archive.
+-- Many files listed, and archives checked: the line of a path, what a file is by its first bytes,
+-- and the fault of an archive.
 use Rattle.std.specs.Prelude.{ℕ, ◌≡◌, ◌^◌, ◌-◌, List, [], ◌∷◌, ◌++◌, codes, true, false, take, Option, None, Some}
 use Rattle.elf_model.specs.declared.formats.Format.TheVariants.{Columns, Object}
 use Rattle.elf_model.specs.Bytes.{little}
@@ -13,7 +14,7 @@ use Rattle.elf_model.specs.declared.causes.Cause.TheVariants.{MemberCut, NameOut
 use Rattle.elf_model.specs.declared.causes.Refusal.{Refusal}
 use Rattle.elf_model.specs.declared.states.FileMagic.TheVariants.{Archive, Elf, Foreign}
 
--- the line of a path: spelt as names are, empty, and as an object
+-- the line of a path: written as names are, empty, and as an object
 abbrev pub PathLines : Type 0
 PathLines =
     (path_line Columns (codes "/bin/ls") ≡ codes "@ /bin/ls\n")
@@ -21,7 +22,7 @@ PathLines =
     × (path_line Columns [] ≡ codes "@ \n")
     × (path_line Object (codes "a\"b") ≡ codes "{\"line\":\"@\",\"path\":\"a\\\"b\"}\n")
 
--- what is listed behind the line of a path; of some names, something or nothing
+-- what is listed after the line of a path; of some names, something or nothing
 abbrev pub HeadedListings : Type 0
 HeadedListings =
     (headed EveryRow (codes "@ a\n") (codes "H\n") ≡ codes "@ a\nH\n") × (headed EveryRow (codes "@ a\n") [] ≡ codes "@ a\n")
@@ -48,13 +49,13 @@ FileSorts =
     × (file_magic true None (codes "!<arch>") ≡ Foreign) × (file_magic true (Some 4) (codes "!<arch>") ≡ Foreign)
     × (file_magic true None (codes "!<thin>\n") ≡ Foreign)
 
--- what is left of a budget behind them
+-- what is left of a budget after them
 abbrev pub BudgetsAfter : Type 0
 BudgetsAfter =
     (budget_after None 4 ≡ None) × (budget_after (Some 100) 4 ≡ Some 96) × (budget_after (Some 4) 4 ≡ Some 0)
     × (budget_after (Some 3) 4 ≡ Some 3)
 
--- the fault of an archive of some members, with three headers permitted
+-- the fault of an archive of some members, with three headers allowed
 abbrev FaultIs : List ℕ → Option Refusal → Type 0
 FaultIs file fault = archive_fault file 3 (standard 63) SYMBOLS ≡ fault
 
@@ -64,7 +65,8 @@ at_fault at cause = Some (record { at = at; cause = cause })
 abbrev faulty : List ℕ
 faulty = with_bytes 0x40 (little 4 9) one_symbol_table
 
--- none; what is no archive; the first fault in order, of a member from the archive's first byte on, then that of the walk
+-- none; what is no archive; the first fault in order, of a member from the archive's first byte on,
+-- then that of the walk
 abbrev pub ArchiveFaults : Type 0
 ArchiveFaults =
     FaultIs library None × FaultIs (archive_of []) None
@@ -75,12 +77,12 @@ ArchiveFaults =
     × FaultIs (archive_of (member (codes "a.o/") faulty ++ member (codes "b.o/") (take 70 faulty))) (at_fault 0x84 NameOutside)
     × (placed_after 8 (record { at = 2 ^ 64 - 4; cause = Short }) ≡ record { at = 2 ^ 64 - 1; cause = Short })
 
--- the lines of members stand alone where all rows are shown, and not where some names choose them
+-- the lines of members are alone where all rows are shown, and not where some names choose them
 abbrev pub MembersAlone : Type 0
 MembersAlone = (members_alone EveryRow ≡ true) × (members_alone (RowsOf []) ≡ false)
 
--- a fault of a member is counted from where its data begin behind a name of four bytes; a member that is no ELF file has none, nor
--- has one of which no part is listed
+-- a fault of a member is counted from where its data begin after a name of four bytes; a member
+-- that is no ELF file has none, nor has one of which no part is listed
 abbrev pub FaultsAfterNames : Type 0
 FaultsAfterNames =
     FaultIs (archive_of (member (codes "#1/4") (codes "ab.o" ++ faulty))) (at_fault 0x88 NameOutside)

@@ -124,7 +124,7 @@ SymbolTableChecksInOrder =
     × (report (with_bytes 0x118 (little 8 0xc9) one_symbol_table) 3 63 SYMBOLS
     ≡ codes "! 00000000000000f8 table-outside\n")
 
--- sizes near 2^64: the lines before the fault stand
+-- sizes near 2^64: the lines before the fault are
 abbrev pub HostileSizesKeepTheLinesBefore : Type 0
 HostileSizesKeepTheLinesBefore =
     report (with_bytes 0xd8 (little 8 0xfffffffffffffff0) one_symbol_table) 3 63 ALL

@@ -12,15 +12,15 @@ use Rattle.elf_model.specs.Traits.{traits_of}
 use Rattle.elf_model.specs.TraitWords.{trait_line}
 use Rattle.elf_model.specs.declared.states.FileStatus.TheVariants.{Refused}
 
--- its program headers, from 0x40 on: all of it is loaded at address 0; the interpreter; the dynamic entries; the permissions of
--- the stack; what is read-only once it is relocated; the notes
+-- its program headers, from 0x40 on: all of it is loaded at address 0; the interpreter; the dynamic
+-- entries; the permissions of the stack; what is read-only once it is relocated; the notes
 unfoldable pub headers_of_program : List ℕ
 headers_of_program =
     program_header 1 5 0 0 0x2a8 0x1000 ++ program_header 3 4 0x217 0x217 1 1 ++ program_header 2 6 0x238 0x238 0x70 8
     ++ program_header 0x6474e551 6 0 0 0 16 ++ program_header 0x6474e552 4 0x238 0x238 0x70 1
     ++ program_header 4 4 0x218 0x218 0x20 8
 
--- its hash table of the GNU system, at 0x190, in which no symbol is: there are three, all before `first`
+-- its GNU hash table, at 0x190, in which no symbol is: there are three, all before `first`
 unfoldable pub program_hash : List ℕ
 program_hash = words (1 ∷ 3 ∷ 1 ∷ 6 ∷ 0 ∷ 0 ∷ 0 ∷ 0 ∷ [])
 
@@ -50,7 +50,7 @@ unfoldable pub program_with_traits : List ℕ
 program_with_traits =
     object 6 (headers_of_program ++ program_hash ++ program_symbols ++ program_strings ++ program_note ++ program_entries)
 
--- the line of a file at a path, with eight headers permitted: its traits, or its refusal
+-- the line of a file at a path, with eight headers allowed: its traits, or its refusal
 unfoldable pub trait_line_of : List ℕ → List ℕ
 trait_line_of file = elim (traits_of file 8) [
   | Err refusal ↦ check_line Columns (Refused refusal) (codes "p")
@@ -60,6 +60,6 @@ trait_line_of file = elim (traits_of file 8) [
 abbrev pub TraitsAre : List ℕ → List ℕ → Type 0
 TraitsAre file line = trait_line_of file ≡ line
 
--- it asks for so many bytes
+-- it asks for this many bytes
 abbrev pub TraitsCost : List ℕ → ℕ → Type 0
 TraitsCost file cost = traits_cost file 8 ≡ cost

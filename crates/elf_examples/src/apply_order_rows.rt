@@ -1,4 +1,5 @@
-//! The order of a relocation entry's faults, the terms of its type, and the costs of longer names, each computed by the prover.
+//! The order of a relocation entry's faults, the terms of its type, and the costs of longer names,
+//! each computed by the prover.
 ghost use Rattle.elf_examples.specs.ExamplesApplyOrder.{EntryFaultsInOrder, TypesTakeTheirTerms, AddressesAreWhole, TypesWithoutASymbol, LaterItemsAreFound, LongNamesCost, LaterFaultsCost, SectionZeroIsApplied};
 
 /// The order of an entry's faults.

@@ -1,4 +1,5 @@
-//! Symbols whose type is specific to the system, and sections that are compressed, each computed by the prover.
+//! Symbols whose type is specific to the system, and sections that are compressed, each computed by
+//! the prover.
 ghost use Rattle.elf_examples.specs.ExamplesFunctions.{FunctionsAreEntries, FunctionsWithoutEntries, OtherTypesAreRefused, OthersAreAsBefore, FunctionsInOrder, EntriesWouldHelp, CompressedIsRefused, FunctionsCost};
 
 /// Calls and pointers to indirect functions.

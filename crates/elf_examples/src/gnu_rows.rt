@@ -1,4 +1,4 @@
-//! Worked names of numbers of the GNU system, each computed by the prover.
+//! Worked names of GNU numbers, each computed by the prover.
 ghost use Rattle.elf_examples.specs.ExamplesGnu.{SectionTypesOfGnu, SectionTypesElsewhere, SegmentTypesOfGnu, RelocationTypesOfGnu, RelocationTypesElsewhere, DynamicTagsOfGnu, MoreDynamicTagsOfGnu, SymbolTypesOfGnu, BindingsOfGnu, PlacesOfGnu, PlacesElsewhere, FlagsOfGnu, FlagsElsewhere, FlagsWithoutGnu};
 
 /// Each further section type on x86-64, and its neighbours.
@@ -67,7 +67,8 @@ pub fn places_elsewhere()
     ensures { PlacesElsewhere }
 {}
 
-/// Each further flag alone on x86-64, a bit that has no letter, twelve letters, and more than twelve.
+/// Each further flag alone on x86-64, a bit that has no letter, twelve letters, and more than
+/// twelve.
 #[tactic(auto, unfolding(elf_model::proofs::OnLiterals::on_literals))]
 pub fn flags_of_gnu()
     ensures { FlagsOfGnu }
@@ -79,7 +80,7 @@ pub fn flags_elsewhere()
     ensures { FlagsElsewhere }
 {}
 
-/// Without the names of the GNU system none of them has.
+/// Without the GNU names none of them has.
 #[tactic(auto, unfolding(elf_model::proofs::OnLiterals::on_literals))]
 pub fn flags_without_gnu()
     ensures { FlagsWithoutGnu }

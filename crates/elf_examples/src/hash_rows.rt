@@ -7,13 +7,13 @@ pub fn known_hashes()
     ensures { KnownHashes }
 {}
 
-/// A name that stands first in its chain.
+/// A name that is first in its chain.
 #[tactic(auto, unfolding(elf_model::proofs::OnLiterals::on_literals, crate::proofs::OnTableExamples::on_examples))]
 pub fn first_is_found()
     ensures { FirstIsFound }
 {}
 
-/// A name that stands second in its chain.
+/// A name that is second in its chain.
 #[tactic(auto, unfolding(elf_model::proofs::OnLiterals::on_literals, crate::proofs::OnTableExamples::on_examples))]
 pub fn second_is_found()
     ensures { SecondIsFound }

@@ -7,8 +7,8 @@ pub fn shared_kinds()
     ensures { SharedKinds }
 {}
 
-/// Programs at fixed addresses, files of other types, and files that lack program headers or dynamic
-/// entries.
+/// Programs at fixed addresses, files of other types, and files that lack program headers or
+/// dynamic entries.
 #[tactic(auto, unfolding(elf_model::proofs::OnLiterals::on_literals, elf_model::proofs::OnLoader::on_loader, crate::proofs::OnTraits::on_traits))]
 pub fn fixed_kinds()
     ensures { FixedKinds }

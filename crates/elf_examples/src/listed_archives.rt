@@ -13,7 +13,7 @@ pub fn library_lists()
     ensures { ArchiveOfNamesLists }
 {}
 
-/// A member whose listing is refused, and the one behind it.
+/// A member whose listing is refused, and the one after it.
 #[tactic(auto, unfolding(elf_model::proofs::OnLiterals::on_literals))]
 pub fn refused_members_end_alone()
     ensures { RefusedMembersEndAlone }
@@ -31,7 +31,7 @@ pub fn other_files_are_refused()
     ensures { WhatIsNoArchiveIsRefused }
 {}
 
-/// Places where no member stands: a cut header, sizes past the end and sizes that are no number.
+/// Places where no member is: a cut header, sizes past the end and sizes that are no number.
 #[tactic(auto, unfolding(elf_model::proofs::OnLiterals::on_literals))]
 pub fn cut_members_are_refused()
     ensures { CutMembersAreRefused }
@@ -43,7 +43,7 @@ pub fn last_padding_may_miss()
     ensures { LastPaddingMayMiss }
 {}
 
-/// Names that stand in their field.
+/// Names that are in their field.
 #[tactic(auto, unfolding(elf_model::proofs::OnLiterals::on_literals))]
 pub fn member_names()
     ensures { MemberNames }
@@ -67,7 +67,7 @@ pub fn cut_members_cost()
     ensures { CutMembersCost }
 {}
 
-/// What no archive with versions behind names passes.
+/// What no archive with versions after names passes.
 #[tactic(auto, unfolding(elf_model::proofs::OnLiterals::on_literals, elf_model::specs::Cost::style_ceiling))]
 pub fn ceilings_with_versions()
     ensures { CeilingsWithVersions }

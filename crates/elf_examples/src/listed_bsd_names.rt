@@ -10,13 +10,13 @@ ghost use Rattle.elf_examples.specs.ListedBsdNames.{
   OtherFieldsAreShort,
 };
 
-/// A name at the front of the data, even and odd in size.
+/// A name at the prefix of the data, even and odd in size.
 #[tactic(auto, unfolding(elf_model::proofs::OnLiterals::on_literals))]
 pub fn bsd_names_are_shown()
     ensures { BsdNamesAreShown }
 {}
 
-/// An ELF file behind its name.
+/// An ELF file after its name.
 #[tactic(auto, unfolding(elf_model::proofs::OnLiterals::on_literals))]
 pub fn bsd_members_list()
     ensures { BsdMembersList }

@@ -1,4 +1,4 @@
-//! Where a read budget ends a listing, and where it may not.
+//! If a read budget ends a listing, and if it may not.
 ghost use Rattle.elf_examples.specs.ListedBudgets.{
   AllowedAnswersAreShown,
   BudgetMayEndAListing,

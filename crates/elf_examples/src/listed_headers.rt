@@ -37,13 +37,13 @@ pub fn ident_checks_in_order()
     ensures { IdentChecksInOrder }
 {}
 
-/// Counts and indices that stand in section 0 are refused; the file header alone is listed.
+/// Counts and indices that are in section 0 are refused; the file header alone is listed.
 #[tactic(auto, unfolding(elf_model::proofs::OnLiterals::on_literals))]
 pub fn extended_numbering_is_refused()
     ensures { ExtendedNumberingIsRefused }
 {}
 
-/// More section headers or program headers than are permitted.
+/// More section headers or program headers than are allowed.
 #[tactic(auto, unfolding(elf_model::proofs::OnLiterals::on_literals))]
 pub fn more_headers_than_permitted()
     ensures { MoreHeadersThanPermitted }

@@ -79,7 +79,7 @@ pub fn entry_without_symbol_lists()
     ensures { EntryWithoutSymbolLists }
 {}
 
-/// The checks of the linked tables, where no entry has a symbol.
+/// The checks of the linked tables, if no entry has a symbol.
 #[tactic(auto, unfolding(elf_model::proofs::OnLiterals::on_literals))]
 pub fn linked_symbols_are_checked_first()
     ensures { LinkedSymbolsAreCheckedFirst }

@@ -37,7 +37,7 @@ pub fn symbol_table_checks_in_order()
     ensures { SymbolTableChecksInOrder }
 {}
 
-/// Sizes near 2^64: the lines before the fault stand.
+/// Sizes near 2^64: the lines before the fault are.
 #[tactic(auto, unfolding(elf_model::proofs::OnLiterals::on_literals))]
 pub fn hostile_sizes_keep_the_lines_before()
     ensures { HostileSizesKeepTheLinesBefore }
@@ -67,7 +67,8 @@ pub fn empty_symbol_table_is_not_checked()
     ensures { EmptySymbolTableIsNotChecked }
 {}
 
-/// The lines of a lookup: the symbol with the wanted name, whole, and the number of symbols compared.
+/// The lines of a lookup: the symbol with the wanted name, whole, and the number of symbols
+/// compared.
 #[tactic(auto, unfolding(elf_model::proofs::OnLiterals::on_literals))]
 pub fn lookup_lines_list()
     ensures { LookupLinesList }

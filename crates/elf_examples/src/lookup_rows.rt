@@ -73,7 +73,7 @@ pub fn undefined_is_found()
     ensures { UndefinedIsFound }
 {}
 
-/// A hash table behind the last section.
+/// A hash table after the last section.
 #[tactic(auto, unfolding(elf_model::proofs::OnLiterals::on_literals, crate::proofs::OnTableExamples::on_examples))]
 pub fn hash_past_the_last_section()
     ensures { HashPastTheLastSection }

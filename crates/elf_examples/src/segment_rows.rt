@@ -7,7 +7,7 @@ pub fn relro_rows()
     ensures { RelroRows }
 {}
 
-/// Without its segment nothing is read-only; entries behind the first NULL are none.
+/// Without its segment nothing is read-only; entries after the first NULL are none.
 #[tactic(auto, unfolding(elf_model::proofs::OnLiterals::on_literals, elf_model::proofs::OnLoader::on_loader, crate::proofs::OnTraits::on_traits))]
 pub fn relro_hostile()
     ensures { RelroHostile }
@@ -25,7 +25,7 @@ pub fn pages_rows()
     ensures { PagesRows }
 {}
 
-/// Text that is relocated, and where libraries are looked for first.
+/// Text that is relocated, and if libraries are searched for first.
 #[tactic(auto, unfolding(elf_model::proofs::OnLiterals::on_literals, elf_model::proofs::OnLoader::on_loader, crate::proofs::OnTraits::on_traits))]
 pub fn entry_rows()
     ensures { EntryRows }

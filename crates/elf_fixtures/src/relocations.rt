@@ -4,9 +4,9 @@ ghost use Rattle.elf_model.specs.FixturesApply.{falling_relocations, linked_to_z
 
 use crate::with_bytes;
 
-/// A call of `f`, which is not defined. Five section headers stand at 0x98: none, the five bytes of
+/// A call of `f`, which is not defined. Five section headers are at 0x98: none, the five bytes of
 /// the call at 0x40, their one relocation entry at 0x48, two symbols at 0x60, their three bytes of
-/// names at 0x90. The headers of the entries, the symbols and the names stand at 0x118, 0x158 and
+/// names at 0x90. The headers of the entries, the symbols and the names are at 0x118, 0x158 and
 /// 0x198.
 #[tactic(auto, unfolding(elf_model::proofs::OnLiterals::on_literals))]
 pub fn one_call() -> &'static [u8; 472]
@@ -57,7 +57,8 @@ pub fn linked_to_zero() -> [u8; 472]
     with_bytes(&with_bytes(one_call(), 0x140, &[0]), 0x98, symbols)
 }
 
-/// Two relocation entries at 0x48, of four bytes at 0 and of two at 2, for a section of eight bytes.
+/// Two relocation entries at 0x48, of four bytes at 0 and of two at 2, for a section of eight
+/// bytes.
 #[tactic(auto, unfolding(elf_model::proofs::OnLiterals::on_literals))]
 pub fn overlapping_relocations() -> &'static [u8; 312]
     ensures { result.now ≡ overlapping_relocations }

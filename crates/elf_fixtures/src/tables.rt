@@ -5,7 +5,7 @@ ghost use Rattle.elf_model.specs.FixturesTables.{named_section, needed_library, 
 
 use crate::with_bytes;
 
-/// The file header of a relocatable file for x86-64 with nothing behind it.
+/// The file header of a relocatable file for x86-64 with nothing after it.
 #[tactic(auto, unfolding(elf_model::proofs::OnLiterals::on_literals))]
 pub fn bare_header() -> &'static [u8; 64]
     ensures { result.now ≡ bare_header }
@@ -21,7 +21,7 @@ static BARE_HEADER: [u8; 64] = [
 ];
 
 /// A relocatable file with one symbol table of two symbols, the second named `main`. Three section
-/// headers stand at 0x78: none, the symbols at 0x40, their six bytes of names at 0x70.
+/// headers are at 0x78: none, the symbols at 0x40, their six bytes of names at 0x70.
 #[tactic(auto, unfolding(elf_model::proofs::OnLiterals::on_literals))]
 pub fn one_symbol_table() -> &'static [u8; 312]
     ensures { result.now ≡ one_symbol_table }
@@ -52,7 +52,7 @@ static ONE_SYMBOL_TABLE: [u8; 312] = [
     0x00, 0x00, 0x00, 0x00, 0x00, 0x00, 0x00, 0x00,
 ];
 
-/// The same, where the symbols' names are those of the sections too: section 1 is named `main`.
+/// The same, if the symbols' names are those of the sections too: section 1 is named `main`.
 #[tactic(auto, unfolding(elf_model::proofs::OnLiterals::on_literals))]
 pub fn named_section() -> [u8; 312]
     ensures { result ≡ named_section }
@@ -60,8 +60,8 @@ pub fn named_section() -> [u8; 312]
     with_bytes(&with_bytes(one_symbol_table(), 0x3e, &[2]), 0xb8, &[1])
 }
 
-/// Five section headers at 0x40: none, three symbol tables that stand over the section headers, and
-/// a string table over them too.
+/// Five section headers at 0x40: none, three symbol tables that are over the section headers, and a
+/// string table over them too.
 #[tactic(auto, unfolding(elf_model::proofs::OnLiterals::on_literals))]
 pub fn tables_over_headers() -> &'static [u8; 384]
     ensures { result.now ≡ tables_over_headers }
@@ -135,8 +135,8 @@ static NOTE_SEGMENT: [u8; 140] = [
     0x01, 0x00, 0x00, 0x00, 0x47, 0x4e, 0x55, 0x00, 0x2a, 0x00, 0x00, 0x00,
 ];
 
-/// A file with three dynamic entries, at 0x40: a library that is needed, the end, and an entry behind
-/// it. Their names stand at 0x70.
+/// A file with three dynamic entries, at 0x40: a library that is needed, the end, and an entry
+/// after it. Their names are at 0x70.
 #[tactic(auto, unfolding(elf_model::proofs::OnLiterals::on_literals))]
 pub fn needed_library() -> &'static [u8; 315]
     ensures { result.now ≡ needed_library }

@@ -28,8 +28,8 @@ undefined = with_bytes 0x146 (little 2 0) library
 abbrev BindsTo : List ℕ → VersionQuery → List (List ℕ) → Binding → Type 0
 BindsTo name asked files binding = bound_in 8 (record { name = name; asked = asked }) files ≡ binding
 
--- the first file defines it, whatever the second has, and `f@V1` is another symbol there; where the first does not, the second
--- does: also where the first has it undefined, with an address for it
+-- the first file defines it, whatever the second has, and `f@V1` is another symbol there; if the
+-- first does not, the second does: also if the first has it undefined, with an address for it
 abbrev pub FirstDefines : Type 0
 FirstDefines =
     BindsTo (codes "f") NoVersion (library ∷ hostile ∷ []) (BoundTo 0 4)
@@ -49,14 +49,16 @@ NoneDefines =
 abbrev shapeless : List ℕ
 shapeless = with_bytes 0xb0 (little 4 0) library
 
--- the lookup in a file is refused: at what tells of the hash table, and at a definition of versions; those behind are not asked
+-- the lookup in a file is refused: at what tells of the hash table, and at a definition of
+-- versions; those after are not asked
 abbrev pub RefusalsStop : Type 0
 RefusalsStop =
     BindsTo (codes "nope") NoVersion (library ∷ shapeless ∷ library ∷ []) (StoppedIn 1 (record { at = 0x250; cause = HashShape }))
     × BindsTo (codes "f") NoVersion (library ∷ shapeless ∷ []) (BoundTo 0 4)
     × BindsTo (codes "f") (Version (codes "V1")) (hostile ∷ library ∷ []) (StoppedIn 0 (record { at = 0x1e8; cause = VersionCut }))
 
--- what it reads: nothing where the filter tells that there is none, but the records of versions where one is asked for
+-- what it reads: nothing if the filter tells that there is none, but the version records if one is
+-- requested
 abbrev asks_for : List ℕ → VersionQuery → List ℕ → ℕ
 asks_for name asked file =
     let wanted : SymbolQuery = record { name = name; asked = asked } in
@@ -75,8 +77,9 @@ SeeksAt file index sought = elim (lookup_tables_of file 8) [ Ok scope ↦ refere
 abbrev puts : Option SymbolQuery
 puts = Some (record { name = codes "puts"; asked = Version (codes "GLIBC_2.2.5") })
 
--- the first symbol asks for nothing, nor does one that is defined; one that is undefined asks for its name, with the version of
--- its number; without one by the number 1; local it does not, and not without a name
+-- the first symbol asks for nothing, nor does one that is defined; one that is undefined asks for
+-- its name, with the version of its number; without one by the number 1; local it does not, and not
+-- without a name
 abbrev pub SymbolsAsk : Type 0
 SymbolsAsk =
     SeeksAt library 0 (Ok None) × SeeksAt library 1 (Ok puts) × SeeksAt library 2 (Ok None) × SeeksAt library 4 (Ok None)
@@ -85,8 +88,9 @@ SymbolsAsk =
     × SeeksAt (with_bytes 0xfc (little 1 0x02) library) 1 (Ok None)
     × SeeksAt (with_bytes 0xf8 (little 4 0) library) 1 (Ok None)
 
--- a unique symbol asks, and one of another binding does not; the highest bit of the word is no part of the number; a number of a
--- definition is a version too; a symbol that is defined asks for nothing, whatever its name is
+-- a unique symbol asks, and one of another binding does not; the highest bit of the word is no part
+-- of the number; a number of a definition is a version too; a symbol that is defined asks for
+-- nothing, whatever its name is
 abbrev pub OtherSymbolsAsk : Type 0
 OtherSymbolsAsk =
     SeeksAt (with_bytes 0xfc (little 1 0xa2) library) 1 (Ok puts)
@@ -121,7 +125,8 @@ CountIs file count = elim (lookup_tables_of file 8) [ Ok scope ↦ symbols_hashe
 abbrev pub SymbolsAreCounted : Type 0
 SymbolsAreCounted = CountIs library (Ok 6)
 
--- the highest of the buckets' words leads to the last chain, wherever it stands; a table without a bucket is refused
+-- the highest of the buckets' words leads to the last chain, wherever it is; a table without a
+-- bucket is refused
 abbrev pub HighestBucketsCount : Type 0
 HighestBucketsCount =
     CountIs (with_bytes 0xc8 (words (3 ∷ 2 ∷ [])) library) (Ok 6)

@@ -1,4 +1,5 @@
--- Worked examples of what dynamic entries tell of how a file is linked, and of their refusals in order.
+-- Worked examples of what dynamic entries tell of how a file is linked, and of their refusals in
+-- order.
 use Rattle.std.specs.Prelude.{ℕ, ◌≡◌, ◌+◌, ◌*◌, List, [], ◌∷◌, codes, Option, None, Some, Result, Ok, Err}
 use Rattle.elf_model.specs.Bytes.{little}
 use Rattle.elf_model.specs.Fixtures.{with_bytes}
@@ -23,7 +24,8 @@ needing_libc soname rpath runpath bytes texts =
 abbrev libf : Option (List ℕ)
 libf = Some (codes "libf.so")
 
--- the text of each tag, and those of two; section headers are not looked at, whatever they say and however many there are
+-- the text of each tag, and those of two; section headers are not looked at, whatever they say and
+-- however many there are
 abbrev pub EachTagHasItsText : Type 0
 EachTagHasItsText =
     LinksAre versioned_without_sections (needing_libc libf None None 4 1)
@@ -33,8 +35,8 @@ EachTagHasItsText =
     × LinksAre (with_bytes 0x2b0 (tagged 15 0x2d) versioned_without_sections) (needing_libc libf (Some (codes "V2")) None 2 0)
     × LinksAre one_load (Ok (record { links = no_link_info; room = record { bytes = 20; texts = 3 } }))
 
--- refusals: of the file header; of a LOAD segment over another, before the entries; of what a lookup is made in, before their texts;
--- of the first text
+-- refusals: of the file header; of a LOAD segment over another, before the entries; of the lookup
+-- tables, before their texts; of the first text
 abbrev pub LinksAreRefusedInOrder : Type 0
 LinksAreRefusedInOrder =
     let nameless = with_bytes 0x238 (little 8 0x30) versioned_without_sections in

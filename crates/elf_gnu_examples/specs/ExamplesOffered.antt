@@ -1,4 +1,5 @@
--- Worked examples of the symbols that a loader takes: their values, places, types, bindings, visibilities and names.
+-- Worked examples of the symbols that a loader takes: their values, places, types, bindings,
+-- visibilities and names.
 use Rattle.std.specs.Prelude.{◌++◌, codes}
 use Rattle.elf_model.specs.Bytes.{little}
 use Rattle.elf_model.specs.Fixtures.{with_bytes}

@@ -13,7 +13,7 @@ use Rattle.elf_model.specs.Listing.{report_of, RELOCS, SECTIONS, SYMBOLS, VERSIO
 use Rattle.elf_model.specs.Report.{listing}
 use Rattle.elf_model.specs.Style.{ListingStyle, standard}
 
--- how the rows of some names are shown: so many bytes of a name as the longest has
+-- how the rows of some names are shown: this many bytes of a name as the longest has
 unfoldable pub rows_named : List (List ℕ) → ListingStyle
 rows_named names = record {
   cap = most_bytes names;
@@ -24,11 +24,12 @@ rows_named names = record {
   versions = false;
 }
 
--- the rows of some names in some parts of a file, with eight headers permitted
+-- the rows of some names in some parts of a file, with eight headers allowed
 unfoldable pub named_listed : ℕ → List (List ℕ) → List ℕ → List ℕ
 named_listed parts names file = report_of Columns (listing file 8 (rows_named names) parts)
 
--- symbols of a library: the two of one name, those of two names in the order of the table, one name twice, and none
+-- symbols of a library: the two of one name, those of two names in the order of the table, one name
+-- twice, and none
 abbrev pub NamesAreListed : Type 0
 NamesAreListed =
     let first = codes "Y     2          3 00000000000002a8 0000000000000001 FUNC    GLOBAL DEFAULT       7 f\n" in
@@ -40,8 +41,8 @@ NamesAreListed =
     × (named_listed SYMBOLS (codes "e" ∷ []) versioned_library ≡ [])
     × (named_listed SYMBOLS [] versioned_library ≡ [])
 
--- a name of as many bytes as are shown is whole, and one of a byte more is cut: a name that is a front of it is not it, whether
--- more bytes are shown or not
+-- a name of as many bytes as are shown is whole, and one of a byte more is cut: a name that is a
+-- prefix of it is not it, whether more bytes are shown or not
 abbrev pub FrontsAreNotListed : Type 0
 FrontsAreNotListed =
     let puts = codes "Y     2          1 0000000000000000 0000000000000000 FUNC    GLOBAL DEFAULT   UND   puts\n" in
@@ -80,13 +81,14 @@ FaultsAreListed =
     × (named_listed SYMBOLS (codes "e" ∷ []) (with_bytes 0x128 (little 4 48) versioned_library) ≡ codes "! 0000000000000128 name-outside\n")
     × (named_listed VERSIONS (codes "e" ∷ []) (with_bytes 0x1a8 (little 2 9) versioned_library) ≡ codes "! 00000000000001a8 version-index\n")
 
--- rows that end in other names stand as they are, cut as every name is
+-- rows that end in other names are as they are, cut as every name is
 abbrev pub OtherRowsStand : Type 0
 OtherRowsStand =
     named_listed SECTIONS (codes "main" ∷ []) one_symbol_table
     ≡ report_of Columns (listing one_symbol_table 8 (record { cap = 4; gnu = true; by_segments = false; format = Columns; choice = (standard 4).choice; versions = false }) SECTIONS)
 
--- of an archive the line of each member stands, its name cut as every name is, and behind it the rows of the names
+-- of an archive the line of each member is, its name cut as every name is, and after it the rows of
+-- the names
 abbrev pub MembersStand : Type 0
 MembersStand =
     report_of Columns
@@ -99,7 +101,8 @@ MembersStand =
 abbrev pub with_cut_member : List ℕ
 with_cut_member = archive_of (member (codes "a.o/") (127 ∷ 69 ∷ 76 ∷ 70 ∷ 2 ∷ []) ++ member (codes "b.o/") one_symbol_table)
 
--- where the line of a member does not stand alone, it stands before a row of the names, or the line of the member's refusal
+-- if the line of a member does not be alone, it comes before a row of the names, or the line of the
+-- member's refusal
 abbrev pub LinesStandBeforeLines : Type 0
 LinesStandBeforeLines =
     (report_of Columns

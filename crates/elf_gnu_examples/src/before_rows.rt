@@ -1,8 +1,8 @@
 //! Worked lookups by what tells of their tables, each computed by the prover.
 ghost use Rattle.elf_gnu_examples.specs.ExamplesBefore.{HeadersAreChecked, GnuTablesComeFirst, FirstSectionsCount, FirstSegmentCounts, TablesOfTheGabiBySegments, VersionsBySegments, SizesComeFirst};
 
-/// The file header, and how many headers are permitted, before all else; the section of the
-/// section names once the headers are read.
+/// The file header, and how many headers are allowed, before all else; the section of the section
+/// names once the headers are read.
 #[tactic(auto, unfolding(elf_model::proofs::OnLiterals::on_literals, elf_model::proofs::OnLoader::on_loader))]
 pub fn headers_are_checked()
     ensures { HeadersAreChecked }
@@ -14,8 +14,7 @@ pub fn gnu_tables_come_first()
     ensures { GnuTablesComeFirst }
 {}
 
-/// A second section of a type is not looked at: a hash table, words of versions, definitions,
-/// needs.
+/// A second section of a type is not looked at: a hash table, versym entries, definitions, needs.
 #[tactic(auto, unfolding(elf_model::proofs::OnLiterals::on_literals, elf_model::proofs::OnLoader::on_loader))]
 pub fn first_sections_count()
     ensures { FirstSectionsCount }
@@ -34,8 +33,8 @@ pub fn tables_of_the_gabi_by_segments()
     ensures { TablesOfTheGabiBySegments }
 {}
 
-/// No definitions, no needs; needs that are not loaded; neither is looked at without words of
-/// versions.
+/// No definitions, no needs; needs that are not loaded; neither is looked at without versym
+/// entries.
 #[tactic(auto, unfolding(elf_model::proofs::OnLiterals::on_literals, elf_model::proofs::OnLoader::on_loader))]
 pub fn versions_by_segments()
     ensures { VersionsBySegments }

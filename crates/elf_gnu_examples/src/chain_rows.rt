@@ -34,15 +34,14 @@ pub fn buckets_lead_to_symbols()
     ensures { BucketsLeadToSymbols }
 {}
 
-/// A chain whose last word is even; a name whose hash is that of another but for the lowest
-/// bit.
+/// A chain whose last word is even; a name whose hash is that of another except for the lowest bit.
 #[tactic(auto, unfolding(elf_model::proofs::OnLiterals::on_literals, elf_model::proofs::OnLoader::on_loader))]
 pub fn chains_end_at_odd_words()
     ensures { ChainsEndAtOddWords }
 {}
 
-/// A hash table of the gABI in its place: other symbols stand in the chain, which ends, or
-/// comes back to itself.
+/// A hash table of the gABI in its place: other symbols are in the chain, which ends, or comes back
+/// to itself.
 #[tactic(auto, unfolding(elf_model::proofs::OnLiterals::on_literals, elf_model::proofs::OnLoader::on_loader))]
 pub fn other_tables()
     ensures { OtherTables }

@@ -1,4 +1,4 @@
-//! Worked lookups in hash tables that stand alone, each computed by the prover.
+//! Worked lookups in hash tables that are alone, each computed by the prover.
 ghost use Rattle.elf_gnu_examples.specs.ExamplesGnuHash.{KnownGnuHashes, ChainsAreWalked, TrialsAreRefused, FilterWordsAlternate, BucketsAreByTheHash, WordsLeadNowhere};
 
 /// The hashes of some names.

@@ -15,8 +15,8 @@ pub fn library_asks()
     ensures { LibraryAsks }
 {}
 
-/// The same library without section headers: the index of the segment of dynamic entries stands
-/// in place of sections.
+/// The same library without section headers: the index of the segment of dynamic entries is in
+/// place of sections.
 #[tactic(auto, unfolding(elf_model::proofs::OnLiterals::on_literals, elf_model::proofs::OnLoader::on_loader))]
 pub fn segments_answer()
     ensures { SegmentsAnswer }

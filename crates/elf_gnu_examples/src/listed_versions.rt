@@ -20,14 +20,14 @@ pub fn needs_have_their_strings()
     ensures { NeedsHaveTheirStrings }
 {}
 
-/// The section of version numbers: fewer entries than symbols, half of one, their size, no symbol
-/// table, no such section.
+/// The versym section: fewer entries than symbols, half of one, their size, no symbol table, no
+/// such section.
 #[tactic(auto, unfolding(elf_model::proofs::OnLiterals::on_literals, crate::proofs::OnExamples::on_examples))]
 pub fn number_tables_are_refused()
     ensures { NumberTablesAreRefused }
 {}
 
-/// Entries behind the last symbol are not looked at, and a section of no bytes has no rows.
+/// Entries after the last symbol are not looked at, and a section of no bytes has no rows.
 #[tactic(auto, unfolding(elf_model::proofs::OnLiterals::on_literals, crate::proofs::OnExamples::on_examples))]
 pub fn number_tables_end()
     ensures { NumberTablesEnd }
@@ -80,13 +80,13 @@ pub fn library_lists()
     ensures { VersionedLibraryLists }
 {}
 
-/// Its whole listing, in the names of the GNU system.
+/// Its whole listing, in the GNU names.
 #[tactic(auto, unfolding(elf_model::proofs::OnLiterals::on_literals, crate::proofs::OnExamples::on_examples))]
 pub fn library_lists_whole()
     ensures { LibraryListsWhole }
 {}
 
-/// Without the names of the GNU system it has no symbol versions.
+/// Without the GNU names it has no symbol versions.
 #[tactic(auto, unfolding(elf_model::proofs::OnLiterals::on_literals, crate::proofs::OnExamples::on_examples))]
 pub fn standard_has_none()
     ensures { StandardHasNone }
@@ -104,13 +104,13 @@ pub fn none_without_sections()
     ensures { NoneWithoutSections }
 {}
 
-/// Definitions that lie over each other: as many are met as have room one behind the other.
+/// Definitions that overlap: as many are visited as have room one after another.
 #[tactic(auto, unfolding(elf_model::proofs::OnLiterals::on_literals, crate::proofs::OnExamples::on_examples))]
 pub fn overlapping_are_cut()
     ensures { OverlappingAreCut }
 {}
 
-/// How many bytes are asked for at most.
+/// How many bytes are requested at most.
 #[tactic(auto, unfolding(elf_model::proofs::OnLiterals::on_literals, crate::proofs::OnExamples::on_examples))]
 pub fn versions_cost()
     ensures { VersionsCost }

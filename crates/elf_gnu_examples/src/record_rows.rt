@@ -1,4 +1,4 @@
-//! Worked lookups by the records of versions, and in small tables, each computed by the prover.
+//! Worked lookups by the version records, and in small tables, each computed by the prover.
 ghost use Rattle.elf_gnu_examples.specs.ExamplesRecords.{FlagsDecide, NothingIsCheckedOfNone, StringsAreTheirOwn, SmallTablesBySegments, MachinesName};
 
 /// The flags of a definition.

@@ -8,8 +8,8 @@ pub fn tables_by_segments()
     ensures { TablesBySegments }
 {}
 
-/// A segment that ends with its last byte but one; that ends past the end of the file; before
-/// the symbols, within the hash table, before the strings' end, within the words of versions.
+/// A segment that ends with its last byte but one; that ends past the end of the file; before the
+/// symbols, within the hash table, before the strings' end, within the versym entries.
 #[tactic(auto, unfolding(elf_model::proofs::OnLiterals::on_literals, elf_model::proofs::OnLoader::on_loader))]
 pub fn rests_end()
     ensures { RestsEnd }
@@ -36,7 +36,7 @@ pub fn entries_are_checked()
     ensures { EntriesAreChecked }
 {}
 
-/// A row behind the first null entry is none.
+/// A row after the first null entry is none.
 #[tactic(auto, unfolding(elf_model::proofs::OnLiterals::on_literals, elf_model::proofs::OnLoader::on_loader))]
 pub fn entries_end()
     ensures { EntriesEnd }

@@ -1,4 +1,4 @@
-//! Worked rows of the versions behind the names of symbols, each computed by the prover.
+//! Worked rows of the versions after the names of symbols, each computed by the prover.
 ghost use Rattle.elf_gnu_examples.specs.ListedSuffixes.{CeilingWithVersions, EmptyTablesAreNotRefused, EntriesHaveVersions, FirstNumbersCount, FirstSymbolHasNoVersion, FrontsAreNotAskedFor, HiddenNumbersAreSmall, ObjectsHaveDefaults, ObjectsHaveVersions, OtherTablesHaveTheirs, RefusalsAreNotChosen, RowsAreRefused, SignsPartTexts, SuffixesAreCounted, SuffixesHaveTheirStrings, SymbolsHaveVersions, TablesAreRefused, TablesAreRefusedInOrder, TextsAskForVersions};
 
 /// Symbols with a version, a hidden one, a needed one, and none.
@@ -13,7 +13,7 @@ pub fn texts_ask_for_versions()
     ensures { TextsAskForVersions }
 {}
 
-/// A name that is a front of another, one of a byte more than are shown, and the same of versions.
+/// A name that is a prefix of another, one of a byte more than are shown, and the same of versions.
 #[tactic(auto, unfolding(elf_model::proofs::OnLiterals::on_literals, crate::proofs::OnExamples::on_examples))]
 pub fn fronts_are_not_asked_for()
     ensures { FrontsAreNotAskedFor }
@@ -37,7 +37,7 @@ pub fn tables_are_refused()
     ensures { TablesAreRefused }
 {}
 
-/// A section of version numbers that links to another table.
+/// A versym section that links to another table.
 #[tactic(auto, unfolding(elf_model::proofs::OnLiterals::on_literals, crate::proofs::OnExamples::on_examples))]
 pub fn other_tables_have_theirs()
     ensures { OtherTablesHaveTheirs }
@@ -55,7 +55,7 @@ pub fn objects_have_versions()
     ensures { ObjectsHaveVersions }
 {}
 
-/// Two sections of version numbers.
+/// Two versym sections.
 #[tactic(auto, unfolding(elf_model::proofs::OnLiterals::on_literals, crate::proofs::OnExamples::on_examples))]
 pub fn first_numbers_count()
     ensures { FirstNumbersCount }

@@ -2,7 +2,7 @@
 ghost use Rattle.elf_gnu_examples.specs.ExamplesWanted.{TextsAreParted, EmptyNamesAreNone, LongVersionsAreCut, LongNamesAsk, LoaderCeilings, OtherLookupsFindNoTable};
 ghost use Rattle.elf_gnu_examples.specs.ExamplesWanted.{LoaderAnswersAreObjects};
 
-/// A name alone, and with a version behind one sign or two.
+/// A name alone, and with a version after one sign or two.
 #[tactic(auto, unfolding(elf_model::proofs::OnLiterals::on_literals, elf_model::proofs::OnLoader::on_loader, crate::proofs::OnExamples::on_examples))]
 pub fn texts_are_parted()
     ensures { TextsAreParted }
@@ -14,7 +14,7 @@ pub fn empty_names_are_none()
     ensures { EmptyNamesAreNone }
 {}
 
-/// The name of a version is told up to its 256th byte, and the wanted one whole.
+/// The name of a version is reported up to its 256th byte, and the wanted one whole.
 #[tactic(auto, unfolding(elf_model::proofs::OnLiterals::on_literals, elf_model::proofs::OnLoader::on_loader, crate::proofs::OnExamples::on_examples))]
 pub fn long_versions_are_cut()
     ensures { LongVersionsAreCut }
@@ -32,7 +32,7 @@ pub fn ceilings()
     ensures { LoaderCeilings }
 {}
 
-/// A hash table of the GNU system is none for the lookup of a name alone.
+/// A GNU hash table is none for the lookup of a name alone.
 #[tactic(auto, unfolding(elf_model::proofs::OnLiterals::on_literals, elf_model::proofs::OnLoader::on_loader, crate::proofs::OnExamples::on_examples))]
 pub fn other_lookups_find_no_table()
     ensures { OtherLookupsFindNoTable }

@@ -1,4 +1,4 @@
-//! Worked lookups in files with words of versions and no records, each computed by the prover.
+//! Worked lookups in files with versym entries and no records, each computed by the prover.
 ghost use Rattle.elf_gnu_examples.specs.ExamplesWords.{WordsWithoutRecords, UnreadWordsAreUnchecked, EmptyRecordsAreNone, EitherRecordsAreEnough, WordsWithoutRows};
 
 /// By the sections: the first symbol of the name answers, for any version.

@@ -1,4 +1,4 @@
--- How long a section is with its relocations applied.
+-- The length of a section with its relocations applied.
 use Rattle.std.proofs.Common.{◌≡◌, ℕ, List, length, Option, None, Some, Result, Ok, Err, refl}
 use Rattle.elf_model.specs.Apply.{StoredBytes, target_of, held_bytes, before_entries, changes_of, patches_of, patched, applied}
 use Rattle.elf_model.specs.ApplyLaws.{AllInside, AppliedKeepsLength}

@@ -1,4 +1,4 @@
--- Applying stage by stage: the answer, the section's bytes, the order of the offsets and the cost.
+-- Applying stage by stage: the result, the section's bytes, the order of the offsets and the cost.
 use Rattle.std.proofs.Common.{◌≡◌, ℕ, ◌+◌, ◌*◌, ◌==◌, inl, inr, true, false, List, [], ◌∷◌, ◌++◌, None, Some, Ok, Err, refl, ap}
 use Rattle.std.proofs.lemmas.Bool.{cases_Bool}
 use Rattle.elf_model.specs.Apply.{StoredBytes, patches_of, patched, changes_of, target_of, held_bytes, before_entries, applied}
@@ -9,7 +9,7 @@ use Rattle.elf_model.specs.Records.{e_shnum, r_offset, r_type, section_at}
 use Rattle.elf_model.specs.Numbers.{R_X86_64_NONE}
 use Rattle.elf_model.specs.declared.causes.Refusal.{Refusal}
 
--- the stages of the answer
+-- the stages of the result
 module _ (file : List ℕ) (headers section : ℕ) (layout : Layout) where
   pub applied-refused :
       (refusal : Refusal) → first_refusal (before_entries file headers section) ≡ Some refusal

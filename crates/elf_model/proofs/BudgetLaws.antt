@@ -1,9 +1,9 @@
--- Which refusals are for want of budget.
+-- Which refusals are budget refusals.
 use Rattle.std.proofs.Common.{◌≡◌, inl, inr, ◌⊎◌, refl}
 use Rattle.elf_model.specs.declared.causes.Cause.{Cause}
 use Rattle.elf_model.specs.declared.causes.Cause.TheVariants.{Short, NotElf, BadClass, BadData, BadVersion, ExtendedNumbering, TooManyHeaders, EntrySize, TableOutside, BadLink, NotStrings, SizeNotWhole, NameOutside, NameUnended, NoteCut, NoHash, HashShape, HashIndex, HashCycle, Unsupported, Overflow, NotRel, Unplaced, Undefined, PlaceOutside, SymbolIndex, TooLong, Budget, Unmapped, Thin, NotArchive, MemberCut, VersionCut, VersionIndex, LoadOverlap}
 
--- whether a refusal is for want of budget
+-- whether a refusal is a budget refusal
 pub is_budget_fault : (cause : Cause) → (cause ≡ Budget) ⊎ (cause ≡ Budget → ⊥)
 is_budget_fault Short = inr (λ e. cc)
 is_budget_fault NotElf = inr (λ e. cc)

@@ -1,4 +1,4 @@
--- How listings are put together.
+-- How listings are concatenated.
 use Rattle.std.proofs.lemmas.Nat.{and_assoc}
 use Rattle.std.specs.Int.RustNames.{bit_and}
 use Rattle.elf_model.specs.Records.{FILE_HEADER_SIZE}
@@ -12,7 +12,7 @@ use Rattle.elf_model.specs.Report.{listing, load_items, loaded_items}
 use Rattle.elf_model.specs.declared.causes.Refusal.{Refusal}
 use Rattle.elf_model.specs.ListingLaws.{LastRowIsLast, RowsSplit, HeaderAloneIsListed, HeaderFaultIsListedAlone, LoadFaultIsListedSecond, NothingAfterTheFault, ListingsAppend, OtherBitsMeanNothing}
 
--- rows are put together
+-- rows are concatenated
 pub rows_split : RowsSplit
 unfolding each
 rows_split row first zero more = rw (zero-add more, add-zero first)
@@ -29,12 +29,12 @@ unfolding each
 last_row row first count =
     rows_split row first count 1 ∙ ap (λ rest. each row first count ++ rest) (append-nil (row (first + count)))
 
--- a check that fails stands in the place of the items
+-- a failed check replaces the items
 pub guarded-fault : (checks : List Check) (members : List ListingItem) (refusal : Refusal) → first_refusal checks ≡ Some refusal
     → guarded checks members ≡ Fault refusal ∷ []
 guarded-fault checks members refusal h = rw (h, guarded) refl
 
--- where all checks pass, the items stand
+-- if all checks pass, the items are unchanged
 pub guarded-passes : (checks : List Check) (members : List ListingItem) → first_refusal checks ≡ None → guarded checks members ≡ members
 guarded-passes checks members h = rw (h, guarded) refl
 
@@ -100,7 +100,7 @@ listings_append (Line text ∷ front) back h =
     (ap (λ more. text ++ more) n.0 ∙ sym (append_assoc text (lines_of front) (lines_of back)), n.1)
 listings_append (Fault first ∷ front) back h = cc
 
--- the parts that a style knows are known once; the file header is one of them
+-- selecting the known parts of a style twice changes nothing; the file header is one of them
 all_of_all : (gnu : Bool) → bit_and (all_parts gnu) (all_parts gnu) ≡ all_parts gnu
 all_of_all true = refl
 all_of_all false = refl

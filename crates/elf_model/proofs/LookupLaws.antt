@@ -1,4 +1,4 @@
--- Lookups: what is calculated is the one lookup.
+-- Lookups: what is computed is the one lookup.
 use Rattle.std.proofs.Common.{◌≡◌, ℕ, zero, suc, ◌<◌, ◌≤◌, ◌⊎◌, inl, inr, Bool, true, false, List, [], ◌∷◌, ◌++◌, length, drop, nat_lt, ◌==◌, Option, None, Some, Result, Ok, Err, refl, sym, ap, ◌∙◌, arith}
 use Rattle.std.proofs.lemmas.Bool.{cases_eq, cases_lt, cases_Bool, and_parts, ltb-true}
 use Rattle.elf_model.specs.Hash.{nchain, lookup_word, end_at_word, end_of_name, is_index, same_symbol, LookupEnd, ChainEnd, NoIndex, Nameless, Wanted, Outcome, Found, Absent, Refused, Lookup, lookup_at, lookup_by, cycle, IsFirst, IsEndless, IsLookup, lookup_end, looked_up}
@@ -51,7 +51,7 @@ module _ (file : List ℕ) (at : ℕ) (wanted : List ℕ) where
   unfolding lookup_end
   first_where i end e = searched_first _ _ _ (nchain file at) i end e
 
-  -- what the search for the end says
+  -- the result of the search for the end
   answered :
       (end : Option (ℕ × LookupEnd)) → lookup_end file at wanted (suc (nchain file at)) ≡ end
       → IsLookup file at wanted (lookup_by file at wanted end)
@@ -72,7 +72,7 @@ lookup_is_one file at wanted first second (inr a) (inl b) =
 lookup_is_one file at wanted first second (inr a) (inr b) = a.gives ∙ sym b.gives
 
 module _ (file : List ℕ) (at : ℕ) (wanted : List ℕ) where
-  -- one symbol more than words are passed over is compared at most
+  -- one symbol more than words are skipped is compared at most
   compared_le : (i : ℕ) (end : LookupEnd) → (lookup_at file at wanted i end).compared ≤ suc i
   unfolding lookup_at
   compared_le i ChainEnd = omega arith

@@ -60,7 +60,7 @@ module _ (file : List ℕ) (at : ℕ) (wanted : List ℕ) where
   unfolding looked_in
   looked_in-passed e = rw (e, looked_in) refl
 
--- the first number that passes a test, where the ones before it do not
+-- the first number that passes a test, if the ones before it do not
 pub first_that-some :
     (test : ℕ → Bool) (first count i : ℕ) → first ≤ i → i < first + count → ((j : ℕ) → first ≤ j → j < i → test j ≡ false)
     → test i ≡ true → first_that test first count ≡ Some i

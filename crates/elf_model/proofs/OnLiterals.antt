@@ -1,4 +1,4 @@
--- What opens each definition, so that it computes on a file that is written out.
+-- What unfolds each definition, so that it computes on a file given byte by byte.
 use Rattle.std.specs.Fmt.{digits}
 use Rattle.elf_model.specs.Bytes.{number, field, little}
 use Rattle.elf_model.specs.Names.{shown, begins, same}

@@ -1,4 +1,5 @@
--- What opens the definitions of a loader's lookup, beside `OnLiterals`, so that they compute on a file that is written out.
+-- What unfolds the definitions of a loader's lookup, besides `OnLiterals`, so that they compute on
+-- a file given byte by byte.
 use Rattle.std.specs.Int.RustNames.{count_ones}
 use Rattle.elf_model.specs.GnuHash.{gnu_hash, filter_may_contain, gnu_bucket_of, gnu_word_at, gnu_end, gnu_tried, gnu_walked_at, gnu_walk_end, gnu_looked_up}
 use Rattle.elf_model.specs.SysvWalk.{sysv_bucket_of, sysv_word_at, sysv_end, sysv_walked_at, sysv_walk_end, sysv_walked}

@@ -1,4 +1,4 @@
--- The versions behind the names of symbols.
+-- The versions after the names of symbols.
 use Rattle.std.proofs.Common.{◌≡◌, ℕ, zero, suc, ◌==◌, ◌&&◌, nat_lt, not, if◌then◌else◌, Bool, true, false, List, [], ◌∷◌, Option, None, Some, Result, Ok, Err, refl, sym, ap, ◌∙◌, append-nil}
 use Rattle.elf_model.specs.Choice.{RowFilter, NoSuffix, Suffix, Suffixed, chooses}
 use Rattle.elf_model.specs.Fields.{LinePrefix}
@@ -24,7 +24,7 @@ use Rattle.elf_model.specs.declared.causes.Refusal.{Refusal}
 use Rattle.elf_model.specs.declared.formats.Format.{Format}
 use Rattle.elf_model.specs.declared.formats.Format.TheVariants.{Columns, Object}
 
--- a line with nothing behind its name
+-- a line with nothing after its name
 pub unsuffixed_line : (front : LinePrefix) (name : DisplayedName) → suffixed_line front name NoSuffix ≡ named_line front name
 unfolding line_suffixed line_named suffix_text suffix_members
 unsuffixed_line front name = by_format front.format
@@ -33,20 +33,20 @@ unsuffixed_line front name = by_format front.format
     by_format Columns = rw (append-nil (name_text name)) refl
     by_format Object = rw (append-nil (name_member front.key name)) refl
 
--- a row with nothing behind its name
+-- a row with nothing after its name
 pub unsuffixed_row : (choice : RowFilter) (front : LinePrefix) (at : ℕ) (name : Result DisplayedName Cause)
     → suffixed_row choice front at name (Ok NoSuffix) ≡ chosen_row choice front at name
 unsuffixed_row choice front at (Err cause) = refl
 unsuffixed_row choice front at (Ok name) =
     ap (λ (line : List ℕ). if chooses choice name NoSuffix then Line line ∷ [] else []) (unsuffixed_line front name)
 
--- rows that are the same one by one
+-- rows that are equal one by one
 pub each_same : (row other : ℕ → List ListingItem) (first count : ℕ) → ((i : ℕ) → row i ≡ other i) → each row first count ≡ each other first count
 unfolding each
 each_same row other first zero same = refl
 each_same row other first (suc count) same = let one = same first in let more = each_same row other (suc first) count same in cc
 
--- a table without version numbers has no versions, and no refusal of them
+-- a table without a versym section has no versions, and no refusal of them
 no_suffix : (file : List ℕ) (cap table symbol_at index : ℕ) → version_numbers_of file table ≡ None → symbol_suffix file cap table symbol_at index ≡ Ok NoSuffix
 unfolding symbol_suffix
 no_suffix file cap table symbol_at index none = rw (none, symbol_suffix) refl
@@ -82,7 +82,7 @@ unfolding suffixed_symbols symbols suffixed_symbol_rows
 unversioned_symbols file style section at none =
     rw (no_refusal file section none) (each_same _ _ _ _ (λ i. plain_symbol file style section at i none))
 
--- what stands behind a symbol of an entry, where its table has no version numbers
+-- what follows a symbol of an entry, if its table has no versym section
 plain_entry : (file : List ℕ) (style : ListingStyle) (section at index : ℕ) → version_numbers_of file (sh_link file at) ≡ None
     → relocation_row_with_version file style section at index ≡ relocation_row file style section at index
 unfolding relocation_row_with_version relocation_row

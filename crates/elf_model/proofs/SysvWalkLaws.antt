@@ -1,4 +1,5 @@
--- Walks in a hash table of the gABI for a symbol that answers: what is calculated is the one walk, and it is bounded.
+-- Walks in a gABI hash table for a symbol that answers: what is computed is the only walk, and it
+-- is bounded.
 use Rattle.std.proofs.Common.{◌≡◌, ℕ, zero, suc, ◌<◌, ◌≤◌, inl, inr, Bool, true, false, List, Option, None, Some, Result, Ok, Err, refl, sym, ap, ◌∙◌, arith}
 use Rattle.std.proofs.lemmas.Bool.{cases_lt, cases_Bool, and_parts, ltb-true}
 use Rattle.elf_model.specs.Chains.{HashTable, WalkEnd, NotThere, Untried, Answers, Last, end_of_match, ChainResult}
@@ -74,7 +75,7 @@ sysv_walk_is_one file table hash trial first second (inr a) (inl b) =
 sysv_walk_is_one file table hash trial first second (inr a) (inr b) = a.gives ∙ sym b.gives
 
 module _ (file : List ℕ) (table : HashTable) (hash : ℕ) (trial : ℕ → Result Bool Refusal) where
-  -- the words before the one at which a walk ends are no more than the chains
+  -- the words before the one at which a walk ends are at most as many as the chains
   few_before : (i : ℕ) (end : WalkEnd) → IsFirst (sysv_end file table trial) (sysv_word file table.place hash) i end
       → i ≤ sysv_nchain file table.place
   few_before i end f =
@@ -89,7 +90,7 @@ module _ (file : List ℕ) (table : HashTable) (hash : ℕ) (trial : ℕ → Res
             absurd (not_both _ end f.here (endless i))
       ]
 
-  -- and fewer, where it ends at a symbol that is tried
+  -- and fewer, if it ends at a symbol that is tried
   fewer_before : (i : ℕ) (end : WalkEnd) → IsFirst (sysv_end file table trial) (sysv_word file table.place hash) i end
       → sysv_word file table.place hash i < sysv_nchain file table.place → suc i ≤ sysv_nchain file table.place
   fewer_before i end f some =

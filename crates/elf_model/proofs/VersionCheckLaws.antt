@@ -1,4 +1,4 @@
--- The checks before the rows of version numbers are those that a cost counts by the headers.
+-- The checks before the rows of a versym section are those that a cost counts by the headers.
 use Rattle.std.proofs.Common.{◌≡◌, ℕ, ◌==◌, ◌&&◌, ◌||◌, nat_lt, not, if◌then◌else◌, Bool, true, false, List, [], ◌∷◌, ◌++◌, length, refl, ap, ap₂, sym, ◌∙◌}
 use Rattle.elf_model.specs.Checks.{Check, pass, refuse, unless_empty, is_outside, is_symbol_table, table_checks, strings_checks}
 use Rattle.elf_model.specs.HeaderTables.{file_sections}

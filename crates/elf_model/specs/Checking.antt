@@ -15,7 +15,7 @@ use Rattle.elf_model.specs.declared.formats.Format.{Format}
 use Rattle.elf_model.specs.declared.states.FileStatus.{FileStatus}
 use Rattle.elf_model.specs.declared.states.FileStatus.TheVariants as state
 
--- the first bytes of a file of so many bytes may be looked at: they are there, and the budget has them
+-- the first bytes of a file of this many bytes may be read: they are there, and the budget has them
 abbrev pub may_read_magic : Option ℕ → Bool
 may_read_magic None = true
 may_read_magic (Some budget) = not (nat_lt budget ELF_MAGIC_SIZE)
@@ -24,8 +24,8 @@ abbrev pub is_not_elf : Cause → Bool
 is_not_elf NotElf = true
 is_not_elf _ = false
 
--- a file that is refused is of another kind: one that is too short for a file header where it doesn't begin with the magic
--- number, if that may be looked at; any other by the refusal's cause
+-- a file that is refused is not ELF: one that is too short for a file header if it doesn't begin
+-- with the magic number, if that may be read; any other by the refusal's cause
 abbrev pub lacks_elf_magic : Option ℕ → List ℕ → Refusal → Bool
 lacks_elf_magic budget file refusal =
     if nat_lt (length file) FILE_HEADER_SIZE
@@ -52,7 +52,7 @@ file_status_name state.NoElf = codes "no-elf"
 file_status_name state.Unread = codes "unread"
 file_status_name state.Memory = codes "memory"
 
--- where a file is at fault and why, or a hyphen
+-- whether a file is malformed and why, or a hyphen
 abbrev pub fault_fields : FileStatus → List Field
 fault_fields (state.Refused refusal) =
     Hexadecimal (codes "place") 16 refusal.at ∷ ArgSpec (codes "cause") 0 (cause_word refusal.cause) ∷ []
@@ -66,11 +66,11 @@ check_fields found = record { letter = codes "C"; fields = ArgSpec (codes "state
 unfoldable pub check_front : Format → FileStatus → LinePrefix
 check_front format found = front format (codes "path") (check_fields found)
 
--- the line of a file: its state, where it is at fault and why, and its path
+-- the line of a file: its state, whether it is malformed and why, and its path
 abbrev pub check_line : Format → FileStatus → List ℕ → List ℕ
 check_line format found path = named_line (check_front format found) (Whole path)
 
--- the last line of a check, where paths could not be named: how many
+-- the last line of a check, if paths could not be named: how many
 unfoldable pub unnamed_line : Format → ℕ → List ℕ
 unnamed_line format count =
     let word = ArgSpec (codes "state") 12 (codes "unnamed") in

@@ -15,7 +15,8 @@ text_lines text = slice_split (λ b. b == 10) text
 abbrev pub line_names : List (List ℕ) → List (List ℕ)
 line_names lines = filter (λ line. nat_lt 0 (length line)) lines
 
--- THE NAMES OF A LIST: a last line without a newline counts, an empty line doesn't, and a carriage return is a byte like others
+-- THE NAMES OF A LIST: a last line without a newline counts, an empty line doesn't, and a carriage
+-- return is a byte like others
 abbrev pub listed_names : List ℕ → List (List ℕ)
 listed_names text = line_names (text_lines text)
 

@@ -125,7 +125,8 @@ pub record TakesBack (old new : OutState) (count written : ℕ) : Type 0 where
   pub room : new.room ≡ old.room
   pub failed : new.failed ≡ old.failed
 
--- a line that was held is ended: taken back if no further byte was written, else nothing changes
+-- a line that was held is ended: taken back if no further byte was written, otherwise nothing
+-- changes
 pub record EndsLine (line : DeferredLine) (old new : OutState) : Type 0 where
   pub back : old.written ≡ line.start → TakesBack old new (line.start - line.before) line.before
   pub stays : (old.written ≡ line.start → ⊥) → new ≡ old
