@@ -4,8 +4,8 @@ ghost use Rattle.elf_model.specs.FixturesSegments.{library_without_sections};
 ghost use Rattle.elf_model.specs.FixturesTables.{repeated_tags};
 
 /// A shared object without sections. Two program headers are at 0x40: a segment to load, of the
-/// whole file at the address 0x400000, and four dynamic entries, at 0xb0: a library that is needed,
-/// the address and the size of the eleven bytes of strings at 0xf0, and the end.
+/// whole file at the address 0x400000, and four dynamic entries, at 0xb0: a needed library, the
+/// address and the size of the eleven bytes of strings at 0xf0, and the end.
 #[tactic(auto, unfolding(elf_model::proofs::OnLiterals::on_literals))]
 pub fn library_without_sections() -> &'static [u8; 251]
     ensures { result.now ≡ library_without_sections }
@@ -33,7 +33,7 @@ static LIBRARY_WITHOUT_SECTIONS: [u8; 251] = [
 ];
 
 /// Five dynamic entries with the tags DT_NEEDED, DT_STRTAB, DT_STRTAB, DT_NULL and DT_STRSZ, each
-/// with its place, counted from 1 on, for a value.
+/// with its position, counted from 1, as its value.
 #[tactic(auto, unfolding(elf_model::proofs::OnLiterals::on_literals))]
 pub fn repeated_tags() -> &'static [u8; 80]
     ensures { result.now ≡ repeated_tags }

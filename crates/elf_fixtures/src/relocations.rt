@@ -136,7 +136,7 @@ static THIRD_OVERFLOWS: [u8; 336] = [
 ];
 
 /// Four relocation entries, at 0xc0, of two bytes each, for a section of 128 bytes. Their offsets
-/// rise.
+/// ascend.
 #[tactic(auto, unfolding(elf_model::proofs::OnLiterals::on_literals))]
 pub fn rising_relocations() -> &'static [u8; 480]
     ensures { result.now ≡ rising_relocations }

@@ -52,7 +52,7 @@ static ONE_SYMBOL_TABLE: [u8; 312] = [
     0x00, 0x00, 0x00, 0x00, 0x00, 0x00, 0x00, 0x00,
 ];
 
-/// The same, if the symbols' names are those of the sections too: section 1 is named `main`.
+/// The same, but the symbols' names are those of the sections too: section 1 is named `main`.
 #[tactic(auto, unfolding(elf_model::proofs::OnLiterals::on_literals))]
 pub fn named_section() -> [u8; 312]
     ensures { result ≡ named_section }
@@ -135,8 +135,8 @@ static NOTE_SEGMENT: [u8; 140] = [
     0x01, 0x00, 0x00, 0x00, 0x47, 0x4e, 0x55, 0x00, 0x2a, 0x00, 0x00, 0x00,
 ];
 
-/// A file with three dynamic entries, at 0x40: a library that is needed, the end, and an entry
-/// after it. Their names are at 0x70.
+/// A file with three dynamic entries, at 0x40: a needed library, the end, and an entry after it.
+/// Their names are at 0x70.
 #[tactic(auto, unfolding(elf_model::proofs::OnLiterals::on_literals))]
 pub fn needed_library() -> &'static [u8; 315]
     ensures { result.now ≡ needed_library }
@@ -167,7 +167,7 @@ static NEEDED_LIBRARY: [u8; 315] = [
     0x00, 0x00, 0x00, 0x00, 0x00, 0x00, 0x00, 0x00, 0x00, 0x00, 0x00,
 ];
 
-/// A symbol table of five symbols, at 0x40, in special places and in others.
+/// A symbol table of five symbols, at 0x40, in special sections and in others.
 #[tactic(auto, unfolding(elf_model::proofs::OnLiterals::on_literals))]
 pub fn special_places() -> &'static [u8; 376]
     ensures { result.now ≡ special_places }

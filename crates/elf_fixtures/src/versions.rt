@@ -153,7 +153,7 @@ static VERSIONED_WITHOUT_SECTIONS: [u8; 752] = [
 ];
 
 /// The same library with section headers, and hostile: a full filter, a chain of symbols that does
-/// not end, a definition and a need that lead on, and a symbol whose version no record names.
+/// not end, a definition and a need with a next record, and a symbol whose version no record names.
 #[tactic(auto, unfolding(elf_model::proofs::OnLiterals::on_literals))]
 pub fn hostile_library() -> &'static [u8; 1264]
     ensures { result.now ≡ hostile_library }

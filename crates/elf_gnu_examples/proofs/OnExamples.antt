@@ -1,4 +1,4 @@
--- What opens the words of the examples, beside those of the definitions.
+-- What unfolds the words of the examples, besides those of the definitions.
 use Rattle.elf_gnu_examples.specs.ExamplesGnuHash.{gnu_table_of}
 use Rattle.elf_gnu_examples.specs.ExamplesWanted.{long_version}
 use Rattle.elf_model.specs.Choice.{most_bytes}

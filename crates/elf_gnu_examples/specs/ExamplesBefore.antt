@@ -20,14 +20,14 @@ HeadersAreChecked =
     × Fails (with_bytes 0x3e (little 2 1) versioned_library) (codes "f") (codes "! 0000000000000330 not-strings\n")
     × LoaderCosts (with_bytes 0x3e (little 2 1) versioned_library) (codes "f") 604
 
--- a table of the GNU system counts before one of the gABI, whichever comes first
+-- a GNU hash table counts before a gABI one, in any order
 abbrev pub GnuTablesComeFirst : Type 0
 GnuTablesComeFirst =
     LoaderFinds (with_bytes 0x4b4 (little 4 5) versioned_library) (codes "f") (second_f ++ of_v2 ++ found_2)
     × Fails (with_bytes 0x4b4 (little 4 0x6ffffff6) (with_bytes 0x334 (little 4 5) versioned_library)) (codes "f") (codes "! 00000000000004b0 bad-link\n")
     × LoaderFinds (with_bytes 0x230 (little 8 4 ++ little 8 0xe0) versioned_without_sections) (codes "f") (codes "Y     1          4 00000000000002a9 0000000000000001 FUNC    GLOBAL DEFAULT       7 f\n" ++ codes "X     1          4     3 - V2\n" ++ found_2)
 
--- a second section of a type is not looked at: a hash table, versym entries, definitions, needs
+-- a second section of a type is not read: a hash table, versym entries, definitions, needs
 abbrev pub FirstSectionsCount : Type 0
 FirstSectionsCount =
     LoaderFinds (with_bytes 0x4b4 (little 4 0x6ffffff6) versioned_library) (codes "f") (second_f ++ of_v2 ++ found_2)
@@ -56,7 +56,7 @@ TablesOfTheGabiBySegments =
     × Fails (with_bytes 0x258 (little 8 0x2e9) (with_bytes 0x250 (little 8 4) versioned_without_sections)) (codes "f") (codes "! 0000000000000250 hash-shape\n")
     × Fails (with_bytes 0x258 (little 8 0x2e1) versioned_without_sections) (codes "f") (codes "! 0000000000000250 hash-shape\n")
 
--- no definitions, no needs; needs that are not loaded; neither is looked at without versym entries
+-- no definitions, no needs; needs that are not loaded; neither is read without versym entries
 abbrev pub VersionsBySegments : Type 0
 VersionsBySegments =
     Fails (with_bytes 0x2a0 (little 8 0x63) versioned_without_sections) (codes "f") (codes "! 00000000000001a8 version-index\n")
@@ -65,8 +65,8 @@ VersionsBySegments =
     × LoaderFinds (with_bytes 0x2c8 (little 8 0x2f0) (with_bytes 0x290 (little 8 0x63) versioned_without_sections)) (codes "f") (codes "Y     1          3 00000000000002a8 0000000000000001 FUNC    GLOBAL DEFAULT       7 f\n" ++ found_1)
     × Fails (with_bytes 0x2a0 (little 8 0x63) versioned_without_sections) (codes "f@GLIBC_2.2.5") absent_2
 
--- a hash table without room for its counts is refused before its link is looked at, and before the
--- other rows are
+-- a hash table without room for its counts is refused before its link and the other rows are
+-- checked
 abbrev pub SizesComeFirst : Type 0
 SizesComeFirst =
     Fails (with_bytes 0x358 (little 4 3) (with_bytes 0x350 (little 8 0xf) versioned_library)) (codes "f") (codes "! 0000000000000330 hash-shape\n")

@@ -18,7 +18,7 @@ CountsAreRefused =
     × Fails (with_bytes 0x350 (little 8 0xf) versioned_library) (codes "f") (codes "! 0000000000000330 hash-shape\n")
 
 -- no word of a filter; a shift of 31, whose bits are none of the filter; a table that ends with its
--- buckets; counts that are refused cost nothing beside the headers
+-- buckets; counts that are refused cost nothing besides the headers
 abbrev pub CountsAtTheirBounds : Type 0
 CountsAtTheirBounds =
     Fails (with_bytes 0xb8 (little 4 0) versioned_library) (codes "f") (codes "! 0000000000000330 hash-shape\n")
@@ -61,15 +61,14 @@ ChainsEndAtOddWords =
     Fails (with_bytes 0xdc (little 4 0x2b60c) (with_bytes 0xc0 (little 8 0xffffffffffffffff) versioned_library)) (codes "nope") (codes "! 00000000000000dc hash-index\n")
     × Fails (with_bytes 0xc8 (little 4 3) (with_bytes 0xc0 (little 8 0xffffffffffffffff) versioned_library)) (codes "e") absent_2
 
--- a gABI hash table in its place: other symbols are in the chain, which ends, or comes back to
--- itself
+-- a gABI hash table in its place: other symbols are in the chain, which ends, or has a cycle
 abbrev pub OtherTables : Type 0
 OtherTables =
     LoaderFinds (with_bytes 0xb0 (words (1 ∷ 6 ∷ 1 ∷ 0 ∷ 2 ∷ 3 ∷ 4 ∷ 5 ∷ 0 ∷ [])) (with_bytes 0x334 (little 4 5) versioned_library)) (codes "f") (second_f ++ of_v2 ++ codes "F found           4\n")
     × Fails (with_bytes 0xb0 (words (1 ∷ 6 ∷ 1 ∷ 0 ∷ 2 ∷ 3 ∷ 4 ∷ 5 ∷ 0 ∷ [])) (with_bytes 0x334 (little 4 5) versioned_library)) (codes "puts") (codes "F absent          5\n")
     × Fails (with_bytes 0xd0 (little 4 2) (with_bytes 0xb0 (words (1 ∷ 6 ∷ 1 ∷ 0 ∷ 2 ∷ 3 ∷ 4 ∷ 5 ∷ 0 ∷ [])) (with_bytes 0x334 (little 4 5) versioned_library))) (codes "nope") (codes "! 00000000000000b8 hash-cycle\n")
 
--- what these ask for: a chain word for each symbol that is tried
+-- what these read: a chain word for each symbol that is tried
 abbrev pub OtherTablesAsk : Type 0
 OtherTablesAsk =
     LoaderCosts (with_bytes 0xb0 (words (1 ∷ 6 ∷ 1 ∷ 0 ∷ 2 ∷ 3 ∷ 4 ∷ 5 ∷ 0 ∷ [])) (with_bytes 0x334 (little 4 5) versioned_library)) (codes "f") 1384

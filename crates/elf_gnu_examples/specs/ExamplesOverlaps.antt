@@ -25,8 +25,8 @@ found_lines =
     ++ codes "X     1          4     3 - V2\n"
     ++ found_2
 
--- a segment on the page that holds the tables is refused at its program header; one on the next
--- page, and one that takes up no memory, is not
+-- a segment on the page that has the tables is refused at its program header; one on the next page,
+-- and one that takes up no memory, is not
 abbrev pub OverlapsAreRefused : Type 0
 OverlapsAreRefused =
     Fails (with_loads 3 (load 0x800 1)) (codes "f") (codes "! 0000000000000360 load-overlap\n")
@@ -36,8 +36,8 @@ OverlapsAreRefused =
     × Fails (with_loads 4 (load 0x5000 0 ++ load 0x800 1)) (codes "f") (codes "! 0000000000000398 load-overlap\n")
     × Fails (with_loads 4 (load (2 ^ 64 - 0x1000) 0x2000 ++ load 0x1000 1)) (codes "f") (codes "! 0000000000000398 load-overlap\n")
 
--- it comes before what is reported of the dynamic entries, and after the load checks; and with
--- section headers it is not looked at
+-- it comes before the refusals of the dynamic entries, and after the load checks; and with section
+-- headers it is not checked
 abbrev pub OverlapsBeforeTheEntries : Type 0
 OverlapsBeforeTheEntries =
     Fails (with_bytes 0x78 (little 4 1) versioned_without_sections) (codes "f") (codes "! 0000000000000078 load-overlap\n")

@@ -1,5 +1,4 @@
--- Worked examples of a loader's lookup by the program headers: what is left of a segment at an
--- address.
+-- Worked examples of a loader's lookup by the program headers: the rest of a segment at an address.
 use Rattle.std.specs.Prelude.{◌++◌, codes}
 use Rattle.elf_model.specs.Bytes.{little}
 use Rattle.elf_model.specs.Fixtures.{with_bytes}
@@ -37,16 +36,16 @@ RowsAreRead =
     × Fails (with_bytes 0x2a8 (little 8 0x2e0) versioned_without_sections) (codes "f@V2") (codes "! 00000000000002a0 version-cut\n")
     × LoaderCosts (with_bytes 0x2a8 (little 8 0x2e0) versioned_without_sections) (codes "f@V2") 396
 
--- a second row of symbols is not looked at; no row of strings, or of their size, is refused at the
--- hash table's
+-- a second row of symbols is not read; a missing row of strings, or of their size, is refused at
+-- the hash table's
 abbrev pub FirstRowsCount : Type 0
 FirstRowsCount =
     LoaderFinds (with_bytes 0x2b0 (little 8 6 ++ little 8 0x100) versioned_without_sections) (codes "f") (codes "Y     1          4 00000000000002a9 0000000000000001 FUNC    GLOBAL DEFAULT       7 f\n" ++ codes "X     1          4     3 - V2\n" ++ found_2)
     × Fails (with_bytes 0x260 (little 8 0x63) versioned_without_sections) (codes "f") (codes "! 0000000000000250 unmapped\n")
     × Fails (with_bytes 0x280 (little 8 0x63) versioned_without_sections) (codes "f") (codes "! 0000000000000250 unmapped\n")
 
--- dynamic entries of no whole number, none, too few of them, past the end of the file; no segment
--- of them
+-- dynamic entries whose number is not whole, none, too few of them, past the end of the file; no
+-- segment of them
 abbrev pub EntriesAreChecked : Type 0
 EntriesAreChecked =
     Fails (with_bytes 0x98 (little 8 0xbf) versioned_without_sections) (codes "f") (codes "! 0000000000000078 size-not-whole\n")

@@ -22,9 +22,9 @@ abbrev pub second_with_v2 : List ℕ
 second_with_v2 =
     codes "Y     1          4 00000000000002a9 0000000000000001 FUNC    GLOBAL DEFAULT       7 f\n" ++ codes "X     1          4     3 - V2\n" ++ found_2
 
--- the library answers as it does without section headers, whatever they tell: no hash table, a
--- table of other symbols, more headers than are allowed, a number of them that is not reported, and
--- section names that are no strings
+-- the library answers as it does without section headers, for any section headers: no hash table, a
+-- table of other symbols, more headers than are allowed, a number of them that is stored elsewhere,
+-- and section names that are no strings
 abbrev pub SectionsAreNotLookedAt : Type 0
 SectionsAreNotLookedAt =
     FindsBySegments versioned_library (codes "f") second_with_v2
@@ -38,7 +38,7 @@ SectionsAreNotLookedAt =
     × FindsBySegments (with_bytes 0x3c (little 2 0) versioned_library) (codes "f") second_with_v2
     × FindsBySegments (with_bytes 0x3e (little 2 0xffff) versioned_library) (codes "f") second_with_v2
 
--- what is refused is what would be without section headers
+-- what is refused is what would be refused without section headers
 abbrev pub SegmentsAreChecked : Type 0
 SegmentsAreChecked =
     FailsBySegments (with_bytes 0x4 (little 1 1) versioned_library) (codes "f") (codes "! 0000000000000004 class\n")
@@ -52,8 +52,8 @@ SegmentsAreChecked =
 abbrev pub alpha : List ℕ → List ℕ
 alpha file = with_bytes 0x12 (little 2 0x9026) file
 
--- words of 8 bytes are refused in Alpha's files alone, and in tables of the gABI alone; if their
--- size is not reported, by the segments, in all of Alpha's
+-- words of 8 bytes are refused only in Alpha's files, and only in gABI tables; if their size is not
+-- given, by the segments, in all of Alpha's
 abbrev pub WideWordsOfViewsAreRefused : Type 0
 WideWordsOfViewsAreRefused =
     Fails (alpha (with_bytes 0x368 (little 8 8) (with_bytes 0x334 (little 4 5) versioned_library))) (codes "f") (codes "! 0000000000000330 hash-shape\n")

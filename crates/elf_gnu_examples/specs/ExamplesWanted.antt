@@ -11,7 +11,7 @@ use Rattle.elf_model.specs.LoaderFind.{loader_ceiling}
 use Rattle.elf_model.specs.declared.formats.Format.TheVariants.{Columns, Object}
 use Rattle.elf_gnu_examples.specs.LoaderWords.{LoaderFinds, LoaderCosts, second_f, found_2}
 
--- the text of a name alone, of a version after one sign and after two, and of versions that hold
+-- the text of a name alone, of a version after one sign and after two, and of versions that contain
 -- such signs
 abbrev pub TextsAreParted : Type 0
 TextsAreParted =
@@ -64,16 +64,16 @@ LongNamesAsk =
     (replicate 64 97) (604 + 5 * (4 + 26 + 128))
     × LoaderCosts (with_bytes 0xc0 (replicate 8 0xff) versioned_library) (replicate 64 97) (604 + 4 * 3)
 
--- what no lookup asks for more than, by a file's length, the headers that are allowed, the name and
--- the version
+-- the upper bound of what lookups read, by a file's length, the headers that are allowed, the name
+-- and the version
 abbrev pub LoaderCeilings : Type 0
 LoaderCeilings =
     (loader_ceiling 1264 8 (parse_query (codes "f")) ≡ 92 + 512 + 1264 + 316 * (30 + 64) + 158 * 28 + 320)
     × (loader_ceiling 1264 8 (parse_query (codes "f@V1")) ≡ 92 + 512 + 1264 + 316 * (30 + 64) + 158 * (28 + 64) + 320)
     × (loader_ceiling 7 0 (parse_query (replicate 64 97)) ≡ 92 + 7 + 158 + 320)
 
--- the lookup of a name alone finds no hash table of the gABI in the library, with section headers
--- or without
+-- the lookup of a name alone finds no gABI hash table in the library, with section headers or
+-- without
 abbrev pub OtherLookupsFindNoTable : Type 0
 OtherLookupsFindNoTable =
     (find_answer Columns versioned_library 8 (codes "f") ≡ record { text = codes "! 0000000000000028 no-hash\n"; status = 1 })

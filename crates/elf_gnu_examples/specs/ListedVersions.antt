@@ -12,7 +12,7 @@ use Rattle.elf_model.specs.Listing.{report_of, HEADER, VERSIONS, ALL, GNU_ALL}
 use Rattle.elf_model.specs.Report.{listing}
 use Rattle.elf_model.specs.Style.{ListingStyle, standard}
 
--- how rows are shown here: 63 bytes of a name, and the GNU names's numbers
+-- how rows are shown here: 63 bytes of a name, and the names of GNU numbers
 abbrev standard_style : ListingStyle
 standard_style = record { cap = 63; gnu = true; by_segments = false; format = Columns; choice = EveryRow; versions = false }
 
@@ -29,7 +29,7 @@ EndsInLine file count last =
     let text = versions_listed file in
     (length (filter (λ b. b == 10) text) ≡ count) × (drop (length text - length last) text ≡ last)
 
--- a number that no record names: of a symbol, of definitions that are none, and of one that names
+-- an index that no record names: of a symbol, of definitions that are none, and of one that names
 -- the file itself
 abbrev pub NumbersAreRefused : Type 0
 NumbersAreRefused =
@@ -73,14 +73,14 @@ NumberTablesAreRefused =
     × EndsInLine (with_bytes 0x418 (little 4 3) versioned_library) 6 (codes "! 00000000000003f0 bad-link\n")
     × EndsInLine (with_bytes 0x3f4 (little 4 1) versioned_library) 5 (codes "V     6 NEED     4 0000 09691a75 GLIBC_2.2.5\n")
 
--- entries after the last symbol are not looked at, and a section of no bytes has no rows
+-- entries after the last symbol are not read, and a section of no bytes has no rows
 abbrev pub NumberTablesEnd : Type 0
 NumberTablesEnd =
     EndsInLine (with_bytes 0x390 (little 8 0x60) versioned_library) 9 (codes "X     4          3     2 H V1\n")
     × EndsInLine (with_bytes 0x410 (little 8 0) versioned_library) 5 (codes "V     6 NEED     4 0000 09691a75 GLIBC_2.2.5\n")
 
--- a definition: its version, its number, its name past the end of the table, and past the end of
--- the strings
+-- a definition: its layout version, its index, its name past the end of the table, and past the end
+-- of the strings
 abbrev pub DefinitionsAreRefused : Type 0
 DefinitionsAreRefused =
     EndsInLine (with_bytes 0x1cc (little 2 2) versioned_library) 2 (codes "! 00000000000001cc version\n")
@@ -96,7 +96,7 @@ DefinitionsLeadOn =
     × EndsInLine (with_bytes 0x1c0 (little 4 0xffffffff) versioned_library) 2 (codes "! 00000000000001b0 version-cut\n")
     × EndsInLine (with_bytes 0x450 (little 8 19) versioned_library) 1 (codes "! 0000000000000430 version-cut\n")
 
--- a name that two definitions share, the largest number with the hidden bit, a name in the last
+-- a name that two definitions share, the largest index with the hidden bit, a name in the last
 -- bytes of the table
 abbrev pub DefinitionsAreNamed : Type 0
 DefinitionsAreNamed =
@@ -104,7 +104,7 @@ DefinitionsAreNamed =
     × EndsInLine (with_bytes 0x1ec (little 2 0x83ff) (with_bytes 0x1a8 (little 2 0x3ff) (with_bytes 0x1aa (little 2 0x3ff) versioned_library))) 11 (codes "X     4          5  1023 - V2\n")
     × EndsInLine (with_bytes 0x450 (little 8 80) (with_bytes 0x1f4 (little 4 16) versioned_library)) 11 (codes "X     4          5     3 - \n")
 
--- a needed file and its version: the record version, the number, and names past the end of the
+-- a needed file and its version: the record version, the index, and names past the end of the
 -- strings
 abbrev pub NeedsAreRefused : Type 0
 NeedsAreRefused =
@@ -122,7 +122,7 @@ NeedsLeadOn =
     × EndsInLine (with_bytes 0x22c (little 4 16) versioned_library) 6 (codes "! 0000000000000220 version-cut\n")
     × EndsInLine (with_bytes 0x218 (little 4 8) (with_bytes 0x220 (little 4 0x16) (with_bytes 0x224 (little 2 8) (with_bytes 0x226 (little 2 0) versioned_library)))) 6 (codes "! 0000000000000218 version-cut\n")
 
--- a number that a definition and a need have: the definition names it
+-- an index that a definition and a need have: the definition names it
 abbrev pub DefinitionsComeFirst : Type 0
 DefinitionsComeFirst =
     EndsInLine (with_bytes 0x226 (little 2 3) (with_bytes 0x1a2 (little 2 3) versioned_library)) 11 (codes "X     4          5     3 - V2\n")
@@ -145,8 +145,7 @@ version_lines =
 abbrev pub VersionedLibraryLists : Type 0
 VersionedLibraryLists = versions_listed versioned_library ≡ version_lines
 
--- its whole listing, in the GNU names: headers, symbols, dynamic entries, and after them the
--- versions
+-- its whole listing, in the GNU names: headers, symbols, dynamic entries, and then the versions
 abbrev pub LibraryListsWhole : Type 0
 LibraryListsWhole =
     parts_listed GNU_ALL versioned_library
@@ -213,8 +212,7 @@ OverlappingAreCut =
     EndsInLine (one_table 0x6ffffffd 8 0 overlapping (0 ∷ [])) 51
     (codes "V     1 DEF      0 0d00 00000000 \n" ++ codes "! 00000000000002bd version-cut\n")
 
--- how many bytes are requested at most: of the library, with and without sections, and if checks
--- fail
+-- how many bytes are read at most: of the library, with and without sections, and if checks fail
 abbrev pub parts_cost : ℕ → List ℕ → ℕ
 parts_cost parts file = listing_cost file 8 standard_style parts
 

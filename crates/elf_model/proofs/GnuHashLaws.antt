@@ -83,7 +83,7 @@ is_there file table y e =
     }
 
 module _ (file : List ℕ) (table : HashTable) (hash : ℕ) (trial : ℕ → Result Bool Refusal) where
-  -- the walk ends at one of the words looked at
+  -- the walk ends at one of the words examined
   ends_somewhere : gnu_walk_end file table hash trial ≡ None → ⊥
   unfolding gnu_walk_end walk_word
   ends_somewhere e =
@@ -210,7 +210,7 @@ module _ (file : List ℕ) (table : HashTable) (hash : ℕ) (trial : ℕ → Res
   absent_at i Answers e = absurd (cc)
   absent_at i Last e = refl
 
-  -- a symbol that is not tried does not end a walk as one that answers
+  -- a symbol that is not tried does not end a walk like one that answers
   passed_no_answer : (y : ℕ) → is_chained file table y ≡ true → hash_bits_match (chain_word file table.place y) hash ≡ false
       → gnu_end file table hash trial y ≡ Some Answers → ⊥
   passed_no_answer y is f e =

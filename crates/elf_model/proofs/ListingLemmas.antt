@@ -100,7 +100,7 @@ listings_append (Line text ∷ front) back h =
     (ap (λ more. text ++ more) n.0 ∙ sym (append_assoc text (lines_of front) (lines_of back)), n.1)
 listings_append (Fault first ∷ front) back h = cc
 
--- selecting the known parts of a style twice changes nothing; the file header is one of them
+-- the known parts of the known parts of a style are the same; the file header is one of them
 all_of_all : (gnu : Bool) → bit_and (all_parts gnu) (all_parts gnu) ≡ all_parts gnu
 all_of_all true = refl
 all_of_all false = refl

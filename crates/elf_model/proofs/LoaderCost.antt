@@ -1,4 +1,4 @@
--- What a loader's lookup asks for is within its ceiling.
+-- What a loader's lookup reads is within its ceiling.
 use Rattle.std.proofs.Common.{◌≡◌, ℕ, suc, ◌+◌, ◌*◌, ◌/◌, ◌<◌, ◌≤◌, ◌==◌, nat_lt, Bool, true, false, List, [], ◌∷◌, ◌++◌, length, Option, None, Some, Result, Ok, Err, inl, inr, refl, ap, arith}
 use Rattle.std.proofs.Math.Nat.{mul-le-mul, mul-add}
 use Rattle.std.proofs.lemmas.Bool.{cases_Bool, and_parts, ltb-true, ltb-false, eqb-true}

@@ -152,8 +152,8 @@ module _ (file : List ℕ) where
       let same : records_of_tag file at tag kind others ≡ table ∷ others = rw (f, records_of_tag) refl in
       rw same (omega arith)
 
-  -- the checks of the rows that versym entries are at, and of those of the records; then all that
-  -- come after the first check
+  -- the checks of the rows of the versym entries, and of those of the records; then all that come
+  -- after the first check
   version_rows : (at row : ℕ) → List Check
   version_rows at row =
       rest_checks file row
@@ -226,7 +226,7 @@ module _ (file : List ℕ) where
     few_records = rows_inside index at table_row _ refl (first_refusal-back (sized_rest kind table_row) (rows_checks file at table_row) e);
   }
 
--- Where a lookup is made.
+-- The lookup tables.
 module _ (file : List ℕ) where
   sections_by : (found : Option (HashStyle × ℕ)) → hash_section file ≡ found → (scope : LookupTables) → scope_by_sections file ≡ Ok scope
       → IsInside (length file) scope

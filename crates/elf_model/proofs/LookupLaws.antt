@@ -1,4 +1,4 @@
--- Lookups: what is computed is the one lookup.
+-- Lookups: what is computed is the only lookup.
 use Rattle.std.proofs.Common.{◌≡◌, ℕ, zero, suc, ◌<◌, ◌≤◌, ◌⊎◌, inl, inr, Bool, true, false, List, [], ◌∷◌, ◌++◌, length, drop, nat_lt, ◌==◌, Option, None, Some, Result, Ok, Err, refl, sym, ap, ◌∙◌, arith}
 use Rattle.std.proofs.lemmas.Bool.{cases_eq, cases_lt, cases_Bool, and_parts, ltb-true}
 use Rattle.elf_model.specs.Hash.{nchain, lookup_word, end_at_word, end_of_name, is_index, same_symbol, LookupEnd, ChainEnd, NoIndex, Nameless, Wanted, Outcome, Found, Absent, Refused, Lookup, lookup_at, lookup_by, cycle, IsFirst, IsEndless, IsLookup, lookup_end, looked_up}
@@ -38,7 +38,7 @@ cycle_is_endless file at wanted some goes =
     long_walk_never_ends _ _ _ (nchain file at) (lookup_is_bounded file at wanted) some goes
 
 module _ (file : List ℕ) (at : ℕ) (wanted : List ℕ) where
-  -- it ends at none of the words looked at: it never ends
+  -- it ends at none of the words examined: it never ends
   pub endless_where :
       lookup_end file at wanted (suc (nchain file at)) ≡ None → IsEndless (end_at_word file at wanted) (lookup_word file at wanted)
   unfolding lookup_end
@@ -72,7 +72,7 @@ lookup_is_one file at wanted first second (inr a) (inl b) =
 lookup_is_one file at wanted first second (inr a) (inr b) = a.gives ∙ sym b.gives
 
 module _ (file : List ℕ) (at : ℕ) (wanted : List ℕ) where
-  -- one symbol more than words are skipped is compared at most
+  -- at most one symbol more is compared than words are skipped
   compared_le : (i : ℕ) (end : LookupEnd) → (lookup_at file at wanted i end).compared ≤ suc i
   unfolding lookup_at
   compared_le i ChainEnd = omega arith
@@ -155,7 +155,7 @@ same_no_cycle table index wanted e =
       ]
     ]
 
--- the cause of a refusal; of another answer another cause than the cycle's
+-- the cause of a refusal; for any other outcome a cause other than the cycle's
 cause_of : Outcome → Cause
 cause_of (Found section index symbol) = NoHash
 cause_of Absent = NoHash
@@ -205,7 +205,7 @@ cycle_exactly file at wanted = (
       (lookup_answers file at wanted) (inr (record { endless = endless; gives = refl })),
 )
 
--- What a lookup gives by the first word at which it ends.
+-- The result of a lookup by the first word at which it ends.
 module _ (file : List ℕ) (at : ℕ) (wanted : List ℕ) where
   pub ends_with :
       (number : ℕ) (end : LookupEnd) → IsFirst (end_at_word file at wanted) (lookup_word file at wanted) number end

@@ -99,7 +99,7 @@ unfolding end_among
 passed_over ends next word i n t = rw (t, end_among) refl
 
 module _ {E : Type 0} (ends : ℕ → Option E) (next : ℕ → ℕ) (start : ℕ) where
-  -- none found: the walk goes on at all words looked at
+  -- none found: the walk goes on at all words examined
   pub none_found :
       (n i : ℕ) → end_among ends next (walk_word next start i) i n ≡ None
       → (k : ℕ) → i ≤ k → k < i + n → ends (walk_word next start k) ≡ None

@@ -65,7 +65,7 @@ NoteShownWholeExactly =
     (cap : ℕ) (note : Note) (name : List ℕ)
     → (note_shown cap note ≡ Whole name) ↔ ((before_nul note.name ≡ name) × (length name ≤ cap))
 
--- else its first cap bytes are
+-- otherwise its first cap bytes are
 abbrev pub NoteShownCutExactly : Type 0
 NoteShownCutExactly =
     (cap : ℕ) (note : Note) (front : List ℕ)

@@ -111,7 +111,7 @@ unfoldable pub plt_entry_value : List ℕ → List ℕ → Layout → ℕ → �
 plt_entry_value file strings layout rela symbol =
     named_or symbol (address_named strings (st_name file symbol) layout.linkage) (symbol_value file strings layout rela symbol)
 
--- B, the address of a symbol that a base gives
+-- B, the address of a symbol for a base
 unfoldable pub base_value : RelocationBase → List ℕ → List ℕ → Layout → ℕ → ℕ → Result ℕ Refusal
 base_value Symbol file strings layout rela symbol = symbol_value file strings layout rela symbol
 base_value Linkage file strings layout rela symbol = plt_entry_value file strings layout rela symbol

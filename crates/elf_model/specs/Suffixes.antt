@@ -68,7 +68,7 @@ unfoldable pub symbol_suffix : List ℕ → (cap table symbol_at index : ℕ) �
 symbol_suffix file cap table symbol_at index =
     elim (version_numbers_of file table) [ None ↦ Ok NoSuffix | Some i ↦ suffix_at file cap (section_at file i) symbol_at index ]
 
--- the first refusal, or else another one
+-- the first refusal, or otherwise another one
 abbrev pub or_refusal : Option Refusal → Option Refusal → Option Refusal
 or_refusal None other = other
 or_refusal (Some refusal) other = Some refusal
