@@ -1,4 +1,4 @@
--- What opens the words of the examples, beside those of the definitions.
+-- What unfolds the words of the examples, besides those of the definitions.
 use Rattle.elf_examples.specs.ExamplesFields.{places_as_bytes}
 use Rattle.elf_examples.specs.ExamplesNotes.{note_head, counting}
 

@@ -1,5 +1,5 @@
--- What opens the definitions of traits, beside those of listings and lookups, so that they compute
--- on a file that is written out.
+-- What unfolds the definitions of traits, besides those of listings and lookups, so that they
+-- compute on a file given byte by byte.
 use Rattle.elf_model.specs.Checking.{file_status_name, check_front}
 use Rattle.elf_model.specs.Properties.{next_property, properties_from, properties_in, first_listing, listed_in, listed_from, property_list, first_property, features_in}
 use Rattle.elf_model.specs.Traits.{is_stack_executable, has_wx_load, dynamic_entry_value, binds_now, relro_of, has_text_relocations, path_of, kind_of_shared, program_kind, segment_traits, x86_feature_word, known_symbols, max_bucket, before_strings, unfound, gnu_symbols, hashed_symbol_count, is_any_of, is_fortify_call, marks_from, find_symbol_traits, traits_with, loaded_traits, traits_by_segments, traits_of}

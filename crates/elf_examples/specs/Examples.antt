@@ -1,4 +1,4 @@
--- Worked examples: what the definitions give for files that are written out.
+-- Worked examples: the results of the definitions for files given byte by byte.
 use Rattle.std.specs.Prelude.{◌≡◌, codes}
 use Rattle.elf_model.specs.declared.formats.Format.TheVariants.{Columns}
 use Rattle.elf_model.specs.Listing.{file_header_items, report_of, HEADER}

@@ -6,7 +6,7 @@ use Rattle.elf_model.specs.FixturesHash.{hash_file, hash_with_cycle, hash_with_e
 use Rattle.elf_model.specs.declared.formats.Format.TheVariants.{Columns, Object}
 use Rattle.elf_examples.specs.ExamplesHash.{hash_comes_last}
 
--- the answer of a lookup
+-- the result of a lookup
 abbrev pub LookupGives : List ℕ → List ℕ → List ℕ → ℕ → Type 0
 LookupGives file wanted text status = find_answer Columns file 4 wanted ≡ record { text = text; status = status }
 

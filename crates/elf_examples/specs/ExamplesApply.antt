@@ -21,7 +21,7 @@ RefusesSection section file layout at cause = applied file 5 section layout ≡ 
 abbrev pub RefusesToApply : List ℕ → Layout → ℕ → Cause → Type 0
 RefusesToApply file layout at cause = RefusesSection 1 file layout at cause
 
--- of two entries that overlap the later one is
+-- of two entries that overlap the later one wins
 abbrev pub LaterStands : Type 0
 LaterStands =
     WritesSection overlapping_relocations empty_layout (0x44 ∷ 0x33 ∷ 0xff ∷ 0xff ∷ zeros 4)
@@ -62,7 +62,7 @@ CallIsRefused =
     × RefusesToApply (with_entries_header 40 (little 4 5) ++ section_header 2 0 0x60 0x30 4 1 0 24) entry_layout 0x48 BadLink
     × RefusesToApply (with_symbol 0 (little 4 3)) entry_layout 0x78 NameOutside
 
--- a symbol's value: its own where it is absolute, the section's address and its own if it has a
+-- a symbol's value: its own if it is absolute, the section's address and its own if it has a
 -- section
 abbrev pub SymbolsAreValued : Type 0
 SymbolsAreValued =
@@ -90,8 +90,7 @@ RequestInOrder =
     × (applied one_call 5 4 empty_layout ≡ Ok (0 ∷ 102 ∷ 0 ∷ []))
     × RefusesToApply (with_bytes 0xf0 (little 8 0x1000) one_call) empty_layout 0xd8 TableOutside
 
--- a section without bytes in the file is empty, wherever it is to be; those of other types have
--- bytes
+-- a section without bytes in the file is empty, at any offset; those of other types have bytes
 abbrev pub NoBytesAreApplied : Type 0
 NoBytesAreApplied =
     (applied (with_bytes 0xdc (little 4 8) (with_bytes 0xf0 (little 8 0x1000) (with_entries_header 44 (little 4 2)))) 5 1 empty_layout ≡ Ok [])
@@ -99,7 +98,7 @@ NoBytesAreApplied =
     × WritesSection (with_bytes 0xdc (little 4 14) one_call) entry_layout (0xe8 ∷ 0xfb ∷ 0x0f ∷ 0 ∷ 0 ∷ [])
     × WritesSection (with_bytes 0xdc (little 4 7) one_call) entry_layout (0xe8 ∷ 0xfb ∷ 0x0f ∷ 0 ∷ 0 ∷ [])
 
--- a link of 0 from relocation entries counts, where section 0 is a symbol table
+-- a link of 0 from relocation entries counts, if section 0 is a symbol table
 abbrev pub LinkZeroCounts : Type 0
 LinkZeroCounts =
     WritesSection linked_to_zero entry_layout (0xe8 ∷ 0xfb ∷ 0x0f ∷ 0 ∷ 0 ∷ [])
@@ -123,7 +122,7 @@ FaultsInterleave =
     × RefusesToApply (two_relocation_sections 10 23) empty_layout 0x138 EntrySize
     × WritesSection (two_relocation_sections 10 24) empty_layout (2 ∷ zeros 7)
 
--- a name is looked at only if the layout has names to compare it with
+-- a name is read only if the layout has names to compare it with
 abbrev pub NamesAreLookedAtLate : Type 0
 NamesAreLookedAtLate =
     RefusesToApply (with_symbol 0 (little 4 0xffffffff)) placed_layout 0x48 Undefined
@@ -136,8 +135,8 @@ WeakCommonIsUndefined =
     RefusesToApply (with_symbol 4 (little 1 0x20 ++ zeros 1 ++ little 2 0xfff2)) placed_layout 0x48 Undefined
     × WritesSection (with_symbol 4 (little 1 0x20 ++ zeros 1 ++ little 2 0xfff2)) defined_layout (0xe8 ∷ 0xfb ∷ 0x1f ∷ 0 ∷ 0 ∷ [])
 
--- a symbol without a definition is refused at the entry, whatever the type, also in a section
--- without an address
+-- a symbol without a definition is refused at the entry, for any type, also in a section without an
+-- address
 abbrev pub UndefinedBeforeUnplaced : Type 0
 UndefinedBeforeUnplaced =
     RefusesToApply one_call empty_layout 0x48 Undefined

@@ -108,7 +108,7 @@ LongNamesCost =
     × (find_cost hash_with_cycle 4 (replicate 64 99) ≡ 76 + 256 + 3 * (28 + 128))
 
 -- if the section headers are read they cost their bytes, also if the section of the section names
--- is refused; a table counts where its own checks pass, also if those of what it links to fail
+-- is refused; a table counts if its own checks pass, also if those of what it links to fail
 abbrev pub LaterFaultsCost : Type 0
 LaterFaultsCost =
     (cost (with_bytes 0x3e (little 2 1) one_symbol_table) 3 63 ALL ≡ 64 + 192 + 3 * 64 + 2 * 88)

@@ -1,4 +1,4 @@
--- Worked examples of what a layout lacks where the entry of a call, at 0x48, is refused.
+-- Worked examples of what a layout lacks if the entry of a call, at 0x48, is refused.
 use Rattle.std.specs.Prelude.{◌≡◌, ◌+◌, ℕ, List, [], ◌∷◌, ◌++◌, Option, None, Some, Ok, codes, replicate}
 use Rattle.elf_model.specs.Bytes.{little}
 use Rattle.elf_model.specs.Explain.{missing, refused_in, explained, resolved_symbol_name}
@@ -19,7 +19,7 @@ use Rattle.elf_model.specs.declared.relocation_types.RelocationBase.TheVariants.
 abbrev pub MissesInCall : List ℕ → Layout → Cause → Option MissingAddress → Type 0
 MissesInCall file layout cause answer = missing file 0x118 layout 1 (record { at = 0x48; cause = cause }) ≡ answer
 
--- a type, a symbol's name and what is wanted
+-- a type, a symbol's name and what is missing
 abbrev pub lacks : ℕ → ℕ → LayoutAddress → Option MissingAddress
 lacks kind name wanted = Some (record { kind = kind; name = name; wanted = wanted })
 
@@ -27,8 +27,7 @@ lacks kind name wanted = Some (record { kind = kind; name = name; wanted = wante
 abbrev pub typed_call : ℕ → List ℕ
 typed_call kind = with_bytes 0x50 (little 4 kind) one_call
 
--- the name where a definition, or an entry of a table, is missing; nothing for lack of one for
--- symbol 0
+-- the name if a definition, or an entry of a table, is missing; nothing if symbol 0 lacks one
 abbrev pub NamesAreMissing : Type 0
 NamesAreMissing =
     MissesInCall one_call placed_layout Undefined (lacks 4 1 (Named Linkage))
@@ -42,15 +41,15 @@ SectionsAreMissing =
     × MissesInCall (with_symbol 6 (little 2 2)) placed_layout Unplaced (lacks 4 1 (Place 2))
     × MissesInCall (with_symbol 6 (little 2 0xff00)) placed_layout Unplaced None
 
--- nothing would help where the type is not applied, or the value is out of range
+-- nothing would help if the type is not applied, or the value is out of range
 abbrev pub NothingIsMissing : Type 0
 NothingIsMissing =
     MissesInCall (typed_call 5) placed_layout Unsupported None
     × MissesInCall one_call placed_layout Overflow None
     × MissesInCall (with_bytes 0x54 (little 4 2) one_call) placed_layout Undefined None
 
--- the first section of entries for a section that has one at an offset: none if it has the offset
--- inside an entry, is for another section, or its checks fail
+-- the first section of entries for a section that has one at an offset: none if the offset is
+-- inside an entry, if it is for another section, or if its checks fail
 abbrev pub SectionsOfEntries : Type 0
 SectionsOfEntries =
     (refused_in (two_relocation_sections 10 24) 1 0x48 ≡ Some 2)

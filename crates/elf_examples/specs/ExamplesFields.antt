@@ -10,7 +10,7 @@ use Rattle.elf_model.specs.Causes.{cause_word}
 use Rattle.elf_model.specs.FixturesTables.{numbers_from}
 use Rattle.elf_model.specs.declared.causes.Cause.TheVariants.{Short, NotElf, BadClass, BadData, BadVersion, ExtendedNumbering, TooManyHeaders, EntrySize, TableOutside, BadLink, NotStrings, SizeNotWhole, NameOutside, NameUnended, NoteCut, NoHash, HashShape, HashIndex, HashCycle, Unsupported, Overflow, NotRel, Unplaced, Undefined, PlaceOutside, SymbolIndex, TooLong, Budget, Unmapped, Thin, NotArchive, MemberCut, VersionCut, VersionIndex}
 
--- 128 bytes, each of which is its own place
+-- 128 bytes, each of which is its own offset
 unfoldable pub places_as_bytes : List ℕ
 places_as_bytes = numbers_from 0 128
 
@@ -50,7 +50,7 @@ RelocationFieldsStand =
     (relocation_prefix Columns false 62 places_as_bytes 0x40 3).text
     ≡ codes "R     3 4746454443424140 #1263159624 4f4e4d4c +5756555453525150 "
 
--- the fields of a dynamic entry and of a note's head; an entry's index may be wider than its column
+-- the fields of a dynamic entry and of a note header; an entry's index may be wider than its column
 abbrev pub OtherFieldsStand : Type 0
 OtherFieldsStand =
     ((dynamic_prefix Columns false places_as_bytes 0x40 123456).text ≡ codes "D 123456 4746454443424140 4f4e4d4c4b4a4948 ")
@@ -110,7 +110,7 @@ PermissionsHaveLetters =
     ≡ codes "---" ∷ codes "--X" ∷ codes "-W-" ∷ codes "-WX" ∷ codes "R--" ∷ codes "R-X" ∷ codes "RW-" ∷ codes "RWX"
     ∷ codes "---" ∷ []
 
--- the types, bindings, visibilities and places of symbols, each in its column
+-- the types, bindings, visibilities and section indices of symbols, each in its column
 abbrev pub SymbolNumbersHaveNames : Type 0
 SymbolNumbersHaveNames =
     (map (name_or_number (symbol_types false) 7) (numbers_from 0 8)
@@ -159,7 +159,7 @@ CausesHaveWords =
     ∷ codes "thin" ∷ codes "not-archive" ∷ codes "member-cut" ∷ codes "version-cut"
     ∷ codes "version-index" ∷ []
 
--- the first and the last printing character and their neighbours, and those of the backslash
+-- the first and the last printing character and their neighbors, and those of the backslash
 abbrev pub BytesAreEscaped : Type 0
 BytesAreEscaped =
     escaped (0 ∷ 0x1f ∷ 0x20 ∷ 0x5b ∷ 0x5c ∷ 0x5d ∷ 0x7e ∷ 0x7f ∷ 0xff ∷ []) ≡ codes "\\x00\\x1f [\\\\]~\\x7f\\xff"

@@ -16,8 +16,8 @@ KnownHashes =
     × (sysv_hash (codes "printf") ≡ 0x077905a6)
     × (sysv_hash (codes "syscall") ≡ 0x0b09985c)
 
--- a lookup with four headers allowed finds a symbol: its section, its index there and if it is, and
--- how many names are compared
+-- a lookup with four headers allowed finds a symbol: its section, its index there, its offset in
+-- the file, and how many names are compared
 abbrev pub FindsSymbol : List ℕ → List ℕ → ℕ → ℕ → ℕ → ℕ → Type 0
 FindsSymbol file wanted section index symbol compared =
     looked file 4 wanted ≡ record { answer = Found section index symbol; compared = compared }
@@ -50,7 +50,7 @@ FirstIsFound =
 abbrev pub SecondIsFound : Type 0
 SecondIsFound = FindsSymbol hash_with_cycle (codes "b") 2 2 0x88 2
 
--- a name that is not there, in a chain that comes back to itself
+-- a name that is not there, in a chain with a cycle
 abbrev pub CycleIsRefused : Type 0
 CycleIsRefused =
     RefusesLookup hash_with_cycle (codes "c") 0x48 HashCycle
@@ -64,8 +64,8 @@ EndIsAbsent =
     FindsNothing hash_with_end (codes "c") 2
     × FindsNothing (hash_file (1 ∷ 3 ∷ 0 ∷ 0 ∷ 2 ∷ 1 ∷ [])) (codes "a") 0
 
--- words that are no index, in a chain and in a bucket; a chain's word is at the symbol's index,
--- whichever step comes to it
+-- words that are no index, in a chain and in a bucket; a chain's word is at the symbol's index, at
+-- any step
 abbrev pub WrongWordIsRefused : Type 0
 WrongWordIsRefused =
     RefusesLookup (hash_file (1 ∷ 3 ∷ 1 ∷ 0 ∷ 9 ∷ 0 ∷ [])) (codes "c") 0x50 HashIndex
@@ -123,8 +123,8 @@ NameFaultsAreRefused =
     × RefusesLookup (with_bytes 0x70 (little 4 5) (hash_file (2 ∷ 2 ∷ 0 ∷ 1 ∷ 0 ∷ 0 ∷ []))) (codes "a") 0x70 NameOutside
     × RefusesLookup (with_bytes 0x70 (little 4 5) (hash_file (2 ∷ 2 ∷ 1 ∷ 0 ∷ 0 ∷ 0 ∷ []))) (codes "b") 0x70 NameOutside
 
--- under a symbol table of no bytes neither it nor its strings are checked, and no word but 0 is an
--- index
+-- under a symbol table of no bytes neither it nor its strings are checked, and no word except 0 is
+-- an index
 abbrev pub EmptySymbolTable : Type 0
 EmptySymbolTable =
     RefusesLookup (with_symbols_header 24 (little 8 0x1000 ++ zeros 8 ++ zeros 4)) (codes "a") 0x48 HashIndex
@@ -137,7 +137,7 @@ SectionZeroAsHash =
     RefusesLookup (with_bytes 0xac (little 4 5) hash_with_cycle) (codes "a") 0xa8 HashShape
     × RefusesLookup (with_bytes 0xac (little 4 11) (with_hash_header 40 (little 4 0))) (codes "a") 0xe8 BadLink
 
--- where the section headers are not read the file header alone is requested
+-- if the section headers are not read only the file header is read
 abbrev pub FindCostsAtLeast : Type 0
 FindCostsAtLeast = (find_cost hash_with_cycle 3 (codes "a") ≡ 64) × (find_cost [] 3 (codes "a") ≡ 64)
 

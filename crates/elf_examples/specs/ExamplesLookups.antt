@@ -39,13 +39,13 @@ LongChainsAreWalked =
     × RefusesLookup (with_bytes 0x1b8 (little 4 19) long_chain) (codes "c") 0x1b0 HashCycle
     × ComparesNames (with_bytes 0x1b8 (little 4 19) long_chain) (codes "c") 20
 
--- four chains and three symbols: a word below the chains alone is no index
+-- four chains and three symbols: a word below only the chains is no index
 abbrev pub MoreChainsThanSymbols : Type 0
 MoreChainsThanSymbols =
     RefusesLookup (with_bytes 0x108 (little 8 28) (hash_file (1 ∷ 4 ∷ 3 ∷ 0 ∷ 2 ∷ 1 ∷ []))) (codes "a") 0x48 HashIndex
     × FindsSymbol (with_bytes 0x108 (little 8 28) (hash_file (1 ∷ 4 ∷ 2 ∷ 0 ∷ 2 ∷ 1 ∷ []))) (codes "b") 2 2 0x88 1
 
--- a cycle that starts in the second of two buckets, and names no word but the bucket's
+-- a cycle that starts in the second of two buckets, and has no word except the bucket's
 abbrev pub CycleInTheSecondBucket : Type 0
 CycleInTheSecondBucket =
     RefusesLookup (hash_file (2 ∷ 2 ∷ 0 ∷ 1 ∷ 0 ∷ 1 ∷ [])) (codes "c") 0x4c HashCycle
@@ -59,7 +59,7 @@ WordsHaveFourBytes =
     × RefusesLookup (hash_file (0x01000001 ∷ 3 ∷ 1 ∷ 0 ∷ 2 ∷ 0 ∷ [])) (codes "a") 0xe8 HashShape
     × RefusesLookup (hash_file (1 ∷ 0x01000003 ∷ 1 ∷ 0 ∷ 2 ∷ 0 ∷ [])) (codes "a") 0xe8 HashShape
 
--- a table without chains: no word but 0 is an index
+-- a table without chains: no word except 0 is an index
 abbrev pub NoChains : Type 0
 NoChains =
     FindsNothing (hash_file (1 ∷ 0 ∷ 0 ∷ 0 ∷ 0 ∷ 0 ∷ [])) (codes "a") 0
@@ -94,7 +94,7 @@ RefusalsCompareNothing =
     × (find_cost (with_symbols_header 56 (little 8 25)) 4 (codes "a") ≡ 76 + 256)
     × (find_cost (hash_file (1 ∷ 4 ∷ 1 ∷ 0 ∷ 2 ∷ 1 ∷ [])) 4 (codes "a") ≡ 76 + 256)
 
--- the name that was wanted is written whole, and written as in a listing
+-- the wanted name is written whole, and escaped as in a listing
 abbrev pub WantedNameIsWritten : Type 0
 WantedNameIsWritten =
     (find_answer Columns (with_strings_header 24 (little 8 0x1a8 ++ little 8 302) ++ (0 ∷ replicate 300 97 ++ zeros 1)) 4 (replicate 300 97)
@@ -138,7 +138,7 @@ HashInTheLastSection =
     × RefusesLookup (with_bytes 0x40 (little 4 0) hash_comes_last) (codes "a") 0x168 HashShape
     × RefusesLookup (with_bytes 0x120 (little 8 25) hash_comes_last) (codes "a") 0xe8 EntrySize
 
--- three buckets: the hash, all of it, is taken modulo their number, which is no power of 2
+-- three buckets: the whole hash is taken modulo their number, which is not a power of 2
 abbrev pub ThreeBuckets : Type 0
 ThreeBuckets =
     RefusesLookup (hash_file (3 ∷ 1 ∷ 9 ∷ 9 ∷ 9 ∷ 0 ∷ [])) (codes "a") 0x4c HashIndex
@@ -150,7 +150,7 @@ ThreeBuckets =
 abbrev pub HashLinkBeforeCounts : Type 0
 HashLinkBeforeCounts = RefusesLookup (with_hash_header 32 (little 8 8 ++ little 4 0)) (codes "a") 0xe8 BadLink
 
--- the size of an entry in a hash table's header is not checked but in files of Alpha, and bytes may
+-- the size of an entry in a hash table's header is checked only in files of Alpha, and bytes may
 -- follow its words
 abbrev pub HashEntriesAreNotChecked : Type 0
 HashEntriesAreNotChecked =

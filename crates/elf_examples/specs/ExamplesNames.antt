@@ -25,11 +25,11 @@ NameInsideAnother = (shown one_name 3 3 ≡ Ok (Whole (codes "c"))) × (shown on
 abbrev pub NameOutsideTable : Type 0
 NameOutsideTable = shown one_name 5 3 ≡ Err NameOutside
 
--- a name without a NUL before the table's end is unended, or cut where it is longer than cap
+-- a name without a NUL before the table's end is unended, or cut if it is longer than cap
 abbrev pub NameUnendedOrCut : Type 0
 NameUnendedOrCut = (shown open_name 1 3 ≡ Err NameUnended) × (shown open_name 1 2 ≡ Ok (Cut (codes "ab")))
 
--- an empty string table has the empty name at index 0 alone
+-- an empty string table has the empty name only at index 0
 abbrev pub NameInEmptyTable : Type 0
 NameInEmptyTable = (shown [] 0 3 ≡ Ok (Whole [])) × (shown [] 1 3 ≡ Err NameOutside)
 

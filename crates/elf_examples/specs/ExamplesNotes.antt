@@ -6,7 +6,7 @@ use Rattle.elf_model.specs.Fixtures.{zeros}
 use Rattle.elf_model.specs.FixturesTables.{build_note, aligned_note}
 use Rattle.elf_model.specs.Bytes.{little}
 
--- a note's head: the sizes of its name and its descriptor, its type
+-- a note header: the sizes of its name and its descriptor, its type
 unfoldable pub note_head : ℕ → ℕ → ℕ → List ℕ
 note_head namesz descsz type = little 4 namesz ++ little 4 descsz ++ little 4 type
 
@@ -18,7 +18,7 @@ counting = 0 ∷ 1 ∷ 2 ∷ 3 ∷ 4 ∷ 5 ∷ 6 ∷ 7 ∷ 8 ∷ 9 ∷ 10 ∷ 11
 abbrev pub note : ℕ → List ℕ → List ℕ → Note
 note kind name descriptor = record { kind = kind; name = name; descriptor = descriptor }
 
--- notes to the table's end, and notes up to a place where the table is cut
+-- notes to the table's end, and notes up to the offset at which the table is cut
 abbrev pub uncut : List Note → NoteScan
 uncut notes = record { notes = notes; cut = None }
 
@@ -104,7 +104,7 @@ NoteShapes =
     × (walked 4 (note_head 3 33 7 ++ codes "abc" ++ (5 ∷ []) ++ counting ++ zeros 13)
     ≡ uncut (note 7 (codes "abc") (counting ++ zeros 13) ∷ []))
 
--- where the descriptor is empty the note ends at its name's end
+-- if the descriptor is empty the note ends at its name's end
 abbrev pub NoteEmptyDescriptor : Type 0
 NoteEmptyDescriptor =
     let first = note 7 (codes "abcde") [] in

@@ -1,5 +1,5 @@
--- Worked examples of entries in other places: for another section, of another symbol, at the end of
--- a section, beside other tables of symbols.
+-- Worked examples of entries elsewhere: for another section, of another symbol, at the end of a
+-- section, next to other tables of symbols.
 use Rattle.std.specs.Prelude.{◌≡◌, ◌+◌, ◌*◌, ℕ, List, ◌++◌, [], ◌∷◌, codes, Ok}
 use Rattle.elf_model.specs.Bytes.{little}
 use Rattle.elf_model.specs.Apply.{applied}
@@ -63,8 +63,8 @@ EntriesEndInside =
 abbrev pub LinkedSymbolsApply : Type 0
 LinkedSymbolsApply = WritesSection (with_bytes 0x9c (little 4 2) one_call) entry_layout (0xe8 ∷ 0xfb ∷ 0x0f ∷ 0 ∷ 0 ∷ [])
 
--- a type that takes no procedure linkage table entry does not look for one: the name of an absolute
--- symbol is not looked at
+-- a type that takes no procedure linkage table entry does not search for one: the name of an
+-- absolute symbol is not read
 abbrev pub CallsAloneTakeEntries : Type 0
 CallsAloneTakeEntries =
     let absolute = little 4 0xffffffff ++ little 2 0x10 ++ little 2 0xfff1 ++ little 8 0x2000 in

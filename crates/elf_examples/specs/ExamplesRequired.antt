@@ -1,4 +1,4 @@
--- Worked examples of words that are required.
+-- Worked examples of required traits.
 use Rattle.std.specs.Prelude.{◌≡◌, [], ◌∷◌, ◌++◌, codes, true, false, Some}
 use Rattle.elf_model.specs.declared.formats.Format.TheVariants.{Columns, Object}
 use Rattle.elf_model.specs.TraitWords.{Required, lacking_text, traits_status, traits_text}
@@ -30,7 +30,7 @@ nx = record { column = column.Stack; word = codes "nx" }
 abbrev rpath : Required
 rpath = record { column = column.Path; word = codes "rpath" }
 
--- a program that lacks no word has its line alone; otherwise the first word that it lacks has a
+-- a program that lacks no word has only its line; otherwise the first word that it lacks has a
 -- line, and the status is 1
 abbrev pub RequiredRows : Type 0
 RequiredRows =
@@ -44,7 +44,7 @@ RequiredRows =
     × (traits_text Columns (weak kind.Pie) (nx ∷ full ∷ []) (codes "p")
     ≡ codes "T pie    partial exec  w^x   fixed -         -      fortify rpath   p\n! stack=exec\n")
 
--- nothing is required of files that are no programs and no libraries
+-- nothing is required of files that are neither programs nor libraries
 abbrev pub NothingRequired : Type 0
 NothingRequired =
     (traits_text Columns (weak kind.Core) (full ∷ []) (codes "p") ≡ codes "T core   partial exec  w^x   fixed -         -      fortify rpath   p\n")

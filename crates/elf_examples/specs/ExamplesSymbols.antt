@@ -10,8 +10,8 @@ use Rattle.elf_examples.specs.TraitFiles.{TraitsCost, TraitsAre, program_with_tr
 abbrev named : List ℕ → List ℕ → List ℕ
 named names file = with_bytes 0x1f9 names file
 
--- a guard's function, or its word, needed or defined; another name; one that begins as a guard's
--- does
+-- a stack protector's function, or its word, needed or defined; another name; one that begins as
+-- such a name does
 abbrev pub CanaryRows : Type 0
 CanaryRows =
     TraitsAre (with_bytes 0x1ce (little 2 7) program_with_traits) (codes "T pie    full    nx    w^x   fixed ibt+shstk canary fortify -       p\n")
@@ -19,7 +19,7 @@ CanaryRows =
     × TraitsAre (named (codes "__stack_chk_fai" ++ zeros 1) program_with_traits) (codes "T pie    full    nx    w^x   fixed ibt+shstk -      fortify -       p\n")
     × TraitsAre (named (codes "__stack_chk_guard" ++ zeros 1 ++ codes "_printf_chk") (with_bytes 0x1e0 (little 4 19) program_with_traits)) (codes "T pie    full    nx    w^x   fixed ibt+shstk canary -       -       p\n")
 
--- a checked call is needed, not defined; its name begins and ends so
+-- a fortify call is needed, not defined; its name begins and ends so
 abbrev pub FortifyRows : Type 0
 FortifyRows =
     TraitsAre (with_bytes 0x1e6 (little 2 7) program_with_traits) (codes "T pie    full    nx    w^x   fixed ibt+shstk canary -       -       p\n")
@@ -27,9 +27,9 @@ FortifyRows =
     × TraitsAre (with_bytes 0x215 (codes "x") program_with_traits) (codes "T pie    full    nx    w^x   fixed ibt+shstk canary -       -       p\n")
     × TraitsAre (with_bytes 0x20a (codes "__chk" ++ zeros 1) program_with_traits) (codes "T pie    full    nx    w^x   fixed ibt+shstk canary fortify -       p\n")
 
--- the symbols are those that the hash table knows of: those before `first`; with a chain, up to its
--- last; a chain that does not end goes on to the last symbol that there is room for, whose name is
--- refused; in a table of the gABI as many as chains; without a table none
+-- the symbols are those of the hash table: those before `first`; with a chain, up to its last; a
+-- chain that does not end goes on to the last symbol that there is room for, whose name is refused;
+-- in a gABI table as many as chains; without a table none
 abbrev pub CountRows : Type 0
 CountRows =
     TraitsAre (with_bytes 0x194 (little 4 2) program_with_traits) (codes "T pie    full    nx    w^x   fixed ibt+shstk canary -       -       p\n")
@@ -71,12 +71,12 @@ NameFaults =
     TraitsAre (with_bytes 0x1e0 (little 4 32) program_with_traits) (codes "C refused      00000000000001e0 name-outside p\n")
     × TraitsAre (with_bytes 0x270 (little 8 20) program_with_traits) (codes "C refused      00000000000001e0 name-unended p\n")
 
--- symbol 0 is none, whatever its name is
+-- symbol 0 is none, for any name
 abbrev pub FirstSymbolIsNone : Type 0
 FirstSymbolIsNone =
     TraitsAre (with_bytes 0x1b0 (little 4 32) program_with_traits) (codes "T pie    full    nx    w^x   fixed ibt+shstk canary fortify -       p\n")
 
--- a name of 63 bytes is looked at, and none of more
+-- a name of 63 bytes is compared, and none of more
 abbrev pub LongNamesMarkNothing : Type 0
 LongNamesMarkNothing =
     TraitsAre (long_named 57) (codes "T pie    full    nx    w^x   fixed ibt+shstk -      fortify -       p\n")

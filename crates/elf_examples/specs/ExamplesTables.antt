@@ -10,7 +10,7 @@ use Rattle.elf_model.specs.Values.{value}
 use Rattle.elf_model.specs.declared.causes.Cause.TheVariants.{Unsupported, Overflow, Unplaced, Undefined, PlaceOutside, SymbolIndex, BadLink, NameOutside}
 use Rattle.elf_examples.specs.ExamplesApply.{WritesSection, RefusesToApply}
 
--- the call with another type in the place of R_X86_64_PLT32
+-- the call with another type in place of R_X86_64_PLT32
 abbrev pub of_type : ℕ → List ℕ
 of_type type = with_bytes 0x50 (little 4 type) one_call
 
@@ -21,7 +21,7 @@ tables table thread =
     record { lookup = Compared; sections = (1, 0x1000) ∷ []; definitions = []; linkage = []; table = table; thread = thread }
 
 -- R_X86_64_GOTPCREL, GOTPCRELX and REX_GOTPCRELX take the symbol's entry, R_X86_64_GOTTPOFF that of
--- its offset from the thread pointer; the byte before them stays
+-- its offset from the thread pointer; the byte before them is unchanged
 abbrev pub EntriesAreTaken : Type 0
 EntriesAreTaken =
     WritesSection (of_type 9) table_layout (0xe8 ∷ 0xfb ∷ 0x2f ∷ 0 ∷ 0 ∷ [])
@@ -29,7 +29,7 @@ EntriesAreTaken =
     × WritesSection (of_type 42) table_layout (0xe8 ∷ 0xfb ∷ 0x2f ∷ 0 ∷ 0 ∷ [])
     × WritesSection (of_type 22) table_layout (0xe8 ∷ 0xfb ∷ 0x3f ∷ 0 ∷ 0 ∷ [])
 
--- the entry is one of the symbol in any place, with any value and any binding, and its section
+-- the entry is one of the symbol with any section index, any value and any binding, and its section
 -- needs no address
 abbrev pub EntriesAreOfAnySymbol : Type 0
 EntriesAreOfAnySymbol =

@@ -31,7 +31,7 @@ ArchiveOfNamesLists =
     ++ codes "A     3 000000000000012a 0000000000000138 one_symbol_table.o\n" ++ report one_symbol_table 3 63 ALL
     ++ codes "A     4 000000000000029e 0000000000000040 b.o\n" ++ report bare_header 3 63 ALL
 
--- the end of a member's listing is no end of the archive's: the next member follows
+-- the end of a member's listing does not end the archive's: the next member follows
 abbrev pub RefusedMembersEndAlone : Type 0
 RefusedMembersEndAlone =
     let cut = archive_of (member (codes "a.o/") (127 ∷ 69 ∷ 76 ∷ 70 ∷ 2 ∷ []) ++ member (codes "b.o/") bare_header) in
@@ -45,7 +45,7 @@ abbrev pub ThreeBytesAreNoElf : Type 0
 ThreeBytesAreNoElf =
     archive (archive_of (member (codes "a.o/") (127 ∷ 69 ∷ 76 ∷ []))) 3 63 ALL ≡ codes "A     0 0000000000000044 0000000000000003 a.o\n"
 
--- what is no archive
+-- what is not an archive
 abbrev pub WhatIsNoArchiveIsRefused : Type 0
 WhatIsNoArchiveIsRefused =
     (archive (codes "!<arch>") 3 63 0 ≡ codes "! 0000000000000000 short\n")
@@ -53,7 +53,7 @@ WhatIsNoArchiveIsRefused =
     × (archive (codes "!<arch>\r") 3 63 0 ≡ codes "! 0000000000000000 not-archive\n")
     × (archive (codes "!<arch>\n") 3 63 0 ≡ [])
 
--- where no member is
+-- where there is no member
 abbrev pub CutMembersAreRefused : Type 0
 CutMembersAreRefused =
     (archive (codes "!<arch>\nx") 3 63 0 ≡ codes "! 0000000000000008 member-cut\n")
@@ -110,7 +110,7 @@ CutMembersCost =
     × (archive_cost (archive_of (member_header (codes "/5") (codes "1"))) 3 (standard 63) ALL ≡ 8 + 60 + 128)
     × (archive_cost (archive_of (member_header (codes "#1/5") (codes "1"))) 3 (standard 63) ALL ≡ 8 + 60 + 128)
 
--- what none passes with versions after names: 59 bytes have room for two symbols, two definitions
+-- the upper bound with versions after names: 59 bytes have room for two symbols, two definitions
 -- and three needs
 abbrev pub CeilingsWithVersions : Type 0
 CeilingsWithVersions =

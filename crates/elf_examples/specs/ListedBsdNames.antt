@@ -1,4 +1,4 @@
--- Members whose names are at the prefix of their data, as BSD's `ar` writes long ones.
+-- Members whose names are at the start of their data, as BSD's `ar` writes long ones.
 use Rattle.std.specs.Prelude.{ℕ, ◌≡◌, ◌+◌, List, [], ◌∷◌, ◌++◌, codes, None, Some}
 use Rattle.elf_model.specs.Archive.{archive, bsd_name_length}
 use Rattle.elf_model.specs.ArchiveCost.{archive_cost}
@@ -34,8 +34,8 @@ NulsEndBsdNames =
     × (listed 63 (member (codes "#1/4") (97 ∷ 0 ∷ 98 ∷ 0 ∷ [])) ≡ codes "A     0 0000000000000048 0000000000000000 a\\x00b\n")
     × (listed 63 (member (codes "#1/2") (zeros 2)) ≡ codes "A     0 0000000000000046 0000000000000000 \n")
 
--- with three bytes of a name: three are shown, and of four the first three; five are looked at, and
--- what follows them is not
+-- with three bytes of a name: three are shown, and of four the first three; five are read, and what
+-- follows them is not
 abbrev pub LongBsdNamesAreCut : Type 0
 LongBsdNamesAreCut =
     (listed 3 (member (codes "#1/3") (codes "abc")) ≡ codes "A     0 0000000000000047 0000000000000000 abc\n")

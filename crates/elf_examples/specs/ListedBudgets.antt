@@ -12,7 +12,7 @@ use Rattle.elf_model.specs.Fixtures.{one_symbol_table}
 use Rattle.elf_model.specs.declared.causes.Refusal.{Refusal}
 use Rattle.elf_model.specs.declared.causes.Cause.TheVariants.{Short, Budget}
 
--- the refusal of a read at an offset, for lack of budget
+-- the refusal of a read at an offset, when the budget is exhausted
 abbrev pub spent_at : ℕ → Refusal
 spent_at at = record { at = at; cause = Budget }
 
@@ -44,8 +44,8 @@ NothingElseIsAllowed =
     → ((text ≡ report file headers cap parts) × (fault ≡ report_fault file headers cap parts))
     ⊎ ((count : ℕ) × (at : ℕ) × (fault ≡ Some (spent_at at)) × EndsAfter file headers cap parts budget count at text))
 
--- no cut of a file of 64 bytes: an offset at the file's length, another cause, no fault, the fault
--- of another offset, a line that is not the first, the fault's line before the budget's
+-- not a cut of a file of 64 bytes: an offset at the file's length, another cause, no fault, the
+-- fault of another offset, a line that is not the first, the fault's line before the budget's
 abbrev pub OtherTextsAreNoCuts : Type 0
 OtherTextsAreNoCuts =
     (IsCut Columns 64 [] (codes "! 0000000000000040 budget\n") (Some (spent_at 64)) → ⊥)
@@ -58,7 +58,7 @@ OtherTextsAreNoCuts =
     (codes "! 0000000000000000 short\n! 0000000000000000 budget\n") (Some (spent_at 0))
     → ⊥)
 
--- a whole answer is shown within every budget, and without one; what a budget allows is shown with
+-- a whole result is shown within every budget, and without one; what a budget allows is shown with
 -- status 1
 abbrev pub AllowedAnswersAreShown : Type 0
 AllowedAnswersAreShown =
@@ -78,7 +78,7 @@ NothingElseIsShown =
     → (answer ≡ show_answer file headers cap parts)
     ⊎ ((answer.status ≡ 1) × ((count : ℕ) × (at : ℕ) × EndsAfter file headers cap parts budget count at answer.text)))
 
--- what is listed after the file header's line where the section headers can't be read any more
+-- what is listed after the file header's line if the section headers can't be read any more
 abbrev pub header_and_budget : List ℕ
 header_and_budget =
     codes "H REL     62 0000000000000000 0000000000000000 0000000000000078 00000000     0     3     0\n! 0000000000000078 budget\n"
@@ -93,14 +93,14 @@ BudgetsThatEnd =
     × EndsAfter one_symbol_table 3 63 ALL 431 5 0x71
     (lines_of (take 5 (items one_symbol_table 3 63 ALL)) ++ refusal_line Columns (spent_at 0x71))
 
--- a budget of the cost allows the report alone: of a whole listing, and of the file header's line
+-- a budget of the cost allows only the report: of a whole listing, and of the file header's line
 abbrev pub BudgetsThatSuffice : Type 0
 BudgetsThatSuffice =
     (text : List ℕ) (fault : Option Refusal)
     → (IsBudgeted (Some 432) one_symbol_table 3 (standard 63) ALL text fault → text ≡ report one_symbol_table 3 63 ALL)
     × (IsBudgeted (Some 64) one_symbol_table 3 (standard 63) HEADER text fault → text ≡ report one_symbol_table 3 63 HEADER)
 
--- a listing without a fault that ends in one was cut short for lack of budget, at a read below the
+-- a listing without a fault that ends in one was cut short by the budget, at a read below the
 -- file's length
 abbrev pub CutsAreForBudget : Type 0
 CutsAreForBudget =
@@ -119,8 +119,8 @@ EmptyFileIsShort =
 abbrev pub ShowsWithin : Option ℕ → ℕ → List ℕ → ℕ → Type 0
 ShowsWithin budget parts text status = IsShown budget one_symbol_table 3 (standard 63) parts (record { text = text; status = status })
 
--- a cut is shown where the budget is below the cost, and not with status 0, within a budget of the
--- cost or without a budget; a whole listing is shown with its own text and status alone
+-- a cut is shown if the budget is below the cost, and not with status 0, within a budget of the
+-- cost or without a budget; a whole listing is shown only with its own text and status
 abbrev pub OtherAnswersAreNotShown : Type 0
 OtherAnswersAreNotShown =
     ShowsWithin (Some 64) ALL header_and_budget 1

@@ -1,4 +1,4 @@
--- What listings read at most, and what they never pass.
+-- What listings read at most, and their upper bounds.
 use Rattle.std.specs.Prelude.{ℕ, ◌≡◌, ◌+◌, ◌-◌, ◌*◌, ◌++◌, []}
 use Rattle.elf_model.specs.Listing.{HEADER, SECTIONS, SEGMENTS, SYMBOLS, RELOCS, NOTES, DYNAMIC, ALL}
 use Rattle.elf_model.specs.Cost.{cost, ceiling}
@@ -40,8 +40,7 @@ CostsOfParts =
     × (cost (one_table 7 4 0 build_note []) 3 63 NOTES ≡ 292)
 
 -- files without sections: the program headers are read once, for the segments and for the tables
--- that they describe, and for no other part; there are none whatever the size of a section header
--- is
+-- that they describe, and for no other part; there are none for any size of a section header
 abbrev pub CostsWithoutSections : Type 0
 CostsWithoutSections =
     (cost one_load 1 63 SEGMENTS ≡ 120)
@@ -69,7 +68,7 @@ CostsOfTheHeaderAlone =
     × (cost one_symbol_table 2 63 ALL ≡ 64)
     × (cost [] 1 63 ALL ≡ 64)
 
--- a table counts where its own checks pass, wherever the first fault is
+-- a table counts if its own checks pass, for any position of the first fault
 abbrev pub CostsOfTablesThatFail : Type 0
 CostsOfTablesThatFail =
     (cost (with_bytes 0xe0 (little 4 0x0) one_symbol_table) 3 63 ALL ≡ 432)
@@ -94,7 +93,7 @@ CostsAtTheEnd =
     × (cost (with_bytes 0xd3 (little 8 (315 - 48)) needed_library) 3 63 DYNAMIC ≡ 64 + 192 + 3 * 80)
     × (cost (with_bytes 0xd3 (little 8 (315 - 47)) needed_library) 3 63 DYNAMIC ≡ 64 + 192)
 
--- relocation entries count where their own table's checks pass, whatever they link to; and if a
+-- relocation entries count if their own table's checks pass, no matter what they link to; and if a
 -- later check of the section of the section names fails they count, since the section headers are
 -- read before it
 abbrev pub CostsOfRelocations : Type 0

@@ -14,7 +14,7 @@ use Rattle.elf_model.specs.declared.causes.Cause.TheVariants.{MemberCut, NameOut
 use Rattle.elf_model.specs.declared.causes.Refusal.{Refusal}
 use Rattle.elf_model.specs.declared.states.FileMagic.TheVariants.{Archive, Elf, Foreign}
 
--- the line of a path: written as names are, empty, and as an object
+-- the line of a path: escaped as names are, empty, and as an object
 abbrev pub PathLines : Type 0
 PathLines =
     (path_line Columns (codes "/bin/ls") ≡ codes "@ /bin/ls\n")
@@ -77,7 +77,7 @@ ArchiveFaults =
     × FaultIs (archive_of (member (codes "a.o/") faulty ++ member (codes "b.o/") (take 70 faulty))) (at_fault 0x84 NameOutside)
     × (placed_after 8 (record { at = 2 ^ 64 - 4; cause = Short }) ≡ record { at = 2 ^ 64 - 1; cause = Short })
 
--- the lines of members are alone where all rows are shown, and not where some names choose them
+-- the lines of members are listed alone if all rows are shown, and not if some names select them
 abbrev pub MembersAlone : Type 0
 MembersAlone = (members_alone EveryRow ≡ true) × (members_alone (RowsOf []) ≡ false)
 

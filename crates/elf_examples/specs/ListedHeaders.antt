@@ -72,7 +72,7 @@ IdentChecksInOrder =
     × (report (with_bytes 0x9 (replicate 7 0x3) (with_bytes 0x14 (little 4 0x3) (with_bytes 0x34 (little 2 0x3) bare_header))) 1 63 ALL
     ≡ codes "H REL     62 0000000000000000 0000000000000000 0000000000000000 00000000     0     0     0\n")
 
--- counts and indices that are in section 0
+-- counts and indices that are stored in section 0
 abbrev pub ExtendedNumberingIsRefused : Type 0
 ExtendedNumberingIsRefused =
     (report (with_bytes 0x38 (little 2 0xffff) bare_header) 1 63 ALL
@@ -107,7 +107,7 @@ HeaderSizesAreChecked =
     ≡ codes "H REL     62 0000000000000000 0000000000000000 0000000000000078 00000000     1     3     0\n"
     ++ codes "! 0000000000000036 entry-size\n")
 
--- section headers or program headers past the end of the file, in whole numbers; program headers
+-- section headers or program headers past the end of the file, without wrapping; program headers
 -- also if there are no sections
 abbrev pub HeadersOutsideTheFile : Type 0
 HeadersOutsideTheFile =

@@ -63,7 +63,7 @@ NotesOutsideTheFile =
     × (report (with_bytes 0xc4 (little 8 0xffffffffffffffff) (one_table 7 4 0 build_note [])) 3 63 NOTES
     ≡ codes "! 00000000000000a4 table-outside\n")
 
--- what follows a table of notes is not looked at, in a section and in a segment
+-- what follows a table of notes is not read, in a section and in a segment
 abbrev pub BytesAfterNotes : Type 0
 BytesAfterNotes =
     (report (one_table 7 4 0 build_note (1 ∷ [])) 3 63 NOTES

@@ -41,8 +41,8 @@ ObjectsOfFaults =
     × (report_of Object (listing one_symbol_table 2 (objects 63) SYMBOLS) ≡ codes "{\"line\":\"!\",\"place\":60,\"cause\":\"too-many-headers\"}\n")
     × (refusal_line Object (record { at = 2 ^ 63; cause = Short }) ≡ codes "{\"line\":\"!\",\"place\":9223372036854775808,\"cause\":\"short\"}\n")
 
--- a name as it is spelt in columns, in a string: a quotation mark, and each backslash of the
--- spelling, have one before them
+-- a name as it is escaped in columns, in a string: a quotation mark, and each backslash of the
+-- escapes, have one before them
 abbrev pub ObjectsOfNames : Type 0
 ObjectsOfNames =
     (check_line Object state.Ok (34 ∷ 92 ∷ 10 ∷ 0xc3 ∷ 47 ∷ [])

@@ -31,7 +31,7 @@ LoadStops file headers at cause = first_refusal (load_checks file headers) ≡ S
 abbrev pub LoadPasses : List ℕ → ℕ → Type 0
 LoadPasses file headers = first_refusal (load_checks file headers) ≡ None
 
--- a byte of the identification that is one less or one more than it is to be
+-- a byte of the identification that is one less or one more than it must be
 abbrev NeighboursStop : (place byte at : ℕ) → Cause → Type 0
 NeighboursStop place byte at cause =
     HeaderStops (with_bytes place (little 1 (byte - 1)) bare_header) at cause
@@ -81,8 +81,8 @@ HeaderSizesAreOne =
 abbrev one_header : List ℕ
 one_header = file_header 1 0x40 1 0 ++ zeros 64
 
--- whether there are section headers their number decides, which may be 1, and neither their size
--- nor their offset, which may be 0
+-- whether there are section headers is decided by their number, which may be 1, and not by their
+-- size or their offset, which may be 0
 abbrev pub SectionsAreCounted : Type 0
 SectionsAreCounted =
     LoadPasses one_header 1
@@ -148,8 +148,8 @@ every_table =
     ++ section_header 2 0 0x88 48 5 1 8 24
     ++ section_header 3 0 0xe0 3 0 0 1 0
 
--- the kinds of tables are in their order, whatever the order of the sections; if there are
--- sections, the notes of the segments are neither listed nor counted
+-- the kinds of tables are in their order, for any order of the sections; if there are sections, the
+-- notes of the segments are neither listed nor counted
 abbrev pub EveryTableIsListed : Type 0
 EveryTableIsListed =
     (report every_table 6 63 ALL

@@ -26,9 +26,9 @@ Refused count headers line = report_of Columns (listing (object count headers) 8
 abbrev Listed : ℕ → List ℕ → Type 0
 Listed count headers = fault_of (listing (object count headers) 8 by_segments SEGMENTS) ≡ None
 
--- two over one page, the second on the last byte of it, on its first, and if the first begins; one
--- that ends with a page, and one that ends a byte after it, with another on the next page, and on
--- the one after that
+-- two over one page, the second on the last byte of it, on its first, and where the first begins;
+-- one that ends with a page, and one that ends a byte after it, with another on the next page, and
+-- on the one after that
 abbrev pub PagesAreShared : Type 0
 PagesAreShared =
     Refused 2 (load 0x400000 1 ++ load 0x400fff 1) (codes "! 0000000000000078 load-overlap\n")
@@ -39,8 +39,8 @@ PagesAreShared =
     × Listed 2 (load 0x400fff 1 ++ load 0x401000 1)
     × Listed 2 (load 0x400000 0x1001 ++ load 0x402000 1)
 
--- none that takes up no memory, and none of another type, is looked at, nor ends what the one
--- before it takes up
+-- none that takes up no memory, and none of another type, is checked, nor ends what the one before
+-- it takes up
 abbrev pub OthersTakeNoPages : Type 0
 OthersTakeNoPages =
     Listed 3 (load 0x400000 0x1000 ++ load 0x400800 0 ++ load 0x401000 1)
@@ -59,7 +59,7 @@ AddressesRise =
     × Refused 3 (load 0x402000 1 ++ load 0x401000 1 ++ load 0x400000 1) (codes "! 0000000000000078 load-overlap\n")
     × Refused 2 (load 0 1 ++ load 0 1) (codes "! 0000000000000078 load-overlap\n")
 
--- pages are counted in whole numbers, also if a segment ends at 2^64 or after
+-- page numbers do not wrap, also if a segment ends at 2^64 or after
 abbrev pub PagesDoNotWrap : Type 0
 PagesDoNotWrap =
     Refused 2 (load (2 ^ 64 - 0x1000) 0x2000 ++ load 0x1000 1) (codes "! 0000000000000078 load-overlap\n")
@@ -91,7 +91,7 @@ OverlapsBySegmentsAlone =
     × (report covered 8 63 SEGMENTS ≡ covered_lines)
     × (report covered 8 63 NOTES ≡ [])
 
--- the file's own checks come before it, and it asks for nothing more
+-- the file's own checks come before it, and it reads nothing more
 abbrev pub OverlapsAfterTheLoad : Type 0
 OverlapsAfterTheLoad =
     (report_of Columns (listing covered 1 by_segments SEGMENTS) ≡ codes "! 0000000000000038 too-many-headers\n")

@@ -64,8 +64,8 @@ AnswersHaveAStatus =
 abbrev open_symbol : List ℕ → List ℕ
 open_symbol name = one_table 2 8 24 (symbol 1 0 0 0 0) (0 ∷ name)
 
--- the text and the status are of the same listing: of the names that are requested, cut or refused,
--- of the parts and of the headers
+-- the text and the status are of the same listing: of the requested names, cut or refused, of the
+-- parts and of the headers
 abbrev pub AnswersAreOfOneListing : Type 0
 AnswersAreOfOneListing =
     (show_answer (open_symbol (codes "abc")) 3 2 SYMBOLS

@@ -18,7 +18,7 @@ OverlappingRelocationsList =
     ++ codes "R     2 0000000000000000 32         00000000 +0000000011223344 \n"
     ++ codes "R     2 0000000000000002 16         00000000 +000000000000ffff \n"
 
--- a symbol where the section has no symbol table
+-- a symbol if the section has no symbol table
 abbrev pub RelocationWithoutSymbols : Type 0
 RelocationWithoutSymbols =
     report (with_bytes 0x54 (little 4 0x1) overlapping_relocations) 3 63 RELOCS
@@ -131,8 +131,8 @@ LinksToNoSymbols =
     × (report (with_bytes 0x140 (little 4 0x4) one_call) 5 63 RELOCS
     ≡ codes "! 0000000000000048 bad-link\n")
 
--- an entry without a symbol has no name: it is listed whatever its section links to, as long as
--- that passes its checks
+-- an entry without a symbol has no name: it is listed no matter what its section links to, as long
+-- as that passes its checks
 abbrev pub EntryWithoutSymbolLists : Type 0
 EntryWithoutSymbolLists =
     (report (with_bytes 0x54 (little 4 0x0) one_call) 5 63 RELOCS

@@ -19,7 +19,7 @@ needed_lines =
     ++ codes "D     2 STRSZ            000000000000000b \n"
     ++ codes "D     3 NULL             0000000000000000 \n"
 
--- dynamic entries of a segment, with their strings where a segment loads them, also one that loads
+-- dynamic entries of a segment, with their strings if a segment loads them, also one that loads
 -- just these
 abbrev pub SegmentEntriesList : Type 0
 SegmentEntriesList =
@@ -31,8 +31,8 @@ SegmentEntriesList =
     ++ codes "P     1 DYNAMIC  RW- 00000000000000b0 00000000004000b0 00000000004000b0 0000000000000040 0000000000000040 0000000000000008\n"
     ++ needed_lines)
 
--- the program headers are read once, and each entry is processed twice; a table whose own checks
--- fail costs nothing, and one that ends early counts whole
+-- the program headers are read once, and each entry is read twice; a table whose own checks fail
+-- costs nothing, and one that ends early counts whole
 abbrev pub SegmentEntriesCost : Type 0
 SegmentEntriesCost =
     (cost library_without_sections 2 63 DYNAMIC ≡ 560)
@@ -109,8 +109,8 @@ FirstTagsCount =
     × (report (loaded 0xfb 0x40 (tagged 1 1 ++ tagged 5 0x4000f0 ++ tagged 0 0 ++ tagged 10 11)) 2 63 DYNAMIC
     ≡ codes "! 00000000000000b0 unmapped\n")
 
--- addresses are added in whole numbers: a segment may load bytes up to and past 2^64, and strings
--- past its end are not mapped
+-- addresses do not wrap: a segment may load bytes up to and past 2^64, and strings past its end are
+-- not mapped
 abbrev pub AddressesDoNotWrap : Type 0
 AddressesDoNotWrap =
     (report (loaded_at (2 ^ 64 - 0xf8) 0xfb 0x40 (needed_with (tagged 5 (2 ^ 64 - 8)) (tagged 10 11))) 2 63 DYNAMIC
@@ -262,7 +262,7 @@ both_views =
     ++ zeros 64
     ++ section_header 6 0 0xe4 0x20 3 0 8 16 ++ section_header 7 0 0x104 16 0 0 4 0 ++ section_header 3 0 0x114 3 0 0 1 0)
 
--- if there are sections they decide, whatever the program headers describe
+-- if there are sections they decide, no matter what the program headers describe
 abbrev pub SectionsDecide : Type 0
 SectionsDecide =
     (report both_views 4 63 (NOTES + DYNAMIC)
@@ -276,8 +276,8 @@ SectionsDecide =
 abbrev pub StringsInsideTheFile : Type 0
 StringsInsideTheFile = report (loaded 0x1000 0x40 (needed_with (tagged 5 0x4000f0) (tagged 10 11))) 2 63 DYNAMIC ≡ needed_lines
 
--- no strings at all may be at a segment's end, and not after it; they have the empty string at 0
--- alone
+-- no strings at all may be at a segment's end, and not after it; they have the empty string only at
+-- 0
 abbrev pub EmptyStringsAtTheEnd : Type 0
 EmptyStringsAtTheEnd =
     (report (loaded 0xfb 0x40 (tagged 1 0 ++ tagged 5 0x4000fb ++ tagged 10 0 ++ tagged 0 0)) 2 63 DYNAMIC
@@ -294,13 +294,13 @@ FirstStringsAreSought =
     report (loaded 0xfb 0x40 (tagged 1 0 ++ tagged 99 0x4000f0 ++ tagged 10 11 ++ tagged 0 0)) 2 63 DYNAMIC
     ≡ codes "! 00000000000000b0 unmapped\n"
 
--- offsets are added in whole numbers
+-- offsets do not wrap
 abbrev pub OffsetsDoNotWrap : Type 0
 OffsetsDoNotWrap =
     report (with_bytes 0x48 (little 8 (2 ^ 64 - 1)) (loaded 0xfc 0x40 (needed_with (tagged 5 0x4000f1) (tagged 10 11)))) 2 63 DYNAMIC
     ≡ codes "! 0000000000000040 table-outside\n"
 
--- the file with a segment of another type in the place of the one that is loaded
+-- the file with a segment of another type in place of the one that is loaded
 abbrev typed : ℕ → List ℕ
 typed type = with_bytes 0x40 (little 4 type) library_without_sections
 
@@ -330,14 +330,15 @@ EachTableHasItsStrings =
     ++ codes "D     2 STRSZ            0000000000000003 \n"
     ++ codes "D     3 NULL             0000000000000000 \n"
 
--- sections are there by their number, also if their headers are at the file's start
+-- whether there are sections is decided by their number, also if their headers are at the file's
+-- start
 abbrev pub SectionsByTheirNumber : Type 0
 SectionsByTheirNumber =
     (report (with_bytes 0x3a (little 2 64 ++ little 2 1) library_without_sections) 2 63 DYNAMIC ≡ [])
     × (cost (with_bytes 0x3a (little 2 64 ++ little 2 1) library_without_sections) 2 63 DYNAMIC ≡ 64 + 64)
 
--- a file whose header locates section headers that are no such, listed by its program headers: its
--- own H line, and after it what the file without sections lists, at the same cost
+-- a file whose header locates section headers that are none, listed by its program headers: its own
+-- H line, and after it what the file without sections lists, at the same cost
 abbrev hidden : List ℕ
 hidden = with_bytes 0x28 (little 8 0x1000) (with_bytes 0x3c (little 2 3 ++ little 2 7) library_without_sections)
 

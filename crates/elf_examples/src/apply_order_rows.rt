@@ -38,7 +38,7 @@ pub fn long_names_cost()
     ensures { LongNamesCost }
 {}
 
-/// The costs past a fault that comes once the section headers are read.
+/// The costs past a fault that comes after the section headers are read.
 #[tactic(auto, unfolding(elf_model::proofs::OnLiterals::on_literals, crate::proofs::OnApplyExamples::on_examples))]
 pub fn later_faults_cost()
     ensures { LaterFaultsCost }

@@ -14,13 +14,13 @@ pub fn reserved_indices_are_unplaced()
     ensures { ReservedIndicesAreUnplaced }
 {}
 
-/// Definitions of symbols that have a place.
+/// Definitions of symbols that have a section.
 #[tactic(auto, unfolding(elf_model::proofs::OnLiterals::on_literals, crate::proofs::OnApplyExamples::on_examples))]
 pub fn definitions_are_for_undefined()
     ensures { DefinitionsAreForUndefined }
 {}
 
-/// Procedure linkage table entries of symbols that have a place.
+/// Procedure linkage table entries of symbols that have a section.
 #[tactic(auto, unfolding(elf_model::proofs::OnLiterals::on_literals, crate::proofs::OnApplyExamples::on_examples))]
 pub fn entries_are_for_all()
     ensures { EntriesAreForAll }

@@ -25,7 +25,7 @@ pub fn file_sorts()
     ensures { FileSorts }
 {}
 
-/// What is left of a budget after the bytes that tell what a file is.
+/// What is left of a budget after the bytes that decide what a file is.
 #[tactic(auto, unfolding(elf_model::proofs::OnLiterals::on_literals))]
 pub fn budgets_after()
     ensures { BudgetsAfter }

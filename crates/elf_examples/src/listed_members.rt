@@ -16,7 +16,7 @@ ghost use Rattle.elf_examples.specs.ListedMembers.{
   StylesAreTheMembers,
 };
 
-/// Numbers in a header, and what is none.
+/// Numbers in a header, and what is not one.
 #[tactic(auto, unfolding(elf_model::proofs::OnLiterals::on_literals))]
 pub fn digits_are_decimal()
     ensures { DigitsAreDecimal }

@@ -14,7 +14,7 @@ pub fn others_take_no_pages()
     ensures { OthersTakeNoPages }
 {}
 
-/// Segments that do not be in the order of their addresses.
+/// Segments that are not in the order of their addresses.
 #[tactic(auto, unfolding(elf_model::proofs::OnLiterals::on_literals))]
 pub fn addresses_rise()
     ensures { AddressesRise }
@@ -26,13 +26,13 @@ pub fn pages_do_not_wrap()
     ensures { PagesDoNotWrap }
 {}
 
-/// The refusal in each part that needs the program headers, and in no listing but those by them.
+/// The refusal in each part that needs the program headers, and only in listings by them.
 #[tactic(auto, unfolding(elf_model::proofs::OnLiterals::on_literals))]
 pub fn overlaps_by_segments_alone()
     ensures { OverlapsBySegmentsAlone }
 {}
 
-/// Which refusals come before it, and what it asks for.
+/// Which refusals come before it, and what it reads.
 #[tactic(auto, unfolding(elf_model::proofs::OnLiterals::on_literals))]
 pub fn overlaps_after_the_load()
     ensures { OverlapsAfterTheLoad }

@@ -20,13 +20,13 @@ pub fn name_outside_table()
     ensures { NameOutsideTable }
 {}
 
-/// A name without a NUL before the table's end is unended, or cut where it is longer than cap.
+/// A name without a NUL before the table's end is unended, or cut if it is longer than cap.
 #[tactic(auto, unfolding(elf_model::proofs::OnLiterals::on_literals, crate::proofs::OnTableExamples::on_examples))]
 pub fn name_unended_or_cut()
     ensures { NameUnendedOrCut }
 {}
 
-/// An empty string table has the empty name at index 0 alone.
+/// An empty string table has the empty name only at index 0.
 #[tactic(auto, unfolding(elf_model::proofs::OnLiterals::on_literals, crate::proofs::OnTableExamples::on_examples))]
 pub fn name_in_empty_table()
     ensures { NameInEmptyTable }

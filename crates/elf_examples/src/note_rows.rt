@@ -55,13 +55,13 @@ pub fn note_shapes()
     ensures { NoteShapes }
 {}
 
-/// Where the descriptor is empty the note ends at its name's end.
+/// If the descriptor is empty the note ends at its name's end.
 #[tactic(auto, unfolding(elf_model::proofs::OnLiterals::on_literals, crate::proofs::OnTableExamples::on_examples))]
 pub fn note_empty_descriptor()
     ensures { NoteEmptyDescriptor }
 {}
 
-/// Where a note after another is.
+/// A note after another.
 #[tactic(auto, unfolding(elf_model::proofs::OnLiterals::on_literals))]
 pub fn later_notes_stand()
     ensures { LaterNotesStand }

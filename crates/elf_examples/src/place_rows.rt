@@ -8,7 +8,7 @@ pub fn other_section_is_applied()
     ensures { OtherSectionIsApplied }
 {}
 
-/// Symbols of three.
+/// One of three symbols.
 #[tactic(auto, unfolding(elf_model::proofs::OnLiterals::on_literals, crate::proofs::OnApplyExamples::on_examples))]
 pub fn symbols_by_their_index()
     ensures { SymbolsByTheirIndex }
@@ -32,7 +32,7 @@ pub fn calls_alone_take_entries()
     ensures { CallsAloneTakeEntries }
 {}
 
-/// The costs where more headers are allowed than there are, and of two entries with names.
+/// The costs if more headers are allowed than there are, and of two entries with names.
 #[tactic(auto, unfolding(elf_model::proofs::OnLiterals::on_literals, crate::proofs::OnApplyExamples::on_examples))]
 pub fn headers_and_names_cost()
     ensures { HeadersAndNamesCost }

@@ -7,7 +7,7 @@ pub fn property_lists()
     ensures { PropertyLists }
 {}
 
-/// The word of the features of x86.
+/// The word of x86 features.
 #[tactic(auto, unfolding(elf_model::proofs::OnLiterals::on_literals, elf_model::proofs::OnLoader::on_loader, crate::proofs::OnTraits::on_traits))]
 pub fn feature_rows()
     ensures { FeatureRows }
