@@ -53,7 +53,7 @@ impl NamedAddress {
         }
     }
 
-    /// The name.
+    /// Returns the name.
     pub fn name(&self) -> &[u8]
         ensures value { result.now ≡ self.now.0 }
         ensures few { length self.now.0 ≤ 255 }

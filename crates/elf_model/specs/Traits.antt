@@ -45,8 +45,8 @@ segment_of file type = first_that (is_segment file type) 0 (e_phnum file)
 abbrev pub permits : List ℕ → (bits index : ℕ) → Bool
 permits file bits i = has_bits (p_flags file (segment_at file i)) bits
 
--- STACK: a loader makes the stack executable if the first segment of its permissions says so, and
--- if there is none, as in files that are older than that segment (Linux Standard Base Core, Program
+-- STACK: a loader makes the stack executable if the first segment of its permissions is executable,
+-- and if there is none, as in files older than that segment (Linux Standard Base Core, Program
 -- Header)
 unfoldable pub is_stack_executable : List ℕ → Bool
 is_stack_executable file = elim (segment_of file PT_GNU_STACK) [ None ↦ true | Some i ↦ permits file PF_X i ]

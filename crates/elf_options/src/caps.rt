@@ -149,7 +149,7 @@ impl<'n> Caps<'n> {
         self.limits.headers
     }
 
-    /// The number of bytes of a name that are shown, 1 to 4,096.
+    /// Returns the number of bytes of a name that are shown, 1 to 4,096.
     pub fn name(&self) -> u16
         ensures { result ≡ self.now.style.cap.bytes }
     {
