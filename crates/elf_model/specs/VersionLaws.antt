@@ -83,8 +83,8 @@ FirstListNamesFirst =
     (file : List ℕ) (number : ℕ) (first second : List VisitedRecord) (met : VisitedRecord)
     → named_by file number first ≡ Some met → named_by file number (first ++ second) ≡ Some met
 
--- if every row is shown, there is one row for each symbol, and if one has no entry any more one
--- that says so; entries past the last symbol have none
+-- if every row is shown, there is one row for each symbol that has an entry, and if the entries end
+-- before the symbols one more that says so; entries past the last symbol have none
 abbrev pub RowsAreSymbols : Type 0
 RowsAreSymbols =
     (file : List ℕ) (style : ListingStyle) (section at : ℕ) → style.choice ≡ EveryRow → (sh_size file at == 0) ≡ false
