@@ -39,8 +39,8 @@ pub record HasUpTo (size : ℕ) (h : BufferedTable) (stop : ℕ) : Type 0 where
   pub inside : stop ≤ h.table.count
   pub low : h.table.count < 2 ^ 64
 
--- the effect of a call that reads of a table: it requests the given number of bytes if they are not
--- held, and if what is held is the file's the statement holds
+-- the effect of a call that reads in a table: it requests n bytes if they are not held, and if what
+-- is held is the file's, the given statement holds of the file
 abbrev pub DidHeld : {X : Type 0} → CountedState → CountedState → BufferedTable → Result X Fault → ℕ → (List ℕ → Type 0) → Type 0
 DidHeld before after h result n tells = CallDid before after (fault_of_result result) (unheld h n) (λ file. IsHeldOf file h → tells file)
 

@@ -18,7 +18,7 @@ pub struct RecordPosition {
     pub kind: VersionKind,
     /// Its offset in the table, or past its end.
     pub place: u128,
-    /// The file offset of the field's owner that led there.
+    /// The file offset of the header, tag or record that led there.
     pub from: u64,
     /// For a needed version, the offset of its file.
     pub owner: u64,

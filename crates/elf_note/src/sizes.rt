@@ -24,8 +24,9 @@ pub fn alignment_gap(align: u64, namesz: u32, descsz: u32) -> u64
     bytes_to_alignment(align, 12 + u64::from(namesz))
 }
 
-/// How many bytes stand behind a note of `size` bytes in its table, of which `left` bytes are left
-/// behind the note: those up to the next multiple of the alignment, or fewer at the table's end.
+/// Returns the number of padding bytes after a note of `size` bytes, if `left` bytes of its table
+/// are left after the note: those up to the next multiple of the alignment, or fewer at the table's
+/// end.
 pub fn padding(align: u64, size: u64, left: u64) -> u64
     requires { 0 < align }
     ensures { result ≡ min (bytes_to_alignment align size) left }

@@ -1,4 +1,4 @@
-//! Where dynamic entries say that their string table is.
+//! The location of a string table, by the dynamic entries.
 ghost use Rattle.std.specs.Prelude.{◌≡◌, ℕ, List, Option, IfErr, IfOk};
 ghost use Rattle.elf_model.specs.Numbers.{DT_STRSZ, DT_STRTAB};
 ghost use Rattle.elf_model.specs.Records.{d_tag, d_un};
