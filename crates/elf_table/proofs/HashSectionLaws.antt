@@ -1,4 +1,4 @@
--- What the checks of a section that is a hash table say, one by one, and what its symbols are.
+-- What the checks of a section that is a hash table imply, one by one, and what its symbols are.
 use Rattle.std.proofs.Common.{◌≡◌, ℕ, ◌+◌, ◌*◌, ◌==◌, ◌||◌, not, Bool, true, false, List, ◌++◌, length, None, Some, Ok, Err, refl, sym, ap, ◌∙◌}
 use Rattle.elf_model.specs.Checks.{first_refusal}
 use Rattle.elf_model.specs.Find.{has_64_bit_words, hash_checks_from}

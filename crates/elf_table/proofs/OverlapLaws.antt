@@ -1,4 +1,4 @@
--- LOAD segments that lie over each other, from one program header on.
+-- LOAD segments that overlap, starting at one program header.
 use Rattle.std.proofs.Common.{◌≡◌, ℕ, ◌+◌, ◌-◌, suc, ◌<◌, ◌≤◌, ◌&&◌, nat_lt, Bool, true, false, if◌then◌else◌, List, Option, None, Some, refl, add-one, arith}
 use Rattle.elf_model.specs.Checks.{first_refusal}
 use Rattle.elf_model.specs.Overlaps.{takes_memory, first_page, page_behind, loads_from, overlaps_from, overlap_checks}
@@ -6,7 +6,7 @@ use Rattle.elf_model.specs.Records.{e_phnum, segment_at}
 use Rattle.elf_model.specs.declared.causes.Cause.TheVariants.{LoadOverlap}
 use Rattle.elf_model.specs.declared.causes.Refusal.{Refusal}
 
--- what refuses those that are left, behind a page
+-- what refuses those that are left, after a page
 abbrev pub left : List ℕ → (page first count : ℕ) → Option Refusal
 left file page first count = first_refusal (overlaps_from file page (loads_from file first (count - first)))
 

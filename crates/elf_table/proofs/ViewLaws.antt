@@ -6,7 +6,7 @@ use Rattle.elf_table.specs.Load.{LoadedFile, HoldsSectionHeaders, HoldsProgramHe
 use Rattle.elf_table.specs.Store.{StoreState, AreRowSlices}
 use Rattle.elf_table.specs.declared.fault.Fault.{Fault}
 
--- a file that was loaded without sections, and then its program headers, where they were read
+-- a file that was loaded without sections, and then its program headers, if they were read
 pub views_read : (result : Result (Unit {0}) Fault) (file : List ℕ) (loaded : LoadedFile) (old new : StoreState) → HoldsSectionHeaders file loaded old → loaded.header.e_shnum ≡ 0
     → new.slots ≡ old.slots → new.loaded ≡ 0 → new.segments ≡ (if is_ok result then loaded.header.e_phnum else 0)
     → OnOk result (AreRowSlices file loaded.header.e_phoff 56 loaded.header.e_phnum new.segment_rows) → OnOk result (HoldsProgramHeaders file loaded new)

@@ -1,4 +1,4 @@
--- What the section headers in a store tell of names and of symbol versions.
+-- What the section headers in a store imply for names and for symbol versions.
 use Rattle.std.specs.Prelude.{ℕ, ◌≡◌, ◌<◌, ◌^◌, ◌/◌, ◌==◌, ◌||◌, ◌&&◌, Bool, true, false, List, None, Result, Ok, Err}
 use Rattle.elf_model.specs.Checks.{first_refusal, is_symbol_table}
 use Rattle.elf_model.specs.HeaderTables.{HeaderTable, header_field, held_headers}
@@ -35,14 +35,14 @@ pub record CountsVersions (f : SectionView) (section : ℕ) (table : TableRange)
   pub symbols : (header_field (sections_in f) sh_size section == 0) ≡ false
       → count ≡ header_field (sections_in f) sh_size (header_field (sections_in f) sh_link section) / SYMBOL_SIZE
 
--- the same by a file, whose checks pass
+-- the same for a file, whose checks pass
 pub record AreVersioned (file : List ℕ) (header : ℕ) (table : TableRange) (count : ℕ) : Type 0 where
   pub pass : first_refusal (all_checks symbol_versions.checks file header) ≡ None
   pub counted : table.count ≡ entry_count file header VERSYM_SIZE
   pub placed : table.at ≡ sh_offset file header
   pub symbols : (sh_size file header == 0) ≡ false → count ≡ versioned_symbols file header
 
--- what a section of versions of symbols answers: those, or the first of its checks that fails
+-- the result for a section of symbol versions: those, or the first of its checks that fails
 abbrev pub Versioned : List ℕ → ℕ → Result (TableRange × ℕ) Fault → Type 0
 Versioned file header (Ok found) = AreVersioned file header found.0 found.1
 Versioned file header (Err fault) = RefusedBy (all_checks symbol_versions.checks file header) fault

@@ -1,4 +1,4 @@
--- No section so far holds version numbers that link there.
+-- No section so far holds symbol versions that link there.
 use Rattle.std.proofs.Common.{◌≡◌, ◌==◌, ◌&&◌, ℕ, ◌<◌, false, List}
 use Rattle.elf_model.specs.HeaderTables.{file_sections, header_field}
 use Rattle.elf_model.specs.Numbers.{SHT_GNU_VERSYM}

@@ -1,4 +1,5 @@
--- What refuses the file is what refuses the program headers that are left, behind the page of those so far.
+-- What refuses the file is what refuses the program headers that are left, after the page of those
+-- so far.
 use Rattle.std.proofs.Common.{◌-◌, ◌≡◌, ℕ, ◌≤◌, List}
 use Rattle.elf_model.specs.Checks.{first_refusal}
 use Rattle.elf_model.specs.Overlaps.{overlap_checks}
