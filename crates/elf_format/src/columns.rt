@@ -117,7 +117,7 @@ fn write_cell(cell: &mut [u8; 24], number: u64, end: u8) -> usize
     start
 }
 
-/// Returns a number after a number sign.
+/// Returns `#` and a decimal number.
 #[tactic(auto, unfolding(elf_model::specs::NameTables::number_sign))]
 pub fn number_sign(number: u32) -> LineBuf
     ensures text { result.items ≡ number_sign number }

@@ -222,8 +222,8 @@ pub fn put_name_or_hex<R: Render>(
     }
 }
 
-/// Appends a name, left-aligned in a column of ten, or a number without a name after a number sign,
-/// and a space.
+/// Appends a name, left-aligned in a column of ten, or `#` and a number that has no name, and a
+/// space.
 #[tactic(auto, unfolding(elf_model::specs::Fields::with_field))]
 pub fn put_name_or_sign<R: Render>(
     line: &mut LineBuf,
