@@ -1,4 +1,4 @@
--- What an entry gives.
+-- What an entry yields.
 use Rattle.std.proofs.Common.{◌≡◌, ℕ, ◌+◌, nat_lt, false, List, Some, Ok, Err, arith}
 use Rattle.elf_model.specs.Apply.{ApplyTarget, Fails, change_of, entry_checks, named_value}
 use Rattle.elf_model.specs.Placing.{Layout, system_value, section_symbol_value, symbol_value, plt_entry_value, entry_value, base_value, unnamed_value}

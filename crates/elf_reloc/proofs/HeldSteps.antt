@@ -1,4 +1,4 @@
--- The checks of a request to apply, behind those of the file and of the section's index and flags.
+-- The checks of a request to apply, after those of the file and of the section's index and flags.
 use Rattle.std.proofs.Common.{◌≡◌, ℕ, ◌==◌, ◌||◌, nat_lt, not, true, false, List, [], None, Some, refl}
 use Rattle.elf_model.specs.Apply.{apply_checks, has_no_bytes, held_bytes, is_compressed}
 use Rattle.elf_model.specs.Bytes.{slice}

@@ -1,4 +1,4 @@
--- The definitions that functions calculate, opened for their checks.
+-- The definitions that functions compute, unfolded for their checks.
 use Rattle.elf_model.specs.Apply.{apply_checks, held_bytes, entry_changes, change_of, entry_checks, named_value}
 use Rattle.elf_model.specs.Placing.{system_value, entry_value, symbol_value, plt_entry_value, base_value, place_value}
 use Rattle.elf_model.specs.Values.{patch_of, whole}
