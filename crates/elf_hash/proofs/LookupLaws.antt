@@ -21,7 +21,7 @@ use Rattle.elf_hash.specs.declared.chain_result.ChainMatch.{ChainMatch}
 use Rattle.elf_hash.specs.declared.chain_result.ChainResult.{ChainResult}
 use Rattle.elf_hash.proofs.NamedLaws.{row_is}
 
--- what steps ask for, each a chain word, a symbol and a name
+-- what steps request, each a chain word, a symbol and a name
 pub steps_ask : (steps length : ℕ) → walk_bytes 4 steps steps (symbol_bytes length) ≡ 4 + steps * step_bytes length
 steps_ask steps length = omega arith
 

@@ -1,4 +1,4 @@
--- The trial of a symbol by its name: where the symbol stands, and what its name is compared with.
+-- The match of a symbol by its name: the symbol's offset, and what its name is compared with.
 use Rattle.std.proofs.Common.{◌≡◌, ℕ, ◌<◌, Bool, true, false, List, Option, None, Some, Result, Ok, Err, refl, ap, ◌∙◌, arith}
 use Rattle.elf_model.specs.Hash.{same_symbol, symbol_at}
 use Rattle.elf_model.specs.Names.{same}
@@ -15,7 +15,7 @@ use Rattle.elf_table.specs.Tables.{TableRange, StringTableRange, strings_in}
 use Rattle.elf_hash.specs.declared.answer.SymbolMatch.{SymbolMatch}
 use Rattle.elf_hash.specs.Trials.{SaysHasName, TriesSymbol}
 
--- the symbol, where its name is the wanted one
+-- the symbol, if its name is the wanted one
 abbrev pub picked : Sym → Result Bool Fault → Result (Option SymbolMatch) Fault
 picked symbol (Ok true) = Ok (Some (record { symbol = symbol; version = None }))
 picked symbol (Ok false) = Ok None
@@ -33,7 +33,7 @@ module _ (file : List ℕ) (symbols : TableRange) (names : StringTableRange) (wa
       let name : off ≡ st_name file (symbol_at file is.table index) = place ∙ (stands.st_name ∙ ap (st_name file) row_is) in
       rw (is.strings (omega arith), name, row_is) (ap (λ (f : ℕ → Result Bool Refusal). f index) is.says_so)
 
-  -- what is answered of the symbol by the comparison of its name
+  -- the result for the symbol by the comparison of its name
   pub tries :
       (symbol : Sym) (off place : ℕ) (equal : Result Bool Fault) → index < symbols.count
       → IsSym file (row_at symbols index) symbol → off ≡ symbol.st_name → place ≡ row_at symbols index

@@ -1,4 +1,4 @@
--- What a lookup is made in, by the section headers.
+-- The tables that a lookup searches, by the section headers.
 use Rattle.std.proofs.Common.{◌≡◌, ℕ, List, [], None, Some, Result, Ok, Err, refl, ap, ◌∙◌}
 use Rattle.elf_model.specs.LoaderScope.{HashStyle as IsHashKind, GnuTable, SysvTable, hash_section, scope_by_sections, section_checks, section_lookup_tables, version_checks, section_words, records_of_type, least_size}
 use Rattle.elf_model.specs.Find.{hash_checks_from}
@@ -32,7 +32,7 @@ module _ (file : List ℕ) where
   unfolding hash_section
   none_first none e = rw (none, e, hash_section) refl
 
-  -- what a lookup is made in, by that section
+  -- the tables that a lookup searches, by that section
   pub sections_none : hash_section file ≡ None → scope_by_sections file ≡ Err (record { at = 0x28; cause = NoHash })
   unfolding scope_by_sections
   sections_none e = rw (e, scope_by_sections) refl
@@ -44,7 +44,7 @@ module _ (file : List ℕ) where
   sections_find found e (Err (Refused refusal)) s = λ other. rw (e, s, scope_by_sections) refl
   sections_find found e (Err (Source fault at)) s = absurd s
 
--- what a section with a hash table answers, once its checks pass
+-- the result for a section with a hash table, once its checks pass
 pub section_is : (file : List ℕ) (kind : IsHashKind) (at : ℕ) (scope : LookupTables) (found : ℕ × (TableRange × StringTableRange)) (versions : VersionTables)
     → ChecksThenValue (hash_checks_from (least_size kind) file at) (AreHashed file at) (Ok found)
     → ChecksThenValue (version_checks file at) (AreVersions file (section_words file) (records_of_type file SHT_GNU_VERDEF Definition (records_of_type file SHT_GNU_VERNEED File []))) (Ok versions)

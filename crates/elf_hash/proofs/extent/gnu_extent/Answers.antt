@@ -1,4 +1,4 @@
--- The highest of the buckets' words, and the end of the chain that begins there.
+-- The largest bucket value, and the end of the chain that begins there.
 use Rattle.std.proofs.Common.{ℕ, sym, ap, ◌∙◌, arith}
 use Rattle.elf_model.specs.GnuHash.{gnu_first}
 use Rattle.elf_model.specs.Traits.{max_bucket, unfound}
