@@ -1,4 +1,4 @@
--- No segment that is gone by has a list of properties.
+-- No segment so far has a list of properties.
 use Rattle.std.proofs.Common.{◌≡◌, ◌-◌, ◌*◌, ◌≤◌, None}
 use Rattle.elf_model.specs.Cost.{sum_over}
 use Rattle.elf_model.specs.Properties.{listed_from, property_list}
