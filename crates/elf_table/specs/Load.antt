@@ -31,7 +31,7 @@ counts_of header = record {
 abbrev pub early_of : Ehdr → ℕ → ℕ → List Check
 early_of header size headers = early_checks_of (counts_of header) size headers
 
--- the program headers, where there are any, end within a source of this size
+-- the program headers, if there are any, end within a source of this size
 abbrev pub SegmentsInBounds : ℕ → Ehdr → Type 0
 SegmentsInBounds size header = 0 < header.e_phnum → header.e_phoff + 56 * header.e_phnum ≤ size
 

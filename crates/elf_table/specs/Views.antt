@@ -38,7 +38,7 @@ dynamic_of bytes at file_size place = rows_of file_size (p_offset bytes at) (p_f
 abbrev pub dynamic_table_at : List ℕ → ℕ → Result TableRange Fault
 dynamic_table_at file at = dynamic_of file at (length file) at
 
--- the bytes of the segment whose program header stands at an offset
+-- the bytes of the segment whose program header is at an offset
 abbrev pub byte_table_at : List ℕ → ℕ → Result TableRange Fault
 byte_table_at file at = byte_rows (length file) (p_offset file at) (p_filesz file at) at
 
