@@ -131,7 +131,7 @@ const X86_64_LETTERS: [(u64, u8); 1] = [(SHF_X86_64_LARGE, b'l')];
 /// The flags of every processor, and their letters.
 const PROCESSOR_LETTERS: [(u64, u8); 1] = [(SHF_EXCLUDE, b'E')];
 
-/// All flags that have letters.
+/// Returns all flags that have letters.
 #[tactic(auto, unfolding(crate::specs::Rows::section_flags, crate::specs::Rows::standard_section_flags, crate::specs::Rows::further_section_flags, crate::specs::Rows::gnu_section_flags, crate::specs::Rows::x86_64_section_flags, crate::specs::Rows::processor_section_flags))]
 fn flags_with_letters(naming: ConstantNames) -> u64
     ensures { result ≡ flags_with_letters (section_flags naming.gnu naming.machine) }

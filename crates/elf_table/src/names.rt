@@ -191,7 +191,7 @@ fn matches<S: Source>(
     }
 }
 
-// The same in pieces of `N` bytes.
+// Does the same in pieces of `N` bytes.
 fn match_pieces<S: Source, const N: usize>(
     src: &mut Counted<S>,
     start: u64,
