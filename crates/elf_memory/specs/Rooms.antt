@@ -1,7 +1,6 @@
 -- The number of header slots that a file needs.
 use Rattle.std.specs.Prelude.{ℕ, min, max, List, if◌then◌else◌}
-use Rattle.elf_model.specs.Checks.{pass, header_checks}
-use Rattle.elf_model.specs.Records.{e_phnum, e_shnum}
+use Rattle.elf_model.specs.Prelude.{e_phnum, e_shnum, header_checks, pass}
 
 -- the number of slots that a file needs under a limit on headers: the larger of the numbers of
 -- section headers and of program headers, at least one

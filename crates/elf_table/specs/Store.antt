@@ -1,7 +1,6 @@
 -- The store of headers, and what it holds of a file.
 use Rattle.std.specs.Prelude.{ℕ, zero, suc, ◌≡◌, ◌+◌, ◌*◌, ◌<◌, List, [], ◌∷◌, slice_index_or}
-use Rattle.elf_model.specs.Bytes.{slice}
-use Rattle.elf_model.specs.Records.{section_at, segment_at}
+use Rattle.elf_model.specs.Prelude.{section_at, segment_at, slice}
 
 -- the number of slots of a store, the number of loaded section headers, and the bytes of each of
 -- those; the same for the program headers

@@ -1,8 +1,7 @@
 -- The bytes so far have no NUL and are kept; what is left to search is paid for, and no byte after
 -- it was requested.
 use Rattle.std.proofs.Common.{◌≡◌, ℕ, ◌+◌, ◌-◌, ◌<◌, ◌≤◌, List, length, take, None, Some}
-use Rattle.elf_model.specs.Bytes.{slice}
-use Rattle.elf_model.specs.Names.{nul_in}
+use Rattle.elf_model.specs.Prelude.{nul_in, slice}
 use Rattle.elf_note.specs.Ahead.{IsAheadOf, IsOf, ReadsOnCredit}
 use Rattle.elf_note.proofs.read_ahead.ReadAhead.search.Given as goal
 
