@@ -65,7 +65,7 @@ pub fn symbol_prefix<R: Render>(
     put_name_or_decimal::<R>(line, b"place", 5, place_name(place, naming), place);
 }
 
-/// Does the same in a format that is known only at run time.
+/// Does the same as [`symbol_prefix`], in a format that is known only at run time.
 pub fn symbol_front_in(
     format: Format,
     front: &mut LinePrefix,

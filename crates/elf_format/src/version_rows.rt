@@ -49,7 +49,7 @@ pub fn symbol_version_prefix<R: Render>(front: &mut LinePrefix, section: u16, in
     put_text::<R>(line, b"hidden", 1, hidden_mark(word == number), b' ');
 }
 
-/// Does the same in a format that is known only at run time.
+/// Does the same as [`symbol_version_prefix`], in a format that is known only at run time.
 pub fn symbol_version_front_in(
     format: Format,
     front: &mut LinePrefix,
