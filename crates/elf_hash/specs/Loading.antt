@@ -10,14 +10,16 @@ use Rattle.elf_table.specs.declared.fault.Fault.TheVariants.{Refused, Source}
 abbrev pub segments_load_cost : List ℕ → ℕ → ℕ
 segments_load_cost file headers = FILE_HEADER_SIZE + cost_where (is_none (first_refusal (before_headers file headers))) (PROGRAM_HEADER_SIZE * e_phnum file)
 
--- for every source: the file is as long as it, and its program headers are loaded, no more than the store has slots
+-- for every source: the file is as long as it, and its program headers are loaded, no more than the
+-- store has slots
 pub record FitsSource (size : ℕ) (store : StoreState) (loaded : LoadedFile) : Type 0 where
   pub same_size : loaded.size ≡ size
   pub small : loaded.size < 2 ^ 63
   pub whole : store.segments ≡ loaded.header.e_phnum
   pub few : store.segments ≤ store.slots
 
--- the checks pass, and the store holds the program headers; or the first check that fails, unless a read failed
+-- the checks pass, and the store holds the program headers; or the first check that fails, unless a
+-- read failed
 abbrev pub LoadsSegments : List ℕ → ℕ → StoreState → Result LoadedFile Fault → Type 0
 LoadsSegments file headers store (Ok loaded) = (first_refusal (header_checks file ++ load_checks file headers) ≡ None) × HoldsProgramHeaders file loaded store
 LoadsSegments file headers store (Err (Refused refusal)) = (IsBudgetRefusal refusal → ⊥) → first_refusal (header_checks file ++ load_checks file headers) ≡ Some refusal

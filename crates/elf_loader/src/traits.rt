@@ -13,8 +13,8 @@ use elf_model::{Hardening, ProgramKind, Relro, SearchPath, SegmentTraits};
 use elf_record::numbers::{ET_CORE, ET_DYN, ET_EXEC, ET_REL, PT_INTERP};
 use elf_table::ExecutionView;
 
-/// The type of the segment that is read-only once it is relocated (Linux Standard Base Core, Program
-/// Header).
+/// The type of the segment that is read-only once it is relocated (Linux Standard Base Core,
+/// Program Header).
 const PT_GNU_RELRO: u32 = 0x6474_e552;
 /// The flag of DT_FLAGS for relocations that change a segment which is not writable (gABI 5,
 /// DT_FLAGS).

@@ -23,7 +23,7 @@ pub record BufferedTable : Type 0 where
 abbrev pub IsHeldOf : List ℕ → BufferedTable → Type 0
 IsHeldOf file h = h.whole ≡ true → h.bytes ≡ slice file h.table.at h.table.count
 
--- how many bytes are requested, of `want` bytes
+-- how many of n bytes are requested: none if they are held
 abbrev pub unheld : BufferedTable → ℕ → ℕ
 unheld h n = if h.whole then 0 else n
 

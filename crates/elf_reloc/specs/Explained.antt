@@ -51,7 +51,8 @@ ExplainsLoaded lack (Err fault) name = IsOfRead fault
 abbrev pub has_row : TableRange → ℕ → Bool
 has_row table at = let index = (at - table.at) / 24 in nat_lt index table.count && row_at table index == at
 
--- a section relocates another and has an entry at an offset, and refers to these symbols; or it does not
+-- a section relocates another and has an entry at an offset, and refers to these symbols; or it
+-- does not
 abbrev pub HasEntry : List ℕ → ℕ → ℕ → ℕ → Option (Option (TableRange × StringTableRange)) → Type 0
 HasEntry file section rela header None = relocates_at file section rela header ≡ false
 HasEntry file section rela header (Some linked) = (relocates_at file section rela header ≡ true) × RefersTo file header linked
@@ -70,7 +71,8 @@ abbrev pub EntryRead : List ℕ → ℕ → Result Rela Fault → Type 0
 EntryRead file at (Ok entry) = IsRela file at entry
 EntryRead file at (Err fault) = IsOfRead fault
 
--- the symbol that an entry names is symbol 0, or one of the linked table's, whose names are those of its string table
+-- the symbol that an entry names is symbol 0, or one of the linked table's, whose names are those
+-- of its string table
 pub record NamesEntrySymbol (file : List ℕ) (header rela : ℕ) (named : RelocationSymbol) : Type 0 where
   pub passed : first_refusal (symbol_checks file header rela) ≡ None
   pub zero : r_sym file rela ≡ 0 → (named.name ≡ 0) × (named.symbol ≡ None)

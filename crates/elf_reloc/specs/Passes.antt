@@ -36,7 +36,8 @@ ChecksEntries (Ok found) answer = answer ≡ Ok (found.rises, found.low)
 ChecksEntries (Err (Refused refusal)) answer = (IsBudgetRefusal refusal → ⊥) → answer ≡ Err refusal
 ChecksEntries (Err (Source fault at)) answer = Unit {0}
 
--- a window of n bytes at an offset may be patched: it lies inside the section, and the entries may be read
+-- a window of n bytes at an offset may be patched: it lies inside the section, and the entries may
+-- be read
 pub record MayPatch (src : CountedState) (target : ApplyTarget) (low n : ℕ) : Type 0 where
   pub opened : IsOpen src target.file.loaded target.file.store.now
   pub within : low + n ≤ target.size

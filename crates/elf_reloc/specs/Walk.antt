@@ -35,8 +35,8 @@ changes_left file target e =
 abbrev pub changes_all : List ℕ → TargetCode → List SectionChange
 changes_all file target = changes_from file target 0 (sections_of target)
 
--- how many entries for the target the section of an index has, by its header in the store: none unless it holds entries for
--- the target and passes its own checks
+-- how many entries for the target the section of an index has, by its header in the store: none
+-- unless it holds entries for the target and passes its own checks
 unfoldable pub entry_count_in : TargetCode → ℕ → ℕ
 entry_count_in target i =
     let bytes = row target.file.store.now i in

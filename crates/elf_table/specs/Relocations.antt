@@ -11,7 +11,8 @@ abbrev pub RefusedBy : List Check → Fault → Type 0
 RefusedBy checks (Refused refusal) = first_refusal checks ≡ Some refusal
 RefusedBy checks (Source fault at) = ⊥
 
--- the symbols of the section with this header, and the string table of their names; no bytes of an empty one
+-- the symbols of the section with this header, and the string table of their names; no bytes of an
+-- empty one
 pub record AreSymbols (file : List ℕ) (header : ℕ) (symbols : TableRange × StringTableRange) : Type 0 where
   pub counted : symbols.0.count ≡ entry_count file header SYMBOL_SIZE
   pub sized : symbols.0.entry ≡ SYMBOL_SIZE

@@ -21,7 +21,8 @@ pub record LinksToSymbols (f : SectionView) (section : ℕ) : Type 0 where
   pub small : sh_link (row f.store.now section) 0 < 2 ^ 16
   pub linked : (links (sections_in f) section && is_symbol_table (row f.store.now (sh_link (row f.store.now section) 0)) 0) ≡ true
 
--- THE VERSIONS OF SYMBOLS of a section that is not empty, and the symbols that it links to, by the headers in the store
+-- THE VERSIONS OF SYMBOLS of a section that is not empty, and the symbols that it links to, by the
+-- headers in the store
 pub record CountsVersions (f : SectionView) (section : ℕ) (table : TableRange) (count : ℕ) : Type 0 where
   pub entry : table.entry ≡ VERSYM_SIZE
   pub counted : table.count ≡ header_field (sections_in f) sh_size section / VERSYM_SIZE
