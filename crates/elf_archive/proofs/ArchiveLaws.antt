@@ -1,8 +1,9 @@
 -- The listing of an archive, by its magic string and its members.
 use Rattle.std.proofs.Common.{◌≡◌, ℕ, Bool, ◌+◌, ◌≤◌, List, [], ◌∷◌, length, None, Err, refl, arith}
-use Rattle.elf_model.specs.Prelude.{Fault as FaultItem, IsBudgetRefusal, ListingStyle, Refusal, archive_ceiling, archive_checks, archive_cost, archive_items, before_members, first_refusal, members_cost, members_of, walk_items}
+use Rattle.elf_model.specs.Prelude.{Fault as FaultItem, IsBudgetRefusal, ListingStyle, archive_ceiling, archive_checks, archive_cost, archive_items, before_members, first_refusal, members_cost, members_of, walk_items}
+use Rattle.elf_model.specs.declared.causes.Refusal.{Refusal}
 use Rattle.elf_model.proofs.ListingLemmas.{guarded-passes, guarded-fault}
-use Rattle.elf_table.specs.Prelude.{Fault}
+use Rattle.elf_table.specs.declared.fault.Fault.{Fault}
 use Rattle.elf_table.specs.declared.fault.Fault.TheVariants.{Refused}
 use Rattle.elf_archive.specs.Archives.{MagicRead}
 

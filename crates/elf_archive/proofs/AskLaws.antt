@@ -4,7 +4,8 @@ use Rattle.std.proofs.lemmas.Bool.Decides.{nat_tests}
 use Rattle.elf_model.specs.Prelude.{MemberWalkState, cost_where, header_cost, is_elsewhere, long_name_bytes, name_field, slice}
 use Rattle.elf_source.specs.Source.{CountedState, ReadsUpTo}
 use Rattle.elf_source.proofs.ReadsLaws.{ReadsUpTo-none, ReadsUpTo-then, ReadsUpTo-to, IsSourceFault-then, ExceedsBudget-then}
-use Rattle.elf_table.specs.Prelude.{Fault, IsReadFault}
+use Rattle.elf_table.specs.Prelude.{IsReadFault}
+use Rattle.elf_table.specs.declared.fault.Fault.{Fault}
 use Rattle.elf_table.specs.declared.fault.Fault.TheVariants.{Refused, Source}
 use Rattle.elf_archive.specs.Members.{AsksAtMost, member_name_cost}
 use Rattle.elf_archive.proofs.MemberLaws.{name-of}

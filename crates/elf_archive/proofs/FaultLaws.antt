@@ -1,13 +1,18 @@
 -- A check over members finds the first fault of them and of the walk.
 use Rattle.std.proofs.Common.{◌≡◌, ℕ, zero, suc, ◌+◌, ◌<◌, ◌≤◌, ◌^◌, false, List, length, Option, None, Some, Result, Ok, Err, option_map, refl, sym, ap, subst, ◌∙◌, inl, inr, ◌⊎◌, arith}
 use Rattle.std.specs.Prelude.{IfErr}
-use Rattle.elf_model.specs.Prelude.{IsBudgetRefusal, ListingStyle, Member, MemberWalkState, NextMember, OneMember, Refusal, archive_checks, archive_cost, archive_fault, before_members, behind, first_fault, first_refusal, header_cost, member_cost, member_fault, member_listing, members_cost, members_from, members_of, next_member, placed_after}
+use Rattle.elf_model.specs.Prelude.{IsBudgetRefusal, ListingStyle, Member, MemberWalkState, NextMember, OneMember, archive_checks, archive_cost, archive_fault, before_members, behind, first_fault, first_refusal, header_cost, member_cost, member_fault, member_listing, members_cost, members_from, members_of, next_member, placed_after}
+use Rattle.elf_model.specs.declared.causes.Refusal.{Refusal}
 use Rattle.elf_model.specs.Archive.{Ends, Broken}
 use Rattle.elf_model.proofs.BudgetLaws.{is_budget_fault}
 use Rattle.elf_source.specs.Prelude.{CountedState, OutState, ReadsUpTo, SetsLimit}
 use Rattle.elf_source.proofs.ReadsLaws.{ReadsUpTo-none, ReadsUpTo-then, ReadsUpTo-to}
-use Rattle.elf_options.specs.Prelude.{Caps, style_of}
-use Rattle.elf_table.specs.Prelude.{Fault, Out, RunFault, stop_of}
+use Rattle.elf_options.specs.Prelude.{style_of}
+use Rattle.elf_options.specs.declared.caps.Caps.{Caps}
+use Rattle.elf_table.specs.Prelude.{stop_of}
+use Rattle.elf_table.specs.declared.fault.Fault.{Fault}
+use Rattle.elf_table.specs.declared.run_fault.RunFault.TheVariants.{Out}
+use Rattle.elf_table.specs.declared.run_fault.RunFault.{RunFault}
 use Rattle.elf_table.specs.declared.fault.Fault.TheVariants.{Refused as Refuses, Source as Unread}
 use Rattle.elf_table.specs.declared.run_fault.RunFault.TheVariants.{Refused, Source}
 use Rattle.elf_listing.specs.Shows.{WroteUntilRefusal}

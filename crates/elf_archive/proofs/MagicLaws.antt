@@ -1,7 +1,9 @@
 -- The magic string of an archive.
 use Rattle.std.proofs.Common.{◌≡◌, ◌≢◌, ℕ, ◌^◌, ◌<◌, ◌≤◌, ◌==◌, true, false, nat_lt, List, length, None, Some, refl, arith}
 use Rattle.std.proofs.lemmas.Bool.Decides.{nat_tests}
-use Rattle.elf_model.specs.Prelude.{ARCHIVE_MAGIC, NotArchive, Refusal, THIN_MAGIC, Thin, archive_checks, archive_length_checks, field, first_refusal, slice}
+use Rattle.elf_model.specs.Prelude.{ARCHIVE_MAGIC, THIN_MAGIC, archive_checks, archive_length_checks, field, first_refusal, slice}
+use Rattle.elf_model.specs.declared.causes.Cause.TheVariants.{NotArchive, Thin}
+use Rattle.elf_model.specs.declared.causes.Refusal.{Refusal}
 use Rattle.elf_model.proofs.Slices.{field-slice}
 
 -- the number of the first eight bytes

@@ -1,14 +1,19 @@
 -- The report of an archive, and of one that a budget cuts short.
 use Rattle.std.proofs.Common.{◌≡◌, ℕ, Bool, ◌+◌, ◌^◌, ◌<◌, ◌≤◌, List, ◌∷◌, ◌++◌, length, None, Some, Result, Ok, Err, Option, refl, sym, ap, subst, ◌∙◌, inl, inr, ◌⊎◌, append-nil, arith}
 use Rattle.std.specs.Prelude.{IfSome}
-use Rattle.elf_model.specs.Prelude.{Budget, Fault as FaultItem, Format, IsArchiveBudgeted, IsReport, ListingItem, ListingStyle, Refusal, any_refused, archive_ceiling, archive_cost, archive_items, archive_length_checks, end_text, fault_of, first_refusal, lines_of, refusal_line, report_of}
+use Rattle.elf_model.specs.Prelude.{Fault as FaultItem, IsArchiveBudgeted, IsReport, ListingItem, ListingStyle, any_refused, archive_ceiling, archive_cost, archive_items, archive_length_checks, end_text, fault_of, first_refusal, lines_of, refusal_line, report_of}
+use Rattle.elf_model.specs.declared.causes.Cause.TheVariants.{Budget}
+use Rattle.elf_model.specs.declared.formats.Format.{Format}
+use Rattle.elf_model.specs.declared.causes.Refusal.{Refusal}
 use Rattle.elf_model.proofs.BudgetLaws.{is_budget_fault}
 use Rattle.elf_model.proofs.ListingLemmas.{listings_append}
 use Rattle.elf_source.specs.Prelude.{CountedState, ExceedsBudget, OutState, ReadsUpTo, SetsLimit, SinkTakesPrefix, SourceState, counted}
 use Rattle.elf_source.proofs.LimitLaws.{budget_below, late_budget, within_budget}
 use Rattle.elf_source.proofs.PutsLaws.{SinkTakes-then, SinkTakesPrefix-then, SinkTakesPrefix-more, SinkTakesPrefix-all}
-use Rattle.elf_options.specs.Prelude.{Caps, style_of}
-use Rattle.elf_table.specs.Prelude.{Out, RunFault}
+use Rattle.elf_options.specs.Prelude.{style_of}
+use Rattle.elf_options.specs.declared.caps.Caps.{Caps}
+use Rattle.elf_table.specs.declared.run_fault.RunFault.TheVariants.{Out}
+use Rattle.elf_table.specs.declared.run_fault.RunFault.{RunFault}
 use Rattle.elf_table.specs.declared.run_fault.RunFault.TheVariants.{Refused, Source}
 use Rattle.elf_listing.specs.Prelude.{IsNext, KeepsSourceUnlimited, ReturnsStop, WroteItems, WrotePrefix, WroteRefusal, WroteText, WroteUntilRefusal, WroteUntilStop}
 use Rattle.elf_listing.proofs.EachLaws.{lines_front}

@@ -1,7 +1,7 @@
 -- What is answered before the members of an archive, and of their data.
 use Rattle.std.specs.Prelude.{ℕ, ◌≡◌, List, None, Some, Result, Ok, Err}
 use Rattle.elf_model.specs.Prelude.{IsBudgetRefusal, archive_checks, first_refusal}
-use Rattle.elf_table.specs.Prelude.{Fault}
+use Rattle.elf_table.specs.declared.fault.Fault.{Fault}
 use Rattle.elf_table.specs.declared.fault.Fault.TheVariants.{Refused, Source}
 
 -- a read of the magic string answers that the file may be an archive, or the first check that fails

@@ -1,11 +1,16 @@
 -- What the calls did that list the members of an archive.
 use Rattle.std.specs.Prelude.{ℕ, ◌≡◌, ◌<◌, ◌≤◌, ◌+◌, ◌-◌, ◌^◌, min, Bool, false, List, [], ◌∷◌, Option, None, Some, Result, Ok, Err, IfErr, IfOk, IfSome}
-use Rattle.elf_model.specs.Prelude.{Fault, FileRange, IsArchiveBudgeted, IsBudgetRefusal, ListingItem, ListingStyle, Member, MemberWalkState, NextMember, OneMember, Refusal, allowance, any_refused, archive_ceiling, archive_length_checks, behind, first_refusal, header_cost, is_refused, member_cost, member_items, member_listing, next_member, placed_after, style_ceiling}
+use Rattle.elf_model.specs.Prelude.{Fault, FileRange, IsArchiveBudgeted, IsBudgetRefusal, ListingItem, ListingStyle, Member, MemberWalkState, NextMember, OneMember, allowance, any_refused, archive_ceiling, archive_length_checks, behind, first_refusal, header_cost, is_refused, member_cost, member_items, member_listing, next_member, placed_after, style_ceiling}
+use Rattle.elf_model.specs.declared.causes.Refusal.{Refusal}
 use Rattle.elf_model.specs.Archive.{Ends, Broken}
 use Rattle.elf_model.specs.Names.DisplayedName.{Whole}
-use Rattle.elf_source.specs.Prelude.{CountedState, DeferredLine, ExceedsBudget, FailsOutput, IsOutFault, IsSourceFault, IsWholeRange, KeepsDeferred, OutFault, OutGrows, OutState, ReadsUpTo}
-use Rattle.elf_options.specs.Prelude.{Caps, style_of}
-use Rattle.elf_table.specs.Prelude.{Out, RunFault}
+use Rattle.elf_source.specs.Prelude.{CountedState, ExceedsBudget, FailsOutput, IsOutFault, IsSourceFault, IsWholeRange, KeepsDeferred, OutGrows, OutState, ReadsUpTo}
+use Rattle.elf_source.specs.declared.holding_sink.DeferredLine.{DeferredLine}
+use Rattle.elf_source.specs.declared.faults.OutFault.{OutFault}
+use Rattle.elf_options.specs.Prelude.{style_of}
+use Rattle.elf_options.specs.declared.caps.Caps.{Caps}
+use Rattle.elf_table.specs.declared.run_fault.RunFault.TheVariants.{Out}
+use Rattle.elf_table.specs.declared.run_fault.RunFault.{RunFault}
 use Rattle.elf_table.specs.declared.run_fault.RunFault.TheVariants.{Refused, Source}
 use Rattle.elf_listing.specs.Prelude.{WroteSome, WroteText}
 use Rattle.elf_archive.specs.Members.{IsInBounds, IsMemberWalkInBounds}

@@ -1,6 +1,8 @@
 -- Members of an archive in memory, as a caller goes over them.
 use Rattle.std.specs.Prelude.{ℕ, ◌≡◌, ◌+◌, ◌≤◌, ◌==◌, not, true, false, List, length, Option, None, Some, Result, Ok, Err}
-use Rattle.elf_model.specs.Prelude.{Cause, DisplayedName, FileRange, Member, MemberWalkState, OneMember, Refusal, archive_checks, before_members, behind, bytes_in, capped, first_refusal, next_member, shown_as, slice}
+use Rattle.elf_model.specs.Prelude.{DisplayedName, FileRange, Member, MemberWalkState, OneMember, archive_checks, before_members, behind, bytes_in, capped, first_refusal, next_member, shown_as, slice}
+use Rattle.elf_model.specs.declared.causes.Cause.{Cause}
+use Rattle.elf_model.specs.declared.causes.Refusal.{Refusal}
 use Rattle.elf_model.specs.Archive.{Ends, Broken}
 use Rattle.elf_memory.specs.declared.name.ByteRange.{ByteRange}
 use Rattle.elf_archive.specs.declared.rows.MemberRow.{MemberRow}

@@ -1,6 +1,7 @@
 //! The first fault of an archive and its members.
 ghost use Rattle.std.specs.Prelude.{◌≡◌, ℕ, ◌+◌, ◌-◌, ◌^◌, ◌<◌, ◌≤◌, List, length, Some, IfErr};
-ghost use Rattle.elf_model.specs.Prelude.{Refusal as Refuses, allowance, archive_ceiling, archive_cost, archive_fault, archive_length_checks, before_members, first_refusal, members_cost};
+ghost use Rattle.elf_model.specs.Prelude.{allowance, archive_ceiling, archive_cost, archive_fault, archive_length_checks, before_members, first_refusal, members_cost};
+ghost use Rattle.elf_model.specs.declared.causes.Refusal.{Refusal as Refuses};
 ghost use Rattle.elf_options.specs.Permitted.{style_of};
 ghost use Rattle.elf_listing.specs.Reports.{KeepsSourceUnlimited};
 ghost use Rattle.elf_archive.specs.FirstFault.{FindsFault, FindsFirst, ReadTells, fault_from};

@@ -1,6 +1,7 @@
 //! The magic strings of an archive and of an ELF file.
 ghost use Rattle.std.specs.Prelude.{◌≡◌, ℕ, ◌^◌, ◌<◌, ◌≤◌, List, Some, Err, IfErr, IfOk, OnOk};
-ghost use Rattle.elf_model.specs.Prelude.{Refusal as Refuses, archive_length_checks, bytes_in, first_refusal, is_elf};
+ghost use Rattle.elf_model.specs.Prelude.{archive_length_checks, bytes_in, first_refusal, is_elf};
+ghost use Rattle.elf_model.specs.declared.causes.Refusal.{Refusal as Refuses};
 ghost use Rattle.elf_table.specs.Faults.{IsOfRead};
 ghost use Rattle.elf_archive.specs.Archives.{MagicRead};
 ghost use Rattle.elf_archive.specs.Members.{AsksAtMost, IsInBounds, extent_of};

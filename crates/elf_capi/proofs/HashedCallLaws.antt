@@ -1,6 +1,7 @@
 -- The symbols of a hash table in a file in memory, of which what its header tells of section headers is hidden or not.
 use Rattle.std.proofs.Common.{◌≡◌, ℕ, Bool, true, false, List, Option, Some, Err, refl, ap, ◌∙◌, arith}
-use Rattle.elf_model.specs.Prelude.{Refusal, looked_at}
+use Rattle.elf_model.specs.Prelude.{looked_at}
+use Rattle.elf_model.specs.declared.causes.Refusal.{Refusal}
 use Rattle.elf_source.specs.Source.{CountedState, SourceState, SetsLimit, file_by, honest}
 use Rattle.elf_table.specs.declared.fault.Fault.TheVariants.{Refused as Refuses}
 use Rattle.elf_capi.specs.Prelude.{FindsHashed, ReadsHashed, hashed_cost}

@@ -1,13 +1,18 @@
 -- The symbols that a hash table is of, stage by stage.
 use Rattle.std.proofs.Common.{◌≡◌, ℕ, ◌+◌, ◌*◌, ◌≤◌, min, List, [], ◌∷◌, Option, None, Some, Ok, Err, refl, sym, ap, subst, ◌∙◌, arith}
-use Rattle.elf_model.specs.Prelude.{LookupTables as IsScopeOf, Refusal, counts_check, first_refusal, hashed_symbol_count, lookup_tables_of, symbols_hashed}
-use Rattle.elf_hash.specs.Prelude.{FindsLookupTables, HasCounts, HashStyle, IsDynamicSymbols, IsLookupTables, IsPlaceIn, LookupTables, counts_bytes, extent_bytes, scope_cost}
+use Rattle.elf_model.specs.Prelude.{LookupTables as IsScopeOf, counts_check, first_refusal, hashed_symbol_count, lookup_tables_of, symbols_hashed}
+use Rattle.elf_model.specs.declared.causes.Refusal.{Refusal}
+use Rattle.elf_hash.specs.Prelude.{FindsLookupTables, HasCounts, IsDynamicSymbols, IsLookupTables, IsPlaceIn, counts_bytes, extent_bytes, scope_cost}
+use Rattle.elf_hash.specs.declared.hash_style.HashStyle.{HashStyle}
+use Rattle.elf_hash.specs.declared.lookup_tables.LookupTables.{LookupTables}
 use Rattle.elf_hash.specs.declared.hash_style.HashStyle.TheVariants.{Gnu, Sysv}
 use Rattle.elf_source.specs.Source.{CountedState}
 use Rattle.elf_table.proofs.LedgerLaws.{CallReads-then}
-use Rattle.elf_table.specs.Prelude.{CallReads, Fault, IsRead}
+use Rattle.elf_table.specs.Prelude.{CallReads, IsRead}
+use Rattle.elf_table.specs.declared.fault.Fault.{Fault}
 use Rattle.elf_table.specs.declared.fault.Fault.TheVariants.{Refused, Source}
-use Rattle.elf_capi.specs.Prelude.{PlacesHashed, ReturnsHashedRows, RowPosition, hashed_cost, hashed_of}
+use Rattle.elf_capi.specs.Prelude.{PlacesHashed, ReturnsHashedRows, hashed_cost, hashed_of}
+use Rattle.elf_capi.specs.declared.rows.RowPosition.{RowPosition}
 
 -- the counts have few bytes
 pub few_counts : (kind : HashStyle) → counts_bytes kind ≤ 16

@@ -1,13 +1,20 @@
 -- What a layout lacks, as it is told: the bytes of a symbol's name are few.
 use Rattle.std.proofs.Common.{◌≡◌, ℕ, ◌-◌, ◌<◌, ◌≤◌, ◌==◌, Bool, true, false, List, [], ◌++◌, length, length-take, take, drop, Option, None, Some, Result, Ok, Err, option_map, refl, sym, ap, arith}
-use Rattle.elf_model.specs.Prelude.{Cause, Cut, DisplayedName, ITEM_NAME_SIZE, IsBudgetRefusal, Layout, MissingAddress, MissingEntry, Refusal, explained, first_refusal, header_checks, lack_of, lack_with, linked_at, load_checks, missing, refused_in, resolved_symbol_name, section_at, shown, strings_of}
+use Rattle.elf_model.specs.Prelude.{Cut, DisplayedName, ITEM_NAME_SIZE, IsBudgetRefusal, Layout, MissingEntry, explained, first_refusal, header_checks, lack_of, lack_with, linked_at, load_checks, missing, refused_in, resolved_symbol_name, section_at, shown, strings_of}
+use Rattle.elf_model.specs.declared.causes.Cause.{Cause}
+use Rattle.elf_model.specs.declared.missing.MissingAddress.{MissingAddress}
+use Rattle.elf_model.specs.declared.causes.Refusal.{Refusal}
 use Rattle.elf_model.specs.Names.DisplayedName.{Whole}
 use Rattle.elf_model.proofs.NameLaws.{shown_cut, shown_whole}
 use Rattle.elf_source.specs.Source.{CountedState, SetsLimit}
-use Rattle.elf_table.specs.Prelude.{Cut as IsCut, IsReadRefusal, NameEnd, Whole as IsWhole, shown_by}
+use Rattle.elf_table.specs.Prelude.{IsReadRefusal, shown_by}
+use Rattle.elf_table.specs.declared.names.NameEnd.TheVariants.{Cut as IsCut, Whole as IsWhole}
+use Rattle.elf_table.specs.declared.names.NameEnd.{NameEnd}
 use Rattle.elf_reloc.specs.Explained.{explain_bytes, lack_as}
-use Rattle.elf_layout.specs.Prelude.{Follows, KeysAscend, LentName, MayBorrow, MayFollow, lent_name, name_order}
-use Rattle.elf_capi.specs.Prelude.{CallerMissing, CannotBeKnown, ReturnsSymbol, cut_number}
+use Rattle.elf_layout.specs.Prelude.{Follows, KeysAscend, MayBorrow, MayFollow, lent_name, name_order}
+use Rattle.elf_layout.specs.declared.lent.LentName.{LentName}
+use Rattle.elf_capi.specs.Prelude.{CannotBeKnown, ReturnsSymbol, cut_number}
+use Rattle.elf_capi.specs.declared.missing.CallerMissing.{CallerMissing}
 use Rattle.elf_capi.proofs.BudgetLaws.{rest_wanting, wanting}
 use Rattle.std.specs.declared.cmp.Ordering.{Ordering}
 

@@ -1,11 +1,16 @@
 -- What a sink over lent memory took is what stands at the front of the memory, and behind it.
-use Rattle.elf_options.specs.Prelude.{Caps, style_of}
+use Rattle.elf_options.specs.Prelude.{style_of}
+use Rattle.elf_options.specs.declared.caps.Caps.{Caps}
 use Rattle.std.proofs.Common.{◌≡◌, ℕ, List, [], ◌∷◌, ◌++◌, take, length, Option, None, Some, Result, Ok, Err, Bool, true, false, IsTrue, IsSome, is_some, IfErr, refl, sym, ap, ◌∙◌, subst, arith}
 use Rattle.std.proofs.lemmas.List.{take_all, append_assoc, append-nil}
 use Rattle.std.specs.Io.KnownBytes.{Appends}
-use Rattle.elf_model.specs.Prelude.{IsBudgeted, Refusal, without_sections}
-use Rattle.elf_source.specs.Prelude.{CountedState, Device, Ended, IsSourceFault, OutState, SourceFault, SourceState, file_by, honest, seen_by}
-use Rattle.elf_table.specs.Prelude.{Out, RunFault}
+use Rattle.elf_model.specs.Prelude.{IsBudgeted, without_sections}
+use Rattle.elf_model.specs.declared.causes.Refusal.{Refusal}
+use Rattle.elf_source.specs.Prelude.{CountedState, IsSourceFault, OutState, SourceState, file_by, honest, seen_by}
+use Rattle.elf_source.specs.declared.faults.SourceFault.TheVariants.{Device, Ended}
+use Rattle.elf_source.specs.declared.faults.SourceFault.{SourceFault}
+use Rattle.elf_table.specs.declared.run_fault.RunFault.TheVariants.{Out}
+use Rattle.elf_table.specs.declared.run_fault.RunFault.{RunFault}
 use Rattle.elf_table.specs.declared.run_fault.RunFault.TheVariants.{Refused, Source}
 use Rattle.elf_listing.specs.Reports.{WroteReport, FaultSays}
 use Rattle.elf_capi.specs.Prelude.{ListsInMemory, spared, status_from}

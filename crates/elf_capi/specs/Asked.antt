@@ -4,7 +4,9 @@ use Rattle.std.specs.Borrow.{Bor}
 use Rattle.std.specs.Cmp.Lexicographic.{slice_cmp}
 use Rattle.std.specs.Int.RustNames.{bit_and}
 use Rattle.std.specs.Ordering.{is_lt, nat_cmp}
-use Rattle.elf_model.specs.Prelude.{Columns, EveryRow, Format, ListingStyle, Object, RELOCS, SYMBOLS, VERSIONS, all_parts, are_all, field, has}
+use Rattle.elf_model.specs.Prelude.{EveryRow, ListingStyle, RELOCS, SYMBOLS, VERSIONS, all_parts, are_all, field, has}
+use Rattle.elf_model.specs.declared.formats.Format.TheVariants.{Columns, Object}
+use Rattle.elf_model.specs.declared.formats.Format.{Format}
 use Rattle.elf_options.specs.Prelude.{IsRowName, NeverDescend, named_style, texts_of}
 use Rattle.elf_capi.specs.declared.caller_listing.CallerListing.{CallerListing}
 

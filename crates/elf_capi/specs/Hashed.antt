@@ -1,8 +1,10 @@
 -- The symbols that a file's hash table is of, which a loader looks names up among.
 use Rattle.std.specs.Prelude.{ℕ, ◌≡◌, ◌+◌, ◌*◌, ◌<◌, List, Result, Ok, Err}
-use Rattle.elf_model.specs.Prelude.{DynamicSymbols, IsBudgetRefusal, Refusal, lookup_tables_of, symbols_hashed}
+use Rattle.elf_model.specs.Prelude.{DynamicSymbols, IsBudgetRefusal, lookup_tables_of, symbols_hashed}
+use Rattle.elf_model.specs.declared.causes.Refusal.{Refusal}
 use Rattle.elf_source.specs.Source.{CountedState}
-use Rattle.elf_table.specs.Prelude.{CallReads, Fault, fault_of_result, strings_in}
+use Rattle.elf_table.specs.Prelude.{CallReads, fault_of_result, strings_in}
+use Rattle.elf_table.specs.declared.fault.Fault.{Fault}
 use Rattle.elf_table.specs.declared.fault.Fault.TheVariants.{Refused, Source}
 use Rattle.elf_hash.specs.Prelude.{extent_bytes, scope_cost}
 use Rattle.elf_capi.specs.declared.rows.RowPosition.{RowPosition}

@@ -1,5 +1,7 @@
 -- What limits and room permit.
-use Rattle.elf_options.specs.Prelude.{AreHeaders, AreNameBytes, Caps, Limits as Permitted, style_of}
+use Rattle.elf_options.specs.Prelude.{AreHeaders, AreNameBytes, style_of}
+use Rattle.elf_options.specs.declared.caps.Caps.{Caps}
+use Rattle.elf_options.specs.declared.caps.Limits.{Limits as Permitted}
 use Rattle.std.specs.Prelude.{ℕ, ◌≡◌, ◌≤◌, ◌/◌, ◌==◌, min, true, false, Option, None, Some}
 use Rattle.elf_capi.specs.Asked.{caller_style}
 use Rattle.elf_capi.specs.declared.caller_listing.CallerListing.{CallerListing}

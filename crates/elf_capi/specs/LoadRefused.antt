@@ -1,6 +1,7 @@
 -- The checks of a file until its section headers are loaded.
 use Rattle.std.specs.Prelude.{ℕ, List, ◌++◌, Option}
-use Rattle.elf_model.specs.Prelude.{Refusal, first_refusal, header_checks, load_checks}
+use Rattle.elf_model.specs.Prelude.{first_refusal, header_checks, load_checks}
+use Rattle.elf_model.specs.declared.causes.Refusal.{Refusal}
 
 -- the first check that fails until a file's section headers are loaded, where so many headers are permitted
 abbrev pub load_refused : List ℕ → ℕ → Option Refusal

@@ -24,17 +24,3 @@ pub use Rattle.elf_capi.specs.TableOpenings.{ReadsRows, holds}
 pub use Rattle.elf_capi.specs.Told.{IsStatus, status_from}
 pub use Rattle.elf_capi.specs.VersionRecords.{AreRecords, GoesOnTo, IsVersionWord, StepsRecord, bytes_within, first_kind, kind_number, record_names, records_left, stand_as, standing_in, starting}
 pub use Rattle.elf_capi.specs.Within.{OpensAlways, OpensEntries, ReturnsEntries, StepsBudgeted}
-pub use Rattle.elf_capi.specs.declared.call_status.CallStatus.{CallStatus}
-pub use Rattle.elf_capi.specs.declared.call_status.CallStatus.TheVariants.{BadCall, Done, Full, Refused}
-pub use Rattle.elf_capi.specs.declared.caller_listing.CallerListing.{CallerListing}
-pub use Rattle.elf_capi.specs.declared.end.CallEnd.{CallEnd}
-pub use Rattle.elf_capi.specs.declared.items.CallerItem.{CallerItem}
-pub use Rattle.elf_capi.specs.declared.kind.RowKind.TheVariants.{Relocations, Symbols, VersionWords}
-pub use Rattle.elf_capi.specs.declared.lent_layout.CallerLayout.{CallerLayout}
-pub use Rattle.elf_capi.specs.declared.limits.CallerLimits.{CallerLimits}
-pub use Rattle.elf_capi.specs.declared.missing.CallerMissing.{CallerMissing}
-pub use Rattle.elf_capi.specs.declared.records.VersionRecordPosition.{VersionRecordPosition}
-pub use Rattle.elf_capi.specs.declared.relocations.Relocation.{Relocation}
-pub use Rattle.elf_capi.specs.declared.rows.RowPosition.{RowPosition}
-pub use Rattle.elf_capi.specs.declared.symbol.Symbol.{Symbol}
-pub use Rattle.elf_capi.specs.declared.version_words.Versym.{Versym}

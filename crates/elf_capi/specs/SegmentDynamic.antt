@@ -1,6 +1,7 @@
 -- The dynamic entries of a segment of a file in memory.
 use Rattle.std.specs.Prelude.{ℕ, ◌≡◌, ◌≢◌, ◌+◌, ◌*◌, ◌/◌, ◌<◌, ◌≤◌, ◌⊎◌, List, length, Option, None, Some, Result, Ok, Err}
-use Rattle.elf_model.specs.Prelude.{PT_DYNAMIC, Refusal, e_phnum, first_refusal, p_filesz, p_offset, p_type, segment_at, segment_dynamic_checks, unless_empty, whole_checks_of}
+use Rattle.elf_model.specs.Prelude.{PT_DYNAMIC, e_phnum, first_refusal, p_filesz, p_offset, p_type, segment_at, segment_dynamic_checks, unless_empty, whole_checks_of}
+use Rattle.elf_model.specs.declared.causes.Refusal.{Refusal}
 use Rattle.elf_memory.specs.Checked.{first_refused}
 use Rattle.elf_capi.specs.ListedEntries.{all_listed}
 use Rattle.elf_capi.specs.declared.rows.RowPosition.{RowPosition}

@@ -1,7 +1,11 @@
 -- The records of symbol versions of a file in memory, and the words of its symbols' versions.
 use Rattle.std.specs.Prelude.{ℕ, ◌≡◌, ◌+◌, ◌-◌, ◌^◌, ◌<◌, ◌≤◌, ◌==◌, ◌&&◌, ◌||◌, ◌⊎◌, min, nat_le, not, true, false, if◌then◌else◌, List, length, Option, None, Some, Result, Ok, Err}
-use Rattle.elf_model.specs.Prelude.{Definition, File, NEED_SIZE, Need, RecordCursorState, Refusal, SHT_GNU_VERDEF, SHT_GNU_VERNEED, VERSYM_SIZE, VersionKind, Versions, VisitedRecord, all_checks, e_shnum, first_refusal, flags_word, has_symbols, hash_word, linked_at, max_records, name_index, named_at, no_versions, number_in, number_word, section_at, section_versions, sh_link, sh_offset, sh_size, sh_type, version_table, versioned_count, versym, visited_from, with_visited}
-use Rattle.elf_table.specs.Prelude.{Fault, RefusedBy, StringTableRange, names_at, strings}
+use Rattle.elf_model.specs.Prelude.{NEED_SIZE, RecordCursorState, SHT_GNU_VERDEF, SHT_GNU_VERNEED, VERSYM_SIZE, Versions, VisitedRecord, all_checks, e_shnum, first_refusal, flags_word, has_symbols, hash_word, linked_at, max_records, name_index, named_at, no_versions, number_in, number_word, section_at, section_versions, sh_link, sh_offset, sh_size, sh_type, version_table, versioned_count, versym, visited_from, with_visited}
+use Rattle.elf_model.specs.declared.versions.VersionKind.TheVariants.{Definition, File, Need}
+use Rattle.elf_model.specs.declared.causes.Refusal.{Refusal}
+use Rattle.elf_model.specs.declared.versions.VersionKind.{VersionKind}
+use Rattle.elf_table.specs.Prelude.{RefusedBy, StringTableRange, names_at, strings}
+use Rattle.elf_table.specs.declared.fault.Fault.{Fault}
 use Rattle.elf_capi.specs.LoadRefused.{load_refused}
 use Rattle.elf_note.specs.declared.record_position.RecordPosition.{RecordPosition}
 use Rattle.elf_capi.specs.declared.record_row.RecordRow.{RecordRow}

@@ -1,6 +1,7 @@
 -- Rows within a budget: what is read counts, over all tables.
 use Rattle.std.specs.Prelude.{ℕ, ◌≡◌, ◌+◌, ◌-◌, ◌*◌, ◌/◌, ◌^◌, ◌==◌, min, nat_lt, if◌then◌else◌, Option, None, Some, Result, Ok, Err}
-use Rattle.elf_model.specs.Prelude.{Budget, Refusal}
+use Rattle.elf_model.specs.declared.causes.Cause.TheVariants.{Budget}
+use Rattle.elf_model.specs.declared.causes.Refusal.{Refusal}
 use Rattle.elf_capi.specs.ListedEntries.{ReadsListed}
 use Rattle.elf_capi.specs.Rows.{StepsRows, next_at, rows_left}
 use Rattle.elf_capi.specs.declared.rows.RowPosition.{RowPosition}

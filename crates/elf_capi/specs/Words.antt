@@ -1,6 +1,7 @@
 -- The words of causes, by their numbers.
 use Rattle.std.specs.Prelude.{ℕ, ◌≡◌, ◌<◌, ◌⊎◌, nat_lt, true, false, List, ◌++◌, length, drop, Option, None, Some}
-use Rattle.elf_model.specs.Prelude.{Cause, cause_word}
+use Rattle.elf_model.specs.Prelude.{cause_word}
+use Rattle.elf_model.specs.declared.causes.Cause.{Cause}
 use Rattle.elf_capi.specs.Causes.{cause_number}
 
 -- the cause of a number; none for 0, for the two numbers that no cause has, and for those above all causes

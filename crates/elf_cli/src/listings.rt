@@ -2,7 +2,8 @@
 ghost use Rattle.std.specs.Prelude.{◌≡◌, IfErr, IfOk, IfSome, None, Option, Some, false, map};
 ghost use Rattle.clap.specs.Walk.{rows_of};
 ghost use Rattle.clap.specs.Words.{found_of, subcommand_rows_of};
-ghost use Rattle.elf_options.specs.Prelude.{Limits, ListingStyle};
+ghost use Rattle.elf_options.specs.declared.caps.Limits.{Limits};
+ghost use Rattle.elf_options.specs.declared.caps.ListingStyle.{ListingStyle};
 ghost use Rattle.elf_cli.specs.Faults.{IsUnasked};
 ghost use Rattle.elf_cli.specs.Listings.{IsListing, NothingShown, ShowsBy};
 ghost use Rattle.elf_cli.specs.Listings.{ShowsNothing, WordsShow};

@@ -9,7 +9,8 @@ ghost use Rattle.elf_cli.specs.Options.{asked_format, has_gnu_option, is_part, i
 ghost use Rattle.elf_cli.specs.Options.{has_versions_option, gnu_option_is_missing, part_names};
 ghost use Rattle.elf_cli.specs.Options.{versions_without_gnu};
 ghost use Rattle.elf_record.specs.declared.parts.Parts.{Parts};
-ghost use Rattle.elf_options.specs.Prelude.{Limits, ListingStyle};
+ghost use Rattle.elf_options.specs.declared.caps.Limits.{Limits};
+ghost use Rattle.elf_options.specs.declared.caps.ListingStyle.{ListingStyle};
 
 use clap::ArgMatches;
 use elf_model::Format;

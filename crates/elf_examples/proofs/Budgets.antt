@@ -1,5 +1,7 @@
 -- What a budget allows, by the number of lines and the offset of the read; and what is shown, by what a budget allows.
-use Rattle.elf_model.specs.Prelude.{Answer, Columns, IsBudgetRefusal, IsBudgeted, IsCut, IsShown, ListingItem, Refusal, fault_of, items, lines_of, refusal_line, report, report_fault, show_answer, standard, status_of}
+use Rattle.elf_model.specs.Prelude.{Answer, IsBudgetRefusal, IsBudgeted, IsCut, IsShown, ListingItem, fault_of, items, lines_of, refusal_line, report, report_fault, show_answer, standard, status_of}
+use Rattle.elf_model.specs.declared.formats.Format.TheVariants.{Columns}
+use Rattle.elf_model.specs.declared.causes.Refusal.{Refusal}
 use Rattle.std.proofs.Common.{◌≡◌, ◌<◌, ◌⊎◌, ℕ, List, ◌++◌, length, take, drop, Option, None, Some, refl, ap, sym, ◌∙◌, inl, inr}
 use Rattle.std.proofs.Math.Seq.{take-append_seam}
 use Rattle.std.proofs.lemmas.List.{take-append-drop}

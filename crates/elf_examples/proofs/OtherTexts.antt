@@ -1,6 +1,9 @@
 -- Texts that no budget allows, one by one.
 use Rattle.std.proofs.Common.{◌≡◌, ◌<◌, ℕ, zero, suc, List, [], ◌∷◌, ◌++◌, take, Option, None, Some, refl, ap, sym, ◌∙◌, codes, slice_index, arith}
-use Rattle.elf_model.specs.Prelude.{Columns, Fault, IsCut, Line, ListingItem, Refusal, Short, cause_word, lines_of, refusal_line}
+use Rattle.elf_model.specs.Prelude.{Fault, IsCut, Line, ListingItem, cause_word, lines_of, refusal_line}
+use Rattle.elf_model.specs.declared.formats.Format.TheVariants.{Columns}
+use Rattle.elf_model.specs.declared.causes.Refusal.{Refusal}
+use Rattle.elf_model.specs.declared.causes.Cause.TheVariants.{Short}
 use Rattle.elf_model.proofs.OnLiterals.{on_literals}
 use Rattle.elf_examples.specs.ListedBudgets.{spent_at, OtherTextsAreNoCuts}
 use Rattle.elf_examples.proofs.Budgets.{CutAfter, cut_after}

@@ -1,6 +1,7 @@
 -- Worked examples: what the definitions give for files that are written out.
 use Rattle.std.specs.Prelude.{◌≡◌, codes}
-use Rattle.elf_model.specs.Prelude.{Columns, HEADER, bare_header, file_header_items, one_symbol_table, report_of}
+use Rattle.elf_model.specs.Prelude.{HEADER, bare_header, file_header_items, one_symbol_table, report_of}
+use Rattle.elf_model.specs.declared.formats.Format.TheVariants.{Columns}
 
 -- a bare file header is listed in one line
 abbrev pub BareHeaderLists : Type 0

@@ -1,6 +1,9 @@
 -- What a budget allows of an answer, of a file's state, and of what a search for a NUL keeps.
 use Rattle.std.specs.Prelude.{◌≡◌, ◌<◌, ℕ, true, false, List, [], ◌∷◌, Option, None, Some}
-use Rattle.elf_model.specs.Prelude.{Answer, Budget, Columns, FileStatus, IsAnswered, IsBytes, IsStateOf, ListingStyle, NulFound, fault_of, listing, refusal_line, state_of}
+use Rattle.elf_model.specs.Prelude.{Answer, IsAnswered, IsBytes, IsStateOf, ListingStyle, NulFound, fault_of, listing, refusal_line, state_of}
+use Rattle.elf_model.specs.declared.causes.Cause.TheVariants.{Budget}
+use Rattle.elf_model.specs.declared.formats.Format.TheVariants.{Columns}
+use Rattle.elf_model.specs.declared.states.FileStatus.{FileStatus}
 
 -- the line of a read at an offset that has no room in a budget, alone, with status 1
 abbrev pub budget_answer : ℕ → Answer

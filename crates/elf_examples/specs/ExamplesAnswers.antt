@@ -1,6 +1,7 @@
 -- Worked examples of the texts and statuses of `find`.
 use Rattle.std.specs.Prelude.{◌≡◌, ℕ, List, [], ◌∷◌, ◌++◌, codes}
-use Rattle.elf_model.specs.Prelude.{Columns, Object, find_answer, hash_file, hash_with_cycle, hash_with_end, one_symbol_table}
+use Rattle.elf_model.specs.Prelude.{find_answer, hash_file, hash_with_cycle, hash_with_end, one_symbol_table}
+use Rattle.elf_model.specs.declared.formats.Format.TheVariants.{Columns, Object}
 use Rattle.elf_examples.specs.ExamplesHash.{hash_comes_last}
 
 -- the answer of a lookup

@@ -1,6 +1,8 @@
 -- Worked examples of relocations applied.
 use Rattle.std.specs.Prelude.{◌≡◌, ℕ, ◌++◌, List, [], ◌∷◌, codes, Ok, Err}
-use Rattle.elf_model.specs.Prelude.{BadLink, Cause, EntrySize, Layout, NameOutside, NotRel, Overflow, PlaceOutside, SymbolIndex, TableOutside, Undefined, Unplaced, Unsupported, applied, apply_answer, defined_layout, empty_layout, entry_layout, falling_relocations, full_layout, linked_to_zero, little, one_call, overlapping_in_other_order, overlapping_relocations, placed_layout, relocated, relocation, rising_relocations, section_header, special_layout, third_overflows, two_relocation_sections, unplaced_layout, with_bytes, with_entries_header, with_symbol, zeros}
+use Rattle.elf_model.specs.Prelude.{Layout, applied, apply_answer, defined_layout, empty_layout, entry_layout, falling_relocations, full_layout, linked_to_zero, little, one_call, overlapping_in_other_order, overlapping_relocations, placed_layout, relocated, relocation, rising_relocations, section_header, special_layout, third_overflows, two_relocation_sections, unplaced_layout, with_bytes, with_entries_header, with_symbol, zeros}
+use Rattle.elf_model.specs.declared.causes.Cause.TheVariants.{BadLink, EntrySize, NameOutside, NotRel, Overflow, PlaceOutside, SymbolIndex, TableOutside, Undefined, Unplaced, Unsupported}
+use Rattle.elf_model.specs.declared.causes.Cause.{Cause}
 
 -- the bytes of section 1 with its relocations applied, with five headers permitted
 abbrev pub WritesSection : List ℕ → Layout → List ℕ → Type 0

@@ -1,7 +1,8 @@
 -- Worked examples of which fault of a relocation entry comes first, of the terms that each relocation type takes, and of
 -- what longer names cost.
 use Rattle.std.specs.Prelude.{◌≡◌, ℕ, ◌+◌, ◌*◌, ◌-◌, ◌^◌, ◌++◌, List, [], ◌∷◌, codes, replicate}
-use Rattle.elf_model.specs.Prelude.{ALL, BadLink, Compared, Layout, NameOutside, Overflow, PlaceOutside, RELOCS, SymbolIndex, Unplaced, Unsupported, apply_cost, cost, empty_layout, entry_layout, find_cost, full_layout, hash_with_cycle, layout_names_cost, little, one_call, one_symbol_table, overlapping_relocations, placed_layout, relocated, relocation, section_header, unplaced_layout, with_bytes, with_symbol, zeros}
+use Rattle.elf_model.specs.Prelude.{ALL, Compared, Layout, RELOCS, apply_cost, cost, empty_layout, entry_layout, find_cost, full_layout, hash_with_cycle, layout_names_cost, little, one_call, one_symbol_table, overlapping_relocations, placed_layout, relocated, relocation, section_header, unplaced_layout, with_bytes, with_symbol, zeros}
+use Rattle.elf_model.specs.declared.causes.Cause.TheVariants.{BadLink, NameOutside, Overflow, PlaceOutside, SymbolIndex, Unplaced, Unsupported}
 use Rattle.elf_examples.specs.ExamplesApply.{WritesSection, RefusesToApply}
 
 -- the type, the place, the symbol, its name, the section's address, the value: each entry here fails the next check as well;

@@ -1,6 +1,12 @@
 -- Worked examples of what a layout lacks where the entry of a call, at 0x48, is refused.
 use Rattle.std.specs.Prelude.{◌≡◌, ◌+◌, ℕ, List, [], ◌∷◌, ◌++◌, Option, None, Some, Ok, codes, replicate}
-use Rattle.elf_model.specs.Prelude.{Cause, Cut, Layout, LayoutAddress, Linkage, MissingAddress, Named, Overflow, Place, Table, Thread, Undefined, Unplaced, Unsupported, empty_layout, explained, explanation, little, missing, missing_line, one_call, placed_layout, refused_in, resolved_symbol_name, two_relocation_sections, with_bytes, with_symbol}
+use Rattle.elf_model.specs.Prelude.{Cut, Layout, empty_layout, explained, explanation, little, missing, missing_line, one_call, placed_layout, refused_in, resolved_symbol_name, two_relocation_sections, with_bytes, with_symbol}
+use Rattle.elf_model.specs.declared.causes.Cause.{Cause}
+use Rattle.elf_model.specs.declared.missing.LayoutAddress.{LayoutAddress}
+use Rattle.elf_model.specs.declared.relocation_types.RelocationBase.TheVariants.{Linkage, Table, Thread}
+use Rattle.elf_model.specs.declared.missing.MissingAddress.{MissingAddress}
+use Rattle.elf_model.specs.declared.missing.LayoutAddress.TheVariants.{Named, Place}
+use Rattle.elf_model.specs.declared.causes.Cause.TheVariants.{Overflow, Undefined, Unplaced, Unsupported}
 use Rattle.elf_model.specs.Names.DisplayedName.{Whole}
 
 -- what is missing at the entry of the call in a layout, whose section of entries has its header at 0x118

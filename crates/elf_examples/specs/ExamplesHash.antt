@@ -1,6 +1,8 @@
 -- Worked examples of lookups.
 use Rattle.std.specs.Prelude.{◌≡◌, ℕ, ◌++◌, List, [], ◌∷◌, codes}
-use Rattle.elf_model.specs.Prelude.{Absent, BadLink, Cause, EntrySize, Found, HashCycle, HashIndex, HashShape, NameOutside, NameUnended, NoHash, NotStrings, SizeNotWhole, TableOutside, find_cost, hash_file, hash_with_cycle, hash_with_end, little, looked, one_symbol_table, section_header, sysv_hash, with_bytes, with_hash_header, with_strings_header, with_symbols_header, zeros}
+use Rattle.elf_model.specs.Prelude.{Absent, Found, find_cost, hash_file, hash_with_cycle, hash_with_end, little, looked, one_symbol_table, section_header, sysv_hash, with_bytes, with_hash_header, with_strings_header, with_symbols_header, zeros}
+use Rattle.elf_model.specs.declared.causes.Cause.TheVariants.{BadLink, EntrySize, HashCycle, HashIndex, HashShape, NameOutside, NameUnended, NoHash, NotStrings, SizeNotWhole, TableOutside}
+use Rattle.elf_model.specs.declared.causes.Cause.{Cause}
 use Rattle.elf_model.specs.Hash.{Refused}
 
 -- the hashes of the empty name, `exit`, `printf` and `syscall`

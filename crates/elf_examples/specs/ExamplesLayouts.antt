@@ -1,6 +1,7 @@
 -- Worked examples of symbols in a layout, of what comes before relocation entries, and of what that costs.
 use Rattle.std.specs.Prelude.{◌≡◌, ℕ, List, codes, ◌+◌, ◌*◌, ◌-◌, ◌^◌, ◌++◌, pos, [], ◌∷◌, map, replicate, take, true, false, Ok, Err}
-use Rattle.elf_model.specs.Prelude.{ALL, BadClass, BadLink, Compared, Layout, NameOutside, NameUnended, NotRel, NotStrings, PlaceOutside, Short, TableOutside, TooManyHeaders, Undefined, Unplaced, Unsupported, applied, apply_cost, apply_cost_in_order, cost, defined_layout, empty_layout, entry_layout, little, numbers_from, offsets_never_fall, one_call, one_symbol_table, overlapping_relocations, placed_layout, relocated, relocation, section_header, two_relocation_sections, value, with_bytes, with_entries_header, with_symbol, zeros}
+use Rattle.elf_model.specs.Prelude.{ALL, Compared, Layout, applied, apply_cost, apply_cost_in_order, cost, defined_layout, empty_layout, entry_layout, little, numbers_from, offsets_never_fall, one_call, one_symbol_table, overlapping_relocations, placed_layout, relocated, relocation, section_header, two_relocation_sections, value, with_bytes, with_entries_header, with_symbol, zeros}
+use Rattle.elf_model.specs.declared.causes.Cause.TheVariants.{BadClass, BadLink, NameOutside, NameUnended, NotRel, NotStrings, PlaceOutside, Short, TableOutside, TooManyHeaders, Undefined, Unplaced, Unsupported}
 use Rattle.elf_examples.specs.ExamplesApply.{WritesSection, RefusesSection, RefusesToApply}
 
 -- an undefined symbol of no other binding than the weak one is 0

@@ -1,6 +1,8 @@
 -- Worked examples of lookups: longer hashes, tables with other counts, and what comes before a walk.
 use Rattle.std.specs.Prelude.{◌≡◌, ℕ, ◌+◌, List, ◌++◌, [], ◌∷◌, codes, flat_map, replicate, take}
-use Rattle.elf_model.specs.Prelude.{BadClass, BadLink, Columns, EntrySize, HashCycle, HashIndex, HashShape, NoHash, NotStrings, Short, TableOutside, TooManyHeaders, find_answer, find_cost, hash_file, hash_with_cycle, little, looked, numbers_from, one_symbol_table, section_header, symbol, sysv_hash, with_bytes, with_hash_header, with_strings_header, with_symbols_header, words, zeros}
+use Rattle.elf_model.specs.Prelude.{find_answer, find_cost, hash_file, hash_with_cycle, little, looked, numbers_from, one_symbol_table, section_header, symbol, sysv_hash, with_bytes, with_hash_header, with_strings_header, with_symbols_header, words, zeros}
+use Rattle.elf_model.specs.declared.causes.Cause.TheVariants.{BadClass, BadLink, EntrySize, HashCycle, HashIndex, HashShape, NoHash, NotStrings, Short, TableOutside, TooManyHeaders}
+use Rattle.elf_model.specs.declared.formats.Format.TheVariants.{Columns}
 use Rattle.elf_model.specs.Hash.{Refused}
 use Rattle.elf_examples.specs.ExamplesHash.{hash_comes_last, FindsSymbol, FindsNothing, RefusesLookup, ComparesNames}
 

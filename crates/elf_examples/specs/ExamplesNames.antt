@@ -1,6 +1,7 @@
 -- Worked examples of names in string tables.
 use Rattle.std.specs.Prelude.{◌≡◌, ℕ, List, [], ◌∷◌, ◌++◌, codes, true, false, Ok, Err}
-use Rattle.elf_model.specs.Prelude.{Cut, NameOutside, NameUnended, name_bytes, same, shown, zeros}
+use Rattle.elf_model.specs.Prelude.{Cut, name_bytes, same, shown, zeros}
+use Rattle.elf_model.specs.declared.causes.Cause.TheVariants.{NameOutside, NameUnended}
 use Rattle.elf_model.specs.Names.DisplayedName.{Whole}
 
 -- one name with a NUL on either side

@@ -1,7 +1,8 @@
 -- Worked examples of entries in other places: for another section, of another symbol, at the end of a section, beside other
 -- tables of symbols.
 use Rattle.std.specs.Prelude.{◌≡◌, ◌+◌, ◌*◌, ℕ, List, ◌++◌, [], ◌∷◌, codes, Ok}
-use Rattle.elf_model.specs.Prelude.{Compared, Layout, NameOutside, PlaceOutside, SymbolIndex, Undefined, Unplaced, applied, apply_cost, apply_cost_in_order, entry_layout, full_layout, little, one_call, overlapping_relocations, placed_layout, relocated, relocation, symbol, with_bytes, with_entries_header, zeros}
+use Rattle.elf_model.specs.Prelude.{Compared, Layout, applied, apply_cost, apply_cost_in_order, entry_layout, full_layout, little, one_call, overlapping_relocations, placed_layout, relocated, relocation, symbol, with_bytes, with_entries_header, zeros}
+use Rattle.elf_model.specs.declared.causes.Cause.TheVariants.{NameOutside, PlaceOutside, SymbolIndex, Undefined, Unplaced}
 use Rattle.elf_examples.specs.ExamplesApply.{WritesSection, RefusesSection, RefusesToApply}
 use Rattle.elf_examples.specs.ExamplesApplyOrder.{eight_relocated}
 

@@ -1,6 +1,9 @@
 -- Worked examples of words that are required.
 use Rattle.std.specs.Prelude.{◌≡◌, [], ◌∷◌, ◌++◌, codes, true, false, Some}
-use Rattle.elf_model.specs.Prelude.{Columns, Hardening, Object, ProgramKind, Required, lacking_text, traits_status, traits_text}
+use Rattle.elf_model.specs.Prelude.{Required, lacking_text, traits_status, traits_text}
+use Rattle.elf_model.specs.declared.formats.Format.TheVariants.{Columns, Object}
+use Rattle.elf_model.specs.declared.traits.Hardening.{Hardening}
+use Rattle.elf_model.specs.declared.traits.ProgramKind.{ProgramKind}
 use Rattle.elf_model.specs.declared.traits.ProgramKind.TheVariants as kind
 use Rattle.elf_model.specs.declared.traits.Relro.TheVariants as relro
 use Rattle.elf_model.specs.declared.traits.SearchPath.TheVariants as path

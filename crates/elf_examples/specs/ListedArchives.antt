@@ -1,6 +1,7 @@
 -- Listings of archives.
 use Rattle.std.specs.Prelude.{◌≡◌, ◌+◌, ◌*◌, [], ◌∷◌, ◌++◌, codes, take, true, false, None}
-use Rattle.elf_model.specs.Prelude.{ALL, Columns, EveryRow, HEADER, any_refused, archive, archive_ceiling, archive_cost, archive_items, archive_of, bare_header, fault_of, library, member, member_header, one_symbol_table, report, short_name, standard}
+use Rattle.elf_model.specs.Prelude.{ALL, EveryRow, HEADER, any_refused, archive, archive_ceiling, archive_cost, archive_items, archive_of, bare_header, fault_of, library, member, member_header, one_symbol_table, report, short_name, standard}
+use Rattle.elf_model.specs.declared.formats.Format.TheVariants.{Columns}
 
 -- the members alone: an index of symbols, a table of names, an odd size with its padding, a long name
 abbrev pub MembersList : Type 0

@@ -1,5 +1,8 @@
 -- Where a read budget ends a listing.
-use Rattle.elf_model.specs.Prelude.{ALL, Answer, Budget, Columns, Fault, HEADER, IsBudgetRefusal, IsBudgeted, IsCut, IsShown, Line, Refusal, Short, cost, fault_of, items, lines_of, one_symbol_table, refusal_line, report, report_fault, show_answer, standard}
+use Rattle.elf_model.specs.Prelude.{ALL, Answer, Fault, HEADER, IsBudgetRefusal, IsBudgeted, IsCut, IsShown, Line, cost, fault_of, items, lines_of, one_symbol_table, refusal_line, report, report_fault, show_answer, standard}
+use Rattle.elf_model.specs.declared.causes.Cause.TheVariants.{Budget, Short}
+use Rattle.elf_model.specs.declared.formats.Format.TheVariants.{Columns}
+use Rattle.elf_model.specs.declared.causes.Refusal.{Refusal}
 use Rattle.std.specs.Prelude.{ℕ, ◌≡◌, ◌<◌, ◌⊎◌, ◌++◌, List, [], ◌∷◌, length, take, Option, None, Some, codes}
 
 -- the refusal of a read at an offset, for want of budget

@@ -1,6 +1,8 @@
 -- Listings that end at the file header or at the load checks.
 use Rattle.std.specs.Prelude.{◌≡◌, ◌-◌, ◌^◌, [], ◌++◌, codes, take, map, replicate, Some, None}
-use Rattle.elf_model.specs.Prelude.{ALL, Columns, HEADER, Short, TooLong, bare_header, first_refusal, length_checks, little, numbers_from, one_load, one_symbol_table, refusal_line, report, with_bytes}
+use Rattle.elf_model.specs.Prelude.{ALL, HEADER, bare_header, first_refusal, length_checks, little, numbers_from, one_load, one_symbol_table, refusal_line, report, with_bytes}
+use Rattle.elf_model.specs.declared.formats.Format.TheVariants.{Columns}
+use Rattle.elf_model.specs.declared.causes.Cause.TheVariants.{Short, TooLong}
 
 -- a bare file header is one line, under any parts
 abbrev pub BareHeaderListsAlone : Type 0

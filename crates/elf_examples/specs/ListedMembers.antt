@@ -1,6 +1,8 @@
 -- Members of archives: their headers, their names, and their listings.
 use Rattle.std.specs.Prelude.{ℕ, ◌≡◌, ◌+◌, ◌*◌, ◌<◌, List, [], ◌∷◌, ◌++◌, codes, true, false, Option, None, Some}
-use Rattle.elf_model.specs.Prelude.{ALL, Columns, EveryRow, HEADER, IsArchiveBudgeted, IsBudgetRefusal, Refusal, SECTIONS, SYMBOLS, VERSIONS, any_refused, archive, archive_ceiling, archive_cost, archive_items, archive_of, bare_header, is_elf, is_name_table, library, little, member, member_header, one_symbol_table, padded_number, parsed_member_size, refusal_line, report, report_of, standard, with_bytes}
+use Rattle.elf_model.specs.Prelude.{ALL, EveryRow, HEADER, IsArchiveBudgeted, IsBudgetRefusal, SECTIONS, SYMBOLS, VERSIONS, any_refused, archive, archive_ceiling, archive_cost, archive_items, archive_of, bare_header, is_elf, is_name_table, library, little, member, member_header, one_symbol_table, padded_number, parsed_member_size, refusal_line, report, report_of, standard, with_bytes}
+use Rattle.elf_model.specs.declared.formats.Format.TheVariants.{Columns}
+use Rattle.elf_model.specs.declared.causes.Refusal.{Refusal}
 use Rattle.elf_examples.specs.ListedBudgets.{spent_at}
 use Rattle.elf_examples.specs.ListedBsdNames.{listed}
 

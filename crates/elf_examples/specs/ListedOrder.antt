@@ -1,6 +1,8 @@
 -- Which of several faults comes first, and a listing with a table of each kind.
 use Rattle.std.specs.Prelude.{◌≡◌, ℕ, ◌+◌, ◌*◌, ◌-◌, ◌^◌, ◌++◌, List, [], ◌∷◌, None, Some, codes, map, replicate, take}
-use Rattle.elf_model.specs.Prelude.{ALL, BadClass, BadData, BadLink, BadVersion, Cause, DYNAMIC, EntrySize, ExtendedNumbering, NOTES, NotElf, NotStrings, RELOCS, SYMBOLS, SizeNotWhole, TableOutside, TooManyHeaders, aligned_note, bare_header, build_note, cost, dynamic_table_checks, file_header, first_refusal, header_checks, library_without_sections, little, load_checks, needed_library, note_segment, object, one_call, one_segment, one_symbol_table, one_table, overlapping_relocations, plain_note, program_header, relocation, relocation_table_checks, report, section_header, symbol, symbol_table_checks, tagged, with_bytes, zeros}
+use Rattle.elf_model.specs.Prelude.{ALL, DYNAMIC, NOTES, RELOCS, SYMBOLS, aligned_note, bare_header, build_note, cost, dynamic_table_checks, file_header, first_refusal, header_checks, library_without_sections, little, load_checks, needed_library, note_segment, object, one_call, one_segment, one_symbol_table, one_table, overlapping_relocations, plain_note, program_header, relocation, relocation_table_checks, report, section_header, symbol, symbol_table_checks, tagged, with_bytes, zeros}
+use Rattle.elf_model.specs.declared.causes.Cause.TheVariants.{BadClass, BadData, BadLink, BadVersion, EntrySize, ExtendedNumbering, NotElf, NotStrings, SizeNotWhole, TableOutside, TooManyHeaders}
+use Rattle.elf_model.specs.declared.causes.Cause.{Cause}
 
 -- one symbol table with other bytes at 0x38: the program headers' number, the size and the number of section headers,
 -- and the section of the section names

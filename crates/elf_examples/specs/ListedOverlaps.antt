@@ -1,6 +1,7 @@
 -- Listings by the program headers of files whose LOAD segments lie over each other.
 use Rattle.std.specs.Prelude.{◌≡◌, ℕ, ◌+◌, ◌-◌, ◌^◌, true, false, List, [], ◌++◌, None, codes}
-use Rattle.elf_model.specs.Prelude.{ALL, Columns, DYNAMIC, EveryRow, ListingStyle, NOTES, SECTIONS, SEGMENTS, SYMBOLS, fault_of, listing, listing_cost, little, object, object_with, program_header, report, report_of, section_header, with_bytes}
+use Rattle.elf_model.specs.Prelude.{ALL, DYNAMIC, EveryRow, ListingStyle, NOTES, SECTIONS, SEGMENTS, SYMBOLS, fault_of, listing, listing_cost, little, object, object_with, program_header, report, report_of, section_header, with_bytes}
+use Rattle.elf_model.specs.declared.formats.Format.TheVariants.{Columns}
 
 abbrev by_segments : ListingStyle
 by_segments = record { cap = 63; gnu = false; by_segments = true; format = Columns; choice = EveryRow; versions = false }

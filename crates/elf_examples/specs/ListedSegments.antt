@@ -1,6 +1,7 @@
 -- Listings of notes and dynamic entries in files without sections: the program headers describe the tables.
 use Rattle.std.specs.Prelude.{◌≡◌, ℕ, ◌+◌, ◌-◌, ◌*◌, ◌^◌, true, false, List, [], ◌∷◌, ◌++◌, codes, take}
-use Rattle.elf_model.specs.Prelude.{ALL, Columns, DYNAMIC, EveryRow, ListingStyle, NOTES, SEGMENTS, SYMBOLS, aligned_note, ceiling, cost, library_strings, library_without_sections, listing, listing_cost, little, loaded, loaded_at, needed_with, object, object_with, one_segment, one_symbol_table, plain_note, program_header, report, report_of, section_header, tagged, with_bytes, zeros}
+use Rattle.elf_model.specs.Prelude.{ALL, DYNAMIC, EveryRow, ListingStyle, NOTES, SEGMENTS, SYMBOLS, aligned_note, ceiling, cost, library_strings, library_without_sections, listing, listing_cost, little, loaded, loaded_at, needed_with, object, object_with, one_segment, one_symbol_table, plain_note, program_header, report, report_of, section_header, tagged, with_bytes, zeros}
+use Rattle.elf_model.specs.declared.formats.Format.TheVariants.{Columns}
 
 abbrev needed_lines : List ℕ
 needed_lines =

@@ -1,6 +1,7 @@
 -- Listings of symbols.
 use Rattle.std.specs.Prelude.{◌≡◌, [], ◌++◌, codes, true, false}
-use Rattle.elf_model.specs.Prelude.{ALL, Columns, SYMBOLS, hash_with_cycle, little, named_line, odd_name, one_symbol_table, report, special_places, steps_line, symbol_prefix, tables_over_headers, with_bytes}
+use Rattle.elf_model.specs.Prelude.{ALL, SYMBOLS, hash_with_cycle, little, named_line, odd_name, one_symbol_table, report, special_places, steps_line, symbol_prefix, tables_over_headers, with_bytes}
+use Rattle.elf_model.specs.declared.formats.Format.TheVariants.{Columns}
 use Rattle.elf_model.specs.Names.DisplayedName.{Whole}
 
 -- one symbol table: the whole listing

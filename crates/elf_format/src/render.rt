@@ -1,5 +1,6 @@
 //! The two renderings of a line.
-ghost use Rattle.elf_model.specs.Prelude.{Columns as InColumns, Format as Spec, Object as AsObject};
+ghost use Rattle.elf_model.specs.declared.formats.Format.TheVariants.{Columns as InColumns, Object as AsObject};
+ghost use Rattle.elf_model.specs.declared.formats.Format.{Format as Spec};
 
 use elf_model::Format;
 

@@ -1,6 +1,8 @@
 -- Worked examples of the binding of names over two files, and of what a symbol asks others for.
 use Rattle.std.specs.Prelude.{ℕ, ◌≡◌, ◌+◌, ◌*◌, List, [], ◌∷◌, codes, Option, None, Some, Result, Ok, Err}
-use Rattle.elf_model.specs.Prelude.{Binding, BoundTo, BoundToNone, HashShape, NameOutside, NoVersion, Refusal, StoppedIn, SymbolQuery, Version, VersionCut, VersionIndex, VersionQuery, bound_in, definition_cost, definition_lookup, hostile_library, little, lookup_tables_of, reference_at, symbols_hashed, versioned_without_sections, with_bytes, without_sections, words}
+use Rattle.elf_model.specs.Prelude.{Binding, BoundTo, BoundToNone, NoVersion, StoppedIn, SymbolQuery, Version, VersionQuery, bound_in, definition_cost, definition_lookup, hostile_library, little, lookup_tables_of, reference_at, symbols_hashed, versioned_without_sections, with_bytes, without_sections, words}
+use Rattle.elf_model.specs.declared.causes.Cause.TheVariants.{HashShape, NameOutside, VersionCut, VersionIndex}
+use Rattle.elf_model.specs.declared.causes.Refusal.{Refusal}
 
 -- a library that defines two versions of `f` and needs one of `puts`, and a hostile one
 abbrev library : List ℕ

@@ -1,7 +1,10 @@
 -- Worked examples of what binds the symbols of some objects, and of the lines of that.
 use Rattle.std.specs.Prelude.{ℕ, ◌≡◌, true, false, if◌then◌else◌, List, [], ◌∷◌, ◌++◌, codes, Option, None, Some}
 use Rattle.std.specs.Str.{bytes_eq}
-use Rattle.elf_model.specs.Prelude.{BindingState, BoundItem, BoundObjects, Columns, Faulty, HashShape, NameOutside, Object, Told, any_unbound, bound_items, bound_text, little, needed_file, needed_version, versioned_without_sections, with_bytes}
+use Rattle.elf_model.specs.Prelude.{BoundItem, BoundObjects, Faulty, Told, any_unbound, bound_items, bound_text, little, needed_file, needed_version, versioned_without_sections, with_bytes}
+use Rattle.elf_model.specs.declared.states.BindingState.{BindingState}
+use Rattle.elf_model.specs.declared.formats.Format.TheVariants.{Columns, Object}
+use Rattle.elf_model.specs.declared.causes.Cause.TheVariants.{HashShape, NameOutside}
 use Rattle.elf_model.specs.declared.states.BindingState.TheVariants as state
 
 -- a library that asks for a version of `puts`, of a needed file, and defines two versions of `f`; with a weak `puts`; that asks

@@ -1,6 +1,8 @@
 -- Worked examples of the hash function of the GNU system, and of lookups in tables that stand alone.
 use Rattle.std.specs.Prelude.{◌≡◌, ℕ, ◌==◌, if◌then◌else◌, Bool, List, [], ◌∷◌, ◌++◌, codes, replicate, None, Some, Result, Ok, Err}
-use Rattle.elf_model.specs.Prelude.{HashIndex, HashTable, NameOutside, Refusal, gnu_hash, gnu_looked_up, little, with_bytes, words, zeros}
+use Rattle.elf_model.specs.Prelude.{HashTable, gnu_hash, gnu_looked_up, little, with_bytes, words, zeros}
+use Rattle.elf_model.specs.declared.causes.Cause.TheVariants.{HashIndex, NameOutside}
+use Rattle.elf_model.specs.declared.causes.Refusal.{Refusal}
 
 -- the hashes of the empty name, `f`, `printf`, `exit`, `syscall`, and of names whose hash has passed 32 bits often, of bytes
 -- above 127 too

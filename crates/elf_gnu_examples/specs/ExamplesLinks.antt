@@ -1,6 +1,8 @@
 -- Worked examples of what dynamic entries tell of how a file is linked, and of their refusals in order.
 use Rattle.std.specs.Prelude.{ℕ, ◌≡◌, ◌+◌, ◌*◌, List, [], ◌∷◌, codes, Option, None, Some, Result, Ok, Err}
-use Rattle.elf_model.specs.Prelude.{LinkState, LoadOverlap, NameOutside, NotElf, Refusal, Unmapped, links_ceiling, links_of, little, no_link_info, one_load, tagged, versioned_library, versioned_without_sections, with_bytes}
+use Rattle.elf_model.specs.Prelude.{LinkState, links_ceiling, links_of, little, no_link_info, one_load, tagged, versioned_library, versioned_without_sections, with_bytes}
+use Rattle.elf_model.specs.declared.causes.Cause.TheVariants.{LoadOverlap, NameOutside, NotElf, Unmapped}
+use Rattle.elf_model.specs.declared.causes.Refusal.{Refusal}
 
 -- how a file is linked, with room for three texts of twenty bytes
 abbrev LinksAre : List ℕ → Result LinkState Refusal → Type 0

@@ -1,6 +1,7 @@
 -- Worked examples of what is wanted: a name and a version; and of long names of versions.
 use Rattle.std.specs.Prelude.{◌≡◌, ℕ, ◌+◌, ◌*◌, true, false, List, [], ◌∷◌, ◌++◌, codes, replicate}
-use Rattle.elf_model.specs.Prelude.{Columns, DefaultVersion, NoVersion, Object, Version, find_answer, is_complete, little, loader_answer, loader_ceiling, parse_query, versioned_library, versioned_without_sections, with_bytes, words, zeros}
+use Rattle.elf_model.specs.Prelude.{DefaultVersion, NoVersion, Version, find_answer, is_complete, little, loader_answer, loader_ceiling, parse_query, versioned_library, versioned_without_sections, with_bytes, words, zeros}
+use Rattle.elf_model.specs.declared.formats.Format.TheVariants.{Columns, Object}
 use Rattle.elf_gnu_examples.specs.LoaderWords.{LoaderFinds, LoaderCosts, second_f, found_2}
 
 -- the text of a name alone, of a version behind one sign and behind two, and of versions that hold such signs

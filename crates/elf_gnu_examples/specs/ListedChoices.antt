@@ -1,6 +1,7 @@
 -- Worked examples of the rows of some names.
 use Rattle.std.specs.Prelude.{◌≡◌, ℕ, List, [], ◌∷◌, ◌++◌, codes, map, true, false}
-use Rattle.elf_model.specs.Prelude.{Columns, ListingStyle, RELOCS, RowsOf, SECTIONS, SYMBOLS, VERSIONS, archive_items, archive_of, cost, listing, listing_cost, little, member, most_bytes, one_call, one_symbol_table, report_of, standard, versioned_library, wanted_text, with_bytes}
+use Rattle.elf_model.specs.Prelude.{ListingStyle, RELOCS, RowsOf, SECTIONS, SYMBOLS, VERSIONS, archive_items, archive_of, cost, listing, listing_cost, little, member, most_bytes, one_call, one_symbol_table, report_of, standard, versioned_library, wanted_text, with_bytes}
+use Rattle.elf_model.specs.declared.formats.Format.TheVariants.{Columns}
 
 -- how the rows of some names are shown: so many bytes of a name as the longest has
 unfoldable pub rows_named : List (List ℕ) → ListingStyle

@@ -1,6 +1,8 @@
 -- Worked examples of the versions behind the names of symbols.
 use Rattle.std.specs.Prelude.{◌≡◌, ℕ, ◌+◌, ◌*◌, List, [], ◌∷◌, ◌++◌, codes, map, true, false}
-use Rattle.elf_model.specs.Prelude.{Columns, EveryRow, Format, ListingStyle, Object, RELOCS, RowFilter, RowsOf, SYMBOLS, listing, listing_cost, little, report_of, section_at, style_ceiling, suffixed_relocation_rows, suffixed_symbol_rows, versioned_library, wanted_text, with_bytes}
+use Rattle.elf_model.specs.Prelude.{EveryRow, ListingStyle, RELOCS, RowFilter, RowsOf, SYMBOLS, listing, listing_cost, little, report_of, section_at, style_ceiling, suffixed_relocation_rows, suffixed_symbol_rows, versioned_library, wanted_text, with_bytes}
+use Rattle.elf_model.specs.declared.formats.Format.TheVariants.{Columns, Object}
+use Rattle.elf_model.specs.declared.formats.Format.{Format}
 
 -- how rows are shown: with versions, so many bytes of a name, as a line is written and rows are chosen
 unfoldable pub with_versions : ℕ → Format → RowFilter → ListingStyle

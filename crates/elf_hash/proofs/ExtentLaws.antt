@@ -4,9 +4,12 @@ use Rattle.std.specs.Ordering.{ord_max}
 use Rattle.std.proofs.lemmas.Bool.Decides.{nat_tests}
 use Rattle.elf_model.specs.Prelude.{GnuTable, HashStyle, HashTable as Table, LookupTables, SysvTable, before_strings, chain_word, field, first_that, gnu_bucket_at, gnu_first, gnu_nbucket, gnu_symbols, hashed_symbol_count, is_chain_end, is_chained, is_last_in, max_bucket, sysv_nchain, unfound}
 use Rattle.elf_source.specs.Source.{CountedState}
-use Rattle.elf_table.specs.Prelude.{Advances, CallReads, CursorState, EndsRows, Fault, GivesRow, IsRead, TableRange, row_at, size_of, unread_bytes}
+use Rattle.elf_table.specs.Prelude.{Advances, CallReads, CursorState, EndsRows, GivesRow, IsRead, TableRange, row_at, size_of, unread_bytes}
+use Rattle.elf_table.specs.declared.fault.Fault.{Fault}
 use Rattle.elf_table.proofs.LedgerLaws.{CallReads-more}
-use Rattle.elf_hash.specs.Prelude.{EndsChain, GnuHashTable as Gnu, IsGnu, IsSysv, ReturnsExtent, SymbolsBegin, SysvHashTable as Sysv, extent_bytes, last_in}
+use Rattle.elf_hash.specs.Prelude.{EndsChain, IsGnu, IsSysv, ReturnsExtent, SymbolsBegin, extent_bytes, last_in}
+use Rattle.elf_hash.specs.declared.gnu_table.GnuHashTable.{GnuHashTable as Gnu}
+use Rattle.elf_hash.specs.declared.sysv_table.SysvHashTable.{SysvHashTable as Sysv}
 use Rattle.elf_hash.proofs.GnuSteps.{chain_is}
 
 -- the words of buckets, as a table

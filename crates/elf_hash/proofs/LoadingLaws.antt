@@ -6,7 +6,8 @@ use Rattle.elf_model.specs.Prelude.{before_headers, e_phnum, early_checks, first
 use Rattle.elf_model.proofs.CheckSteps.{first_refusal-none, first_refusal-some, passes_front}
 use Rattle.elf_model.proofs.SumLemmas.{cost_where-le}
 use Rattle.elf_record.specs.declared.ehdr.Ehdr.{Ehdr}
-use Rattle.elf_table.specs.Prelude.{Fault, HeaderRead, IsOfRead, LoadedAs, StoreState, early_of, load_cost}
+use Rattle.elf_table.specs.Prelude.{HeaderRead, IsOfRead, LoadedAs, StoreState, early_of, load_cost}
+use Rattle.elf_table.specs.declared.fault.Fault.{Fault}
 use Rattle.elf_table.specs.declared.fault.Fault.TheVariants.{Refused, Source}
 use Rattle.elf_hash.specs.Loading.{LoadsSegments, segments_load_cost}
 

@@ -4,9 +4,14 @@ use Rattle.elf_model.specs.Prelude.{ChainResult as NoteScan, Lookup as Looked, h
 use Rattle.elf_model.proofs.SysvWalkLaws.{sysv_walk_is_bounded, sysv_walk_is_lookup}
 use Rattle.elf_record.specs.Sym.{IsSym}
 use Rattle.elf_source.specs.Source.{CountedState}
-use Rattle.elf_table.specs.Prelude.{CallReads, Fault, fault_of_result, row_at}
+use Rattle.elf_table.specs.Prelude.{CallReads, fault_of_result, row_at}
+use Rattle.elf_table.specs.declared.fault.Fault.{Fault}
 use Rattle.elf_table.specs.declared.fault.Fault.TheVariants.{Refused, Source}
-use Rattle.elf_hash.specs.Prelude.{ChainMatch, ChainResult, GivesLookup as Finds, GivesWalked, HashSection, IsHashSection, LooksBySysv, SaysHasName, SymbolMatch, WalksChain, lookup_in, step_bytes, symbol_bytes, walk_bytes}
+use Rattle.elf_hash.specs.Prelude.{GivesLookup as Finds, GivesWalked, IsHashSection, LooksBySysv, SaysHasName, WalksChain, lookup_in, step_bytes, symbol_bytes, walk_bytes}
+use Rattle.elf_hash.specs.declared.chain_result.ChainMatch.{ChainMatch}
+use Rattle.elf_hash.specs.declared.chain_result.ChainResult.{ChainResult}
+use Rattle.elf_hash.specs.declared.hash_section.HashSection.{HashSection}
+use Rattle.elf_hash.specs.declared.answer.SymbolMatch.{SymbolMatch}
 use Rattle.elf_hash.proofs.NamedLaws.{row_is}
 
 -- what steps ask for, each a chain word, a symbol and a name

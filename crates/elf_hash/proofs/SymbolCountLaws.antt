@@ -1,7 +1,9 @@
 -- Where the symbols of a lookup begin, and their strings.
 use Rattle.std.proofs.Common.{◌≡◌, ℕ, ◌<◌, List, ◌∙◌, sym, arith}
 use Rattle.elf_model.specs.LoaderScope.{LookupTables}
-use Rattle.elf_hash.specs.Prelude.{DynamicSymbols, HashTable, IsDynamicSymbols, IsTable, SymbolsBegin, place_of_table}
+use Rattle.elf_hash.specs.Prelude.{IsDynamicSymbols, IsTable, SymbolsBegin, place_of_table}
+use Rattle.elf_hash.specs.declared.symbols.DynamicSymbols.{DynamicSymbols}
+use Rattle.elf_hash.specs.declared.table.HashTable.{HashTable}
 use Rattle.elf_hash.specs.declared.table.HashTable.TheVariants.{Gnu, Sysv}
 
 -- a table is of as many symbols as the definitions say

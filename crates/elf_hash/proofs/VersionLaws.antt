@@ -1,10 +1,17 @@
 -- The tables of versions by the section headers.
 use Rattle.std.proofs.Common.{◌≡◌, ℕ, ◌/◌, ◌<◌, ◌==◌, not, true, false, inl, inr, List, [], ◌∷◌, ◌++◌, length, Option, None, Some, Ok, Err, refl, sym, ap, ◌∙◌, arith, eq-eqb}
 use Rattle.std.proofs.lemmas.Bool.{cases_Bool, eqb-true}
-use Rattle.elf_model.specs.Prelude.{BadLink, Check, Definition, File, SHT_GNU_VERDEF, SHT_GNU_VERNEED, SHT_GNU_VERSYM, VERSYM_SIZE, VersionKind, VersionRecordTable as IsTableOf, VersymTable as IsWordsOf, all_checks, checks_of_type, first_of_type, first_refusal, has_bytes, range_checks_of, records_of_type, records_with, refuse, section_at, section_words, sh_link, sh_offset, sh_size, strings_checks, table_checks, unless_empty, version_checks, version_table, words_section}
-use Rattle.elf_table.specs.Prelude.{ChecksThenValue, Fault, RefusedBy, TableRange, byte_rows, rows, string_table_at, strings_in, table_at}
+use Rattle.elf_model.specs.Prelude.{Check, SHT_GNU_VERDEF, SHT_GNU_VERNEED, SHT_GNU_VERSYM, VERSYM_SIZE, VersionRecordTable as IsTableOf, VersymTable as IsWordsOf, all_checks, checks_of_type, first_of_type, first_refusal, has_bytes, range_checks_of, records_of_type, records_with, refuse, section_at, section_words, sh_link, sh_offset, sh_size, strings_checks, table_checks, unless_empty, version_checks, version_table, words_section}
+use Rattle.elf_model.specs.declared.causes.Cause.TheVariants.{BadLink}
+use Rattle.elf_model.specs.declared.versions.VersionKind.TheVariants.{Definition, File}
+use Rattle.elf_model.specs.declared.versions.VersionKind.{VersionKind}
+use Rattle.elf_table.specs.Prelude.{ChecksThenValue, RefusedBy, TableRange, byte_rows, rows, string_table_at, strings_in, table_at}
+use Rattle.elf_table.specs.declared.fault.Fault.{Fault}
 use Rattle.elf_table.proofs.RelocationLaws.{table-fails, table-passes}
-use Rattle.elf_hash.specs.Prelude.{AreInFront, AreVersionRecordTables, AreVersions, AreVersymTable, IsVersionRecordTable, IsVersymTable, VersionRecordTable, VersionTables, VersymTable, records_at, table_if_any, words_checks}
+use Rattle.elf_hash.specs.Prelude.{AreInFront, AreVersionRecordTables, AreVersions, AreVersymTable, IsVersionRecordTable, IsVersymTable, records_at, table_if_any, words_checks}
+use Rattle.elf_hash.specs.declared.symbols.VersionRecordTable.{VersionRecordTable}
+use Rattle.elf_hash.specs.declared.versions.VersionTables.{VersionTables}
+use Rattle.elf_hash.specs.declared.symbols.VersymTable.{VersymTable}
 use Rattle.elf_hash.proofs.SettleLaws.{checked_fails, checked_passes, none_refused, passed_both, refused_back, refused_front}
 
 -- the words of a section: its own checks

@@ -2,7 +2,8 @@
 use Rattle.std.specs.Prelude.{ℕ, suc, ◌≡◌, ◌+◌, ◌-◌, ◌*◌, ◌<◌, List, None, Some, Result}
 use Rattle.elf_model.specs.Prelude.{GnuTable, HashTable, LookupTables, SysvTable, first_that, gnu_nbucket, hashed_symbol_count, is_last_in}
 use Rattle.elf_source.specs.Source.{CountedState}
-use Rattle.elf_table.specs.Prelude.{CallReads, Fault, IsRead, fault_of_result}
+use Rattle.elf_table.specs.Prelude.{CallReads, IsRead, fault_of_result}
+use Rattle.elf_table.specs.declared.fault.Fault.{Fault}
 
 -- how many symbols there are up to the end of the chain that begins at a symbol index
 abbrev pub last_in : List ℕ → HashTable → ℕ → ℕ

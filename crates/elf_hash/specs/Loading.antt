@@ -2,7 +2,8 @@
 use Rattle.std.specs.Prelude.{ℕ, ◌≡◌, ◌+◌, ◌*◌, ◌^◌, ◌<◌, ◌≤◌, List, ◌++◌, is_none, None, Some, Result, Ok, Err}
 use Rattle.elf_model.specs.Prelude.{FILE_HEADER_SIZE, IsBudgetRefusal, PROGRAM_HEADER_SIZE, before_headers, cost_where, e_phnum, first_refusal, header_checks, load_checks}
 use Rattle.elf_source.specs.Source.{CountedState}
-use Rattle.elf_table.specs.Prelude.{CallReads, Fault, HoldsProgramHeaders, LoadedFile, StoreState, fault_of_result}
+use Rattle.elf_table.specs.Prelude.{CallReads, HoldsProgramHeaders, LoadedFile, StoreState, fault_of_result}
+use Rattle.elf_table.specs.declared.fault.Fault.{Fault}
 use Rattle.elf_table.specs.declared.fault.Fault.TheVariants.{Refused, Source}
 
 -- how many bytes it asks for: the file header, and where the early checks pass the program headers

@@ -16,22 +16,3 @@ pub use Rattle.elf_hash.specs.Tables.{ChecksHashSection, IsHashSection, IsPlaceO
 pub use Rattle.elf_hash.specs.Trials.{SaysHasName, TriesDefinedSymbol, TriesSymbol}
 pub use Rattle.elf_hash.specs.Versions.{AreInFront, AreVersions, records_at, words_checks}
 pub use Rattle.elf_hash.specs.Walks.{GivesWalked, HoldsHash, WalksChain, index_of, walk_bytes}
-pub use Rattle.elf_hash.specs.declared.answer.SymbolMatch.{SymbolMatch}
-pub use Rattle.elf_hash.specs.declared.answer.VersymEntry.{VersymEntry}
-pub use Rattle.elf_hash.specs.declared.chain_result.ChainMatch.{ChainMatch}
-pub use Rattle.elf_hash.specs.declared.chain_result.ChainResult.{ChainResult}
-pub use Rattle.elf_hash.specs.declared.dyn_entry.DynEntry.{DynEntry}
-pub use Rattle.elf_hash.specs.declared.dyn_entry.DynamicTags.{DynamicTags}
-pub use Rattle.elf_hash.specs.declared.gnu_table.GnuHashTable.{GnuHashTable}
-pub use Rattle.elf_hash.specs.declared.hash_section.HashSection.{HashSection}
-pub use Rattle.elf_hash.specs.declared.hash_style.HashStyle.{HashStyle}
-pub use Rattle.elf_hash.specs.declared.lookup.Lookup.{Lookup}
-pub use Rattle.elf_hash.specs.declared.lookup.Lookup.TheVariants.{Absent, Found}
-pub use Rattle.elf_hash.specs.declared.lookup_tables.LookupTables.{LookupTables}
-pub use Rattle.elf_hash.specs.declared.place.HashTableLocation.{HashTableLocation}
-pub use Rattle.elf_hash.specs.declared.symbols.DynamicSymbols.{DynamicSymbols}
-pub use Rattle.elf_hash.specs.declared.symbols.VersionRecordTable.{VersionRecordTable}
-pub use Rattle.elf_hash.specs.declared.symbols.VersymTable.{VersymTable}
-pub use Rattle.elf_hash.specs.declared.sysv_table.SysvHashTable.{SysvHashTable}
-pub use Rattle.elf_hash.specs.declared.table.HashTable.{HashTable}
-pub use Rattle.elf_hash.specs.declared.versions.VersionTables.{VersionTables}

@@ -1,7 +1,9 @@
 -- A hash table of either kind as a loader's lookup has it: its counts, and the walk in it for the first symbol that answers.
 use Rattle.std.specs.Prelude.{ℕ, ◌≡◌, ◌+◌, ◌≤◌, Bool, true, false, List, [], ◌∷◌, None, Some, Result, Ok, Err}
-use Rattle.elf_model.specs.Prelude.{ChainResult as NoteScan, GnuTable, IsBudgetRefusal, LookupTables, Refusal, SysvTable, counts_check, first_refusal, gnu_hash, gnu_looked_up, least_size, sysv_hash, sysv_walked}
-use Rattle.elf_table.specs.Prelude.{Fault, IsOfRead}
+use Rattle.elf_model.specs.Prelude.{ChainResult as NoteScan, GnuTable, IsBudgetRefusal, LookupTables, SysvTable, counts_check, first_refusal, gnu_hash, gnu_looked_up, least_size, sysv_hash, sysv_walked}
+use Rattle.elf_model.specs.declared.causes.Refusal.{Refusal}
+use Rattle.elf_table.specs.Prelude.{IsOfRead}
+use Rattle.elf_table.specs.declared.fault.Fault.{Fault}
 use Rattle.elf_table.specs.declared.fault.Fault.TheVariants.{Refused, Source}
 use Rattle.elf_hash.specs.Counts.{IsGnu, IsTablePlace, IsSysv}
 use Rattle.elf_hash.specs.HashStyles.{hash_style_of}

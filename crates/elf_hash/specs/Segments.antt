@@ -1,8 +1,13 @@
 -- The tables that a lookup searches, by the dynamic entries of a segment, stage by stage.
 use Rattle.std.specs.Prelude.{ℕ, ◌≡◌, ◌||◌, true, is_none, List, [], ◌++◌, Option, None, Some, Result, Ok, Err, IfOk}
-use Rattle.elf_model.specs.Prelude.{Check, DT_VERDEF, DT_VERNEED, Definition, File, LookupTables as IsScopeOf, NoHash, Refusal, VersionRecordTable as IsTableOf, checks_of_row, cost_where, d_un, dynamic_segment_index, first_refusal, hash_row, p_filesz, pass, records_of_tag, records_with, rest_checks, segment_at, segment_checks, segment_dynamic_checks, segment_lookup_tables, segment_strings, segment_strings_at, segment_symbols, segment_words, tagged_row, words_row}
+use Rattle.elf_model.specs.Prelude.{Check, DT_VERDEF, DT_VERNEED, LookupTables as IsScopeOf, VersionRecordTable as IsTableOf, checks_of_row, cost_where, d_un, dynamic_segment_index, first_refusal, hash_row, p_filesz, pass, records_of_tag, records_with, rest_checks, segment_at, segment_checks, segment_dynamic_checks, segment_lookup_tables, segment_strings, segment_strings_at, segment_symbols, segment_words, tagged_row, words_row}
+use Rattle.elf_model.specs.declared.versions.VersionKind.TheVariants.{Definition, File}
+use Rattle.elf_model.specs.declared.causes.Cause.TheVariants.{NoHash}
+use Rattle.elf_model.specs.declared.causes.Refusal.{Refusal}
 use Rattle.elf_source.specs.Source.{CountedState}
-use Rattle.elf_table.specs.Prelude.{CallDid, CallReads, ExecutionView, Fault, HoldsProgramHeaders, fault_of_result}
+use Rattle.elf_table.specs.Prelude.{CallDid, CallReads, HoldsProgramHeaders, fault_of_result}
+use Rattle.elf_table.specs.declared.segment_view.ExecutionView.{ExecutionView}
+use Rattle.elf_table.specs.declared.fault.Fault.{Fault}
 use Rattle.elf_hash.specs.HashStyles.{hash_style_of}
 use Rattle.elf_hash.specs.LookupTablesFound.{FindsLookupTables, LookupTablesInBounds}
 use Rattle.elf_hash.specs.Symbols.{IsDynamicSymbols}

@@ -1,6 +1,8 @@
 -- The tables of versions by the section headers: their checks, and what they are.
 use Rattle.std.specs.Prelude.{ℕ, ◌==◌, not, List, [], ◌∷◌, ◌++◌, Option, IfSome}
-use Rattle.elf_model.specs.Prelude.{BadLink, Check, VERSYM_SIZE, VersionKind, VersionRecordTable as IsTableOf, VersymTable as IsWordsOf, checks_of_section, records_with, refuse, sh_link, sh_offset, sh_size, strings_of, table_checks, unless_empty, words_section}
+use Rattle.elf_model.specs.Prelude.{Check, VERSYM_SIZE, VersionRecordTable as IsTableOf, VersymTable as IsWordsOf, checks_of_section, records_with, refuse, sh_link, sh_offset, sh_size, strings_of, table_checks, unless_empty, words_section}
+use Rattle.elf_model.specs.declared.causes.Cause.TheVariants.{BadLink}
+use Rattle.elf_model.specs.declared.versions.VersionKind.{VersionKind}
 use Rattle.elf_table.specs.Tables.{TableInBounds}
 use Rattle.elf_hash.specs.Symbols.{AreVersymTable, AreVersionRecordTables, VersionRecordsInBounds, table_if_any}
 use Rattle.elf_hash.specs.declared.symbols.VersionRecordTable.{VersionRecordTable}

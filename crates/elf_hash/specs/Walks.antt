@@ -2,7 +2,8 @@
 use Rattle.std.specs.Prelude.{ℕ, ◌≡◌, ◌+◌, ◌*◌, ◌<◌, ◌≤◌, true, false, List, Option, None, Some, Result, Ok, Err, IfSome}
 use Rattle.elf_model.specs.Prelude.{ChainResult as NoteScan, IsBudgetRefusal, gnu_start, holds_none}
 use Rattle.elf_source.specs.Source.{CountedState}
-use Rattle.elf_table.specs.Prelude.{CallReads, Fault, IsOfRead, fault_of_result}
+use Rattle.elf_table.specs.Prelude.{CallReads, IsOfRead, fault_of_result}
+use Rattle.elf_table.specs.declared.fault.Fault.{Fault}
 use Rattle.elf_table.specs.declared.fault.Fault.TheVariants.{Refused, Source}
 use Rattle.elf_hash.specs.declared.answer.SymbolMatch.{SymbolMatch}
 use Rattle.elf_hash.specs.declared.chain_result.ChainMatch.{ChainMatch}

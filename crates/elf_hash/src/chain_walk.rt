@@ -3,7 +3,8 @@ ghost use Rattle.std.specs.Prelude.{◌≡◌, ℕ, ◌+◌, ◌/◌, ◌≤◌,
 ghost use Rattle.elf_table.specs.Ledger.{CallDid, fault_of_result};
 ghost use Rattle.elf_hash.specs.SearchedTables.{HasCounts, IsPlaceIn, IsTable, HashTableInBounds, ReturnsExcluded, counts_bytes, place_of_table, walked_in};
 ghost use Rattle.elf_hash.specs.Walks.{WalksChain, walk_bytes};
-ghost use Rattle.elf_model.specs.Prelude.{LookupTables, Refusal};
+ghost use Rattle.elf_model.specs.Prelude.{LookupTables};
+ghost use Rattle.elf_model.specs.declared.causes.Refusal.{Refusal};
 
 use crate::chain_result::ChainResult;
 use crate::gnu_walk::{gnu_walk, start};

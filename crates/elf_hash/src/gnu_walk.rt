@@ -4,7 +4,8 @@ ghost use Rattle.elf_table.specs.Ledger.{CallDid, fault_of_result};
 ghost use Rattle.elf_hash.specs.Counts.{IsGnu};
 ghost use Rattle.elf_hash.specs.Trials.{TriesDefinedSymbol};
 ghost use Rattle.elf_hash.specs.Walks.{HoldsHash, Starts, WalksChain, walk_bytes};
-ghost use Rattle.elf_model.specs.Prelude.{HashTable as Place, Refusal, cost_where, gnu_looked_up, hash_bits_match, is_chain_end, is_set};
+ghost use Rattle.elf_model.specs.Prelude.{HashTable as Place, cost_where, gnu_looked_up, hash_bits_match, is_chain_end, is_set};
+ghost use Rattle.elf_model.specs.declared.causes.Refusal.{Refusal};
 
 use crate::answer::SymbolMatch;
 use crate::chain_result::{ChainMatch, ChainResult};

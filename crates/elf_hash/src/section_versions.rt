@@ -1,6 +1,7 @@
 //! The tables of versions by the section headers.
 ghost use Rattle.std.specs.Prelude.{◌≡◌, ◌<◌, ◌^◌, ℕ, List, [], IfErr, IfSome};
-ghost use Rattle.elf_model.specs.Prelude.{Definition, File as NeededFile, Need, SHT_GNU_VERDEF, SHT_GNU_VERNEED, all_checks, checks_of_type, has_bytes, records_of_type, section_at, section_words, sh_link, version_checks, version_table, words_section};
+ghost use Rattle.elf_model.specs.Prelude.{SHT_GNU_VERDEF, SHT_GNU_VERNEED, all_checks, checks_of_type, has_bytes, records_of_type, section_at, section_words, sh_link, version_checks, version_table, words_section};
+ghost use Rattle.elf_model.specs.declared.versions.VersionKind.TheVariants.{Definition, File as NeededFile, Need};
 ghost use Rattle.elf_table.specs.Prelude.{ChecksThenValue, HoldsSectionHeaders, StringsInBounds, TableInBounds, string_table_at};
 ghost use Rattle.elf_hash.specs.Headers.{FindsIn, HasHeader};
 ghost use Rattle.elf_hash.specs.Symbols.{AreVersymTable, IsVersionRecordTable, VersionRecordsInBounds};

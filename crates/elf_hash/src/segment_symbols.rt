@@ -1,6 +1,7 @@
 //! The symbols and the tables of versions by the program headers.
 ghost use Rattle.std.specs.Prelude.{◌≡◌, ◌/◌, ◌<◌, ◌≤◌, ◌^◌, ℕ, List, IfSome, option_map};
-ghost use Rattle.elf_model.specs.Prelude.{Need, checks_of_row, records_of_tag, rest_checks, rows_checks, segment_at, segment_strings, segment_words, tagged_row, words_row};
+ghost use Rattle.elf_model.specs.Prelude.{checks_of_row, records_of_tag, rest_checks, rows_checks, segment_at, segment_strings, segment_words, tagged_row, words_row};
+ghost use Rattle.elf_model.specs.declared.versions.VersionKind.TheVariants.{Need};
 ghost use Rattle.elf_table.specs.Prelude.{ChecksThenValue, HoldsProgramHeaders, StringsInBounds, strings_in};
 ghost use Rattle.elf_hash.specs.Entries.{AreTaggedEntries, dynamic_entry_at};
 ghost use Rattle.elf_hash.specs.Headers.{FindsIn};

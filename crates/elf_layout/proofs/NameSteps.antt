@@ -7,8 +7,11 @@ use Rattle.std.proofs.lemmas.Cmp.{nat_list_cmp_total, tied_itself}
 use Rattle.std.proofs.lemmas.List.{get_or_default, get_or-take, take-append-drop, take-take, take_all}
 use Rattle.std.proofs.lemmas.Map.Text.{is_eq-slice_cmp}
 use Rattle.std.proofs.lemmas.Slice.Eq.{bytes_eq-Decides, starts_is}
-use Rattle.elf_model.specs.Prelude.{Cause, NameUnended, address_named, begins, longest, same, slice}
-use Rattle.elf_layout.specs.Prelude.{BeginsAt, BeginsWith, FindsKey, IsAddressAt, IsName, LentName, MayBorrow, MayFollow, lent_name, name_order, named, search_end}
+use Rattle.elf_model.specs.Prelude.{address_named, begins, longest, same, slice}
+use Rattle.elf_model.specs.declared.causes.Cause.{Cause}
+use Rattle.elf_model.specs.declared.causes.Cause.TheVariants.{NameUnended}
+use Rattle.elf_layout.specs.Prelude.{BeginsAt, BeginsWith, FindsKey, IsAddressAt, IsName, MayBorrow, MayFollow, lent_name, name_order, named, search_end}
+use Rattle.elf_layout.specs.declared.lent.LentName.{LentName}
 use Rattle.std.specs.Cmp.Lexicographic.{pointwise}
 use Rattle.std.specs.Ordering.{ord_max}
 use Rattle.elf_layout.proofs.LentSteps.{front_falls}

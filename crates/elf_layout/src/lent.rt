@@ -3,7 +3,8 @@ ghost use Rattle.std.specs.Prelude.{◌≡◌, ◌≢◌, ◌≤◌, ◌<◌, �
 ghost use Rattle.std.specs.Prelude.{IfOk, IfErr, [], length, slice_index, slice_index_or, take};
 ghost use Rattle.std.specs.Ordering.{nat_cmp};
 ghost use Rattle.std.specs.declared.cmp.Ordering.TheVariants.{Less};
-ghost use Rattle.elf_model.specs.Prelude.{NameUnended, Searched, address_in, address_named, longest, lookup_cost, pad64, slice};
+ghost use Rattle.elf_model.specs.Prelude.{Searched, address_in, address_named, longest, lookup_cost, pad64, slice};
+ghost use Rattle.elf_model.specs.declared.causes.Cause.TheVariants.{NameUnended};
 ghost use Rattle.elf_layout.specs.Layouts.{IsName};
 ghost use Rattle.elf_layout.specs.Lent.{BeginsWith, BeginsAt, FindsKey, Follows, IsAddressAt};
 ghost use Rattle.elf_layout.specs.Lent.{MayFollow, MayBorrow, KeysAscend};

@@ -1,11 +1,16 @@
 -- What a listing asks for within its budget.
 use Rattle.std.proofs.Common.{subst, ◌≡◌, ℕ, ◌+◌, ◌^◌, ◌<◌, ◌≤◌, false, Option, None, Some, Result, Err, refl, sym, ap, ◌∙◌, arith}
 use Rattle.std.specs.Prelude.{IfSome}
-use Rattle.elf_model.specs.Prelude.{Format, Refusal, first_refusal, has_tables, known_parts, length_checks, style_ceiling}
+use Rattle.elf_model.specs.Prelude.{first_refusal, has_tables, known_parts, length_checks, style_ceiling}
+use Rattle.elf_model.specs.declared.formats.Format.{Format}
+use Rattle.elf_model.specs.declared.causes.Refusal.{Refusal}
 use Rattle.elf_source.specs.Prelude.{CountedState, ExceedsBudget, OutState, ReadsUpTo, SetsLimit, SourceState, counted}
 use Rattle.elf_source.proofs.LimitLaws.{late_budget, within_budget}
-use Rattle.elf_table.specs.Prelude.{IsReadRefusal, Out, RunFault}
-use Rattle.elf_options.specs.Prelude.{Caps, style_of}
+use Rattle.elf_table.specs.Prelude.{IsReadRefusal}
+use Rattle.elf_table.specs.declared.run_fault.RunFault.TheVariants.{Out}
+use Rattle.elf_table.specs.declared.run_fault.RunFault.{RunFault}
+use Rattle.elf_options.specs.Prelude.{style_of}
+use Rattle.elf_options.specs.declared.caps.Caps.{Caps}
 use Rattle.elf_table.specs.declared.run_fault.RunFault.TheVariants.{Refused, Source}
 use Rattle.elf_listing.specs.Prelude.{AsksWithin, FaultSays, ReturnsStop, StopSays}
 

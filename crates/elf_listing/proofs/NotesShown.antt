@@ -1,13 +1,19 @@
 -- The notes of a table, by what is left of them.
 use Rattle.std.proofs.Common.{◌≡◌, ℕ, ◌+◌, zero, suc, Bool, true, Option, None, Some, Ok, List, [], ◌∷◌, ◌++◌, inl, inr, length, drop, refl, sym, ap, ◌∙◌, arith, append_assoc, append-nil, add-zero, zero-add}
-use Rattle.elf_model.specs.Prelude.{DisplayedName, Fault as FaultItem, Line, ListingItem, ListingStyle, NextNote, Note, NoteCut, NoteScan, OneNote, next_note, note_line, note_prefix, note_row, note_shown, notes_rows, slice, walk_from, walk_rows, walked, with_note}
+use Rattle.elf_model.specs.Prelude.{DisplayedName, Fault as FaultItem, Line, ListingItem, ListingStyle, NextNote, Note, NoteScan, OneNote, next_note, note_line, note_prefix, note_row, note_shown, notes_rows, slice, walk_from, walk_rows, walked, with_note}
+use Rattle.elf_model.specs.declared.causes.Cause.TheVariants.{NoteCut}
 use Rattle.elf_model.specs.Notes.{Ends as EndsHere, Broken}
 use Rattle.elf_model.proofs.NoteLaws.{walked-is}
 use Rattle.elf_record.specs.declared.note_head.NoteHead.{NoteHead}
 use Rattle.elf_format.specs.Named.{shown_as}
-use Rattle.elf_note.specs.Prelude.{AdvancesNote, IsNoteFound, NameIs, NoteCursorState, NoteRow, ShowsNote, StopsNote, cut_at, no_notes, note_cut, notes_from, notes_left}
+use Rattle.elf_note.specs.Prelude.{AdvancesNote, IsNoteFound, NameIs, NoteCursorState, ShowsNote, StopsNote, cut_at, no_notes, note_cut, notes_from, notes_left}
+use Rattle.elf_note.specs.declared.note_row.NoteRow.{NoteRow}
 use Rattle.elf_source.specs.Output.{OutState}
-use Rattle.elf_table.specs.Prelude.{Cut as NameCut, Fault, HoldsBytes, IsOfRead, NameEnd, RunFault, StillHolds, Whole as NameWhole, WindowState, stop_of}
+use Rattle.elf_table.specs.Prelude.{HoldsBytes, IsOfRead, StillHolds, WindowState, stop_of}
+use Rattle.elf_table.specs.declared.names.NameEnd.TheVariants.{Cut as NameCut, Whole as NameWhole}
+use Rattle.elf_table.specs.declared.fault.Fault.{Fault}
+use Rattle.elf_table.specs.declared.names.NameEnd.{NameEnd}
+use Rattle.elf_table.specs.declared.run_fault.RunFault.{RunFault}
 use Rattle.elf_options.specs.declared.caps.ListingStyle.{ListingStyle as Shape}
 use Rattle.elf_table.specs.declared.fault.Fault.TheVariants.{Refused, Source as Unread}
 use Rattle.elf_listing.specs.Prelude.{IsNoteRow, WrittenBefore, WroteItems, WrotePrefix, WroteUntilStop, cut_of, note_items}

@@ -2,7 +2,8 @@
 use Rattle.std.proofs.Common.{◌≡◌, ℕ, ◌+◌, ◌*◌, List, [], ◌∷◌, refl, sym, ap, ◌∙◌, arith}
 use Rattle.elf_model.specs.Prelude.{LinePrefix, ListingItem, ListingStyle, chosen_row, field, number_in, slice, symbol_version_prefix, versym}
 use Rattle.elf_model.proofs.Slices.{field-slice}
-use Rattle.elf_listing.specs.Prelude.{VersionStrings, reported_row, version_told}
+use Rattle.elf_listing.specs.Prelude.{reported_row, version_told}
+use Rattle.elf_listing.specs.declared.numbered.VersionStrings.{VersionStrings}
 
 -- the word of an entry
 pub word_is : (file bytes : List ℕ) (at word : ℕ) → bytes ≡ slice file at 2 → word ≡ field bytes 0 2 → word ≡ versym file at

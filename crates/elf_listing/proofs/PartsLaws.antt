@@ -1,5 +1,6 @@
 -- What calls of a listing did one behind another.
-use Rattle.elf_options.specs.Prelude.{ListingStyle, style_of}
+use Rattle.elf_options.specs.Prelude.{style_of}
+use Rattle.elf_options.specs.declared.caps.ListingStyle.{ListingStyle}
 use Rattle.std.proofs.Common.{◌≡◌, ℕ, ◌+◌, ◌-◌, ◌<◌, Bool, List, ◌++◌, Some, Result, Ok, Err, sym, ap, ◌∙◌, subst, arith, zero-add}
 use Rattle.elf_model.specs.Prelude.{ListingItem, each, sum_over, symbol_versions}
 use Rattle.elf_model.proofs.SumLemmas.{last_cost, sums_split}
@@ -7,8 +8,12 @@ use Rattle.elf_model.proofs.ListingLemmas.{rows_split}
 use Rattle.elf_source.specs.declared.source.Source.{Ghosts as Sources}
 use Rattle.elf_source.specs.declared.sink.Sink.{Ghosts as Sinks}
 use Rattle.elf_source.proofs.GrowthLaws.{grows_then}
-use Rattle.elf_table.specs.Prelude.{RunFault, SectionView}
-use Rattle.elf_listing.specs.Prelude.{AwaitsAsked, Definitions, Listing, ListingCalls, ListingWrote, ListsPair, Needs, Part, SymbolVersions, asked_cost, asked_items, relocations_part, symbols_part}
+use Rattle.elf_table.specs.declared.run_fault.RunFault.{RunFault}
+use Rattle.elf_table.specs.declared.file.SectionView.{SectionView}
+use Rattle.elf_listing.specs.Prelude.{AwaitsAsked, ListingCalls, ListingWrote, ListsPair, asked_cost, asked_items, relocations_part, symbols_part}
+use Rattle.elf_listing.specs.declared.parts.Part.TheVariants.{Definitions, Needs, SymbolVersions}
+use Rattle.elf_listing.specs.declared.listing.Listing.{Listing}
+use Rattle.elf_listing.specs.declared.parts.Part.{Part}
 use Rattle.elf_listing.proofs.FileShown.{versions_none}
 use Rattle.elf_listing.proofs.EachLaws.{each-more}
 use Rattle.elf_listing.proofs.ListsLaws.{ListingCalls-within, SameFile-then}

@@ -1,13 +1,18 @@
 -- The report of a listing, and of one that a budget cuts short.
-use Rattle.elf_options.specs.Prelude.{Caps, style_of}
+use Rattle.elf_options.specs.Prelude.{style_of}
+use Rattle.elf_options.specs.declared.caps.Caps.{Caps}
 use Rattle.std.proofs.Common.{◌≡◌, ℕ, ◌+◌, ◌^◌, ◌<◌, ◌≤◌, List, ◌∷◌, ◌++◌, length, None, Some, Ok, Err, Option, option_map, refl, sym, ap, ◌∙◌, inl, inr, ◌⊎◌, append-nil, arith}
-use Rattle.elf_model.specs.Prelude.{Budget, Fault as FaultItem, IsBudgetRefusal, IsBudgeted, IsReport, ListingItem, ListingStyle, Refusal, end_text, fault_of, lines_of, listing, listing_cost, refusal_line, report_of}
+use Rattle.elf_model.specs.Prelude.{Fault as FaultItem, IsBudgetRefusal, IsBudgeted, IsReport, ListingItem, ListingStyle, end_text, fault_of, lines_of, listing, listing_cost, refusal_line, report_of}
+use Rattle.elf_model.specs.declared.causes.Cause.TheVariants.{Budget}
+use Rattle.elf_model.specs.declared.causes.Refusal.{Refusal}
 use Rattle.elf_model.proofs.BudgetLaws.{is_budget_fault}
 use Rattle.elf_model.proofs.ListingLemmas.{listings_append}
 use Rattle.elf_source.specs.Prelude.{CountedState, OutState, SetsLimit, SinkTakes, SinkTakesPrefix, counted}
 use Rattle.elf_source.proofs.LimitLaws.{budget_below}
 use Rattle.elf_source.proofs.PutsLaws.{SinkTakes-then, SinkTakesPrefix-then, SinkTakesPrefix-more, SinkTakesPrefix-all}
-use Rattle.elf_table.specs.Prelude.{IsReadRefusal, Out, RunFault}
+use Rattle.elf_table.specs.Prelude.{IsReadRefusal}
+use Rattle.elf_table.specs.declared.run_fault.RunFault.TheVariants.{Out}
+use Rattle.elf_table.specs.declared.run_fault.RunFault.{RunFault}
 use Rattle.elf_table.specs.declared.run_fault.RunFault.TheVariants.{Refused, Source}
 use Rattle.elf_listing.specs.Prelude.{IsNext, ReturnsStop, StopSays, WroteItems, WrotePrefix, WroteRefusal, WroteReport, WroteText, WroteUntilRefusal, WroteUntilStop}
 use Rattle.elf_listing.proofs.EachLaws.{lines_front}

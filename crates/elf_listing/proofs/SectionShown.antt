@@ -1,12 +1,15 @@
 -- The items of one header, by what the store and the checks of a loaded file answer.
-use Rattle.elf_model.specs.Prelude.{Check, DT_STRSZ, LinePrefix, ListingItem, ListingStyle, Refusal, TableKind, all_checks, dynamic_at, dynamic_count, dynamic_row, dynamic_table_checks, e_machine, e_shnum, e_shoff, e_shstrndx, each, entry_count, first_refusal, guarded, listed_value, mapped_strings, named_row, no_name, p_filesz, p_offset, range_checks_of, section_at, section_dynamic, section_name, section_prefix, section_row, segment_dynamic_checks, sh_link, sh_name, sh_offset, sh_size, shown, slice, strings_at as strings_mapped, strings_checks, strings_of, table_checks, table_rows, unless_empty}
+use Rattle.elf_model.specs.Prelude.{Check, DT_STRSZ, LinePrefix, ListingItem, ListingStyle, TableKind, all_checks, dynamic_at, dynamic_count, dynamic_row, dynamic_table_checks, e_machine, e_shnum, e_shoff, e_shstrndx, each, entry_count, first_refusal, guarded, listed_value, mapped_strings, named_row, no_name, p_filesz, p_offset, range_checks_of, section_at, section_dynamic, section_name, section_prefix, section_row, segment_dynamic_checks, sh_link, sh_name, sh_offset, sh_size, shown, slice, strings_at as strings_mapped, strings_checks, strings_of, table_checks, table_rows, unless_empty}
+use Rattle.elf_model.specs.declared.causes.Refusal.{Refusal}
 use Rattle.std.proofs.Common.{◌≡◌, ℕ, ◌+◌, ◌*◌, ◌/◌, ◌<◌, ◌==◌, ◌&&◌, not, Bool, true, false, inl, inr, if◌then◌else◌, List, [], ◌∷◌, ◌++◌, length, Option, None, Some, Result, Ok, Err, refl, sym, ap, ◌∙◌, subst, arith}
 use Rattle.std.proofs.lemmas.Bool.{cases_Bool, eqb-true}
 use Rattle.elf_model.proofs.CheckSteps.{first_refusal-none, first_refusal-some}
 use Rattle.elf_model.proofs.ListingLemmas.{guarded-passes, guarded-fault}
-use Rattle.elf_note.specs.Prelude.{AreStrings, DynamicStrings}
+use Rattle.elf_note.specs.Prelude.{AreStrings}
+use Rattle.elf_note.specs.declared.string_values.DynamicStrings.{DynamicStrings}
 use Rattle.elf_source.specs.Output.{OutState}
-use Rattle.elf_table.specs.Prelude.{Fault, RefusedBy, StringTableRange, TableRange, byte_rows, checked as checked_as, dynamic_table_at as table_of_segment, names_at, rows, section_names, stop_of, string_table_at as strings_linked, table_at}
+use Rattle.elf_table.specs.Prelude.{RefusedBy, StringTableRange, TableRange, byte_rows, checked as checked_as, dynamic_table_at as table_of_segment, names_at, rows, section_names, stop_of, string_table_at as strings_linked, table_at}
+use Rattle.elf_table.specs.declared.fault.Fault.{Fault}
 use Rattle.elf_table.proofs.RelocationLaws.{passed_first, table-fails, table-passes}
 use Rattle.elf_table.specs.declared.fault.Fault.TheVariants.{Refused, Source}
 use Rattle.elf_listing.specs.Prelude.{WroteItems, WroteUntilStop, shown_in}

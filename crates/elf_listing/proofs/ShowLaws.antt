@@ -5,8 +5,12 @@ use Rattle.elf_source.proofs.PutsLaws.{SinkTakes-nothing, SinkTakes-then, SinkTa
 use Rattle.elf_source.proofs.ReadsLaws.{ReadsUpTo-to, ReadsUpTo-then, IsSourceFault-then, ExceedsBudget-then, ExceedsBudget-more}
 use Rattle.elf_note.specs.Ahead.{ReadsOnCredit}
 use Rattle.elf_note.proofs.SpendsLaws.{SpendsAtMost-reads, SpendsAtMost-then, SpendsAtMost-to}
-use Rattle.elf_table.specs.Prelude.{Fault, IsAt, IsReadFault, Out, RunFault, stop_of}
-use Rattle.elf_model.specs.Prelude.{ListingItem, Refusal, lines_of}
+use Rattle.elf_table.specs.Prelude.{IsAt, IsReadFault, stop_of}
+use Rattle.elf_table.specs.declared.fault.Fault.{Fault}
+use Rattle.elf_table.specs.declared.run_fault.RunFault.TheVariants.{Out}
+use Rattle.elf_table.specs.declared.run_fault.RunFault.{RunFault}
+use Rattle.elf_model.specs.Prelude.{ListingItem, lines_of}
+use Rattle.elf_model.specs.declared.causes.Refusal.{Refusal}
 use Rattle.elf_table.specs.declared.fault.Fault.TheVariants.{Refused as Refuses, Source as Unread}
 use Rattle.elf_listing.specs.Shows.{WroteItems, WrotePrefix, WroteUntilStop, WroteSome, StopSays, IsOfOutput, ListingCosts, SpentCredit}
 use Rattle.elf_table.specs.declared.run_fault.RunFault.TheVariants.{Refused, Source}

@@ -3,8 +3,11 @@ use Rattle.std.specs.Prelude.{ℕ, ◌≡◌, ◌+◌, ◌==◌, not, false, Lis
 use Rattle.elf_model.specs.Prelude.{SHN_UNDEF, SYMBOL_SIZE, entry_at, linked_at, name_bytes, st_shndx, symbol_named}
 use Rattle.elf_source.specs.declared.source.Source.{Ghosts as Sources}
 use Rattle.elf_source.specs.declared.sink.Sink.{Ghosts as Sinks}
-use Rattle.elf_record.specs.Prelude.{Dyn, IsDyn}
-use Rattle.elf_table.specs.Prelude.{Fault, NameEnd, NameRead, RefersTo, StringTableRange, TableRange}
+use Rattle.elf_record.specs.Prelude.{IsDyn}
+use Rattle.elf_record.specs.declared.dyn_entry.Dyn.{Dyn}
+use Rattle.elf_table.specs.Prelude.{NameRead, RefersTo, StringTableRange, TableRange}
+use Rattle.elf_table.specs.declared.fault.Fault.{Fault}
+use Rattle.elf_table.specs.declared.names.NameEnd.{NameEnd}
 use Rattle.elf_listing.specs.Parts.{name_cost, shown_in}
 use Rattle.elf_listing.specs.Shows.{ListingReads}
 use Rattle.elf_listing.specs.Strings.{AreOf, ToldRead, strings_reported, string_told}

@@ -2,7 +2,8 @@
 use Rattle.std.specs.Prelude.{ℕ, ◌+◌, ◌++◌, List, Result}
 use Rattle.elf_model.specs.Prelude.{ListingItem, ListingStyle, SEGMENTS, e_phnum, each, segment_row, table_items, where_asked}
 use Rattle.elf_options.specs.Permitted.{style_of}
-use Rattle.elf_table.specs.Prelude.{RunFault, StoreState}
+use Rattle.elf_table.specs.Prelude.{StoreState}
+use Rattle.elf_table.specs.declared.run_fault.RunFault.{RunFault}
 use Rattle.elf_source.specs.declared.source.Source.{Ghosts as Sources}
 use Rattle.elf_source.specs.declared.sink.Sink.{Ghosts as Sinks}
 use Rattle.elf_listing.specs.Parts.{asked_cost, listed_by, part_cost, part_items, segments_listed, tables_listed}

@@ -4,7 +4,9 @@ use Rattle.elf_model.specs.Prelude.{DYNAMIC_SIZE, ListingItem, ListingStyle, REL
 use Rattle.elf_options.specs.Permitted.{style_of}
 use Rattle.elf_source.specs.declared.source.Source.{Ghosts as Sources}
 use Rattle.elf_source.specs.declared.sink.Sink.{Ghosts as Sinks}
-use Rattle.elf_table.specs.Prelude.{RefersTo, Row, RunFault, StringsInBounds, SymbolTableInBounds, TableInBounds, TableRange, strings_in}
+use Rattle.elf_table.specs.Prelude.{RefersTo, StringsInBounds, SymbolTableInBounds, TableInBounds, TableRange, strings_in}
+use Rattle.elf_table.specs.declared.row.Row.{Row}
+use Rattle.elf_table.specs.declared.run_fault.RunFault.{RunFault}
 use Rattle.elf_listing.specs.Numbered.{NumberedWithin, reported_row}
 use Rattle.elf_listing.specs.RowCursors.{rows_listed}
 use Rattle.elf_listing.specs.Shows.{ListingCalls, WroteSome}

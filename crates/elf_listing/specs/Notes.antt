@@ -2,11 +2,13 @@
 use Rattle.std.specs.Prelude.{ℕ, ◌≡◌, List, [], ◌∷◌, ◌++◌, length, take, Result}
 use Rattle.elf_model.specs.Prelude.{ListingItem, ListingStyle, Note, NoteScan, SHOWN_DESCRIPTOR, note_align, note_row, note_shown, slice, walk_rows, walked}
 use Rattle.elf_options.specs.Permitted.{style_of}
-use Rattle.elf_note.specs.Prelude.{NameIs, NoteRow}
+use Rattle.elf_note.specs.Prelude.{NameIs}
+use Rattle.elf_note.specs.declared.note_row.NoteRow.{NoteRow}
 use Rattle.elf_source.specs.Prelude.{OutState}
 use Rattle.elf_source.specs.declared.source.Source.{Ghosts as Sources}
 use Rattle.elf_source.specs.declared.sink.Sink.{Ghosts as Sinks}
-use Rattle.elf_table.specs.Prelude.{RunFault, TableRange}
+use Rattle.elf_table.specs.Prelude.{TableRange}
+use Rattle.elf_table.specs.declared.run_fault.RunFault.{RunFault}
 use Rattle.elf_listing.specs.Shows.{ListingCalls, ListingWrote, WroteItems, WroteSome}
 use Rattle.elf_listing.specs.declared.listing.Listing.{Listing}
 

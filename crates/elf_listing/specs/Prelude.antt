@@ -15,12 +15,3 @@ pub use Rattle.elf_listing.specs.SymbolVersions.{AreNumbered, AreRecordsWhole, N
 unfoldable pub use Rattle.elf_listing.specs.SymbolVersions.{versioned_items}
 pub use Rattle.elf_listing.specs.Versions.{kind_type, records_cost, records_kind, versions_items}
 pub use Rattle.elf_listing.specs.Viewed.{ChecksView, needs_segment_view, view_cost, viewed_headers}
-pub use Rattle.elf_listing.specs.declared.listing.Listing.{Listing}
-pub use Rattle.elf_listing.specs.declared.numbered.VersionStrings.{VersionStrings}
-pub use Rattle.elf_listing.specs.declared.parts.Part.{Part}
-pub use Rattle.elf_listing.specs.declared.parts.Part.TheVariants.{Definitions, Headers, Needs, SectionDynamic, SectionNotes, SegmentDynamic, SegmentNotes, SymbolVersions}
-pub use Rattle.elf_listing.specs.declared.read_suffix.VersionSuffixEnd.{VersionSuffixEnd}
-pub use Rattle.elf_listing.specs.declared.row_cursor.RowCursor.{RowCursor}
-pub use Rattle.elf_listing.specs.declared.rows.RowLayout.{RowLayout}
-pub use Rattle.elf_listing.specs.declared.rows.RowLayout.TheVariants.{Segments}
-pub use Rattle.elf_listing.specs.declared.suffixes.VersionLookup.{VersionLookup}

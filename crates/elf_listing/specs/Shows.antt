@@ -1,11 +1,18 @@
 -- What a call that writes a part of a listing did.
 use Rattle.std.specs.Prelude.{ℕ, ◌≡◌, ◌+◌, Bool, true, false, List, ◌∷◌, ◌++◌, None, Some, Result, Ok, Err, IfErr}
-use Rattle.elf_model.specs.Prelude.{Cause, DisplayedName, Fault, IsBudgetRefusal, LinePrefix, ListingItem, Refusal, fault_of, lines_of, named_row}
+use Rattle.elf_model.specs.Prelude.{DisplayedName, Fault, IsBudgetRefusal, LinePrefix, ListingItem, fault_of, lines_of, named_row}
+use Rattle.elf_model.specs.declared.causes.Cause.{Cause}
+use Rattle.elf_model.specs.declared.causes.Refusal.{Refusal}
 use Rattle.elf_source.specs.Prelude.{CountedState, IsOutFault, IsSourceFault, OutGrows, OutState, ReadsUpTo, SinkTakes, SinkTakesPrefix}
 use Rattle.elf_source.specs.declared.source.Source.{Ghosts as Sources}
 use Rattle.elf_source.specs.declared.sink.Sink.{Ghosts as Sinks}
 use Rattle.elf_note.specs.Ahead.{ReadsOnCredit}
-use Rattle.elf_table.specs.Prelude.{Cut as NameCut, Fault as Failure, IsReadFault, IsReadRefusal, NameEnd, NameRead, Out, RunFault, Whole as NameWhole}
+use Rattle.elf_table.specs.Prelude.{IsReadFault, IsReadRefusal, NameRead}
+use Rattle.elf_table.specs.declared.names.NameEnd.TheVariants.{Cut as NameCut, Whole as NameWhole}
+use Rattle.elf_table.specs.declared.fault.Fault.{Fault as Failure}
+use Rattle.elf_table.specs.declared.names.NameEnd.{NameEnd}
+use Rattle.elf_table.specs.declared.run_fault.RunFault.TheVariants.{Out}
+use Rattle.elf_table.specs.declared.run_fault.RunFault.{RunFault}
 use Rattle.elf_listing.specs.declared.listing.Listing.{Listing}
 use Rattle.elf_table.specs.declared.run_fault.RunFault.TheVariants.{Refused, Source}
 

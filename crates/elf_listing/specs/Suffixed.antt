@@ -1,7 +1,12 @@
 -- The versions behind the names of symbols: what finds them, and what a call did that reads one.
 use Rattle.std.specs.Prelude.{ℕ, ◌≡◌, ◌+◌, ◌==◌, not, if◌then◌else◌, Bool, false, List, Option, None, Some, Result, Ok, Err, IfOk, IfSome, length, ◌⊎◌}
-use Rattle.elf_model.specs.Prelude.{Cause, DisplayedName, EveryRow, HeaderTable, IsBudgetRefusal, LinePrefix, NoSuffix, Refusal, SHN_UNDEF, SYMBOL_SIZE, Suffix, Suffixed, VERSION_NUMBERS, VERSYM_SIZE, entry_count, first_numbers, name_bytes, section_at, sh_offset, st_shndx, suffixed_row, suffixes_refusal, symbol_suffix, version_numbers_of, walks_cost}
-use Rattle.elf_table.specs.Prelude.{Fault, NameEnd, NameRead, RunFault, StringTableRange, TableInBounds, TableRange, shown_by}
+use Rattle.elf_model.specs.Prelude.{DisplayedName, EveryRow, HeaderTable, IsBudgetRefusal, LinePrefix, NoSuffix, SHN_UNDEF, SYMBOL_SIZE, Suffix, Suffixed, VERSION_NUMBERS, VERSYM_SIZE, entry_count, first_numbers, name_bytes, section_at, sh_offset, st_shndx, suffixed_row, suffixes_refusal, symbol_suffix, version_numbers_of, walks_cost}
+use Rattle.elf_model.specs.declared.causes.Cause.{Cause}
+use Rattle.elf_model.specs.declared.causes.Refusal.{Refusal}
+use Rattle.elf_table.specs.Prelude.{NameRead, StringTableRange, TableInBounds, TableRange, shown_by}
+use Rattle.elf_table.specs.declared.fault.Fault.{Fault}
+use Rattle.elf_table.specs.declared.names.NameEnd.{NameEnd}
+use Rattle.elf_table.specs.declared.run_fault.RunFault.{RunFault}
 use Rattle.elf_table.specs.declared.fault.Fault.TheVariants.{Refused, Source}
 use Rattle.elf_source.specs.declared.source.Source.{Ghosts as Sources}
 use Rattle.elf_source.specs.declared.sink.Sink.{Ghosts as Sinks}

@@ -1,12 +1,19 @@
 -- The versions of symbols, shown one after another, and the names of their numbers.
 use Rattle.std.specs.Prelude.{ℕ, ◌≡◌, ◌+◌, ◌*◌, min, nat_lt, if◌then◌else◌, List, [], ◌++◌, Option, None, Some, Result, Ok, Err, IfOk}
-use Rattle.elf_model.specs.Prelude.{Definition, File, IsBudgetRefusal, ListingItem, ListingStyle, Refusal, SHT_GNU_VERDEF, SHT_GNU_VERNEED, VERSYM_SIZE, VersionCut, VersionKind, VisitedRecord, all_checks, each, first_of_type, first_refusal, first_strings, first_versions, name_bytes, or_refusal, record_size, refused_row, section_at, section_versions, version_table, walk_cost, walk_refusal, walks_cost}
-use Rattle.elf_table.specs.Prelude.{Fault, RunFault, StringTableRange, StringsInBounds, TableRange, section_place, strings_in}
+use Rattle.elf_model.specs.Prelude.{IsBudgetRefusal, ListingItem, ListingStyle, SHT_GNU_VERDEF, SHT_GNU_VERNEED, VERSYM_SIZE, VisitedRecord, all_checks, each, first_of_type, first_refusal, first_strings, first_versions, name_bytes, or_refusal, record_size, refused_row, section_at, section_versions, version_table, walk_cost, walk_refusal, walks_cost}
+use Rattle.elf_model.specs.declared.versions.VersionKind.TheVariants.{Definition, File}
+use Rattle.elf_model.specs.declared.causes.Refusal.{Refusal}
+use Rattle.elf_model.specs.declared.causes.Cause.TheVariants.{VersionCut}
+use Rattle.elf_model.specs.declared.versions.VersionKind.{VersionKind}
+use Rattle.elf_table.specs.Prelude.{StringTableRange, StringsInBounds, TableRange, section_place, strings_in}
+use Rattle.elf_table.specs.declared.fault.Fault.{Fault}
+use Rattle.elf_table.specs.declared.run_fault.RunFault.{RunFault}
 use Rattle.elf_options.specs.Permitted.{style_of}
 use Rattle.elf_table.specs.declared.fault.Fault.TheVariants.{Refused, Source}
 use Rattle.elf_source.specs.declared.source.Source.{Ghosts as Sources}
 use Rattle.elf_source.specs.declared.sink.Sink.{Ghosts as Sinks}
-use Rattle.elf_note.specs.Prelude.{NamesNumbers, VersionNameRef, bytes_each}
+use Rattle.elf_note.specs.Prelude.{NamesNumbers, bytes_each}
+use Rattle.elf_note.specs.declared.version_names.VersionNameRef.{VersionNameRef}
 use Rattle.elf_listing.specs.Numbered.{NumberedWithin, reported_row}
 use Rattle.elf_listing.specs.Parts.{store_sections}
 use Rattle.elf_listing.specs.Shows.{ListingReads, ListingCalls, WroteSome}

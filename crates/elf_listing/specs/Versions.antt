@@ -1,11 +1,15 @@
 -- The records of symbol versions, shown one after another.
 use Rattle.std.specs.Prelude.{ℕ, ◌≡◌, ◌+◌, ◌*◌, List, ◌++◌, Some, Result}
-use Rattle.elf_model.specs.Prelude.{Definition, File, ListingItem, ListingStyle, Need, SHT_GNU_VERDEF, SHT_GNU_VERNEED, TableKind, VersionKind, Versions, VisitedRecord, end_rows, name_bytes, record_size, version_records, version_row, visited_rows}
+use Rattle.elf_model.specs.Prelude.{ListingItem, ListingStyle, SHT_GNU_VERDEF, SHT_GNU_VERNEED, TableKind, Versions, VisitedRecord, end_rows, name_bytes, record_size, version_records, version_row, visited_rows}
+use Rattle.elf_model.specs.declared.versions.VersionKind.TheVariants.{Definition, File, Need}
+use Rattle.elf_model.specs.declared.versions.VersionKind.{VersionKind}
 use Rattle.elf_options.specs.Permitted.{style_of}
 use Rattle.elf_source.specs.declared.source.Source.{Ghosts as Sources}
 use Rattle.elf_source.specs.declared.sink.Sink.{Ghosts as Sinks}
-use Rattle.elf_table.specs.Prelude.{RunFault, StringTableRange, strings_in}
-use Rattle.elf_note.specs.Prelude.{IsCursorOf, IsVersion, VersionCursorState, VersionRecord, bytes_each, unread, versions_left}
+use Rattle.elf_table.specs.Prelude.{StringTableRange, strings_in}
+use Rattle.elf_table.specs.declared.run_fault.RunFault.{RunFault}
+use Rattle.elf_note.specs.Prelude.{IsCursorOf, IsVersion, VersionCursorState, bytes_each, unread, versions_left}
+use Rattle.elf_note.specs.declared.record.VersionRecord.{VersionRecord}
 use Rattle.elf_listing.specs.Parts.{of_sections}
 use Rattle.elf_listing.specs.Shows.{ListingCalls, ListingWrote, WroteSome}
 use Rattle.elf_listing.specs.declared.listing.Listing.{Listing}

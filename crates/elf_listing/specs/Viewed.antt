@@ -2,7 +2,8 @@
 use Rattle.std.specs.Prelude.{ℕ, ◌≡◌, ◌*◌, ◌<◌, ◌≤◌, ◌==◌, ◌&&◌, ◌||◌, Bool, List, Option, None, Some, Result, Ok, Err, if◌then◌else◌}
 use Rattle.elf_model.specs.Prelude.{Check, DYNAMIC, IsBudgetRefusal, NOTES, SEGMENTS, cost_where, first_refusal, has}
 use Rattle.elf_source.specs.Source.{CountedState}
-use Rattle.elf_table.specs.Prelude.{Fault, HoldsSegments, IsOpen, LoadedFile, SegmentsInBounds, StoreState}
+use Rattle.elf_table.specs.Prelude.{HoldsSegments, IsOpen, LoadedFile, SegmentsInBounds, StoreState}
+use Rattle.elf_table.specs.declared.fault.Fault.{Fault}
 use Rattle.elf_table.specs.declared.fault.Fault.TheVariants.{Refused, Source}
 
 -- the parts of a file without sections need its program headers

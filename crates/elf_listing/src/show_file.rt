@@ -2,7 +2,8 @@
 ghost use Rattle.elf_source.specs.Growth.{OutGrows};
 ghost use Rattle.std.specs.Prelude.{◌≡◌, ◌+◌, ◌-◌, ◌^◌, ◌≤◌, [], ◌∷◌, true, false, ℕ, List};
 ghost use Rattle.std.specs.Prelude.{Some, None, Ok, IfErr};
-ghost use Rattle.elf_model.specs.Prelude.{HEADER, Line as LineItem, Refusal as Refuses, after_header, e_shnum, first_refusal, has, has_tables, header_line, known_parts, length_checks, listing as listed_items, listing_cost, load_items, style_ceiling, table_items, viewed as view_of, where_asked};
+ghost use Rattle.elf_model.specs.Prelude.{HEADER, Line as LineItem, after_header, e_shnum, first_refusal, has, has_tables, header_line, known_parts, length_checks, listing as listed_items, listing_cost, load_items, style_ceiling, table_items, viewed as view_of, where_asked};
+ghost use Rattle.elf_model.specs.declared.causes.Refusal.{Refusal as Refuses};
 ghost use Rattle.elf_record.specs.Ehdr.{IsEhdr};
 ghost use Rattle.elf_listing.specs.Parts.{tables_listed};
 ghost use Rattle.elf_listing.specs.Viewed.{IsReady};

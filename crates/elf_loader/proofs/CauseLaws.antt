@@ -1,6 +1,8 @@
 -- The refusals of a segment and of its dynamic entries are not that there is no hash table.
 use Rattle.std.proofs.Common.{◌≡◌, ℕ, ◌%◌, ◌==◌, not, nat_lt, Bool, true, false, List, [], ◌∷◌, length, Option, None, Some, Ok, Err, refl, sym, ap, ◌∙◌}
-use Rattle.elf_model.specs.Prelude.{Check, LoadOverlap, LookupTables as IsScopeOf, Refusal, SizeNotWhole, TableOutside, dynamic_segment_index, e_phnum, first_page, first_refusal, has_none, is_outside, known_symbols, loads_from, lookup_tables_by_segments, overlap_checks, overlaps_from, p_filesz, p_offset, page_behind, refuse, scope_in_segment, scope_in_segments, segment_at, segment_dynamic_checks}
+use Rattle.elf_model.specs.Prelude.{Check, LookupTables as IsScopeOf, dynamic_segment_index, e_phnum, first_page, first_refusal, has_none, is_outside, known_symbols, loads_from, lookup_tables_by_segments, overlap_checks, overlaps_from, p_filesz, p_offset, page_behind, refuse, scope_in_segment, scope_in_segments, segment_at, segment_dynamic_checks}
+use Rattle.elf_model.specs.declared.causes.Cause.TheVariants.{LoadOverlap, SizeNotWhole, TableOutside}
+use Rattle.elf_model.specs.declared.causes.Refusal.{Refusal}
 
 -- no check of some refuses for that
 abbrev Others : List Check → Type 0

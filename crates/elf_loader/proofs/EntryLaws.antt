@@ -2,7 +2,8 @@
 use Rattle.std.proofs.Common.{◌≡◌, ℕ, ◌*◌, ◌/◌, ◌≤◌, List, Some, Ok, Err, refl, ap, arith}
 use Rattle.std.proofs.Math.Nat.{div-mul-le_self}
 use Rattle.elf_model.specs.Prelude.{dynamic_segment_index, p_filesz, p_offset, segment_at, segment_dynamic_checks, trait_entries_asked}
-use Rattle.elf_table.specs.Prelude.{Fault, IsOfRead, TableRange, dynamic_table_at, rows, size_of}
+use Rattle.elf_table.specs.Prelude.{IsOfRead, TableRange, dynamic_table_at, rows, size_of}
+use Rattle.elf_table.specs.declared.fault.Fault.{Fault}
 use Rattle.elf_table.specs.declared.fault.Fault.TheVariants.{Refused, Source}
 use Rattle.elf_hash.proofs.FoundLaws.{dynamic_is}
 use Rattle.elf_hash.proofs.SettleLaws.{checked_fails}

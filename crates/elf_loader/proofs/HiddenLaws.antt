@@ -3,8 +3,10 @@ use Rattle.std.proofs.Common.{◌≡◌, ℕ, Bool, true, false, List, Result, r
 use Rattle.elf_model.specs.Prelude.{SymbolQuery, looked_at, without_sections}
 use Rattle.elf_source.specs.Source.{CountedState, MasksSectionHeaders}
 use Rattle.elf_table.proofs.FaultLaws.{charges_hidden}
-use Rattle.elf_table.specs.Prelude.{CallDid, CallReads, Fault, fault_of_result}
-use Rattle.elf_loader.specs.Prelude.{LooksUp, SymbolLookup}
+use Rattle.elf_table.specs.Prelude.{CallDid, CallReads, fault_of_result}
+use Rattle.elf_table.specs.declared.fault.Fault.{Fault}
+use Rattle.elf_loader.specs.Prelude.{LooksUp}
+use Rattle.elf_loader.specs.declared.lookup.SymbolLookup.{SymbolLookup}
 
 -- the file that is looked at
 all_shown : (by_segments : Bool) (file : List ℕ) → by_segments ≡ false → looked_at by_segments file ≡ file

@@ -1,10 +1,15 @@
 -- The symbols that a loader knows, by what a lookup is made in and the counts of its hash table.
 use Rattle.std.proofs.Common.{◌≡◌, ℕ, ◌≤◌, Bool, true, false, List, [], ◌∷◌, Option, None, Some, Ok, Err, refl, ap, arith}
-use Rattle.elf_model.specs.Prelude.{GnuTable, HashStyle, IsBudgetRefusal, LookupTables as IsScopeOf, Refusal, SysvTable, counts_check, first_refusal, has_none, known_symbols, least_size, lookup_tables_by_segments}
+use Rattle.elf_model.specs.Prelude.{GnuTable, HashStyle, IsBudgetRefusal, LookupTables as IsScopeOf, SysvTable, counts_check, first_refusal, has_none, known_symbols, least_size, lookup_tables_by_segments}
+use Rattle.elf_model.specs.declared.causes.Refusal.{Refusal}
 use Rattle.elf_source.specs.Source.{CountedState}
-use Rattle.elf_table.specs.Prelude.{CallDid, CallReads, Fault, fault_of_result}
+use Rattle.elf_table.specs.Prelude.{CallDid, CallReads, fault_of_result}
+use Rattle.elf_table.specs.declared.fault.Fault.{Fault}
 use Rattle.elf_table.specs.declared.fault.Fault.TheVariants.{Refused, Source}
-use Rattle.elf_hash.specs.Prelude.{FindsLookupTables, HasCounts, HashStyle as Kind, HashTable, IsLookupTables, IsPlaceIn, LookupTables, counts_bytes, hash_style_of}
+use Rattle.elf_hash.specs.Prelude.{FindsLookupTables, HasCounts, IsLookupTables, IsPlaceIn, counts_bytes, hash_style_of}
+use Rattle.elf_hash.specs.declared.hash_style.HashStyle.{HashStyle as Kind}
+use Rattle.elf_hash.specs.declared.table.HashTable.{HashTable}
+use Rattle.elf_hash.specs.declared.lookup_tables.LookupTables.{LookupTables}
 use Rattle.elf_loader.specs.Known.{AreKnown, ReturnsKnown, counts_asked, passed_over}
 
 -- a file without a hash table is passed over: then a call did not stop

@@ -1,17 +1,27 @@
 -- What a lookup gives, stage by stage.
 use mathlib.Core.Path.{fun_ext}
 use Rattle.std.proofs.Common.{◌≡◌, ℕ, ◌+◌, ◌*◌, ◌≤◌, Bool, false, List, [], ◌∷◌, ◌++◌, Option, None, Some, Result, Ok, Err, refl, sym, ap, subst, ◌∙◌, arith}
-use Rattle.elf_model.specs.Prelude.{ChainResult as NoteScan, CompareResult, LoaderLookup, LookupTables as IsScopeOf, Refusal, SymbolQuery, answers, asked_name, before_headers, cost_where, counts_check, e_shnum, early_checks, first_refusal, found_in, header_checks, is_among, load_checks, loaded_in, loader_cost, loader_looked, looked_by, lookup_asks, lookup_tables_of, record_cost, refused_lookup, section_name_checks, segments_asked, symbol_offset, version_indices, walk_in}
+use Rattle.elf_model.specs.Prelude.{ChainResult as NoteScan, CompareResult, LoaderLookup, LookupTables as IsScopeOf, SymbolQuery, answers, asked_name, before_headers, cost_where, counts_check, e_shnum, early_checks, first_refusal, found_in, header_checks, is_among, load_checks, loaded_in, loader_cost, loader_looked, looked_by, lookup_asks, lookup_tables_of, record_cost, refused_lookup, section_name_checks, segments_asked, symbol_offset, version_indices, walk_in}
+use Rattle.elf_model.specs.declared.causes.Refusal.{Refusal}
 use Rattle.elf_model.proofs.CheckSteps.{first_refusal-none, passes_front}
 use Rattle.elf_record.specs.Sym.{IsSym}
 use Rattle.elf_source.specs.Source.{CountedState}
-use Rattle.elf_table.specs.Prelude.{CallReads, Fault, row_at}
+use Rattle.elf_table.specs.Prelude.{CallReads, row_at}
+use Rattle.elf_table.specs.declared.fault.Fault.{Fault}
 use Rattle.elf_table.specs.declared.fault.Fault.TheVariants.{Refused, Source}
 use Rattle.elf_table.proofs.LedgerLaws.{CallReads-more, CallReads-none, CallReads-then}
-use Rattle.elf_hash.specs.Prelude.{ChainResult, FindsLookupTables, GivesWalked, HasCounts, HashStyle, HashTable, IsLookupTables, IsPlaceIn, LookupTables, SymbolMatch, WalksChain, counts_bytes, scope_cost, walk_bytes, walked_in}
+use Rattle.elf_hash.specs.Prelude.{FindsLookupTables, GivesWalked, HasCounts, IsLookupTables, IsPlaceIn, WalksChain, counts_bytes, scope_cost, walk_bytes, walked_in}
+use Rattle.elf_hash.specs.declared.chain_result.ChainResult.{ChainResult}
+use Rattle.elf_hash.specs.declared.hash_style.HashStyle.{HashStyle}
+use Rattle.elf_hash.specs.declared.table.HashTable.{HashTable}
+use Rattle.elf_hash.specs.declared.lookup_tables.LookupTables.{LookupTables}
+use Rattle.elf_hash.specs.declared.answer.SymbolMatch.{SymbolMatch}
 use Rattle.elf_hash.specs.declared.hash_style.HashStyle.TheVariants.{Gnu, Sysv}
 use Rattle.elf_hash.proofs.SearchedTableLaws.{walk_in_is}
-use Rattle.elf_loader.specs.Prelude.{Absent, CollectsNumbers, FindsVersion, Found as IsFoundSymbol, FoundVersion, IsSymbolWithVersym, IsVersionFound, LooksAfter, LooksUp, ReturnsLookup, SymbolLookup, has_number, looked_with, match_bytes, parsed_member_bytes}
+use Rattle.elf_loader.specs.Prelude.{CollectsNumbers, FindsVersion, IsSymbolWithVersym, IsVersionFound, LooksAfter, LooksUp, ReturnsLookup, has_number, looked_with, match_bytes, parsed_member_bytes}
+use Rattle.elf_loader.specs.declared.lookup.SymbolLookup.TheVariants.{Absent, Found as IsFoundSymbol}
+use Rattle.elf_loader.specs.declared.found.FoundVersion.{FoundVersion}
+use Rattle.elf_loader.specs.declared.lookup.SymbolLookup.{SymbolLookup}
 use Rattle.elf_loader.proofs.CollectLaws.{no-version}
 use Rattle.elf_loader.proofs.ReadLaws.{asks_all, asks_least, asks_records, by_absent, by_found, by_refused, looked_reads}
 

@@ -2,7 +2,8 @@
 use Rattle.std.proofs.Common.{◌≡◌, ℕ, ◌+◌, ◌-◌, ◌*◌, ◌≤◌, List, [], Option, None, refl, sym, ap, ◌∙◌, arith}
 use Rattle.elf_source.specs.Source.{CountedState, ReadsUpTo}
 use Rattle.elf_source.proofs.ReadsLaws.{ReadsUpTo-to}
-use Rattle.elf_table.specs.Prelude.{CallReads, CursorState, Fault, GivesRow, TableInBounds, TableRange, next_row, row_at, size_of, unread_bytes}
+use Rattle.elf_table.specs.Prelude.{CallReads, CursorState, GivesRow, TableInBounds, TableRange, next_row, row_at, size_of, unread_bytes}
+use Rattle.elf_table.specs.declared.fault.Fault.{Fault}
 use Rattle.elf_table.proofs.LedgerLaws.{CallReads-then}
 use Rattle.elf_model.specs.Traits.{SymbolTraitFlags}
 use Rattle.elf_note.specs.Ahead.{ReadAheadState, IsAheadOf}

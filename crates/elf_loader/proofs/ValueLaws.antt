@@ -4,7 +4,8 @@ use Rattle.elf_model.specs.Prelude.{dynamic_count, dynamic_entry_value, dynamic_
 use Rattle.elf_table.specs.Prelude.{TableRange, next_row}
 use Rattle.elf_note.specs.DynCursors.{DynCursorState, entries_left, first_value, value_here}
 use Rattle.elf_note.proofs.EntriesLeft.{value-end, value-step}
-use Rattle.elf_loader.specs.Prelude.{AreListedValues, AreTraitEntries, EachValue, TakesValues, TraitTags, no_values}
+use Rattle.elf_loader.specs.Prelude.{AreListedValues, AreTraitEntries, EachValue, TakesValues, no_values}
+use Rattle.elf_loader.specs.declared.trait_tags.TraitTags.{TraitTags}
 
 -- a value that was found, or that of the entries that are left, is what a table has
 abbrev pub LeftValues : List ℕ → TableRange → DynCursorState → TraitTags → Type 0

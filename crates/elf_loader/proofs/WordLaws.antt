@@ -3,9 +3,11 @@ use Rattle.std.proofs.Common.{◌≡◌, ◌≢◌, ℕ, ◌+◌, ◌≤◌, ◌
 use Rattle.std.specs.Prelude.{is_some}
 use Rattle.elf_model.specs.Prelude.{GNU_PROPERTY_X86_FEATURE_1_AND, Property, field, number, property_word, slice}
 use Rattle.elf_model.proofs.Slices.{slice-size}
-use Rattle.elf_table.specs.Prelude.{Fault, IsOfRead}
+use Rattle.elf_table.specs.Prelude.{IsOfRead}
+use Rattle.elf_table.specs.declared.fault.Fault.{Fault}
 use Rattle.elf_table.specs.declared.fault.Fault.TheVariants.{Refused, Source}
-use Rattle.elf_loader.specs.Prelude.{PropertyHeader, ReadsWord, found_after, property_at}
+use Rattle.elf_loader.specs.Prelude.{ReadsWord, found_after, property_at}
+use Rattle.elf_loader.specs.declared.property.PropertyHeader.{PropertyHeader}
 
 -- it was found before
 pub kept : (file : List ℕ) (at : ℕ) (head : PropertyHeader) (found : Option ℕ) → is_some found ≡ true → found ≡ found_after found (property_at file at head)

@@ -1,9 +1,15 @@
 -- Whether a symbol answers, as it is read.
 use Rattle.std.specs.Prelude.{ℕ, ◌≡◌, Bool, true, false, List, Option, None, Some, Result, Ok, Err}
-use Rattle.elf_model.specs.Prelude.{DynamicSymbols as AreSymbolsOf, IsBudgetRefusal, Refusal, SymbolQuery, answers, field}
+use Rattle.elf_model.specs.Prelude.{DynamicSymbols as AreSymbolsOf, IsBudgetRefusal, SymbolQuery, answers, field}
+use Rattle.elf_model.specs.declared.causes.Refusal.{Refusal}
 use Rattle.elf_record.specs.Sym.{IsSym}
-use Rattle.elf_hash.specs.Prelude.{DynamicSymbols, IsDynamicSymbols, SymbolMatch, VersymEntry, VersymTable}
-use Rattle.elf_table.specs.Prelude.{Fault, row_at}
+use Rattle.elf_hash.specs.Prelude.{IsDynamicSymbols}
+use Rattle.elf_hash.specs.declared.symbols.DynamicSymbols.{DynamicSymbols}
+use Rattle.elf_hash.specs.declared.answer.SymbolMatch.{SymbolMatch}
+use Rattle.elf_hash.specs.declared.answer.VersymEntry.{VersymEntry}
+use Rattle.elf_hash.specs.declared.symbols.VersymTable.{VersymTable}
+use Rattle.elf_table.specs.Prelude.{row_at}
+use Rattle.elf_table.specs.declared.fault.Fault.{Fault}
 use Rattle.elf_loader.specs.declared.version_match.VersionMatch.{VersionMatch}
 use Rattle.elf_table.specs.declared.fault.Fault.TheVariants.{Refused, Source}
 

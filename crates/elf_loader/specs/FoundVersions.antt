@@ -4,7 +4,8 @@ use Rattle.elf_model.specs.Prelude.{ChainResult, DisplayedName, FoundVersion as 
 use Rattle.elf_model.specs.Hash.{Refused as IsRefused}
 use Rattle.elf_model.specs.Names.DisplayedName.{Whole}
 use Rattle.elf_source.specs.Source.{CountedState}
-use Rattle.elf_table.specs.Prelude.{CallReads, Fault, fault_of_result, shown_by}
+use Rattle.elf_table.specs.Prelude.{CallReads, fault_of_result, shown_by}
+use Rattle.elf_table.specs.declared.fault.Fault.{Fault}
 use Rattle.elf_table.specs.declared.fault.Fault.TheVariants.{Refused, Source}
 use Rattle.elf_loader.specs.Telling.{parsed_member_bytes}
 use Rattle.elf_loader.specs.declared.found.FoundVersion.{FoundVersion}

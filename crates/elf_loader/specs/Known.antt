@@ -2,7 +2,8 @@
 use Rattle.std.specs.Prelude.{ℕ, ◌≡◌, ◌+◌, ◌≤◌, true, false, List, Option, None, Some, Result, Ok, Err, IfSome}
 use Rattle.elf_model.specs.Prelude.{IsBudgetRefusal, LookupTables as IsScopeOf, has_none, known_symbols, least_size}
 use Rattle.elf_source.specs.Source.{CountedState}
-use Rattle.elf_table.specs.Prelude.{CallReads, Fault, fault_of_result}
+use Rattle.elf_table.specs.Prelude.{CallReads, fault_of_result}
+use Rattle.elf_table.specs.declared.fault.Fault.{Fault}
 use Rattle.elf_table.specs.declared.fault.Fault.TheVariants.{Refused, Source}
 use Rattle.elf_hash.specs.Prelude.{DynamicSymbolsInBounds, HashTableInBounds, IsDynamicSymbols, IsTable, entries_asked, place_of_table}
 use Rattle.elf_loader.specs.declared.known.CountedSymbols.{CountedSymbols}

@@ -1,8 +1,11 @@
 -- The first list of properties in the notes of a file, and the word of features in it.
 use Rattle.std.specs.Prelude.{ℕ, ◌≡◌, ◌+◌, ◌≤◌, ◌==◌, true, false, suc, List, length, Option, None, Some, Result, Ok, Err, IfSome}
-use Rattle.elf_model.specs.Prelude.{IsBudgetRefusal, NoteCut, NoteScan, PT_NOTE, PropertyList, Refusal, TRAIT_NAME_BYTES, e_phnum, file_segments, first_listing, listed_in, note_align, note_rows, p_type, properties_asked, property_list, segment_at, segment_notes, slice, sum_over, table_cost, walk_from, x86_feature_word}
+use Rattle.elf_model.specs.Prelude.{IsBudgetRefusal, NoteScan, PT_NOTE, PropertyList, TRAIT_NAME_BYTES, e_phnum, file_segments, first_listing, listed_in, note_align, note_rows, p_type, properties_asked, property_list, segment_at, segment_notes, slice, sum_over, table_cost, walk_from, x86_feature_word}
+use Rattle.elf_model.specs.declared.causes.Cause.TheVariants.{NoteCut}
+use Rattle.elf_model.specs.declared.causes.Refusal.{Refusal}
 use Rattle.elf_source.specs.Source.{CountedState}
-use Rattle.elf_table.specs.Prelude.{CallReads, Fault, TableRange, fault_of_result}
+use Rattle.elf_table.specs.Prelude.{CallReads, TableRange, fault_of_result}
+use Rattle.elf_table.specs.declared.fault.Fault.{Fault}
 use Rattle.elf_table.specs.declared.fault.Fault.TheVariants.{Refused, Source}
 use Rattle.elf_loader.specs.Features.{ReturnsValue}
 use Rattle.elf_loader.specs.declared.trait_notes.PropertyRange.{PropertyRange}

@@ -4,9 +4,11 @@ use Rattle.elf_model.specs.Prelude.{Absent as IsAbsent, CompareResult, Found as 
 use Rattle.elf_model.specs.Hash.{Refused as IsRefused}
 use Rattle.elf_record.specs.Sym.{IsSym}
 use Rattle.elf_source.specs.Source.{CountedState}
-use Rattle.elf_table.specs.Prelude.{CallDid, CallReads, Fault, fault_of_result}
+use Rattle.elf_table.specs.Prelude.{CallDid, CallReads, fault_of_result}
+use Rattle.elf_table.specs.declared.fault.Fault.{Fault}
 use Rattle.elf_table.specs.declared.fault.Fault.TheVariants.{Refused, Source}
-use Rattle.elf_hash.specs.Prelude.{IsLookupTables, LookupTables as ScopeCode, LookupTablesInBounds}
+use Rattle.elf_hash.specs.Prelude.{IsLookupTables, LookupTablesInBounds}
+use Rattle.elf_hash.specs.declared.lookup_tables.LookupTables.{LookupTables as ScopeCode}
 use Rattle.elf_loader.specs.FoundVersions.{IsRelocationReported, version_found}
 use Rattle.elf_loader.specs.Telling.{parsed_member_bytes}
 use Rattle.elf_loader.specs.declared.lookup.SymbolLookup.{SymbolLookup}

@@ -1,7 +1,8 @@
 -- The marks of hardening that symbols have, one after another.
 use Rattle.std.specs.Prelude.{ℕ, zero, suc, ◌≡◌, ◌+◌, List, Result, Ok, Err}
-use Rattle.elf_model.specs.Prelude.{IsBudgetRefusal, Refusal, SYMBOL_SIZE, SymbolTraitFlags, TRAIT_NAME_BYTES, marked_with_symbol, shown, st_name}
-use Rattle.elf_table.specs.Prelude.{Fault}
+use Rattle.elf_model.specs.Prelude.{IsBudgetRefusal, SYMBOL_SIZE, SymbolTraitFlags, TRAIT_NAME_BYTES, marked_with_symbol, shown, st_name}
+use Rattle.elf_model.specs.declared.causes.Refusal.{Refusal}
+use Rattle.elf_table.specs.declared.fault.Fault.{Fault}
 use Rattle.elf_table.specs.declared.fault.Fault.TheVariants.{Refused, Source}
 use Rattle.elf_loader.specs.declared.symbol_traits.SymbolTraits.{SymbolTraits}
 

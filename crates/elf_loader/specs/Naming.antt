@@ -2,9 +2,11 @@
 use Rattle.std.specs.Prelude.{ℕ, ◌≡◌, ◌+◌, ◌*◌, List, Option, None, Some, Result, Ok, Err, IfSome}
 use Rattle.elf_model.specs.Prelude.{IsBudgetRefusal, NumberNameSource, VersionRecordRead, VisitedRecord, file_before, naming_of}
 use Rattle.elf_source.specs.Source.{CountedState}
-use Rattle.elf_table.specs.Prelude.{CallDid, CallReads, Fault, StringsInBounds, fault_of_result, strings_in}
+use Rattle.elf_table.specs.Prelude.{CallDid, CallReads, StringsInBounds, fault_of_result, strings_in}
+use Rattle.elf_table.specs.declared.fault.Fault.{Fault}
 use Rattle.elf_table.specs.declared.fault.Fault.TheVariants.{Refused, Source}
-use Rattle.elf_note.specs.Prelude.{IsVersion, VersionRecord}
+use Rattle.elf_note.specs.Prelude.{IsVersion}
+use Rattle.elf_note.specs.declared.record.VersionRecord.{VersionRecord}
 use Rattle.elf_loader.specs.declared.version_name_record.VersionNameRecord.{VersionNameRecord}
 
 -- some records are read that have not the number; the others are left

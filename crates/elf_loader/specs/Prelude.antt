@@ -15,16 +15,3 @@ pub use Rattle.elf_loader.specs.Tables.{max_records_of, max_versions_of}
 unfoldable pub use Rattle.elf_loader.specs.Tables.{readings_before}
 pub use Rattle.elf_loader.specs.Telling.{ReturnsVersionName, parsed_member_bytes, telling_bytes}
 pub use Rattle.elf_loader.specs.TraitStages.{FindsShown, FindsTraits, marks_asked, marks_told}
-pub use Rattle.elf_loader.specs.declared.found.FoundVersion.{FoundVersion}
-pub use Rattle.elf_loader.specs.declared.found.VersionName.{VersionName}
-pub use Rattle.elf_loader.specs.declared.found.VersionName.TheVariants.{Told, Unnamed, Wanted}
-pub use Rattle.elf_loader.specs.declared.known.CountedSymbols.{CountedSymbols}
-pub use Rattle.elf_loader.specs.declared.lookup.FoundSymbol.{FoundSymbol}
-pub use Rattle.elf_loader.specs.declared.lookup.SymbolLookup.{SymbolLookup}
-pub use Rattle.elf_loader.specs.declared.lookup.SymbolLookup.TheVariants.{Absent, Found}
-pub use Rattle.elf_loader.specs.declared.property.PropertyHeader.{PropertyHeader}
-pub use Rattle.elf_loader.specs.declared.resolved_version_name.ResolvedVersionName.{ResolvedVersionName}
-pub use Rattle.elf_loader.specs.declared.symbol_traits.SymbolTraits.{SymbolTraits}
-pub use Rattle.elf_loader.specs.declared.trait_notes.PropertyRange.{PropertyRange}
-pub use Rattle.elf_loader.specs.declared.trait_tags.TraitTags.{TraitTags}
-pub use Rattle.elf_loader.specs.declared.version_name_record.VersionNameRecord.{VersionNameRecord}

@@ -2,7 +2,8 @@
 use Rattle.std.specs.Prelude.{ℕ, ◌≡◌, ◌+◌, ◌*◌, true, is_some, List, None, Some, Result, Ok, Err}
 use Rattle.elf_model.specs.Prelude.{ChainResult, IsBudgetRefusal, IsNameBytesAt, LookupTables, NumberNameSource, TOLD_BYTES, VersionQuery, VersymTable, asked_name, cost_where, found_lookup, named_by_record, pad64, refused_lookup, versym, versym_at}
 use Rattle.elf_source.specs.Source.{CountedState}
-use Rattle.elf_table.specs.Prelude.{CallReads, Fault, shown_by}
+use Rattle.elf_table.specs.Prelude.{CallReads, shown_by}
+use Rattle.elf_table.specs.declared.fault.Fault.{Fault}
 use Rattle.elf_table.specs.declared.fault.Fault.TheVariants.{Refused, Source}
 use Rattle.elf_loader.specs.declared.resolved_version_name.ResolvedVersionName.{ResolvedVersionName}
 

@@ -5,7 +5,8 @@ use Rattle.elf_model.specs.Prelude.{IsNameOf, IsNulTerminatedAt, nul_in, slice}
 use Rattle.elf_model.proofs.NameLemmas.{inside-full, inside-below}
 use Rattle.elf_model.proofs.Nuls.{free-none, free-take, some-free, split_at_nul}
 use Rattle.elf_model.proofs.Slices.{slice-rest}
-use Rattle.elf_memory.specs.Prelude.{ByteRange, FindsName, bytes_in_range, name_size}
+use Rattle.elf_memory.specs.Prelude.{FindsName, bytes_in_range, name_size}
+use Rattle.elf_memory.specs.declared.name.ByteRange.{ByteRange}
 
 -- they are a name with its NUL behind it
 named : (table : List ℕ) (index place : ℕ) → nul_in (drop index table) ≡ Some place → IsNulTerminatedAt table index (take place (drop index table))

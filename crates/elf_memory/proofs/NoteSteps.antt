@@ -4,10 +4,13 @@ use Rattle.elf_model.specs.Prelude.{OneNote, alignment_gap, are_zeros, bytes_to_
 use Rattle.elf_model.proofs.Slices.{slice-size, slice-slice, slice-rest}
 use Rattle.elf_model.proofs.Spellings.{next-ends, next-tails, next-past, next-found}
 use Rattle.elf_model.proofs.Walks.{walk, walk-ends, walk-broken, walk-found}
-use Rattle.elf_record.specs.Prelude.{IsNoteHead, NoteHead}
+use Rattle.elf_record.specs.Prelude.{IsNoteHead}
+use Rattle.elf_record.specs.declared.note_head.NoteHead.{NoteHead}
 use Rattle.elf_note.specs.NoteCursors.{notes_from, no_notes, cut_at, note_size}
 use Rattle.elf_note.proofs.Stepping.{size-parts}
-use Rattle.elf_memory.specs.Prelude.{IsNoteAt, Note as Row, NotePosition}
+use Rattle.elf_memory.specs.Prelude.{IsNoteAt}
+use Rattle.elf_memory.specs.declared.notes.Note.{Note as Row}
+use Rattle.elf_memory.specs.declared.notes.NotePosition.{NotePosition}
 
 pub ends : (a at : ℕ) (bytes : List ℕ) → length bytes < 12 → are_zeros bytes ≡ true → notes_from a at bytes ≡ no_notes
 ends a at bytes few z = walk-ends a at bytes (next-ends a bytes few z)

@@ -1,7 +1,9 @@
 -- The checks of a file before its section headers and program headers are read.
 use Rattle.std.specs.Prelude.{ℕ, ◌≡◌, List, length, Option, None, Some, Result, Ok, Err}
-use Rattle.elf_model.specs.Prelude.{Refusal, before_headers, first_refusal, header_checks}
-use Rattle.elf_record.specs.Prelude.{Ehdr, IsEhdr}
+use Rattle.elf_model.specs.Prelude.{before_headers, first_refusal, header_checks}
+use Rattle.elf_model.specs.declared.causes.Refusal.{Refusal}
+use Rattle.elf_record.specs.Prelude.{IsEhdr}
+use Rattle.elf_record.specs.declared.ehdr.Ehdr.{Ehdr}
 use Rattle.elf_table.specs.Load.{PassesLoadChecks}
 
 -- how many headers may be permitted at most

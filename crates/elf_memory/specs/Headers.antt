@@ -1,6 +1,7 @@
 -- The headers of a file in memory, as C sees them.
 use Rattle.std.specs.Prelude.{ℕ, ◌≡◌, ◌+◌, ◌<◌, ◌≤◌, List, length, Option, None, Some, Result, Ok, Err}
-use Rattle.elf_model.specs.Prelude.{Refusal, e_entry, e_flags, e_machine, e_phentsize, e_phnum, e_phoff, e_shentsize, e_shnum, e_shoff, e_shstrndx, e_type, field, first_refusal, header_checks, p_align, p_filesz, p_flags, p_memsz, p_offset, p_paddr, p_type, p_vaddr, section_at, segment_at, sh_addr, sh_addralign, sh_entsize, sh_flags, sh_info, sh_link, sh_name, sh_offset, sh_size, sh_type, slice}
+use Rattle.elf_model.specs.Prelude.{e_entry, e_flags, e_machine, e_phentsize, e_phnum, e_phoff, e_shentsize, e_shnum, e_shoff, e_shstrndx, e_type, field, first_refusal, header_checks, p_align, p_filesz, p_flags, p_memsz, p_offset, p_paddr, p_type, p_vaddr, section_at, segment_at, sh_addr, sh_addralign, sh_entsize, sh_flags, sh_info, sh_link, sh_name, sh_offset, sh_size, sh_type, slice}
+use Rattle.elf_model.specs.declared.causes.Refusal.{Refusal}
 use Rattle.elf_memory.specs.Checked.{first_refused}
 use Rattle.elf_memory.specs.declared.header.Header.{Header}
 use Rattle.elf_memory.specs.declared.section.Section.{Section}

@@ -1,6 +1,8 @@
 -- Notes of a file in memory, as a caller goes over them.
 use Rattle.std.specs.Prelude.{ℕ, ◌≡◌, ◌≢◌, ◌+◌, ◌<◌, ◌≤◌, ◌⊎◌, true, false, List, length, Option, None, Some, Result, Ok, Err}
-use Rattle.elf_model.specs.Prelude.{Note as Told, NoteCut, NoteScan, PT_NOTE, Refusal, SHT_NOTE, TableOutside, e_phnum, e_shnum, is_outside, note_align, p_align, p_filesz, p_offset, p_type, section_at, segment_at, sh_addralign, sh_offset, sh_size, sh_type, slice, with_note}
+use Rattle.elf_model.specs.Prelude.{Note as Told, NoteScan, PT_NOTE, SHT_NOTE, e_phnum, e_shnum, is_outside, note_align, p_align, p_filesz, p_offset, p_type, section_at, segment_at, sh_addralign, sh_offset, sh_size, sh_type, slice, with_note}
+use Rattle.elf_model.specs.declared.causes.Cause.TheVariants.{NoteCut, TableOutside}
+use Rattle.elf_model.specs.declared.causes.Refusal.{Refusal}
 use Rattle.elf_note.specs.NoteCursors.{notes_from, no_notes, cut_at}
 use Rattle.elf_memory.specs.Checked.{first_refused}
 use Rattle.elf_memory.specs.declared.notes.Note.{Note}

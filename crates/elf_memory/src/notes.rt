@@ -1,6 +1,7 @@
 //! Notes, and steps over them.
 ghost use Rattle.std.specs.Prelude.{◌≡◌, ◌<◌};
-ghost use Rattle.elf_model.specs.Prelude.{NoteCut, note_align};
+ghost use Rattle.elf_model.specs.Prelude.{note_align};
+ghost use Rattle.elf_model.specs.declared.causes.Cause.TheVariants.{NoteCut};
 ghost use Rattle.elf_memory.specs.NoteRows.{TakesNote};
 
 use crate::bytes::chunk_at;

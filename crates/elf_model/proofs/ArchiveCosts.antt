@@ -1,7 +1,9 @@
 -- Where a member's data lie, and what the members of an archive cost at most.
 use Rattle.std.proofs.Common.{◌≡◌, ℕ, zero, suc, ◌+◌, ◌-◌, ◌≤◌, nat_le, nat_lt, if◌then◌else◌, Bool, true, false, List, length, Option, None, Some, Result, Ok, Err, refl, ap, arith}
 use Rattle.std.proofs.lemmas.Bool.Decides.{nat_tests}
-use Rattle.elf_model.specs.Prelude.{ArchiveCostIsWithinCeiling, Cause, DataLieInTheFile, DisplayedName, FileRange, ListingStyle, Member, MemberCut, MemberWalkState, NextMember, OneMember, allowance, archive_checks, archive_cost, before_members, behind, bytes_in, cost_where, data_after, header_cost, is_elf, is_elsewhere, listing_cost, lists_members, long_name_bytes, member_cost, member_data, member_name, member_named, member_size, members_cost, name_field, name_in_data, next_member, parsed_member_size, pass, style_ceiling}
+use Rattle.elf_model.specs.Prelude.{ArchiveCostIsWithinCeiling, DataLieInTheFile, DisplayedName, FileRange, ListingStyle, Member, MemberWalkState, NextMember, OneMember, allowance, archive_checks, archive_cost, before_members, behind, bytes_in, cost_where, data_after, header_cost, is_elf, is_elsewhere, listing_cost, lists_members, long_name_bytes, member_cost, member_data, member_name, member_named, member_size, members_cost, name_field, name_in_data, next_member, parsed_member_size, pass, style_ceiling}
+use Rattle.elf_model.specs.declared.causes.Cause.{Cause}
+use Rattle.elf_model.specs.declared.causes.Cause.TheVariants.{MemberCut}
 use Rattle.elf_model.specs.Archive.{Ends, Broken}
 use Rattle.elf_model.proofs.AllowanceLaws.{allowed, allowance_within, header_allowed}
 use Rattle.elf_model.proofs.CostLemmas.{cost_within}

@@ -1,6 +1,7 @@
 -- Which refusals are for want of budget.
 use Rattle.std.proofs.Common.{◌≡◌, inl, inr, ◌⊎◌, refl}
-use Rattle.elf_model.specs.Prelude.{BadClass, BadData, BadLink, BadVersion, Budget, Cause, EntrySize, ExtendedNumbering, HashCycle, HashIndex, HashShape, LoadOverlap, MemberCut, NameOutside, NameUnended, NoHash, NotArchive, NotElf, NotRel, NotStrings, NoteCut, Overflow, PlaceOutside, Short, SizeNotWhole, SymbolIndex, TableOutside, Thin, TooLong, TooManyHeaders, Undefined, Unmapped, Unplaced, Unsupported, VersionCut, VersionIndex}
+use Rattle.elf_model.specs.declared.causes.Cause.TheVariants.{BadClass, BadData, BadLink, BadVersion, Budget, EntrySize, ExtendedNumbering, HashCycle, HashIndex, HashShape, LoadOverlap, MemberCut, NameOutside, NameUnended, NoHash, NotArchive, NotElf, NotRel, NotStrings, NoteCut, Overflow, PlaceOutside, Short, SizeNotWhole, SymbolIndex, TableOutside, Thin, TooLong, TooManyHeaders, Undefined, Unmapped, Unplaced, Unsupported, VersionCut, VersionIndex}
+use Rattle.elf_model.specs.declared.causes.Cause.{Cause}
 
 -- whether a refusal is for want of budget
 pub is_budget_fault : (cause : Cause) → (cause ≡ Budget) ⊎ (cause ≡ Budget → ⊥)

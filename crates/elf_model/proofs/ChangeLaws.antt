@@ -2,7 +2,10 @@
 use Rattle.std.proofs.Common.{◌≡◌, ℕ, zero, suc, ◌+◌, ◌/◌, ◌≤◌, ◌==◌, inl, inr, true, false, nat_lt, List, [], ◌∷◌, ◌++◌, length, flat_map, All, Option, None, Some, Result, Ok, Err, refl, sym, ap, ◌∙◌, arith}
 use Rattle.std.proofs.lemmas.Bool.{cases_Bool, ltb-false}
 use Rattle.std.proofs.lemmas.List.Elements.{All-nil, All-cons, All-append, All-head, All-tail}
-use Rattle.elf_model.specs.Prelude.{AllInside, ApplyTarget, ChangesInside, EntryStoresValue, Fails, FormulaTerms, IsInside, Overflow, PlaceOutside, Put, R_X86_64_NONE, Refusal, RelocationType, SectionChange, StoredBytes, and_patches, applies_to, change_of, changes_of, entry_changes, entry_checks, first_refusal, has_base, kind_of, little, low_bytes, named_value, overflows, patch_of, patches_of, place_value, r_offset, r_type, refuse, relocation_entries, relocation_table_checks, section_changes, section_headers, symbol_checks, takes_place, terms_of, value_checks, value_of, where_based}
+use Rattle.elf_model.specs.Prelude.{AllInside, ApplyTarget, ChangesInside, EntryStoresValue, Fails, FormulaTerms, IsInside, Put, R_X86_64_NONE, SectionChange, StoredBytes, and_patches, applies_to, change_of, changes_of, entry_changes, entry_checks, first_refusal, has_base, kind_of, little, low_bytes, named_value, overflows, patch_of, patches_of, place_value, r_offset, r_type, refuse, relocation_entries, relocation_table_checks, section_changes, section_headers, symbol_checks, takes_place, terms_of, value_checks, value_of, where_based}
+use Rattle.elf_model.specs.declared.causes.Cause.TheVariants.{Overflow, PlaceOutside}
+use Rattle.elf_model.specs.declared.causes.Refusal.{Refusal}
+use Rattle.elf_model.specs.declared.relocation_types.RelocationType.{RelocationType}
 use Rattle.elf_model.proofs.CheckSteps.{first_refusal-back}
 
 pub length-little : (width n : ℕ) → length (little width n) ≡ width

@@ -1,6 +1,7 @@
 -- Changes row by row and section by section, and what they store.
 use Rattle.std.proofs.Common.{◌≡◌, ℕ, zero, suc, List, ◌∷◌, ◌++◌, length, Result, Ok, Err, refl, ap}
-use Rattle.elf_model.specs.Prelude.{Refusal, StoredBytes, and_patches, places_from}
+use Rattle.elf_model.specs.Prelude.{StoredBytes, and_patches, places_from}
+use Rattle.elf_model.specs.declared.causes.Refusal.{Refusal}
 
 -- as many places as entries
 pub length-places_from : (place : ℕ → ℕ) (i n : ℕ) → length (places_from place i n) ≡ n

@@ -3,7 +3,9 @@ use Rattle.std.proofs.Common.{◌≡◌, ℕ, if◌then◌else◌, Option, None,
 use Rattle.std.proofs.Math.Nat.{mul-le-mul_left, mul-le-mul_right, mul-le-mul, div-mul-le_self, mul-add}
 use Rattle.std.proofs.lemmas.Bool.{ltb-false, eqb-true}
 use Rattle.std.proofs.lemmas.Nat.{le-div}
-use Rattle.elf_model.specs.Prelude.{Check, CostIsWithinCeiling, DEFINED_NAME_SIZE, DEFINITION_SIZE, EntrySize, HeaderTable, ListingStyle, NEED_SIZE, Refusal, SHT_GNU_VERDEF, SHT_GNU_VERNEED, SizeNotWhole, SuffixesAreWithinMost, TableHeaders, TableKind, TableOutside, after_header as asked_after, by_sections, by_segments, ceiling, cost_where, e_phnum, e_shnum, e_shstrndx, early_checks, file_sections, file_segments, first_numbers, first_typed, has, has_strings, has_symbol_table, has_tables, header_checks, header_field, is_inside, is_loadable, is_outside, is_symbol_table, kinds_cost, known_parts, links, listing_cost, name_bytes, needs_segments, p_filesz, p_offset, p_type, pass, range_checks_of, refuse, relocations, relocations_with_versions, section_dynamic, section_kinds, section_notes, sections_cost, segment_dynamic, segment_kinds, segment_notes, segments_cost, sh_entsize, sh_link, sh_offset, sh_size, sh_type, style_ceiling, suffixed_symbols, suffixes_cost, suffixes_most, sum_over, symbol_versions, symbols, table_checks_of, table_cost, table_headers, tables_cost, version_definitions, version_needs, versioned_cost, versioned_rows, viewed, walk_cost, walks_cost, whole_checks_of}
+use Rattle.elf_model.specs.Prelude.{Check, CostIsWithinCeiling, DEFINED_NAME_SIZE, DEFINITION_SIZE, HeaderTable, ListingStyle, NEED_SIZE, SHT_GNU_VERDEF, SHT_GNU_VERNEED, SuffixesAreWithinMost, TableHeaders, TableKind, after_header as asked_after, by_sections, by_segments, ceiling, cost_where, e_phnum, e_shnum, e_shstrndx, early_checks, file_sections, file_segments, first_numbers, first_typed, has, has_strings, has_symbol_table, has_tables, header_checks, header_field, is_inside, is_loadable, is_outside, is_symbol_table, kinds_cost, known_parts, links, listing_cost, name_bytes, needs_segments, p_filesz, p_offset, p_type, pass, range_checks_of, refuse, relocations, relocations_with_versions, section_dynamic, section_kinds, section_notes, sections_cost, segment_dynamic, segment_kinds, segment_notes, segments_cost, sh_entsize, sh_link, sh_offset, sh_size, sh_type, style_ceiling, suffixed_symbols, suffixes_cost, suffixes_most, sum_over, symbol_versions, symbols, table_checks_of, table_cost, table_headers, tables_cost, version_definitions, version_needs, versioned_cost, versioned_rows, viewed, walk_cost, walks_cost, whole_checks_of}
+use Rattle.elf_model.specs.declared.causes.Cause.TheVariants.{EntrySize, SizeNotWhole, TableOutside}
+use Rattle.elf_model.specs.declared.causes.Refusal.{Refusal}
 use Rattle.elf_model.proofs.CheckSteps.{all_pass, pass-behind}
 use Rattle.elf_model.proofs.StyleLemmas.{view_length}
 use Rattle.elf_model.proofs.SumLemmas.{cost_where-le, cost_where-within, cost_where-and, sum_over-le, and-second, and-first, fewer, headers_within, one_kind, two_kinds, one_segment_kind}

@@ -1,7 +1,8 @@
 -- How listings are put together.
 use Rattle.std.proofs.lemmas.Nat.{and_assoc}
 use Rattle.std.specs.Int.RustNames.{bit_and}
-use Rattle.elf_model.specs.Prelude.{Check, FILE_HEADER_SIZE, Fault, HEADER, HeaderAloneIsListed, HeaderFaultIsListedAlone, LastRowIsLast, Line, ListingItem, ListingStyle, ListingsAppend, LoadFaultIsListedSecond, NothingAfterTheFault, OtherBitsMeanNothing, Refusal, RowsSplit, after_header, all_parts, each, fault_of, file_header_items, first_refusal, guarded, has, has_tables, header_checks, header_line, known_parts, lines_of, listing, listing_cost, load_checks, load_items, loaded_items, refusal_line, report_of, viewed, where_asked}
+use Rattle.elf_model.specs.Prelude.{Check, FILE_HEADER_SIZE, Fault, HEADER, HeaderAloneIsListed, HeaderFaultIsListedAlone, LastRowIsLast, Line, ListingItem, ListingStyle, ListingsAppend, LoadFaultIsListedSecond, NothingAfterTheFault, OtherBitsMeanNothing, RowsSplit, after_header, all_parts, each, fault_of, file_header_items, first_refusal, guarded, has, has_tables, header_checks, header_line, known_parts, lines_of, listing, listing_cost, load_checks, load_items, loaded_items, refusal_line, report_of, viewed, where_asked}
+use Rattle.elf_model.specs.declared.causes.Refusal.{Refusal}
 use Rattle.std.proofs.Common.{◌≡◌, ℕ, suc, zero, ◌+◌, ◌==◌, Bool, true, false, List, [], ◌∷◌, ◌++◌, Some, None, arith, refl, ap, sym, ◌∙◌, append-nil, append_assoc, add-zero, zero-add}
 
 -- rows are put together

@@ -1,7 +1,9 @@
 -- A loader's lookup: a symbol that is found is one to take.
 use Rattle.std.proofs.Common.{◌≡◌, ℕ, Bool, true, false, nat_lt, List, [], ◌∷◌, Option, None, Some, Result, Ok, Err, inl, inr, refl}
 use Rattle.std.proofs.lemmas.Bool.{cases_Bool}
-use Rattle.elf_model.specs.Prelude.{Cause, ChainResult, DisplayedName, DynamicSymbols, Found, GnuTable, HashStyle, IsTaken, LoaderFoundIsTaken, LookupTables, NumberNameSource, Refusal, SymbolQuery, SysvTable, TOLD_BYTES, VersionQuery, VersymTable, VisitedRecord, answers, asked_name, counts_check, first_refusal, found_in, gnu_hash, is_among, is_exported, loaded_in, loader_looked, looked_by, lookup_tables_of, name_index, named_by_record, number_in, same, shown, st_name, symbol_offset, sysv_hash, version_fits, version_indices, versym, versym_at, walk_in}
+use Rattle.elf_model.specs.Prelude.{ChainResult, DisplayedName, DynamicSymbols, Found, GnuTable, HashStyle, IsTaken, LoaderFoundIsTaken, LookupTables, NumberNameSource, SymbolQuery, SysvTable, TOLD_BYTES, VersionQuery, VersymTable, VisitedRecord, answers, asked_name, counts_check, first_refusal, found_in, gnu_hash, is_among, is_exported, loaded_in, loader_looked, looked_by, lookup_tables_of, name_index, named_by_record, number_in, same, shown, st_name, symbol_offset, sysv_hash, version_fits, version_indices, versym, versym_at, walk_in}
+use Rattle.elf_model.specs.declared.causes.Cause.{Cause}
+use Rattle.elf_model.specs.declared.causes.Refusal.{Refusal}
 use Rattle.elf_model.specs.Hash.{Refused}
 use Rattle.elf_model.proofs.GnuHashLaws.{gnu_found_answers}
 use Rattle.elf_model.proofs.SysvWalkLaws.{sysv_found_answers}

@@ -4,7 +4,11 @@ use Rattle.std.proofs.Math.Nat.{div-mul-le_self}
 use Rattle.std.proofs.lemmas.Bool.{ltb-false}
 use Rattle.std.proofs.lemmas.Nat.{le-div}
 use Rattle.std.specs.Prelude.{is_none}
-use Rattle.elf_model.specs.Prelude.{BadLink, Check, DT_STRSZ, DT_STRTAB, DT_SYMTAB, DT_VERDEF, DT_VERNEED, Definition, File, HashShape, HashStyle, LookupTables, Refusal, SHT_GNU_VERDEF, SHT_GNU_VERNEED, Unmapped, VERSYM_SIZE, VersionKind, VersionRecordTable, all_checks, checks_of_row, checks_of_type, d_un, dynamic_segment_index, e_shnum, first_of_type, first_refusal, has_wide_kind, hash_checks_from, hash_row, hash_section, header_checks, is_outside, least_size, load_checks, lookup_tables_by_segments, lookup_tables_of, mapped_at, mapped_checks, max_records, overlap_checks, p_filesz, p_offset, record_size, records_of_tag, records_of_type, records_with, refuse, rest_checks, rest_place, rest_size, rows_checks, scope_by_sections, scope_in_segment, scope_in_segments, section_at, section_checks, section_lookup_tables, section_words, segment_at, segment_checks, segment_dynamic_checks, segment_lookup_tables, segment_strings, segment_words, sh_link, sh_offset, sh_size, strings_of, table_checks, tagged_row, unless_empty, version_checks, version_table, words_row, words_section}
+use Rattle.elf_model.specs.Prelude.{Check, DT_STRSZ, DT_STRTAB, DT_SYMTAB, DT_VERDEF, DT_VERNEED, HashStyle, LookupTables, SHT_GNU_VERDEF, SHT_GNU_VERNEED, VERSYM_SIZE, VersionRecordTable, all_checks, checks_of_row, checks_of_type, d_un, dynamic_segment_index, e_shnum, first_of_type, first_refusal, has_wide_kind, hash_checks_from, hash_row, hash_section, header_checks, is_outside, least_size, load_checks, lookup_tables_by_segments, lookup_tables_of, mapped_at, mapped_checks, max_records, overlap_checks, p_filesz, p_offset, record_size, records_of_tag, records_of_type, records_with, refuse, rest_checks, rest_place, rest_size, rows_checks, scope_by_sections, scope_in_segment, scope_in_segments, section_at, section_checks, section_lookup_tables, section_words, segment_at, segment_checks, segment_dynamic_checks, segment_lookup_tables, segment_strings, segment_words, sh_link, sh_offset, sh_size, strings_of, table_checks, tagged_row, unless_empty, version_checks, version_table, words_row, words_section}
+use Rattle.elf_model.specs.declared.causes.Cause.TheVariants.{BadLink, HashShape, Unmapped}
+use Rattle.elf_model.specs.declared.versions.VersionKind.TheVariants.{Definition, File}
+use Rattle.elf_model.specs.declared.causes.Refusal.{Refusal}
+use Rattle.elf_model.specs.declared.versions.VersionKind.{VersionKind}
 use Rattle.elf_model.proofs.CheckSteps.{first_refusal-back, passes_front}
 
 -- how many records some tables have at most

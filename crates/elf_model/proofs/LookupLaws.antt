@@ -1,7 +1,9 @@
 -- Lookups: what is calculated is the one lookup.
 use Rattle.std.proofs.Common.{◌≡◌, ℕ, zero, suc, ◌<◌, ◌≤◌, ◌⊎◌, inl, inr, Bool, true, false, List, [], ◌∷◌, ◌++◌, length, drop, nat_lt, ◌==◌, Option, None, Some, Result, Ok, Err, refl, sym, ap, ◌∙◌, arith}
 use Rattle.std.proofs.lemmas.Bool.{cases_eq, cases_lt, cases_Bool, and_parts, ltb-true}
-use Rattle.elf_model.specs.Prelude.{Absent, Cause, ChainEnd, ComparedWithinChains, CycleExactly, CycleIsEndless, Found, HashCycle, IsEndless, IsFirst, IsLookup, Lookup, LookupAnswers, LookupEnd, LookupIsBounded, LookupIsOne, Nameless, NoHash, NoIndex, Outcome, Wanted, begins, cycle, end_at_word, end_of_name, is_empty_at_zero, is_index, linked_at, looked_up, lookup_at, lookup_by, lookup_end, lookup_word, nchain, same, same_symbol}
+use Rattle.elf_model.specs.Prelude.{Absent, ChainEnd, ComparedWithinChains, CycleExactly, CycleIsEndless, Found, IsEndless, IsFirst, IsLookup, Lookup, LookupAnswers, LookupEnd, LookupIsBounded, LookupIsOne, Nameless, NoIndex, Outcome, Wanted, begins, cycle, end_at_word, end_of_name, is_empty_at_zero, is_index, linked_at, looked_up, lookup_at, lookup_by, lookup_end, lookup_word, nchain, same, same_symbol}
+use Rattle.elf_model.specs.declared.causes.Cause.{Cause}
+use Rattle.elf_model.specs.declared.causes.Cause.TheVariants.{HashCycle, NoHash}
 use Rattle.elf_model.specs.Hash.{Refused}
 use Rattle.elf_model.proofs.WalkLaws.{long_walk_never_ends, searched_endless, searched_first, gives_one, not_both}
 

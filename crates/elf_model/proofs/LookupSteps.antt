@@ -1,7 +1,9 @@
 -- A lookup step by step: the answer after each stage, and the words as they are read.
 use Rattle.std.proofs.Common.{◌≡◌, ℕ, zero, suc, ◌+◌, ◌*◌, ◌<◌, ◌≤◌, inl, inr, Bool, true, false, List, ◌++◌, length, Option, None, Some, refl, ap, arith}
 use Rattle.std.proofs.lemmas.Bool.{cases_eq}
-use Rattle.elf_model.specs.Prelude.{GoesOn, NoHash, Refusal, e_shnum, early_checks, find_cost, first_hash, first_refusal, first_that, hash_checks, header_checks, load_checks, looked, looked_in, looked_up, pad64, refused_after, section_at, shape_checks}
+use Rattle.elf_model.specs.Prelude.{GoesOn, e_shnum, early_checks, find_cost, first_hash, first_refusal, first_that, hash_checks, header_checks, load_checks, looked, looked_in, looked_up, pad64, refused_after, section_at, shape_checks}
+use Rattle.elf_model.specs.declared.causes.Cause.TheVariants.{NoHash}
+use Rattle.elf_model.specs.declared.causes.Refusal.{Refusal}
 
 -- one word more goes on
 pub goes_on_more : {E : Type 0} (ends : ℕ → Option E) (words : ℕ → ℕ) (n : ℕ) → GoesOn ends words n → ends (words n) ≡ None → GoesOn ends words (suc n)

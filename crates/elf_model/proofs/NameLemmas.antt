@@ -3,7 +3,8 @@ use Rattle.std.proofs.Common.{min, ◌≡◌, ℕ, suc, zero, ◌+◌, ◌-◌, 
 use Rattle.std.proofs.lemmas.List.{take-take, append_assoc, take_all}
 use Rattle.std.proofs.lemmas.Bool.Decides.{nat_tests}
 use Rattle.std.proofs.lemmas.Bool.{cases_lt}
-use Rattle.elf_model.specs.Prelude.{Cut, IsEmptyAtZero, IsNameOutside, IsNulTerminatedAt, NameOutside, NameUnended, is_empty_at_zero, nul_in, shown, shown_of, slice}
+use Rattle.elf_model.specs.Prelude.{Cut, IsEmptyAtZero, IsNameOutside, IsNulTerminatedAt, is_empty_at_zero, nul_in, shown, shown_of, slice}
+use Rattle.elf_model.specs.declared.causes.Cause.TheVariants.{NameOutside, NameUnended}
 use Rattle.elf_model.specs.Names.DisplayedName.{Whole}
 
 -- an index is below a table's size, in an empty table at 0, or past it

@@ -3,7 +3,8 @@ use Rattle.std.proofs.Common.{◌≡◌, ℕ, suc, zero, ◌+◌, ◌/◌, ◌�
 use Rattle.std.proofs.Math.Nat.{div-mul-le_self}
 use Rattle.std.proofs.lemmas.Bool.{ltb-false}
 use Rattle.std.proofs.lemmas.Nat.{le-div}
-use Rattle.elf_model.specs.Prelude.{Check, Fault, HEADER, Line, ListingItem, ListingStyle, LoadOverlap, NoPageIsShared, OverlapIsListedElsewhere, OverlapIsListedSecond, e_phnum, first_page, first_refusal, header_checks, header_line, known_parts, listing, load_checks, load_items, loaded_items, loads_from, needs_segments, overlap_checks, overlaps_from, p_memsz, p_vaddr, page_behind, pass, refusal_line, report_of, segment_at, table_items, takes_memory, view_checks, viewed, where_asked}
+use Rattle.elf_model.specs.Prelude.{Check, Fault, HEADER, Line, ListingItem, ListingStyle, NoPageIsShared, OverlapIsListedElsewhere, OverlapIsListedSecond, e_phnum, first_page, first_refusal, header_checks, header_line, known_parts, listing, load_checks, load_items, loaded_items, loads_from, needs_segments, overlap_checks, overlaps_from, p_memsz, p_vaddr, page_behind, pass, refusal_line, report_of, segment_at, table_items, takes_memory, view_checks, viewed, where_asked}
+use Rattle.elf_model.specs.declared.causes.Cause.TheVariants.{LoadOverlap}
 use Rattle.elf_model.proofs.ListingLemmas.{guarded-fault, guarded-passes, asked-true, load_some}
 
 -- a segment ends behind the page that it begins on, or on it

@@ -1,7 +1,9 @@
 -- What a lookup reads of the records of versions, and what comparing gives of these, by the records that a listing meets.
 use Rattle.std.proofs.Common.{◌≡◌, ℕ, zero, suc, ◌+◌, Bool, true, false, cond, List, [], ◌∷◌, ◌++◌, append-nil, length, map, filter, Option, None, Some, Result, Ok, Err, refl, sym, ap, ◌∙◌, arith, inl, inr}
 use Rattle.std.proofs.lemmas.List.Elements.{All-nil, All-cons}
-use Rattle.elf_model.specs.Prelude.{Cause, CompareResult, ComparedNumbersAreRecords, ComparingEndsAtTheFirst, EndsReadings, IsComparable, IsRefusedAt, Meets, Misses, ReadingsAreRecords, RecordCursorState, Refusal, Refuses, StandsAtItsEnd, VersionRecordRead, VersionRecordTable, Versions, VisitedRecord, WalksStandAtRecords, WalksStandAtTheirEnd, compared_until, compared_with, end_reading, first_position, first_refusal, has_record, max_records, meetings, name_index, named_at, names_version, names_wanted, next_position, number_in, number_word, numbers_under, one_more, position_after, readings, readings_of, record_checks, records_in, records_read, same, versions_in, visited_at, visited_from, with_number}
+use Rattle.elf_model.specs.Prelude.{CompareResult, ComparedNumbersAreRecords, ComparingEndsAtTheFirst, EndsReadings, IsComparable, IsRefusedAt, Meets, Misses, ReadingsAreRecords, RecordCursorState, Refuses, StandsAtItsEnd, VersionRecordRead, VersionRecordTable, Versions, VisitedRecord, WalksStandAtRecords, WalksStandAtTheirEnd, compared_until, compared_with, end_reading, first_position, first_refusal, has_record, max_records, meetings, name_index, named_at, names_version, names_wanted, next_position, number_in, number_word, numbers_under, one_more, position_after, readings, readings_of, record_checks, records_in, records_read, same, versions_in, visited_at, visited_from, with_number}
+use Rattle.elf_model.specs.declared.causes.Cause.{Cause}
+use Rattle.elf_model.specs.declared.causes.Refusal.{Refusal}
 use Rattle.elf_model.proofs.VersionSteps.{met-ended, met-most, met-record, met-refused}
 
 abbrev visited_of : Versions → List VisitedRecord

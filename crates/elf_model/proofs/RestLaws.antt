@@ -1,7 +1,9 @@
 -- What is left of a lookup: the lookup as it goes on from a word, by what it meets there.
 use Rattle.std.proofs.Common.{◌≡◌, ℕ, zero, suc, ◌+◌, ◌<◌, ◌≤◌, Bool, true, false, List, None, Some, Result, Ok, Err, refl, sym, ap, ◌∙◌, arith}
 use Rattle.std.proofs.lemmas.Bool.{and_parts, ltb-true}
-use Rattle.elf_model.specs.Prelude.{Absent, Cause, ChainEnd, Found, GoesOn, HashIndex, Lookup, Nameless, NoIndex, Wanted, bucket_of, chain_at, cycle, end_among, end_at_word, end_of_name, field, is_index, linked_at, looked_up, lookup_at, lookup_by, lookup_end, lookup_word, nchain, next_in_chain, refused_after, same_symbol, sh_link, symbol_at, walk_word, word_at}
+use Rattle.elf_model.specs.Prelude.{Absent, ChainEnd, Found, GoesOn, Lookup, Nameless, NoIndex, Wanted, bucket_of, chain_at, cycle, end_among, end_at_word, end_of_name, field, is_index, linked_at, looked_up, lookup_at, lookup_by, lookup_end, lookup_word, nchain, next_in_chain, refused_after, same_symbol, sh_link, symbol_at, walk_word, word_at}
+use Rattle.elf_model.specs.declared.causes.Cause.{Cause}
+use Rattle.elf_model.specs.declared.causes.Cause.TheVariants.{HashIndex}
 use Rattle.elf_model.proofs.LookupLaws.{cycle_is_endless}
 use Rattle.elf_model.proofs.LookupSteps.{goes_on_more}
 use Rattle.elf_model.proofs.WalkLaws.{found_here, passed_over}

@@ -2,7 +2,8 @@
 use Rattle.std.proofs.Common.{◌≡◌, ℕ, zero, suc, ◌+◌, ◌-◌, ◌<◌, ◌≤◌, true, false, List, [], ◌∷◌, ◌++◌, length, take, drop, None, Some, Ok, Err, refl, ap, sym, ◌∙◌, arith, length-take, take-take}
 use Rattle.std.proofs.Math.Seq.{take-add}
 use Rattle.std.proofs.lemmas.List.{take_all, drop-drop}
-use Rattle.elf_model.specs.Prelude.{Cut, NameOutside, NameUnended, NulFound, nul_in, shown, slice}
+use Rattle.elf_model.specs.Prelude.{Cut, NulFound, nul_in, shown, slice}
+use Rattle.elf_model.specs.declared.causes.Cause.TheVariants.{NameOutside, NameUnended}
 use Rattle.elf_model.specs.Names.DisplayedName.{Whole}
 use Rattle.elf_model.proofs.Slices.{slice-rest, slice-size, slice-slice}
 use Rattle.elf_model.proofs.Nuls.{some-free}

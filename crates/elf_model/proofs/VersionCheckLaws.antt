@@ -1,6 +1,8 @@
 -- The checks before the rows of version numbers are those that a cost counts by the headers.
 use Rattle.std.proofs.Common.{◌≡◌, ℕ, ◌==◌, ◌&&◌, ◌||◌, nat_lt, not, if◌then◌else◌, Bool, true, false, List, [], ◌∷◌, ◌++◌, length, refl, ap, ap₂, sym, ◌∙◌}
-use Rattle.elf_model.specs.Prelude.{BadLink, Check, CheckedRowsAreCounted, NotStrings, Refusal, TableOutside, VERSYM_SIZE, e_shnum, file_sections, has_strings, has_symbol_table, is_outside, is_symbol_table, pass, refuse, section_at, sh_link, sh_offset, sh_size, sh_type, strings_checks, symbol_table_checks, symbol_versions, symbols_checks, table_checks, unless_empty}
+use Rattle.elf_model.specs.Prelude.{Check, CheckedRowsAreCounted, VERSYM_SIZE, e_shnum, file_sections, has_strings, has_symbol_table, is_outside, is_symbol_table, pass, refuse, section_at, sh_link, sh_offset, sh_size, sh_type, strings_checks, symbol_table_checks, symbol_versions, symbols_checks, table_checks, unless_empty}
+use Rattle.elf_model.specs.declared.causes.Cause.TheVariants.{BadLink, NotStrings, TableOutside}
+use Rattle.elf_model.specs.declared.causes.Refusal.{Refusal}
 
 -- checks pass one by one
 pass-one : (fails : Bool) (refusal : Refusal) (checks : List Check) → pass (record { fails = fails; refusal = refusal } ∷ checks) ≡ (not fails && pass checks)

@@ -2,7 +2,9 @@
 use Rattle.std.proofs.Common.{◌≡◌, ℕ, zero, suc, ◌+◌, ◌<◌, ◌≤◌, min, nat_lt, true, false, List, [], ◌++◌, length, length-append, Option, None, Some, Result, Ok, Err, refl, ◌∙◌, arith, inl, inr}
 use Rattle.std.proofs.lemmas.Bool.{cases_Bool}
 use Rattle.std.proofs.lemmas.Bool.Decides.{nat_tests}
-use Rattle.elf_model.specs.Prelude.{Cause, DisplayedName, EveryRow, LinePrefix, ListingItem, ListingStyle, RowFilter, RowsAreSymbols, RowsOf, VERSYM_SIZE, VersionCut, VisitedRecord, chosen_row, each, entry_count, no_name, numbered_row, refused_row, symbol_version_row, symbol_version_rows, version_named, versioned_count, versioned_symbols}
+use Rattle.elf_model.specs.Prelude.{DisplayedName, EveryRow, LinePrefix, ListingItem, ListingStyle, RowFilter, RowsAreSymbols, RowsOf, VERSYM_SIZE, VisitedRecord, chosen_row, each, entry_count, no_name, numbered_row, refused_row, symbol_version_row, symbol_version_rows, version_named, versioned_count, versioned_symbols}
+use Rattle.elf_model.specs.declared.causes.Cause.{Cause}
+use Rattle.elf_model.specs.declared.causes.Cause.TheVariants.{VersionCut}
 
 -- where every row is shown, a row with a name is one member
 chosen-one : (choice : RowFilter) (front : LinePrefix) (at : ℕ) (name : Result DisplayedName Cause) → choice ≡ EveryRow

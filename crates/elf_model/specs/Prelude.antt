@@ -134,31 +134,3 @@ pub use Rattle.elf_model.specs.VersionRows.{end_rows, first_of_type, first_strin
 unfoldable pub use Rattle.elf_model.specs.VersionRows.{kind_text, numbered_row, symbol_version_prefix, symbol_version_row, symbol_version_rows, symbol_versions, version_definitions, version_named, version_needs, version_prefix, version_row, version_strings, versions_rows, visited_rows}
 pub use Rattle.elf_model.specs.Versions.{DEFINED_NAME_SIZE, DEFINITION_SIZE, NEED_SIZE, RecordCursorState, VERSION_NUMBERS, VERSYM_SIZE, Versions, VisitedRecord, along, along_needs, first_position, max_records, named_at, names_version_index, no_versions, number_in, record_size, visited_at, with_visited, word_checks}
 unfoldable pub use Rattle.elf_model.specs.Versions.{flags_word, hash_word, name_distance, name_end, name_index, named_by, names_version, next_position, next_word, number_word, record_checks, version_of, version_word, versions_in, visited_from}
-pub use Rattle.elf_model.specs.declared.causes.Cause.{Cause}
-pub use Rattle.elf_model.specs.declared.causes.Cause.TheVariants.{BadClass, BadData, BadLink, BadVersion, Budget, EntrySize, ExtendedNumbering, HashCycle, HashIndex, HashShape, LoadOverlap, MemberCut, NameOutside, NameUnended, NoHash, NotArchive, NotElf, NotRel, NotStrings, NoteCut, Overflow, PlaceOutside, Short, SizeNotWhole, SymbolIndex, TableOutside, Thin, TooLong, TooManyHeaders, Undefined, Unmapped, Unplaced, Unsupported, VersionCut, VersionIndex}
-pub use Rattle.elf_model.specs.declared.causes.Refusal.{Refusal}
-pub use Rattle.elf_model.specs.declared.formats.Format.{Format}
-pub use Rattle.elf_model.specs.declared.formats.Format.TheVariants.{Columns, Object}
-pub use Rattle.elf_model.specs.declared.missing.LayoutAddress.{LayoutAddress}
-pub use Rattle.elf_model.specs.declared.missing.LayoutAddress.TheVariants.{Entry, Named, Place}
-pub use Rattle.elf_model.specs.declared.missing.MissingAddress.{MissingAddress}
-pub use Rattle.elf_model.specs.declared.relocation_types.Formula.{Formula}
-pub use Rattle.elf_model.specs.declared.relocation_types.Formula.TheVariants.{Absolute, Relative}
-pub use Rattle.elf_model.specs.declared.relocation_types.RelocationBase.{RelocationBase}
-pub use Rattle.elf_model.specs.declared.relocation_types.RelocationBase.TheVariants.{Linkage, Symbol, Table, Thread}
-pub use Rattle.elf_model.specs.declared.relocation_types.RelocationType.{RelocationType}
-pub use Rattle.elf_model.specs.declared.relocation_types.ValueRange.{ValueRange}
-pub use Rattle.elf_model.specs.declared.relocation_types.ValueRange.TheVariants.{Any, Either, Unsigned}
-pub use Rattle.elf_model.specs.declared.states.BindingState.{BindingState}
-pub use Rattle.elf_model.specs.declared.states.FileMagic.{FileMagic}
-pub use Rattle.elf_model.specs.declared.states.FileMagic.TheVariants.{Archive, Elf, Foreign}
-pub use Rattle.elf_model.specs.declared.states.FileStatus.{FileStatus}
-pub use Rattle.elf_model.specs.declared.states.FileStatus.TheVariants.{Memory, NoElf, Unread}
-pub use Rattle.elf_model.specs.declared.traits.Hardening.{Hardening}
-pub use Rattle.elf_model.specs.declared.traits.ProgramKind.{ProgramKind}
-pub use Rattle.elf_model.specs.declared.traits.Relro.{Relro}
-pub use Rattle.elf_model.specs.declared.traits.SearchPath.{SearchPath}
-pub use Rattle.elf_model.specs.declared.traits.SegmentTraits.{SegmentTraits}
-pub use Rattle.elf_model.specs.declared.traits.TraitColumn.{TraitColumn}
-pub use Rattle.elf_model.specs.declared.versions.VersionKind.{VersionKind}
-pub use Rattle.elf_model.specs.declared.versions.VersionKind.TheVariants.{Definition, File, Need}

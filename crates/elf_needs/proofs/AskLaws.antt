@@ -4,9 +4,11 @@ use Rattle.std.proofs.lemmas.Bool.{cases_eq, cases_lt}
 use Rattle.std.proofs.lemmas.List.Sums.{sum_by-set}
 use Rattle.elf_model.specs.Loader.{SymbolQuery}
 use Rattle.elf_source.specs.Source.{CountedState}
-use Rattle.elf_table.specs.Prelude.{Fault}
+use Rattle.elf_table.specs.declared.fault.Fault.{Fault}
 use Rattle.elf_table.specs.declared.fault.Fault.TheVariants.{Refused, Source}
-use Rattle.elf_needs.specs.Prelude.{AreObjectFiles, AskedFirst, AsksAll, BindFault, BindResult, BindsAcross, FailsIn, FaultLeaves, IsLimited, LookupObjectState, OnlyLimited, SameObject, SpendsAtMost, SpendsBudget, asked_of_all, reached}
+use Rattle.elf_needs.specs.Prelude.{AreObjectFiles, AskedFirst, AsksAll, BindsAcross, FailsIn, FaultLeaves, IsLimited, LookupObjectState, OnlyLimited, SameObject, SpendsAtMost, SpendsBudget, asked_of_all, reached}
+use Rattle.elf_needs.specs.declared.bind_name.BindFault.{BindFault}
+use Rattle.elf_needs.specs.declared.bind_name.BindResult.{BindResult}
 use Rattle.elf_needs.proofs.OpenLaws.{pays_then}
 
 same_none : (o : LookupObjectState) → SameObject o o

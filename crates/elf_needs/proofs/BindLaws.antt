@@ -2,11 +2,13 @@
 use Rattle.std.proofs.Common.{◌≡◌, ℕ, zero, suc, ◌+◌, ◌<◌, ◌≤◌, ◌⊎◌, List, [], ◌∷◌, length, length-set, get_or, get_or-set_other, get_or-set_same, set, drop, inl, inr, Option, None, Some, Result, Ok, Err, refl, ap, subst, ◌∙◌, arith}
 use Rattle.std.proofs.lemmas.Bool.{cases_lt}
 use Rattle.std.proofs.lemmas.List.Sums.{sum_by-set}
-use Rattle.elf_model.specs.Prelude.{BoundTo, BoundToNone, DefinerLookup, Refusal, StoppedIn, SymbolQuery, bound_from, bound_in, bound_or, definition_lookup}
+use Rattle.elf_model.specs.Prelude.{BoundTo, BoundToNone, DefinerLookup, StoppedIn, SymbolQuery, bound_from, bound_in, bound_or, definition_lookup}
+use Rattle.elf_model.specs.declared.causes.Refusal.{Refusal}
 use Rattle.elf_model.specs.Bindings as model
-use Rattle.elf_table.specs.Prelude.{Fault}
+use Rattle.elf_table.specs.declared.fault.Fault.{Fault}
 use Rattle.elf_table.specs.declared.fault.Fault.TheVariants.{Refused, Source}
-use Rattle.elf_needs.specs.Prelude.{AreObjectFiles, AskedFirst, AskedOf, BindsAcross, Bound, FailsIn, LooksInObject, LookupObjectState, ReturnsBinding, ReturnsDefiner, SpendsBudget, Unbound, asked_of_all}
+use Rattle.elf_needs.specs.Prelude.{AreObjectFiles, AskedFirst, AskedOf, BindsAcross, FailsIn, LooksInObject, LookupObjectState, ReturnsBinding, ReturnsDefiner, SpendsBudget, asked_of_all}
+use Rattle.elf_needs.specs.declared.bind_name.BindResult.TheVariants.{Bound, Unbound}
 
 -- so many were looked in, and none of them answers
 pub record BindsSoFar (wanted : SymbolQuery) (old now : List LookupObjectState) (left_old left_now : Option ℕ) (n : ℕ) : Type 0 where

@@ -1,12 +1,16 @@
 -- Whether a file lacks a version, by what is read of its definitions.
 use Rattle.std.proofs.Common.{◌≡◌, ℕ, ◌+◌, ◌≤◌, ◌==◌, nat_lt, Bool, true, false, if◌then◌else◌, is_some, not, MatchBool, List, [], ◌∷◌, ◌++◌, length, Option, None, Some, Result, Ok, Err, refl, sym, ap, ◌∙◌, arith, mul-le-mul_right}
 use Rattle.std.proofs.lemmas.Bool.Decides.{nat_tests}
-use Rattle.elf_model.specs.Prelude.{CompareResult, DynamicSymbols as AreSymbolsOf, LookupTables as IsScopeOf, Refusal, Version, VersionRecordTable as IsTableOf, VersymTable as AreWordsOf, compared_with, definitions_among, is_among, is_definition, is_none_of, lacks_among, lacks_version, pad64, readings, version_indices}
-use Rattle.elf_table.specs.Prelude.{Fault}
+use Rattle.elf_model.specs.Prelude.{CompareResult, DynamicSymbols as AreSymbolsOf, LookupTables as IsScopeOf, Version, VersionRecordTable as IsTableOf, VersymTable as AreWordsOf, compared_with, definitions_among, is_among, is_definition, is_none_of, lacks_among, lacks_version, pad64, readings, version_indices}
+use Rattle.elf_model.specs.declared.causes.Refusal.{Refusal}
+use Rattle.elf_table.specs.declared.fault.Fault.{Fault}
 use Rattle.elf_table.specs.declared.fault.Fault.TheVariants.{Refused, Source}
 use Rattle.elf_source.specs.Source.{CountedState}
 use Rattle.elf_loader.specs.Prelude.{CollectsNumbers, comparing_bytes, has_number, max_records_of, max_versions_of}
-use Rattle.elf_hash.specs.Prelude.{AreVersionRecordTables, AreVersymTable, DynamicSymbols, IsDynamicSymbols, VersionRecordTable, VersymTable, table_if_any}
+use Rattle.elf_hash.specs.Prelude.{AreVersionRecordTables, AreVersymTable, IsDynamicSymbols, table_if_any}
+use Rattle.elf_hash.specs.declared.symbols.DynamicSymbols.{DynamicSymbols}
+use Rattle.elf_hash.specs.declared.symbols.VersionRecordTable.{VersionRecordTable}
+use Rattle.elf_hash.specs.declared.symbols.VersymTable.{VersymTable}
 use Rattle.elf_needs.specs.Prelude.{RefusesAs, ReturnsAs, definition_if, definitions_of}
 
 -- there is none, or one

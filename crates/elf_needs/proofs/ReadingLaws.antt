@@ -1,16 +1,20 @@
 -- How a file is linked, stage by stage: what a lookup is made in, the first segment of dynamic entries, the headers.
 use Rattle.std.proofs.Common.{◌≡◌, ℕ, ◌+◌, ◌*◌, ◌/◌, ◌≤◌, Bool, true, false, List, ◌++◌, None, Some, Result, Ok, Err, refl, sym, ap, subst, ◌∙◌, arith}
-use Rattle.elf_model.specs.Prelude.{DT_STRSZ, DT_STRTAB, IsBudgetRefusal, LinkState, LookupTables as IsScopeOf, Refusal, TextRoom, dynamic_count, dynamic_segment_index, e_shnum, first_refusal, has_none, header_checks, linked_from, linked_in, links_by_segments, links_ceiling, links_of, listed_value, load_checks, loaded_links, lookup_refusal, lookup_tables_by_segments, no_link_info, p_filesz, p_offset, segment_at, segment_dynamic_checks, without_sections}
+use Rattle.elf_model.specs.Prelude.{DT_STRSZ, DT_STRTAB, IsBudgetRefusal, LinkState, LookupTables as IsScopeOf, TextRoom, dynamic_count, dynamic_segment_index, e_shnum, first_refusal, has_none, header_checks, linked_from, linked_in, links_by_segments, links_ceiling, links_of, listed_value, load_checks, loaded_links, lookup_refusal, lookup_tables_by_segments, no_link_info, p_filesz, p_offset, segment_at, segment_dynamic_checks, without_sections}
+use Rattle.elf_model.specs.declared.causes.Refusal.{Refusal}
 use Rattle.elf_model.proofs.StyleLemmas.{view_tells_of_none}
 use Rattle.elf_source.specs.Source.{CountedState, MasksSectionHeaders}
 use Rattle.elf_table.proofs.FaultLaws.{charges_hidden}
-use Rattle.elf_table.specs.Prelude.{CallDid, CallReads, Fault, StoreState, TableRange, dynamic_table_at, fault_of_result, rows}
+use Rattle.elf_table.specs.Prelude.{CallDid, CallReads, StoreState, TableRange, dynamic_table_at, fault_of_result, rows}
+use Rattle.elf_table.specs.declared.fault.Fault.{Fault}
 use Rattle.elf_table.specs.declared.fault.Fault.TheVariants.{Refused, Source}
-use Rattle.elf_note.specs.Prelude.{AreStrings, DynamicStrings}
+use Rattle.elf_note.specs.Prelude.{AreStrings}
+use Rattle.elf_note.specs.declared.string_values.DynamicStrings.{DynamicStrings}
 use Rattle.elf_hash.proofs.SettleLaws.{checked_fails}
 use Rattle.elf_hash.specs.Prelude.{FindsLookupTables, LoadsSegments}
 use Rattle.elf_needs.proofs.LoopLaws.{keeps_none}
-use Rattle.elf_needs.specs.Prelude.{LinkInfo, LinkInfoState, ReturnsLinks, ReturnsLookupRefusal, linked_in_segments, lookup_passed}
+use Rattle.elf_needs.specs.Prelude.{LinkInfoState, ReturnsLinks, ReturnsLookupRefusal, linked_in_segments, lookup_passed}
+use Rattle.elf_needs.specs.declared.links.LinkInfo.{LinkInfo}
 
 -- A LOOKUP: a file without a hash table is passed over, so that a call did not stop
 pub passed_did : {a b : CountedState} {n : ℕ} {P : List ℕ → Type 0} (fault : Fault) → CallDid a b (Some fault) n P → CallDid a b (fault_of_result (lookup_passed fault)) n P

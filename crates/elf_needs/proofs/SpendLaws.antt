@@ -3,11 +3,14 @@ use Rattle.std.proofs.Common.{◌≡◌, ℕ, ◌+◌, ◌-◌, ◌≤◌, List,
 use Rattle.elf_model.specs.Prelude.{LookupTables as IsScopeOf, SymbolQuery, definition_in, definition_lookup, lookup_tables_of}
 use Rattle.elf_source.specs.Source.{CountedState, SetsLimit, ExceedsBudget, SourceState, counted}
 use Rattle.elf_source.proofs.LimitLaws.{within_budget}
-use Rattle.elf_table.specs.Prelude.{CallDid, CallReads, Fault, IsReadFault, fault_of_result}
+use Rattle.elf_table.specs.Prelude.{CallDid, CallReads, IsReadFault, fault_of_result}
+use Rattle.elf_table.specs.declared.fault.Fault.{Fault}
 use Rattle.elf_table.specs.declared.fault.Fault.TheVariants.{Refused, Source}
 use Rattle.elf_table.proofs.LedgerLaws.{CallReads-more}
 use Rattle.elf_loader.specs.Lookups.{lookup_bytes}
-use Rattle.elf_hash.specs.Prelude.{HashTable, IsLookupTables, LookupTables, LookupTablesInBounds, place_of_table}
+use Rattle.elf_hash.specs.Prelude.{IsLookupTables, LookupTablesInBounds, place_of_table}
+use Rattle.elf_hash.specs.declared.table.HashTable.{HashTable}
+use Rattle.elf_hash.specs.declared.lookup_tables.LookupTables.{LookupTables}
 use Rattle.elf_needs.specs.Prelude.{DefinesAfter, DefinesIn, FaultLeaves, IsKept, IsReadyIf, IsReadyIn, LooksInObject, OverLeft, Prepares, ReturnsReady, SpendsAtMost, SpendsBudget, kept_cost, ready_bytes}
 use Rattle.std.specs.Result.{result_unwrap_or}
 

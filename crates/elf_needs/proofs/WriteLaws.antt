@@ -1,11 +1,19 @@
 -- The lines of one item after another.
 use Rattle.std.proofs.Common.{◌≡◌, ℕ, zero, suc, ◌+◌, ◌-◌, ◌<◌, ◌≤◌, ◌||◌, ◌⊎◌, min, length, drop, get_or, arith, Bool, true, false, List, [], ◌∷◌, ◌++◌, inl, inr, Option, None, Some, Result, Ok, Err, refl, sym, ap, subst, ◌∙◌, append_assoc, append-nil}
 use Rattle.elf_model.proofs.BudgetLaws.{is_budget_fault}
-use Rattle.elf_model.specs.Prelude.{BindingState, BoundItem, BoundObjects, DynamicSymbols, Faulty, Format, IsBudgetRefusal, LookupTables as IsScopeOf, Refusal, Told, any_unbound, before_items, binding_line, bound_item, bound_text, counted_items, counts_check, first_refusal, hashed_symbol_count, is_failed, is_unbound, item_line, items_from, lookup_tables_of, object_items, objects_items, refusal_line, symbols_hashed}
-use Rattle.elf_needs.specs.Prelude.{AreObjectFiles, CountsHashed, Cut, Ended, IsCutText, IsLimited, LeadsItems, LookupObjectState, NeedsFault, OnlyLimited, Out, Read, RefusesAs, ReturnsFault, ReturnsItem, Whole, WriteEnd, WritesLines, WritesSoFar, WritesSymbol, failing_of}
-use Rattle.elf_source.specs.Prelude.{IsOutFault, OutFault, OutState, SinkTakes, SinkTakesPrefix}
+use Rattle.elf_model.specs.Prelude.{BoundItem, BoundObjects, DynamicSymbols, Faulty, IsBudgetRefusal, LookupTables as IsScopeOf, Told, any_unbound, before_items, binding_line, bound_item, bound_text, counted_items, counts_check, first_refusal, hashed_symbol_count, is_failed, is_unbound, item_line, items_from, lookup_tables_of, object_items, objects_items, refusal_line, symbols_hashed}
+use Rattle.elf_model.specs.declared.states.BindingState.{BindingState}
+use Rattle.elf_model.specs.declared.formats.Format.{Format}
+use Rattle.elf_model.specs.declared.causes.Refusal.{Refusal}
+use Rattle.elf_needs.specs.Prelude.{AreObjectFiles, CountsHashed, IsCutText, IsLimited, LeadsItems, LookupObjectState, OnlyLimited, RefusesAs, ReturnsFault, ReturnsItem, WritesLines, WritesSoFar, WritesSymbol, failing_of}
+use Rattle.elf_needs.specs.declared.search_scope.WriteEnd.TheVariants.{Cut, Ended, Whole}
+use Rattle.elf_needs.specs.declared.walk.NeedsFault.{NeedsFault}
+use Rattle.elf_needs.specs.declared.walk.NeedsFault.TheVariants.{Out, Read}
+use Rattle.elf_needs.specs.declared.search_scope.WriteEnd.{WriteEnd}
+use Rattle.elf_source.specs.Prelude.{IsOutFault, OutState, SinkTakes, SinkTakesPrefix}
+use Rattle.elf_source.specs.declared.faults.OutFault.{OutFault}
 use Rattle.elf_source.proofs.PutsLaws.{SinkTakes-nothing, SinkTakes-then, SinkTakesPrefix-more, SinkTakesPrefix-then}
-use Rattle.elf_table.specs.Prelude.{Fault}
+use Rattle.elf_table.specs.declared.fault.Fault.{Fault}
 use Rattle.elf_table.specs.declared.fault.Fault.TheVariants.{Refused, Source}
 use Rattle.elf_needs.proofs.AskLaws.{file_here}
 

@@ -1,9 +1,14 @@
 -- What looking for the symbol of a file that defines a name did.
 use Rattle.std.specs.Prelude.{ℕ, ◌≡◌, ◌+◌, ◌≤◌, ◌==◌, if◌then◌else◌, Bool, List, Option, None, Some, Result, Ok, Err}
-use Rattle.elf_model.specs.Prelude.{CompareResult, DefinerLookup, DynamicSymbols as AreSymbolsOf, IsBudgetRefusal, LookupTables as IsScopeOf, Refusal, SHN_UNDEF, SymbolQuery, definer_by, definer_walk, defines, definition_cost, is_among, unwalked}
+use Rattle.elf_model.specs.Prelude.{CompareResult, DefinerLookup, DynamicSymbols as AreSymbolsOf, IsBudgetRefusal, LookupTables as IsScopeOf, SHN_UNDEF, SymbolQuery, definer_by, definer_walk, defines, definition_cost, is_among, unwalked}
+use Rattle.elf_model.specs.declared.causes.Refusal.{Refusal}
 use Rattle.elf_source.specs.Source.{CountedState}
-use Rattle.elf_hash.specs.Prelude.{DynamicSymbols, IsDynamicSymbols, IsLookupTables, LookupTables, SymbolMatch}
-use Rattle.elf_table.specs.Prelude.{CallDid, CallReads, Fault, fault_of_result}
+use Rattle.elf_hash.specs.Prelude.{IsDynamicSymbols, IsLookupTables}
+use Rattle.elf_hash.specs.declared.symbols.DynamicSymbols.{DynamicSymbols}
+use Rattle.elf_hash.specs.declared.lookup_tables.LookupTables.{LookupTables}
+use Rattle.elf_hash.specs.declared.answer.SymbolMatch.{SymbolMatch}
+use Rattle.elf_table.specs.Prelude.{CallDid, CallReads, fault_of_result}
+use Rattle.elf_table.specs.declared.fault.Fault.{Fault}
 use Rattle.elf_table.specs.declared.fault.Fault.TheVariants.{Refused, Source}
 
 -- it is the trial of the symbols of a file: of each it says whether it defines what is wanted

@@ -2,9 +2,12 @@
 use Rattle.std.specs.Prelude.{ℕ, ◌≡◌, List, Option, None, Some, Result, Ok, Err, IfSome}
 use Rattle.elf_model.specs.Prelude.{IsBudgetRefusal, LookupTables as IsScopeOf, lookup_tables_of}
 use Rattle.elf_source.specs.Source.{CountedState, SourceState}
-use Rattle.elf_table.specs.Prelude.{CallReads, Fault}
+use Rattle.elf_table.specs.Prelude.{CallReads}
+use Rattle.elf_table.specs.declared.fault.Fault.{Fault}
 use Rattle.elf_table.specs.declared.fault.Fault.TheVariants.{Refused, Source}
-use Rattle.elf_hash.specs.Prelude.{HashTable, IsLookupTables, LookupTables, LookupTablesInBounds, place_of_table, scope_cost}
+use Rattle.elf_hash.specs.Prelude.{IsLookupTables, LookupTablesInBounds, place_of_table, scope_cost}
+use Rattle.elf_hash.specs.declared.table.HashTable.{HashTable}
+use Rattle.elf_hash.specs.declared.lookup_tables.LookupTables.{LookupTables}
 use Rattle.elf_needs.specs.Ready.{IsReadyIf}
 
 -- its source, and how many headers were permitted where what a lookup is made in was found

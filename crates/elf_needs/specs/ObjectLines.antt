@@ -1,6 +1,8 @@
 -- The lines of the objects that a program needs.
 use Rattle.std.specs.Prelude.{ℕ, [], ◌∷◌, List, codes, Option, None, Some}
-use Rattle.elf_model.specs.Prelude.{ArgSpec, Decimal, Field, Fields, FileStatus, Format, Hexadecimal, LinePrefix, NameOrDecimal, closed_line, fault_fields, front, named_line}
+use Rattle.elf_model.specs.Prelude.{ArgSpec, Decimal, Field, Fields, Hexadecimal, LinePrefix, NameOrDecimal, closed_line, fault_fields, front, named_line}
+use Rattle.elf_model.specs.declared.states.FileStatus.{FileStatus}
+use Rattle.elf_model.specs.declared.formats.Format.{Format}
 use Rattle.elf_model.specs.Names.DisplayedName.{Whole}
 use Rattle.elf_model.specs.declared.states.FileStatus.TheVariants as file
 use Rattle.elf_needs.specs.declared.states.ObjectState.{ObjectState}

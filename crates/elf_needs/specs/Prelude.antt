@@ -14,13 +14,3 @@ pub use Rattle.elf_needs.specs.Searching.{DOLLAR, MOST_PATH_BYTES, SearchPathTex
 unfoldable pub use Rattle.elf_needs.specs.Searching.{after_dir, dir_of_entry, entry_path, entry_paths, expanded, first_runpath, rpath_dirs, searched_paths, token_in}
 pub use Rattle.elf_needs.specs.Sought.{CountsHashed, IsReportedAlone, RefusesAs, ReturnsAs, ReturnsSought, ReturnsWhole, asked_if}
 pub use Rattle.elf_needs.specs.Steps.{IsMade, PutsText, dirs_in, dirs_of, left_bytes, left_entries, needer_of, needers_of, origin_of, token_of}
-pub use Rattle.elf_needs.specs.declared.bind_name.BindFault.{BindFault}
-pub use Rattle.elf_needs.specs.declared.bind_name.BindResult.{BindResult}
-pub use Rattle.elf_needs.specs.declared.bind_name.BindResult.TheVariants.{Bound, Unbound}
-pub use Rattle.elf_needs.specs.declared.folders.SearchPathList.{SearchPathList}
-pub use Rattle.elf_needs.specs.declared.links.LinkInfo.{LinkInfo}
-pub use Rattle.elf_needs.specs.declared.links.NeededLibrary.{NeededLibrary}
-pub use Rattle.elf_needs.specs.declared.search_scope.WriteEnd.{WriteEnd}
-pub use Rattle.elf_needs.specs.declared.search_scope.WriteEnd.TheVariants.{Cut, Ended, Whole}
-pub use Rattle.elf_needs.specs.declared.walk.NeedsFault.{NeedsFault}
-pub use Rattle.elf_needs.specs.declared.walk.NeedsFault.TheVariants.{Out, Read}

@@ -1,7 +1,8 @@
 -- How a file is linked whose program headers are loaded, stage by stage.
 use Rattle.std.specs.Prelude.{ℕ, ◌≡◌, ◌/◌, true, false, List, Option, None, Some, Result, Ok, Err}
-use Rattle.elf_model.specs.Prelude.{IsBudgetRefusal, LinkState, Refusal, TextRoom, dynamic_segment_index, first_refusal, has_none, linked_in, no_link_info, p_filesz, p_offset, segment_at, segment_dynamic_checks}
-use Rattle.elf_table.specs.Prelude.{Fault}
+use Rattle.elf_model.specs.Prelude.{IsBudgetRefusal, LinkState, TextRoom, dynamic_segment_index, first_refusal, has_none, linked_in, no_link_info, p_filesz, p_offset, segment_at, segment_dynamic_checks}
+use Rattle.elf_model.specs.declared.causes.Refusal.{Refusal}
+use Rattle.elf_table.specs.declared.fault.Fault.{Fault}
 use Rattle.elf_table.specs.declared.fault.Fault.TheVariants.{Refused, Source}
 
 -- a fault of what a lookup is made in: a file without a hash table has none

@@ -2,8 +2,11 @@
 use Rattle.std.specs.Prelude.{ℕ, ◌≡◌, ◌+◌, ◌*◌, ◌/◌, ◌<◌, ◌==◌, ◌&&◌, if◌then◌else◌, Bool, true, false, List, [], ◌∷◌, length, Option, None, Some, Result, Ok, Err, IfSome}
 use Rattle.std.specs.List.{list_any}
 use Rattle.elf_model.specs.Prelude.{LookupTables as IsScopeOf, Version, VersionQuery, asked_name, counts_check, first_refusal, record_cost, same, version_indices}
-use Rattle.elf_table.specs.Prelude.{Fault, strings_in}
-use Rattle.elf_hash.specs.Prelude.{HashTable, IsTable, VersionRecordTable}
+use Rattle.elf_table.specs.Prelude.{strings_in}
+use Rattle.elf_table.specs.declared.fault.Fault.{Fault}
+use Rattle.elf_hash.specs.Prelude.{IsTable}
+use Rattle.elf_hash.specs.declared.table.HashTable.{HashTable}
+use Rattle.elf_hash.specs.declared.symbols.VersionRecordTable.{VersionRecordTable}
 
 -- whether bytes have a NUL
 abbrev pub has_zero : List ℕ → Bool

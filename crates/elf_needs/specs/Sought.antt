@@ -1,7 +1,9 @@
 -- What a symbol of a file asks others for, as it is read.
 use Rattle.std.specs.Prelude.{ℕ, ◌≡◌, ◌+◌, ◌*◌, ◌/◌, ◌<◌, Bool, true, false, List, Option, None, Some, Result, Ok, Err, IfOk, IfSome}
-use Rattle.elf_model.specs.Prelude.{IsBudgetRefusal, LookupTables as IsScopeOf, NoVersion, Refusal, SOUGHT_BYTES, SymbolQuery, Version, VersionQuery, VisitedRecord, file_of_version, is_weak, lacks_version, lookup_tables_of, name_bytes, record_cost, reference_at, symbol_offset, symbols_hashed, whole_name}
-use Rattle.elf_table.specs.Prelude.{Fault, fault_of_result}
+use Rattle.elf_model.specs.Prelude.{IsBudgetRefusal, LookupTables as IsScopeOf, NoVersion, SOUGHT_BYTES, SymbolQuery, Version, VersionQuery, VisitedRecord, file_of_version, is_weak, lacks_version, lookup_tables_of, name_bytes, record_cost, reference_at, symbol_offset, symbols_hashed, whole_name}
+use Rattle.elf_model.specs.declared.causes.Refusal.{Refusal}
+use Rattle.elf_table.specs.Prelude.{fault_of_result}
+use Rattle.elf_table.specs.declared.fault.Fault.{Fault}
 use Rattle.elf_table.specs.declared.fault.Fault.TheVariants.{Refused, Source}
 use Rattle.elf_loader.specs.Naming.{IsFileIf}
 use Rattle.elf_needs.specs.Kept.{LookupObjectState}

@@ -6,8 +6,11 @@ use Rattle.elf_model.specs.Prelude.{Note, OneNote, are_zeros, bytes_to_alignment
 use Rattle.elf_model.proofs.Slices.{slice-size, slice-slice, slice-rest, field-slice}
 use Rattle.elf_model.proofs.Spellings.{next-ends, next-tails, next-past, next-found}
 use Rattle.elf_model.proofs.Walks.{walk, walk-ends, walk-broken, walk-found}
-use Rattle.elf_record.specs.Prelude.{IsNoteHead, NoteHead}
-use Rattle.elf_table.specs.Prelude.{Fault, IsOfRead, NameEnd, WindowState, bytes_left, range_end}
+use Rattle.elf_record.specs.Prelude.{IsNoteHead}
+use Rattle.elf_record.specs.declared.note_head.NoteHead.{NoteHead}
+use Rattle.elf_table.specs.Prelude.{IsOfRead, WindowState, bytes_left, range_end}
+use Rattle.elf_table.specs.declared.fault.Fault.{Fault}
+use Rattle.elf_table.specs.declared.names.NameEnd.{NameEnd}
 use Rattle.elf_table.specs.declared.fault.Fault.TheVariants.{Refused, Source}
 use Rattle.elf_note.specs.NoteCursors.{rest, notes_left, no_notes, cut_at, NameIs, ReturnsNote, note_cut, note_size}
 

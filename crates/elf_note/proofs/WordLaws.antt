@@ -1,10 +1,15 @@
 -- Words that are those of a record of a file.
 use Rattle.std.proofs.Common.{◌≡◌, ℕ, ◌+◌, ◌^◌, ◌<◌, ◌≤◌, nat_lt, Bool, true, false, if◌then◌else◌, List, Option, None, Some, IfSome, Err, ◌⊎◌, inl, inr, refl, ap, ◌∙◌, arith}
 use Rattle.std.proofs.lemmas.Bool.Decides.{nat_tests}
-use Rattle.elf_model.specs.Prelude.{Definition, File, Need, RecordCursorState, VersionKind, field, first_refusal, name_distance, name_end, name_index, record_checks, record_size, visited_at, word_checks}
-use Rattle.elf_table.specs.Prelude.{Fault, IsOfRead}
+use Rattle.elf_model.specs.Prelude.{RecordCursorState, field, first_refusal, name_distance, name_end, name_index, record_checks, record_size, visited_at, word_checks}
+use Rattle.elf_model.specs.declared.versions.VersionKind.TheVariants.{Definition, File, Need}
+use Rattle.elf_model.specs.declared.versions.VersionKind.{VersionKind}
+use Rattle.elf_table.specs.Prelude.{IsOfRead}
+use Rattle.elf_table.specs.declared.fault.Fault.{Fault}
 use Rattle.elf_table.specs.declared.fault.Fault.TheVariants.{Refused, Source}
-use Rattle.elf_note.specs.Prelude.{BufferedTable, HoldsName, HoldsWords, IsPositionInTable, ReadsRecord, RecordPosition, VersionRecordFields, aux_word, bytes_each, checks_of, distance_of_name, end_of_named_record, index_bytes, record_position_of, unheld}
+use Rattle.elf_note.specs.Prelude.{BufferedTable, HoldsName, HoldsWords, IsPositionInTable, ReadsRecord, aux_word, bytes_each, checks_of, distance_of_name, end_of_named_record, index_bytes, record_position_of, unheld}
+use Rattle.elf_note.specs.declared.record_position.RecordPosition.{RecordPosition}
+use Rattle.elf_note.specs.declared.record_fields.VersionRecordFields.{VersionRecordFields}
 pub use Rattle.elf_table.proofs.Absent.{none-of}
 
 pub distance-is : (file : List ℕ) (kind : VersionKind) (at : ℕ) → distance_of_name kind (aux_word file (record { kind = kind; at = at })) ≡ name_distance file (record { kind = kind; at = at })

@@ -2,7 +2,9 @@
 use Rattle.std.specs.Prelude.{ℕ, suc, ◌≡◌, ◌==◌, ◌+◌, ◌≤◌, Bool, true, false, if◌then◌else◌, List, [], ◌⊎◌, Option, None, Some, Result, Ok, Err}
 use Rattle.elf_model.specs.Prelude.{DT_NULL, DT_STRSZ, DT_STRTAB, d_tag, d_un, dynamic_count, listed_value}
 use Rattle.elf_source.specs.Prelude.{CountedState, ReadsOnward, SourceState}
-use Rattle.elf_table.specs.Prelude.{CursorState, FailsRows, Fault, GivesRow, HoldsRows, Row, ShowsRow, TableRange, asked_to, next_row, size_of, unread_bytes}
+use Rattle.elf_table.specs.Prelude.{CursorState, FailsRows, GivesRow, HoldsRows, ShowsRow, TableRange, asked_to, next_row, size_of, unread_bytes}
+use Rattle.elf_table.specs.declared.fault.Fault.{Fault}
+use Rattle.elf_table.specs.declared.row.Row.{Row}
 use Rattle.elf_note.specs.declared.string_values.DynamicStrings.{DynamicStrings}
 
 -- a cursor over the rows of a table, and whether it has given the entry that ends them

@@ -1,9 +1,13 @@
 -- What a cursor over notes gives, note by note.
 use Rattle.std.specs.Prelude.{ℕ, ◌≡◌, ◌+◌, ◌^◌, ◌<◌, ◌≤◌, min, suc, Bool, true, false, List, [], length, take, ◌⊎◌, Option, None, Some, Result, Ok, Err}
-use Rattle.elf_model.specs.Prelude.{Cut as ShownCut, DisplayedName, Note, NoteCut, NoteScan, SHOWN_DESCRIPTOR, bytes_to_alignment, descriptor_start, note_align, note_shown, slice, walk_from, with_note}
+use Rattle.elf_model.specs.Prelude.{Cut as ShownCut, DisplayedName, Note, NoteScan, SHOWN_DESCRIPTOR, bytes_to_alignment, descriptor_start, note_align, note_shown, slice, walk_from, with_note}
+use Rattle.elf_model.specs.declared.causes.Cause.TheVariants.{NoteCut}
 use Rattle.elf_model.specs.Names.DisplayedName.{Whole as ShownWhole}
 use Rattle.elf_source.specs.Prelude.{CountedState, ReadsOnward, SourceState}
-use Rattle.elf_table.specs.Prelude.{Cut, Fault, HoldsBytes, IsOfRead, MovesOn, NameEnd, StillHolds, TableRange, Whole, WindowState, bytes_left, frontier, range_end}
+use Rattle.elf_table.specs.Prelude.{HoldsBytes, IsOfRead, MovesOn, StillHolds, TableRange, WindowState, bytes_left, frontier, range_end}
+use Rattle.elf_table.specs.declared.names.NameEnd.TheVariants.{Cut, Whole}
+use Rattle.elf_table.specs.declared.fault.Fault.{Fault}
+use Rattle.elf_table.specs.declared.names.NameEnd.{NameEnd}
 use Rattle.elf_table.specs.declared.fault.Fault.TheVariants.{Refused}
 use Rattle.elf_note.specs.declared.note.FoundNote.{FoundNote}
 use Rattle.elf_note.specs.declared.note_row.NoteRow.{NoteRow}

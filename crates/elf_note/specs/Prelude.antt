@@ -7,11 +7,3 @@ pub use Rattle.elf_note.specs.Reading.{BufferedTable, GivesVersion, IsCursorOf, 
 pub use Rattle.elf_note.specs.Steps.{StepReads}
 pub use Rattle.elf_note.specs.Words.{HoldsWords, checks_of}
 unfoldable pub use Rattle.elf_note.specs.Words.{HoldsName, aux_word, distance_of_name, end_of_named_record}
-pub use Rattle.elf_note.specs.declared.note_row.NoteRow.{NoteRow}
-pub use Rattle.elf_note.specs.declared.record.VersionRecord.{VersionRecord}
-pub use Rattle.elf_note.specs.declared.record_fields.VersionRecordFields.{VersionRecordFields}
-pub use Rattle.elf_note.specs.declared.record_position.RecordPosition.{RecordPosition}
-pub use Rattle.elf_note.specs.declared.record_reader.VersionRecordStep.{VersionRecordStep}
-pub use Rattle.elf_note.specs.declared.string_values.DynamicStrings.{DynamicStrings}
-pub use Rattle.elf_note.specs.declared.version_names.VersionNameRef.{VersionNameRef}
-pub use Rattle.elf_note.specs.declared.version_names.VersionNameRef.TheVariants.{Defined, Needed, Nowhere}

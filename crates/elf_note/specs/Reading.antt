@@ -1,7 +1,10 @@
 -- What a cursor over symbol versions gives, record by record.
 use Rattle.std.specs.Prelude.{ℕ, ◌≡◌, ◌+◌, ◌*◌, ◌^◌, IfOk, IfSome, MatchOption, ◌<◌, ◌≤◌, if◌then◌else◌, Bool, true, List, Option, None, Some, Result, Ok, Err, option_map}
-use Rattle.elf_model.specs.Prelude.{DEFINED_NAME_SIZE, DEFINITION_SIZE, Definition, File, IsBudgetRefusal, NEED_SIZE, Need, RecordCursorState, VERSION_NUMBERS, VersionKind, Versions, VisitedRecord, first_position, first_refusal, flags_word, hash_word, max_records, name_index, named_at, next_position, no_versions, number_in, number_word, record_checks, record_size, slice, visited_at, visited_from, vn_next, with_visited}
-use Rattle.elf_table.specs.Prelude.{CallDid, Fault, IsOfRead, TableInBounds, TableRange, fault_of_result}
+use Rattle.elf_model.specs.Prelude.{DEFINED_NAME_SIZE, DEFINITION_SIZE, IsBudgetRefusal, NEED_SIZE, RecordCursorState, VERSION_NUMBERS, Versions, VisitedRecord, first_position, first_refusal, flags_word, hash_word, max_records, name_index, named_at, next_position, no_versions, number_in, number_word, record_checks, record_size, slice, visited_at, visited_from, vn_next, with_visited}
+use Rattle.elf_model.specs.declared.versions.VersionKind.TheVariants.{Definition, File, Need}
+use Rattle.elf_model.specs.declared.versions.VersionKind.{VersionKind}
+use Rattle.elf_table.specs.Prelude.{CallDid, IsOfRead, TableInBounds, TableRange, fault_of_result}
+use Rattle.elf_table.specs.declared.fault.Fault.{Fault}
 use Rattle.elf_table.specs.declared.fault.Fault.TheVariants.{Refused, Source}
 use Rattle.elf_source.specs.Source.{CountedState}
 use Rattle.elf_note.specs.Words.{HoldsWords}

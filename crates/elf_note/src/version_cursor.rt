@@ -1,7 +1,9 @@
 //! A cursor over the records of symbol versions.
 ghost use Rattle.std.specs.Prelude.{◌≡◌, ℕ, ◌+◌, ◌-◌, ◌*◌, ◌^◌, ◌<◌, ◌≤◌, List, false, Some, None, Err, IfOk, IfErr, IfSome};
-ghost use Rattle.elf_table.specs.Prelude.{CallDid, Fault, IsOfRead, TableInBounds, fault_of_result};
-ghost use Rattle.elf_model.specs.Prelude.{Need, max_records};
+ghost use Rattle.elf_table.specs.Prelude.{CallDid, IsOfRead, TableInBounds, fault_of_result};
+ghost use Rattle.elf_table.specs.declared.fault.Fault.{Fault};
+ghost use Rattle.elf_model.specs.Prelude.{max_records};
+ghost use Rattle.elf_model.specs.declared.versions.VersionKind.TheVariants.{Need};
 ghost use Rattle.elf_note.specs.Reading.{IsPositionInTable, IsCursorOf, KeepsWalk, LeavesVisited, LeavesWalk, MeetsIn};
 ghost use Rattle.elf_note.specs.Reading.{StartsVersions, StepsIn, bytes_each, unread, why_stopped_now};
 

@@ -6,10 +6,3 @@ pub use Rattle.elf_options.specs.Names.{NeverDescend, texts_of}
 pub use Rattle.elf_options.specs.Permitted.{AreHeaders, AreNameBytes, style_of}
 pub use Rattle.elf_options.specs.Required.{required_word, required_words}
 unfoldable pub use Rattle.elf_options.specs.Spelled.{parsed_trait_word}
-pub use Rattle.elf_options.specs.declared.caps.Caps.{Caps}
-pub use Rattle.elf_options.specs.declared.caps.Limits.{Limits}
-pub use Rattle.elf_options.specs.declared.caps.ListingStyle.{ListingStyle}
-pub use Rattle.elf_options.specs.declared.names_fault.NamesFault.{NamesFault}
-pub use Rattle.elf_options.specs.declared.names_fault.NamesFault.TheVariants.{BadName, Memory, Read, TooLarge}
-pub use Rattle.elf_options.specs.declared.required.RequiredTrait.{RequiredTrait}
-pub use Rattle.elf_options.specs.declared.row_filter.RowFilter.{RowFilter}

@@ -2,7 +2,8 @@
 use Rattle.std.proofs.Common.{◌≡◌, ℕ, ◌+◌, ◌≤◌, ◌⊎◌, inl, inr, List, ap, sym, ◌∙◌, arith}
 use Rattle.elf_model.specs.Prelude.{field, number, without_sections}
 use Rattle.elf_model.proofs.StyleLemmas.{view_elsewhere, view_tells_of_none}
-use Rattle.elf_record.specs.Prelude.{Ehdr, IsEhdr}
+use Rattle.elf_record.specs.Prelude.{IsEhdr}
+use Rattle.elf_record.specs.declared.ehdr.Ehdr.{Ehdr}
 
 -- a field elsewhere
 field_is : (file : List ℕ) (at count : ℕ) → (at + count ≤ 40) ⊎ ((48 ≤ at) × (at + count ≤ 60)) → field file at count ≡ field (without_sections file) at count

@@ -10,13 +10,3 @@ pub use Rattle.elf_record.specs.Sym.{IsSym, sym_parts}
 pub use Rattle.elf_record.specs.Verdef.{IsVerdef, verdef_parts}
 pub use Rattle.elf_record.specs.Vernaux.{IsVernaux, vernaux_parts}
 pub use Rattle.elf_record.specs.Verneed.{IsVerneed, verneed_parts}
-pub use Rattle.elf_record.specs.declared.dyn_entry.Dyn.{Dyn}
-pub use Rattle.elf_record.specs.declared.ehdr.Ehdr.{Ehdr}
-pub use Rattle.elf_record.specs.declared.note_head.NoteHead.{NoteHead}
-pub use Rattle.elf_record.specs.declared.phdr.Phdr.{Phdr}
-pub use Rattle.elf_record.specs.declared.rela.Rela.{Rela}
-pub use Rattle.elf_record.specs.declared.shdr.Shdr.{Shdr}
-pub use Rattle.elf_record.specs.declared.sym.Sym.{Sym}
-pub use Rattle.elf_record.specs.declared.verdef.Verdef.{Verdef}
-pub use Rattle.elf_record.specs.declared.vernaux.Vernaux.{Vernaux}
-pub use Rattle.elf_record.specs.declared.verneed.Verneed.{Verneed}

@@ -1,13 +1,18 @@
 -- Applying to a section of a loaded file, stage by stage.
 use Rattle.std.proofs.Common.{◌≡◌, ℕ, true, List, [], ◌∷◌, ◌++◌, length, flat_map, None, Some, Result, Ok, Err, refl, sym, ap, ◌∙◌, subst, arith}
-use Rattle.elf_model.specs.Prelude.{AllInside, Fails, IsBudgetRefusal, Layout, Put, Refusal, SectionChange, StoredBytes, and_patches, applied, apply_checks, before_entries, changes_of, e_shnum, first_refusal, header_checks, held_bytes, load_checks, patched, patches_of, places_from, section_at, section_changes, slice, target_of}
+use Rattle.elf_model.specs.Prelude.{AllInside, Fails, IsBudgetRefusal, Layout, Put, SectionChange, StoredBytes, and_patches, applied, apply_checks, before_entries, changes_of, e_shnum, first_refusal, header_checks, held_bytes, load_checks, patched, patches_of, places_from, section_at, section_changes, slice, target_of}
+use Rattle.elf_model.specs.declared.causes.Refusal.{Refusal}
 use Rattle.elf_model.proofs.CheckSteps.{first_refusal-none, first_refusal-some}
 use Rattle.elf_model.proofs.ApplySteps.{applied-refused, applied-fault, applied-patched}
 use Rattle.elf_model.proofs.ChangeLaws.{changes_inside}
 use Rattle.elf_source.specs.Output.{OutState}
-use Rattle.elf_table.specs.Prelude.{Fault, HeaderRead, HoldsSectionHeaders, LoadedAs, RunFault, StoreState, stop_of}
+use Rattle.elf_table.specs.Prelude.{HeaderRead, HoldsSectionHeaders, LoadedAs, StoreState, stop_of}
+use Rattle.elf_table.specs.declared.fault.Fault.{Fault}
+use Rattle.elf_table.specs.declared.run_fault.RunFault.{RunFault}
 use Rattle.elf_table.specs.declared.fault.Fault.TheVariants.{Refused as Refuses}
-use Rattle.elf_reloc.specs.Prelude.{Applied, Applies, ApplyTarget as TargetCode, ChecksEntries, HeldIs, IsApplyTarget, WritesOrWants, changes_all, changes_from, folded, rising, sections_of, target_as}
+use Rattle.elf_reloc.specs.Prelude.{Applies, ChecksEntries, HeldIs, IsApplyTarget, WritesOrWants, changes_all, changes_from, folded, rising, sections_of, target_as}
+use Rattle.elf_reloc.specs.declared.apply_section.Applied.{Applied}
+use Rattle.elf_reloc.specs.declared.entry.ApplyTarget.{ApplyTarget as TargetCode}
 use Rattle.elf_reloc.proofs.WindowSteps.{front_none}
 
 -- what a pass says of the patches

@@ -5,7 +5,9 @@ use Rattle.std.proofs.Math.Nat.{mul-le-mul_right}
 use Rattle.elf_model.specs.Prelude.{Layout, apply_cost, apply_cost_by_order, apply_cost_in_order, cost_with, offsets_never_fall, window_passes}
 use Rattle.elf_source.specs.Prelude.{CountedState, OutState, ReadsUpTo}
 use Rattle.elf_source.proofs.ReadsLaws.{IsSourceFault-then, KeepsSource-then}
-use Rattle.elf_table.specs.Prelude.{Fault, IsOfCheck, IsReadFault, RunFault, stop_of}
+use Rattle.elf_table.specs.Prelude.{IsOfCheck, IsReadFault, stop_of}
+use Rattle.elf_table.specs.declared.fault.Fault.{Fault}
+use Rattle.elf_table.specs.declared.run_fault.RunFault.{RunFault}
 use Rattle.elf_reloc.specs.Prelude.{ApplySays, BudgetTooSmall, ReadsWithin, windows, write_passes}
 
 -- what was asked for

@@ -8,9 +8,11 @@ use Rattle.elf_model.proofs.ChangeSteps.{length-places_from}
 use Rattle.elf_model.proofs.CheckSteps.{first_refusal-none, first_refusal-some}
 use Rattle.elf_model.proofs.SumLemmas.{sum_over-le}
 use Rattle.elf_model.proofs.Slices.{field-slice}
-use Rattle.elf_record.specs.Prelude.{Ehdr, IsEhdr}
+use Rattle.elf_record.specs.Prelude.{IsEhdr}
+use Rattle.elf_record.specs.declared.ehdr.Ehdr.{Ehdr}
 use Rattle.elf_table.specs.Prelude.{HoldsSectionHeaders, load_cost, row}
-use Rattle.elf_reloc.specs.Prelude.{ApplyTarget, IsApplyTarget, beside_entry_cost, entries_from, entry_count_in, passes_cost, sections_of, walk_all, windows}
+use Rattle.elf_reloc.specs.Prelude.{IsApplyTarget, beside_entry_cost, entries_from, entry_count_in, passes_cost, sections_of, walk_all, windows}
+use Rattle.elf_reloc.specs.declared.entry.ApplyTarget.{ApplyTarget}
 use Rattle.elf_table.proofs.LoadLaws.{early_is}
 
 -- how many entries a section has, by its header at an offset of some bytes

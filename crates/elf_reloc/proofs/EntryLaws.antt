@@ -2,7 +2,8 @@
 use Rattle.std.proofs.Common.{◌≡◌, ℕ, ◌-◌, ◌*◌, ◌/◌, ◌<◌, ◌&&◌, true, false, List, None, refl, arith}
 use Rattle.std.proofs.lemmas.Bool.Decides.{nat_tests}
 use Rattle.elf_model.specs.Prelude.{RELA_SIZE, applies_to, entry_count, first_refusal, has_entry, relocates_at, relocation_table_checks, sh_offset}
-use Rattle.elf_table.specs.Prelude.{Fault, RefusedBy, TableRange}
+use Rattle.elf_table.specs.Prelude.{RefusedBy, TableRange}
+use Rattle.elf_table.specs.declared.fault.Fault.{Fault}
 use Rattle.elf_table.specs.declared.fault.Fault.TheVariants.{Refused, Source}
 use Rattle.elf_reloc.specs.Explained.{has_row}
 

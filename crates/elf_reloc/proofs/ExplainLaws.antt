@@ -1,11 +1,19 @@
 -- What is explained, by the steps that lead to it.
 use Rattle.std.proofs.Common.{◌≡◌, ◌≢◌, ℕ, zero, suc, Bool, true, false, List, Option, None, Some, Result, Ok, Err, refl, sym, ap, ◌∙◌, arith}
 use Rattle.std.proofs.lemmas.Bool.Decides.{nat_tests}
-use Rattle.elf_model.specs.Prelude.{Cause, DisplayedName, IsBudgetRefusal, Layout, MissingAddress, MissingEntry, Refusal, RelocationType, Undefined, Unplaced, Unsupported, explained, first_refusal, header_checks, lack_of, lack_with, linked_at, load_checks, missing, missing_of, name_wanted, refused_in, resolved_symbol_name, section_at, strings_of, wanted}
+use Rattle.elf_model.specs.Prelude.{DisplayedName, IsBudgetRefusal, Layout, MissingEntry, explained, first_refusal, header_checks, lack_of, lack_with, linked_at, load_checks, missing, missing_of, name_wanted, refused_in, resolved_symbol_name, section_at, strings_of, wanted}
+use Rattle.elf_model.specs.declared.causes.Cause.{Cause}
+use Rattle.elf_model.specs.declared.missing.MissingAddress.{MissingAddress}
+use Rattle.elf_model.specs.declared.causes.Refusal.{Refusal}
+use Rattle.elf_model.specs.declared.relocation_types.RelocationType.{RelocationType}
+use Rattle.elf_model.specs.declared.causes.Cause.TheVariants.{Undefined, Unplaced, Unsupported}
 use Rattle.elf_model.proofs.CheckSteps.{first_refusal-none, first_refusal-some}
-use Rattle.elf_table.specs.Prelude.{Fault, HeaderRead, IsOfRead, LoadedAs, NameEnd, StoreState, StringTableRange, shown_by, strings_in}
+use Rattle.elf_table.specs.Prelude.{HeaderRead, IsOfRead, LoadedAs, StoreState, StringTableRange, shown_by, strings_in}
+use Rattle.elf_table.specs.declared.fault.Fault.{Fault}
+use Rattle.elf_table.specs.declared.names.NameEnd.{NameEnd}
 use Rattle.elf_table.specs.declared.fault.Fault.TheVariants.{Refused, Source}
-use Rattle.elf_reloc.specs.Prelude.{Explains, ExplainsLoaded, Lacks, MissingItem, ReturnsSymbolName, may_be_missing}
+use Rattle.elf_reloc.specs.Prelude.{Explains, ExplainsLoaded, Lacks, ReturnsSymbolName, may_be_missing}
+use Rattle.elf_reloc.specs.declared.missing_item.MissingItem.{MissingItem}
 use Rattle.elf_reloc.proofs.NamingLaws.{unnamed}
 
 -- nothing is wanted for other causes

@@ -1,6 +1,7 @@
 -- The checks of a request to apply, behind those of the file and of the section's index and flags.
 use Rattle.std.proofs.Common.{◌≡◌, ℕ, ◌==◌, ◌||◌, nat_lt, not, true, false, List, [], None, Some, refl}
-use Rattle.elf_model.specs.Prelude.{EM_X86_64, ET_REL, TableOutside, apply_checks, e_machine, e_shnum, e_type, first_refusal, has_no_bytes, held_bytes, is_compressed, is_section_outside, section_at, sh_offset, sh_size, slice}
+use Rattle.elf_model.specs.Prelude.{EM_X86_64, ET_REL, apply_checks, e_machine, e_shnum, e_type, first_refusal, has_no_bytes, held_bytes, is_compressed, is_section_outside, section_at, sh_offset, sh_size, slice}
+use Rattle.elf_model.specs.declared.causes.Cause.TheVariants.{TableOutside}
 
 module _
     (file : List ℕ) (section : ℕ) (relocatable : not (e_type file == ET_REL) ≡ false) (machine : not (e_machine file == EM_X86_64) ≡ false)

@@ -1,10 +1,16 @@
 -- What an entry lacks, step by step.
 use Rattle.std.proofs.Common.{◌≡◌, ◌≢◌, ℕ, ◌/◌, ◌%◌, ◌^◌, ◌==◌, Bool, true, false, List, Option, None, Some, Result, Ok, Err, refl, sym, ap, ◌∙◌, arith}
 use Rattle.std.proofs.lemmas.Bool.Decides.{nat_tests}
-use Rattle.elf_model.specs.Prelude.{Layout, LayoutAddress, MissingAddress, Refusal, RelocationType, first_refusal, kind_of, linked_at, missing, missing_of, r_sym, r_type, strings_of, symbol_checks, wanted}
+use Rattle.elf_model.specs.Prelude.{Layout, first_refusal, kind_of, linked_at, missing, missing_of, r_sym, r_type, strings_of, symbol_checks, wanted}
+use Rattle.elf_model.specs.declared.missing.LayoutAddress.{LayoutAddress}
+use Rattle.elf_model.specs.declared.missing.MissingAddress.{MissingAddress}
+use Rattle.elf_model.specs.declared.causes.Refusal.{Refusal}
+use Rattle.elf_model.specs.declared.relocation_types.RelocationType.{RelocationType}
 use Rattle.elf_table.specs.Tables.{StringTableRange, strings_in}
 use Rattle.elf_record.specs.declared.rela.Rela.{Rela}
-use Rattle.elf_reloc.specs.Prelude.{EntryRead, LackOf, Lacks, MissingItem, NamesEntrySymbol, RelocationSymbol}
+use Rattle.elf_reloc.specs.Prelude.{EntryRead, LackOf, Lacks, NamesEntrySymbol}
+use Rattle.elf_reloc.specs.declared.missing_item.MissingItem.{MissingItem}
+use Rattle.elf_reloc.specs.declared.missing_item.RelocationSymbol.{RelocationSymbol}
 
 module _ (file : List ℕ) (header : ℕ) (layout : Layout) (section : ℕ) (refusal : Refusal) where
   -- the type is none that stores a value

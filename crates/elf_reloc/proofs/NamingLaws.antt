@@ -1,9 +1,13 @@
 -- What is told of a symbol's name.
 use Rattle.std.proofs.Common.{◌≡◌, ◌≢◌, ℕ, List, [], Some, Option, None, Result, Ok, Err, refl, arith}
-use Rattle.elf_model.specs.Prelude.{Cause, DisplayedName, ITEM_NAME_SIZE, resolved_symbol_name, shown}
+use Rattle.elf_model.specs.Prelude.{DisplayedName, ITEM_NAME_SIZE, resolved_symbol_name, shown}
+use Rattle.elf_model.specs.declared.causes.Cause.{Cause}
 use Rattle.elf_model.specs.Names.DisplayedName.{Whole as ShownWhole}
 use Rattle.elf_source.specs.Source.{CountedState, ReadsUpTo}
-use Rattle.elf_table.specs.Prelude.{CallDid, Cut, Fault, IsReadFault, NameEnd, NameRead, Refuses, Whole, fault_of_result, shown_by}
+use Rattle.elf_table.specs.Prelude.{CallDid, IsReadFault, NameRead, Refuses, fault_of_result, shown_by}
+use Rattle.elf_table.specs.declared.names.NameEnd.TheVariants.{Cut, Whole}
+use Rattle.elf_table.specs.declared.fault.Fault.{Fault}
+use Rattle.elf_table.specs.declared.names.NameEnd.{NameEnd}
 use Rattle.elf_table.specs.declared.fault.Fault.TheVariants.{Refused, Source}
 use Rattle.elf_table.proofs.LedgerLaws.{CallDid-of}
 use Rattle.elf_reloc.specs.Explained.{ReturnsSymbolName, WithoutName}

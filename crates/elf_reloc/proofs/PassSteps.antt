@@ -5,9 +5,12 @@ use Rattle.std.proofs.lemmas.Bool.{cases_lt}
 use Rattle.std.proofs.lemmas.List.{take_all, nil_from_length}
 use Rattle.std.proofs.lemmas.List.{drop-drop, take-append-drop}
 use borrow.Rule.Slice.PartMut.{put_mid}
-use Rattle.elf_model.specs.Prelude.{Fails, Put, Refusal, SectionChange, StoredBytes, clipped, put}
+use Rattle.elf_model.specs.Prelude.{Fails, Put, SectionChange, StoredBytes, clipped, put}
+use Rattle.elf_model.specs.declared.causes.Refusal.{Refusal}
 use Rattle.elf_table.specs.declared.fault.Fault.{Fault}
-use Rattle.elf_reloc.specs.Prelude.{ApplyTarget as TargetCode, ChecksEntries, FindsEntry, Folds, RelocationWalk, ValueOrRefusal, changes_left, folded}
+use Rattle.elf_reloc.specs.Prelude.{ChecksEntries, FindsEntry, Folds, ValueOrRefusal, changes_left, folded}
+use Rattle.elf_reloc.specs.declared.entry.ApplyTarget.{ApplyTarget as TargetCode}
+use Rattle.elf_reloc.specs.declared.walk.RelocationWalk.{RelocationWalk}
 
 module _ {A : Type 0} (step : A → StoredBytes → A) (value : A) where
   pub folded-some : (changes rest : List SectionChange) (patch : StoredBytes) (answer : Result A Refusal) → changes ≡ Put patch ∷ rest → folded step value changes ≡ answer → folded step (step value patch) rest ≡ answer

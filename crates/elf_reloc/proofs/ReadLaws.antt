@@ -3,7 +3,8 @@ use Rattle.std.proofs.Common.{◌≡◌, ℕ, ◌+◌, ◌≤◌, None, Result, 
 use Rattle.std.specs.Prelude.{IfErr}
 use Rattle.elf_source.specs.Source.{CountedState, ReadsUpTo}
 use Rattle.elf_source.proofs.ReadsLaws.{IsSourceFault-then}
-use Rattle.elf_table.specs.Prelude.{Fault, IsOfCheck, IsReadFault, IsUnlimitedReadFault}
+use Rattle.elf_table.specs.Prelude.{IsOfCheck, IsReadFault, IsUnlimitedReadFault}
+use Rattle.elf_table.specs.declared.fault.Fault.{Fault}
 
 -- without a limit nothing is refused for want of budget
 pub not_over : (a b : CountedState) (n : ℕ) (fault : Fault) → a.most ≡ None → IsReadFault a b n fault → IsUnlimitedReadFault a b fault

@@ -2,10 +2,12 @@
 use Rattle.std.proofs.Common.{◌≡◌, ℕ, ◌==◌, ◌&&◌, nat_le, Bool, true, false, inl, inr, List, [], ◌∷◌, ◌++◌, length, map, flat_map, Option, None, Some, Ok, refl, sym, ap, ◌∙◌, arith}
 use Rattle.std.proofs.lemmas.Bool.{cases_Bool}
 use Rattle.std.proofs.lemmas.Bool.Decides.{nat_tests}
-use Rattle.elf_model.specs.Prelude.{AllInside, ApplyTarget, Fails, Put, RELA_SIZE, Refusal, SectionChange, StoredBytes, and_patches, applied, applies_to, change_of, changes_of, entries_for, entries_in, entry_changes, first_refusal, never_fall_from, offsets_at, offsets_never_fall, patched, patches_of, places_from, relocation_entries, relocation_table_checks, section_changes, sh_size, slice, table_checks, target_of}
+use Rattle.elf_model.specs.Prelude.{AllInside, ApplyTarget, Fails, Put, RELA_SIZE, SectionChange, StoredBytes, and_patches, applied, applies_to, change_of, changes_of, entries_for, entries_in, entry_changes, first_refusal, never_fall_from, offsets_at, offsets_never_fall, patched, patches_of, places_from, relocation_entries, relocation_table_checks, section_changes, sh_size, slice, table_checks, target_of}
+use Rattle.elf_model.specs.declared.causes.Refusal.{Refusal}
 use Rattle.elf_model.proofs.ApplySteps.{offsets_at-append}
 use Rattle.elf_model.proofs.CheckSteps.{first_refusal-some}
-use Rattle.elf_reloc.specs.Prelude.{ApplyTarget as TargetCode, HasSection, IsApplyTarget, OffsetsAscend, changes_all, folded, rising}
+use Rattle.elf_reloc.specs.Prelude.{HasSection, IsApplyTarget, OffsetsAscend, changes_all, folded, rising}
+use Rattle.elf_reloc.specs.declared.entry.ApplyTarget.{ApplyTarget as TargetCode}
 use Rattle.elf_source.specs.Source.{CountedState}
 use Rattle.elf_model.proofs.Slices.{slice-size}
 use Rattle.elf_reloc.proofs.ApplySteps.{all_inside, and_ok, changes_same, folded_ok, text_is}

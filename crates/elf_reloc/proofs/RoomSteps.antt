@@ -7,8 +7,10 @@ use Rattle.std.proofs.lemmas.Bool.{cases_lt}
 use Rattle.std.proofs.lemmas.Bool.Decides.{leb_tells}
 use Rattle.elf_model.specs.ApplyCost.{layout_names_cost}
 use Rattle.elf_source.specs.Prelude.{CountedState, OutState, ReadsUpTo, SetsLimit, SourceState, left}
-use Rattle.elf_table.specs.Prelude.{IsOpen, LoadedFile, RunFault, StoreState}
-use Rattle.elf_reloc.specs.Prelude.{ApplyFaultSays, ApplySays, ApplyTarget, NotForBudget, OverBudget, ReadsWithin, RoomFor, WritesBytes, WritesOrWants, entries_from, walk_all, windows, write_passes}
+use Rattle.elf_table.specs.Prelude.{IsOpen, LoadedFile, StoreState}
+use Rattle.elf_table.specs.declared.run_fault.RunFault.{RunFault}
+use Rattle.elf_reloc.specs.Prelude.{ApplyFaultSays, ApplySays, NotForBudget, OverBudget, ReadsWithin, RoomFor, WritesBytes, WritesOrWants, entries_from, walk_all, windows, write_passes}
+use Rattle.elf_reloc.specs.declared.entry.ApplyTarget.{ApplyTarget}
 
 -- what a pass asks for, by the number of entries and what each of them asks for
 walk_by : (target : ApplyTarget) (entries each : ℕ) → entries ≡ entries_from target 0 → each ≡ 48 + layout_names_cost target.layout.now → entries * each ≡ walk_all target

@@ -3,7 +3,10 @@ use Rattle.std.proofs.Common.{SFits, ◌≡◌, ◌≢◌, ◌==◌, not, ℕ, �
 use Rattle.std.proofs.Math.Facts.{to_z-of_z}
 use Rattle.std.proofs.lemmas.Bool.{ne_eqb}
 use Rattle.std.specs.Int.{cast_signed, cast_unsigned, w64}
-use Rattle.elf_model.specs.Prelude.{Cause, FormulaTerms, Overflow, R_X86_64_NONE, RelocationType, Unsupported, base_address, fits_in_range, kind_of, little, patch_of, value, value_of}
+use Rattle.elf_model.specs.Prelude.{FormulaTerms, R_X86_64_NONE, base_address, fits_in_range, kind_of, little, patch_of, value, value_of}
+use Rattle.elf_model.specs.declared.causes.Cause.{Cause}
+use Rattle.elf_model.specs.declared.causes.Cause.TheVariants.{Overflow, Unsupported}
+use Rattle.elf_model.specs.declared.relocation_types.RelocationType.{RelocationType}
 use Rattle.elf_reloc.specs.Types.{terms}
 
 abbrev stored_of : ℕ → ℕ → ℤ → ℕ → Option RelocationType → Result (List ℕ) Cause

@@ -1,12 +1,18 @@
 -- The walk over entries, step by step.
 use Rattle.std.proofs.Common.{◌≡◌, ℕ, suc, ◌+◌, ◌-◌, ◌*◌, ◌<◌, ◌≤◌, true, false, List, [], ◌∷◌, ◌++◌, Option, None, Some, Result, Ok, Err, refl, sym, ap, ◌∙◌, subst, arith, append_assoc}
-use Rattle.elf_model.specs.Prelude.{ApplyTarget, Fails, Put, Refusal, SectionChange, applies_to, entry_at, entry_changes, entry_count, first_refusal, places_from, relocation_table_checks, section_at, section_changes, sh_offset, sum_over}
-use Rattle.elf_table.specs.Prelude.{CursorState, Fault, GivesRow, Relocates, TableInBounds, TableRange, row, section_place, table_of, unread_bytes}
+use Rattle.elf_model.specs.Prelude.{ApplyTarget, Fails, Put, SectionChange, applies_to, entry_at, entry_changes, entry_count, first_refusal, places_from, relocation_table_checks, section_at, section_changes, sh_offset, sum_over}
+use Rattle.elf_model.specs.declared.causes.Refusal.{Refusal}
+use Rattle.elf_table.specs.Prelude.{CursorState, GivesRow, Relocates, TableInBounds, TableRange, row, section_place, table_of, unread_bytes}
+use Rattle.elf_table.specs.declared.fault.Fault.{Fault}
 use Rattle.elf_reloc.proofs.Opened.{entries_counted}
 use Rattle.elf_source.specs.Source.{CountedState, ReadsUpTo}
 use Rattle.elf_source.proofs.ReadsLaws.{ReadsUpTo-none, ReadsUpTo-then, ReadsUpTo-to}
 use Rattle.elf_table.specs.declared.fault.Fault.TheVariants.{Refused, Source}
-use Rattle.elf_reloc.specs.Prelude.{ApplyTarget as TargetCode, AsksOf, Changes, FindsEntry, IsWalkAlive, PlacedPatch, ReadsEntries, Refers, RelocationWalk, StepsWalk, WalkStep, beside_entry_cost, changes_all, changes_from, changes_left, entries_from, entry_count_in, patch_as, rows_changes, sections_of, steps_left, target_as, walk_all, walk_left}
+use Rattle.elf_reloc.specs.Prelude.{AsksOf, Changes, FindsEntry, IsWalkAlive, ReadsEntries, Refers, StepsWalk, beside_entry_cost, changes_all, changes_from, changes_left, entries_from, entry_count_in, patch_as, rows_changes, sections_of, steps_left, target_as, walk_all, walk_left}
+use Rattle.elf_reloc.specs.declared.entry.ApplyTarget.{ApplyTarget as TargetCode}
+use Rattle.elf_reloc.specs.declared.entry.PlacedPatch.{PlacedPatch}
+use Rattle.elf_reloc.specs.declared.walk.RelocationWalk.{RelocationWalk}
+use Rattle.elf_reloc.specs.declared.walk.WalkStep.{WalkStep}
 
 sum-suc : (cost : ℕ → ℕ) (i n : ℕ) → sum_over cost i (suc n) ≡ cost i + sum_over cost (suc i) n
 unfolding sum_over

@@ -1,8 +1,12 @@
 -- The section with its relocations applied.
 use Rattle.std.specs.Prelude.{ℕ, ◌≡◌, ◌+◌, ◌-◌, ◌*◌, ◌^◌, ◌/◌, ◌<◌, ◌≤◌, min, Bool, true, false, MatchBool, List, [], length, None, Some, Result, Ok, Err, IfErr}
-use Rattle.elf_model.specs.Prelude.{IsBudgetRefusal, Layout, Refusal, applied, apply_checks, apply_cost_by_order, before_entries, e_shnum, entries_for, first_refusal, header_checks, held_bytes, layout_names_cost, offsets_never_fall, section_at, slice}
+use Rattle.elf_model.specs.Prelude.{IsBudgetRefusal, Layout, applied, apply_checks, apply_cost_by_order, before_entries, e_shnum, entries_for, first_refusal, header_checks, held_bytes, layout_names_cost, offsets_never_fall, section_at, slice}
+use Rattle.elf_model.specs.declared.causes.Refusal.{Refusal}
 use Rattle.elf_source.specs.Prelude.{CountedState, IsOutFault, IsSourceFault, KeepsSource, OutGrows, OutState, SinkTakes, SinkTakesPrefix}
-use Rattle.elf_table.specs.Prelude.{Fault, IsOpen, LoadedFile, Out, RunFault, StoreState}
+use Rattle.elf_table.specs.Prelude.{IsOpen, LoadedFile, StoreState}
+use Rattle.elf_table.specs.declared.fault.Fault.{Fault}
+use Rattle.elf_table.specs.declared.run_fault.RunFault.TheVariants.{Out}
+use Rattle.elf_table.specs.declared.run_fault.RunFault.{RunFault}
 use Rattle.elf_table.specs.declared.fault.Fault.TheVariants.{Refused as Refuses, Source as Unread}
 use Rattle.elf_reloc.specs.declared.apply_section.Applied.{Applied}
 use Rattle.elf_reloc.specs.declared.entry.ApplyTarget.{ApplyTarget}

@@ -1,9 +1,12 @@
 -- What a lookup by name answers, and what it costs.
 use Rattle.std.specs.Prelude.{ℕ, ◌≡◌, List, Option, Result, Ok, Err, IfErr}
-use Rattle.elf_model.specs.Prelude.{Cause, IsBudgetRefusal, Refusal, address_named}
+use Rattle.elf_model.specs.Prelude.{IsBudgetRefusal, address_named}
+use Rattle.elf_model.specs.declared.causes.Cause.{Cause}
+use Rattle.elf_model.specs.declared.causes.Refusal.{Refusal}
 use Rattle.elf_record.specs.Sym.{IsSym}
 use Rattle.elf_source.specs.Source.{CountedState}
-use Rattle.elf_table.specs.Prelude.{CallDid, Fault, IsOfCheck, fault_of_result, strings_in}
+use Rattle.elf_table.specs.Prelude.{CallDid, IsOfCheck, fault_of_result, strings_in}
+use Rattle.elf_table.specs.declared.fault.Fault.{Fault}
 use Rattle.elf_table.specs.declared.fault.Fault.TheVariants.{Refused, Source}
 use Rattle.elf_reloc.specs.declared.lookup.SymbolEntry.{SymbolEntry}
 

@@ -12,10 +12,3 @@ unfoldable pub use Rattle.elf_reloc.specs.Passes.{folded}
 pub use Rattle.elf_reloc.specs.Walk.{AsksOf, FindsEntry, IsWalkAlive, ReadsEntries, StepGives, StepsWalk, WentOn, changes_all, sections_of}
 unfoldable pub use Rattle.elf_reloc.specs.Walk.{changes_from, changes_left, entries_from, entry_count_in, rows_changes, steps_left, walk_all, walk_left}
 pub use Rattle.elf_reloc.specs.Windows.{ApplyFaultSays, NotForBudget, UnreadSays, WritesBytes, windows}
-pub use Rattle.elf_reloc.specs.declared.apply_section.Applied.{Applied}
-pub use Rattle.elf_reloc.specs.declared.entry.ApplyTarget.{ApplyTarget}
-pub use Rattle.elf_reloc.specs.declared.entry.PlacedPatch.{PlacedPatch}
-pub use Rattle.elf_reloc.specs.declared.missing_item.MissingItem.{MissingItem}
-pub use Rattle.elf_reloc.specs.declared.missing_item.RelocationSymbol.{RelocationSymbol}
-pub use Rattle.elf_reloc.specs.declared.walk.RelocationWalk.{RelocationWalk}
-pub use Rattle.elf_reloc.specs.declared.walk.WalkStep.{WalkStep}

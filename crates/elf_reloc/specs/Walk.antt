@@ -2,7 +2,8 @@
 use Rattle.std.specs.Prelude.{ℕ, ◌≡◌, ◌+◌, ◌-◌, ◌*◌, ◌^◌, ◌<◌, ◌≤◌, true, false, List, [], ◌∷◌, ◌++◌, flat_map, Option, None, Some, Result, Ok, Err, IfOk, IfErr, IfSome}
 use Rattle.elf_model.specs.Prelude.{Fails, IsBudgetRefusal, Put, RELA_SIZE, SectionChange, applies_to, entry_at, entry_changes, entry_count, first_refusal, places_from, section_at, section_changes, sh_offset, sum_over, table_checks_of}
 use Rattle.elf_source.specs.Source.{CountedState, ReadsUpTo}
-use Rattle.elf_table.specs.Prelude.{Fault, HoldsRows, IsOpen, IsReadFault, SymbolTableInBounds, TableInBounds, row, section_place, unless_failed, unread_bytes}
+use Rattle.elf_table.specs.Prelude.{HoldsRows, IsOpen, IsReadFault, SymbolTableInBounds, TableInBounds, row, section_place, unless_failed, unread_bytes}
+use Rattle.elf_table.specs.declared.fault.Fault.{Fault}
 use Rattle.elf_table.specs.declared.fault.Fault.TheVariants.{Refused, Source}
 use Rattle.elf_reloc.specs.Entries.{target_as, patch_as, beside_entry_cost, IsPlacedInside, Refers}
 use Rattle.elf_reloc.specs.declared.entry.PlacedPatch.{PlacedPatch}

@@ -1,8 +1,12 @@
 -- What a call that writes a section with its relocations applied did.
 use Rattle.std.specs.Prelude.{ℕ, ◌≡◌, ◌+◌, ◌-◌, ◌^◌, ◌/◌, ◌<◌, ◌≤◌, min, List, None, Result, Ok, Err, IfErr}
-use Rattle.elf_model.specs.Prelude.{AllInside, IsBudgetRefusal, Refusal, StoredBytes, patched, patches_of, slice}
+use Rattle.elf_model.specs.Prelude.{AllInside, IsBudgetRefusal, StoredBytes, patched, patches_of, slice}
+use Rattle.elf_model.specs.declared.causes.Refusal.{Refusal}
 use Rattle.elf_source.specs.Prelude.{CountedState, IsOutFault, IsSourceFault, OutGrows, OutState, ReadsUpTo, SinkTakes, SinkTakesPrefix}
-use Rattle.elf_table.specs.Prelude.{Fault, IsOpen, Out, RunFault}
+use Rattle.elf_table.specs.Prelude.{IsOpen}
+use Rattle.elf_table.specs.declared.fault.Fault.{Fault}
+use Rattle.elf_table.specs.declared.run_fault.RunFault.TheVariants.{Out}
+use Rattle.elf_table.specs.declared.run_fault.RunFault.{RunFault}
 use Rattle.elf_table.specs.declared.fault.Fault.TheVariants.{Refused as Refuses, Source as Unread}
 use Rattle.elf_reloc.specs.Walk.{changes_all}
 use Rattle.elf_reloc.specs.declared.entry.ApplyTarget.{ApplyTarget}

@@ -1,6 +1,7 @@
 //! What a relocation entry stores.
 ghost use Rattle.std.specs.Prelude.{◌≡◌, ◌+◌, ℕ, List, Some, IfOk, IfSome, nat_lt};
-ghost use Rattle.elf_model.specs.Prelude.{Unplaced, change_of, entry_changes, kind_of, r_offset, r_sym, unnamed_value, where_based};
+ghost use Rattle.elf_model.specs.Prelude.{change_of, entry_changes, kind_of, r_offset, r_sym, unnamed_value, where_based};
+ghost use Rattle.elf_model.specs.declared.causes.Cause.TheVariants.{Unplaced};
 ghost use Rattle.elf_reloc.specs.Types.{IsSized, IsWidth};
 ghost use Rattle.elf_record.specs.Rela.{IsRela};
 ghost use Rattle.elf_table.specs.Prelude.{CallDid, RefersTo, SymbolTableInBounds, fault_of_result};

@@ -1,10 +1,14 @@
 -- What a listing's report is as the answer of a run.
 use Rattle.std.proofs.Common.{◌≡◌, ℕ, ◌+◌, ◌≤◌, List, ◌++◌, Option, None, Some, Result, Ok, Err, ap, sym, ◌∙◌, inl, inr, refl}
 use Rattle.std.specs.Prelude.{IfErr}
-use Rattle.elf_model.specs.Prelude.{Answer, Format, IsBudgetRefusal, IsBudgeted, IsReport, ListingItem, ListingStyle, Refusal, end_text, lines_of, listing, listing_cost, report_of, show_answer_by, status_of}
-use Rattle.elf_options.specs.Prelude.{Caps, style_of}
+use Rattle.elf_model.specs.Prelude.{Answer, IsBudgetRefusal, IsBudgeted, IsReport, ListingItem, ListingStyle, end_text, lines_of, listing, listing_cost, report_of, show_answer_by, status_of}
+use Rattle.elf_model.specs.declared.formats.Format.{Format}
+use Rattle.elf_model.specs.declared.causes.Refusal.{Refusal}
+use Rattle.elf_options.specs.Prelude.{style_of}
+use Rattle.elf_options.specs.declared.caps.Caps.{Caps}
 use Rattle.elf_source.specs.Prelude.{CountedState, OutGrows, OutState}
-use Rattle.elf_table.specs.Prelude.{Out, RunFault}
+use Rattle.elf_table.specs.declared.run_fault.RunFault.TheVariants.{Out}
+use Rattle.elf_table.specs.declared.run_fault.RunFault.{RunFault}
 use Rattle.elf_table.specs.declared.run_fault.RunFault.TheVariants.{Refused, Source}
 use Rattle.elf_listing.specs.Reports.{WroteReport, AsksWithin, FaultSays, KeepsSourceUnlimited, WroteText}
 use Rattle.elf_requests.specs.Prelude.{EndsInRefusal, RunsShow, WholeOrUsedUp, WroteAnswer}

@@ -5,8 +5,14 @@ use Rattle.std.specs.Borrow.{Bor}
 use Rattle.std.specs.List.{list_any}
 use Rattle.std.proofs.lemmas.Slice.Eq.{bytes_eq-Decides}
 use Rattle.clap.specs.Walk.{Row, Text, first_of}
-use Rattle.elf_requests.specs.Prelude.{Apply, Archive, AreBadNames, AsksBy, AsksNothing, Check, ChoosesBadly, Chosen, File, Find, HasAnyFault, HasFault, IsArchiving, IsAsked, IsChecking, IsChoosing, IsListAsked, IsNeedsAsked, IsTask, IsTraitsAsked, LacksWord, Laid, List as Listings, Needs, NothingAsked, ParsedCommand, Place, Request, Resolve, Show, Task, Traits, Version, takes_names}
-use Rattle.elf_cli.specs.Prelude.{NoneAsked, RequestFault, has_name_option}
+use Rattle.elf_requests.specs.Prelude.{AreBadNames, AsksBy, AsksNothing, ChoosesBadly, HasAnyFault, HasFault, IsArchiving, IsAsked, IsChecking, IsChoosing, IsListAsked, IsNeedsAsked, IsTask, IsTraitsAsked, LacksWord, NothingAsked, takes_names}
+use Rattle.elf_requests.specs.declared.requests.Task.TheVariants.{Apply, Find, Place, Resolve, Show}
+use Rattle.elf_requests.specs.declared.checks.ParsedCommand.TheVariants.{Archive, Check, Chosen, File, Laid, List as Listings, Needs, Traits, Version}
+use Rattle.elf_requests.specs.declared.checks.ParsedCommand.{ParsedCommand}
+use Rattle.elf_requests.specs.declared.requests.Request.{Request}
+use Rattle.elf_requests.specs.declared.requests.Task.{Task}
+use Rattle.elf_cli.specs.Prelude.{NoneAsked, has_name_option}
+use Rattle.elf_cli.specs.declared.faults.RequestFault.{RequestFault}
 
 -- two texts that are not the same, by the test
 apart : (text other : Text) → bytes_eq text other ≡ false → text ≡ other → ⊥

@@ -2,7 +2,9 @@
 use Rattle.std.proofs.Common.{List, refl, inl, inr}
 use Rattle.clap.specs.Walk.{Row, Text}
 use Rattle.std.specs.Prelude.{Option, Err}
-use Rattle.elf_cli.specs.Prelude.{BadItem, BadName, BadTrait, IsUnasked, LayoutFull, LayoutRepeat, Memory, NamesFull, RequestFault, Words}
+use Rattle.elf_cli.specs.Prelude.{IsUnasked}
+use Rattle.elf_cli.specs.declared.faults.RequestFault.TheVariants.{BadItem, BadName, BadTrait, LayoutFull, LayoutRepeat, Memory, NamesFull, Words}
+use Rattle.elf_cli.specs.declared.faults.RequestFault.{RequestFault}
 use Rattle.elf_requests.specs.Prelude.{IsRefusal, NothingAsked, ParsesTo}
 
 -- words that ask for nothing

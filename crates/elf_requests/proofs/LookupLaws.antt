@@ -3,11 +3,15 @@ use Rattle.std.proofs.Common.{◌≡◌, ℕ, suc, ◌^◌, ◌≤◌, ◌==◌,
 use Rattle.std.proofs.lemmas.Bool.{cases_Bool}
 use Rattle.std.proofs.lemmas.List.{length-drop, length-take}
 use Rattle.std.specs.Prelude.{IfErr, IfSome}
-use Rattle.elf_model.specs.Prelude.{AT_SIGN, Answer, Format, FoundVersion, IsAnswered, SymbolQuery, asked_after, asked_name, find_answer, found_version_line, loader_answer_for, loader_looked, looked, named_line, parse_query, symbol_version_prefix}
-use Rattle.elf_source.specs.Prelude.{CountedState, OutFault, OutGrows, OutPuts, OutState, SetsLimit, SinkTakes, SourceState}
+use Rattle.elf_model.specs.Prelude.{AT_SIGN, Answer, FoundVersion, IsAnswered, SymbolQuery, asked_after, asked_name, find_answer, found_version_line, loader_answer_for, loader_looked, looked, named_line, parse_query, symbol_version_prefix}
+use Rattle.elf_model.specs.declared.formats.Format.{Format}
+use Rattle.elf_source.specs.Prelude.{CountedState, OutGrows, OutPuts, OutState, SetsLimit, SinkTakes, SourceState}
+use Rattle.elf_source.specs.declared.faults.OutFault.{OutFault}
 use Rattle.elf_source.proofs.PutsLaws.{SinkTakes-then, SinkTakesPrefix-then}
 use Rattle.elf_source.proofs.LimitLaws.{within_budget}
-use Rattle.elf_table.specs.Prelude.{CallReads, Fault, RunFault, stop_of}
+use Rattle.elf_table.specs.Prelude.{CallReads, stop_of}
+use Rattle.elf_table.specs.declared.fault.Fault.{Fault}
+use Rattle.elf_table.specs.declared.run_fault.RunFault.{RunFault}
 use Rattle.elf_table.specs.declared.fault.Fault.TheVariants.{Refused as Refuses, Source as Unread}
 use Rattle.elf_hash.specs.Lookups.{GivesLookup}
 use Rattle.elf_listing.specs.Prelude.{IsOfOutput, ReturnsStop}

@@ -1,15 +1,23 @@
 -- What a task did that is no listing, between the call that sets its limit and the one that takes it away.
 use Rattle.std.proofs.Common.{◌≡◌, ◌⊎◌, ℕ, ◌+◌, ◌^◌, ◌<◌, ◌≤◌, List, [], ◌++◌, Option, None, Some, Result, Ok, Err, ap, sym, ◌∙◌, inl, inr, refl, subst, arith}
 use Rattle.std.specs.Prelude.{IfErr, IfSome}
-use Rattle.elf_model.specs.Prelude.{Answer, Budget, Columns, Format, IsAnswered, IsBudgetRefusal, Layout, Refusal, applied, applied_status, applied_text, apply_answer, refusal_line}
+use Rattle.elf_model.specs.Prelude.{Answer, IsAnswered, IsBudgetRefusal, Layout, applied, applied_status, applied_text, apply_answer, refusal_line}
+use Rattle.elf_model.specs.declared.causes.Cause.TheVariants.{Budget}
+use Rattle.elf_model.specs.declared.formats.Format.TheVariants.{Columns}
+use Rattle.elf_model.specs.declared.formats.Format.{Format}
+use Rattle.elf_model.specs.declared.causes.Refusal.{Refusal}
 use Rattle.elf_model.proofs.BudgetLaws.{is_budget_fault}
 use Rattle.elf_source.specs.Prelude.{CountedState, KeepsSource, OutGrows, OutState, SetsLimit, SinkTakes, SinkTakesPrefix, counted}
 use Rattle.elf_source.proofs.LimitLaws.{budget_below, late_budget}
 use Rattle.elf_source.proofs.PutsLaws.{SinkTakes-nothing, SinkTakesPrefix-all, SinkTakesPrefix-more, SinkTakesPrefix-then}
-use Rattle.elf_table.specs.Prelude.{Fault, IsReadFault, Out, RunFault, stop_of}
+use Rattle.elf_table.specs.Prelude.{IsReadFault, stop_of}
+use Rattle.elf_table.specs.declared.fault.Fault.{Fault}
+use Rattle.elf_table.specs.declared.run_fault.RunFault.TheVariants.{Out}
+use Rattle.elf_table.specs.declared.run_fault.RunFault.{RunFault}
 use Rattle.elf_table.specs.declared.fault.Fault.TheVariants.{Refused as Refuses, Source as Unread}
 use Rattle.elf_table.specs.declared.run_fault.RunFault.TheVariants.{Refused, Source}
-use Rattle.elf_reloc.specs.Prelude.{Applied, Applies, ApplySays, BudgetTooSmall, text_of}
+use Rattle.elf_reloc.specs.Prelude.{Applies, ApplySays, BudgetTooSmall, text_of}
+use Rattle.elf_reloc.specs.declared.apply_section.Applied.{Applied}
 use Rattle.elf_listing.specs.Prelude.{FaultSays, IsOfOutput, ReturnsStop}
 use Rattle.elf_requests.specs.Prelude.{Answers, AsksUpTo, Runs, WholeOrUsedUp, WroteAnswer}
 

@@ -4,7 +4,9 @@ use Rattle.clap.specs.Walk.{Row, Text}
 use Rattle.clap.specs.Values.{kind_of}
 use Rattle.clap.specs.declared.error.Error.{Error}
 use Rattle.clap.specs.declared.error.kind.ErrorKind.TheVariants as kind
-use Rattle.elf_cli.specs.Prelude.{AreRead, AreRefused, Memory, RequestFault, Words}
+use Rattle.elf_cli.specs.Prelude.{AreRead, AreRefused}
+use Rattle.elf_cli.specs.declared.faults.RequestFault.TheVariants.{Memory, Words}
+use Rattle.elf_cli.specs.declared.faults.RequestFault.{RequestFault}
 use Rattle.elf_requests.specs.Checks.{HasAnyFault, IsAsked, NothingAsked}
 use Rattle.elf_requests.specs.declared.checks.ParsedCommand.{ParsedCommand}
 

@@ -1,8 +1,11 @@
 -- What a run answers.
 use Rattle.std.specs.Prelude.{ℕ, ◌≡◌, ◌<◌, ◌+◌, ⊤, List, ◌++◌, Option, Some, Result, Ok, Err}
-use Rattle.elf_model.specs.Prelude.{Answer, Format, IsBudgetRefusal, Refusal, refusal_line}
+use Rattle.elf_model.specs.Prelude.{Answer, IsBudgetRefusal, refusal_line}
+use Rattle.elf_model.specs.declared.formats.Format.{Format}
+use Rattle.elf_model.specs.declared.causes.Refusal.{Refusal}
 use Rattle.elf_source.specs.Prelude.{CountedState, OutState, SinkTakes, SinkTakesPrefix}
-use Rattle.elf_table.specs.Prelude.{Out, RunFault}
+use Rattle.elf_table.specs.declared.run_fault.RunFault.TheVariants.{Out}
+use Rattle.elf_table.specs.declared.run_fault.RunFault.{RunFault}
 use Rattle.elf_table.specs.declared.run_fault.RunFault.TheVariants.{Refused, Source}
 
 -- a text ends in the line of a refusal

@@ -2,8 +2,11 @@
 use Rattle.std.specs.Prelude.{Bool, true, false, ◌≡◌, ◌⊎◌, ◌<◌, ◌≤◌, ◌^◌, ℕ, length, unwrap_or, Result, Ok, Err, List, [], codes, Option, None, Some}
 use Rattle.std.specs.Borrow.{Bor}
 use Rattle.clap.specs.Walk.{Row, Text, all_of, first_of, one_of}
-use Rattle.elf_model.specs.Prelude.{Format, IsWanted, Layout, is_complete, no_items, parse_query}
-use Rattle.elf_cli.specs.Prelude.{AreLimitOptions, AreParts, BadName, HasNumber, IsOfFile, IsStyle, RequestFault, asked_format, gnu_option_is_missing, has_gnu_option, has_name_option, is_option_set}
+use Rattle.elf_model.specs.Prelude.{IsWanted, Layout, is_complete, no_items, parse_query}
+use Rattle.elf_model.specs.declared.formats.Format.{Format}
+use Rattle.elf_cli.specs.Prelude.{AreLimitOptions, AreParts, HasNumber, IsOfFile, IsStyle, asked_format, gnu_option_is_missing, has_gnu_option, has_name_option, is_option_set}
+use Rattle.elf_cli.specs.declared.faults.RequestFault.TheVariants.{BadName}
+use Rattle.elf_cli.specs.declared.faults.RequestFault.{RequestFault}
 use Rattle.elf_requests.specs.Layouts.{LaysWords}
 use Rattle.elf_requests.specs.declared.requests.Request.{Request}
 use Rattle.elf_requests.specs.declared.requests.Task.{Task}

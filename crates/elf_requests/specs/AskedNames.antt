@@ -2,7 +2,9 @@
 use Rattle.std.specs.Prelude.{◌≡◌, ◌⊎◌, ◌≤◌, ◌<◌, ⊤, Bool, true, false, bytes_eq, length, List, [], ◌∷◌, codes, Option, None, Some, option_map}
 use Rattle.std.specs.List.{list_any}
 use Rattle.clap.specs.Walk.{Row, Text, first_of, texts}
-use Rattle.elf_cli.specs.Prelude.{AreChosenParts, AreLimitOptions, BadName, IsStyle, Memory, NamesFull, RequestFault, has_name_option, has_versions_option, name_words}
+use Rattle.elf_cli.specs.Prelude.{AreChosenParts, AreLimitOptions, IsStyle, has_name_option, has_versions_option, name_words}
+use Rattle.elf_cli.specs.declared.faults.RequestFault.TheVariants.{BadName, Memory, NamesFull}
+use Rattle.elf_cli.specs.declared.faults.RequestFault.{RequestFault}
 use Rattle.elf_record.specs.declared.parts.Parts.{Parts}
 use Rattle.elf_requests.specs.Asked.{IsFileNamed, IsText}
 use Rattle.elf_requests.specs.declared.checks.FilteredRequest.{FilteredRequest}

@@ -1,7 +1,9 @@
 -- What the words of a command line ask for, of one file, of many or of an archive; and the version of the program.
 use Rattle.std.specs.Prelude.{⊤, ◌≡◌, ◌⊎◌, List, Result, Ok, Err, codes, Option, None, Some}
 use Rattle.clap.specs.Walk.{Row, Text, first_of}
-use Rattle.elf_cli.specs.Prelude.{AreLimitOptions, AreParts, AskedBy, AsksVersion, BadTrait, IsStyle, Memory, RequestFault, is_option_set}
+use Rattle.elf_cli.specs.Prelude.{AreLimitOptions, AreParts, AskedBy, AsksVersion, IsStyle, is_option_set}
+use Rattle.elf_cli.specs.declared.faults.RequestFault.TheVariants.{BadTrait, Memory}
+use Rattle.elf_cli.specs.declared.faults.RequestFault.{RequestFault}
 use Rattle.elf_requests.specs.Asked.{AsksBy, HasFault}
 use Rattle.elf_requests.specs.AskedNames.{ChoosesBadly, IsChoosing}
 use Rattle.elf_requests.specs.AskedNeeds.{IsNeedsAsked}

@@ -1,6 +1,7 @@
 -- What is written of a lookup.
 use Rattle.std.specs.Prelude.{ℕ, List}
-use Rattle.elf_model.specs.Prelude.{Answer, Format, LoaderLookup, Lookup, loader_text, lookup_status, lookup_text}
+use Rattle.elf_model.specs.Prelude.{Answer, LoaderLookup, Lookup, loader_text, lookup_status, lookup_text}
+use Rattle.elf_model.specs.declared.formats.Format.{Format}
 
 -- the text and the status of what a lookup gives
 abbrev pub answer_of_lookup : Format → List ℕ → List ℕ → Lookup → Answer

@@ -11,9 +11,3 @@ pub use Rattle.elf_requests.specs.Layouts.{LaysWords}
 pub use Rattle.elf_requests.specs.Lists.{IsListAsked}
 pub use Rattle.elf_requests.specs.Lookups.{resolved_answer}
 pub use Rattle.elf_requests.specs.Requests.{AsksUpTo, Runs, RunsShow, RunsTask}
-pub use Rattle.elf_requests.specs.declared.checks.NameArgs.{NameArgs}
-pub use Rattle.elf_requests.specs.declared.checks.ParsedCommand.{ParsedCommand}
-pub use Rattle.elf_requests.specs.declared.checks.ParsedCommand.TheVariants.{Archive, Check, Chosen, File, Laid, List, Needs, Traits, Version}
-pub use Rattle.elf_requests.specs.declared.requests.Request.{Request}
-pub use Rattle.elf_requests.specs.declared.requests.Task.{Task}
-pub use Rattle.elf_requests.specs.declared.requests.Task.TheVariants.{Apply, Find, Place, Resolve, Show}

@@ -1,8 +1,12 @@
 -- What a request does: what it gives of a file, what it costs, and what it asks for.
 use Rattle.std.specs.Prelude.{ℕ, ◌≡◌, ◌≤◌, ◌+◌, ⊤, Bool, List, length, Option, Some, Result, IfErr, IfSome}
-use Rattle.elf_model.specs.Prelude.{Columns, Format, IsAnswered, IsShown, Layout, apply_answer, apply_cost_by_order, find_answer, find_cost, listing_cost, loader_answer, loader_ceiling, loader_cost, looked_at, parse_query, show_answer_by}
+use Rattle.elf_model.specs.Prelude.{IsAnswered, IsShown, Layout, apply_answer, apply_cost_by_order, find_answer, find_cost, listing_cost, loader_answer, loader_ceiling, loader_cost, looked_at, parse_query, show_answer_by}
+use Rattle.elf_model.specs.declared.formats.Format.TheVariants.{Columns}
+use Rattle.elf_model.specs.declared.formats.Format.{Format}
 use Rattle.elf_source.specs.Prelude.{CountedState, OutGrows, OutState}
-use Rattle.elf_options.specs.Prelude.{Caps, Limits, style_of}
+use Rattle.elf_options.specs.Prelude.{style_of}
+use Rattle.elf_options.specs.declared.caps.Caps.{Caps}
+use Rattle.elf_options.specs.declared.caps.Limits.{Limits}
 use Rattle.elf_table.specs.declared.run_fault.RunFault.{RunFault}
 use Rattle.elf_hash.specs.Lookups.{find_bytes}
 use Rattle.elf_reloc.specs.Applied.{apply_ceiling}

@@ -1,6 +1,7 @@
 -- How calls that write follow one another.
 use Rattle.std.proofs.Common.{ℕ, List, [], ◌++◌, Result, Ok, Err}
-use Rattle.elf_source.specs.Prelude.{OutFault, OutGrows, OutPuts, OutState, SinkTakesPrefix}
+use Rattle.elf_source.specs.Prelude.{OutGrows, OutPuts, OutState, SinkTakesPrefix}
+use Rattle.elf_source.specs.declared.faults.OutFault.{OutFault}
 use Rattle.elf_source.proofs.PutsLaws.{SinkTakes-nothing, SinkTakes-then}
 
 -- nothing was written

@@ -5,7 +5,3 @@ pub use Rattle.elf_source.specs.Output.{EndsLine, FailsOutput, IsOutFault, Keeps
 pub use Rattle.elf_source.specs.Ranges.{IsWholeRange, LiesWithin, Narrows, RangeOf, Widens, file_within, seen_range}
 pub use Rattle.elf_source.specs.Reader.{AreRests, Turns, TurnsWithin}
 pub use Rattle.elf_source.specs.Source.{CountedState, ExceedsBudget, IsHonest, IsSourceFault, KeepsSource, MasksSectionHeaders, RangeParent, ReadsUpTo, SameView, SetsLimit, SourceState, counted, file_by, honest, left, seen_by}
-pub use Rattle.elf_source.specs.declared.faults.OutFault.{OutFault}
-pub use Rattle.elf_source.specs.declared.faults.SourceFault.{SourceFault}
-pub use Rattle.elf_source.specs.declared.faults.SourceFault.TheVariants.{Device, Ended}
-pub use Rattle.elf_source.specs.declared.holding_sink.DeferredLine.{DeferredLine}

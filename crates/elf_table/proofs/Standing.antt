@@ -6,7 +6,8 @@ use Rattle.std.proofs.lemmas.Grind.{common_steps}
 use Rattle.elf_model.specs.Bytes.{slice}
 use Rattle.elf_source.specs.Prelude.{ReadsOnward, SourceState}
 use Rattle.elf_source.proofs.OnwardLaws.{onward_more, onward_none, onward_then}
-use Rattle.elf_table.specs.Prelude.{CursorState, Fault, GivesRow, HoldsBytes, HoldsCount, IsAt, IsAtRow, StillHolds, TableRange, WindowState, bytes_left, frontier, page_of, range_end, row_at, size_of}
+use Rattle.elf_table.specs.Prelude.{CursorState, GivesRow, HoldsBytes, HoldsCount, IsAt, IsAtRow, StillHolds, TableRange, WindowState, bytes_left, frontier, page_of, range_end, row_at, size_of}
+use Rattle.elf_table.specs.declared.fault.Fault.{Fault}
 use Rattle.elf_table.proofs.Paging.{Agrees-skip, held-front}
 
 -- a product in two parts

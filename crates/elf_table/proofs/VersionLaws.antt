@@ -1,11 +1,13 @@
 -- What the checks of versions of symbols leave.
 use Rattle.std.proofs.Common.{◌≡◌, ℕ, ◌<◌, ◌/◌, ◌==◌, ◌&&◌, ◌||◌, not, Bool, true, false, inl, inr, List, [], ◌∷◌, ◌++◌, None, Some, Result, Ok, Err, IfOk, refl, sym, ap, ◌∙◌, arith}
 use Rattle.std.proofs.lemmas.Bool.{cases_Bool, lt-ltb, ne_eqb}
-use Rattle.elf_model.specs.Prelude.{BadLink, Check, NotStrings, SHT_STRTAB, TableOutside, all_checks, first_refusal, has_strings, has_symbols, held_headers, is_outside, linked_at, links, pass, refuse, sh_link, sh_offset, sh_size, sh_type, symbol_versions, symbols_checks, table_checks, table_checks_of}
+use Rattle.elf_model.specs.Prelude.{Check, SHT_STRTAB, all_checks, first_refusal, has_strings, has_symbols, held_headers, is_outside, linked_at, links, pass, refuse, sh_link, sh_offset, sh_size, sh_type, symbol_versions, symbols_checks, table_checks, table_checks_of}
+use Rattle.elf_model.specs.declared.causes.Cause.TheVariants.{BadLink, NotStrings, TableOutside}
 use Rattle.elf_model.proofs.CheckSteps.{first_refusal-none, first_refusal-some}
 use Rattle.elf_model.proofs.StoreLemmas.{places_decide_nothing}
 use Rattle.std.specs.Prelude.{is_none}
-use Rattle.elf_table.specs.Prelude.{AreVersioned, Fault, RefusedBy, StringTableRange, TableRange, checked, rows, string_table_of, strings, symbols_at, table_at, table_of}
+use Rattle.elf_table.specs.Prelude.{AreVersioned, RefusedBy, StringTableRange, TableRange, checked, rows, string_table_of, strings, symbols_at, table_at, table_of}
+use Rattle.elf_table.specs.declared.fault.Fault.{Fault}
 use Rattle.elf_table.specs.declared.fault.Fault.TheVariants.{Refused, Source}
 use Rattle.elf_table.proofs.RelocationLaws.{passed_first, symbols-fail, symbols-pass, table-fails}
 

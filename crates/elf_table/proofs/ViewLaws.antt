@@ -1,7 +1,8 @@
 -- A store that was loaded with a file's program headers holds them.
 use Rattle.std.proofs.Common.{◌≡◌, ℕ, ◌+◌, ◌*◌, if◌then◌else◌, List, Result, Ok, Err, is_ok, OnOk, sym, ◌∙◌, ap, arith}
 use Rattle.elf_model.specs.Prelude.{first_refusal, load_checks, slice}
-use Rattle.elf_table.specs.Prelude.{AreRowSlices, Fault, HoldsProgramHeaders, HoldsSectionHeaders, LoadedFile, StoreState}
+use Rattle.elf_table.specs.Prelude.{AreRowSlices, HoldsProgramHeaders, HoldsSectionHeaders, LoadedFile, StoreState}
+use Rattle.elf_table.specs.declared.fault.Fault.{Fault}
 
 -- a file that was loaded without sections, and then its program headers, where they were read
 pub views_read : (result : Result (Unit {0}) Fault) (file : List ℕ) (loaded : LoadedFile) (old new : StoreState) → HoldsSectionHeaders file loaded old → loaded.header.e_shnum ≡ 0

@@ -1,6 +1,7 @@
 -- What a section that is a hash table refers to, once its checks pass.
 use Rattle.std.specs.Prelude.{ℕ, ◌≡◌, ◌+◌, ◌^◌, ◌<◌, ◌≤◌, ◌||◌, nat_lt, not, Bool, true, List, [], ◌∷◌, None, Result, Ok, Err}
-use Rattle.elf_model.specs.Prelude.{BadLink, Check, HashShape, TableOutside, first_refusal, is_outside, linked_at, refuse, sh_link, sh_offset, sh_size}
+use Rattle.elf_model.specs.Prelude.{Check, first_refusal, is_outside, linked_at, refuse, sh_link, sh_offset, sh_size}
+use Rattle.elf_model.specs.declared.causes.Cause.TheVariants.{BadLink, HashShape, TableOutside}
 use Rattle.elf_record.specs.declared.shdr.Shdr.{Shdr}
 use Rattle.elf_table.specs.Relocations.{AreSymbols, RefusedBy}
 use Rattle.elf_table.specs.Tables.{TableRange, StringTableRange}

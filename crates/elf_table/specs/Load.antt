@@ -1,7 +1,8 @@
 -- The load of a file's section headers.
 use Rattle.std.specs.Prelude.{ℕ, ◌≡◌, ◌+◌, ◌*◌, ◌^◌, ◌<◌, ◌≤◌, List, length, is_none, None, Some, Result, Ok, Err}
 use Rattle.elf_model.specs.Prelude.{Check, HeaderCounts, IsBudgetRefusal, cost_where, early_checks_of, first_refusal, length_checks, load_checks}
-use Rattle.elf_record.specs.Prelude.{Ehdr, IsEhdr}
+use Rattle.elf_record.specs.Prelude.{IsEhdr}
+use Rattle.elf_record.specs.declared.ehdr.Ehdr.{Ehdr}
 use Rattle.elf_source.specs.Source.{CountedState}
 use Rattle.elf_table.specs.Store.{StoreState, HoldsSections, HoldsSegments}
 use Rattle.elf_table.specs.declared.fault.Fault.{Fault}

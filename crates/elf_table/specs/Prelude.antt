@@ -15,11 +15,3 @@ pub use Rattle.elf_table.specs.Versions.{AreVersioned, Versioned, sections_in}
 pub use Rattle.elf_table.specs.Views.{ChecksDecide, byte_table_at, dynamic_of, dynamic_table_at, first_of_kind, rest_mapped, rest_of, strings_mapped}
 pub use Rattle.elf_table.specs.WindowCalls.{HasLeft, ReadsThrough, ReadsThroughWindow, Skips}
 pub use Rattle.elf_table.specs.Windows.{HoldsBytes, HoldsCount, MovesOn, RangeWithin, StillHolds, WindowState, bytes_left, frontier, range_end}
-pub use Rattle.elf_table.specs.declared.fault.Fault.{Fault}
-pub use Rattle.elf_table.specs.declared.file.SectionView.{SectionView}
-pub use Rattle.elf_table.specs.declared.names.NameEnd.{NameEnd}
-pub use Rattle.elf_table.specs.declared.names.NameEnd.TheVariants.{Cut, Whole}
-pub use Rattle.elf_table.specs.declared.row.Row.{Row}
-pub use Rattle.elf_table.specs.declared.run_fault.RunFault.{RunFault}
-pub use Rattle.elf_table.specs.declared.run_fault.RunFault.TheVariants.{Out}
-pub use Rattle.elf_table.specs.declared.segment_view.ExecutionView.{ExecutionView}

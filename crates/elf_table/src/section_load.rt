@@ -1,7 +1,8 @@
 //! The load of a file's section headers.
 ghost use Rattle.std.specs.Prelude.{◌≡◌, ℕ, ◌+◌, ◌*◌, ◌≤◌, List, length};
 ghost use Rattle.std.specs.Prelude.{None, Some, Err, IfErr, IfSome, MatchOption};
-ghost use Rattle.elf_model.specs.Prelude.{IsBudgetRefusal, Refusal as Refuses, first_refusal, section_name_checks};
+ghost use Rattle.elf_model.specs.Prelude.{IsBudgetRefusal, first_refusal, section_name_checks};
+ghost use Rattle.elf_model.specs.declared.causes.Refusal.{Refusal as Refuses};
 ghost use Rattle.elf_record.specs.Ehdr.{IsEhdr};
 ghost use Rattle.elf_source.specs.Source.{ReadsUpTo};
 ghost use Rattle.elf_table.specs.Faults.{IsReadFault};

@@ -1,10 +1,12 @@
 -- The check of a file by its sort, and what that asks for.
 use Rattle.std.proofs.Common.{◌≡◌, ℕ, ◌+◌, ◌≤◌, nat_lt, Bool, true, false, if◌then◌else◌, List, Option, None, Some, arith}
 use Rattle.std.specs.Prelude.{IfSome}
-use Rattle.elf_model.specs.Prelude.{FileStatus, ListingStyle, archive_ceiling, front_size, style_ceiling}
+use Rattle.elf_model.specs.Prelude.{ListingStyle, archive_ceiling, front_size, style_ceiling}
+use Rattle.elf_model.specs.declared.states.FileStatus.{FileStatus}
 use Rattle.elf_model.specs.declared.states.FileStatus.TheVariants as state
 use Rattle.elf_source.specs.Source.{CountedState}
-use Rattle.elf_options.specs.Prelude.{Caps, style_of}
+use Rattle.elf_options.specs.Prelude.{style_of}
+use Rattle.elf_options.specs.declared.caps.Caps.{Caps}
 use Rattle.elf_walk.specs.Prelude.{AsksNoMore, FailsRead, FindsSorted, FindsSortedState, check_ceiling, front_asked}
 
 -- what a file asks for, by the ceiling of an archive of as many bytes

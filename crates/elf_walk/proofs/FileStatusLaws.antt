@@ -1,6 +1,9 @@
 -- The state of a file, by what is known of its listing.
-use Rattle.elf_model.specs.Prelude.{FileStatus, IsBudgeted, IsStateOf, ListingStyle, Refusal, first_refusal, header_checks, is_not_elf, listing, listing_cost, report_of, state_of, style_ceiling}
-use Rattle.elf_options.specs.Prelude.{Caps, style_of}
+use Rattle.elf_model.specs.Prelude.{IsBudgeted, IsStateOf, ListingStyle, first_refusal, header_checks, is_not_elf, listing, listing_cost, report_of, state_of, style_ceiling}
+use Rattle.elf_model.specs.declared.states.FileStatus.{FileStatus}
+use Rattle.elf_model.specs.declared.causes.Refusal.{Refusal}
+use Rattle.elf_options.specs.Prelude.{style_of}
+use Rattle.elf_options.specs.declared.caps.Caps.{Caps}
 use Rattle.std.proofs.Common.{◌≡◌, ℕ, ◌+◌, ◌<◌, ◌≤◌, Bool, true, false, if◌then◌else◌, List, length, Option, None, Some, inl, refl, sym, ap, ◌∙◌, nat_lt, arith, ◌^◌}
 use Rattle.std.specs.Prelude.{Ok, Err, IfSome}
 use Rattle.std.proofs.lemmas.Bool.Decides.{nat_tests}

@@ -1,7 +1,11 @@
 -- What is found of a file, by what the search for its traits answered.
 use Rattle.std.proofs.Common.{◌≡◌, ℕ, ◌^◌, ◌<◌, ◌≤◌, ◌++◌, ◌⊎◌, true, false, if◌then◌else◌, List, length, Option, None, Some, Result, Ok, Err, inl, inr, refl, sym, ap, subst, ◌∙◌, nat_lt, arith}
 use Rattle.std.proofs.lemmas.Bool.Decides.{nat_tests}
-use Rattle.elf_model.specs.Prelude.{Budget, FileStatus, Hardening, IsBudgetRefusal, Refusal, Short, first_refusal, header_checks, is_not_elf, load_checks, loaded_traits, state_of, traits_by_segments, traits_cost, traits_of, without_sections}
+use Rattle.elf_model.specs.Prelude.{IsBudgetRefusal, first_refusal, header_checks, is_not_elf, load_checks, loaded_traits, state_of, traits_by_segments, traits_cost, traits_of, without_sections}
+use Rattle.elf_model.specs.declared.causes.Cause.TheVariants.{Budget, Short}
+use Rattle.elf_model.specs.declared.states.FileStatus.{FileStatus}
+use Rattle.elf_model.specs.declared.traits.Hardening.{Hardening}
+use Rattle.elf_model.specs.declared.causes.Refusal.{Refusal}
 use Rattle.elf_model.specs.declared.states.FileStatus.TheVariants as state
 use Rattle.elf_model.proofs.BudgetLaws.{is_budget_fault}
 use Rattle.elf_model.proofs.StyleLemmas.{from_length}

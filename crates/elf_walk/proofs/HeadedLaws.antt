@@ -1,13 +1,20 @@
 -- A listing behind the line of a path, by what was written of both.
 use Rattle.std.proofs.Common.{◌≡◌, ℕ, Bool, false, List, [], ◌∷◌, Option, None, Some, Result, Ok, Err, refl, ◌∙◌, inl}
 use Rattle.std.specs.Prelude.{IfErr}
-use Rattle.elf_model.specs.Prelude.{EveryRow, FileMagic, ListingStyle, Refusal, RowFilter, RowsOf, SymbolQuery, archive_items, fault_of, headed, listing, members_alone, report_of}
+use Rattle.elf_model.specs.Prelude.{EveryRow, ListingStyle, RowFilter, RowsOf, SymbolQuery, archive_items, fault_of, headed, listing, members_alone, report_of}
+use Rattle.elf_model.specs.declared.states.FileMagic.{FileMagic}
+use Rattle.elf_model.specs.declared.causes.Refusal.{Refusal}
 use Rattle.elf_model.specs.declared.states.FileMagic.TheVariants as sort
-use Rattle.elf_source.specs.Prelude.{CountedState, DeferredLine, EndsLine, FailsOutput, KeepsDeferred, OutFault, OutGrows, OutState, SinkTakes, SinkTakesPrefix, before_text}
+use Rattle.elf_source.specs.Prelude.{CountedState, EndsLine, FailsOutput, KeepsDeferred, OutGrows, OutState, SinkTakes, SinkTakesPrefix, before_text}
+use Rattle.elf_source.specs.declared.holding_sink.DeferredLine.{DeferredLine}
+use Rattle.elf_source.specs.declared.faults.OutFault.{OutFault}
 use Rattle.elf_source.proofs.LineLaws.{broken_takes, line_ends, line_fails, line_front}
 use Rattle.elf_source.proofs.PutsLaws.{SinkTakes-then, SinkTakesPrefix-then, SinkTakesPrefix-more}
-use Rattle.elf_options.specs.Prelude.{Caps, Limits, style_of}
-use Rattle.elf_table.specs.Prelude.{Out, RunFault}
+use Rattle.elf_options.specs.Prelude.{style_of}
+use Rattle.elf_options.specs.declared.caps.Caps.{Caps}
+use Rattle.elf_options.specs.declared.caps.Limits.{Limits}
+use Rattle.elf_table.specs.declared.run_fault.RunFault.TheVariants.{Out}
+use Rattle.elf_table.specs.declared.run_fault.RunFault.{RunFault}
 use Rattle.elf_table.specs.declared.run_fault.RunFault.TheVariants.{Refused, Source}
 use Rattle.elf_listing.specs.Reports.{WroteReport, WroteText}
 use Rattle.elf_archive.specs.Listed.{AnswersAfter, ArchiveSays, ReportsArchive}

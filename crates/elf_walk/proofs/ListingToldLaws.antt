@@ -2,11 +2,19 @@
 use Rattle.std.proofs.Common.{◌≡◌, ℕ, ◌+◌, ◌-◌, ◌≤◌, Bool, true, false, not, if◌then◌else◌, List, Option, None, Some, Result, Ok, Err, nat_lt, refl, arith}
 use Rattle.std.specs.Prelude.{IfSome, IfErr}
 use Rattle.std.proofs.lemmas.Bool.Decides.{nat_tests}
-use Rattle.elf_model.specs.Prelude.{FileMagic, Format, Unread, budget_after, front_size}
+use Rattle.elf_model.specs.Prelude.{budget_after, front_size}
+use Rattle.elf_model.specs.declared.states.FileMagic.{FileMagic}
+use Rattle.elf_model.specs.declared.formats.Format.{Format}
+use Rattle.elf_model.specs.declared.states.FileStatus.TheVariants.{Unread}
 use Rattle.elf_model.specs.declared.states.FileMagic.TheVariants as sort
-use Rattle.elf_source.specs.Prelude.{CountedState, Device, Ended, IsSourceFault, KeepsSource, OutFault, OutState, SourceFault}
-use Rattle.elf_walk.specs.Prelude.{EndsListing, FailsRead, ListOptions, ListsFile, ToldOf, front_asked}
-use Rattle.elf_table.specs.Prelude.{Out, RunFault}
+use Rattle.elf_source.specs.Prelude.{CountedState, IsSourceFault, KeepsSource, OutState}
+use Rattle.elf_source.specs.declared.faults.SourceFault.TheVariants.{Device, Ended}
+use Rattle.elf_source.specs.declared.faults.OutFault.{OutFault}
+use Rattle.elf_source.specs.declared.faults.SourceFault.{SourceFault}
+use Rattle.elf_walk.specs.Prelude.{EndsListing, FailsRead, ListsFile, ToldOf, front_asked}
+use Rattle.elf_walk.specs.declared.options.ListOptions.{ListOptions}
+use Rattle.elf_table.specs.declared.run_fault.RunFault.TheVariants.{Out}
+use Rattle.elf_table.specs.declared.run_fault.RunFault.{RunFault}
 use Rattle.elf_table.specs.declared.run_fault.RunFault.TheVariants.{Refused, Source}
 use Rattle.elf_archive.specs.Listed.{ArchiveSays}
 

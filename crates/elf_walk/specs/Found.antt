@@ -1,6 +1,9 @@
 -- The traits that are found of one file among many, within its limits.
 use Rattle.std.specs.Prelude.{ℕ, ◌≡◌, ◌<◌, ◌⊎◌, ⊤, nat_lt, if◌then◌else◌, List, length, Option, None, Some, Result, Ok, Err}
-use Rattle.elf_model.specs.Prelude.{ELF_MAGIC_SIZE, FILE_HEADER_SIZE, FileStatus, Hardening, IsBudgetRefusal, Refusal, state_of, traits_ceiling, traits_cost, traits_of}
+use Rattle.elf_model.specs.Prelude.{ELF_MAGIC_SIZE, FILE_HEADER_SIZE, IsBudgetRefusal, state_of, traits_ceiling, traits_cost, traits_of}
+use Rattle.elf_model.specs.declared.states.FileStatus.{FileStatus}
+use Rattle.elf_model.specs.declared.traits.Hardening.{Hardening}
+use Rattle.elf_model.specs.declared.causes.Refusal.{Refusal}
 use Rattle.elf_model.specs.declared.states.FileStatus.TheVariants as state
 
 -- the traits of a file, or the state of one that is refused

@@ -1,8 +1,11 @@
 -- What is told of one checked file among many.
 use Rattle.std.specs.Prelude.{ℕ, ◌≡◌, ◌+◌, ◌≤◌, Bool, true, false, List, Some, Result, IfOk}
-use Rattle.elf_model.specs.Prelude.{FileStatus, ListingStyle, check_line}
-use Rattle.elf_source.specs.Prelude.{CountedState, OutFault, OutPuts, OutState}
-use Rattle.elf_options.specs.Prelude.{Caps, style_of}
+use Rattle.elf_model.specs.Prelude.{ListingStyle, check_line}
+use Rattle.elf_model.specs.declared.states.FileStatus.{FileStatus}
+use Rattle.elf_source.specs.Prelude.{CountedState, OutPuts, OutState}
+use Rattle.elf_source.specs.declared.faults.OutFault.{OutFault}
+use Rattle.elf_options.specs.Prelude.{style_of}
+use Rattle.elf_options.specs.declared.caps.Caps.{Caps}
 use Rattle.elf_walk.specs.Checked.{FailsRead}
 use Rattle.elf_walk.specs.Statuses.{state_status}
 use Rattle.elf_walk.specs.CheckedFile.{AsksNoMore, FindsState, check_ceiling, check_cost}

@@ -1,7 +1,8 @@
 //! The listing of each of many files.
 ghost use Rattle.std.specs.Prelude.{◌≡◌, true, false};
 ghost use Rattle.elf_walk.specs.ToldListings.{LeavesLimits, EndsListing, PutsUnread};
-ghost use Rattle.elf_model.specs.Prelude.{Foreign, budget_after};
+ghost use Rattle.elf_model.specs.Prelude.{budget_after};
+ghost use Rattle.elf_model.specs.declared.states.FileMagic.TheVariants.{Foreign};
 
 use crate::each_file::FileVisitor;
 use crate::headed::list_with_path_line;

@@ -4,7 +4,8 @@ use Rattle.std.specs.Prelude.{IfErr, IfOk}
 use Rattle.std.specs.Io.KnownBytes.{append_known}
 use Rattle.elf_model.specs.ArchiveCost.{archive_cost}
 use Rattle.elf_source.specs.Prelude.{CountedState, OutGrows, OutState}
-use Rattle.elf_options.specs.Prelude.{Caps, style_of}
+use Rattle.elf_options.specs.Prelude.{style_of}
+use Rattle.elf_options.specs.declared.caps.Caps.{Caps}
 use Rattle.elf_table.specs.declared.run_fault.RunFault.{RunFault}
 use Rattle.elf_listing.specs.Reports.{KeepsSourceUnlimited}
 use Rattle.elf_archive.specs.Listed.{ArchiveSays, AsksInArchive, ReportsArchive}

@@ -3,7 +3,13 @@ use Rattle.std.proofs.Common.{◌≡◌, ℕ, ◌+◌, ◌≤◌, List, Option}
 use Rattle.std.specs.Prelude.{IfSome}
 use Rattle.elf_model.specs.Prelude.{Layout, apply_cost_by_order}
 use Rattle.elf_reloc.specs.Explained.{explain_bytes}
-use Rattle.elf_capi.specs.Prelude.{AppliesFor, AreInRange, BadCall, CallEnd, CallStatus, CallerLayout, CallerLimits, CallerMissing, Done, ExplainsTold, Full, MayBorrowLayout, PlacesInMemory, Refused, budget_of, headers_of, lent_layout}
+use Rattle.elf_capi.specs.Prelude.{AppliesFor, AreInRange, ExplainsTold, MayBorrowLayout, PlacesInMemory, budget_of, headers_of, lent_layout}
+use Rattle.elf_capi.specs.declared.call_status.CallStatus.TheVariants.{BadCall, Done, Full, Refused}
+use Rattle.elf_capi.specs.declared.end.CallEnd.{CallEnd}
+use Rattle.elf_capi.specs.declared.call_status.CallStatus.{CallStatus}
+use Rattle.elf_capi.specs.declared.lent_layout.CallerLayout.{CallerLayout}
+use Rattle.elf_capi.specs.declared.limits.CallerLimits.{CallerLimits}
+use Rattle.elf_capi.specs.declared.missing.CallerMissing.{CallerMissing}
 
 -- by each answer
 places_by : (file : List ℕ) (limits : CallerLimits) (section : ℕ) (layout : CallerLayout) (room : ℕ) (before out : List ℕ) (end : CallEnd) (missing : CallerMissing) (told : CallStatus)

@@ -1,6 +1,9 @@
 //! The exports that read the next rows of a table of a file in memory.
 ghost use Rattle.std.specs.Prelude.{◌<◌, ℕ, length, slice_index_or};
-ghost use Rattle.elf_capi.specs.Prelude.{IsDynamic, IsRelocation, IsSymbol, IsVersionWord, Relocation as OneRelocation, StepsRows, Symbol as OneSymbol, Versym as OneWord, next_at};
+ghost use Rattle.elf_capi.specs.Prelude.{IsDynamic, IsRelocation, IsSymbol, IsVersionWord, StepsRows, next_at};
+ghost use Rattle.elf_capi.specs.declared.relocations.Relocation.{Relocation as OneRelocation};
+ghost use Rattle.elf_capi.specs.declared.symbol.Symbol.{Symbol as OneSymbol};
+ghost use Rattle.elf_capi.specs.declared.version_words.Versym.{Versym as OneWord};
 ghost use Rattle.elf_capi.specs.declared.dynamic.Dynamic.{Dynamic as OneDynamic};
 
 use elf_capi::{Dynamic, Relocation, RowPosition, Symbol, Versym, next_rows};

@@ -1,6 +1,9 @@
 //! The exports that read rows within a budget: what they read counts, over all tables.
 ghost use Rattle.std.specs.Prelude.{◌≡◌, ◌≤◌, ◌<◌, ℕ, IfSome, length, slice_index_or};
-ghost use Rattle.elf_capi.specs.Prelude.{IsDynamic, IsRelocation, IsSymbol, IsVersionWord, OpensAlways, OpensEntries, OpensRows, ReadsSegmentDynamic, Relocation as OneRelocation, ReturnsEntries, StepsBudgeted, Symbol as OneSymbol, Versym as OneWord, budget_of, next_at};
+ghost use Rattle.elf_capi.specs.Prelude.{IsDynamic, IsRelocation, IsSymbol, IsVersionWord, OpensAlways, OpensEntries, OpensRows, ReadsSegmentDynamic, ReturnsEntries, StepsBudgeted, budget_of, next_at};
+ghost use Rattle.elf_capi.specs.declared.relocations.Relocation.{Relocation as OneRelocation};
+ghost use Rattle.elf_capi.specs.declared.symbol.Symbol.{Symbol as OneSymbol};
+ghost use Rattle.elf_capi.specs.declared.version_words.Versym.{Versym as OneWord};
 ghost use Rattle.elf_capi.specs.declared.dynamic.Dynamic.{Dynamic as OneDynamic};
 ghost use Rattle.elf_capi.specs.declared.kind.RowKind.TheVariants.{Dynamic as DynamicRows};
 

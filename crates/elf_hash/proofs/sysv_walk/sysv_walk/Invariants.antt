@@ -1,6 +1,7 @@
 -- The walk has come to the word of so many steps, and has asked for those alone.
 use Rattle.std.proofs.Common.{ℕ, ◌-◌, ◌≤◌, Bool, Result, None}
-use Rattle.elf_model.specs.Prelude.{HashTable as Place, Refusal}
+use Rattle.elf_model.specs.Prelude.{HashTable as Place}
+use Rattle.elf_model.specs.declared.causes.Refusal.{Refusal}
 use Rattle.elf_table.specs.Ledger.{CallDid}
 use Rattle.elf_hash.specs.Prelude.{IsSysv, walk_bytes}
 use Rattle.elf_hash.proofs.SysvSteps.{Along}

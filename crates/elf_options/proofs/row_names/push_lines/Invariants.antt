@@ -1,6 +1,7 @@
 -- The names that are there, and behind them those that are left, are the names that there were and those of the list.
 use Rattle.std.proofs.Common.{◌≡◌, ◌++◌, All}
-use Rattle.elf_options.specs.Prelude.{IsNoNames, IsRowName, NamesFault, after_bytes, after_lines, line_names, listed_names, texts_of}
+use Rattle.elf_options.specs.Prelude.{IsNoNames, IsRowName, after_bytes, after_lines, line_names, listed_names, texts_of}
+use Rattle.elf_options.specs.declared.names_fault.NamesFault.{NamesFault}
 use Rattle.elf_options.proofs.row_names.push_lines.Given as goal
 
 abbrev pub invariant-loop-left : goal.invariant-loop-left

@@ -3,7 +3,8 @@ use Rattle.std.proofs.lemmas.Result.{err_from_is_err_and}
 use Rattle.elf_model.specs.Prelude.{Member, MemberWalkState, OneMember, cost_where, long_name_bytes, next_member, slice}
 use Rattle.elf_source.proofs.ReadsLaws.{ReadsUpTo-then, ReadsUpTo-to}
 use Rattle.elf_archive.proofs.AskLaws.{CountsRead-then, CountsRead-to, header_least, header_some, name_most, where_more, where_room}
-use Rattle.elf_archive.specs.Prelude.{Member as Given, ReturnsMember, extent_of, extent_of_names, member_of}
+use Rattle.elf_archive.specs.Prelude.{ReturnsMember, extent_of, extent_of_names, member_of}
+use Rattle.elf_archive.specs.declared.member.Member.{Member as Given}
 use Rattle.elf_archive.proofs.MemberLaws.{next-ends, next-member, tells-data, tells-name, behind-is}
 use Rattle.elf_archive.proofs.cursor.MemberCursor.advance.Goals as goal
 

@@ -4,7 +4,8 @@ use Rattle.std.proofs.Common.{◌≡◌, ◌≤◌, ◌==◌, ℕ, true, false, 
 use Rattle.std.proofs.lemmas.Bool.{ne_eqb}
 use Rattle.elf_table.specs.Prelude.{LoadedFile, TableRange, rows}
 use Rattle.elf_model.specs.Prelude.{SEGMENTS, e_phnum, e_phoff, each, has, segment_row}
-use Rattle.elf_listing.specs.Prelude.{Segments, rows_cost, segments_listed}
+use Rattle.elf_listing.specs.Prelude.{rows_cost, segments_listed}
+use Rattle.elf_listing.specs.declared.rows.RowLayout.TheVariants.{Segments}
 use Rattle.elf_listing.proofs.FileShown.{viewed_segments}
 use Rattle.elf_listing.proofs.RowLaws.{WroteSome-as}
 use Rattle.elf_listing.proofs.SectionCosts.{sum_of_equal}

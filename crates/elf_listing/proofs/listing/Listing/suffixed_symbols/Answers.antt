@@ -5,7 +5,8 @@ use Rattle.elf_options.specs.Permitted.{style_of}
 use Rattle.elf_table.specs.Prelude.{StringTableRange, row}
 use Rattle.elf_model.specs.Prelude.{is_symbol_table, name_bytes, section_at, slice, suffixed_symbols, symbol_row_with_version, symbols}
 use Rattle.elf_table.proofs.RelocationLaws.{symbols-fail, symbols-pass}
-use Rattle.elf_listing.specs.Prelude.{SuffixesOr, VersionLookup, store_sections, suffix_bytes, walks_asked}
+use Rattle.elf_listing.specs.Prelude.{SuffixesOr, store_sections, suffix_bytes, walks_asked}
+use Rattle.elf_listing.specs.declared.suffixes.VersionLookup.{VersionLookup}
 use Rattle.elf_listing.proofs.ListsLaws.{ListingCalls-nothing, ListingCalls-refused, ListingCalls-unread}
 use Rattle.elf_listing.proofs.RowLaws.{WroteSome-as}
 use Rattle.elf_listing.proofs.SectionShown.{no_table, table_fails, table_passes}

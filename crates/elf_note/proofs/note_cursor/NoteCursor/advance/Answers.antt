@@ -2,7 +2,8 @@
 use Rattle.std.proofs.Common.{◌≡◌, ℕ, Option, None, Some, Result, IfErr, refl}
 use Rattle.elf_table.proofs.Absent.{none-of}
 use Rattle.elf_source.specs.Prelude.{CountedState, ReadsOnward, ReadsUpTo, SourceState}
-use Rattle.elf_table.specs.Prelude.{Fault, IsReadFault, MovesOn, frontier}
+use Rattle.elf_table.specs.Prelude.{IsReadFault, MovesOn, frontier}
+use Rattle.elf_table.specs.declared.fault.Fault.{Fault}
 use Rattle.elf_note.specs.Prelude.{KeepsNotes, NoteCursorState, StepReads}
 use Rattle.elf_note.proofs.note_cursor.NoteCursor.advance.Goals as goal
 
