@@ -16,22 +16,19 @@ pub struct ByteRange {
     pub len: u64,
 }
 
-/// Where the name at an offset in a string table lies, without its NUL; there is always one, or a
-/// refusal. The string table is the bytes of `strings`, as far as they lie within the file (gABI 4,
-/// String Table).
+/// Returns where the name at an offset in a string table lies, without its NUL; there is always one,
+/// or a refusal. The string table is the bytes of `strings`, as far as they lie within the file (gABI
+/// 4, String Table). The name at 0 of an empty table has no bytes, and is at 0.
 ///
 /// # Errors
-/// `NameOutside` where the offset is not below the table's size, `NameUnended` where no NUL is
-/// behind it. The offset that is named is that where the name was to begin, at most 2^64 - 1.
+/// `NameOutside` if the offset is not below the table's size, `NameUnended` if no NUL follows it.
+/// The refusal's offset is where the name was to begin, at most 2^64 - 1.
 pub fn find_name(file: &[u8], strings: ByteRange, offset: u64) -> Result<Option<ByteRange>, Refusal>
     ensures { FindsName file.now strings offset result }
 {
     let table = bytes_of(file, strings);
     if table.is_empty() && offset == 0 {
-        return Ok(Some(ByteRange {
-            at: strings.at,
-            len: 0,
-        }));
+        return Ok(Some(ByteRange { at: 0, len: 0 }));
     }
     let at = strings.at.saturating_add(offset);
     if offset >= table.len() as u64 {
