@@ -46,4 +46,4 @@ named_there file strings index place table is below h =
     let all = rw whole at h in
     let inside = rw is at below in
     let nul = rw is at all in
-    (refl, sized (bytes_in_range file strings) index place inside nul, found_name file strings.at strings.len index place inside nul)
+    (rw (inside-full (bytes_in_range file strings) index inside) refl, sized (bytes_in_range file strings) index place inside nul, found_name file strings.at strings.len index place inside nul)

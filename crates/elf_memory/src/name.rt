@@ -18,7 +18,7 @@ pub struct ByteRange {
 
 /// Returns the range of the name at an offset in a string table, without its NUL; the result is
 /// never `None`. The string table is the part of `strings` that lies within the file (gABI 4,
-/// String Table).
+/// String Table). The name at 0 of an empty table has no bytes, and is at 0.
 ///
 /// # Errors
 /// Returns `NameOutside` if the offset is not below the table's size, `NameUnended` if no NUL
@@ -28,10 +28,7 @@ pub fn find_name(file: &[u8], strings: ByteRange, offset: u64) -> Result<Option<
 {
     let table = bytes_of(file, strings);
     if table.is_empty() && offset == 0 {
-        return Ok(Some(ByteRange {
-            at: strings.at,
-            len: 0,
-        }));
+        return Ok(Some(ByteRange { at: 0, len: 0 }));
     }
     let at = strings.at.saturating_add(offset);
     if offset >= table.len() as u64 {
