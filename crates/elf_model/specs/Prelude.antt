@@ -11,8 +11,8 @@ pub use Rattle.elf_model.specs.ArchiveCost.{IsArchiveBudgeted, allowance, any_re
 unfoldable pub use Rattle.elf_model.specs.ArchiveCost.{archive_ceiling, archive_cost, header_cost, is_elsewhere, member_cost, members_cost}
 pub use Rattle.elf_model.specs.ArchiveLaws.{ArchiveCostIsWithinCeiling, DataLieInTheFile}
 unfoldable pub use Rattle.elf_model.specs.Archive.{archive_items, bsd_name, bsd_name_length, data_after, long_name, long_offset, member_data, member_name, member_prefix, member_size, members_from, members_items, members_of, name_in_data, next_member, padded_number, parse_padded_decimal, parsed_member_name, parsed_member_size, short_name, trimmed, walk_items, without_slash}
-pub use Rattle.elf_model.specs.BindingLines.{binding_line, definer_fields, is_unbound, requested_line, unbound_state}
-unfoldable pub use Rattle.elf_model.specs.BindingLines.{binding_front, binding_state_name, line_requested}
+pub use Rattle.elf_model.specs.BindingLines.{binding_line, definer_fields, is_unbound}
+unfoldable pub use Rattle.elf_model.specs.BindingLines.{binding_front, binding_state_name}
 pub use Rattle.elf_model.specs.Bindings.{Binding, BoundTo, BoundToNone, DefinerLookup, SOUGHT_BYTES, StoppedIn, bound_in, bound_or, definer_by, is_weak, unwalked}
 unfoldable pub use Rattle.elf_model.specs.Bindings.{bound_from, definer_walk, defines, definition_cost, definition_in, definition_lookup, is_reference, reference_at, reference_by_index, reference_version, symbols_hashed, whole_name}
 pub use Rattle.elf_model.specs.BoundSymbols.{BoundItem, BoundObjects, Faulty, Told, any_unbound, before_items, bound_items, bound_text, file_or, is_definition, is_failed, is_none_of, item_line}
@@ -63,8 +63,8 @@ pub use Rattle.elf_model.specs.HeaderTables.{HeaderTable, TableKind, file_sectio
 unfoldable pub use Rattle.elf_model.specs.LineFronts.{dynamic_prefix, note_prefix, relocation_prefix, section_prefix, symbol_prefix}
 pub use Rattle.elf_model.specs.Lines.{SHOWN_DESCRIPTOR, cut_mark, name_member, named_line, note_line}
 unfoldable pub use Rattle.elf_model.specs.Lines.{descriptor_text, escaped, header_line, hex_bytes, line_described, line_named, name_byte_text, name_text, note_tail, refusal_line, segment_line, steps_line}
-pub use Rattle.elf_model.specs.Links.{LINK_TEXT_BYTES, LinkState, MACHINE_END, NeededName, TextRoom, first_text, has_class_and_encoding, has_room, is_link, no_link_info, room_after}
-unfoldable pub use Rattle.elf_model.specs.Links.{link_text, linked_by, linked_from, linked_in, linked_with, links_by_segments, links_ceiling, links_of, loaded_links, lookup_refusal, machine_in}
+pub use Rattle.elf_model.specs.Links.{LINK_TEXT_BYTES, LinkState, NeededName, TextRoom, first_text, has_room, is_link, no_link_info, room_after}
+unfoldable pub use Rattle.elf_model.specs.Links.{link_text, linked_by, linked_from, linked_in, linked_with, links_by_segments, links_ceiling, links_of, loaded_links, lookup_refusal}
 pub use Rattle.elf_model.specs.Listing.{ALL, DYNAMIC, Fault, GNU_ALL, HEADER, Line, ListingItem, NOTES, RELOCS, SECTIONS, SEGMENTS, SYMBOLS, VERSIONS, all_parts, end_text, fault_of, guarded, has, has_tables, known_parts, lines_of, report_of, where_asked}
 pub use Rattle.elf_model.specs.ListingLaws.{HeaderAloneIsListed, HeaderFaultIsListedAlone, LastRowIsLast, ListingsAppend, LoadFaultIsListedSecond, NothingAfterTheFault, OtherBitsMeanNothing, RowsSplit}
 unfoldable pub use Rattle.elf_model.specs.Listing.{each, file_header_items}

@@ -1,6 +1,8 @@
 -- How a file is linked whose program headers are loaded, stage by stage.
 use Rattle.std.specs.Prelude.{ℕ, ◌≡◌, ◌/◌, ◌&&◌, if◌then◌else◌, Bool, true, false, List, Option, None, Some, Result, Ok, Err}
-use Rattle.elf_model.specs.Prelude.{IsBudgetRefusal, e_machine, has_class_and_encoding, has_elf_magic, machine_in, LinkState, TextRoom, dynamic_segment_index, first_refusal, has_none, linked_in, no_link_info, p_filesz, p_offset, segment_at, segment_dynamic_checks}
+use Rattle.elf_model.specs.Prelude.{IsBudgetRefusal, LinkState, TextRoom, dynamic_segment_index, first_refusal, has_none, linked_in, no_link_info, p_filesz, p_offset, segment_at, segment_dynamic_checks}
+use Rattle.elf_model.specs.Links.{has_class_and_encoding, machine_in}
+use Rattle.elf_model.specs.Records.{e_machine, has_elf_magic}
 use Rattle.elf_model.specs.declared.causes.Refusal.{Refusal}
 use Rattle.elf_needs.specs.declared.walk.NeedsFault.{NeedsFault}
 use Rattle.elf_table.specs.declared.fault.Fault.{Fault}
