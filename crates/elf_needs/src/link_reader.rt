@@ -1,5 +1,5 @@
 //! What one file needs.
-ghost use Rattle.std.specs.Prelude.{◌≡◌, ◌<◌, ◌^◌, ◌+◌, ◌*◌, ◌/◌, ℕ, List};
+ghost use Rattle.std.specs.Prelude.{◌≡◌, ◌<◌, ◌≤◌, ◌^◌, ◌+◌, ◌*◌, ◌/◌, ℕ, List, length};
 ghost use Rattle.elf_table.specs.Prelude.{CallDid, HoldsProgramHeaders, fault_of_result};
 ghost use Rattle.elf_model.specs.Prelude.{e_shnum, field, links_by_segments, links_ceiling, links_of, loaded_links, lookup_refusal};
 ghost use Rattle.elf_needs.specs.Entries.{ReturnsLinks};
@@ -62,11 +62,11 @@ fn magic_in(front: &[u8; FRONT_BYTES]) -> u32
 }
 
 /// Returns the byte at a place.
-fn byte_at(front: &[u8; FRONT_BYTES], place: usize) -> u8
-    requires { place < 20 }
-    ensures { result ≡ field front.now place 1 }
+fn byte_at(bytes: &[u8], place: usize) -> u8
+    requires { place + 1 ≤ length bytes.now }
+    ensures { result ≡ field bytes.now place 1 }
 {
-    front[place]
+    bytes[place]
 }
 
 /// How a file is linked, as a loader sees it: by its program headers, whatever its section headers are. The
