@@ -1,4 +1,5 @@
--- What finds the versions of a table's symbols, by the checks of its section of version numbers and the walks.
+-- The version lookup of a table's symbols, by the checks of its section of version indices and the
+-- walks.
 use Rattle.std.proofs.Common.{◌≡◌, ℕ, ◌+◌, ◌*◌, ◌/◌, ◌==◌, if◌then◌else◌, Bool, true, false, List, Option, None, Some, Result, Ok, Err, ◌⊎◌, inl, inr, refl, sym, ap, ◌∙◌}
 use Rattle.elf_model.specs.Checks.{first_refusal}
 use Rattle.elf_model.specs.HeaderTables.{HeaderTable}
@@ -19,7 +20,7 @@ use Rattle.elf_listing.specs.SymbolVersions.{AreNumbered, NumberedOr, walks_refu
 use Rattle.elf_listing.specs.declared.suffixes.VersionLookup.{VersionLookup}
 use Rattle.elf_listing.proofs.FirstTaken.{or-none}
 
--- a table of no symbols, and one without version numbers
+-- a table of no symbols, and one without version indices
 pub no_symbols : (file : List ℕ) (table : ℕ) → entry_count file (section_at file table) 24 ≡ 0 → SuffixesOr file table (Ok None)
 unfolding suffixes_refusal
 no_symbols file table none = (rw none refl, inl none)
@@ -45,7 +46,7 @@ module _ (file : List ℕ) (table : ℕ) where
       either true = refl
       either false = refl
 
-  -- of a table with symbols: the checks of the numbers, then the walks
+  -- of a table with symbols: the checks of the version indices, then the walks
   module _ (section : ℕ) (some : (entry_count file (section_at file table) 24 == 0) ≡ false) (found : version_numbers_of file table ≡ Some section) where
     refused : suffixes_refusal file table ≡ or_refusal (first_refusal (all_checks symbol_versions.checks file (section_at file section))) (walks_refusal file)
     unfolding refusal_by
@@ -67,7 +68,7 @@ module _ (file : List ℕ) (table : ℕ) where
       record { section = section; found = found; here = here; placed = versioned.placed; counted = versioned.counted; numbered = numbered.1 },
     )
 
--- what the walks ask for, of a table with symbols
+-- what the walks read, for a table with symbols
 pub walks_of : (headers : HeaderTable) (table symbols size section : ℕ) → (symbols == 0) ≡ false → first_numbers headers table ≡ Some section
     → walks_asked headers table symbols size ≡ walks_cost headers size
 walks_of headers table symbols size section some found =

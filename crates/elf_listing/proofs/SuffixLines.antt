@@ -1,4 +1,4 @@
--- A line that was put in pieces ends in the name and its version.
+-- A line written in pieces ends in the name and its version.
 use Rattle.std.proofs.Common.{◌≡◌, ℕ, Bool, true, false, List, [], ◌∷◌, ◌++◌, Result, Ok, Err, refl, sym, ap, ◌∙◌, append_assoc, subst}
 use Rattle.std.specs.Prelude.{codes, if◌then◌else◌}
 use Rattle.elf_model.specs.Choice.{Suffixed}

@@ -1,4 +1,4 @@
--- What the rows of symbols' versions ask for, and what finds the names of their numbers.
+-- What the rows of symbols' versions read, and what finds the names of their version indices.
 use Rattle.std.proofs.Common.{◌≡◌, ℕ, ◌+◌, ◌*◌, ◌/◌, ◌<◌, ◌≤◌, ◌==◌, ◌&&◌, not, min, if◌then◌else◌, Bool, true, false, inl, inr, List, [], ◌∷◌, Option, None, Some, Result, Ok, Err, refl, sym, ap, ◌∙◌, arith}
 use Rattle.std.specs.Prelude.{is_none}
 use Rattle.elf_model.specs.Checks.{is_outside, pass, refuse, table_checks_of}
@@ -48,7 +48,7 @@ walk-is headers file_size type size bytes i first inside =
       | Some i ↦ if is_inside headers i file_size then header_field headers sh_size i / size * bytes else 0
     ]) (sym first) ∙ rw inside refl
 
--- bytes that are answered are in the file
+-- bytes that are returned are in the file
 pub range-inside : (size offset n place : ℕ) (table : TableRange) → (n == 0) ≡ false → byte_rows size offset n place ≡ Ok table
     → (not (is_outside size offset n) ≡ true) × (rows offset n 1 ≡ table)
 range-inside size offset n place table some h = by_cases (is_outside size offset n) (rw (some, byte_rows) at h)
@@ -57,7 +57,7 @@ range-inside size offset n place table some h = by_cases (is_outside size offset
     by_cases true h = cc
     by_cases false h = (refl, cc)
 
--- what a fault says behind reads, in a bound on what is asked for by both
+-- what a fault says after reads, in a bound on what both read
 pub IsReadFault-account : (a b c : CountedState) (fault : Fault) (n m k : ℕ) → b.asked + m ≤ a.asked + k → ReadsUpTo a b n → IsReadFault b c m fault → IsReadFault a c k fault
 IsReadFault-account a b c (Refused refusal) n m k within p q = λ budget. let over = q budget in (rw (sym p.keeps.same_size) over.0, ExceedsBudget-then n k within p over.1, over.2)
 IsReadFault-account a b c (Source fault at) n m k within p q = (IsSourceFault-then a.seen b.seen c.seen fault p.keeps q.0, q.1)

@@ -1,4 +1,4 @@
--- The versions of symbols, shown one after another, and the names of their numbers.
+-- Shows the versions of symbols, and the names of their version indices.
 use Rattle.std.specs.Prelude.{ℕ, ◌≡◌, ◌+◌, ◌*◌, min, nat_lt, if◌then◌else◌, List, [], ◌++◌, Option, None, Some, Result, Ok, Err, IfOk}
 use Rattle.elf_model.specs.Checks.{first_refusal}
 use Rattle.elf_model.specs.Listing.{ListingItem, each}
@@ -35,7 +35,8 @@ use Rattle.elf_listing.specs.Versions.{kind_type}
 use Rattle.elf_listing.specs.declared.listing.Listing.{Listing}
 use Rattle.elf_listing.specs.declared.numbered.VersionStrings.{VersionStrings}
 
--- the rows of so many entries of a table, for so many symbols: where a symbol has no entry any more the refusal stands at a place
+-- the rows of n entries of a table, for a number of symbols: if a symbol has no entry, the refusal
+-- is at a place
 unfoldable pub versioned_items : List ℕ → ListingStyle → VersionStrings → (section : ℕ) → TableRange → (symbols place : ℕ) → List ListingItem
 versioned_items file style numbered section table symbols place =
     each (λ i. reported_row file style numbered section (table.at + i * VERSYM_SIZE) i) 0 (min table.count symbols)
@@ -48,15 +49,16 @@ ListsVersioned old new result section table symbols numbered =
     ((file : List ℕ) → old.src.now.seen.file ≡ Some file
     → WroteSome old.out.now new.out.now result (versioned_items file (style_of old.style) numbered section table symbols (section_place old.file.loaded.header section)))
 
--- the checks of the first section that holds records of a kind pass, and no record of it is refused
+-- the checks of the first section that holds records of a kind pass, and none of its records is
+-- refused
 abbrev pub AreRecordsWhole : List ℕ → VersionKind → Type 0
 AreRecordsWhole file kind = walk_refusal kind (kind_type kind) file ≡ None
 
--- the names and the places of some records
+-- the names and the locations of some records
 abbrev pub NumbersTaken : List VersionNameRef → List ℕ → List ℕ → List VisitedRecord → Type 0
 NumbersTaken names places file records = NamesNumbers file records names places
 
--- the records of that section were taken in behind others, and their names are in these strings
+-- the records of that section were added after others, and their names are in these strings
 pub record TakenIn (file : List ℕ) (kind : VersionKind) (records : List VisitedRecord) (after : List ℕ → List VisitedRecord → Type 0) (strings : StringTableRange) : Type 0 where
   pub whole : AreRecordsWhole file kind
   pub names : after file (records ++ first_versions kind (kind_type kind) file)
@@ -67,19 +69,20 @@ TakenOr file kind records after (Ok strings) = TakenIn file kind records after s
 TakenOr file kind records after (Err (Refused refusal)) = (IsBudgetRefusal refusal → ⊥) → walk_refusal kind (kind_type kind) file ≡ Some refusal
 TakenOr file kind records after (Err (Source fault at)) = Unit {0}
 
--- what a call did that takes them in: they are taken in, or what refuses them is told, unless a read fails
+-- what a call did that adds them: they are added, or what refuses them is returned, unless a read
+-- fails
 pub record TakesRecords {S W : Type 0} {s : Sources S} {w : Sinks W} (old new : Listing S W s w) (before after : List ℕ → List VisitedRecord → Type 0) (result : Result StringTableRange Fault) (kind : VersionKind) : Type 0 where
   pub fetches : ListingReads old new result (walk_cost (store_sections old.file.store.now) old.file.loaded.size (kind_type kind) (record_size kind) (bytes_each kind))
   pub within : IfOk result (StringsInBounds old.src.now.seen.size)
   pub taken : (file : List ℕ) → old.src.now.seen.file ≡ Some file → (records : List VisitedRecord) → before file records → TakenOr file kind records after result
 
--- the names of all numbers of a file
+-- the names of all version indices of a file
 pub record AreNumbered (file : List ℕ) (numbered : VersionStrings) (places : List ℕ) : Type 0 where
   pub names : NamesNumbers file (first_versions Definition SHT_GNU_VERDEF file ++ first_versions File SHT_GNU_VERNEED file) numbered.names places
   pub defined : (first_versions Definition SHT_GNU_VERDEF file ≡ [] → ⊥) → strings_in file numbered.defined ≡ first_strings SHT_GNU_VERDEF file
   pub needed : (first_versions File SHT_GNU_VERNEED file ≡ [] → ⊥) → strings_in file numbered.needed ≡ first_strings SHT_GNU_VERNEED file
 
--- what refuses them, if anything does: the definitions, else the needs
+-- what refuses them, if anything does: the definitions, otherwise the needs
 abbrev pub walks_refusal : List ℕ → Option Refusal
 walks_refusal file = or_refusal (walk_refusal Definition SHT_GNU_VERDEF file) (walk_refusal File SHT_GNU_VERNEED file)
 

@@ -1,4 +1,4 @@
--- Each header is shown behind those before it.
+-- Each header is shown after those before it.
 use Rattle.elf_options.specs.Permitted.{style_of}
 use Rattle.std.proofs.Common.{◌≡◌, ℕ, List, refl, arith}
 use Rattle.std.proofs.lemmas.Result.{err_from_is_err_and}
