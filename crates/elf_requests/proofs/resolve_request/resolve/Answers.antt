@@ -1,4 +1,4 @@
--- What the lookup gives is the answer, or the budget ends it.
+-- The lookup's result is the answer, or the budget ends it.
 use Rattle.std.proofs.Common.{rules, ◌≡◌, ℕ, List, Ok, Err, sym, ap, subst}
 use Rattle.elf_model.specs.Loader.{VersionQuery, SymbolQuery, parse_query}
 use Rattle.elf_model.specs.LoaderAnswer.{loader_answer}
