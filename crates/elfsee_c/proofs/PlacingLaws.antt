@@ -1,4 +1,4 @@
--- What a call in a layout that is lent did with its arguments, by what it tells.
+-- What a call in a borrowed layout did with its arguments, by its result.
 use Rattle.std.proofs.Common.{◌≡◌, ℕ, ◌+◌, ◌≤◌, List, Option}
 use Rattle.std.specs.Prelude.{IfSome}
 use Rattle.elf_model.specs.ApplyCost.{apply_cost_by_order}
@@ -14,7 +14,7 @@ use Rattle.elf_capi.specs.declared.missing.CallerMissing.{CallerMissing}
 use Rattle.elf_capi.specs.declared.call_status.CallStatus.{CallStatus}
 use Rattle.elf_capi.specs.declared.call_status.CallStatus.TheVariants.{Done, Refused, Full, BadCall}
 
--- by each answer
+-- for each result
 places_by : (file : List ℕ) (limits : CallerLimits) (section : ℕ) (layout : CallerLayout) (room : ℕ) (before out : List ℕ) (end : CallEnd) (missing : CallerMissing) (told : CallStatus)
     → AreInRange limits room → MayBorrowLayout layout → AppliesFor file (headers_of limits room) (budget_of limits) section (lent_layout layout) out end.written told
     → ExplainsTold file (headers_of limits room) (budget_of limits) section (lent_layout layout) (apply_cost_by_order file (headers_of limits room) section (lent_layout layout)) told missing

@@ -1,4 +1,4 @@
--- What was listed is told as numbers.
+-- What was listed is returned as numbers.
 use Rattle.std.proofs.Common.{Some, length}
 use Rattle.elf_capi.specs.Asked.{AsksListing, parts_in, style_in}
 use Rattle.elf_capi.specs.Limits.{AreCaps}
