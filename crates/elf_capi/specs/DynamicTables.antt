@@ -4,7 +4,8 @@ use Rattle.elf_table.specs.declared.fault.Fault.{Fault}
 use Rattle.elf_table.specs.Sections.{string_table_at, strings, table_at}
 use Rattle.elf_table.specs.Tables.{TableRange as Table, StringTableRange}
 
--- the string table of so many dynamic entries is the one that the section with this header links to; none of no entries
+-- the string table of n dynamic entries is the one that the section with this header links to; none
+-- if there are no entries
 abbrev AreNames : List ℕ → ℕ → ℕ → StringTableRange → Type 0
 AreNames file header count names = (0 < count → string_table_at file header ≡ Ok names) × (count ≡ 0 → names ≡ strings 0 0)
 

@@ -9,7 +9,7 @@ abbrev pub IsNumbered : ℕ → Option Cause → Type 0
 IsNumbered number (Some cause) = cause_number cause ≡ number
 IsNumbered number None = (number ≡ 0) ⊎ (((29 < number) × (number < 32)) ⊎ (37 < number))
 
--- a word is put at the front of some memory, where there is room for it, and else nothing is
+-- a word is written to the start of some memory, if it fits, and otherwise nothing is
 abbrev pub PutsFront : List ℕ → List ℕ → List ℕ → ℕ → Type 0
 PutsFront word old new written =
     elim (nat_lt (length old) (length word)) [
@@ -17,7 +17,7 @@ PutsFront word old new written =
       | false ↦ (written ≡ length word) × (new ≡ word ++ drop (length word) old)
     ]
 
--- the word of a cause is put there; nothing is where there is no cause
+-- the word of a cause is written there; nothing is if there is no cause
 abbrev pub PutsWord : Option Cause → List ℕ → List ℕ → ℕ → Type 0
 PutsWord (Some cause) old new written = PutsFront (cause_word cause) old new written
 PutsWord None old new written = (written ≡ 0) × (new ≡ old)
