@@ -1,8 +1,7 @@
 -- The message for wrong arguments, in which a newline of an argument is escaped, and one between
 -- lines is as it is.
 use Rattle.std.specs.Prelude.{ℕ, ◌==◌, ◌&&◌, if◌then◌else◌, List, [], ◌∷◌, ◌++◌, length}
-use Rattle.elf_model.specs.Text.{newline}
-use Rattle.elf_model.specs.Lines.{name_byte_text}
+use Rattle.elf_model.specs.Prelude.{name_byte_text, newline}
 use Rattle.elf_format.specs.Told.{reported_text}
 
 -- a byte of a text, by the byte at its place in another: if both are newlines it is as it is,

@@ -4,11 +4,11 @@ use Rattle.clap.specs.Walk.{Row, Text}
 use Rattle.clap.specs.Values.{kind_of}
 use Rattle.clap.specs.declared.error.Error.{Error}
 use Rattle.clap.specs.declared.error.kind.ErrorKind.TheVariants as kind
-use Rattle.elf_cli.specs.Reading.{AreRead, AreRefused}
+use Rattle.elf_cli.specs.Prelude.{AreRead, AreRefused}
+use Rattle.elf_cli.specs.declared.faults.RequestFault.TheVariants.{Memory, Words}
+use Rattle.elf_cli.specs.declared.faults.RequestFault.{RequestFault}
 use Rattle.elf_requests.specs.Checks.{HasAnyFault, IsAsked, NothingAsked}
 use Rattle.elf_requests.specs.declared.checks.ParsedCommand.{ParsedCommand}
-use Rattle.elf_cli.specs.declared.faults.RequestFault.{RequestFault}
-use Rattle.elf_cli.specs.declared.faults.RequestFault.TheVariants.{Memory, Words}
 
 -- WHAT IS REQUESTED: the command line accepts the arguments, and the command that it parses
 -- requests this
