@@ -1,4 +1,4 @@
-//! The lines of the symbols that the objects of a program ask others for.
+//! The lines of the symbols that the objects of a program reference.
 ghost use Rattle.std.specs.Prelude.{◌≡◌, ◌≤◌, length};
 ghost use Rattle.arrayvec.specs.ArrayVec.{array_vec_len};
 ghost use Rattle.elf_model.specs.Prelude.{binding_front, binding_line, binding_state_name, definer_fields, with_fields};
@@ -12,7 +12,7 @@ use elf_format::{
 use elf_model::{BindingState, Format};
 use elf_source::{Out, OutFault, Sink};
 
-/// The `B` line of a symbol up to its name.
+/// Writes the `B` line of a symbol up to its name.
 #[tactic(auto, unfolding(elf_model::specs::BindingLines::binding_front))]
 fn binding_row<R: Render>(front: &mut LinePrefix, object: u16, symbol: u64, state: BindingState)
     ensures front { front_of front.new ≡ binding_front R.FORMAT object symbol state }
@@ -32,8 +32,8 @@ fn binding_row<R: Render>(front: &mut LinePrefix, object: u16, symbol: u64, stat
     put_definer::<R>(line, state);
 }
 
-/// Puts the object that defines a symbol, or in which the lookup is refused, and the symbol there;
-/// hyphens for what there is not.
+/// Writes the object that defines a symbol, or in which the lookup is refused, and the symbol
+/// there; hyphens for what there is none of.
 #[tactic(auto, unfolding(elf_model::specs::Fields::with_field))]
 fn put_definer<R: Render>(line: &mut LineBuf, state: BindingState)
     requires { array_vec_len line.old ≤ 150 }
@@ -55,7 +55,7 @@ fn put_definer<R: Render>(line: &mut LineBuf, state: BindingState)
     }
 }
 
-/// The word of a state in a symbol's line.
+/// Returns the word of a state in a symbol's line.
 #[tactic(auto, unfolding(elf_model::specs::BindingLines::binding_state_name))]
 fn binding_state_name(state: BindingState) -> &'static str
     ensures word { result.now ≡ binding_state_name state }
@@ -70,12 +70,12 @@ fn binding_state_name(state: BindingState) -> &'static str
     }
 }
 
-/// Writes the line of a symbol that an object asks others for: the object's index and the symbol's, its
-/// state, the index of the object that defines it, or in which the lookup is refused, the index of the
-/// symbol there, and its name, with `@` and the version that it asks for, spelt as names are.
+/// Writes the line of a symbol that an object references: the object's index and the symbol's, its
+/// state, the index of the object that defines it, or in which the lookup is refused, the index of
+/// the symbol there, and its name, with `@` and the referenced version, escaped as names are.
 ///
 /// # Errors
-/// A fault of the output, with a front of the line written.
+/// A fault of the output, with a prefix of the line written.
 pub fn show_binding<W: Sink>(
     object: u16,
     symbol: u64,

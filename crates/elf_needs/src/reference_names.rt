@@ -1,4 +1,4 @@
-//! The name and the version that a symbol asks others for.
+//! The name and the version that a symbol references.
 ghost use Rattle.std.specs.Prelude.{◌≡◌};
 ghost use Rattle.arrayvec.specs.ArrayVec.{array_vec_len};
 ghost use Rattle.elf_needs.specs.Sought.{asked_if};
@@ -10,27 +10,27 @@ use arrayvec::ArrayVec;
 use elf_options::{SymbolQuery, VersionQuery};
 use elf_table::NameBuf;
 
-/// How many bytes a name with its version has at most: both with what stands between them.
+/// The maximum number of bytes of a name with its version: both with what is between them.
 const SHOWN_BYTES: usize = 4096 + 1 + 4096;
 
 /// A name with its version, as a line shows it.
 pub type ShownName = ArrayVec<u8, SHOWN_BYTES>;
 
-/// The name and the version that a symbol asks others for.
+/// The name and the version that a symbol references.
 #[derive(Drop)]
 pub struct ReferenceNames {
     /// The name.
     pub name: NameBuf,
-    /// The version, where it asks for one.
+    /// The version, if it needs one.
     pub version: NameBuf,
-    /// The needed file of which it asks for that.
+    /// The needed file from which it needs that version.
     pub file: NameBuf,
     /// The name with the version, as a line shows them.
     pub shown: ShownName,
 }
 
 impl ReferenceNames {
-    /// No name.
+    /// Creates empty names.
     pub fn new() -> ReferenceNames {
         ReferenceNames {
             name: NameBuf::new(),
@@ -40,7 +40,7 @@ impl ReferenceNames {
         }
     }
 
-    /// What is looked for.
+    /// Returns the symbol query.
     pub fn wanted(&self, versioned: bool) -> SymbolQuery<'_>
         ensures short { AreShort (query_of result) }
         ensures name { (query_of result).name ≡ self.now.name }
@@ -60,7 +60,7 @@ impl ReferenceNames {
     }
 }
 
-/// Puts a name together with its version, if there is one.
+/// Composes a name with its version, if there is one.
 pub fn show_name(name: &NameBuf, version: &NameBuf, versioned: bool, shown: &mut ShownName)
     ensures { shown.new.items ≡ reference_name name.now
         (asked_name (asked_if versioned version.now)) }

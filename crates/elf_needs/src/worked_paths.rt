@@ -19,13 +19,13 @@ pub fn runpaths_are_own()
     ensures { RunpathsAreOwn }
 {}
 
-/// What stands for tokens.
+/// What replaces tokens.
 #[tactic(auto, unfolding(crate::proofs::OnSearch::on_search))]
 pub fn tokens_stand()
     ensures { TokensStand }
 {}
 
-/// Folders and names, with another root too.
+/// Directories and names, with another root too.
 #[tactic(auto, unfolding(crate::proofs::OnSearch::on_search))]
 pub fn dirs_are_joined()
     ensures { DirsAreJoined }
