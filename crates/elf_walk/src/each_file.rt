@@ -26,7 +26,7 @@ pub trait FileVisitor {
     ///
     /// # Errors
     /// A fault of the output, with a prefix of the text written.
-    fn tell<S: Source, W: Sink>(
+    fn visit<S: Source, W: Sink>(
         &mut self,
         src: &mut Counted<RangeSource<S>>,
         path: &[u8],
