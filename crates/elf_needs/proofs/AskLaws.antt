@@ -100,7 +100,7 @@ used_up old new l0 l1 n refusal says budget pays size =
     let used = used_by new.src.asked old.src.asked over.bytes l1 (subst (λ (l : Option ℕ). SpendsBudget l l1 old.src.asked new.src.asked) over.is_left pays) over.late in
     record { inside = omega (arith, inside, size); bytes = used.0; is_left = used.1; few = used.2 }
 
--- of an object that was asked, among others
+-- of an object that was read, among others
 pub short_one : (objects : List LookupObjectState) (n : ℕ) (d new : LookupObjectState) {l0 l1 : Option ℕ} {most : ℕ} (fault : Fault) → n < length objects → SpendsAtMost (get_or objects n d).src new.src l0 (Some fault) most
     → SpendsBudget l0 l1 (get_or objects n d).src.asked new.src.asked → OnlyShort (set objects n new) l1 fault
 short_one objects n d new {l0} {l1} {most} (Refused refusal) less spends pays = λ budget.

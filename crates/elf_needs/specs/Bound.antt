@@ -45,19 +45,19 @@ pub record AsksAll (old new : List LookupObjectState) (left_old left_new : Optio
   pub objects : SameObjects old new
   pub pays : SpendsBudget left_old left_new (asked_of_all old) (asked_of_all new)
 
--- a budget is used up at a place of a file: what is left of it, counted on from what the file was asked for, is fewer than 4,096
--- bytes
+-- a budget is exhausted at an offset of a file: what is left of it, after what was read from the
+-- file, is fewer than 4,096 bytes
 pub record UsesUp (object : LookupObjectState) (left : Option ℕ) (refusal : Refusal) : Type 0 where
   pub inside : refusal.at < object.src.seen.size
   pub bytes : ℕ
   pub is_left : left ≡ Some bytes
   pub few : counted object.src.asked bytes < object.src.asked + 4096
 
--- it is, at a place of the file of one of the objects
+-- it is, at an offset of the file of one of the objects
 abbrev pub IsBudgetShort : List LookupObjectState → Option ℕ → Refusal → Type 0
 IsBudgetShort objects left refusal = (k : ℕ) × ((d : LookupObjectState) → UsesUp (get_or objects k d) left refusal)
 
--- a fault is for want of budget only where that is short
+-- a fault is for lack of budget only if that is short
 abbrev pub OnlyShort : List LookupObjectState → Option ℕ → Fault → Type 0
 OnlyShort objects left (Refused refusal) = IsBudgetRefusal refusal → IsBudgetShort objects left refusal
 OnlyShort objects left (Source fault at) = Unit {0}
@@ -69,14 +69,15 @@ OfSought objects place symbol sought tells =
     → 0 < told.table.symbols → sought.weak ≡ is_weak (get_or files place []) (symbol_offset told.symbols symbol)
     → IsFileIf (get_or files place []) (file_of_version (get_or files place []) told.symbols symbol) sought.file → tells headers files told
 
--- what is told of a symbol of an object, under a name and with a version
+-- what is found for a symbol of an object, under a name and with a version
 abbrev pub ReturnsItem : Option BoundItem → (object symbol : ℕ) → (name : List ℕ) → (version : Option (List ℕ)) → Result (Option BindingState) Fault → Type 0
 ReturnsItem told object symbol name version (Ok None) = told ≡ None
 ReturnsItem told object symbol name version (Ok (Some found)) = told ≡ Some (Told object symbol found name version)
 ReturnsItem told object symbol name version (Err (Refused refusal)) = (IsBudgetRefusal refusal → ⊥) → told ≡ Some (Faulty refusal)
 ReturnsItem told object symbol name version (Err (Source fault at)) = Unit {0}
 
--- a text is a front of the lines, each whole, and then that of a refusal for want of budget, which is short there
+-- a text is a prefix of the lines, each whole, and then that of a refusal for lack of budget, which
+-- is short there
 pub record IsCutText (format : Format) (all : List BoundItem) (short : Refusal → Type 0) (text : List ℕ) : Type 0 where
   pub front : List BoundItem
   pub rest : List BoundItem
@@ -93,8 +94,9 @@ pub record WritesFront (format : Format) (all : List BoundItem) (old new : OutSt
   pub split : all ≡ front ++ rest
   pub takes : SinkTakes old new (bound_text format front)
 
--- WHAT WRITING THE LINES DID: all of them are written; or, only where the budget is short, a front of them and the line that tells
--- so; or a read failed behind a front; or the output failed in one of these texts
+-- WHAT WRITING THE LINES DID: all of them are written; or, only if the budget is short, a prefix of
+-- them and the line that reports it; or a read failed after a prefix; or the output failed in one
+-- of these texts
 abbrev pub WritesLines : Format → List BoundItem → (short : Refusal → Type 0) → OutState → OutState → Result WriteEnd NeedsFault → Type 0
 WritesLines format all short old new (Ok (Whole fails)) = SinkTakes old new (bound_text format all) × (fails ≡ any_unbound all)
 WritesLines format all short old new (Ok Ended) = SinkTakes old new (bound_text format all) × (any_unbound all ≡ true)

@@ -75,12 +75,12 @@ fn binding_state_name(state: BindingState) -> &'static str
     }
 }
 
-/// Writes the line of a symbol that an object asks others for: the object's index and the symbol's, its
-/// state, the index of the object that defines it, or in which the lookup is refused, the index of the
-/// symbol there, and its name, with the version that it asks for, spelt as names are.
+/// Writes the line of a symbol that an object references: the object's index and the symbol's, its
+/// state, the index of the object that defines it, or in which the lookup is refused, the index of
+/// the symbol there, and its name, with the referenced version, escaped as names are.
 ///
 /// # Errors
-/// A fault of the output, with a front of the line written.
+/// A fault of the output, with a prefix of the line written.
 pub fn show_binding<W: Sink>(
     object: u16,
     symbol: u64,
@@ -103,11 +103,11 @@ pub fn show_binding<W: Sink>(
     }
 }
 
-/// Writes a line that ends in a name and the version that is asked for: in columns after `@`, in an object
-/// as a member.
+/// Writes a line that ends in a name and the referenced version: in columns after `@`, in a JSON
+/// object as a member.
 ///
 /// # Errors
-/// A fault of the output, with a front of the line written.
+/// A fault of the output, with a prefix of the line written.
 #[tactic(auto, using(crate::proofs::RequestLaws::requested_is))]
 fn show_requested<W: Sink>(
     front: &mut LinePrefix,
@@ -133,7 +133,7 @@ fn show_requested<W: Sink>(
     shown
 }
 
-/// Returns what is between a name and the version that is asked for.
+/// Returns what separates a name and the referenced version.
 #[tactic(auto, unfolding(crate::specs::Requests::before_request))]
 fn before_request(format: Format) -> &'static [u8]
     ensures text { result.now ≡ before_request format }
@@ -145,7 +145,7 @@ fn before_request(format: Format) -> &'static [u8]
     }
 }
 
-/// Returns what is after a version that is asked for, with the line's end.
+/// Returns what follows a referenced version, with the end of the line.
 #[tactic(auto, unfolding(crate::specs::Requests::after_request))]
 fn after_request(format: Format) -> &'static [u8]
     ensures text { result.now ≡ after_request format }

@@ -26,8 +26,8 @@ pub(crate) struct DefinitionAt {
     pub symbol: u64,
 }
 
-/// Finds what binds a symbol, and reads the name and the version that it asks for into `names`; None if it
-/// asks for nothing.
+/// Returns what binds a symbol, and reads the name and version that it references into `names`;
+/// returns `None` if it references nothing.
 ///
 /// # Errors
 /// Those of [`LookupObject::sought`], and of [`state_of`].

@@ -45,15 +45,16 @@ const NO_VERSION: VersionReference = VersionReference {
     file: None,
 };
 
-/// Reads what the symbol of an index asks others for: its name, into `name`, and if it asks for a version
-/// that, into `version`. None if it asks for nothing: it is defined, or local, or has no name, or an empty
-/// one. After None or a fault they hold any bytes.
+/// Reads what the symbol at an index references: its name, into `name`, and the version that it
+/// needs, if any, into `version`. Returns `None` if it references nothing: it is defined, or local,
+/// or has no name, or an empty one. After `None` or a fault their contents are unspecified.
 ///
 /// # Errors
-/// At the symbol: those of its name, as [`Names::read`] has them, and `TooLong` where that has more than
-/// 4,096 bytes. `VersionCut` at what tells of the words of versions where it has none. Those of the
-/// records up to the first that has the number of its version; `VersionIndex` at the word where none
-/// has; at what holds the name of the version the same as of the symbol's. Else a fault of a read.
+/// At the symbol: those of its name, as for [`Names::read`], and `TooLong` if that has more than
+/// 4,096 bytes. `VersionCut` at the structure that locates the version entries if there is none for
+/// the symbol. Those of the records up to the first that has its version index; `VersionIndex` at
+/// the entry if none has; at the structure that holds the name of the version the same as for the
+/// symbol's. Otherwise a read fault.
 pub(crate) fn reference_symbol<S: Source>(
     src: &mut Counted<S>,
     symbols: &DynamicSymbols,

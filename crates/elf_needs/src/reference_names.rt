@@ -31,7 +31,7 @@ impl ReferenceNames {
         }
     }
 
-    /// Returns what is looked for.
+    /// Returns the symbol query.
     pub fn wanted(&self) -> SymbolQuery<'_>
         ensures short { AreShort (query_of result) }
         ensures name { (query_of result).name ≡ self.now.name }
