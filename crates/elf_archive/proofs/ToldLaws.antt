@@ -1,4 +1,5 @@
--- The listing of a member in that of its archive: the line of its first fault ends it, and nothing else.
+-- The listing of a member in that of its archive: the line of its first fault ends it, and nothing
+-- else.
 use Rattle.std.proofs.Common.{◌≡◌, ℕ, Bool, List, [], ◌∷◌, ◌++◌, Option, None, Some, is_some, Result, Ok, Err, false, true, refl, sym, ap, ◌∙◌, inl, inr, ◌⊎◌, append-nil, append_assoc}
 use Rattle.std.specs.Prelude.{IfOk, IfSome}
 use Rattle.elf_model.specs.Prelude.{Fault, IsBudgetRefusal, Line, ListingItem, fault_of, lines_of, refusal_line, report_of, told}

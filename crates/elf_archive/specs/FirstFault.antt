@@ -36,7 +36,8 @@ IsArchiveFault (Some budget) file headers style parts fault =
     (fault ≡ archive_fault file headers style parts)
     ⊎ ((budget < archive_cost file headers style parts) × IsOverBudget (length file) fault)
 
--- WHAT IS FOUND of an archive with these caps and parts: its fault within the budget, or that there is none, unless a read failed
+-- WHAT IS FOUND of an archive with these caps and parts: its fault within the budget, or that there
+-- is none, unless a read failed
 abbrev pub FindsFirst : {X : Type 0} → Caps → ℕ → List ℕ → Result X RunFault → Type 0
 FindsFirst caps parts file (Ok x) = IsArchiveFault caps.limits.budget file caps.limits.headers (style_of caps.style) parts None
 FindsFirst caps parts file (Err (Refused refusal)) =

@@ -60,7 +60,7 @@ pub record GoesThrough {X : Type 0} (headers now : ℕ) (style : ListingStyle) (
 abbrev pub member_at : FileRange → Member
 member_at extent = record { index = 0; extent = extent; name = Whole [] }
 
--- the same of one that shows the listing of a member's data: its ceiling, its cost, and what it
+-- the same for one that shows the listing of a member's data: its ceiling, its cost, and what it
 -- showed of the listing's items
 abbrev pub GoesThroughMember : {X : Type 0} → FileRange → (headers now : ℕ) → ListingStyle → ℕ → (a b : CountedState) → (old new : OutState) → Result X RunFault → (ListingStyle → List ListingItem → Type 0) → Type 0
 GoesThroughMember extent headers now style parts a b old new result shown =

@@ -93,7 +93,7 @@ pub record PassesMember (size : ℕ) (old new : MemberWalkState) (given : Given)
   pub counts : new.index ≡ old.index + 1
   pub ends : given.extent.at + given.extent.size ≤ new.at
 
--- the same of a result
+-- the same for a result
 abbrev pub StepsOver : ℕ → MemberWalkState → MemberWalkState → Result (Option Given) Fault → Type 0
 StepsOver size old new (Ok None) = Unit {0}
 StepsOver size old new (Ok (Some given)) = PassesMember size old new given

@@ -108,7 +108,7 @@ impl MemberCursor {
 ///
 /// # Errors
 /// Refused at `at` with `MemberCut` if there is no header, or it or the data extend past the end of
-/// the file, or the name past the end of the data. Otherwise a fault of the read, at its offset.
+/// the file, or the name past the end of the data. Otherwise a read fault, at its offset.
 fn read_header<S: Source>(
     src: &mut Counted<S>,
     at: u64,

@@ -27,7 +27,7 @@ const ELF_MAGIC: u32 = 0x464c_457f;
 /// # Errors
 /// Refused at offset 0: `TooLong` if the length is 2^63 or more, `Short` if it is below 8, both
 /// with nothing read; `Thin` for the magic string of a thin archive, `NotArchive` for other bytes.
-/// Otherwise a fault of the read, or a refusal for lack of budget, at offset 0.
+/// Otherwise a read fault, or a refusal for lack of budget, at offset 0.
 pub fn magic<S: Source>(src: &mut Counted<S>) -> Result<(), Fault>
     ensures asks { AsksAtMost src.old src.new result 8 }
     ensures unread { (refusal : Refuses) →

@@ -68,7 +68,7 @@ IsChosenPart parts = (parts ≡ SYMBOLS) ⊎ (parts ≡ RELOCS) ⊎ (parts ≡ V
 abbrev pub AreLendableNames : (versions : Bool) → BorrowedTexts → Type 0
 AreLendableNames versions names = NeverDescend names × All (λ name. IsRowName versions name.now) names
 
--- the same of the name at an index
+-- the same for the name at an index
 abbrev pub IsLendableNameAt : (versions : Bool) → BorrowedTexts → ℕ → Type 0
 IsLendableNameAt versions names i =
     ((d : Bor (List ℕ)) → IsRowName versions (slice_index_or names i d).now)

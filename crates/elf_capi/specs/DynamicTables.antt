@@ -8,7 +8,8 @@ use Rattle.elf_table.specs.declared.fault.Fault.{Fault}
 abbrev AreNames : List ℕ → ℕ → ℕ → StringTableRange → Type 0
 AreNames file header count names = (0 < count → string_table_at file header ≡ Ok names) × (count ≡ 0 → names ≡ strings 0 0)
 
--- the table of the section with this header and its string table, whose checks pass, or the first check that fails
+-- the table of the section with this header and its string table, whose checks pass, or the first
+-- check that fails
 abbrev pub IsDynamicTable : List ℕ → ℕ → Result (Table × StringTableRange) Fault → Type 0
 IsDynamicTable file header (Ok found) = (table_at file header 16 ≡ Ok found.0) × AreNames file header found.0.count found.1
 IsDynamicTable file header (Err fault) =

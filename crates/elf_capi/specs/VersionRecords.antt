@@ -99,7 +99,8 @@ first_kind file at =
 abbrev pub record_names : List ℕ → ℕ → StringTableRange
 record_names file at = if sh_size file at == 0 then strings 0 0 else names_at file (linked_at file at)
 
--- the string table of the records of a section, whose checks pass, or the first of its checks that fails
+-- the string table of the records of a section, whose checks pass, or the first of its checks that
+-- fails
 abbrev pub FindsRecords : List ℕ → ℕ → Result StringTableRange Fault → Type 0
 FindsRecords file at (Ok names) = (first_refusal (all_checks version_table file at) ≡ None) × (names ≡ record_names file at)
 FindsRecords file at (Err fault) = RefusedBy (all_checks version_table file at) fault

@@ -4,7 +4,8 @@ use Rattle.elf_model.specs.Prelude.{cause_word}
 use Rattle.elf_model.specs.declared.causes.Cause.{Cause}
 use Rattle.elf_capi.specs.Causes.{cause_number}
 
--- the cause of a number; none for 0, for the two numbers that no cause has, and for those above all causes
+-- the cause of a number; none for 0, for the two numbers that no cause has, and for those above all
+-- causes
 abbrev pub IsNumbered : ℕ → Option Cause → Type 0
 IsNumbered number (Some cause) = cause_number cause ≡ number
 IsNumbered number None = (number ≡ 0) ⊎ (((29 < number) × (number < 32)) ⊎ (37 < number))

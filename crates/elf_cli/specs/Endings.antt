@@ -58,7 +58,7 @@ abbrev pub wants_rest : Result ℕ RunFault → Bool
 wants_rest (Err (Out fault)) = false
 wants_rest answer = true
 
--- the same of a run whose faults have lines of their own
+-- the same for a run whose faults have lines of their own
 abbrev pub EndsRun : RunEnd → Bool → ℕ → List ℕ → Type 0
 EndsRun (Status status) false now line = (now ≡ status) × (line ≡ [])
 EndsRun (Status status) true now line = (now ≡ 3) × (line ≡ codes "elfsee: write fault")

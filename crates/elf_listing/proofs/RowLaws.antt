@@ -36,12 +36,12 @@ pub Ends-first : (a : OutState) (refusal : Refusal) (all : List ListingItem) →
 unfolding WrotePrefix-none
 Ends-first a refusal all is = record { front = WrotePrefix-none a all; next = λ other. record { behind = []; is_next = is other } }
 
--- a fault of a read before anything was written
+-- a read fault before anything was written
 pub WroteUntilStop-first : (a : OutState) (fault : Fault) (all : List ListingItem) → ((refusal : Refusal) → fault ≡ Refused refusal → (IsBudgetRefusal refusal → ⊥) → all ≡ FaultItem refusal ∷ []) → WroteUntilStop a a (stop_of fault) all
 WroteUntilStop-first a (Refused refusal) all is = Ends-first a refusal all (is refusal refl)
 WroteUntilStop-first a (Source fault at) all is = WrotePrefix-none a all
 
--- a fault of a read before anything was written, and nothing is known of the file
+-- a read fault before anything was written, and nothing is known of the file
 pub WroteUntilStop-unread-first : (a : OutState) (fault : Fault) (all : List ListingItem) → IsOfRead fault → WroteUntilStop a a (stop_of fault) all
 WroteUntilStop-unread-first a (Refused refusal) all read = Ends-first a refusal all (λ other. absurd (other read))
 WroteUntilStop-unread-first a (Source fault at) all read = WrotePrefix-none a all

@@ -249,7 +249,7 @@ module _ (file : List ℕ) (loaded : LoadedFile) (store : StoreState) (slots : �
       let headers = headers_within file loaded style.cap parts belongs.header in
       rw (tables, loads passed) (omega (arith, once, headers))
 
--- and within the ceiling, whatever the source is
+-- and within the ceiling, for any source
 pub loaded_below : (loaded : LoadedFile) (store : StoreState) (size slots : ℕ) (style : ListingStyle) (parts : ℕ) → loaded.size ≡ size → store.slots ≡ slots → store.loaded ≡ loaded.header.e_shnum
     → loaded.header.e_shnum ≤ slots → loaded.header.e_phnum ≤ slots → store.segments ≡ viewed_headers parts loaded
     → 64 + (64 * loaded.header.e_shnum + (view_cost parts loaded + tables_listed parts loaded store style.cap style.versions)) ≤ style_ceiling size slots style

@@ -26,7 +26,7 @@ versioned-within store i size place cap symbols table has held some linked count
     places_decide_nothing bytes 0 size 0 place 2 ∙ ap is_none (passed_first _ _ _ (rw (some, table_of) at held)).0 in
     rw (has, own, some, linked, count, counted) (omega arith)
 
--- what one walk over the first section of a type asks for
+-- what one walk over the first section of a type reads
 pub walk-is : (headers : HeaderTable) (file_size type size bytes i : ℕ) → Some i ≡ first_typed headers type → is_inside headers i file_size ≡ true
     → walk_cost headers file_size type size bytes ≡ header_field headers sh_size i / size * bytes
 unfolding walk_cost

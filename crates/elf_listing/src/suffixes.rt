@@ -26,7 +26,7 @@ impl<S: Source, W: Sink> Listing<'_, '_, '_, '_, S, W> {
     ///
     /// # Errors
     /// The first check that fails of the section of version indices; then of the first section of
-    /// definitions, or an invalid definition, and the same of the needs. A read fault.
+    /// definitions, or an invalid definition, and the same for the needs. A read fault.
     pub(crate) fn suffixes(
         &mut self,
         table: u32,

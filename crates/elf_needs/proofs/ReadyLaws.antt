@@ -52,7 +52,7 @@ module _ where
   unfolding begins
   begun bytes = refl
 
--- bytes that end in a NUL begin with a text without one, and the NUL after it, or don't
+-- bytes that end in a NUL begin with a text without one, and the NUL after it, or do not
 begins_answers : (bytes wanted : List ℕ) → EndsInZero bytes → has_zero wanted ≡ false → Answers (begins bytes (wanted ++ 0 ∷ []))
 begins_answers [] wanted ends none = absurd ends
 begins_answers (b ∷ bytes) [] ends none = go (b == 0) refl

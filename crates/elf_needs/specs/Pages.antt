@@ -23,7 +23,7 @@ GivesHeld held at old new true =
     (file : List ℕ) → IsPageOf file held → new ≡ take (length old) (drop at file)
 GivesHeld held at old new false = new ≡ old
 
--- the same of all pages of a source
+-- the same for all pages of a source
 abbrev pub GivesOf : SourceState → (at : ℕ) → (old new : List ℕ) → Bool → Type 0
 GivesOf seen at old new true = (file : List ℕ) → seen.file ≡ Some file → new ≡ take (length old) (drop at file)
 GivesOf seen at old new false = new ≡ old

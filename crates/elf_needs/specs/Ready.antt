@@ -1,4 +1,5 @@
--- What the lookups in one file have in common: the counts of its hash table, and that no record of versions is refused.
+-- What the lookups in one file have in common: the counts of its hash table, and that no record of
+-- versions is refused.
 use Rattle.std.specs.Prelude.{ℕ, ◌≡◌, ◌+◌, ◌*◌, ◌/◌, ◌<◌, ◌==◌, ◌&&◌, if◌then◌else◌, Bool, true, false, List, [], ◌∷◌, length, Option, None, Some, Result, Ok, Err, IfSome}
 use Rattle.std.specs.List.{list_any}
 use Rattle.elf_model.specs.Prelude.{LookupTables as IsScopeOf, Version, VersionQuery, asked_name, counts_check, first_refusal, record_cost, same, version_indices}
@@ -31,7 +32,7 @@ pub record IsReadyTable (file : List ℕ) (told : IsScopeOf) (table : HashTable)
   pub is : IsTable file told table
   pub versions : (asked : VersionQuery) → HasNoNul asked → (version_indices file told asked).refused ≡ None
 
--- the same of the table, if there is one
+-- the same for the table, if there is one
 abbrev pub IsReadyIf : List ℕ → IsScopeOf → Option HashTable → Type 0
 IsReadyIf file told None = Unit {0}
 IsReadyIf file told (Some table) = IsReadyTable file told table

@@ -75,7 +75,7 @@ pub fn read_link_info<S: Source>(
     found
 }
 
-/// Reads the same of the file as the source shows it, whose header locates no section headers.
+/// Reads the same for the file as the source shows it, whose header locates no section headers.
 ///
 /// # Errors
 /// Those of [`read_link_info`].
@@ -95,7 +95,7 @@ fn shown_links<S: Source>(
     link_info_by_segments(src, &ExecutionView { loaded, store }, links)
 }
 
-/// Reads the same of a file whose program headers are loaded.
+/// Reads the same for a file whose program headers are loaded.
 ///
 /// # Errors
 /// Those of [`read_link_info`] after the load.

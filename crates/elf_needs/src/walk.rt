@@ -320,7 +320,8 @@ impl<W: Sink> DependencyWalk<'_, '_, W> {
         }
     }
 
-    /// Closes the file of the next object, and keeps its source open, if it is found and there is room for it.
+    /// Closes the file of the next object, and keeps its source open, if it is found and there is
+    /// room for it.
     #[inline(never)]
     fn keep<S: Source + Drop>(
         &mut self,

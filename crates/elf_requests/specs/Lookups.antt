@@ -8,7 +8,7 @@ abbrev pub answer_of_lookup : Format → List ℕ → List ℕ → Lookup → An
 answer_of_lookup format file wanted looked =
     record { text = lookup_text format file wanted looked.answer looked.compared; status = lookup_status looked.answer }
 
--- the same of the result of a loader's lookup of a name
+-- the same for the result of a loader's lookup of a name
 abbrev pub resolved_answer : Format → List ℕ → List ℕ → LoaderLookup → Answer
 resolved_answer format file name looked = record {
   text = loader_text format file name looked.lookup.answer looked.version looked.lookup.compared;

@@ -47,7 +47,8 @@ RunsFind limits wanted format old new before after result =
     (IsAnswered format limits.budget (length file) (find_cost file limits.headers wanted) (find_answer format file limits.headers wanted))
     (WholeOrUsedUp limits.budget old new result (find_answer format file limits.headers wanted)))
 
--- a lookup as a loader does it, of a name alone or with a version, by the program headers alone or not
+-- a lookup as a loader does it, of a name alone or with a version, by the program headers alone or
+-- not
 abbrev pub RunsResolve : Limits → List ℕ → Bool → Format → CountedState → CountedState → OutState → OutState → Result ℕ RunFault → Type 0
 RunsResolve limits text by_segments format old new before after result =
     Runs old new before after result (AsksUpTo limits.budget old new (loader_ceiling old.seen.size limits.headers (parse_query text)))

@@ -37,7 +37,8 @@ pub extern "C" fn elfsee_next_relocations(
     next_rows(file, rows, out)
 }
 
-/// Reads the next dynamic entries, as [`elfsee_next_symbols`] does symbols (gABI 5, Dynamic Section).
+/// Reads the next dynamic entries, as [`elfsee_next_symbols`] does symbols (gABI 5, Dynamic
+/// Section).
 #[unsafe(no_mangle)]
 pub extern "C" fn elfsee_next_dynamic(
     file: &[u8],

@@ -107,7 +107,8 @@ pub extern "C" fn elfsee_next_relocations_within(
     next_within(file, limits, asked, rows, out, end)
 }
 
-/// Reads the next dynamic entries, as [`elfsee_next_symbols_within`] does symbols; each counts 16 bytes.
+/// Reads the next dynamic entries, as [`elfsee_next_symbols_within`] does symbols; each counts 16
+/// bytes.
 #[unsafe(no_mangle)]
 pub extern "C" fn elfsee_next_dynamic_within(
     file: &[u8],

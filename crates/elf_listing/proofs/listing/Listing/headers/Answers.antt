@@ -12,7 +12,7 @@ use Rattle.elf_listing.proofs.LoopLaws.{rows_none}
 use Rattle.elf_listing.proofs.PartsLaws.{headers_stopped, headers_then}
 use Rattle.elf_listing.proofs.listing.Listing.headers.Goals as goal
 
--- what a header asks for, and its items
+-- what a header reads, and its items
 abbrev costs : Part → SectionView → ListingStyle → ℕ → ℕ
 costs part f style = (listed_by part).cost f.loaded f.store.now style.cap.bytes
 
