@@ -44,8 +44,9 @@ impl MemberCursor {
         }
     }
 
-    /// Steps over the next member, reading its header, and its name if that is in the table of
-    /// names or at the start of the data: the member's data begin after it then. The data are
+    /// Reads the header and the name of the next member, and steps over it.
+    ///
+    /// If the name is at the start of the data, the member's data begin after it. The data are
     /// skipped, with the padding byte after them if their total size is odd. At most `cap` bytes of
     /// the member's name are then in `name`. Returns `None` at the file's end, which is below 2^63.
     ///

@@ -15,10 +15,12 @@ use elf_source::{Counted, NullSink, Out, RangeSource, Sink, Source};
 use elf_table::{Caps, HeaderStore, ListingStyle, NameBuf, RunFault};
 
 /// Reads an archive and the listing of each member that is an ELF file, the parts that `parts` has,
-/// up to the first fault. Nothing is written. The source is a range of all bytes of the archive,
-/// with nothing masked, and is one again on return. The store has a slot for each header that the
-/// caps allow, and at most 2^127 bytes were requested from the source. If the caps have a budget,
-/// it is one over all members; on return no limit is set.
+/// up to the first fault.
+///
+/// Nothing is written. The source is a range of all bytes of the archive, with nothing masked, and
+/// is one again on return. The store has a slot for each header that the caps allow, and at most
+/// 2^127 bytes were requested from the source. If the caps have a budget, it is one over all
+/// members; on return no limit is set.
 ///
 /// # Errors
 /// The first fault, with an offset in the archive: its own refusal, that of a member's listing, or

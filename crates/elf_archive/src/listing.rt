@@ -29,11 +29,14 @@ struct MemberOptions<'n> {
     alone: bool,
 }
 
-/// Writes the listing of an archive: for each member its `A` line, alone or only before a line of
-/// the member, and, if `parts` has a part of a listing and the member's data begin like an ELF
-/// file, the listing of these parts of the file that the data are, with offsets from its first
-/// byte. A refusal of such a file is the last line of its listing, and the next member follows.
-/// Returns whether there was one.
+/// Writes the listing of an archive: the `A` line of each member, and the listing of each member
+/// that is an ELF file.
+///
+/// The `A` line of a member is written always, or only before another line of the member. If
+/// `parts` has a part of a listing and the member's data begin like an ELF file, the listing has
+/// these parts of the file that the data are, with offsets from its first byte. A refusal of such a
+/// file is the last line of its listing, and the next member follows. Returns whether there was
+/// one.
 ///
 /// The source is a range of all bytes of the archive, with nothing masked, and is one again on
 /// return. The store has a slot for each header that the caps allow, and all members share it. At

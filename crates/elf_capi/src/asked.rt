@@ -22,9 +22,11 @@ const NAME_VERSIONS: u16 = 16;
 const NO_FLAGS: u16 = 0xffe2;
 
 /// Returns the listing that the bytes of a struct request: its parts and the sum of its flags, each
-/// of 16 bits. Returns `None` if there are fewer bytes than these, if one after them is not 0, for
-/// an unknown flag, for versions after names in a listing that is not GNU, and for a part that such
-/// a listing does not have.
+/// of 16 bits.
+///
+/// Returns `None` if there are fewer bytes than these, if one after them is not 0, for an unknown
+/// flag, for versions after names in a listing that is not GNU, and for a part that such a listing
+/// does not have.
 pub fn listing_of(asked: &[u8]) -> Option<CallerListing<'static>>
     ensures { GivesListing asked.now None result }
 {
@@ -48,10 +50,11 @@ pub fn listing_of(asked: &[u8]) -> Option<CallerListing<'static>>
     Some(listing)
 }
 
-/// Returns the same listing of only the rows whose name is one of some. Returns `None` also if the
-/// part is not exactly one of those whose rows are selected by name, which are symbols, relocation
-/// entries and symbol versions; if a name cannot be looked up; and if one is below the one before
-/// it, by their bytes.
+/// Returns the same listing of only the rows whose name is one of some.
+///
+/// Returns `None` also if the part is not exactly one of those whose rows are selected by name,
+/// which are symbols, relocation entries and symbol versions; if a name cannot be looked up; and if
+/// one is below the one before it, by their bytes.
 pub fn named_listing_of<'n>(asked: &[u8], names: &'n [&'n [u8]]) -> Option<CallerListing<'n>>
     ensures { GivesListing asked.now (Some names.now) result }
 {

@@ -9,12 +9,13 @@ use elf_record::sizes::SYMBOL_BYTES;
 use elf_source::{Counted, Source};
 use elf_table::{Fault, HeaderStore};
 
-/// Returns the symbols that a file's hash table covers, among which a loader looks up names: by the
-/// section headers, or if there are none by the program headers and their dynamic entries
-/// ([`find_lookup_tables`]). Their number is the number of chain entries in a SysV table; in a GNU
-/// table it extends to the end of the last chain, or, if the table has no symbol, it is the number
-/// of symbols before the hashed ones (gABI 5, Hash Table). The position returned is before the
-/// first, with their string table. The headers are loaded into the store.
+/// Returns the symbols that a file's hash table covers, among which a loader looks up names.
+///
+/// They are found by the section headers, or if there are none by the program headers and their
+/// dynamic entries ([`find_lookup_tables`]). Their number is the number of chain entries in a SysV
+/// table; in a GNU table they extend to the end of the last chain, or, if no symbol is found in it,
+/// to as many as fit before their string table (gABI 5, Hash Table). The position returned is
+/// before the first, with their string table. The headers are loaded into the store.
 ///
 /// If the source's file is known, the result is the file's own, and so is the refusal.
 ///

@@ -12,9 +12,11 @@ use elf_record::{Refusal, Shdr, VersionKind};
 use elf_table::{Fault, Names};
 
 /// Checks the table of version definitions or needs that a section of a file in memory holds, and
-/// returns a position before its first record, or `None` if the file has no such section, or one of
-/// another type than GNU_verdef and GNU_verneed. Only the section headers of the section names, of
-/// the section, and of what it links to are read (Linux Standard Base Core, Symbol Versioning).
+/// returns a position before its first record.
+///
+/// Returns `None` if the file has no such section, or one of another type than GNU_verdef and
+/// GNU_verneed. Only the section headers of the section names, of the section, and of what it links
+/// to are read (Linux Standard Base Core, Symbol Versioning).
 ///
 /// # Errors
 /// The first check that fails of those that a listing makes up to the table's first record, with

@@ -13,9 +13,11 @@ use elf_record::{Cause, Refusal};
 use elf_table::is_out_of_bounds;
 
 /// Returns a position before the first dynamic entry of a segment of a file in memory, up to and
-/// including the first DT_NULL, or `None` if it has no such segment, or one of another type than
-/// DYNAMIC. The position has no string table: [`find_mapped`](elf_memory::find_mapped) locates the
-/// one whose address and size the entries have (gABI 5, Dynamic Section).
+/// including the first DT_NULL.
+///
+/// Returns `None` if it has no such segment, or one of another type than DYNAMIC. The position has
+/// no string table: [`find_mapped`](elf_memory::find_mapped) locates the one whose address and size
+/// the entries have (gABI 5, Dynamic Section).
 ///
 /// # Errors
 /// The first check that fails of those that a listing makes before it reads the headers, with the

@@ -13,8 +13,10 @@ use elf_record::sizes::DYNAMIC_BYTES;
 use elf_record::{Cause, Refusal};
 
 /// Reads the next rows to the start of `out` and steps over them, as [`next_rows`] does, and no
-/// more than the budget of the limits has left; returns how many. Their bytes count in `asked`. If
-/// more rows are left, and would fit, the budget ended it: then `end` reports it, at the next row.
+/// more than the budget of the limits has left; returns how many.
+///
+/// Their bytes count in `asked`. If more rows are left, and would fit, the budget ended it: then
+/// `end` reports it, at the next row.
 pub fn next_within<R: TableRow>(
     file: &[u8],
     limits: &CallerLimits,

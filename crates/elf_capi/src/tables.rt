@@ -15,8 +15,9 @@ use elf_record::Refusal;
 use elf_table::{Fault, Names, Table};
 
 /// Checks the table of a kind that a section of a file in memory holds, and returns a position
-/// before its first row, or `None` if the file has no such section or it holds no such rows. With
-/// relocation entries the string table is that of the symbols that they refer to, and dynamic
+/// before its first row, or `None` if the file has no such section or it holds no such rows.
+///
+/// With relocation entries the string table is that of the symbols that they refer to, and dynamic
 /// entries are those up to and including the first DT_NULL. Only the section headers of the section
 /// names, of the section, and of what it links to are read.
 ///

@@ -99,9 +99,10 @@ fn ending_of(ended: RunEnd, failed: bool) -> ExitLine
     }
 }
 
-/// Writes the rest of an output, to its end or the first fault, if that is wanted. The output is
-/// taken apart, since dropping it would try once more to write what failed. The sink below must not
-/// buffer. Returns a sink over it, which has failed exactly if not all was written.
+/// Writes the rest of an output, to its end or the first fault, if that is wanted.
+///
+/// The output is taken apart, since dropping it would try once more to write what failed. The sink
+/// below must not buffer. Returns a sink over it, which has failed exactly if not all was written.
 pub fn write_rest<W: Write + Drop>(output: BufWriter<W>, wanted: bool) -> WriteSink<W>
     ensures { PutsRest wanted result.failed (writer_buffer output)
         (W.contents (writer_inner output)) (W.contents result.writer) }

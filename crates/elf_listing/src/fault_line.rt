@@ -7,9 +7,10 @@ use elf_model::Format;
 use elf_source::{Out, Sink};
 use elf_table::RunFault;
 
-/// Writes the line of a refusal that stopped a call, and nothing for any other fault. Returns the
-/// fault; or the output's fault if the line could not be written in full, with a prefix of it
-/// written.
+/// Writes the line of a refusal that stopped a call, and nothing for any other fault.
+///
+/// Returns the fault; or the output's fault if the line could not be written in full, with a prefix
+/// of it written.
 pub fn show_stop<W: Sink>(stop: RunFault, format: Format, out: &mut Out<W>) -> RunFault
     ensures grows { OutGrows out.old out.new }
     ensures tells { ReturnsStop format out.old out.new stop result }

@@ -28,9 +28,11 @@ use elf_table::{
 /// All parts except the file header.
 const TABLES: Parts = Parts(254);
 
-/// Writes the listing of a file, the parts that `parts` has: the file header, the section headers,
-/// the program headers, the symbols, the relocation entries, the notes, the dynamic entries and, if
-/// the style uses GNU names, the symbol versions. The line of the first fault ends the listing.
+/// Writes the listing of a file, the parts that `parts` has.
+///
+/// The parts are the file header, the section headers, the program headers, the symbols, the
+/// relocation entries, the notes, the dynamic entries and, if the style uses GNU names, the symbol
+/// versions. The line of the first fault ends the listing.
 ///
 /// Notes and dynamic entries are those of the sections, and in a file without sections those of the
 /// segments. If the style finds tables by the program headers, every file is listed as if its file
@@ -75,8 +77,9 @@ pub fn show<S: Source, W: Sink>(
 }
 
 /// Writes the lines of a listing as [`show`] does, within the limit set on the source, and leaves
-/// it to the caller to report why it stopped: no line of a refusal is written. The store is loaded
-/// as by `show`, for as many headers as it has slots.
+/// it to the caller to report why it stopped: no line of a refusal is written.
+///
+/// The store is loaded as by `show`, for as many headers as it has slots.
 ///
 /// # Errors
 /// A refusal of the file, or for lack of budget: the lines before it were written. A fault of the

@@ -31,10 +31,12 @@ pub struct BindFault {
     pub fault: Fault,
 }
 
-/// Looks up a name in files in order, and returns the first file that defines it: of its symbols
-/// with that name one is exported ([`elf_loader::is_exported`]), is not undefined, and its version
-/// matches. Reads at most what is left of the budget, if there is one, from all of them together;
-/// what was read is subtracted. The files after the one that defines the name are not read.
+/// Looks up a name in files in order, and returns the first file that defines it.
+///
+/// In that file a symbol with the name is exported ([`elf_loader::is_exported`]), is not undefined,
+/// and its version matches. Reads at most what is left of the budget, if there is one, from all of
+/// them together; what was read is subtracted. The files after the one that defines the name are
+/// not read.
 ///
 /// # Errors
 /// That of the first file in which the lookup fails, as [`elf_loader::look_up`] has it after

@@ -75,9 +75,11 @@ fn binding_state_name(state: BindingState) -> &'static str
     }
 }
 
-/// Writes the line of a symbol that an object references: the object's index and the symbol's, its
-/// state, the index of the object that defines it, or in which the lookup is refused, the index of
-/// the symbol there, and its name, with the referenced version, escaped as names are.
+/// Writes the line of a symbol that an object references.
+///
+/// Its fields are the object's index and the symbol's, its state, the index of the object that
+/// defines it, or in which the lookup is refused, the index of the symbol there, and its name, with
+/// the referenced version, escaped as names are.
 ///
 /// # Errors
 /// A fault of the output, with a prefix of the line written.

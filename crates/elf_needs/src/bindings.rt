@@ -22,9 +22,11 @@ use elf_table::Fault;
 impl<W: Sink> DependencyWalk<'_, '_, W> {
     /// Writes a line for each symbol that the listed objects reference, in their order: the object
     /// that defines it is the first, of all in order, in which a loader's lookup by segments finds
-    /// the name among its defined symbols. Returns the exit status: 1 also if one is missing, or a
-    /// lookup is refused. A fault of an object's own symbol, name or version ends its lines. Reads
-    /// at most what is left of the budget from all files together.
+    /// the name among its defined symbols.
+    ///
+    /// Returns the exit status: 1 also if one is missing, or a lookup is refused. A fault of an
+    /// object's own symbol, name or version ends its lines. Reads at most what is left of the
+    /// budget from all files together.
     ///
     /// # Errors
     /// A read or the output failed.

@@ -46,11 +46,11 @@ pub fn machine_of<S: Source>(src: &mut Counted<S>) -> Result<Option<u16>, Fault>
 }
 
 /// Reads how a file is linked, as a loader sees it: by its program headers, ignoring its section
-/// headers. The texts and the needs are added to the store of links; on failure some may be left
-/// there that nothing refers to.
+/// headers.
 ///
-/// If the source's file is known, what is returned and stored is the file's own, and so is the
-/// refusal.
+/// The texts and the needs are added to the store of links; on failure some may be left there that
+/// nothing refers to. If the source's file is known, what is returned and stored is the file's own,
+/// and so is the refusal.
 ///
 /// # Errors
 /// The first that fails: those of [`load_by_segments`]; of [`find_in_segments`], except `NoHash`;

@@ -41,9 +41,10 @@ impl<S: Source> Model for LookupObject<S> {
 }
 
 impl<S: Source> LookupObject<S> {
-    /// Finds the lookup tables of a file, as [`find_lookup_tables`] does, once, and keeps them: by
-    /// its program headers, since the source masks its section headers. The headers are loaded into
-    /// the store, which is free again afterwards.
+    /// Finds the lookup tables of a file, as [`find_lookup_tables`] does, once, and keeps them.
+    ///
+    /// They are found by its program headers, since the source masks its section headers. The
+    /// headers are loaded into the store, which is free again afterwards.
     ///
     /// # Errors
     /// Those of [`find_lookup_tables`]; the source is returned.
@@ -70,9 +71,10 @@ impl<S: Source> LookupObject<S> {
     }
 
     /// Reads once what its lookups have in common: the counts of the hash table, and whether the
-    /// records of versions have no fault. What is refused or fails is skipped, and each lookup
-    /// reports it. Reads at most what is left of the budget, if there is one; what was read is
-    /// subtracted. On return no limit is set.
+    /// records of versions have no fault.
+    ///
+    /// What is refused or fails is skipped, and each lookup reports it. Reads at most what is left
+    /// of the budget, if there is one; what was read is subtracted. On return no limit is set.
     pub fn prepare(&mut self, left: &mut Option<u64>)
         ensures { Prepares self.old self.new left.old left.new }
     {
@@ -113,8 +115,10 @@ impl<S: Source> LookupObject<S> {
     }
 
     /// Returns the number of its symbols, by its hash table, of those that there is room for: the
-    /// first is none (gABI 4, Symbol Table). Reads at most what is left of the budget, if there is
-    /// one; what was read is subtracted. On return no limit is set.
+    /// first is none (gABI 4, Symbol Table).
+    ///
+    /// Reads at most what is left of the budget, if there is one; what was read is subtracted. On
+    /// return no limit is set.
     ///
     /// # Errors
     /// Those of [`hashed_symbols`].
@@ -130,9 +134,11 @@ impl<S: Source> LookupObject<S> {
     }
 
     /// Reads what the symbol at an index references: its name, into `name`, and the version that it
-    /// needs, into `version`; returns `None` if it references nothing, and after the last symbol
-    /// that there is room for. Reads at most what is left of the budget, if there is one; what was
-    /// read is subtracted. On return no limit is set.
+    /// needs, into `version`.
+    ///
+    /// Returns `None` if it references nothing, and after the last symbol that there is room for.
+    /// Reads at most what is left of the budget, if there is one; what was read is subtracted. On
+    /// return no limit is set.
     ///
     /// # Errors
     /// Those of [`reference_symbol`].
@@ -154,6 +160,7 @@ impl<S: Source> LookupObject<S> {
     }
 
     /// Reads the name of the needed file whose record is returned by [`LookupObject::sought`].
+    ///
     /// Reads at most what is left of the budget, if there is one; what was read is subtracted. On
     /// return no limit is set.
     ///
@@ -179,9 +186,10 @@ impl<S: Source> LookupObject<S> {
         read
     }
 
-    /// Checks whether it defines versions, and none with a name of at most 4,096 bytes. Reads at
-    /// most what is left of the budget, if there is one; what was read is subtracted. On return no
-    /// limit is set.
+    /// Checks whether it defines versions, and none with a name of at most 4,096 bytes.
+    ///
+    /// Reads at most what is left of the budget, if there is one; what was read is subtracted. On
+    /// return no limit is set.
     ///
     /// # Errors
     /// The first record of its definitions that is refused, or whose name has a fault, at the

@@ -59,9 +59,11 @@ fn object_state_name(state: ObjectState) -> &'static str
     }
 }
 
-/// Writes the line of an object: its index, the index of the object that first needed it, its
-/// state, the file offset and the cause of its refusal, and its path, or its name if it is missing,
-/// escaped as names are.
+/// Writes the line of an object.
+///
+/// Its fields are the object's index, the index of the object that first needed it, its state, the
+/// file offset and the cause of its refusal, and its path, or its name if it is missing, escaped as
+/// names are.
 ///
 /// # Errors
 /// A fault of the output, with a prefix of the line written.

@@ -127,10 +127,11 @@ impl<'w, 's, W: Sink> DependencyWalk<'w, 's, W> {
 
 impl<W: Sink> DependencyWalk<'_, '_, W> {
     /// Lists the objects that a program needs, in a loader's order: the program, then for each
-    /// object in order each library that it needs and that is not one of those before. A line for
-    /// each. Returns the exit status, 1 if one is missing or refused, or there are more than 512,
-    /// and whether all are listed. Reads at most the budget, if there is one, from all files
-    /// together. `path` is the program's as it is shown, and the directory of `real` replaces
+    /// object in order each library that it needs and that is not one of those before.
+    ///
+    /// A line for each. Returns the exit status, 1 if one is missing or refused, or there are more
+    /// than 512, and whether all are listed. Reads at most the budget, if there is one, from all
+    /// files together. `path` is the program's as it is shown, and the directory of `real` replaces
     /// `$ORIGIN`. The files of those that are found are kept open, as far as there is room for
     /// them.
     ///

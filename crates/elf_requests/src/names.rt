@@ -18,9 +18,10 @@ pub fn checked_name(word: &str) -> Option<LookupName<'_>>
     }
 }
 
-/// Returns a symbol that can be looked up as glibc's dynamic loader does it: an argument NAME,
-/// NAME@VERSION or NAME@@VERSION of 1 to 4,096 bytes, none of them NUL, with a nonempty name and a
-/// nonempty version. Returns `None` for any other argument.
+/// Returns a symbol that can be looked up as glibc's dynamic loader does it.
+///
+/// It is an argument NAME, NAME@VERSION or NAME@@VERSION of 1 to 4,096 bytes, none of them NUL,
+/// with a nonempty name and a nonempty version. Returns `None` for any other argument.
 pub fn checked_symbol(word: &str) -> Option<LookupSymbol<'_>>
     ensures named { IfSome result (λ symbol. symbol.text.now ≡ word.now) }
     ensures unnamed { IsNone result → IsText true word.now → ⊥ }

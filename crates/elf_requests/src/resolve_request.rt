@@ -33,11 +33,12 @@ pub(crate) struct LookupStyle {
 }
 
 /// Looks up a name in a file as a loader does, alone or with a version: `text` is NAME,
-/// NAME@VERSION or NAME@@VERSION. Writes the symbol's line, with GNU names, the line of its
-/// version, if the file has versions, and how many symbols were tried; or only that number if no
-/// symbol matches, or the line of the refusal. Returns the status: 0 if a symbol was found,
-/// otherwise 1. The text has at most 4,096 bytes. If there is a budget, no more is read; on return
-/// no limit is set.
+/// NAME@VERSION or NAME@@VERSION.
+///
+/// Writes the symbol's line, with GNU names, the line of its version, if the file has versions, and
+/// how many symbols were tried; or only that number if no symbol matches, or the line of the
+/// refusal. Returns the status: 0 if a symbol was found, otherwise 1. The text has at most 4,096
+/// bytes. If there is a budget, no more is read; on return no limit is set.
 ///
 /// # Errors
 /// A refusal, whose line was written, a fault of the source, with nothing written, or of the

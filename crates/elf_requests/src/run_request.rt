@@ -12,10 +12,11 @@ use elf_record::Parts;
 use elf_source::{Counted, Out, Sink, Source};
 use elf_table::{Caps, HeaderStore, RunFault};
 
-/// Carries out a request on a source: writes its text and returns its status, 0 if the file was
-/// listed, the name was found or the relocations were applied, and 1 if there is no such name. The
-/// store has a slot for each header that the request allows, and at most 2^127 bytes were requested
-/// from the source before. On return no limit is set on the source.
+/// Carries out a request on a source: writes its text and returns its status.
+///
+/// The status is 0 if the file was listed, the name was found or the relocations were applied, and
+/// 1 if there is no such name. The store has a slot for each header that the request allows, and at
+/// most 2^127 bytes were requested from the source before. On return no limit is set on the source.
 ///
 /// # Errors
 /// A refusal of the file, or because the request's read budget is exhausted: its line was written,

@@ -13,10 +13,11 @@ use elf_table::{Caps, HeaderStore, RunFault};
 const HEADER_BYTES: u64 = 64;
 
 /// Checks one file: reads its listing, the parts that `parts` has, and returns the state given by
-/// the first fault, or that there is none. Nothing is written. The store has a slot for each header
-/// that the caps allow; its previous contents and those of the source do not matter, and at most
-/// 2^127 bytes were requested from the source. If the caps have a budget, no more is read; on
-/// return no limit is set.
+/// the first fault, or that there is none.
+///
+/// Nothing is written. The store has a slot for each header that the caps allow; its previous
+/// contents and those of the source do not matter, and at most 2^127 bytes were requested from the
+/// source. If the caps have a budget, no more is read; on return no limit is set.
 pub fn check<S: Source>(
     src: &mut Counted<S>,
     store: &mut HeaderStore,

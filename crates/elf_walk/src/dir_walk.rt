@@ -11,9 +11,10 @@ use std::alloc::AllocError;
 use std::io::{ErrorKind, Read};
 use std::rt::Files;
 
-/// Reads the directory at a path once, and puts its names into a batch, which sorts them. `room` is
-/// the buffer they are read into. Returns how many names cannot be represented. The contract does
-/// not say which names the system returns, only what happens to them.
+/// Reads the directory at a path once, and puts its names into a batch, which sorts them.
+///
+/// `room` is the buffer they are read into. Returns how many names cannot be represented. The
+/// contract does not say which names the system returns, only what happens to them.
 ///
 /// # Errors
 /// The state of a directory that cannot be opened or read.

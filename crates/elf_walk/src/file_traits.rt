@@ -14,9 +14,11 @@ use elf_table::{Fault, HeaderStore, Limits};
 /// How many bytes a file header has.
 const HEADER_BYTES: u64 = 64;
 
-/// Returns the traits of a file, within its limits. The store has a slot for each header that they
-/// allow; its previous contents and those of the source do not matter, and at most 2^127 bytes were
-/// requested from the source. On return no limit is set.
+/// Returns the traits of a file, within its limits.
+///
+/// The store has a slot for each header that they allow; its previous contents and those of the
+/// source do not matter, and at most 2^127 bytes were requested from the source. On return no limit
+/// is set.
 ///
 /// # Errors
 /// The state of a file that has none: of another type, refused, or not read.

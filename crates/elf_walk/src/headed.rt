@@ -16,8 +16,9 @@ use elf_source::{Counted, DeferredSink, Out, RangeSource, Sink, Source};
 use elf_table::{HeaderStore, RunFault};
 
 /// Writes the line of a path, and after it the listing of the file there as [`list_by_type`] does;
-/// if rows are selected by name, the line is written only before something that is listed. Returns
-/// whether the listing of a member was refused. The budget left is that of the rule's caps.
+/// if rows are selected by name, the line is written only before something that is listed.
+///
+/// Returns whether the listing of a member was refused. The budget left is that of the rule's caps.
 ///
 /// # Errors
 /// As for [`list_by_type`], with a prefix of the line and the listing written, and as for

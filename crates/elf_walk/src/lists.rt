@@ -29,8 +29,10 @@ enum EntryState {
 }
 
 /// Visits the files and directories whose paths are in a list, each ended by NUL; the last one may
-/// end with the list. An entry that is not UTF-8, or longer than `room`, is counted as
-/// unrepresentable. `room` is the buffer that entries are read into.
+/// end with the list.
+///
+/// An entry that is not UTF-8, or longer than `room`, is counted as unrepresentable. `room` is the
+/// buffer that entries are read into.
 ///
 /// # Errors
 /// The list cannot be read, or the output failed: the paths before were visited.

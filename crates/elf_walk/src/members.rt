@@ -13,11 +13,13 @@ use elf_table::{Caps, HeaderStore, RunFault};
 
 /// Checks one archive: reads its members, and the listing of each that is an ELF file, the parts
 /// that `parts` has, up to the first fault, and returns the state given by it, or that there is
-/// none. The offset of a member's fault is from the archive's first byte, saturating at 64 bits.
-/// Nothing is written. The source is a range of all bytes of the archive, with nothing masked, and
-/// is one again on return. The store has a slot for each header that the caps allow, and at most
-/// 2^127 bytes were requested from the source. If the caps have a budget, it is one over all
-/// members; on return no limit is set.
+/// none.
+///
+/// The offset of a member's fault is from the archive's first byte, saturating at 64 bits. Nothing
+/// is written. The source is a range of all bytes of the archive, with nothing masked, and is one
+/// again on return. The store has a slot for each header that the caps allow, and at most 2^127
+/// bytes were requested from the source. If the caps have a budget, it is one over all members; on
+/// return no limit is set.
 pub fn check_archive<S: Source>(
     src: &mut Counted<RangeSource<S>>,
     store: &mut HeaderStore,

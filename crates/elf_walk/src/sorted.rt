@@ -16,6 +16,7 @@ use elf_table::{Caps, HeaderStore, Limits};
 
 /// Checks one file by the type that its first bytes identify: an ELF file as [`check`] does, an
 /// archive with its members as [`check_archive`] does; a file of another type is not an ELF file.
+///
 /// These bytes count towards the budget. The source and the store are as for `check_archive`.
 pub fn check_sorted<S: Source>(
     src: &mut Counted<RangeSource<S>>,

@@ -16,10 +16,11 @@ use elf_source::{Counted, DeferredSink, Out, RangeSource, Sink, Source};
 use elf_table::{Caps, HeaderStore, ListingStyle, RunFault};
 
 /// Writes the listing of a file of a type: for an ELF file its own, for an archive that of its
-/// members, whose lines are written alone if all rows are shown, for another file nothing. The last
-/// line is that of its refusal, if it has one. Returns whether the listing of a member was refused.
-/// The source is a range of all bytes of the file, with nothing masked; it and the store are as for
-/// [`show_archive`].
+/// members, whose lines are written alone if all rows are shown, for another file nothing.
+///
+/// The last line is that of its refusal, if it has one. Returns whether the listing of a member was
+/// refused. The source is a range of all bytes of the file, with nothing masked; it and the store
+/// are as for [`show_archive`].
 ///
 /// # Errors
 /// As for [`show`] and [`show_archive`].

@@ -17,10 +17,11 @@ use elf_table::{HeaderStore, NameBuf, NameEnd, RunFault};
 use std::alloc::Global;
 use std::io::{BufWriter, Stderr};
 
-/// Prints what would help if a request to apply was refused, if the request asks for that. If there
-/// is no memory for the line, or it cannot be written, only the refusal is reported. The read
-/// budget covers all that was requested from the source since its count began: if it is exhausted,
-/// nothing is printed.
+/// Prints what would help if a request to apply was refused, if the request asks for that.
+///
+/// If there is no memory for the line, or it cannot be written, only the refusal is reported. The
+/// read budget covers all that was requested from the source since its count began: if it is
+/// exhausted, nothing is printed.
 pub fn report_missing_reason<S: Source>(
     alloc: Global,
     request: &Request<'_>,

@@ -10,9 +10,11 @@ use elf_table::HeaderStore;
 const BY_SEGMENTS: u32 = 1;
 
 /// Finds the symbols that the hash table of a file in memory covers, among which a loader looks up
-/// names, and sets `rows` before the first: by the section headers, or if there are none, or
-/// `flags` is 1, by the program headers and their dynamic entries (gABI 5, Dynamic Section). Only
-/// the hash table gives their number. `room` holds the file's headers during the call.
+/// names, and sets `rows` before the first.
+///
+/// They are found by the section headers, or if there are none, or `flags` is 1, by the program
+/// headers and their dynamic entries (gABI 5, Dynamic Section). Only the hash table gives their
+/// number. `room` holds the file's headers during the call.
 ///
 /// Returns 0 if they were found, 1 if the file is refused or the budget is exhausted, and 4 if the
 /// limits, the room or the flags are out of range.

@@ -9,13 +9,16 @@ use elf_capi::{
 use elf_layout::Addresses;
 use elf_table::HeaderStore;
 
-/// Writes the bytes of a section of a file in memory, with its relocations applied, into memory of
-/// the caller, as [`elfsee_apply`](crate::apply_export::elfsee_apply) does, in a layout of any size
-/// provided by the caller: sections sorted by index, and the names of each type sorted by their
-/// bytes. If the section is refused for lack of an address, `missing` says which items would help,
-/// and the name of the symbol; otherwise it is all 0 (psABI 4.4, Relocation). To find that out, at
-/// most the headers, the relocation entry, its symbol and the symbol's name are read, which count,
-/// and nothing is reported if the budget has no room for them.
+/// Writes the bytes of a section of a file in memory, with its relocations applied, in a layout of
+/// any size.
+///
+/// They are written into memory of the caller, as
+/// [`elfsee_apply`](crate::apply_export::elfsee_apply) does. The caller's layout has sections
+/// sorted by index, and the names of each type sorted by their bytes. If the section is refused for
+/// lack of an address, `missing` says which items would help, and the name of the symbol; otherwise
+/// it is all 0 (psABI 4.4, Relocation). To find that out, at most the headers, the relocation
+/// entry, its symbol and the symbol's name are read, which count, and nothing is reported if the
+/// budget has no room for them.
 ///
 /// Returns 0 if it was written, 1 if it is refused or the budget is exhausted, 3 if the section has
 /// more bytes than `out`, 4 if the limits or the room are out of range, an index or a name of the

@@ -8,13 +8,14 @@ use elf_loader::SymbolLookup;
 use elf_record::Refusal;
 use elf_table::{HeaderStore, NameBuf};
 
-/// Looks up a name in a file in memory, alone or with a version, as glibc's dynamic loader does
-/// (gABI 5, Dynamic Linking; Linux Standard Base Core, Symbol Versioning): by the file's hash
-/// table, GNU or otherwise SysV, the first symbol of the name's chain that has the name, is
-/// exported and whose version matches. Neither the name nor the version has a terminating NUL; a
-/// version of no bytes is none. `flags` is the sum of 1, for a lookup by the program headers even
-/// if there are section headers, and 2, if the version is to be the default one. `room` holds the
-/// file's headers during the call.
+/// Looks up a name in a file in memory, alone or with a version, as glibc's dynamic loader does.
+///
+/// By the file's hash table, GNU or otherwise SysV, it is the first symbol of the name's chain that
+/// has the name, is exported and whose version matches (gABI 5, Dynamic Linking; Linux Standard
+/// Base Core, Symbol Versioning). Neither the name nor the version has a terminating NUL; a version
+/// of no bytes is none. `flags` is the sum of 1, for a lookup by the program headers even if there
+/// are section headers, and 2, if the version is to be the default one. `room` holds the file's
+/// headers during the call.
 ///
 /// Returns 0 if it was found, 1 if the file is refused or the budget is exhausted, 2 if no symbol
 /// matches, 4 if the limits, the room or the flags are out of range, or the name or the version has

@@ -8,9 +8,10 @@ use elf_memory::slots_for;
 /// How many bytes of room a header takes.
 const HEADER_BYTES: u64 = 64;
 
-/// Returns how many bytes of room a file needs if the given number of headers is allowed: 64 for
-/// each section header or program header, whichever are more, at least 64 and at most 64 for each
-/// that is allowed; 64 for bytes that have no file header (gABI 4, ELF Header).
+/// Returns how many bytes of room a file needs if the given number of headers is allowed.
+///
+/// That is 64 for each section header or program header, whichever are more, at least 64 and at
+/// most 64 for each that is allowed; 64 for bytes that have no file header (gABI 4, ELF Header).
 #[unsafe(no_mangle)]
 pub extern "C" fn elfsee_room(file: &[u8], headers: u16) -> u64
     ensures room { result ≡ 64 * slots_for file.now headers }

@@ -32,11 +32,13 @@ pub extern "C" fn elfsee_show(
     report_status(told, end)
 }
 
-/// Lists a file in memory into memory of the caller, as `asked` says: the bytes of a struct of two
-/// 16-bit numbers, the parts, and the sum of flags: 1 finds tables by the program headers even if
-/// there are section headers, 4 uses GNU names for numbers too, and has the symbol versions as a
-/// part, 8 writes each line as a JSON object, and 16, only with 4, puts the version of a symbol
-/// after its name. `room` holds the file's headers during the call.
+/// Lists a file in memory into memory of the caller, as `asked` says.
+///
+/// `asked` is the bytes of a struct of two 16-bit numbers, the parts, and the sum of flags: 1 finds
+/// tables by the program headers even if there are section headers, 4 uses GNU names for numbers
+/// too, and has the symbol versions as a part, 8 writes each line as a JSON object, and 16, only
+/// with 4, puts the version of a symbol after its name. `room` holds the file's headers during the
+/// call.
 ///
 /// Returns 0 if it was listed, 1 if it is refused or the budget is exhausted, 3 if the listing has
 /// more bytes than `out`, 4 if the limits or the room are out of range, or `asked` has fewer than 4
@@ -58,10 +60,11 @@ pub extern "C" fn elfsee_list(
 }
 
 /// Lists a file as [`elfsee_list`] does, but of its rows only those whose name is one of some:
-/// `asked` has the part that they belong to, symbols, relocation entries or symbol versions. The
-/// names are sorted by their bytes, 1 to 4,096 each without a NUL. If versions follow names they
-/// may have one, as NAME@VERSION, or NAME@@VERSION for a default one (Linux Standard Base Core,
-/// Symbol Versioning).
+/// `asked` has the part that they belong to, symbols, relocation entries or symbol versions.
+///
+/// The names are sorted by their bytes, 1 to 4,096 each without a NUL. If versions follow names
+/// they may have one, as NAME@VERSION, or NAME@@VERSION for a default one (Linux Standard Base
+/// Core, Symbol Versioning).
 ///
 /// Returns as that call does, and 4 also if a name cannot be looked up, or is below the one before
 /// it, and if the part is none of these.

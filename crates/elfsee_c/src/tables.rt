@@ -7,6 +7,7 @@ ghost use Rattle.elf_capi.specs.declared.kind.RowKind.TheVariants.{Dynamic};
 use elf_capi::{CallEnd, CallerLimits, RowKind, RowPosition, limits_of, report_opened, rows_in};
 
 /// Checks the symbol table that a section of a file holds, and sets `rows` before its first row.
+///
 /// The number of headers is limited by the limits, and by the room, at 64 bytes each; no byte of
 /// the room is read. Of the section headers only those of the section names, of the section, and of
 /// what it links to are read (gABI 4, Symbol Table).
@@ -93,9 +94,10 @@ pub extern "C" fn elfsee_dynamic(
 }
 
 /// Checks the table of symbols' versions that a section of a file holds, as [`elfsee_symbols`] does
-/// symbols; its type is GNU_versym. There is one entry for each symbol of the table that it links
-/// to, as far as it has entries, and no string table with them (Linux Standard Base Core, Symbol
-/// Versioning).
+/// symbols; its type is GNU_versym.
+///
+/// There is one entry for each symbol of the table that it links to, as far as it has entries, and
+/// no string table with them (Linux Standard Base Core, Symbol Versioning).
 #[unsafe(no_mangle)]
 pub extern "C" fn elfsee_version_words(
     file: &[u8],

@@ -8,10 +8,11 @@ use elf_capi::{
 };
 
 /// Checks the table of version definitions or needs that a section of a file holds, and sets
-/// `records` before its first record. The number of headers is limited by the limits, and by the
-/// room, at 64 bytes each; no byte of the room is read. Of the section headers only those of the
-/// section names, of the section, and of what it links to are read (Linux Standard Base Core,
-/// Symbol Versioning).
+/// `records` before its first record.
+///
+/// The number of headers is limited by the limits, and by the room, at 64 bytes each; no byte of
+/// the room is read. Of the section headers only those of the section names, of the section, and of
+/// what it links to are read (Linux Standard Base Core, Symbol Versioning).
 ///
 /// Returns 0 if the checks pass, 2 if the file has no such section or it holds neither, 1 if a
 /// check fails that a listing makes up to the table's first record, with the first that does in

@@ -14,9 +14,10 @@ use elf_capi::{
 use elf_record::Refusal;
 
 /// Checks the table of dynamic entries that a section of a file holds, as
-/// [`elfsee_dynamic`](crate::tables::elfsee_dynamic) does, within the budget of the limits: each
-/// entry up to and including the first DT_NULL counts 16 bytes in `asked`, which adds up what all
-/// calls given it read (gABI 5, Dynamic Section).
+/// [`elfsee_dynamic`](crate::tables::elfsee_dynamic) does, within the budget of the limits.
+///
+/// Each entry up to and including the first DT_NULL counts 16 bytes in `asked`, which adds up what
+/// all calls given it read (gABI 5, Dynamic Section).
 ///
 /// Returns as that call does, and 1 with `Budget` in `end`, at the first entry that was not read,
 /// if `asked` would exceed the budget. Without a budget it is only counted.
@@ -66,8 +67,10 @@ pub extern "C" fn elfsee_segment_dynamic_within(
 }
 
 /// Reads the next symbols, as [`elfsee_next_symbols`](crate::steps::elfsee_next_symbols) does, and
-/// no more than the budget of the limits has left: each counts 24 bytes in `asked`. If more rows
-/// are left, and would fit, the budget ended it: then `Budget` is in `end`, at the next row.
+/// no more than the budget of the limits has left: each counts 24 bytes in `asked`.
+///
+/// If more rows are left, and would fit, the budget ended it: then `Budget` is in `end`, at the
+/// next row.
 #[unsafe(no_mangle)]
 pub extern "C" fn elfsee_next_symbols_within(
     file: &[u8],
@@ -130,8 +133,10 @@ pub extern "C" fn elfsee_next_dynamic_within(
 
 /// Reads the next entries of symbols' versions, as
 /// [`elfsee_next_version_words`](crate::steps::elfsee_next_version_words) does, and no more than
-/// the budget of the limits has left: each counts 2 bytes in `asked`. If more rows are left, and
-/// would fit, the budget ended it: then `Budget` is in `end`, at the next row.
+/// the budget of the limits has left: each counts 2 bytes in `asked`.
+///
+/// If more rows are left, and would fit, the budget ended it: then `Budget` is in `end`, at the
+/// next row.
 #[unsafe(no_mangle)]
 pub extern "C" fn elfsee_next_version_words_within(
     file: &[u8],
