@@ -1,5 +1,5 @@
-//! The checks of a section of a file in memory: those of [`elf_table::File`], with the headers in
-//! place.
+//! The checks of a section of a file in memory: those of [`elf_table::SectionView`], with the
+//! headers in place.
 ghost use Rattle.std.specs.Prelude.{◌≡◌, ◌<◌, ◌≤◌, length, IfOk, IfErr};
 ghost use Rattle.elf_model.specs.Records.{section_at};
 ghost use Rattle.elf_table.specs.Prelude.{IsOfCheck, Links, Relocates, TableInBounds, Versioned, string_table_at, symbols_at, table_at};

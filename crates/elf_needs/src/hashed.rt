@@ -12,7 +12,7 @@ use elf_table::Fault;
 /// Returns the number of symbols of a file, by its hash table, of those that there is room for.
 ///
 /// # Errors
-/// Those of [`counts`], and of [`elf_hash::Symbols::extent`].
+/// Those of [`counts`], and of [`elf_hash::DynamicSymbols::extent`].
 pub(crate) fn hashed_symbols<S: Source>(
     src: &mut Counted<S>,
     scope: &LookupTables,

@@ -42,7 +42,8 @@ impl<W: Sink, E: Write + Drop, A: FileVisitor> Model for FileRun<W, E, A> {
 }
 
 impl<W: Sink, E: Write + Drop, A: FileVisitor + Drop> FileRun<W, E, A> {
-    /// Creates it before the first file. Progress is shown on a terminal, if there is one.
+    /// Creates a visit of many files, before the first one. Progress is shown on a terminal, if
+    /// there is one.
     pub fn new(out: Out<DeferredSink<W>>, each: A, format: Format, terminal: Option<E>) -> Self
         ensures out { result.out ≡ out }
         ensures format { result.format ≡ format }

@@ -11,8 +11,8 @@ use elf_memory::{ByteRange, find_name};
 /// of an empty table has no bytes, and is at 0.
 ///
 /// Returns 0 if there is a name, and 1 if there is none, with the cause in `end`: `NameOutside` if
-/// the offset is not below the table's size, `NameUnended` if no NUL follows it. The offset in `end`
-/// is where the name was to begin, at most 2^64 - 1.
+/// the offset is not below the table's size, `NameUnended` if no NUL follows it. The offset in
+/// `end` is where the name was to begin, at most 2^64 - 1.
 #[unsafe(no_mangle)]
 pub extern "C" fn elfsee_name(
     file: &[u8],
